@@ -1,0 +1,23 @@
+//! Terms of the ATerm format: names, terms with children and annotations, and labels.
+#![tactic(auto)]
+
+mod kind;
+mod label;
+mod memory;
+mod name;
+mod term;
+
+pub use kind::Kind;
+pub use label::{Label, LabelFault, MAX_LABEL};
+pub use memory::NoMemory;
+pub use name::{Name, begins_word, continues_word, is_word};
+pub use term::Term;
+
+/// The greatest sum of a level and the height of a term that fits there.
+pub const MAX_HEIGHT: u64 = 1000;
+
+/// The greatest size of a term that fits, in terms.
+pub const MAX_SIZE: u64 = 100_000;
+
+#[cfg(test)]
+mod tests;
