@@ -1,0 +1,11 @@
+pub mod ScanLemmas
+pub mod LevelLemmas
+pub mod TokenLemmas
+pub mod StepLemmas
+pub mod GoesLemmas
+pub mod NestingLemmas
+pub mod PrintLemmas
+pub mod LawTokens
+pub mod LawPrinted
+pub mod LawOneTerm
+pub mod ReadLemmas

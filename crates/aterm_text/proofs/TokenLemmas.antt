@@ -1,0 +1,149 @@
+-- What a term begins with is determined by the text.
+use Rattle.std.proofs.Common.{◌≡◌, ◌≢◌, ℕ, zero, suc, ℤ, ◌+◌, ◌<◌, ◌==◌, ◌||◌, ◌&&◌, cond, MatchBool, rules, Bool, true, false, IsTrue, List, [], ◌∷◌, length, take, refl, sym, ap, ◌∙◌, subst, arith}
+use Rattle.std.proofs.lemmas.Bool.Decides.{nat_tests}
+use Rattle.std.specs.Char.{is_ascii_digit}
+use Rattle.std.specs.List.{prefix_len}
+use Rattle.std.specs.Str.Parse.{without_leading_sign}
+use Rattle.term_core.specs.Word.{begins_word, continues_word, is_word}
+use Rattle.aterm_text.specs.Tokens.{without_blanks, NextSign, NextWord, NextQuoted, IsInteger, integer_len, ReadsItems}
+use Rattle.aterm_text.specs.Heads.{Begins, NoTerm}
+use Rattle.aterm_text.specs.declared.reader.head.Head.{Head}
+use Rattle.aterm_text.specs.declared.reader.head.Head.TheVariants.{Integer, Named, List as AList, Tuple}
+use Rattle.aterm_text.proofs.ScanLemmas.{items_only}
+
+-- ---- the first byte tells the kind of head: 0 where no term begins so
+
+abbrev pub class_of : ℕ → ℕ
+class_of b = cond (b == 34) 2 (cond (b == 91) 3 (cond (b == 40) 4 (cond (begins_word b) 1 (cond (is_ascii_digit b || (b == 45)) 5 0))))
+
+abbrev pub name_class : Bool → ℕ
+name_class true = 2
+name_class false = 1
+
+abbrev pub head_class : Head → ℕ
+head_class (Integer z) = 5
+head_class (Named name) = name_class name.is_quoted
+head_class AList = 3
+head_class Tuple = 4
+
+class-word : (b : ℕ) → begins_word b ≡ true → class_of b ≡ 1
+class-word b h = grind (arith, nat_tests)
+
+class-integer : (b : ℕ) → (is_ascii_digit b || (b == 45)) ≡ true → class_of b ≡ 5
+class-integer b h = grind (arith, nat_tests)
+
+-- ---- the first byte of each kind of head
+
+named_not : (quoted : Bool) (n : ℕ) → (n ≢ 2) × (n ≢ 1) → n ≡ name_class quoted → ⊥
+named_not true n h e = h.0 e
+named_not false n h e = h.1 e
+
+and-true-left : (a b : Bool) → (a && b) ≡ true → a ≡ true
+and-true-left true b h = refl
+and-true-left false b h = h
+
+-- the text begins with a byte of this class
+pub record BeginsWith (text : List ℕ) (n : ℕ) : Type 0 where
+  pub first : ℕ
+  pub rest : List ℕ
+  pub is : text ≡ first ∷ rest
+  pub class : class_of first ≡ n
+
+pub one_class : (text : List ℕ) (m n : ℕ) → BeginsWith text m → BeginsWith text n → m ≡ n
+one_class text m n h k =
+    let same : ◌≡◌ {A = List ℕ} (h.first ∷ h.rest) (k.first ∷ k.rest) = sym h.is ∙ k.is in
+    let first : h.first ≡ k.first = cc in
+    sym h.class ∙ ap class_of first ∙ k.class
+
+digits_first : (b : ℕ) (bs : List ℕ) (minus digit : Bool)
+    → 0 < length (without_leading_sign (take (cond minus (1 + prefix_len is_ascii_digit bs) (cond digit (1 + prefix_len is_ascii_digit bs) 0)) (b ∷ bs))) → (digit || minus) ≡ true
+digits_first b bs true true h = refl
+digits_first b bs true false h = refl
+digits_first b bs false true h = refl
+digits_first b bs false false h = absurd (omega arith)
+
+integer-begins : (text : List ℕ) (z : ℤ) → IsInteger (take (integer_len text) text) z → BeginsWith text 5
+integer-begins [] z h = let no : 0 < 0 = h.0.0 in absurd (omega arith)
+integer-begins (b ∷ bs) z h = record { first = b; rest = bs; is = refl; class = class-integer b (digits_first b bs (b == 45) (is_ascii_digit b) h.0.0) }
+
+word-first : (bytes text : List ℕ) (n : ℕ) → IsTrue (is_word bytes) → bytes ≡ take n text → (b : ℕ) × (bs : List ℕ) × (text ≡ b ∷ bs) × (begins_word b ≡ true)
+word-first [] text n h e = absurd (cc)
+word-first (c ∷ cs) text zero h e = absurd (cc)
+word-first (c ∷ cs) [] (suc n) h e = absurd (cc)
+word-first (c ∷ cs) (b ∷ bs) (suc n) h e = let first : c ≡ b = cc in (b, bs, refl, ap begins_word (sym first) ∙ and-true-left _ _ h)
+
+word-begins : (bytes text : List ℕ) (n : ℕ) → IsTrue (is_word bytes) → bytes ≡ take n text → BeginsWith text 1
+word-begins bytes text n h e = let found = word-first bytes text n h e in record { first = found.0; rest = found.1; is = found.2; class = class-word found.0 found.3 }
+
+named-begins : (quoted : Bool) (bytes x y : List ℕ) → MatchBool quoted (NextQuoted bytes x y) (NextWord bytes x y) → BeginsWith (without_blanks x) (name_class quoted)
+named-begins true bytes x y h = record { first = 34; rest = h.0; is = h.1; class = refl }
+named-begins false bytes x y h = word-begins bytes (without_blanks x) (prefix_len continues_word (without_blanks x)) h.0 h.1
+
+pub begins-class : (head : Head) (x y : List ℕ) → Begins head x y → BeginsWith (without_blanks x) (head_class head)
+begins-class (Integer z) x y h = integer-begins (without_blanks x) z h.0
+begins-class (Named name) x y h = named-begins name.is_quoted name.text x y h
+begins-class AList x y h = record { first = 91; rest = y; is = h; class = refl }
+begins-class Tuple x y h = record { first = 40; rest = y; is = h; class = refl }
+
+-- a sign that begins no term
+pub no_term-sign : (sign : ℕ) (x y : List ℕ) → class_of sign ≡ 0 → NextSign sign x y → NoTerm x
+no_term-sign sign x y e h (Integer z) w k = let no = one_class _ 0 5 (record { first = sign; rest = y; is = h; class = e }) (begins-class (Integer z) x w k) in absurd (omega arith)
+no_term-sign sign x y e h (Named name) w k = named_not name.is_quoted 0 (search rules, search rules) (one_class _ 0 (name_class name.is_quoted) (record { first = sign; rest = y; is = h; class = e }) (begins-class (Named name) x w k))
+no_term-sign sign x y e h AList w k = let no = one_class _ 0 3 (record { first = sign; rest = y; is = h; class = e }) (begins-class AList x w k) in absurd (omega arith)
+no_term-sign sign x y e h Tuple w k = let no = one_class _ 0 4 (record { first = sign; rest = y; is = h; class = e }) (begins-class Tuple x w k) in absurd (omega arith)
+
+-- ---- at most one head, and one rest, for a text
+
+named_only : (q q' : Bool) (bytes bytes' x y z : List ℕ) → name_class q ≡ name_class q'
+    → MatchBool q (NextQuoted bytes x y) (NextWord bytes x y) → MatchBool q' (NextQuoted bytes' x z) (NextWord bytes' x z) → (bytes ≡ bytes') × (q ≡ q') × (y ≡ z)
+named_only true true bytes bytes' x y z e h k =
+    let same : ◌≡◌ {A = List ℕ} (34 ∷ h.0) (34 ∷ k.0) = sym h.1 ∙ k.1 in
+    let rests : h.0 ≡ k.0 = cc in
+    let only = items_only bytes bytes' h.0 y z h.2 (subst (λ l. ReadsItems bytes' l z) (sym rests) k.2) in
+    (only.0, refl, only.1)
+named_only false false bytes bytes' x y z e h k = (h.1 ∙ sym k.1, refl, h.2 ∙ sym k.2)
+named_only true false bytes bytes' x y z e h k = absurd (omega arith)
+named_only false true bytes bytes' x y z e h k = absurd (omega arith)
+
+pub same_class : (head other : Head) (x y z : List ℕ) → Begins head x y → Begins other x z → head_class head ≡ head_class other
+same_class head other x y z h k = one_class (without_blanks x) (head_class head) (head_class other) (begins-class head x y h) (begins-class other x z k)
+
+pub begins_only : (head other : Head) (x y z : List ℕ) → Begins head x y → Begins other x z → (head ≡ other) × (y ≡ z)
+begins_only (Integer v) (Integer w) x y z h k = (ap Integer (sym h.0.1 ∙ k.0.1), h.1 ∙ sym k.1)
+begins_only (Named n) (Named m) x y z h k =
+    let only = named_only n.is_quoted m.is_quoted n.text m.text x y z (same_class (Named n) (Named m) x y z h k) h k in
+    ((λ i. Named (record { text = only.0 i; is_quoted = only.1 i })), only.2)
+begins_only AList AList x y z h k = let same : ◌≡◌ {A = List ℕ} (91 ∷ y) (91 ∷ z) = sym h ∙ k in (refl, cc)
+begins_only Tuple Tuple x y z h k = let same : ◌≡◌ {A = List ℕ} (40 ∷ y) (40 ∷ z) = sym h ∙ k in (refl, cc)
+begins_only (Integer v) (Named m) x y z h k = absurd (named_not m.is_quoted 5 (search rules, search rules) (same_class (Integer v) (Named m) x y z h k))
+begins_only (Integer v) AList x y z h k = let no = same_class (Integer v) AList x y z h k in absurd (omega arith)
+begins_only (Integer v) Tuple x y z h k = let no = same_class (Integer v) Tuple x y z h k in absurd (omega arith)
+begins_only (Named n) (Integer w) x y z h k = absurd (named_not n.is_quoted 5 (search rules, search rules) (sym (same_class (Named n) (Integer w) x y z h k)))
+begins_only (Named n) AList x y z h k = absurd (named_not n.is_quoted 3 (search rules, search rules) (sym (same_class (Named n) AList x y z h k)))
+begins_only (Named n) Tuple x y z h k = absurd (named_not n.is_quoted 4 (search rules, search rules) (sym (same_class (Named n) Tuple x y z h k)))
+begins_only AList (Integer w) x y z h k = let no = same_class AList (Integer w) x y z h k in absurd (omega arith)
+begins_only AList (Named m) x y z h k = absurd (named_not m.is_quoted 3 (search rules, search rules) (same_class AList (Named m) x y z h k))
+begins_only AList Tuple x y z h k = let no = same_class AList Tuple x y z h k in absurd (omega arith)
+begins_only Tuple (Integer w) x y z h k = let no = same_class Tuple (Integer w) x y z h k in absurd (omega arith)
+begins_only Tuple (Named m) x y z h k = absurd (named_not m.is_quoted 4 (search rules, search rules) (same_class Tuple (Named m) x y z h k))
+begins_only Tuple AList x y z h k = let no = same_class Tuple AList x y z h k in absurd (omega arith)
+
+-- ---- no head at all
+
+named_none : (quoted : Bool) (bytes x y : List ℕ) (b : ℕ) (r : List ℕ) → without_blanks x ≡ b ∷ r → b ≢ 34 → begins_word b ≡ false → MatchBool quoted (NextQuoted bytes x y) (NextWord bytes x y) → ⊥
+named_none true bytes x y b r e no_quote no_word h =
+    let same : ◌≡◌ {A = List ℕ} (b ∷ r) (34 ∷ h.0) = sym e ∙ h.1 in
+    no_quote (cc)
+named_none false bytes x y b r e no_quote no_word h =
+    let found = word-first bytes (without_blanks x) (prefix_len continues_word (without_blanks x)) h.0 h.1 in
+    let same : ◌≡◌ {A = List ℕ} (b ∷ r) (found.0 ∷ found.1) = sym e ∙ found.2 in
+    let first : b ≡ found.0 = cc in
+    let no : false ≡ true = sym no_word ∙ ap begins_word first ∙ found.3 in
+    absurd (cc)
+
+pub no_term-other : (x : List ℕ) (b : ℕ) (r : List ℕ) → without_blanks x ≡ b ∷ r → b ≢ 91 → b ≢ 40 → b ≢ 34 → begins_word b ≡ false
+    → ((z : ℤ) → IsInteger (take (integer_len (without_blanks x)) (without_blanks x)) z → ⊥) → NoTerm x
+no_term-other x b r e no_list no_tuple no_quote no_word no_integer (Integer z) y h = no_integer z h.0
+no_term-other x b r e no_list no_tuple no_quote no_word no_integer (Named name) y h = named_none name.is_quoted name.text x y b r e no_quote no_word h
+no_term-other x b r e no_list no_tuple no_quote no_word no_integer AList y h = let same : ◌≡◌ {A = List ℕ} (b ∷ r) (91 ∷ y) = sym e ∙ h in no_list (cc)
+no_term-other x b r e no_list no_tuple no_quote no_word no_integer Tuple y h = let same : ◌≡◌ {A = List ℕ} (b ∷ r) (40 ∷ y) = sym e ∙ h in no_tuple (cc)

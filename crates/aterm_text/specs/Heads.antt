@@ -1,0 +1,23 @@
+-- What a term begins with.
+use Rattle.std.specs.Prelude.{◌≡◌, ℕ, false, IsTrue, List, take, drop}
+use Rattle.std.specs.List.{prefix_len}
+use Rattle.term_core.specs.Word.{continues_word, is_word}
+use Rattle.aterm_text.specs.Tokens.{NextSign, NextInteger, NextName}
+use Rattle.aterm_text.specs.declared.reader.head.Head.{Head}
+use Rattle.aterm_text.specs.declared.reader.head.Head.TheVariants.{Integer, Named, List as AList, Tuple}
+
+-- the head comes first in x, and y follows it
+abbrev pub Begins : Head → List ℕ → List ℕ → Type 0
+Begins (Integer z) x y = NextInteger z x y
+Begins (Named name) x y = NextName name x y
+Begins AList x y = NextSign 91 x y
+Begins Tuple x y = NextSign 40 x y
+
+-- no term begins at the front of x
+abbrev pub NoTerm : List ℕ → Type 0
+NoTerm x = (head : Head) (y : List ℕ) → Begins head x y → ⊥
+
+-- the head is the word at the front of x, and y follows it
+abbrev pub IsWordHead : List ℕ → Head → List ℕ → Type 0
+IsWordHead x head y = let bytes = take (prefix_len continues_word x) x in
+    IsTrue (is_word bytes) × (head ≡ Named (record { text = bytes; is_quoted = false })) × (y ≡ drop (prefix_len continues_word x) x)

@@ -1,0 +1,11 @@
+pub mod Tokens
+pub mod Grammar
+pub mod Nesting
+pub mod Printed
+pub mod Level
+pub mod Brackets
+pub mod Unread
+pub mod Heads
+pub mod NestingPlaces
+pub mod Printing
+pub mod Laws

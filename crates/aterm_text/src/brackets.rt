@@ -1,0 +1,76 @@
+//! How deep the brackets of a text are nested.
+#![tactic(auto, using(crate::proofs::NestingLemmas::nesting_steps))]
+
+ghost use Rattle.std.specs.Prelude.{◌≡◌, ◌+◌, ◌^◌, ◌<◌};
+ghost use Rattle.aterm_text.specs.Nesting.{nesting as nesting_of};
+ghost use Rattle.aterm_text.specs.NestingPlaces.{place_after, depth_after as depth_after_of};
+
+// Where the next byte stands.
+#[derive(Clone, Copy)]
+enum Place {
+    OutsideQuotes,
+    BehindQuote,
+    BehindBackslash,
+}
+
+impl Place {
+    fn after(self, byte: u8) -> Place
+        ensures { result ≡ place_after self byte }
+    {
+        match (self, byte) {
+            (Place::OutsideQuotes, b'"') => Place::BehindQuote,
+            (Place::OutsideQuotes, _) => Place::OutsideQuotes,
+            (Place::BehindQuote, b'"') => Place::OutsideQuotes,
+            (Place::BehindQuote, b'\\') => Place::BehindBackslash,
+            (Place::BehindQuote | Place::BehindBackslash, _) => Place::BehindQuote,
+        }
+    }
+
+    fn depth_after(self, byte: u8, depth: u64) -> u64
+        requires { depth + 1 < 2 ^ 64 }
+        ensures { result ≡ depth_after_of self byte depth }
+    {
+        match (self, byte) {
+            (Place::OutsideQuotes, b'(' | b'[' | b'{') => depth + 1,
+            (Place::OutsideQuotes, b')' | b']' | b'}') => depth.saturating_sub(1),
+            _ => depth,
+        }
+    }
+}
+
+/// The greatest number of brackets `(`, `[` and `{` that are open at one place of the text. A closing
+/// bracket of any kind closes one, where one is open. What stands in quotes isn't counted; a backslash
+/// there takes the next byte with it, and a quote that isn't closed takes the rest.
+pub fn nesting(text: &[u8]) -> u64
+    ensures { result ≡ nesting_of text.now }
+{
+    let mut place = Place::OutsideQuotes;
+    let mut depth = 0;
+    let mut greatest = 0;
+    for byte in text {
+        depth = place.depth_after(*byte, depth);
+        greatest = depth.max(greatest);
+        place = place.after(*byte);
+    }
+    greatest
+}
+
+#[cfg(test)]
+mod tests {
+    use super::nesting;
+
+    #[test]
+    fn counts_open_brackets(rt: HostRuntime) {
+        let table: [(&[u8], u64); 6] = [
+            (b"", 0),
+            (b"[[", 2),
+            (b"\"[[\"[", 1),
+            (b")))(", 1),
+            (b"\"\\\"[", 0),
+            (b"([]{()})", 3),
+        ];
+        for (text, depth) in table {
+            assert_eq!(rt; nesting(text), depth);
+        }
+    }
+}

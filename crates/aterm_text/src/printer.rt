@@ -1,0 +1,282 @@
+//! Printing terms.
+#![tactic(auto, using(crate::proofs::PrintLemmas::print_steps))]
+
+ghost use Rattle.std.specs.Prelude.{◌≡◌, ◌++◌, ◌∷◌, [], ◌≤◌, false, OnOk, OnErr, vec_capacity};
+ghost use Rattle.std.specs.List.{flat_map, prefix_len};
+ghost use Rattle.std.specs.Fmt.{signed_decimal};
+ghost use Rattle.term_core.specs.Tree.{of_list, bare};
+ghost use Rattle.term_core.specs.Terms.{IsTerm, AreTerms, IsName};
+ghost use Rattle.aterm_text.specs.Printed.{escaped as escaped_of, octal_escape, print as print_of, print_name as print_name_of};
+ghost use Rattle.aterm_text.specs.Printed.{print_all as print_all_of, bracketed as bracketed_of};
+ghost use Rattle.aterm_text.specs.Grammar.{Spells};
+ghost use Rattle.aterm_text.specs.Printing.{Extends, is_plain as is_plain_of};
+
+use itoa::Buffer;
+use term_core::{Kind, Name, NoMemory, Term};
+
+const QUOTE: u8 = b'"';
+
+/// Appends the one printed spelling of the term, which has no white space and is read as this term. It recurses as deep as the
+/// term is high.
+///
+/// Where a growth of memory is refused, `out` is as before. Its capacity never shrinks.
+pub fn print(term: &Term, out: &mut Vec<u8>) -> Result<(), NoMemory>
+    ensures ok { OnOk result (out.new.items ≡ out.old.items ++ print_of term.now) }
+    ensures term { OnOk result (IsTerm term.now) }
+    ensures spells { OnOk result (Spells (print_of term.now) term.now) }
+    ensures err { OnErr result (out.new.items ≡ out.old.items) }
+    ensures room { vec_capacity out.old ≤ vec_capacity out.new }
+{
+    let len = out.len();
+    let printed = print_term(term, out);
+    if printed.is_err() {
+        out.truncate(len);
+    }
+    printed
+}
+
+#[cycle(print)]
+fn print_term(term: &Term, out: &mut Vec<u8>) -> Result<(), NoMemory>
+    ensures ok { OnOk result (out.new.items ≡ out.old.items ++ print_of term.now) }
+    ensures term { OnOk result (IsTerm term.now) }
+    ensures err { Extends out.old.items out.new.items }
+    ensures room { vec_capacity out.old ≤ vec_capacity out.new }
+{
+    print_bare(term, out)?;
+    print_bracketed(b'{', term.annotations(), b'}', out)
+}
+
+// The term without its annotations.
+#[cycle(print)]
+fn print_bare(term: &Term, out: &mut Vec<u8>) -> Result<(), NoMemory>
+    ensures ok { OnOk result (out.new.items ≡ out.old.items ++ print_of (bare term.now)) }
+    ensures term { OnOk result (IsTerm (bare term.now)) }
+    ensures err { Extends out.old.items out.new.items }
+    ensures room { vec_capacity out.old ≤ vec_capacity out.new }
+{
+    match term.kind() {
+        Kind::Integer(value) => print_integer(value, out),
+        Kind::Application(name) => {
+            print_name(name, out)?;
+            print_bracketed(b'(', term.children(), b')', out)
+        }
+        Kind::List => print_between(b'[', term.children(), b']', out),
+        Kind::Tuple => print_between(b'(', term.children(), b')', out),
+    }
+}
+
+// The terms in brackets, or nothing where there are none.
+#[cycle(print)]
+fn print_bracketed(
+    opening: u8,
+    terms: &[Term],
+    closing: u8,
+    out: &mut Vec<u8>,
+) -> Result<(), NoMemory>
+    ensures ok { let all = of_list terms.now in
+        OnOk result (out.new.items ≡ out.old.items ++ bracketed_of opening closing all (print_all_of all)) }
+    ensures terms { OnOk result (AreTerms (of_list terms.now)) }
+    ensures err { Extends out.old.items out.new.items }
+    ensures room { vec_capacity out.old ≤ vec_capacity out.new }
+{
+    if terms.is_empty() {
+        return Ok(());
+    }
+    print_between(opening, terms, closing, out)
+}
+
+#[cycle(print)]
+fn print_between(
+    opening: u8,
+    terms: &[Term],
+    closing: u8,
+    out: &mut Vec<u8>,
+) -> Result<(), NoMemory>
+    ensures ok { let all = print_all_of (of_list terms.now) in
+        OnOk result (out.new.items ≡ out.old.items ++ opening ∷ (all ++ closing ∷ [])) }
+    ensures terms { OnOk result (AreTerms (of_list terms.now)) }
+    ensures err { Extends out.old.items out.new.items }
+    ensures room { vec_capacity out.old ≤ vec_capacity out.new }
+{
+    out.push(opening)?;
+    print_all(terms, out)?;
+    out.push(closing)?;
+    Ok(())
+}
+
+// The terms, with commas between them.
+#[cycle(print)]
+fn print_all(terms: &[Term], out: &mut Vec<u8>) -> Result<(), NoMemory>
+    ensures ok { OnOk result (out.new.items ≡ out.old.items ++ print_all_of (of_list terms.now)) }
+    ensures terms { OnOk result (AreTerms (of_list terms.now)) }
+    ensures err { Extends out.old.items out.new.items }
+    ensures room { vec_capacity out.old ≤ vec_capacity out.new }
+{
+    let Some((first, rest)) = terms.split_first() else {
+        return Ok(());
+    };
+    print_term(first, out)?;
+    for term in rest {
+        out.push(b',')?;
+        print_term(term, out)?;
+    }
+    Ok(())
+}
+
+fn print_integer(value: i64, out: &mut Vec<u8>) -> Result<(), NoMemory>
+    ensures ok { OnOk result (out.new.items ≡ out.old.items ++ signed_decimal value) }
+    ensures err { Extends out.old.items out.new.items }
+    ensures room { vec_capacity out.old ≤ vec_capacity out.new }
+{
+    let mut buffer = Buffer::new();
+    out.extend_from_slice(buffer.format(value).as_bytes())?;
+    Ok(())
+}
+
+fn print_name(name: &Name, out: &mut Vec<u8>) -> Result<(), NoMemory>
+    ensures ok { OnOk result (out.new.items ≡ out.old.items ++ print_name_of name.now) }
+    ensures name { IsName name.now }
+    ensures err { Extends out.old.items out.new.items }
+    ensures room { vec_capacity out.old ≤ vec_capacity out.new }
+{
+    let bytes = name.bytes();
+    if name.is_quoted() {
+        print_quoted(bytes, out)
+    } else {
+        out.extend_from_slice(bytes)?;
+        Ok(())
+    }
+}
+
+fn print_quoted(bytes: &[u8], out: &mut Vec<u8>) -> Result<(), NoMemory>
+    ensures ok { let items = flat_map escaped_of bytes.now in
+        OnOk result (out.new.items ≡ out.old.items ++ QUOTE ∷ (items ++ QUOTE ∷ [])) }
+    ensures err { Extends out.old.items out.new.items }
+    ensures room { vec_capacity out.old ≤ vec_capacity out.new }
+{
+    out.push(QUOTE)?;
+    print_escaped(bytes, out)?;
+    out.push(QUOTE)?;
+    Ok(())
+}
+
+// A run of bytes that stand as they are is appended at once.
+fn print_escaped(bytes: &[u8], out: &mut Vec<u8>) -> Result<(), NoMemory>
+    ensures ok { OnOk result (out.new.items ≡ out.old.items ++ flat_map escaped_of bytes.now) }
+    ensures err { Extends out.old.items out.new.items }
+    ensures room { vec_capacity out.old ≤ vec_capacity out.new }
+{
+    let mut rest = bytes;
+    while !rest.is_empty() {
+        let (run, behind) = rest.split_at(plain_run_len(rest));
+        out.extend_from_slice(run)?;
+        let Some((byte, next)) = behind.split_first() else {
+            return Ok(());
+        };
+        print_escape(*byte, out)?;
+        rest = next;
+    }
+    Ok(())
+}
+
+fn plain_run_len(bytes: &[u8]) -> usize
+    ensures { result ≡ prefix_len is_plain_of bytes.now }
+{
+    bytes.iter().take_while(|byte| is_plain(**byte)).count()
+}
+
+fn is_plain(byte: u8) -> bool
+    ensures { result ≡ is_plain_of byte }
+{
+    matches!(byte, 32..=126) && byte != QUOTE && byte != b'\\'
+}
+
+fn print_escape(byte: u8, out: &mut Vec<u8>) -> Result<(), NoMemory>
+    requires { is_plain_of byte ≡ false }
+    ensures ok { OnOk result (out.new.items ≡ out.old.items ++ escaped_of byte) }
+    ensures err { OnErr result (out.new.items ≡ out.old.items) }
+    ensures room { vec_capacity out.old ≤ vec_capacity out.new }
+{
+    match byte {
+        QUOTE => out.extend_from_slice(b"\\\"")?,
+        b'\\' => out.extend_from_slice(b"\\\\")?,
+        b'\n' => out.extend_from_slice(b"\\n")?,
+        b'\t' => out.extend_from_slice(b"\\t")?,
+        b'\r' => out.extend_from_slice(b"\\r")?,
+        _ => print_octal(byte, out)?,
+    }
+    Ok(())
+}
+
+fn print_octal(byte: u8, out: &mut Vec<u8>) -> Result<(), NoMemory>
+    ensures ok { OnOk result (out.new.items ≡ out.old.items ++ octal_escape byte) }
+    ensures err { OnErr result (out.new.items ≡ out.old.items) }
+    ensures room { vec_capacity out.old ≤ vec_capacity out.new }
+{
+    let digits = [
+        b'\\',
+        b'0' + byte / 64,
+        b'0' + byte / 8 % 8,
+        b'0' + byte % 8,
+    ];
+    out.extend_from_slice(&digits)?;
+    Ok(())
+}
+
+#[cfg(test)]
+mod tests {
+    use super::print;
+    use std::alloc::Global;
+    use std::test::Fail;
+    use term_core::{Name, Term};
+
+    fn apply(alloc: Global, name: &[u8], arguments: Vec<Term>) -> Result<Term, Fail> {
+        let name = Name::word(alloc, name)?.ok_or("no word")?;
+        Ok(Term::application(alloc, name, arguments))
+    }
+
+    fn constant(alloc: Global, name: &[u8]) -> Result<Term, Fail> {
+        apply(alloc, name, Vec::new(alloc))
+    }
+
+    fn string(alloc: Global, bytes: &[u8]) -> Result<Term, Fail> {
+        let name = Name::quoted(alloc, bytes)?;
+        Ok(Term::application(alloc, name, Vec::new(alloc)))
+    }
+
+    fn pair_and_list(alloc: Global) -> Result<Term, Fail> {
+        let one_two = vec![in alloc; Term::integer(alloc, 1), Term::integer(alloc, 2)]?;
+        let list = Term::list(alloc, one_two);
+        apply(alloc, b"f", vec![in alloc; constant(alloc, b"a")?, list]?)
+    }
+
+    fn annotated(alloc: Global) -> Result<Term, Fail> {
+        let text = string(alloc, b"x\nA")?;
+        let term = apply(alloc, b"f", vec![in alloc; text, Term::integer(alloc, -7)]?)?;
+        Ok(term.with_annotations(vec![in alloc; constant(alloc, b"a")?]?))
+    }
+
+    #[test]
+    fn prints(rt: HostRuntime) -> Result<(), Fail> {
+        let alloc = rt.alloc();
+        let one = vec![in alloc; constant(alloc, b"a")?]?;
+        let table: [(Term, &[u8]); 10] = [
+            (string(alloc, &[0, 255])?, b"\"\\000\\377\""),
+            (string(alloc, &[b'"', 255])?, b"\"\\\"\\377\""),
+            (string(alloc, b"a\\\r\tb")?, b"\"a\\\\\\r\\tb\""),
+            (constant(alloc, b"f")?, b"f"),
+            (pair_and_list(alloc)?, b"f(a,[1,2])"),
+            (Term::integer(alloc, -7), b"-7"),
+            (Term::tuple(alloc, Vec::new(alloc)), b"()"),
+            (Term::tuple(alloc, one), b"(a)"),
+            (Term::list(alloc, Vec::new(alloc)), b"[]"),
+            (annotated(alloc)?, b"f(\"x\\nA\",-7){a}"),
+        ];
+        for (term, text) in table {
+            let mut out = Vec::new(alloc);
+            print(&term, &mut out)?;
+            assert_eq!(rt; out.as_slice(), text);
+        }
+        Ok(())
+    }
+}

@@ -1,0 +1,100 @@
+//! Reading terms.
+
+ghost use Rattle.std.specs.Prelude.{◌≡◌, ◌<◌, ◌≤◌, ◌↔◌, ℕ, List, OnOk, IfOk, IfErr, Err};
+ghost use Rattle.term_core.specs.Tree.{Tree};
+ghost use Rattle.aterm_text.specs.Nesting.{nesting as nesting_of};
+ghost use Rattle.aterm_text.specs.Grammar.{Spells, SpellsAnnotations};
+
+mod head;
+mod levels;
+mod machine;
+mod scan;
+
+use crate::nesting;
+use machine::{State, finish};
+use std::alloc::{AllocFailed, Global};
+use term_core::{NoMemory, Term};
+use thiserror::Error;
+
+/// The greatest number of brackets that may be open at one place of a text.
+pub const MAX_NESTING: u64 = 1000;
+
+/// Why a text was not read.
+#[derive(Clone, Copy, Debug, PartialEq, Eq, Error)]
+pub enum ReadFault {
+    /// More than 1,000 brackets are open at one place.
+    #[error("deep")]
+    Deep,
+    /// The text spells no term, or no annotation part.
+    #[error("term")]
+    Term,
+    /// A growth of memory was refused.
+    #[error("memory")]
+    Memory,
+}
+
+/// The term that the text spells, by the grammar of the ATerm format.
+pub fn read(alloc: Global, text: &[u8]) -> Result<Term, ReadFault>
+    ensures deep { (result ≡ Err ReadFault.Deep) ↔ (MAX_NESTING < nesting_of text.now) }
+    ensures spelled { IfOk result (λ t. Spells text.now t) }
+    ensures only { IfOk result (λ t. (u : Tree) → Spells text.now u → u ≡ t) }
+    ensures no_term { result ≡ Err ReadFault.Term → (u : Tree) → Spells text.now u → ⊥ }
+{
+    check_nesting(text)?;
+    finish(alloc, State::Expected, text)
+}
+
+/// The list of annotations that the text spells: an annotation part alone, with white space round it.
+pub fn read_annotations(alloc: Global, text: &[u8]) -> Result<Vec<Term>, ReadFault>
+    ensures deep { (result ≡ Err ReadFault.Deep) ↔ (MAX_NESTING < nesting_of text.now) }
+    ensures spelled { IfOk result (λ ts. SpellsAnnotations text.now ts.items) }
+    ensures only { IfOk result (λ ts. (us : List Tree) → SpellsAnnotations text.now us → us ≡ ts.items) }
+    ensures no_term { result ≡ Err ReadFault.Term → (us : List Tree) → SpellsAnnotations text.now us → ⊥ }
+{
+    check_nesting(text)?;
+    let Some(_inside) = scan::after_sign(b'{', text) else {
+        return Err(ReadFault::Term);
+    };
+    // What stands behind the empty list is read as its annotations.
+    let bearer = Term::list(alloc, Vec::new(alloc));
+    match finish(alloc, State::Base(bearer), text) {
+        Ok(mut term) => {
+            let mut annotations = Vec::new(alloc);
+            term.swap_annotations(&mut annotations);
+            Ok(annotations)
+        }
+        Err(fault) => Err(fault),
+    }
+}
+
+fn check_nesting(text: &[u8]) -> Result<(), ReadFault>
+    ensures ok { OnOk result (nesting_of text.now ≤ MAX_NESTING) }
+    ensures deep { IfErr result (λ fault. (fault ≡ ReadFault.Deep) × (MAX_NESTING < nesting_of text.now)) }
+{
+    if nesting(text) > MAX_NESTING {
+        return Err(ReadFault::Deep);
+    }
+    Ok(())
+}
+
+impl<T: Drop> From<AllocFailed<T>> for ReadFault {
+    ghost use Rattle.std.specs.Prelude.{◌≡◌};
+    ghost use Rattle.aterm_text.specs.declared.reader.ReadFault.{ReadFault};
+
+    ghost from_gives = { λ _ e. e ≡ ReadFault.Memory };
+
+    fn from(_refused: AllocFailed<T>) -> ReadFault {
+        ReadFault::Memory
+    }
+}
+
+impl From<NoMemory> for ReadFault {
+    ghost use Rattle.std.specs.Prelude.{◌≡◌};
+    ghost use Rattle.aterm_text.specs.declared.reader.ReadFault.{ReadFault};
+
+    ghost from_gives = { λ _ e. e ≡ ReadFault.Memory };
+
+    fn from(_refused: NoMemory) -> ReadFault {
+        ReadFault::Memory
+    }
+}

@@ -1,0 +1,180 @@
+//! The tokens of a text: white space, integers, words and quoted bytes.
+
+ghost use Rattle.std.specs.Prelude.{◌≡◌, ◌||◌, ◌==◌, ◌+◌, ◌≤◌, ◌∷◌, ◌<◌, ℕ, ℤ, IsTrue, IfOk, IfSome, IfNone, Some, None, Err, List, take, drop, length};
+ghost use Rattle.std.specs.List.{prefix_len};
+ghost use Rattle.std.specs.Char.{is_ascii_digit};
+ghost use Rattle.term_core.specs.Word.{continues_word};
+ghost use Rattle.aterm_text.specs.Tokens.{is_blank, without_blanks, NextSign, integer_len, IsInteger, item_at, escape_at, octal_at, octal_value, is_octal_digit, ReadsItems};
+
+use crate::reader::ReadFault;
+use std::alloc::Global;
+use std::str;
+
+fn is_blank_byte(b: u8) -> bool
+    ensures { result ≡ is_blank b }
+{
+    matches!(b, b' ' | b'\t' | b'\n' | b'\r')
+}
+
+// The text from its first byte on that is no white space.
+pub fn after_blanks(text: &[u8]) -> &[u8]
+    ensures value { result.now ≡ without_blanks text.now }
+    ensures bound { length result.now ≤ length text.now }
+{
+    &text[blanks_length(text)..]
+}
+
+fn blanks_length(text: &[u8]) -> usize
+    ensures value { result ≡ prefix_len is_blank text.now }
+    ensures bound { result ≤ length text.now }
+{
+    text.iter().take_while(|b| is_blank_byte(**b)).count()
+}
+
+// What follows this byte, where it comes first.
+fn after_byte(byte: u8, text: &[u8]) -> Option<&[u8]>
+    ensures some { IfSome result (λ rest. text.now ≡ byte ∷ rest.now) }
+    ensures shorter { IfSome result (λ rest. length rest.now < length text.now) }
+    ensures none { IfNone result ((rest : List ℕ) → text.now ≡ byte ∷ rest → ⊥) }
+{
+    match text.split_first() {
+        Some((first, rest)) if *first == byte => Some(rest),
+        _ => None,
+    }
+}
+
+// What follows this sign, where it comes first, behind white space or none.
+pub fn after_sign(sign: u8, text: &[u8]) -> Option<&[u8]>
+    ensures some { IfSome result (λ rest. NextSign sign text.now rest.now) }
+    ensures shorter { IfSome result (λ rest. length rest.now < length text.now) }
+    ensures none { IfNone result ((rest : List ℕ) → NextSign sign text.now rest → ⊥) }
+{
+    after_byte(sign, after_blanks(text))
+}
+
+// How many bytes at the front may go on a word.
+pub fn word_length(text: &[u8]) -> usize
+    ensures value { result ≡ prefix_len continues_word text.now }
+    ensures bound { result ≤ length text.now }
+{
+    text.iter()
+        .take_while(|b| term_core::continues_word(**b))
+        .count()
+}
+
+fn digits_length(text: &[u8]) -> usize
+    ensures value { result ≡ prefix_len is_ascii_digit text.now }
+    ensures bound { result ≤ length text.now }
+{
+    text.iter().take_while(|b| b.is_ascii_digit()).count()
+}
+
+fn integer_length(text: &[u8]) -> usize
+    ensures value { result ≡ integer_len text.now }
+    ensures bound { result ≤ length text.now }
+{
+    match text.split_first() {
+        Some((b'-', digits)) => 1 + digits_length(digits),
+        _ => digits_length(text),
+    }
+}
+
+// The integer at the front, and what follows it.
+pub fn integer(text: &[u8]) -> Option<(i64, &[u8])>
+    ensures some { IfSome result (λ found. IsInteger (take (integer_len text.now) text.now) found.0 × (found.1.now ≡ drop (integer_len text.now) text.now)) }
+    ensures none { IfNone result ((z : ℤ) → IsInteger (take (integer_len text.now) text.now) z → ⊥) }
+{
+    let (front, rest) = text.split_at(integer_length(text));
+    match parsed(front) {
+        Some(value) => Some((value, rest)),
+        None => None,
+    }
+}
+
+fn parsed(text: &[u8]) -> Option<i64>
+    ensures some { IfSome result (λ z. IsInteger text.now z) }
+    ensures none { IfNone result ((z : ℤ) → IsInteger text.now z → ⊥) }
+{
+    let Ok(text) = str::from_utf8(text) else {
+        return None;
+    };
+    match text.parse::<i64>() {
+        Ok(value) => Some(value),
+        Err(_) => None,
+    }
+}
+
+fn is_octal(b: u8) -> bool
+    ensures { result ≡ is_octal_digit b }
+{
+    matches!(b, b'0'..=b'7')
+}
+
+// The byte that three octal digits stand for, and what follows them.
+fn octal(text: &[u8]) -> Option<(u8, &[u8])>
+    ensures some { IfSome result (λ found. octal_at text.now ≡ Some (found.0, found.1.now)) }
+    ensures none { IfNone result (octal_at text.now ≡ None) }
+    ensures shorter { IfSome result (λ found. length found.1.now < length text.now) }
+{
+    let [a, b, c, rest @ ..] = text else {
+        return None;
+    };
+    if !(is_octal(*a) && is_octal(*b) && is_octal(*c)) {
+        return None;
+    }
+    let value = 64 * u32::from(*a - b'0') + 8 * u32::from(*b - b'0') + u32::from(*c - b'0');
+    match u8::try_from(value) {
+        Ok(byte) => Some((byte, rest)),
+        Err(_) => None,
+    }
+}
+
+// The byte that what follows a backslash stands for, and the text behind it.
+fn escape(text: &[u8]) -> Option<(u8, &[u8])>
+    ensures some { IfSome result (λ found. escape_at text.now ≡ Some (found.0, found.1.now)) }
+    ensures none { IfNone result (escape_at text.now ≡ None) }
+    ensures shorter { IfSome result (λ found. length found.1.now < length text.now) }
+{
+    let (first, rest) = text.split_first()?;
+    match *first {
+        b'"' => Some((b'"', rest)),
+        b'\\' => Some((b'\\', rest)),
+        b'n' => Some((b'\n', rest)),
+        b't' => Some((b'\t', rest)),
+        b'r' => Some((b'\r', rest)),
+        _ => octal(text),
+    }
+}
+
+// The byte that the first item between quotes stands for, and the text behind it.
+fn item(text: &[u8]) -> Option<(u8, &[u8])>
+    ensures some { IfSome result (λ found. item_at text.now ≡ Some (found.0, found.1.now)) }
+    ensures none { IfNone result (item_at text.now ≡ None) }
+    ensures shorter { IfSome result (λ found. length found.1.now < length text.now) }
+{
+    let (first, rest) = text.split_first()?;
+    match *first {
+        b'"' => None,
+        b'\\' => escape(rest),
+        byte => Some((byte, rest)),
+    }
+}
+
+// The bytes that the items up to the closing quote stand for, and the text behind it.
+pub fn quoted(alloc: Global, text: &[u8]) -> Result<(Vec<u8>, &[u8]), ReadFault>
+    ensures found { IfOk result (λ found. ReadsItems found.0.items text.now found.1.now) }
+    ensures shorter { IfOk result (λ found. length found.1.now < length text.now) }
+    ensures none { result ≡ Err ReadFault.Term → (bytes y : List ℕ) → ReadsItems bytes text.now y → ⊥ }
+    ensures deep { result ≡ Err ReadFault.Deep → ⊥ }
+{
+    let mut bytes = Vec::new(alloc);
+    let mut rest = text;
+    while let Some((byte, left)) = item(rest) {
+        bytes.push(byte)?;
+        rest = left;
+    }
+    match after_byte(b'"', rest) {
+        Some(left) => Ok((bytes, left)),
+        None => Err(ReadFault::Term),
+    }
+}
