@@ -1,0 +1,4 @@
+pub mod ScriptLemmas
+pub mod AnswerLemmas
+pub mod WriteLemmas
+pub mod RunLemmas

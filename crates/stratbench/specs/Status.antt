@@ -1,0 +1,14 @@
+-- The exit status for the end of a run.
+use Rattle.std.specs.Prelude.{ℕ, ◌==◌, Ok, Err, if◌then◌else◌}
+use Rattle.std.specs.declared.result.Result.{Result}
+use Rattle.stratbench.specs.declared.run.Summary.{Summary}
+use Rattle.stratbench.specs.declared.run.RunFault.{RunFault}
+use Rattle.stratbench.specs.declared.run.RunFault.TheVariants.{Read, Write, Turns, Memory}
+
+-- 0 where all commands were accepted, 1 where some were refused, 3 where reading or writing failed, 4 where there was no memory
+abbrev pub status_of : Result Summary RunFault → ℕ
+status_of (Ok summary) = if (summary.refused == 0) then 0 else 1
+status_of (Err Read) = 3
+status_of (Err Write) = 3
+status_of (Err Turns) = 3
+status_of (Err Memory) = 4

@@ -1,0 +1,39 @@
+//! Reads a script from standard input and answers each of its commands on standard output.
+#![tactic(auto)]
+
+mod answer;
+mod command;
+mod read;
+mod run;
+mod script;
+#[cfg(test)]
+mod tests;
+mod write;
+
+use run::{RunFault, Summary, run, status};
+use session_core::Session;
+use std::io::{BufReader, BufWriter};
+use std::process::ExitCode;
+
+fn main(rt: HostRuntime) -> ExitCode {
+    let outcome = answer_input(&rt);
+    if let Err(fault) = &outcome {
+        let _ = eprintln!(rt; "stratbench: {fault}");
+    }
+    ExitCode::from(status(&outcome))
+}
+
+// Runs a new session over standard input and standard output.
+fn answer_input(rt: &HostRuntime) -> Result<Summary, RunFault> {
+    let alloc = rt.alloc();
+    let Ok(mut session) = Session::new(alloc) else {
+        return Err(RunFault::Memory);
+    };
+    let Ok(mut reader) = BufReader::new(alloc, rt.stdin()) else {
+        return Err(RunFault::Memory);
+    };
+    let Ok(mut writer) = BufWriter::new(alloc, rt.stdout()) else {
+        return Err(RunFault::Memory);
+    };
+    run(alloc, &mut session, &mut reader, &mut writer)
+}
