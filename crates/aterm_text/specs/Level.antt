@@ -7,6 +7,7 @@ use Rattle.term_core.specs.Tree.{Symbol, Tree}
 use Rattle.term_core.specs.TreeCode.{tree_code, symbol_code}
 use Rattle.aterm_text.specs.declared.reader.levels.Opened.{Opened}
 use Rattle.aterm_text.specs.declared.reader.levels.Opened.TheVariants.{Arguments, List as AList, Tuple, Annotations}
+use Rattle.aterm_text.specs.Signs.{close_round, close_square, close_curly}
 
 -- what the bracket will make of the terms in it, and the terms in it so far
 pub record Level : Type 0 where
@@ -46,10 +47,10 @@ with_term level t = record { opened = level.opened; done = level.done ++ t ∷ [
 
 -- the bracket that closes it
 abbrev pub closing_of : Opened → ℕ
-closing_of (Arguments name) = 41
-closing_of AList = 93
-closing_of Tuple = 41
-closing_of (Annotations t) = 125
+closing_of (Arguments name) = close_round
+closing_of AList = close_square
+closing_of Tuple = close_round
+closing_of (Annotations t) = close_curly
 
 -- the bracket that closes the innermost level, where there is one
 abbrev pub first_closing : List Level → Option ℕ

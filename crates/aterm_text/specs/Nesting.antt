@@ -1,15 +1,16 @@
 -- How deep the brackets of a text are nested.
 use Rattle.std.specs.Prelude.{ℕ, ◌+◌, ◌-◌, ◌==◌, ◌||◌, max, List, [], ◌∷◌, if◌then◌else◌}
+use Rattle.aterm_text.specs.Signs.{quote, backslash, open_round, close_round, open_square, close_square, open_curly, close_curly}
 
 -- The text without what stands in quotes. A backslash there takes the next byte with it, and a quote that isn't closed takes the rest.
 abbrev mutual
   pub outside_quotes : List ℕ → List ℕ
   outside_quotes [] = []
-  outside_quotes (b ∷ bs) = if (b == 34) then behind_quote bs else b ∷ outside_quotes bs
+  outside_quotes (b ∷ bs) = if (b == quote) then behind_quote bs else b ∷ outside_quotes bs
 
   pub behind_quote : List ℕ → List ℕ
   behind_quote [] = []
-  behind_quote (b ∷ bs) = if (b == 34) then outside_quotes bs else if (b == 92) then behind_backslash bs else behind_quote bs
+  behind_quote (b ∷ bs) = if (b == quote) then outside_quotes bs else if (b == backslash) then behind_backslash bs else behind_quote bs
 
   pub behind_backslash : List ℕ → List ℕ
   behind_backslash [] = []
@@ -18,8 +19,8 @@ abbrev mutual
 -- how many brackets are open after this byte, where n were before it: a closing one, of any kind, takes 1 where there is one
 abbrev pub open_after : ℕ → ℕ → ℕ
 open_after b n =
-    if ((b == 40) || (b == 91) || (b == 123)) then n + 1 else
-    if ((b == 41) || (b == 93) || (b == 125)) then n - 1 else n
+    if ((b == open_round) || (b == open_square) || (b == open_curly)) then n + 1 else
+    if ((b == close_round) || (b == close_square) || (b == close_curly)) then n - 1 else n
 
 -- the greatest number of brackets open at one place, where n are open before the text
 abbrev pub greatest_open : ℕ → List ℕ → ℕ

@@ -3,22 +3,23 @@ use Rattle.std.specs.Prelude.{ℕ, ◌+◌, ◌/◌, ◌%◌, ◌==◌, ◌&&◌
 use Rattle.std.specs.List.{flat_map}
 use Rattle.std.specs.Fmt.{signed_decimal}
 use Rattle.term_core.specs.Tree.{Symbol, application, list, tuple, Tree, Trees, integer, branch, none, more}
+use Rattle.aterm_text.specs.Signs.{quote, backslash, comma, open_round, close_round, open_square, close_square, open_curly, close_curly}
 
 abbrev pub octal_escape : ℕ → List ℕ
-octal_escape b = 92 ∷ ((48 + b / 64) ∷ ((48 + b / 8 % 8) ∷ ((48 + b % 8) ∷ [])))
+octal_escape b = backslash ∷ ((48 + b / 64) ∷ ((48 + b / 8 % 8) ∷ ((48 + b % 8) ∷ [])))
 
 -- One byte of a quoted name: an escape for `"`, `\`, LF, TAB and CR, else the byte itself from 32 to 126, else a backslash and three octal digits.
 abbrev pub escaped : ℕ → List ℕ
 escaped b =
-    if (b == 34) then 92 ∷ (34 ∷ []) else
-    if (b == 92) then 92 ∷ (92 ∷ []) else
-    if (b == 10) then 92 ∷ (110 ∷ []) else
-    if (b == 9) then 92 ∷ (116 ∷ []) else
-    if (b == 13) then 92 ∷ (114 ∷ []) else
+    if (b == quote) then backslash ∷ (quote ∷ []) else
+    if (b == backslash) then backslash ∷ (backslash ∷ []) else
+    if (b == 10) then backslash ∷ (110 ∷ []) else
+    if (b == 9) then backslash ∷ (116 ∷ []) else
+    if (b == 13) then backslash ∷ (114 ∷ []) else
     if (nat_lt 31 b && nat_lt b 127) then b ∷ [] else octal_escape b
 
 abbrev pub print_name : Symbol → List ℕ
-print_name name = if name.is_quoted then 34 ∷ (flat_map escaped name.text ++ 34 ∷ []) else name.text
+print_name name = if name.is_quoted then quote ∷ (flat_map escaped name.text ++ quote ∷ []) else name.text
 
 -- brackets round the terms, where there are any
 abbrev pub bracketed : ℕ → ℕ → Trees → List ℕ → List ℕ
@@ -27,10 +28,10 @@ bracketed opening closing (more t ts) inner = opening ∷ (inner ++ closing ∷ 
 
 abbrev mutual
   pub print : Tree → List ℕ
-  print (integer z notes) = signed_decimal z ++ bracketed 123 125 notes (print_all notes)
-  print (branch (application name) kids notes) = print_name name ++ bracketed 40 41 kids (print_all kids) ++ bracketed 123 125 notes (print_all notes)
-  print (branch list kids notes) = 91 ∷ (print_all kids ++ 93 ∷ bracketed 123 125 notes (print_all notes))
-  print (branch tuple kids notes) = 40 ∷ (print_all kids ++ 41 ∷ bracketed 123 125 notes (print_all notes))
+  print (integer z notes) = signed_decimal z ++ bracketed open_curly close_curly notes (print_all notes)
+  print (branch (application name) kids notes) = print_name name ++ bracketed open_round close_round kids (print_all kids) ++ bracketed open_curly close_curly notes (print_all notes)
+  print (branch list kids notes) = open_square ∷ (print_all kids ++ close_square ∷ bracketed open_curly close_curly notes (print_all notes))
+  print (branch tuple kids notes) = open_round ∷ (print_all kids ++ close_round ∷ bracketed open_curly close_curly notes (print_all notes))
 
   -- the terms, with commas between them
   pub print_all : Trees → List ℕ
@@ -40,4 +41,4 @@ abbrev mutual
   -- the terms behind the first one
   pub print_more : Trees → List ℕ
   print_more none = []
-  print_more (more t ts) = 44 ∷ (print t ++ print_more ts)
+  print_more (more t ts) = comma ∷ (print t ++ print_more ts)

@@ -7,6 +7,7 @@ use Rattle.std.specs.List.{prefix_len}
 use Rattle.std.specs.Str.Parse.{IsNumeral, without_leading_sign, signed_digits_value}
 use Rattle.term_core.specs.Word.{continues_word, is_word}
 use Rattle.term_core.specs.Tree.{Symbol}
+use Rattle.aterm_text.specs.Signs.{quote, backslash, minus}
 
 -- ---- white space
 
@@ -33,7 +34,7 @@ NextSign b x y = without_blanks x ≡ b ∷ y
 -- the length of the `-` that there may be, and of the digits after it
 abbrev pub integer_len : List ℕ → ℕ
 integer_len [] = 0
-integer_len (b ∷ bs) = if (b == 45) then 1 + prefix_len is_ascii_digit bs else prefix_len is_ascii_digit (b ∷ bs)
+integer_len (b ∷ bs) = if (b == minus) then 1 + prefix_len is_ascii_digit bs else prefix_len is_ascii_digit (b ∷ bs)
 
 -- These bytes are an integer: at least one digit, after a `-` or none. Leading zeros are accepted, and `-0` is 0.
 abbrev pub IsInteger : List ℕ → ℤ → Type 0
@@ -62,8 +63,8 @@ octal_at (a ∷ (b ∷ (c ∷ rest))) = if (is_octal_digit a && is_octal_digit b
 abbrev pub escape_at : List ℕ → Option (ℕ × List ℕ)
 escape_at [] = None
 escape_at (b ∷ rest) =
-    if (b == 34) then Some (34, rest) else
-    if (b == 92) then Some (92, rest) else
+    if (b == quote) then Some (quote, rest) else
+    if (b == backslash) then Some (backslash, rest) else
     if (b == 110) then Some (10, rest) else
     if (b == 116) then Some (9, rest) else
     if (b == 114) then Some (13, rest) else
@@ -72,11 +73,11 @@ escape_at (b ∷ rest) =
 -- the first item between quotes, as the byte that it stands for, and what follows it: any byte but a quote and a backslash stands for itself
 abbrev pub item_at : List ℕ → Option (ℕ × List ℕ)
 item_at [] = None
-item_at (b ∷ rest) = if (b == 34) then None else if (b == 92) then escape_at rest else Some (b, rest)
+item_at (b ∷ rest) = if (b == quote) then None else if (b == backslash) then escape_at rest else Some (b, rest)
 
 -- items that stand for these bytes come first in x, then a quote, and y follows it
 abbrev pub ReadsItems : List ℕ → List ℕ → List ℕ → Type 0
-ReadsItems [] x y = x ≡ 34 ∷ y
+ReadsItems [] x y = x ≡ quote ∷ y
 ReadsItems (b ∷ bs) x y = (a : List ℕ) × (item_at x ≡ Some (b, a)) × ReadsItems bs a y
 
 -- ---- names
@@ -87,7 +88,7 @@ NextWord bytes x y = let text = without_blanks x in IsTrue (is_word bytes) × (b
 
 -- the quoted name of these bytes comes first in x, and y follows it
 abbrev pub NextQuoted : List ℕ → List ℕ → List ℕ → Type 0
-NextQuoted bytes x y = (a : List ℕ) × NextSign 34 x a × ReadsItems bytes a y
+NextQuoted bytes x y = (a : List ℕ) × NextSign quote x a × ReadsItems bytes a y
 
 -- the name comes first in x, and y follows it
 abbrev pub NextName : Symbol → List ℕ → List ℕ → Type 0

@@ -10,6 +10,7 @@ use Rattle.aterm_text.specs.declared.reader.machine.State.{State}
 use Rattle.aterm_text.specs.declared.reader.machine.State.TheVariants.{Expected, Entered, Base, Whole}
 use Rattle.aterm_text.specs.declared.reader.machine.Step.{Step}
 use Rattle.aterm_text.specs.declared.reader.machine.Step.TheVariants.{More, Done}
+use Rattle.aterm_text.specs.Signs.{open_curly, close_curly}
 
 -- what closing a bracket gives: a base, to which annotations may be added, or a term that has them
 abbrev pub closed : Opened → List Tree → State
@@ -20,7 +21,7 @@ closed (Annotations t) us = Whole (with_annotations t us)
 
 -- Behind a base: the annotations that there may be, and then what R says of the whole term.
 abbrev pub BehindBase : (Tree → List ℕ → Tree → Type 0) → Tree → List ℕ → Tree → Type 0
-BehindBase R t x all = (notes : Trees) × (y : List ℕ) × Optional 123 (λ u v. ReadsUntil notes 125 u v) notes x y × R (with_annotations t (to_list notes)) y all
+BehindBase R t x all = (notes : Trees) × (y : List ℕ) × Optional open_curly (λ u v. ReadsUntil notes close_curly u v) notes x y × R (with_annotations t (to_list notes)) y all
 
 -- behind what closing a bracket gives
 abbrev pub BehindClosed : (Tree → List ℕ → Tree → Type 0) → Opened → List Tree → List ℕ → Tree → Type 0

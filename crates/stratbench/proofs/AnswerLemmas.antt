@@ -1,11 +1,11 @@
 -- Lemmas on how one command is answered.
-use Rattle.std.proofs.Common.{◌≡◌, ◌≤◌, ◌<◌, ◌↔◌, ℕ, Bool, true, false, List, ◌++◌, Ok, Err, OnOk, IfErr, Result, refl, sym, ap, ◌∙◌, subst, codes, inl, inr, arith}
+use Rattle.std.proofs.Common.{◌≡◌, ◌≤◌, ◌<◌, ℕ, List, ◌++◌, Ok, Err, OnOk, Result, refl, sym, subst, codes, arith}
 use Rattle.std.specs.Result.{MatchResult}
 use Rattle.session_core.specs.History.{History}
 use Rattle.session_core.specs.declared.refusal.Refusal.{Refusal}
 use Rattle.stratbench.specs.Form.{Form, command_of}
 use Rattle.stratbench.specs.Machine.{Accepted, Reply, Replies, ReplyTo, line}
-use Rattle.stratbench.specs.Answer.{Accepts, Refuses}
+use Rattle.stratbench.specs.Answer.{Accepts}
 
 -- the reply `ok`, with this history after it
 abbrev pub ok_with : History → Accepted

@@ -9,7 +9,7 @@ use Rattle.std.proofs.lemmas.List.Sums.{sum_by-append}
 use Rattle.session_core.specs.History.{History}
 use Rattle.stratbench.specs.Script.{commands}
 use Rattle.stratbench.specs.Machine.{Reply, left, written}
-use Rattle.stratbench.specs.Answer.{Turn, Answered}
+use Rattle.stratbench.specs.Answer.{Answered}
 use Rattle.stratbench.specs.Run.{Replied, left_by, out, last_answer, one_if, Leads, Completes, WritesFront, BreaksOff}
 use Rattle.stratbench.proofs.WriteLemmas.{Appends-none}
 

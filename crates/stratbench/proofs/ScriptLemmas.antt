@@ -1,9 +1,9 @@
 -- Lemmas on the lines of a script.
-use Rattle.std.proofs.Common.{◌≡◌, ℕ, zero, suc, ◌+◌, ◌-◌, ◌<◌, ◌≤◌, Bool, true, false, List, [], ◌∷◌, length, take, drop, refl, sym, ap, ◌∙◌, arith, not, if◌then◌else◌, map, filter, cond}
+use Rattle.std.proofs.Common.{◌≡◌, ℕ, ◌+◌, ◌<◌, ◌≤◌, Bool, true, false, List, [], ◌∷◌, length, take, drop, refl, sym, ap, ◌∙◌, arith, if◌then◌else◌, map, filter}
 use Rattle.std.specs.List.{slice_split, onto_first, position_or_len, before_first, after_first}
 use Rattle.std.proofs.lemmas.List.Splits.{slice_split_first, slice_split-cons_no}
 use Rattle.std.proofs.lemmas.List.{take_all, drop_all}
-use Rattle.stratbench.specs.Script.{is_line_feed, is_carriage_return, without_end, has_bytes, lines, commands}
+use Rattle.stratbench.specs.Script.{is_line_feed, is_carriage_return, without_end, has_bytes, commands}
 
 abbrev pub commands_from : List ℕ → List ℕ → List (List ℕ)
 commands_from line rest = if has_bytes line then line ∷ commands rest else commands rest

@@ -1,5 +1,5 @@
 -- The forms of commands, as a command's bytes spell them.
-use Rattle.std.specs.Prelude.{ℕ, Bool, true, not, ◌||◌, ◌&&◌, nat_eq, List, drop, codes, Some, None, Ok, Err, ok_or, is_some, if◌then◌else◌}
+use Rattle.std.specs.Prelude.{ℕ, Bool, true, not, ◌||◌, ◌&&◌, nat_eq, List, drop, codes, Some, None, Ok, Err, is_some, if◌then◌else◌}
 use Rattle.std.specs.declared.option.Option.{Option}
 use Rattle.std.specs.declared.result.Result.{Result}
 use Rattle.std.specs.List.{before_first, position_or_len}

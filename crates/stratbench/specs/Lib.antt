@@ -5,3 +5,4 @@ pub mod Machine
 pub mod Answer
 pub mod Run
 pub mod Status
+pub mod Laws

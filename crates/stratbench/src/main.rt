@@ -3,8 +3,9 @@
 
 mod answer;
 mod command;
+pub mod laws;
 mod read;
-mod run;
+pub mod run;
 mod script;
 #[cfg(test)]
 mod tests;

@@ -1,4 +1,4 @@
-use Rattle.std.proofs.Common.{refl, sym, ap}
+use Rattle.std.proofs.Common.{sym, ap}
 use Rattle.std.proofs.lemmas.Result.{on_ok_weaker}
 use Rattle.stratbench.specs.Machine.{Replies, done}
 use Rattle.stratbench.specs.Form.{tree, undo, redo}

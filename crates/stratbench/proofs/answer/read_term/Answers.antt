@@ -1,4 +1,4 @@
-use Rattle.std.proofs.Common.{refl, inr, ap, arith, ◌≤◌, ◌≡◌, Err}
+use Rattle.std.proofs.Common.{refl, inr, ap, Err}
 use Rattle.stratbench.proofs.AnswerLemmas.{le-from_not_lt}
 use Rattle.stratbench.proofs.answer.read_term.Goals as goal
 

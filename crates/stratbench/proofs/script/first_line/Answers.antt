@@ -1,5 +1,5 @@
 use Rattle.std.proofs.lemmas.List.{take_rest}
-use Rattle.std.proofs.Common.{◌+◌, ◌≡◌, List, ℕ, take, drop, refl, arith}
+use Rattle.std.proofs.Common.{◌+◌}
 use Rattle.stratbench.proofs.ScriptLemmas.{commands-line_feed, commands-no_line_feed}
 use Rattle.stratbench.proofs.script.first_line.Goals as goal
 
