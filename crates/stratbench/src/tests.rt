@@ -58,9 +58,14 @@ fn answers(alloc: Global, mut script: &[u8]) -> Result<(Vec<u8>, u8), Fail> {
 
 #[test]
 fn answers_scripts(rt: HostRuntime) -> Result<(), Fail> {
-    let table: [(&[u8], &[u8], u8); 10] = [
+    let table: [(&[u8], &[u8], u8); 11] = [
         (b"", b"", 0),
         (b"tree t f(a,[1,2])\nshow t", b"ok\nf(a,[1,2])\n", 0),
+        (
+            b"tree t  f ( \"x\\n\\101\" , -007 ) { a }\nshow t\n",
+            b"ok\nf(\"x\\nA\",-7){a}\n",
+            0,
+        ),
         (b"\n tree t a\r\r\n\r\n\tshow  t \r", b"ok\na\n", 0),
         (b"tree t -0\nshow t\n", b"ok\n0\n", 0),
         (b"undo\n", b"refused 15 noundo\n", 1),
@@ -70,8 +75,8 @@ fn answers_scripts(rt: HostRuntime) -> Result<(), Fail> {
             1,
         ),
         (
-            b"tree t f(a,)\ntree t f(a) b\ntree t 1.5\ntree t 9223372036854775808\ntree t\n",
-            b"refused 7 term\nrefused 7 term\nrefused 7 term\nrefused 7 term\nrefused 7 term\n",
+            b"tree t f(a,)\ntree t f(a) b\ntree t 1.5\ntree t \"abc\ntree t 9223372036854775808\ntree t a{1}{2}\ntree t\n",
+            b"refused 7 term\nrefused 7 term\nrefused 7 term\nrefused 7 term\nrefused 7 term\nrefused 7 term\nrefused 7 term\n",
             1,
         ),
         (
