@@ -2,8 +2,8 @@
 use Rattle.std.proofs.Common.{◌≡◌, ℕ, ◌+◌, ◌≤◌, ◌<◌, ◌-◌, ◌==◌, ◌||◌, List, [], ◌∷◌, length, drop, get_or, refl, ap, ◌∙◌, arith, max, Bool, true, false, if◌then◌else◌, add-one, drop-cons}
 use Rattle.std.proofs.lemmas.Bool.{eqb-true}
 use Rattle.aterm_text.specs.declared.brackets.Place.{Place}
-use Rattle.aterm_text.specs.declared.brackets.Place.TheVariants.{OutsideQuotes, BehindQuote, BehindBackslash}
-use Rattle.aterm_text.specs.Nesting.{outside_quotes, behind_quote, behind_backslash, open_after, greatest_open}
+use Rattle.aterm_text.specs.declared.brackets.Place.TheVariants.{OutsideQuotes, InsideQuotes, BehindBackslash}
+use Rattle.aterm_text.specs.Nesting.{outside_quotes, inside_quotes, behind_backslash, open_after, greatest_open}
 use Rattle.aterm_text.specs.NestingPlaces.{place_after, depth_after, counted}
 
 greatest_open-le : (n : ℕ) (x : List ℕ) → n ≤ greatest_open n x
@@ -12,7 +12,7 @@ greatest_open-le n (b ∷ bs) = omega arith
 
 pub counted-empty : (p : Place) (n : ℕ) → greatest_open n (counted p []) ≡ n
 counted-empty OutsideQuotes n = refl
-counted-empty BehindQuote n = refl
+counted-empty InsideQuotes n = refl
 counted-empty BehindBackslash n = refl
 
 quote_leaves : (b n : ℕ) → b ≡ 34 → open_after b n ≡ n
@@ -25,12 +25,12 @@ max-counted : (n m g r : ℕ) → n ≤ g → m ≤ r → max g (max n r) ≡ ma
 max-counted n m g r h k = omega arith
 
 outside-byte : (n g b : ℕ) (x : List ℕ) (q : Bool) → (q ≡ true → open_after b n ≡ n) → n ≤ g →
-    max g (greatest_open n (if q then behind_quote x else b ∷ outside_quotes x)) ≡ max (max (open_after b n) g) (greatest_open (open_after b n) (counted (if q then BehindQuote else OutsideQuotes) x))
+    max g (greatest_open n (if q then inside_quotes x else b ∷ outside_quotes x)) ≡ max (max (open_after b n) g) (greatest_open (open_after b n) (counted (if q then InsideQuotes else OutsideQuotes) x))
 outside-byte n g b x true e h = rw (e refl) (max-again n g _ h)
 outside-byte n g b x false e h = max-counted n (open_after b n) g _ h (greatest_open-le _ _)
 
 quoted-byte : (x : List ℕ) (q s : Bool) →
-    (if q then outside_quotes x else if s then behind_backslash x else behind_quote x) ≡ counted (if q then OutsideQuotes else if s then BehindBackslash else BehindQuote) x
+    (if q then outside_quotes x else if s then behind_backslash x else inside_quotes x) ≡ counted (if q then OutsideQuotes else if s then BehindBackslash else InsideQuotes) x
 quoted-byte x true s = refl
 quoted-byte x false true = refl
 quoted-byte x false false = refl
@@ -39,7 +39,7 @@ quoted-byte x false false = refl
 pub counted-byte : (p : Place) (n g b : ℕ) (x : List ℕ) → n ≤ g →
     max g (greatest_open n (counted p (b ∷ x))) ≡ max (max (depth_after p b n) g) (greatest_open (depth_after p b n) (counted (place_after p b) x))
 counted-byte OutsideQuotes n g b x h = outside-byte n g b x (b == 34) (λ e. quote_leaves b n (eqb-true b 34 e)) h
-counted-byte BehindQuote n g b x h = ap (λ r. max g (greatest_open n r)) (quoted-byte x (b == 34) (b == 92)) ∙ max-again n g _ h
+counted-byte InsideQuotes n g b x h = ap (λ r. max g (greatest_open n r)) (quoted-byte x (b == 34) (b == 92)) ∙ max-again n g _ h
 counted-byte BehindBackslash n g b x h = max-again n g _ h
 
 cases-le : (o c : Bool) (n : ℕ) → (if o then n + 1 else if c then n - 1 else n) ≤ n + 1
@@ -49,7 +49,7 @@ cases-le false false n = omega arith
 
 pub depth_after-le : (p : Place) (b n : ℕ) → depth_after p b n ≤ n + 1
 depth_after-le OutsideQuotes b n = cases-le ((b == 40) || (b == 91) || (b == 123)) ((b == 41) || (b == 93) || (b == 125)) n
-depth_after-le BehindQuote b n = omega arith
+depth_after-le InsideQuotes b n = omega arith
 depth_after-le BehindBackslash b n = omega arith
 
 pub nesting-byte : (p : Place) (n g i : ℕ) (x : List ℕ) → i < length x → n ≤ g →

@@ -6,15 +6,15 @@ use Rattle.aterm_text.specs.Signs.{quote, backslash, open_round, close_round, op
 abbrev mutual
   pub outside_quotes : List ℕ → List ℕ
   outside_quotes [] = []
-  outside_quotes (b ∷ bs) = if (b == quote) then behind_quote bs else b ∷ outside_quotes bs
+  outside_quotes (b ∷ bs) = if (b == quote) then inside_quotes bs else b ∷ outside_quotes bs
 
-  pub behind_quote : List ℕ → List ℕ
-  behind_quote [] = []
-  behind_quote (b ∷ bs) = if (b == quote) then outside_quotes bs else if (b == backslash) then behind_backslash bs else behind_quote bs
+  pub inside_quotes : List ℕ → List ℕ
+  inside_quotes [] = []
+  inside_quotes (b ∷ bs) = if (b == quote) then outside_quotes bs else if (b == backslash) then behind_backslash bs else inside_quotes bs
 
   pub behind_backslash : List ℕ → List ℕ
   behind_backslash [] = []
-  behind_backslash (b ∷ bs) = behind_quote bs
+  behind_backslash (b ∷ bs) = inside_quotes bs
 
 -- how many brackets are open after this byte, where n were before it: a closing one, of any kind, takes 1 where there is one
 abbrev pub open_after : ℕ → ℕ → ℕ

@@ -9,7 +9,7 @@ ghost use Rattle.aterm_text.specs.NestingPlaces.{place_after, depth_after as dep
 #[derive(Clone, Copy)]
 enum Place {
     OutsideQuotes,
-    BehindQuote,
+    InsideQuotes,
     BehindBackslash,
 }
 
@@ -18,11 +18,11 @@ impl Place {
         ensures { result ≡ place_after self byte }
     {
         match (self, byte) {
-            (Place::OutsideQuotes, b'"') => Place::BehindQuote,
+            (Place::OutsideQuotes, b'"') => Place::InsideQuotes,
             (Place::OutsideQuotes, _) => Place::OutsideQuotes,
-            (Place::BehindQuote, b'"') => Place::OutsideQuotes,
-            (Place::BehindQuote, b'\\') => Place::BehindBackslash,
-            (Place::BehindQuote | Place::BehindBackslash, _) => Place::BehindQuote,
+            (Place::InsideQuotes, b'"') => Place::OutsideQuotes,
+            (Place::InsideQuotes, b'\\') => Place::BehindBackslash,
+            (Place::InsideQuotes | Place::BehindBackslash, _) => Place::InsideQuotes,
         }
     }
 

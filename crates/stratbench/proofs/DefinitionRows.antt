@@ -2,7 +2,7 @@
 use Rattle.std.proofs.Common.{◌≡◌, [], ◌∷◌, ◌++◌, Ok, Err, refl, codes, true}
 use Rattle.session_core.specs.declared.refusal.Refusal.TheVariants.{Line, Name}
 use Rattle.stratbench.specs.Script.{commands}
-use Rattle.stratbench.specs.Form.{tree, command_of, goes}
+use Rattle.stratbench.specs.Form.{tree, command_of, begins_undo_or_redo}
 
 -- `a CR LF CR LF SPACE b CR` has two commands; a last piece of CRs only, and an empty one, is none
 two_lines : commands (codes "a" ++ 13 ∷ (10 ∷ (13 ∷ (10 ∷ (codes " b" ++ 13 ∷ []))))) ≡ codes "a" ∷ (codes " b" ∷ [])
@@ -36,5 +36,5 @@ blanks_only = refl
 no_number_yet : command_of (codes "undo 1") ≡ Err Line
 no_number_yet = refl
 
-undo_goes : goes (codes " undo x") ≡ true
+undo_goes : begins_undo_or_redo (codes " undo x") ≡ true
 undo_goes = refl

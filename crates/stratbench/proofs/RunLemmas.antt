@@ -8,20 +8,20 @@ use Rattle.std.proofs.lemmas.List.Concat.{flat_map-append}
 use Rattle.std.proofs.lemmas.List.Sums.{sum_by-append}
 use Rattle.session_core.specs.History.{History}
 use Rattle.stratbench.specs.Script.{commands}
-use Rattle.stratbench.specs.Machine.{Reply, left, written}
+use Rattle.stratbench.specs.Machine.{Reply, history_after, written}
 use Rattle.stratbench.specs.Answer.{Answered}
-use Rattle.stratbench.specs.Run.{Replied, left_by, out, last_answer, one_if, Leads, Completes, WritesFront, BreaksOff}
+use Rattle.stratbench.specs.Run.{Replied, history_after_all, out, last_answer, one_if, Leads, Completes, WritesFront, BreaksOff}
 use Rattle.stratbench.proofs.WriteLemmas.{Appends-none}
 
 -- ---- lists of replies
 
-left_by-append : (h : History) (rs ss : List Reply) → left_by h (rs ++ ss) ≡ left_by (left_by h rs) ss
-left_by-append h [] ss = refl
-left_by-append h (r ∷ rs) ss = left_by-append (left h r) rs ss
+history_after_all-append : (h : History) (rs ss : List Reply) → history_after_all h (rs ++ ss) ≡ history_after_all (history_after_all h rs) ss
+history_after_all-append h [] ss = refl
+history_after_all-append h (r ∷ rs) ss = history_after_all-append (history_after h r) rs ss
 
-Replied-append : (cs ds : List (List ℕ)) (fs gs : List Bool) (h : History) (rs ss : List Reply) → Replied cs fs h rs → Replied ds gs (left_by h rs) ss → Replied (cs ++ ds) (fs ++ gs) h (rs ++ ss)
+Replied-append : (cs ds : List (List ℕ)) (fs gs : List Bool) (h : History) (rs ss : List Reply) → Replied cs fs h rs → Replied ds gs (history_after_all h rs) ss → Replied (cs ++ ds) (fs ++ gs) h (rs ++ ss)
 Replied-append [] ds [] gs h [] ss p q = q
-Replied-append (c ∷ cs) ds (f ∷ fs) gs h (r ∷ rs) ss p q = (p.0, Replied-append cs ds fs gs (left h r) rs ss p.1 q)
+Replied-append (c ∷ cs) ds (f ∷ fs) gs h (r ∷ rs) ss p q = (p.0, Replied-append cs ds fs gs (history_after h r) rs ss p.1 q)
 Replied-append [] ds [] gs h (r ∷ rs) ss p q = absurd p
 Replied-append [] ds (f ∷ fs) gs h rs ss p q = absurd p
 Replied-append (c ∷ cs) ds [] gs h rs ss p q = absurd p
@@ -39,7 +39,7 @@ append-empty (x ∷ xs) ys e = absurd (cc)
 Leads-append : (cs ds : List (List ℕ)) (h g k : History) (fs gs : List Bool) (rs ss : List Reply) → Leads cs h g fs rs → Leads ds g k gs ss → Leads (cs ++ ds) h k (fs ++ gs) (rs ++ ss)
 Leads-append cs ds h g k fs gs rs ss p q = record {
   replied = Replied-append cs ds fs gs h rs ss p.replied (subst (λ (x : History). Replied ds gs x ss) p.history q.replied);
-  history = q.history ∙ ap (λ (x : History). left_by x ss) p.history ∙ sym (left_by-append h rs ss);
+  history = q.history ∙ ap (λ (x : History). history_after_all x ss) p.history ∙ sym (history_after_all-append h rs ss);
 }
 
 count_by-append : (p : Reply → Bool) (rs ss : List Reply) → count_by p (rs ++ ss) ≡ count_by p rs + count_by p ss
@@ -52,7 +52,7 @@ one_if-total false = refl
 -- ---- one command
 
 Leads-one : (command : List ℕ) (h g : History) (before after : List ℕ) (verdict : Bool) (a : Answered command h g before after verdict) → Leads (command ∷ []) h g (a.flag ∷ []) (a.reply ∷ [])
-Leads-one command h g before after verdict a = record { replied = (a.turn, tt); history = a.history }
+Leads-one command h g before after verdict a = record { replied = (a.replied, tt); history = a.history }
 
 one_ok : (verdict : Bool) (reply : Reply) → verdict ≡ is_ok reply → (one_if verdict ≡ count_by is_ok (reply ∷ [])) × (one_if (not verdict) ≡ count_by is_err (reply ∷ []))
 one_ok verdict (Ok x) e = (ap one_if e, ap (λ (b : Bool). one_if (not b)) e)

@@ -46,16 +46,16 @@ abbrev pub show_form : List ℕ → Option Form
 show_form rest = if (has_word rest && not (has_word (behind_word rest))) then Some (show (first_word rest)) else None
 
 -- a form without further words
-abbrev pub alone : Form → List ℕ → Option Form
-alone form rest = if has_word rest then None else Some form
+abbrev pub without_words : Form → List ℕ → Option Form
+without_words form rest = if has_word rest then None else Some form
 
 -- the form that a keyword begins
 abbrev pub form_with : List ℕ → List ℕ → Option Form
 form_with keyword rest =
     if is_same keyword (codes "tree") then tree_form rest else
     if is_same keyword (codes "show") then show_form rest else
-    if is_same keyword (codes "undo") then alone undo rest else
-    if is_same keyword (codes "redo") then alone redo rest else None
+    if is_same keyword (codes "undo") then without_words undo rest else
+    if is_same keyword (codes "redo") then without_words redo rest else None
 
 -- the form of a command, without the blanks at its end
 abbrev pub form_of : List ℕ → Option Form
@@ -79,5 +79,5 @@ command_of command = checked (form_of command)
 -- ---- commands that take no memory
 
 -- whether the first word is `undo` or `redo`
-abbrev pub goes : List ℕ → Bool
-goes command = let word = first_word (without_end is_blank command) in is_same word (codes "undo") || is_same word (codes "redo")
+abbrev pub begins_undo_or_redo : List ℕ → Bool
+begins_undo_or_redo command = let word = first_word (without_end is_blank command) in is_same word (codes "undo") || is_same word (codes "redo")

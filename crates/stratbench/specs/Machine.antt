@@ -25,9 +25,9 @@ abbrev pub Reply : Type 0
 Reply = Result Accepted Refusal
 
 -- What a text gives: the tree that it spells. One with over 1,000 brackets open at one place is refused before it is read.
-abbrev pub Gives : List ℕ → Result Tree Refusal → Type 0
-Gives text (Ok t) = (nesting text ≤ MAX_NESTING) × Spells text t
-Gives text (Err refusal) =
+abbrev pub TreeOf : List ℕ → Result Tree Refusal → Type 0
+TreeOf text (Ok t) = (nesting text ≤ MAX_NESTING) × Spells text t
+TreeOf text (Err refusal) =
     ((refusal ≡ Deep) × (MAX_NESTING < nesting text))
     ⊎ ((refusal ≡ Term) × (nesting text ≤ MAX_NESTING) × ((t : Tree) → Spells text t → ⊥))
 
@@ -46,7 +46,7 @@ shown None h = Err NoTree
 
 -- the reply to a form, at a history
 abbrev pub Replies : Form → History → Reply → Type 0
-Replies (tree name text) h reply = (given : Result Tree Refusal) × Gives text given × (reply ≡ set_to name given h)
+Replies (tree name text) h reply = (given : Result Tree Refusal) × TreeOf text given × (reply ≡ set_to name given h)
 Replies (show name) h reply = reply ≡ shown (finmap.get h.now.trees name) h
 Replies undo h reply = reply ≡ done (step (undo_steps 1) h)
 Replies redo h reply = reply ≡ done (step (redo_steps 1) h)
@@ -56,9 +56,9 @@ abbrev pub ReplyTo : List ℕ → History → Reply → Type 0
 ReplyTo command h reply = MatchResult (command_of command) (λ form. Replies form h reply) (λ refusal. reply ≡ Err refusal)
 
 -- the history that a reply leaves
-abbrev pub left : History → Reply → History
-left h (Ok accepted) = accepted.history
-left h (Err refusal) = h
+abbrev pub history_after : History → Reply → History
+history_after h (Ok accepted) = accepted.history
+history_after h (Err refusal) = h
 
 -- ---- how replies are written
 

@@ -4,22 +4,22 @@ use Rattle.std.specs.declared.option.Option.{Option}
 use Rattle.std.specs.List.{flat_map}
 use Rattle.std.specs.Io.KnownBytes.{Appends, Consumes, IsAtEnd}
 use Rattle.session_core.specs.History.{History}
-use Rattle.stratbench.specs.Machine.{Reply, left, written}
-use Rattle.stratbench.specs.Answer.{Turn}
+use Rattle.stratbench.specs.Machine.{Reply, history_after, written}
+use Rattle.stratbench.specs.Answer.{ReplyInRun}
 
 -- The replies to commands one after another, each at the history that the one before leaves. The flag of each says whether a growth of memory was refused in it.
 abbrev pub Replied : List (List ℕ) → List Bool → History → List Reply → Type 0
 Replied [] [] h [] = Unit {0}
-Replied (command ∷ commands) (flag ∷ flags) h (reply ∷ replies) = Turn command flag h reply × Replied commands flags (left h reply) replies
+Replied (command ∷ commands) (flag ∷ flags) h (reply ∷ replies) = ReplyInRun command flag h reply × Replied commands flags (history_after h reply) replies
 Replied [] [] h (reply ∷ replies) = ⊥
 Replied [] (flag ∷ flags) h replies = ⊥
 Replied (command ∷ commands) [] h replies = ⊥
 Replied (command ∷ commands) (flag ∷ flags) h [] = ⊥
 
 -- the history that all replies leave
-abbrev pub left_by : History → List Reply → History
-left_by h [] = h
-left_by h (reply ∷ replies) = left_by (left h reply) replies
+abbrev pub history_after_all : History → List Reply → History
+history_after_all h [] = h
+history_after_all h (reply ∷ replies) = history_after_all (history_after h reply) replies
 
 -- all answers, one after the other
 abbrev pub out : List Reply → List ℕ
@@ -43,7 +43,7 @@ pub record ReadsAll (old new : Option (List ℕ)) (text : List ℕ) : Type 0 whe
 -- These commands lead from the history h to g by these replies.
 pub record Leads (commands : List (List ℕ)) (h g : History) (flags : List Bool) (replies : List Reply) : Type 0 where
   pub replied : Replied commands flags h replies
-  pub history : g ≡ left_by h replies
+  pub history : g ≡ history_after_all h replies
 
 -- All of the commands are answered, and their answers written: so many accepted, and so many refused.
 pub record Completes (commands : List (List ℕ)) (h g : History) (old new : Option (List ℕ)) (yes no : ℕ) : Type 0 where

@@ -1,10 +1,10 @@
 //! Answering one command.
 
 ghost use Rattle.std.specs.Prelude.{◌≡◌, ◌⊎◌, ◌+◌, ◌≤◌, ◌++◌, OnOk, OnErr, IfOk, IfErr, Ok, Err, false, codes, vec_len, vec_capacity};
-ghost use Rattle.stratbench.specs.Form.{tree, show, goes};
+ghost use Rattle.stratbench.specs.Form.{tree, show, begins_undo_or_redo};
 ghost use Rattle.stratbench.specs.CommandView.{form as form_seen};
-ghost use Rattle.stratbench.specs.Machine.{Gives, Replies, ReplyTo, line, refused as refused_text};
-ghost use Rattle.stratbench.specs.Answer.{Answered, Accepts, Refuses, is_going};
+ghost use Rattle.stratbench.specs.Machine.{TreeOf, Replies, ReplyTo, line, refused as refused_text};
+ghost use Rattle.stratbench.specs.Answer.{Answered, Accepts, Refuses, is_undo_or_redo};
 ghost use Rattle.aterm_text.specs.Printed.{print as print_of};
 
 use crate::command::Command;
@@ -47,7 +47,7 @@ fn try_answer(
 ) -> Result<(), Refusal>
     requires { vec_len answer.old + ANSWER_ROOM ≤ vec_capacity answer.old }
     ensures ok { OnOk result (Accepts (ReplyTo command.now session.old) session.new answer.old.items answer.new.items) }
-    ensures refused { IfErr result (Refuses (ReplyTo command.now session.old) (goes command.now)) }
+    ensures refused { IfErr result (Refuses (ReplyTo command.now session.old) (begins_undo_or_redo command.now)) }
     ensures err { OnErr result ((session.new ≡ session.old) × (answer.new.items ≡ answer.old.items)) }
     ensures len { OnErr result (vec_len answer.new ≡ vec_len answer.old) }
     ensures room { vec_capacity answer.old ≤ vec_capacity answer.new }
@@ -67,7 +67,7 @@ fn perform(
 ) -> Result<(), Refusal>
     requires { vec_len answer.old + ANSWER_ROOM ≤ vec_capacity answer.old }
     ensures ok { OnOk result (Accepts (Replies (form_seen command.entry) session.old) session.new answer.old.items answer.new.items) }
-    ensures refused { IfErr result (Refuses (Replies (form_seen command.entry) session.old) (is_going (form_seen command.entry))) }
+    ensures refused { IfErr result (Refuses (Replies (form_seen command.entry) session.old) (is_undo_or_redo (form_seen command.entry))) }
     ensures err { OnErr result ((session.new ≡ session.old) × (answer.new.items ≡ answer.old.items)) }
     ensures len { OnErr result (vec_len answer.new ≡ vec_len answer.old) }
     ensures room { vec_capacity answer.old ≤ vec_capacity answer.new }
@@ -104,8 +104,8 @@ fn set_tree(alloc: Global, session: &mut Session, name: &Label, text: &[u8]) -> 
 }
 
 fn read_term(alloc: Global, text: &[u8]) -> Result<Term, Refusal>
-    ensures ok { IfOk result (λ term. Gives text.now (Ok term)) }
-    ensures refused { IfErr result (λ refusal. (refusal ≡ Refusal.Memory) ⊎ Gives text.now (Err refusal)) }
+    ensures ok { IfOk result (λ term. TreeOf text.now (Ok term)) }
+    ensures refused { IfErr result (λ refusal. (refusal ≡ Refusal.Memory) ⊎ TreeOf text.now (Err refusal)) }
 {
     match read(alloc, text) {
         Ok(term) => Ok(term),

@@ -5,8 +5,8 @@ ghost use Rattle.std.specs.List.{prefix_len, suffix_len, position_or_len};
 ghost use Rattle.term_core.specs.Word.{label_of};
 ghost use Rattle.aterm_text.specs.Tokens.{is_blank, without_blanks};
 ghost use Rattle.stratbench.specs.Script.{without_end, has_bytes};
-ghost use Rattle.stratbench.specs.Form.{Form, command_of, checked, tree_form, show_form, alone, goes, first_word, behind_word, has_word};
-ghost use Rattle.stratbench.specs.Answer.{is_going};
+ghost use Rattle.stratbench.specs.Form.{Form, command_of, checked, tree_form, show_form, without_words, begins_undo_or_redo, first_word, behind_word, has_word};
+ghost use Rattle.stratbench.specs.Answer.{is_undo_or_redo};
 ghost use Rattle.stratbench.specs.CommandView.{form as form_seen};
 
 use session_core::Refusal;
@@ -31,8 +31,8 @@ impl<'a> Command<'a> {
     /// `undo` and `redo` take no memory.
     pub fn read(alloc: Global, command: &'a [u8]) -> Result<Command<'a>, Refusal>
         ensures ok { IfOk result (λ read. command_of command.now ≡ Ok (form_seen read)) }
-        ensures goes { IfOk result (λ read. goes command.now ≡ is_going (form_seen read)) }
-        ensures refused { IfErr result (λ refusal. ((refusal ≡ Refusal.Memory) × (goes command.now ≡ false)) ⊎ (command_of command.now ≡ Err refusal)) }
+        ensures undo_or_redo { IfOk result (λ read. begins_undo_or_redo command.now ≡ is_undo_or_redo (form_seen read)) }
+        ensures refused { IfErr result (λ refusal. ((refusal ≡ Refusal.Memory) × (begins_undo_or_redo command.now ≡ false)) ⊎ (command_of command.now ≡ Err refusal)) }
     {
         let text = without_last_blanks(command);
         let (keyword, rest) = split_word(text);
@@ -41,9 +41,9 @@ impl<'a> Command<'a> {
         } else if keyword == b"show".as_slice() {
             read_show(alloc, rest)
         } else if keyword == b"undo".as_slice() {
-            read_alone(Command::Undo, rest)
+            read_without_words(Command::Undo, rest)
         } else if keyword == b"redo".as_slice() {
-            read_alone(Command::Redo, rest)
+            read_without_words(Command::Redo, rest)
         } else {
             Err(Refusal::Line)
         }
@@ -74,9 +74,9 @@ fn read_show(alloc: Global, rest: &[u8]) -> Result<Command<'_>, Refusal>
 }
 
 // A form without further words.
-fn read_alone<'a>(form: Command<'a>, rest: &[u8]) -> Result<Command<'a>, Refusal>
-    ensures ok { IfOk result (λ read. alone (form_seen form.entry) rest.now ≡ Some (form_seen read)) }
-    ensures refused { IfErr result (λ refusal. (refusal ≡ Refusal.Line) × (alone (form_seen form.entry) rest.now ≡ None)) }
+fn read_without_words<'a>(form: Command<'a>, rest: &[u8]) -> Result<Command<'a>, Refusal>
+    ensures ok { IfOk result (λ read. without_words (form_seen form.entry) rest.now ≡ Some (form_seen read)) }
+    ensures refused { IfErr result (λ refusal. (refusal ≡ Refusal.Line) × (without_words (form_seen form.entry) rest.now ≡ None)) }
 {
     if has_more(rest) {
         return Err(Refusal::Line);
