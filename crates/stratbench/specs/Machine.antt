@@ -4,7 +4,7 @@ use Rattle.std.specs.declared.option.Option.{Option}
 use Rattle.std.specs.declared.result.Result.{Result}
 use Rattle.std.specs.FinMap as finmap
 use Rattle.term_core.specs.Tree.{Tree}
-use Rattle.aterm_text.specs.declared.reader.TheConstants.{MAX_NESTING}
+use Rattle.aterm_text.specs.declared.TheConstants.{MAX_NESTING}
 use Rattle.aterm_text.specs.Nesting.{nesting}
 use Rattle.aterm_text.specs.Grammar.{Spells}
 use Rattle.aterm_text.specs.Printed.{print}

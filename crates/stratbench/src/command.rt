@@ -9,6 +9,7 @@ ghost use Rattle.stratbench.specs.Form.{Form, command_of, checked, tree_form, sh
 ghost use Rattle.stratbench.specs.Answer.{is_undo_or_redo};
 ghost use Rattle.stratbench.specs.CommandView.{form as form_seen};
 
+use aterm_text::{after_blanks, is_blank};
 use session_core::Refusal;
 use std::alloc::Global;
 use term_core::{Label, LabelFault};
@@ -59,7 +60,7 @@ fn read_tree(alloc: Global, rest: &[u8]) -> Result<Command<'_>, Refusal>
         return Err(Refusal::Line);
     }
     let name = read_label(alloc, name)?;
-    Ok(Command::Tree(name, without_first_blanks(rest)))
+    Ok(Command::Tree(name, after_blanks(rest)))
 }
 
 fn read_show(alloc: Global, rest: &[u8]) -> Result<Command<'_>, Refusal>
@@ -105,25 +106,6 @@ fn read_label(alloc: Global, name: &[u8]) -> Result<Label, Refusal>
 
 // ---- words
 
-fn is_blank_byte(b: u8) -> bool
-    ensures { result ≡ is_blank b }
-{
-    b == b' ' || b == b'\t' || b == b'\n' || b == b'\r'
-}
-
-fn without_first_blanks(text: &[u8]) -> &[u8]
-    ensures { result.now ≡ without_blanks text.now }
-{
-    &text[blanks_at_start(text)..]
-}
-
-fn blanks_at_start(text: &[u8]) -> usize
-    ensures run { result ≡ prefix_len is_blank text.now }
-    ensures within { result ≤ length text.now }
-{
-    text.iter().take_while(|b| is_blank_byte(**b)).count()
-}
-
 fn without_last_blanks(text: &[u8]) -> &[u8]
     ensures { result.now ≡ without_end is_blank text.now }
 {
@@ -134,7 +116,7 @@ fn blanks_at_end(text: &[u8]) -> usize
     ensures run { result ≡ suffix_len is_blank text.now }
     ensures within { result ≤ length text.now }
 {
-    text.iter().rev().take_while(|b| is_blank_byte(**b)).count()
+    text.iter().rev().take_while(|b| is_blank(**b)).count()
 }
 
 // The first word of a text, with nothing in it where there is none, and what stands behind it.
@@ -142,7 +124,7 @@ fn split_word(text: &[u8]) -> (&[u8], &[u8])
     ensures word { result.0.now ≡ first_word text.now }
     ensures behind { result.1.now ≡ behind_word text.now }
 {
-    let text = without_first_blanks(text);
+    let text = after_blanks(text);
     text.split_at(word_len(text))
 }
 
@@ -150,5 +132,5 @@ fn word_len(text: &[u8]) -> usize
     ensures run { result ≡ position_or_len is_blank text.now }
     ensures within { result ≤ length text.now }
 {
-    text.iter().take_while(|b| !is_blank_byte(**b)).count()
+    text.iter().take_while(|b| !is_blank(**b)).count()
 }

@@ -10,14 +10,12 @@ mod levels;
 mod machine;
 mod scan;
 
-use crate::nesting;
+use crate::{MAX_NESTING, nesting};
 use machine::{State, finish};
+pub use scan::{after_blanks, is_blank};
 use std::alloc::{AllocFailed, Global};
 use term_core::{NoMemory, Term};
 use thiserror::Error;
-
-/// The greatest number of brackets that may be open at one place of a text.
-pub const MAX_NESTING: u64 = 1000;
 
 /// Why a text was not read.
 #[derive(Clone, Copy, Debug, PartialEq, Eq, Error)]

@@ -10,13 +10,14 @@ use crate::reader::ReadFault;
 use std::alloc::Global;
 use std::str;
 
-fn is_blank_byte(b: u8) -> bool
+/// Whether this byte is white space: a space, a tab, a line feed or a carriage return.
+pub fn is_blank(b: u8) -> bool
     ensures { result ≡ is_blank b }
 {
     matches!(b, b' ' | b'\t' | b'\n' | b'\r')
 }
 
-// The text from its first byte on that is no white space.
+/// The text from its first byte on that is no white space.
 pub fn after_blanks(text: &[u8]) -> &[u8]
     ensures value { result.now ≡ without_blanks text.now }
     ensures bound { length result.now ≤ length text.now }
@@ -28,7 +29,7 @@ fn blanks_length(text: &[u8]) -> usize
     ensures value { result ≡ prefix_len is_blank text.now }
     ensures bound { result ≤ length text.now }
 {
-    text.iter().take_while(|b| is_blank_byte(**b)).count()
+    text.iter().take_while(|b| is_blank(**b)).count()
 }
 
 // What follows this byte, where it comes first.
