@@ -21,4 +21,5 @@ NoTerm x = (head : Head) (y : List ℕ) → Begins head x y → ⊥
 -- the head is the word at the front of x, and y follows it
 abbrev pub IsWordHead : List ℕ → Head → List ℕ → Type 0
 IsWordHead x head y = let bytes = take (prefix_len continues_word x) x in
-    IsTrue (is_word bytes) × (head ≡ Named (record { text = bytes; is_quoted = false })) × (y ≡ drop (prefix_len continues_word x) x)
+    IsTrue (is_word bytes) × (head ≡ Named (record { text = bytes; is_quoted = false }))
+    × (y ≡ drop (prefix_len continues_word x) x)

@@ -12,4 +12,5 @@ PrintedTextReadsBack = (t : Tree) → IsTerm t → Spells (print t) t
 -- a text spells at most one term, and at most one list of annotations
 pub record OneTerm : Type 0 where
   pub term : (x : List ℕ) (t u : Tree) → Spells x t → Spells x u → t ≡ u
-  pub annotations : (x : List ℕ) (ts us : List Tree) → SpellsAnnotations x ts → SpellsAnnotations x us → ts ≡ us
+  pub annotations : (x : List ℕ) (ts us : List Tree) → SpellsAnnotations x ts
+      → SpellsAnnotations x us → ts ≡ us

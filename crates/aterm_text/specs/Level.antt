@@ -32,9 +32,15 @@ from_parts-to_parts (Annotations t) = refl
 from_parts-to_parts AList = refl
 from_parts-to_parts Tuple = refl
 
+abbrev opened_code : Coded Opened
+opened_code =
+    code_by (Symbol ⊎ (Tree ⊎ Bool)) (coded⊎ symbol_code (coded⊎ tree_code coded_bool))
+    to_parts from_parts from_parts-to_parts
+
 -- a level is stored as the pair of its fields
 abbrev pub level_code : Coded Level
-level_code = code_by (Opened × List Tree) (coded× (code_by (Symbol ⊎ (Tree ⊎ Bool)) (coded⊎ symbol_code (coded⊎ tree_code coded_bool)) to_parts from_parts from_parts-to_parts) (coded_list tree_code))
+level_code =
+    code_by (Opened × List Tree) (coded× opened_code (coded_list tree_code))
     (λ l. (l.opened, l.done)) (λ p. record { opened = p.0; done = p.1 }) (λ _. refl)
 
 -- a bracket that was just opened

@@ -2,7 +2,8 @@
 use Rattle.std.specs.Prelude.{ℕ, ◌+◌, ◌-◌, ◌==◌, ◌||◌, max, List, [], ◌∷◌, if◌then◌else◌}
 use Rattle.aterm_text.specs.Signs.{quote, backslash, open_round, close_round, open_square, close_square, open_curly, close_curly}
 
--- The text without what stands in quotes. A backslash there takes the next byte with it, and a quote that isn't closed takes the rest.
+-- The text without what stands in quotes. A backslash there takes the next byte with it, and a
+-- quote that isn't closed takes the rest.
 abbrev mutual
   pub outside_quotes : List ℕ → List ℕ
   outside_quotes [] = []
@@ -10,13 +11,16 @@ abbrev mutual
 
   pub inside_quotes : List ℕ → List ℕ
   inside_quotes [] = []
-  inside_quotes (b ∷ bs) = if (b == quote) then outside_quotes bs else if (b == backslash) then behind_backslash bs else inside_quotes bs
+  inside_quotes (b ∷ bs) =
+      if (b == quote) then outside_quotes bs else
+      if (b == backslash) then behind_backslash bs else inside_quotes bs
 
   pub behind_backslash : List ℕ → List ℕ
   behind_backslash [] = []
   behind_backslash (b ∷ bs) = inside_quotes bs
 
--- how many brackets are open after this byte, where n were before it: a closing one, of any kind, takes 1 where there is one
+-- how many brackets are open after this byte, where n were before it: a closing one, of any kind,
+-- takes 1 where there is one
 abbrev pub open_after : ℕ → ℕ → ℕ
 open_after b n =
     if ((b == open_round) || (b == open_square) || (b == open_curly)) then n + 1 else

@@ -7,7 +7,8 @@ use Rattle.aterm_text.specs.Nesting.{outside_quotes, inside_quotes, behind_backs
 -- where the byte behind b stands, where b stands at p
 abbrev pub place_after : Place → ℕ → Place
 place_after OutsideQuotes b = if (b == 34) then InsideQuotes else OutsideQuotes
-place_after InsideQuotes b = if (b == 34) then OutsideQuotes else if (b == 92) then BehindBackslash else InsideQuotes
+place_after InsideQuotes b =
+    if (b == 34) then OutsideQuotes else if (b == 92) then BehindBackslash else InsideQuotes
 place_after BehindBackslash b = InsideQuotes
 
 -- how many brackets are open behind b at p, where n were before it

@@ -8,7 +8,8 @@ use Rattle.aterm_text.specs.Signs.{quote, backslash, comma, open_round, close_ro
 abbrev pub octal_escape : ℕ → List ℕ
 octal_escape b = backslash ∷ ((48 + b / 64) ∷ ((48 + b / 8 % 8) ∷ ((48 + b % 8) ∷ [])))
 
--- One byte of a quoted name: an escape for `"`, `\`, LF, TAB and CR, else the byte itself from 32 to 126, else a backslash and three octal digits.
+-- One byte of a quoted name: an escape for `"`, `\`, LF, TAB and CR, else the byte itself from 32
+-- to 126, else a backslash and three octal digits.
 abbrev pub escaped : ℕ → List ℕ
 escaped b =
     if (b == quote) then backslash ∷ (quote ∷ []) else
@@ -19,7 +20,8 @@ escaped b =
     if (nat_lt 31 b && nat_lt b 127) then b ∷ [] else octal_escape b
 
 abbrev pub print_name : Symbol → List ℕ
-print_name name = if name.is_quoted then quote ∷ (flat_map escaped name.text ++ quote ∷ []) else name.text
+print_name name =
+    if name.is_quoted then quote ∷ (flat_map escaped name.text ++ quote ∷ []) else name.text
 
 -- brackets round the terms, where there are any
 abbrev pub bracketed : ℕ → ℕ → Trees → List ℕ → List ℕ
@@ -28,10 +30,17 @@ bracketed opening closing (more t ts) inner = opening ∷ (inner ++ closing ∷ 
 
 abbrev mutual
   pub print : Tree → List ℕ
-  print (integer z notes) = signed_decimal z ++ bracketed open_curly close_curly notes (print_all notes)
-  print (branch (application name) kids notes) = print_name name ++ bracketed open_round close_round kids (print_all kids) ++ bracketed open_curly close_curly notes (print_all notes)
-  print (branch list kids notes) = open_square ∷ (print_all kids ++ close_square ∷ bracketed open_curly close_curly notes (print_all notes))
-  print (branch tuple kids notes) = open_round ∷ (print_all kids ++ close_round ∷ bracketed open_curly close_curly notes (print_all notes))
+  print (integer z notes) =
+      signed_decimal z ++ bracketed open_curly close_curly notes (print_all notes)
+  print (branch (application name) kids notes) =
+      print_name name ++ bracketed open_round close_round kids (print_all kids)
+      ++ bracketed open_curly close_curly notes (print_all notes)
+  print (branch list kids notes) =
+      open_square ∷ (print_all kids
+      ++ close_square ∷ bracketed open_curly close_curly notes (print_all notes))
+  print (branch tuple kids notes) =
+      open_round ∷ (print_all kids
+      ++ close_round ∷ bracketed open_curly close_curly notes (print_all notes))
 
   -- the terms, with commas between them
   pub print_all : Trees → List ℕ

@@ -1,4 +1,5 @@
--- The tokens of a text of the ATerm format. White space may stand before any of them, and a token is as long as it can be.
+-- The tokens of a text of the ATerm format. White space may stand before any of them, and a token
+-- is as long as it can be.
 use Rattle.std.specs.Prelude.{◌≡◌, ℕ, ℤ, ◌+◌, ◌*◌, ◌-◌, ◌==◌, ◌||◌, ◌&&◌, nat_lt, Bool, IsTrue, List, [], ◌∷◌, drop, take, Some, None, if◌then◌else◌, FitsSigned, MatchBool}
 use Rattle.std.specs.Int.{w64}
 use Rattle.std.specs.declared.option.Option.{Option}
@@ -34,20 +35,28 @@ NextSign b x y = without_blanks x ≡ b ∷ y
 -- the length of the `-` that there may be, and of the digits after it
 abbrev pub integer_len : List ℕ → ℕ
 integer_len [] = 0
-integer_len (b ∷ bs) = if (b == minus) then 1 + prefix_len is_ascii_digit bs else prefix_len is_ascii_digit (b ∷ bs)
+integer_len (b ∷ bs) =
+    if (b == minus) then 1 + prefix_len is_ascii_digit bs else prefix_len is_ascii_digit (b ∷ bs)
 
--- These bytes are an integer: at least one digit, after a `-` or none. Leading zeros are accepted, and `-0` is 0.
+-- These bytes are an integer: at least one digit, after a `-` or none. Leading zeros are accepted,
+-- and `-0` is 0.
 abbrev pub IsInteger : List ℕ → ℤ → Type 0
-IsInteger text z = IsNumeral 10 (without_leading_sign text) × (signed_digits_value 10 text ≡ z) × FitsSigned w64 z
+IsInteger text z =
+    IsNumeral 10 (without_leading_sign text) × (signed_digits_value 10 text ≡ z) × FitsSigned w64 z
 
 -- the integer z comes first in x, and y follows it
 abbrev pub NextInteger : ℤ → List ℕ → List ℕ → Type 0
-NextInteger z x y = let text = without_blanks x in IsInteger (take (integer_len text) text) z × (y ≡ drop (integer_len text) text)
+NextInteger z x y =
+    let text = without_blanks x in
+    IsInteger (take (integer_len text) text) z × (y ≡ drop (integer_len text) text)
 
 -- ---- quoted bytes
 
 abbrev pub is_octal_digit : ℕ → Bool
 is_octal_digit b = nat_lt 47 b && nat_lt b 56
+
+abbrev pub are_octal_digits : ℕ → ℕ → ℕ → Bool
+are_octal_digits a b c = is_octal_digit a && is_octal_digit b && is_octal_digit c
 
 abbrev pub octal_value : ℕ → ℕ → ℕ → ℕ
 octal_value a b c = 64 * (a - 48) + 8 * (b - 48) + (c - 48)
@@ -57,7 +66,9 @@ abbrev pub octal_at : List ℕ → Option (ℕ × List ℕ)
 octal_at [] = None
 octal_at (a ∷ []) = None
 octal_at (a ∷ (b ∷ [])) = None
-octal_at (a ∷ (b ∷ (c ∷ rest))) = if (is_octal_digit a && is_octal_digit b && is_octal_digit c && nat_lt (octal_value a b c) 256) then Some (octal_value a b c, rest) else None
+octal_at (a ∷ (b ∷ (c ∷ rest))) =
+    if (are_octal_digits a b c && nat_lt (octal_value a b c) 256)
+    then Some (octal_value a b c, rest) else None
 
 -- what follows a backslash: one of `" \ n t r`, or three octal digits
 abbrev pub escape_at : List ℕ → Option (ℕ × List ℕ)
@@ -70,10 +81,12 @@ escape_at (b ∷ rest) =
     if (b == 114) then Some (13, rest) else
     octal_at (b ∷ rest)
 
--- the first item between quotes, as the byte that it stands for, and what follows it: any byte but a quote and a backslash stands for itself
+-- the first item between quotes, as the byte that it stands for, and what follows it: any byte but
+-- a quote and a backslash stands for itself
 abbrev pub item_at : List ℕ → Option (ℕ × List ℕ)
 item_at [] = None
-item_at (b ∷ rest) = if (b == quote) then None else if (b == backslash) then escape_at rest else Some (b, rest)
+item_at (b ∷ rest) =
+    if (b == quote) then None else if (b == backslash) then escape_at rest else Some (b, rest)
 
 -- items that stand for these bytes come first in x, then a quote, and y follows it
 abbrev pub ReadsItems : List ℕ → List ℕ → List ℕ → Type 0
@@ -84,7 +97,10 @@ ReadsItems (b ∷ bs) x y = (a : List ℕ) × (item_at x ≡ Some (b, a)) × Rea
 
 -- the word comes first in x, and y follows it
 abbrev pub NextWord : List ℕ → List ℕ → List ℕ → Type 0
-NextWord bytes x y = let text = without_blanks x in IsTrue (is_word bytes) × (bytes ≡ take (prefix_len continues_word text) text) × (y ≡ drop (prefix_len continues_word text) text)
+NextWord bytes x y =
+    let text = without_blanks x in
+    IsTrue (is_word bytes) × (bytes ≡ take (prefix_len continues_word text) text)
+    × (y ≡ drop (prefix_len continues_word text) text)
 
 -- the quoted name of these bytes comes first in x, and y follows it
 abbrev pub NextQuoted : List ℕ → List ℕ → List ℕ → Type 0

@@ -1,4 +1,5 @@
--- What the rest of a text has still to spell while it is read, for the clauses of the reader's own functions.
+-- What the rest of a text has still to spell while it is read, for the clauses of the reader's own
+-- functions.
 use Rattle.std.specs.Prelude.{◌≡◌, ◌<◌, ℕ, List, [], ◌∷◌, ◌++◌, length}
 use Rattle.term_core.specs.Tree.{Tree, Trees, to_list, application_term, list_term, tuple_term, with_annotations}
 use Rattle.aterm_text.specs.Tokens.{IsBlank}
@@ -21,20 +22,27 @@ closed (Annotations t) us = Whole (with_annotations t us)
 
 -- Behind a base: the annotations that there may be, and then what R says of the whole term.
 abbrev pub BehindBase : (Tree → List ℕ → Tree → Type 0) → Tree → List ℕ → Tree → Type 0
-BehindBase R t x all = (notes : Trees) × (y : List ℕ) × Optional open_curly (λ u v. ReadsUntil notes close_curly u v) notes x y × R (with_annotations t (to_list notes)) y all
+BehindBase R t x all =
+    (notes : Trees) × (y : List ℕ)
+    × Optional open_curly (λ u v. ReadsUntil notes close_curly u v) notes x y
+    × R (with_annotations t (to_list notes)) y all
 
 -- behind what closing a bracket gives
-abbrev pub BehindClosed : (Tree → List ℕ → Tree → Type 0) → Opened → List Tree → List ℕ → Tree → Type 0
+abbrev pub BehindClosed : (Tree → List ℕ → Tree → Type 0) → Opened → List Tree → List ℕ → Tree
+    → Type 0
 BehindClosed R (Arguments name) us x all = BehindBase R (application_term name us) x all
 BehindClosed R AList us x all = BehindBase R (list_term us) x all
 BehindClosed R Tuple us x all = BehindBase R (tuple_term us) x all
 BehindClosed R (Annotations t) us x all = R (with_annotations t us) x all
 
--- Behind a whole term t, inside these levels, x makes the text spell `all`: nothing more is open and only white space follows, or more terms and the closing bracket do, and so on outside.
+-- Behind a whole term t, inside these levels, x makes the text spell `all`: nothing more is open
+-- and only white space follows, or more terms and the closing bracket do, and so on outside.
 abbrev pub BehindWhole : List Level → Tree → List ℕ → Tree → Type 0
 BehindWhole [] t x all = IsBlank x × (all ≡ t)
-BehindWhole (level ∷ levels) t x all = (us : Trees) × (y : List ℕ) × ReadsMore us (closing_of level.opened) x y
-    × BehindClosed (λ u v w. BehindWhole levels u v w) level.opened (level.done ++ t ∷ to_list us) y all
+BehindWhole (level ∷ levels) t x all =
+    (us : Trees) × (y : List ℕ) × ReadsMore us (closing_of level.opened) x y
+    × BehindClosed (λ u v w. BehindWhole levels u v w)
+    level.opened (level.done ++ t ∷ to_list us) y all
 
 -- where a term has to begin
 abbrev pub BeforeTerm : List Level → List ℕ → Tree → Type 0
@@ -43,7 +51,8 @@ BeforeTerm levels x all = (t : Tree) × (y : List ℕ) × Reads t x y × BehindW
 -- just behind an opening bracket
 abbrev pub BehindOpening : List Level → List ℕ → Tree → Type 0
 BehindOpening [] x all = ⊥
-BehindOpening (level ∷ levels) x all = (us : Trees) × (y : List ℕ) × ReadsUntil us (closing_of level.opened) x y
+BehindOpening (level ∷ levels) x all =
+    (us : Trees) × (y : List ℕ) × ReadsUntil us (closing_of level.opened) x y
     × BehindClosed (λ u v w. BehindWhole levels u v w) level.opened (level.done ++ to_list us) y all
 
 -- what x has still to spell, so that the whole text spells `all`
@@ -60,8 +69,10 @@ IsBare Entered = Unit {0}
 IsBare (Base t) = with_annotations t [] ≡ t
 IsBare (Whole t) = Unit {0}
 
--- Reading went from one state to another and lost or added nothing: what the rest had to spell before, it has to spell now.
-pub record Continues (state : State) (levels : List Level) (x : List ℕ) (state' : State) (levels' : List Level) (x' : List ℕ) : Type 0 where
+-- Reading went from one state to another and lost or added nothing: what the rest had to spell
+-- before, it has to spell now.
+pub record Continues (state : State) (levels : List Level) (x : List ℕ) (state' : State)
+    (levels' : List Level) (x' : List ℕ) : Type 0 where
   pub forth : (all : Tree) → Unread state levels x all → Unread state' levels' x' all
   pub back : (all : Tree) → Unread state' levels' x' all → Unread state levels x all
 
@@ -75,7 +86,8 @@ pub record IsEnd (state : State) (levels : List Level) (x : List ℕ) (t : Tree)
   pub only : (all : Tree) → Unread state levels x all → all ≡ t
 
 -- a step that goes on takes at least a byte and loses nothing
-pub record GoesOn (state : State) (levels : List Level) (x : List ℕ) (state' : State) (levels' : List Level) (x' : List ℕ) : Type 0 where
+pub record GoesOn (state : State) (levels : List Level) (x : List ℕ) (state' : State)
+    (levels' : List Level) (x' : List ℕ) : Type 0 where
   pub continues : Continues state levels x state' levels' x'
   pub bare : IsBare state'
   pub shorter : length x' < length x
@@ -88,4 +100,5 @@ Goes state levels x (Done t) levels' = IsEnd state levels x t
 -- the state and the levels after the innermost bracket is closed
 abbrev pub IsClosed : List Level → State → List Level → Type 0
 IsClosed [] state levels' = ⊥
-IsClosed (level ∷ levels) state levels' = (state ≡ closed level.opened level.done) × (levels' ≡ levels)
+IsClosed (level ∷ levels) state levels' =
+    (state ≡ closed level.opened level.done) × (levels' ≡ levels)

@@ -38,9 +38,9 @@ impl Place {
     }
 }
 
-/// The greatest number of brackets `(`, `[` and `{` that are open at one place of the text. A closing
-/// bracket of any kind closes one, where one is open. What stands in quotes isn't counted; a backslash
-/// there takes the next byte with it, and a quote that isn't closed takes the rest.
+/// The greatest number of brackets `(`, `[` and `{` that are open at one place of the text. A
+/// closing bracket of any kind closes one, where one is open. What stands in quotes isn't counted;
+/// a backslash there takes the next byte with it, and a quote that isn't closed takes the rest.
 pub fn nesting(text: &[u8]) -> u64
     ensures { result ≡ nesting_of text.now }
 {

@@ -1,4 +1,5 @@
-//! Laws over the definitions of the text of terms alone. Each is the contract of a function that does nothing.
+//! Laws over the definitions of the text of terms alone. Each is the contract of a function that
+//! does nothing.
 
 ghost use Rattle.aterm_text.specs.Laws.{OneTerm, PrintedTextReadsBack};
 

@@ -16,8 +16,8 @@ use term_core::{Kind, Name, NoMemory, Term};
 
 const QUOTE: u8 = b'"';
 
-/// Appends the one printed spelling of the term, which has no white space and is read as this term. It recurses as deep as the
-/// term is high.
+/// Appends the one printed spelling of the term, which has no white space and is read as this term.
+/// It recurses as deep as the term is high.
 ///
 /// Where a growth of memory is refused, `out` is as before. Its capacity never shrinks.
 pub fn print(term: &Term, out: &mut Vec<u8>) -> Result<(), NoMemory>
@@ -74,7 +74,8 @@ fn print_bracketed(
     out: &mut Vec<u8>,
 ) -> Result<(), NoMemory>
     ensures ok { let all = of_list terms.now in
-        OnOk result (out.new.items ≡ out.old.items ++ bracketed_of opening closing all (print_all_of all)) }
+        let text = bracketed_of opening closing all (print_all_of all) in
+        OnOk result (out.new.items ≡ out.old.items ++ text) }
     ensures terms { OnOk result (AreTerms (of_list terms.now)) }
     ensures err { Extends out.old.items out.new.items }
     ensures room { vec_capacity out.old ≤ vec_capacity out.new }

@@ -11,11 +11,13 @@ use Rattle.session_core.specs.History.{Contents, History}
 abbrev pub contents_code : Coded Contents
 contents_code =
     code_by (finmap.FinMap (slice_cmp nat_cmp) Tree × finmap.FinMap (slice_cmp nat_cmp) (List ℕ))
-    (coded× (finmap.code (coded_list coded_ℕ) tree_code) (finmap.code (coded_list coded_ℕ) (coded_list coded_ℕ)))
+    (coded× (finmap.code (coded_list coded_ℕ) tree_code)
+    (finmap.code (coded_list coded_ℕ) (coded_list coded_ℕ)))
     (λ c. (c.trees, c.modules)) (λ p. record { trees = p.0; modules = p.1 }) (λ _. refl)
 
 abbrev pub history_code : Coded History
 history_code =
     code_by ((List Contents × Contents) × List Contents)
     (coded× (coded× (coded_list contents_code) contents_code) (coded_list contents_code))
-    (λ h. ((h.past, h.now), h.later)) (λ p. record { past = p.0.0; now = p.0.1; later = p.1 }) (λ _. refl)
+    (λ h. ((h.past, h.now), h.later)) (λ p. record { past = p.0.0; now = p.0.1; later = p.1 })
+    (λ _. refl)

@@ -22,7 +22,8 @@ no_contents = record { trees = finmap.empty; modules = finmap.empty }
 abbrev pub with_tree : Contents → List ℕ → Tree → Contents
 with_tree c name tree = record c { trees = finmap.insert c.trees name tree }
 
--- The contents from before each step, the newest last; those now; and those that were undone, the nearest first.
+-- The contents from before each step, the newest last; those now; and those that were undone, the
+-- nearest first.
 pub record History : Type 0 where
   pub past : List Contents
   pub now : Contents
@@ -46,15 +47,18 @@ abbrev pub older : Contents → List Contents → List Contents
 older c [] = []
 older c (d ∷ ds) = c ∷ older d ds
 
--- One place back, where there is a past: the newest past contents are now, and those now are the nearest later ones.
+-- One place back, where there is a past: the newest past contents are now, and those now are the
+-- nearest later ones.
 abbrev pub back_from : List Contents → Contents → List Contents → Option History
 back_from [] now later = None
-back_from (c ∷ cs) now later = Some (record { past = older c cs; now = newest c cs; later = now ∷ later })
+back_from (c ∷ cs) now later =
+    Some (record { past = older c cs; now = newest c cs; later = now ∷ later })
 
 abbrev pub step_back : History → Option History
 step_back h = back_from h.past h.now h.later
 
--- One place forward, where something is later: the nearest later contents are now, and those now are the newest past ones.
+-- One place forward, where something is later: the nearest later contents are now, and those now
+-- are the newest past ones.
 abbrev pub forward_from : List Contents → Contents → List Contents → Option History
 forward_from past now [] = None
 forward_from past now (c ∷ cs) = Some (record { past = past ++ now ∷ []; now = c; later = cs })
@@ -74,8 +78,11 @@ redone (suc k) h = option_and_then (redone k) (step_forward h)
 
 -- Contents are sound where no tree is higher than 1,000, the greatest height that fits at level 0.
 abbrev pub IsSoundContents : Contents → Type 0
-IsSoundContents c = (name : List ℕ) → IfSome (finmap.get c.trees name) (λ tree. height tree ≤ MAX_HEIGHT)
+IsSoundContents c =
+    (name : List ℕ) → IfSome (finmap.get c.trees name) (λ tree. height tree ≤ MAX_HEIGHT)
 
 -- All contents of a history are sound: the past, those now and the later ones.
 abbrev pub IsSound : History → Type 0
-IsSound h = AllByRecursion IsSoundContents h.past × IsSoundContents h.now × AllByRecursion IsSoundContents h.later
+IsSound h =
+    AllByRecursion IsSoundContents h.past × IsSoundContents h.now
+    × AllByRecursion IsSoundContents h.later

@@ -1,4 +1,5 @@
--- What each act does to a session: the history after it, or the one refusal, which leaves all as it was.
+-- What each act does to a session: the history after it, or the one refusal, which leaves all as it
+-- was.
 use Rattle.std.specs.Prelude.{ℕ, List, Ok, Err, ok_or, if◌then◌else◌}
 use Rattle.std.specs.declared.result.Result.{Result}
 use Rattle.term_core.specs.Tree.{Tree}
@@ -17,7 +18,8 @@ pub data Act : Type 0 where
 
 -- A tree has to fit at level 0. Going back or forward needs as many places there.
 abbrev pub step : Act → History → Result History Refusal
-step (set_tree name tree) h = if fits 0 tree then Ok (changed (with_tree h.now name tree) h) else Err Big
+step (set_tree name tree) h =
+    if fits 0 tree then Ok (changed (with_tree h.now name tree) h) else Err Big
 step (undo k) h = ok_or (undone k h) NoUndo
 step (redo k) h = ok_or (redone k h) NoRedo
 

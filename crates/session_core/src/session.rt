@@ -56,14 +56,16 @@ impl Session {
         self.contents().tree(name)
     }
 
-    /// Gives the name this tree, also where it has one. That is a step, which can be undone, and nothing
-    /// can be redone after it. The tree has to fit at level 0, else the refusal is `Big`.
+    /// Gives the name this tree, also where it has one. That is a step, which can be undone, and
+    /// nothing can be redone after it. The tree has to fit at level 0, else the refusal is `Big`.
     ///
     /// A refusal leaves the session as it was. The tree is dropped then.
     pub fn set_tree(&mut self, name: &Label, tree: Term) -> Result<(), Refusal>
         ensures ok { OnOk result (step (set_tree name.now tree) self.old ≡ Ok self.new) }
-        ensures big { (result ≡ Err Refusal.Big) ↔ (step (set_tree name.now tree) self.old ≡ Err Refusal.Big) }
-        ensures refused { IfErr result (λ refusal. (refusal ≡ Refusal.Memory) ⊎ (step (set_tree name.now tree) self.old ≡ Err refusal)) }
+        ensures big { (result ≡ Err Refusal.Big)
+            ↔ (step (set_tree name.now tree) self.old ≡ Err Refusal.Big) }
+        ensures refused { IfErr result (λ refusal. (refusal ≡ Refusal.Memory)
+            ⊎ (step (set_tree name.now tree) self.old ≡ Err refusal)) }
         ensures err { OnErr result (self.new ≡ self.old) }
         ensures sound { IsSound self.new }
     {
@@ -76,8 +78,8 @@ impl Session {
         Ok(())
     }
 
-    /// Goes `n` steps back, at least 1. Where there are fewer to undo, the refusal is `NoUndo`, and the
-    /// session stays as it was.
+    /// Goes `n` steps back, at least 1. Where there are fewer to undo, the refusal is `NoUndo`, and
+    /// the session stays as it was.
     pub fn undo(&mut self, n: u32) -> Result<(), Refusal>
         requires { 1 ≤ n }
         ensures ok { OnOk result (step (undo n) self.old ≡ Ok self.new) }
@@ -93,8 +95,8 @@ impl Session {
         Ok(())
     }
 
-    /// Goes `n` steps forward, at least 1. Where there are fewer to redo, the refusal is `NoRedo`, and
-    /// the session stays as it was.
+    /// Goes `n` steps forward, at least 1. Where there are fewer to redo, the refusal is `NoRedo`,
+    /// and the session stays as it was.
     pub fn redo(&mut self, n: u32) -> Result<(), Refusal>
         requires { 1 ≤ n }
         ensures ok { OnOk result (step (redo n) self.old ≡ Ok self.new) }

@@ -37,13 +37,18 @@ is_same word other = pointwise nat_eq word other
 
 -- ---- forms
 
--- `tree` takes a name and a text, which begins with the first byte behind the name that isn't a blank, and may be empty
+-- `tree` takes a name and a text, which begins with the first byte behind the name that isn't a
+-- blank, and may be empty
 abbrev pub tree_form : List ℕ → Option Form
-tree_form rest = if has_word rest then Some (tree (first_word rest) (without_blanks (behind_word rest))) else None
+tree_form rest =
+    if has_word rest then Some (tree (first_word rest) (without_blanks (behind_word rest)))
+    else None
 
 -- `show` takes a name alone
 abbrev pub show_form : List ℕ → Option Form
-show_form rest = if (has_word rest && not (has_word (behind_word rest))) then Some (show (first_word rest)) else None
+show_form rest =
+    if (has_word rest && not (has_word (behind_word rest))) then Some (show (first_word rest))
+    else None
 
 -- a form without further words
 abbrev pub without_words : Form → List ℕ → Option Form
@@ -59,7 +64,8 @@ form_with keyword rest =
 
 -- the form of a command, without the blanks at its end
 abbrev pub form_of : List ℕ → Option Form
-form_of command = let text = without_end is_blank command in form_with (first_word text) (behind_word text)
+form_of command =
+    let text = without_end is_blank command in form_with (first_word text) (behind_word text)
 
 -- whether the name of a form, if it has one, is a label
 abbrev pub has_label : Form → Bool
@@ -80,4 +86,6 @@ command_of command = checked (form_of command)
 
 -- whether the first word is `undo` or `redo`
 abbrev pub begins_undo_or_redo : List ℕ → Bool
-begins_undo_or_redo command = let word = first_word (without_end is_blank command) in is_same word (codes "undo") || is_same word (codes "redo")
+begins_undo_or_redo command =
+    let word = first_word (without_end is_blank command)
+    in is_same word (codes "undo") || is_same word (codes "redo")

@@ -24,7 +24,8 @@ pub record Accepted : Type 0 where
 abbrev pub Reply : Type 0
 Reply = Result Accepted Refusal
 
--- What a text gives: the tree that it spells. One with over 1,000 brackets open at one place is refused before it is read.
+-- What a text gives: the tree that it spells. One with over 1,000 brackets open at one place is
+-- refused before it is read.
 abbrev pub TreeOf : List ℕ → Result Tree Refusal → Type 0
 TreeOf text (Ok t) = (nesting text ≤ MAX_NESTING) × Spells text t
 TreeOf text (Err refusal) =
@@ -46,14 +47,16 @@ shown None h = Err NoTree
 
 -- the reply to a form, at a history
 abbrev pub Replies : Form → History → Reply → Type 0
-Replies (tree name text) h reply = (given : Result Tree Refusal) × TreeOf text given × (reply ≡ set_to name given h)
+Replies (tree name text) h reply =
+    (given : Result Tree Refusal) × TreeOf text given × (reply ≡ set_to name given h)
 Replies (show name) h reply = reply ≡ shown (finmap.get h.now.trees name) h
 Replies undo h reply = reply ≡ done (step (undo_steps 1) h)
 Replies redo h reply = reply ≡ done (step (redo_steps 1) h)
 
 -- the reply to a command
 abbrev pub ReplyTo : List ℕ → History → Reply → Type 0
-ReplyTo command h reply = MatchResult (command_of command) (λ form. Replies form h reply) (λ refusal. reply ≡ Err refusal)
+ReplyTo command h reply =
+    MatchResult (command_of command) (λ form. Replies form h reply) (λ refusal. reply ≡ Err refusal)
 
 -- the history that a reply leaves
 abbrev pub history_after : History → Reply → History

@@ -16,7 +16,8 @@ abbrev pub has_bytes : List ℕ → Bool
 has_bytes [] = false
 has_bytes (b ∷ bytes) = true
 
--- What stands between the line feeds of a text, and behind the last one, each without the run of carriage returns at its end.
+-- What stands between the line feeds of a text, and behind the last one, each without the run of
+-- carriage returns at its end.
 abbrev pub lines : List ℕ → List (List ℕ)
 lines text = map (without_end is_carriage_return) (slice_split is_line_feed text)
 

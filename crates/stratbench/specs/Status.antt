@@ -5,7 +5,8 @@ use Rattle.stratbench.specs.declared.run.Summary.{Summary}
 use Rattle.stratbench.specs.declared.run.RunFault.{RunFault}
 use Rattle.stratbench.specs.declared.run.RunFault.TheVariants.{Read, Write, Turns, Memory}
 
--- 0 where all commands were accepted, 1 where some were refused, 3 where reading or writing failed, 4 where there was no memory
+-- 0 where all commands were accepted, 1 where some were refused, 3 where reading or writing failed,
+-- 4 where there was no memory
 abbrev pub status_of : Result Summary RunFault → ℕ
 status_of (Ok summary) = if (summary.refused == 0) then 0 else 1
 status_of (Err Read) = 3

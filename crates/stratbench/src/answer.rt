@@ -17,8 +17,8 @@ use term_core::{Label, NoMemory, Term};
 /// The bytes that the answer's buffer has to spare, so that a refusal always has room.
 pub const ANSWER_ROOM: usize = 128;
 
-/// Answers a command behind what the buffer holds, and tells whether it was accepted. Where a growth of
-/// memory is refused, the answer says so and the session stays as it was.
+/// Answers a command behind what the buffer holds, and tells whether it was accepted. Where a
+/// growth of memory is refused, the answer says so and the session stays as it was.
 pub fn answer_command(
     alloc: Global,
     session: &mut Session,
@@ -26,7 +26,8 @@ pub fn answer_command(
     answer: &mut Vec<u8>,
 ) -> bool
     requires { vec_len answer.old + ANSWER_ROOM ≤ vec_capacity answer.old }
-    ensures answered { Answered command.now session.old session.new answer.old.items answer.new.items result }
+    ensures answered { Answered command.now session.old session.new answer.old.items
+        answer.new.items result }
     ensures room { vec_capacity answer.old ≤ vec_capacity answer.new }
 {
     match try_answer(alloc, session, command, answer) {
@@ -38,7 +39,8 @@ pub fn answer_command(
     }
 }
 
-// Appends the answer of a command that is accepted. A refusal leaves session and buffer as they were.
+// Appends the answer of a command that is accepted. A refusal leaves session and buffer as they
+// were.
 fn try_answer(
     alloc: Global,
     session: &mut Session,
@@ -46,9 +48,12 @@ fn try_answer(
     answer: &mut Vec<u8>,
 ) -> Result<(), Refusal>
     requires { vec_len answer.old + ANSWER_ROOM ≤ vec_capacity answer.old }
-    ensures ok { OnOk result (Accepts (ReplyTo command.now session.old) session.new answer.old.items answer.new.items) }
-    ensures refused { IfErr result (Refuses (ReplyTo command.now session.old) (begins_undo_or_redo command.now)) }
-    ensures err { OnErr result ((session.new ≡ session.old) × (answer.new.items ≡ answer.old.items)) }
+    ensures ok { OnOk result (Accepts (ReplyTo command.now session.old) session.new answer.old.items
+        answer.new.items) }
+    ensures refused { IfErr result (Refuses (ReplyTo command.now session.old)
+        (begins_undo_or_redo command.now)) }
+    ensures err { OnErr result ((session.new ≡ session.old)
+        × (answer.new.items ≡ answer.old.items)) }
     ensures len { OnErr result (vec_len answer.new ≡ vec_len answer.old) }
     ensures room { vec_capacity answer.old ≤ vec_capacity answer.new }
 {
@@ -58,7 +63,8 @@ fn try_answer(
     }
 }
 
-// Does what a command says, and appends its answer. A refusal leaves session and buffer as they were.
+// Does what a command says, and appends its answer. A refusal leaves session and buffer as they
+// were.
 fn perform(
     alloc: Global,
     session: &mut Session,
@@ -66,9 +72,12 @@ fn perform(
     answer: &mut Vec<u8>,
 ) -> Result<(), Refusal>
     requires { vec_len answer.old + ANSWER_ROOM ≤ vec_capacity answer.old }
-    ensures ok { OnOk result (Accepts (Replies (form_seen command.entry) session.old) session.new answer.old.items answer.new.items) }
-    ensures refused { IfErr result (Refuses (Replies (form_seen command.entry) session.old) (is_undo_or_redo (form_seen command.entry))) }
-    ensures err { OnErr result ((session.new ≡ session.old) × (answer.new.items ≡ answer.old.items)) }
+    ensures ok { OnOk result (Accepts (Replies (form_seen command.entry) session.old) session.new
+        answer.old.items answer.new.items) }
+    ensures refused { IfErr result (Refuses (Replies (form_seen command.entry) session.old)
+        (is_undo_or_redo (form_seen command.entry))) }
+    ensures err { OnErr result ((session.new ≡ session.old)
+        × (answer.new.items ≡ answer.old.items)) }
     ensures len { OnErr result (vec_len answer.new ≡ vec_len answer.old) }
     ensures room { vec_capacity answer.old ≤ vec_capacity answer.new }
 {
@@ -95,7 +104,8 @@ fn say_ok(outcome: Result<(), Refusal>, answer: &mut Vec<u8>) -> Result<(), Refu
 }
 
 fn set_tree(alloc: Global, session: &mut Session, name: &Label, text: &[u8]) -> Result<(), Refusal>
-    ensures ok { OnOk result (Replies (tree name.now text.now) session.old (Ok (record { answer = codes "ok"; history = session.new }))) }
+    ensures ok { OnOk result (Replies (tree name.now text.now) session.old
+        (Ok (record { answer = codes "ok"; history = session.new }))) }
     ensures refused { IfErr result (Refuses (Replies (tree name.now text.now) session.old) false) }
     ensures err { OnErr result (session.new ≡ session.old) }
 {
@@ -105,7 +115,8 @@ fn set_tree(alloc: Global, session: &mut Session, name: &Label, text: &[u8]) -> 
 
 fn read_term(alloc: Global, text: &[u8]) -> Result<Term, Refusal>
     ensures ok { IfOk result (λ term. TreeOf text.now (Ok term)) }
-    ensures refused { IfErr result (λ refusal. (refusal ≡ Refusal.Memory) ⊎ TreeOf text.now (Err refusal)) }
+    ensures refused { IfErr result (λ refusal. (refusal ≡ Refusal.Memory)
+        ⊎ TreeOf text.now (Err refusal)) }
 {
     match read(alloc, text) {
         Ok(term) => Ok(term),
@@ -116,7 +127,9 @@ fn read_term(alloc: Global, text: &[u8]) -> Result<Term, Refusal>
 }
 
 fn show_tree(session: &Session, name: &Label, answer: &mut Vec<u8>) -> Result<(), Refusal>
-    ensures ok { OnOk result (Accepts (Replies (show name.now) session.now) session.now answer.old.items answer.new.items) }
+    ensures ok { OnOk result (Accepts (Replies (show name.now) session.now) session.now
+        answer.old.items
+        answer.new.items) }
     ensures refused { IfErr result (Refuses (Replies (show name.now) session.now) false) }
     ensures err { OnErr result (answer.new.items ≡ answer.old.items) }
     ensures len { OnErr result (vec_len answer.new ≡ vec_len answer.old) }

@@ -28,12 +28,15 @@ pub enum Command<'a> {
 }
 
 impl<'a> Command<'a> {
-    /// Reads a command. It is refused for its form, for its name, or for want of memory, in this order;
-    /// `undo` and `redo` take no memory.
+    /// Reads a command. It is refused for its form, for its name, or for want of memory, in this
+    /// order; `undo` and `redo` take no memory.
     pub fn read(alloc: Global, command: &'a [u8]) -> Result<Command<'a>, Refusal>
         ensures ok { IfOk result (λ read. command_of command.now ≡ Ok (form_seen read)) }
-        ensures undo_or_redo { IfOk result (λ read. begins_undo_or_redo command.now ≡ is_undo_or_redo (form_seen read)) }
-        ensures refused { IfErr result (λ refusal. ((refusal ≡ Refusal.Memory) × (begins_undo_or_redo command.now ≡ false)) ⊎ (command_of command.now ≡ Err refusal)) }
+        ensures undo_or_redo { IfOk result (λ read. begins_undo_or_redo command.now
+            ≡ is_undo_or_redo (form_seen read)) }
+        ensures refused { IfErr result (λ refusal. ((refusal ≡ Refusal.Memory)
+            × (begins_undo_or_redo command.now ≡ false))
+            ⊎ (command_of command.now ≡ Err refusal)) }
     {
         let text = without_last_blanks(command);
         let (keyword, rest) = split_word(text);
@@ -53,7 +56,8 @@ impl<'a> Command<'a> {
 
 fn read_tree(alloc: Global, rest: &[u8]) -> Result<Command<'_>, Refusal>
     ensures ok { IfOk result (λ read. checked (tree_form rest.now) ≡ Ok (form_seen read)) }
-    ensures refused { IfErr result (λ refusal. (refusal ≡ Refusal.Memory) ⊎ (checked (tree_form rest.now) ≡ Err refusal)) }
+    ensures refused { IfErr result (λ refusal. (refusal ≡ Refusal.Memory)
+        ⊎ (checked (tree_form rest.now) ≡ Err refusal)) }
 {
     let (name, rest) = split_word(rest);
     if name.is_empty() {
@@ -65,7 +69,8 @@ fn read_tree(alloc: Global, rest: &[u8]) -> Result<Command<'_>, Refusal>
 
 fn read_show(alloc: Global, rest: &[u8]) -> Result<Command<'_>, Refusal>
     ensures ok { IfOk result (λ read. checked (show_form rest.now) ≡ Ok (form_seen read)) }
-    ensures refused { IfErr result (λ refusal. (refusal ≡ Refusal.Memory) ⊎ (checked (show_form rest.now) ≡ Err refusal)) }
+    ensures refused { IfErr result (λ refusal. (refusal ≡ Refusal.Memory)
+        ⊎ (checked (show_form rest.now) ≡ Err refusal)) }
 {
     let (name, rest) = split_word(rest);
     if name.is_empty() || has_more(rest) {
@@ -76,8 +81,10 @@ fn read_show(alloc: Global, rest: &[u8]) -> Result<Command<'_>, Refusal>
 
 // A form without further words.
 fn read_without_words<'a>(form: Command<'a>, rest: &[u8]) -> Result<Command<'a>, Refusal>
-    ensures ok { IfOk result (λ read. without_words (form_seen form.entry) rest.now ≡ Some (form_seen read)) }
-    ensures refused { IfErr result (λ refusal. (refusal ≡ Refusal.Line) × (without_words (form_seen form.entry) rest.now ≡ None)) }
+    ensures ok { IfOk result (λ read. without_words (form_seen form.entry) rest.now
+        ≡ Some (form_seen read)) }
+    ensures refused { IfErr result (λ refusal. (refusal ≡ Refusal.Line)
+        × (without_words (form_seen form.entry) rest.now ≡ None)) }
 {
     if has_more(rest) {
         return Err(Refusal::Line);
@@ -95,7 +102,8 @@ fn has_more(rest: &[u8]) -> bool
 fn read_label(alloc: Global, name: &[u8]) -> Result<Label, Refusal>
     ensures ok { IfOk result (λ label. label_of name.now ≡ Some label) }
     ensures same { IfOk result (λ label. label ≡ name.now) }
-    ensures refused { IfErr result (λ refusal. (refusal ≡ Refusal.Memory) ⊎ ((refusal ≡ Refusal.Name) × (label_of name.now ≡ None))) }
+    ensures refused { IfErr result (λ refusal. (refusal ≡ Refusal.Memory)
+        ⊎ ((refusal ≡ Refusal.Name) × (label_of name.now ≡ None))) }
 {
     match Label::read(alloc, name) {
         Ok(label) => Ok(label),

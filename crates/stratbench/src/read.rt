@@ -16,8 +16,10 @@ const PIECE: usize = 4096;
 
 /// Reads all that there is. A read that was interrupted is tried again, within the bound on reads.
 pub fn read_whole<R: Read>(alloc: Global, reader: &mut R) -> Result<Vec<u8>, RunFault>
-    ensures ok { IfOk result (λ text. ReadsAll (R.remaining reader.old) (R.remaining reader.new) text.items) }
-    ensures part { (part : List ℕ) × Consumes (R.remaining reader.old) (R.remaining reader.new) part }
+    ensures ok { IfOk result (λ text. ReadsAll (R.remaining reader.old) (R.remaining reader.new)
+        text.items) }
+    ensures part { (part : List ℕ)
+        × Consumes (R.remaining reader.old) (R.remaining reader.new) part }
     ensures no_write { result ≢ Err RunFault.Write }
 {
     let mut text = Vec::new(alloc);
@@ -37,8 +39,11 @@ fn read_piece<R: Read>(
     text: &mut Vec<u8>,
 ) -> Result<bool, RunFault>
     requires { 0 < length piece.old }
-    ensures ok { OnOk result ((part : List ℕ) × Consumes (R.remaining reader.old) (R.remaining reader.new) part × (text.new.items ≡ text.old.items ++ part)) }
-    ensures part { (part : List ℕ) × Consumes (R.remaining reader.old) (R.remaining reader.new) part }
+    ensures ok { OnOk result ((part : List ℕ)
+        × Consumes (R.remaining reader.old) (R.remaining reader.new)
+        part × (text.new.items ≡ text.old.items ++ part)) }
+    ensures part { (part : List ℕ)
+        × Consumes (R.remaining reader.old) (R.remaining reader.new) part }
     ensures end { result ≡ Ok true → IsAtEnd (R.remaining reader.new) }
     ensures no_write { result ≢ Err RunFault.Write }
 {

@@ -39,8 +39,8 @@ pub enum RunFault {
     Memory,
 }
 
-/// The exit status for the end of a run: 0 where all commands were accepted, 1 where some were refused,
-/// 3 for a fault of reading or writing or the bound on reads, 4 for want of memory.
+/// The exit status for the end of a run: 0 where all commands were accepted, 1 where some were
+/// refused, 3 for a fault of reading or writing or the bound on reads, 4 for want of memory.
 pub fn status(outcome: &Result<Summary, RunFault>) -> u8
     ensures { result ≡ status_of outcome.now }
 {
@@ -52,12 +52,12 @@ pub fn status(outcome: &Result<Summary, RunFault>) -> u8
     }
 }
 
-/// Reads a script to its end, and then answers its commands one by one. Each answer is written as it is
-/// made. A read or a write that was interrupted is tried again.
+/// Reads a script to its end, and then answers its commands one by one. Each answer is written as
+/// it is made. A read or a write that was interrupted is tried again.
 ///
 /// Where a read fails, the bound on reads is reached or memory is wanted, that is before the first
-/// command: nothing is written, and the session is as before. Where a write fails, or the flush at the
-/// end, the session is the one after the commands that were answered until then.
+/// command: nothing is written, and the session is as before. Where a write fails, or the flush at
+/// the end, the session is the one after the commands that were answered until then.
 pub fn run<R: Read, W: Write>(
     alloc: Global,
     session: &mut Session,
@@ -65,17 +65,24 @@ pub fn run<R: Read, W: Write>(
     writer: &mut W,
 ) -> Result<Summary, RunFault>
     // What was read is a script whose commands are answered, each answer written. What was read and
-    // written is known of a reader and a writer that tell their bytes; why a fault came is not said.
-    ensures done { IfOk result (λ summary. (text : List ℕ) × ReadsAll (R.remaining reader.old) (R.remaining reader.new) text
-        × Completes (commands text) session.old session.new (W.contents writer.old) (W.contents writer.new) summary.accepted summary.refused) }
+    // written is known of a reader and a writer that tell their bytes; why a fault came is not
+    // said.
+    ensures done { IfOk result (λ summary. (text : List ℕ)
+        × ReadsAll (R.remaining reader.old) (R.remaining reader.new) text
+        × Completes (commands text) session.old session.new
+        (W.contents writer.old) (W.contents writer.new) summary.accepted summary.refused) }
 
     // After a fault of writing, the first commands of all that was read are answered.
-    ensures broken { result ≡ Err RunFault.Write → (text : List ℕ) × ReadsAll (R.remaining reader.old) (R.remaining reader.new) text
-        × BreaksOff (commands text) session.old session.new (W.contents writer.old) (W.contents writer.new) }
+    ensures broken { result ≡ Err RunFault.Write → (text : List ℕ)
+        × ReadsAll (R.remaining reader.old) (R.remaining reader.new) text
+        × BreaksOff (commands text) session.old session.new
+        (W.contents writer.old) (W.contents writer.new) }
 
     // Any other fault comes before the first command. A part of the script may be read then.
-    ensures before { IfErr result (λ fault. fault ≢ RunFault.Write → (session.new ≡ session.old) × (writer.new ≡ writer.old)) }
-    ensures part { (part : List ℕ) × Consumes (R.remaining reader.old) (R.remaining reader.new) part }
+    ensures before { IfErr result (λ fault. fault ≢ RunFault.Write →
+        (session.new ≡ session.old) × (writer.new ≡ writer.old)) }
+    ensures part { (part : List ℕ)
+        × Consumes (R.remaining reader.old) (R.remaining reader.new) part }
 {
     let text = read_whole(alloc, reader)?;
     let Ok(mut answer) = Vec::with_capacity(alloc, ANSWER_ROOM) else {
@@ -96,8 +103,10 @@ fn answer_script<W: Write>(
     answer: &mut Vec<u8>,
 ) -> Result<Summary, WriteFault>
     requires { ANSWER_ROOM ≤ vec_capacity answer.old }
-    ensures done { IfOk result (λ summary. Completes (commands text.now) session.old session.new (W.contents writer.old) (W.contents writer.new) summary.accepted summary.refused) }
-    ensures broken { OnErr result (BreaksOff (commands text.now) session.old session.new (W.contents writer.old) (W.contents writer.new)) }
+    ensures done { IfOk result (λ summary. Completes (commands text.now) session.old session.new
+        (W.contents writer.old) (W.contents writer.new) summary.accepted summary.refused) }
+    ensures broken { OnErr result (BreaksOff (commands text.now) session.old session.new
+        (W.contents writer.old) (W.contents writer.new)) }
 {
     let summary = answer_commands(alloc, session, text, writer, answer)?;
     match writer.flush() {
@@ -114,8 +123,10 @@ fn answer_commands<W: Write>(
     answer: &mut Vec<u8>,
 ) -> Result<Summary, WriteFault>
     requires { ANSWER_ROOM ≤ vec_capacity answer.old }
-    ensures done { IfOk result (λ summary. Completes (commands text.now) session.old session.new (W.contents writer.old) (W.contents writer.new) summary.accepted summary.refused) }
-    ensures broken { OnErr result (BreaksOff (commands text.now) session.old session.new (W.contents writer.old) (W.contents writer.new)) }
+    ensures done { IfOk result (λ summary. Completes (commands text.now) session.old session.new
+        (W.contents writer.old) (W.contents writer.new) summary.accepted summary.refused) }
+    ensures broken { OnErr result (BreaksOff (commands text.now) session.old session.new
+        (W.contents writer.old) (W.contents writer.new)) }
 {
     let mut summary = Summary {
         accepted: 0,
@@ -139,8 +150,11 @@ fn answer_one<W: Write>(
     answer: &mut Vec<u8>,
 ) -> Result<bool, WriteFault>
     requires { ANSWER_ROOM ≤ vec_capacity answer.old }
-    ensures done { IfOk result (λ accepted. Completes (command.now ∷ []) session.old session.new (W.contents writer.old) (W.contents writer.new) (one_if accepted) (one_if (not accepted))) }
-    ensures broken { OnErr result (BreaksOff (command.now ∷ []) session.old session.new (W.contents writer.old) (W.contents writer.new)) }
+    ensures done { IfOk result (λ accepted. Completes (command.now ∷ []) session.old session.new
+        (W.contents writer.old) (W.contents writer.new)
+        (one_if accepted) (one_if (not accepted))) }
+    ensures broken { OnErr result (BreaksOff (command.now ∷ []) session.old session.new
+        (W.contents writer.old) (W.contents writer.new)) }
     ensures room { vec_capacity answer.old ≤ vec_capacity answer.new }
 {
     answer.clear();

@@ -1,7 +1,7 @@
 //! The lines of a script.
 //!
-//! A line ends at LF or at the end of the input, and the run of CR at its end is dropped. Each line that
-//! isn't empty is a command.
+//! A line ends at LF or at the end of the input, and the run of CR at its end is dropped. Each line
+//! that isn't empty is a command.
 
 ghost use Rattle.std.specs.Prelude.{◌≡◌, ◌<◌, ◌≤◌, ◌∷◌, [], ℕ, Bool, length, MatchOption, if◌then◌else◌};
 ghost use Rattle.std.specs.List.{suffix_len, position_or_len};
@@ -10,7 +10,8 @@ ghost use Rattle.stratbench.specs.Script.{is_line_feed, is_carriage_return, with
 /// The next command of a text, and what follows its line.
 pub fn next_command(text: &[u8]) -> Option<(&[u8], &[u8])>
     ensures { MatchOption result (commands text.now ≡ []) (λ next.
-        (commands text.now ≡ next.0.now ∷ commands next.1.now) × (length next.1.now < length text.now)) }
+        (commands text.now ≡ next.0.now ∷ commands next.1.now)
+        × (length next.1.now < length text.now)) }
 {
     let mut rest = text;
     while !rest.is_empty() {
@@ -26,7 +27,8 @@ pub fn next_command(text: &[u8]) -> Option<(&[u8], &[u8])>
 // The first line of a text that isn't empty, and what follows it.
 fn first_line(text: &[u8]) -> (&[u8], &[u8])
     requires { 0 < length text.now }
-    ensures commands { commands text.now ≡ (if has_bytes result.0.now then result.0.now ∷ commands result.1.now else commands result.1.now) }
+    ensures commands { let behind = commands result.1.now in
+        commands text.now ≡ (if has_bytes result.0.now then result.0.now ∷ behind else behind) }
     ensures line { length result.0.now ≤ length text.now }
     ensures shorter { length result.1.now < length text.now }
 {

@@ -7,4 +7,6 @@ use Rattle.term_core.specs.contracts.term.Term.{the_row}
 
 -- the term ends with what is left in the slice of its children, whose length stays
 abbrev pub LendsChildren : MutBor Tree → MutBor (List Tree) → Fml
-LendsChildren t kids = Lends the_row (Array the_row 0) t kids (λ us. with_children t.now (refill (length (children t.now)) (children t.now) us))
+LendsChildren t kids =
+    Lends the_row (Array the_row 0) t kids
+    (λ us. with_children t.now (refill (length (children t.now)) (children t.now) us))

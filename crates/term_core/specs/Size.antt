@@ -24,6 +24,7 @@ abbrev mutual
   sizes none = 0
   sizes (more t ts) = size t + sizes ts
 
--- A term fits at a level, the number of terms above it, where it is neither too high there nor too large.
+-- A term fits at a level, the number of terms above it, where it is neither too high there nor too
+-- large.
 abbrev pub fits : ℕ → Tree → Bool
 fits level t = nat_le (level + height t) MAX_HEIGHT && nat_le (size t) MAX_SIZE

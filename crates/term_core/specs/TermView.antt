@@ -37,9 +37,11 @@ most_le-heights (t ∷ ts) = omega (arith, most_le-heights ts)
 abbrev pub above_parts : List Tree → List Tree → ℕ
 above_parts us notes = max (most (λ t. height t + 1) us) (max (most (λ t. height t + 1) notes) 0)
 
-pub above_parts_le-height : (n : Node) (us notes : List Tree) → node_shape n us → above_parts us notes ≤ height (node_term n us notes)
+pub above_parts_le-height : (n : Node) (us notes : List Tree) → node_shape n us
+    → above_parts us notes ≤ height (node_term n us notes)
 above_parts_le-height (Integer z) [] notes h = omega (arith, most_le-heights notes)
 above_parts_le-height (Integer z) (u ∷ us) notes h = absurd (cc)
-above_parts_le-height (Application name) us notes h = omega (arith, most_le-heights us, most_le-heights notes)
+above_parts_le-height (Application name) us notes h =
+    omega (arith, most_le-heights us, most_le-heights notes)
 above_parts_le-height AList us notes h = omega (arith, most_le-heights us, most_le-heights notes)
 above_parts_le-height Tuple us notes h = omega (arith, most_le-heights us, most_le-heights notes)

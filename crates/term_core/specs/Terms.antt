@@ -1,4 +1,5 @@
--- Which trees are terms: integers are in the range of `i64`, the bytes of names are bytes, and a name that isn't quoted is a word.
+-- Which trees are terms: integers are in the range of `i64`, the bytes of names are bytes, and a
+-- name that isn't quoted is a word.
 use Rattle.std.specs.Prelude.{◌<◌, ◌||◌, IsTrue, FitsSigned}
 use Rattle.std.specs.Int.{w64}
 use Rattle.std.specs.List.{AllByRecursion}

@@ -1,7 +1,9 @@
--- Terms as contracts see them, as plain data. `IsTerm` says which of these are terms of the ATerm format.
+-- Terms as contracts see them, as plain data. `IsTerm` says which of these are terms of the ATerm
+-- format.
 use Rattle.std.specs.Prelude.{ℕ, ℤ, Bool, List, [], ◌∷◌, slice_set}
 
--- A name: its bytes, and whether it is quoted. The word `f` and the quoted name `"f"` are two names.
+-- A name: its bytes, and whether it is quoted. The word `f` and the quoted name `"f"` are two
+-- names.
 pub record Symbol : Type 0 where
   pub text : List ℕ
   pub is_quoted : Bool

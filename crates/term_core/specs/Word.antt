@@ -11,7 +11,9 @@ begins_word b = is_ascii_alphabetic b || (b == 95)
 
 -- It goes on with letters, digits and the bytes `_ - + * $ . '`.
 abbrev pub continues_word : ℕ → Bool
-continues_word b = is_ascii_alphanumeric b || (b == 95) || (b == 45) || (b == 43) || (b == 42) || (b == 36) || (b == 46) || (b == 39)
+continues_word b =
+    is_ascii_alphanumeric b || (b == 95) || (b == 45) || (b == 43) || (b == 42) || (b == 36) ||
+    (b == 46) || (b == 39)
 
 -- whether these bytes are a word
 abbrev pub is_word : List ℕ → Bool

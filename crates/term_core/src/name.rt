@@ -8,7 +8,8 @@ use crate::NoMemory;
 use std::alloc::Global;
 use std::marker::Model;
 
-/// A name: a list of bytes that is a word or is quoted. The word `f` and the quoted name `"f"` differ.
+/// A name: a list of bytes that is a word or is quoted. The word `f` and the quoted name `"f"` are
+/// two names.
 #[derive(Drop)]
 pub struct Name {
     text: Vec<u8>,
@@ -50,7 +51,7 @@ fn all_continue_word(rest: &[u8]) -> bool
     rest.iter().all(|b| continues_word(*b))
 }
 
-/// Whether these bytes are a word: an ASCII letter or `_`, then letters, digits and `_ - + * $ . '`.
+/// Whether these bytes are a word: a byte that may begin one, and then bytes that may go on one.
 pub fn is_word(text: &[u8]) -> bool
     ensures { result ≡ is_word text.now }
 {
@@ -64,7 +65,8 @@ impl Name {
     /// The word of these bytes, or `None` where they are no word.
     pub fn word(alloc: Global, text: &[u8]) -> Result<Option<Name>, NoMemory>
         ensures no_word { (result ≡ Ok None) ↔ (is_word text.now ≡ false) }
-        ensures name { IfOk result (λ found. IfSome found (λ name. name ≡ record { text = text.now; is_quoted = false })) }
+        ensures name { IfOk result (λ found. IfSome found (λ name. name
+            ≡ record { text = text.now; is_quoted = false })) }
     {
         if !is_word(text) {
             return Ok(None);

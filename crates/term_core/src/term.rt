@@ -158,8 +158,8 @@ impl Term {
         mem::swap(&mut self.annotations, other);
     }
 
-    /// Child `i` for writing, or `None` where there are no more than `i` children. What a caller's proof
-    /// has to know of the term afterwards, `children_mut` and `swap_child` say.
+    /// Child `i` for writing, or `None` where there are no more than `i` children. What a caller's
+    /// proof has to know of the term afterwards, `children_mut` and `swap_child` say.
     pub fn child_mut(&mut self, i: usize) -> Option<&mut Term>
         ensures { option_copied_mut result ≡ slice_get (children self.old) i }
     {
@@ -236,11 +236,14 @@ impl Term {
         }
     }
 
-    // What this term leaves of `size`, or `None` where it is higher than `height` or larger than `size`.
+    // What this term leaves of `size`, or `None` where it is higher than `height` or larger than
+    // `size`.
     #[cycle(room_left)]
     fn room_left(&self, height: u64, size: u64) -> Option<u64>
-        ensures some { IfSome result (λ left. (height_of self.now ≤ height) × (left + size_of self.now ≡ size)) }
-        ensures none { IfNone result (¬ ((height_of self.now ≤ height) × (size_of self.now ≤ size))) }
+        ensures some { IfSome result (λ left. (height_of self.now ≤ height)
+            × (left + size_of self.now ≡ size)) }
+        ensures none { IfNone result (¬ ((height_of self.now ≤ height)
+            × (size_of self.now ≤ size))) }
     {
         if height == 0 || size == 0 {
             return None;
@@ -331,8 +334,10 @@ fn total_size(terms: &[Term]) -> u64
 
 #[cycle(room_left)]
 fn room_left_by_all(terms: &[Term], height: u64, mut size: u64) -> Option<u64>
-    ensures some { IfSome result (λ left. (heights (of_list terms.now) ≤ height) × (left + sizes (of_list terms.now) ≡ size)) }
-    ensures none { IfNone result (¬ ((heights (of_list terms.now) ≤ height) × (sizes (of_list terms.now) ≤ size))) }
+    ensures some { IfSome result (λ left. (heights (of_list terms.now) ≤ height)
+        × (left + sizes (of_list terms.now) ≡ size)) }
+    ensures none { IfNone result (¬ ((heights (of_list terms.now) ≤ height)
+        × (sizes (of_list terms.now) ≤ size))) }
 {
     for term in terms {
         let Some(left) = term.room_left(height, size) else {

@@ -48,7 +48,9 @@ pub fn first_head(alloc: Global, text: &[u8]) -> Result<(Head, &[u8]), ReadFault
 // The word at the front, where one begins there, and what follows it.
 fn word(alloc: Global, text: &[u8]) -> Result<(Head, &[u8]), ReadFault>
     ensures found { IfOk result (λ found. IsWordHead text.now found.0 found.1.now) }
-    ensures none { result ≡ Err ReadFault.Term → is_word (take (prefix_len continues_word text.now) text.now) ≡ false }
+    ensures none { result ≡ Err ReadFault.Term
+        → is_word (take (prefix_len continues_word text.now) text.now)
+        ≡ false }
     ensures deep { result ≡ Err ReadFault.Deep → ⊥ }
 {
     let (front, rest) = text.split_at(scan::word_length(text));

@@ -92,7 +92,8 @@ impl Levels {
 
     /// Leaves the innermost bracket, and hands out what is in it; `None` where none is open.
     pub fn leave(&mut self) -> Option<(Opened, Vec<Term>)>
-        ensures { MatchOption result ((self.old ≡ []) × (self.new ≡ [])) (λ left. self.old ≡ record { opened = left.0; done = left.1.items } ∷ self.new) }
+        ensures { MatchOption result ((self.old ≡ []) × (self.new ≡ []))
+            (λ left. self.old ≡ record { opened = left.0; done = left.1.items } ∷ self.new) }
     {
         let Bracket { opened, done } = self.brackets.pop()?;
         Some((opened, done))

@@ -71,7 +71,9 @@ fn behind_name<'a>(
     name: Name,
     text: &'a [u8],
 ) -> Result<Step<'a>, ReadFault>
-    ensures goes { IfOk result (λ step. (x : List ℕ) → NextName name x text.now → length text.now < length x → Goes State.Expected levels.old x step levels.new) }
+    ensures goes { IfOk result (λ step. (x : List ℕ) →
+        NextName name x text.now → length text.now < length x →
+        Goes State.Expected levels.old x step levels.new) }
     ensures fault { result ≡ Err ReadFault.Term → ⊥ }
     ensures deep { result ≡ Err ReadFault.Deep → ⊥ }
 {
@@ -130,7 +132,8 @@ fn behind_base<'a>(
     text: &'a [u8],
 ) -> Result<Step<'a>, ReadFault>
     requires { IsBare (State.Base base) }
-    ensures goes { IfOk result (λ step. Goes (State.Base base) levels.old text.now step levels.new) }
+    ensures goes { IfOk result (λ step.
+        Goes (State.Base base) levels.old text.now step levels.new) }
     ensures none { result ≡ Err ReadFault.Term → IsStuck (State.Base base) levels.old text.now }
     ensures deep { result ≡ Err ReadFault.Deep → ⊥ }
 {
@@ -150,7 +153,8 @@ fn behind_whole<'a>(
     term: Term,
     text: &'a [u8],
 ) -> Result<Step<'a>, ReadFault>
-    ensures goes { IfOk result (λ step. Goes (State.Whole term) levels.old text.now step levels.new) }
+    ensures goes { IfOk result (λ step.
+        Goes (State.Whole term) levels.old text.now step levels.new) }
     ensures none { result ≡ Err ReadFault.Term → IsStuck (State.Whole term) levels.old text.now }
     ensures deep { result ≡ Err ReadFault.Deep → ⊥ }
 {

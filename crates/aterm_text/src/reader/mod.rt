@@ -42,12 +42,15 @@ pub fn read(alloc: Global, text: &[u8]) -> Result<Term, ReadFault>
     finish(alloc, State::Expected, text)
 }
 
-/// The list of annotations that the text spells: an annotation part alone, with white space round it.
+/// The list of annotations that the text spells: an annotation part alone, with white space round
+/// it.
 pub fn read_annotations(alloc: Global, text: &[u8]) -> Result<Vec<Term>, ReadFault>
     ensures deep { (result ≡ Err ReadFault.Deep) ↔ (MAX_NESTING < nesting_of text.now) }
     ensures spelled { IfOk result (λ ts. SpellsAnnotations text.now ts.items) }
-    ensures only { IfOk result (λ ts. (us : List Tree) → SpellsAnnotations text.now us → us ≡ ts.items) }
-    ensures no_term { result ≡ Err ReadFault.Term → (us : List Tree) → SpellsAnnotations text.now us → ⊥ }
+    ensures only { IfOk result (λ ts.
+        (us : List Tree) → SpellsAnnotations text.now us → us ≡ ts.items) }
+    ensures no_term { result ≡ Err ReadFault.Term →
+        (us : List Tree) → SpellsAnnotations text.now us → ⊥ }
 {
     check_nesting(text)?;
     let Some(_inside) = scan::after_sign(b'{', text) else {
@@ -67,7 +70,8 @@ pub fn read_annotations(alloc: Global, text: &[u8]) -> Result<Vec<Term>, ReadFau
 
 fn check_nesting(text: &[u8]) -> Result<(), ReadFault>
     ensures ok { OnOk result (nesting_of text.now ≤ MAX_NESTING) }
-    ensures deep { IfErr result (λ fault. (fault ≡ ReadFault.Deep) × (MAX_NESTING < nesting_of text.now)) }
+    ensures deep { IfErr result (λ fault. (fault ≡ ReadFault.Deep)
+        × (MAX_NESTING < nesting_of text.now)) }
 {
     if nesting(text) > MAX_NESTING {
         return Err(ReadFault::Deep);

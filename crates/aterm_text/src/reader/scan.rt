@@ -82,8 +82,11 @@ fn integer_length(text: &[u8]) -> usize
 
 // The integer at the front, and what follows it.
 pub fn integer(text: &[u8]) -> Option<(i64, &[u8])>
-    ensures some { IfSome result (λ found. IsInteger (take (integer_len text.now) text.now) found.0 × (found.1.now ≡ drop (integer_len text.now) text.now)) }
-    ensures none { IfNone result ((z : ℤ) → IsInteger (take (integer_len text.now) text.now) z → ⊥) }
+    ensures some { IfSome result (λ found.
+        IsInteger (take (integer_len text.now) text.now) found.0
+        × (found.1.now ≡ drop (integer_len text.now) text.now)) }
+    ensures none { IfNone result ((z : ℤ) →
+        IsInteger (take (integer_len text.now) text.now) z → ⊥) }
 {
     let (front, rest) = text.split_at(integer_length(text));
     match parsed(front) {
@@ -165,7 +168,8 @@ fn item(text: &[u8]) -> Option<(u8, &[u8])>
 pub fn quoted(alloc: Global, text: &[u8]) -> Result<(Vec<u8>, &[u8]), ReadFault>
     ensures found { IfOk result (λ found. ReadsItems found.0.items text.now found.1.now) }
     ensures shorter { IfOk result (λ found. length found.1.now < length text.now) }
-    ensures none { result ≡ Err ReadFault.Term → (bytes y : List ℕ) → ReadsItems bytes text.now y → ⊥ }
+    ensures none { result ≡ Err ReadFault.Term →
+        (bytes y : List ℕ) → ReadsItems bytes text.now y → ⊥ }
     ensures deep { result ≡ Err ReadFault.Deep → ⊥ }
 {
     let mut bytes = Vec::new(alloc);
