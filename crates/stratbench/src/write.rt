@@ -11,27 +11,33 @@ use std::io::{Error, ErrorKind, Write};
 /// A write failed, or took no byte.
 pub struct WriteFault;
 
-/// Writes all of the bytes. After a fault a front of them is written, where the writer's contents are
-/// known. A write that was interrupted is tried again.
+/// Writes all of the bytes. After a fault a front of them is written and the rest, at least a byte,
+/// is lost, where the writer's contents are known. A write that was interrupted is tried again.
 pub fn write_whole<W: Write>(writer: &mut W, bytes: &[u8]) -> Result<(), WriteFault>
     ensures ok { OnOk result (Appends (W.contents writer.old) (W.contents writer.new) bytes.now) }
-    ensures err { OnErr result ((lost : List ℕ) × WritesFront (W.contents writer.old) (W.contents writer.new) bytes.now lost) }
+    ensures err { OnErr result ((lost : List ℕ) × (0 < length lost)
+        × WritesFront (W.contents writer.old) (W.contents writer.new) bytes.now lost) }
 {
     let mut rest = bytes;
     for _ in 0..u64::MAX {
         if rest.is_empty() {
-            return Ok(());
+            break;
         }
         let taken = write_some(writer, rest)?;
         rest = &rest[taken..];
     }
-    Err(WriteFault)
+    if rest.is_empty() {
+        Ok(())
+    } else {
+        Err(WriteFault)
+    }
 }
 
 // Writes once, and answers how many bytes were taken: none where the write was interrupted.
 fn write_some<W: Write>(writer: &mut W, bytes: &[u8]) -> Result<usize, WriteFault>
     requires { 0 < length bytes.now }
-    ensures ok { IfOk result (λ taken. Appends (W.contents writer.old) (W.contents writer.new) (take taken bytes.now)) }
+    ensures ok { IfOk result (λ taken. Appends (W.contents writer.old) (W.contents writer.new)
+        (take taken bytes.now)) }
     ensures within { IfOk result (λ taken. taken ≤ length bytes.now) }
     ensures err { OnErr result (Keeps (W.contents writer.old) (W.contents writer.new)) }
 {
