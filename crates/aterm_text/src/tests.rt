@@ -1,6 +1,6 @@
 //! Texts that are read, and printed again.
 
-use crate::{ReadFault, print, read, read_annotations};
+use crate::{ReadFault, after_blanks, is_blank, print, read, read_annotations};
 use std::alloc::Global;
 use std::test::Fail;
 
@@ -94,7 +94,18 @@ fn annotation_texts(rt: HostRuntime) -> Result<(), Fail> {
     Ok(())
 }
 
-// Brackets that are open at one place: 1,000 are read, on a stack of 8 MiB, and 1,001 are not.
+#[test]
+fn white_space(rt: HostRuntime) {
+    for byte in [b' ', b'\t', b'\n', b'\r'] {
+        assert!(rt; is_blank(byte));
+    }
+    // A vertical tab is none.
+    assert!(rt; !is_blank(11));
+    assert_eq!(rt; after_blanks(b" \t\r\n a "), b"a ".as_slice());
+}
+
+// Brackets that are open at one place: 1,000 are read and printed again, on a stack of 8 MiB, and
+// 1,001 are not read.
 #[test]
 fn deep_texts(rt: HostRuntime) -> Result<(), Fail> {
     let alloc = rt.alloc();
@@ -105,6 +116,7 @@ fn deep_texts(rt: HostRuntime) -> Result<(), Fail> {
             text.push(closing)?;
         }
         assert_eq!(rt; read(alloc, &text)?.height(), 1000);
+        assert_eq!(rt; printed(alloc, &text)?, text);
         text.insert(0, opening)?;
         assert!(rt; matches!(read(alloc, &text), Err(ReadFault::Deep)));
     }

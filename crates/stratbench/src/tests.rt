@@ -48,6 +48,56 @@ impl Write for FailingWriter {
     }
 }
 
+// Is interrupted at its first read and then at every other, and gives at most three bytes at the rest.
+#[derive(Drop)]
+struct InterruptedReader<'a> {
+    rest: &'a [u8],
+    interrupts: bool,
+}
+
+impl Read for InterruptedReader<'_> {
+    fn read(&mut self, buf: &mut [u8]) -> io::Result<usize> {
+        self.interrupts = !self.interrupts;
+        if !self.interrupts {
+            return Err(Error::from(ErrorKind::Interrupted));
+        }
+        let given = self.rest.len().min(buf.len()).min(3);
+        let (front, rest) = self.rest.split_at(given);
+        buf[..given].copy_from_slice(front);
+        self.rest = rest;
+        Ok(given)
+    }
+}
+
+// Is interrupted at its first write and then at every other. It tells how much it held when it was
+// flushed, which fails where told.
+#[derive(Drop)]
+struct FlushedWriter {
+    held: Vec<u8>,
+    interrupts: bool,
+    flushed: usize,
+    flush_fails: bool,
+}
+
+impl Write for FlushedWriter {
+    fn write(&mut self, buf: &[u8]) -> io::Result<usize> {
+        self.interrupts = !self.interrupts;
+        if !self.interrupts {
+            return Err(Error::from(ErrorKind::Interrupted));
+        }
+        self.held.extend_from_slice(buf)?;
+        Ok(buf.len())
+    }
+
+    fn flush(&mut self) -> io::Result<()> {
+        if self.flush_fails {
+            return Err(Error::from(ErrorKind::Other));
+        }
+        self.flushed = self.held.len();
+        Ok(())
+    }
+}
+
 // What a script is answered, and the status that its run ends with.
 fn answers(alloc: Global, mut script: &[u8]) -> Result<(Vec<u8>, u8), Fail> {
     let mut session = Session::new(alloc)?;
@@ -124,6 +174,15 @@ fn bounds_depth(rt: HostRuntime) -> Result<(), Fail> {
         let (written, _) = answers(rt.alloc(), &script)?;
         assert_eq!(rt; written.as_slice(), wanted);
     }
+
+    // The highest tree is kept and shown, on a stack of 8 MiB.
+    let mut script = bracketed(rt.alloc(), 1000, b"", 1000)?;
+    script.extend_from_slice(b"\nshow t\n")?;
+    let (written, ended) = answers(rt.alloc(), &script)?;
+    let shown = written.get(3..2003).ok_or("too short an answer")?;
+    let text = script.get(7..2007).ok_or("too short a script")?;
+    assert_eq!(rt; shown, text);
+    assert_eq!(rt; ended, 0);
     Ok(())
 }
 
@@ -173,5 +232,29 @@ fn write_fault_keeps_what_was_answered(rt: HostRuntime) -> Result<(), Fail> {
     let outcome = run(rt.alloc(), &mut session, &mut script, &mut written);
     assert_eq!(rt; status(&outcome), 0);
     assert_eq!(rt; written.as_slice(), b"b\n".as_slice());
+    Ok(())
+}
+
+// Interrupted reads and writes are tried again, and the writer is flushed at the end.
+#[test]
+fn interruptions_and_the_flush(rt: HostRuntime) -> Result<(), Fail> {
+    let table: [(bool, u8, usize); 2] = [(false, 0, 5), (true, 3, 0)];
+    for (flush_fails, wanted_status, wanted_flushed) in table {
+        let mut session = Session::new(rt.alloc())?;
+        let mut reader = InterruptedReader {
+            rest: b"tree t a\nshow t\n",
+            interrupts: true,
+        };
+        let mut writer = FlushedWriter {
+            held: Vec::new(rt.alloc()),
+            interrupts: true,
+            flushed: 0,
+            flush_fails,
+        };
+        let outcome = run(rt.alloc(), &mut session, &mut reader, &mut writer);
+        assert_eq!(rt; status(&outcome), wanted_status);
+        assert_eq!(rt; writer.held.as_slice(), b"ok\na\n".as_slice());
+        assert_eq!(rt; writer.flushed, wanted_flushed);
+    }
     Ok(())
 }
