@@ -49,7 +49,7 @@ impl Snapshot {
         ensures { IfOk result (λ next. next ≡ with_tree self.now name.now tree) }
     {
         let mut trees = clone_trees(&self.trees)?;
-        let name = name.try_clone(*trees.allocator())?;
+        let name = name.try_clone()?;
         trees.insert(name, tree)?;
         Ok(Snapshot { trees })
     }
@@ -62,7 +62,7 @@ fn clone_trees(trees: &IndexMap<Label, Term>) -> Result<IndexMap<Label, Term>, N
     let alloc = *trees.allocator();
     let mut copy = IndexMap::with_capacity(alloc, trees.len() + 1)?;
     for (name, tree) in trees {
-        copy.insert(name.try_clone(alloc)?, tree.try_clone(alloc)?)?;
+        copy.insert(name.try_clone()?, tree.try_clone()?)?;
     }
     Ok(copy)
 }

@@ -74,10 +74,10 @@ impl Label {
     }
 
     /// An equal label.
-    pub fn try_clone(&self, alloc: Global) -> Result<Label, NoMemory>
+    pub fn try_clone(&self) -> Result<Label, NoMemory>
         ensures { IfOk result (λ label. label ≡ self.now) }
     {
-        let text = Vec::from_slice(alloc, &self.text)?;
+        let text = Vec::from_slice(*self.text.allocator(), &self.text)?;
         Ok(Label { text })
     }
 }

@@ -116,10 +116,10 @@ impl Name {
     }
 
     /// An equal name.
-    pub fn try_clone(&self, alloc: Global) -> Result<Name, NoMemory>
+    pub fn try_clone(&self) -> Result<Name, NoMemory>
         ensures { IfOk result (λ name. name ≡ self.now) }
     {
-        let text = Vec::from_slice(alloc, &self.text)?;
+        let text = Vec::from_slice(*self.text.allocator(), &self.text)?;
         Ok(Name {
             text,
             quoted: self.is_quoted(),

@@ -256,10 +256,11 @@ impl Term {
 
     /// An equal term.
     #[cycle(try_clone)]
-    pub fn try_clone(&self, alloc: Global) -> Result<Term, NoMemory>
+    pub fn try_clone(&self) -> Result<Term, NoMemory>
         ensures { IfOk result (λ term. term ≡ self.now) }
     {
-        let node = self.node.try_clone(alloc)?;
+        let alloc = *self.children.allocator();
+        let node = self.node.try_clone()?;
         let children = clone_all(alloc, &self.children)?;
         let annotations = clone_all(alloc, &self.annotations)?;
         Ok(Term {
@@ -283,12 +284,12 @@ impl Node {
         }
     }
 
-    fn try_clone(&self, alloc: Global) -> Result<Node, NoMemory>
+    fn try_clone(&self) -> Result<Node, NoMemory>
         ensures { IfOk result (λ node. node ≡ self.now) }
     {
         match self {
             Node::Integer(value) => Ok(Node::Integer(*value)),
-            Node::Application(name) => Ok(Node::Application(name.try_clone(alloc)?)),
+            Node::Application(name) => Ok(Node::Application(name.try_clone()?)),
             Node::List => Ok(Node::List),
             Node::Tuple => Ok(Node::Tuple),
         }
@@ -354,7 +355,7 @@ fn clone_all(alloc: Global, terms: &[Term]) -> Result<Vec<Term>, NoMemory>
 {
     let mut all = Vec::with_capacity(alloc, terms.len())?;
     for term in terms {
-        all.push(term.try_clone(alloc)?)?;
+        all.push(term.try_clone()?)?;
     }
     Ok(all)
 }

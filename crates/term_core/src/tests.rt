@@ -35,7 +35,7 @@ fn names(rt: HostRuntime) -> Result<(), Fail> {
     assert_eq!(rt; plain.bytes(), b"f-1.'".as_slice());
     assert!(rt; !plain.is_quoted() && quoted.is_quoted());
     assert!(rt; !plain.equals(&quoted));
-    assert!(rt; plain.equals(&plain.try_clone(alloc)?));
+    assert!(rt; plain.equals(&plain.try_clone()?));
     for text in [
         b"".as_slice(),
         b"1".as_slice(),
@@ -61,13 +61,13 @@ fn terms(rt: HostRuntime) -> Result<(), Fail> {
     assert_eq!(rt; (term.height(), term.size()), (2, 3));
 
     // Annotations count in height and size, and in equality.
-    let bare = term.try_clone(alloc)?;
+    let bare = term.try_clone()?;
     let mut notes = vec![in alloc; nested_lists(alloc, 3)?]?;
     term.swap_annotations(&mut notes);
     assert!(rt; notes.is_empty());
     assert_eq!(rt; term.annotations().len(), 1);
     assert_eq!(rt; (term.height(), term.size()), (4, 6));
-    assert!(rt; !term.equals(&bare) && term.equals(&term.try_clone(alloc)?));
+    assert!(rt; !term.equals(&bare) && term.equals(&term.try_clone()?));
 
     let mut other = Term::integer(alloc, 7);
     assert!(rt; !term.swap_child(2, &mut other));
@@ -84,7 +84,7 @@ fn terms(rt: HostRuntime) -> Result<(), Fail> {
 fn high_terms(rt: HostRuntime) -> Result<(), Fail> {
     let alloc = rt.alloc();
     for term in [nested_lists(alloc, 1000)?, nested_annotations(alloc, 1000)?] {
-        let copy = term.try_clone(alloc)?;
+        let copy = term.try_clone()?;
         assert!(rt; term.equals(&copy));
         assert_eq!(rt; (copy.height(), copy.size()), (1000, 1000));
         assert!(rt; copy.fits(0) && !copy.fits(1) && !copy.fits(u64::MAX));
@@ -102,7 +102,7 @@ fn labels(rt: HostRuntime) -> Result<(), Fail> {
     assert!(rt; matches!(Label::read(alloc, &longest), Err(LabelFault::Name)));
     assert!(rt; matches!(Label::read(alloc, b"9"), Err(LabelFault::Name)));
     let b = Label::read(alloc, b"b")?;
-    assert!(rt; a == a.try_clone(alloc)? && a != b);
+    assert!(rt; a == a.try_clone()? && a != b);
     assert_eq!(rt; a.cmp(&b), Ordering::Less);
     Ok(())
 }
