@@ -51,10 +51,10 @@ pub enum Refusal {
     /// A term doesn't fit at its level.
     #[error("big")]
     Big,
-    /// There are fewer steps to undo.
+    /// There are fewer steps to undo than asked for.
     #[error("noundo")]
     NoUndo,
-    /// There are fewer steps to redo.
+    /// There are fewer steps to redo than asked for.
     #[error("noredo")]
     NoRedo,
     /// A group is open.

@@ -120,16 +120,16 @@ impl Session {
         &self.snapshots[self.position]
     }
 
-    // Makes these the contents now, by one step. Its place is reserved before anything changes.
+    // Makes these the contents now, by one step. Where something later is cut, there is room, so a
+    // refused growth leaves all as it was.
     fn change(&mut self, next: Snapshot) -> Result<(), NoMemory>
         requires { IsSoundContents next }
         ensures ok { OnOk result (self.new ≡ changed next self.old) }
         ensures err { OnErr result (self.new ≡ self.old) }
         ensures sound { IsSound self.new }
     {
-        self.snapshots.try_reserve(1)?;
         self.snapshots.truncate(self.position + 1);
-        self.snapshots.push(next).unwrap();
+        self.snapshots.push(next)?;
         self.position += 1;
         Ok(())
     }
