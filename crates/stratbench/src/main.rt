@@ -13,7 +13,7 @@ mod write;
 
 use run::{RunFault, Summary, run, status};
 use session_core::Session;
-use std::io::{BufReader, BufWriter};
+use std::io::BufWriter;
 use std::process::ExitCode;
 
 fn main(rt: HostRuntime) -> ExitCode {
@@ -30,11 +30,8 @@ fn answer_input(rt: &HostRuntime) -> Result<Summary, RunFault> {
     let Ok(mut session) = Session::new(alloc) else {
         return Err(RunFault::Memory);
     };
-    let Ok(mut reader) = BufReader::new(alloc, rt.stdin()) else {
-        return Err(RunFault::Memory);
-    };
     let Ok(mut writer) = BufWriter::new(alloc, rt.stdout()) else {
         return Err(RunFault::Memory);
     };
-    run(alloc, &mut session, &mut reader, &mut writer)
+    run(alloc, &mut session, &mut rt.stdin(), &mut writer)
 }
