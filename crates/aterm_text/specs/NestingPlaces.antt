@@ -2,13 +2,14 @@
 use Rattle.std.specs.Prelude.{ℕ, ◌==◌, if◌then◌else◌, List}
 use Rattle.aterm_text.specs.declared.brackets.Place.{Place}
 use Rattle.aterm_text.specs.declared.brackets.Place.TheVariants.{OutsideQuotes, InsideQuotes, BehindBackslash}
+use Rattle.aterm_text.specs.Signs.{quote, backslash}
 use Rattle.aterm_text.specs.Nesting.{outside_quotes, inside_quotes, behind_backslash, open_after}
 
 -- where the byte behind b stands, where b stands at p
 abbrev pub place_after : Place → ℕ → Place
-place_after OutsideQuotes b = if (b == 34) then InsideQuotes else OutsideQuotes
+place_after OutsideQuotes b = if (b == quote) then InsideQuotes else OutsideQuotes
 place_after InsideQuotes b =
-    if (b == 34) then OutsideQuotes else if (b == 92) then BehindBackslash else InsideQuotes
+    if (b == quote) then OutsideQuotes else if (b == backslash) then BehindBackslash else InsideQuotes
 place_after BehindBackslash b = InsideQuotes
 
 -- how many brackets are open behind b at p, where n were before it

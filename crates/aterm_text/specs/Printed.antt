@@ -1,4 +1,4 @@
--- The one printed spelling of a term: no white space, no brackets without need.
+-- The one printed spelling of a term: no white space between tokens, no brackets without need.
 use Rattle.std.specs.Prelude.{ℕ, ◌+◌, ◌/◌, ◌%◌, ◌==◌, ◌&&◌, nat_lt, List, [], ◌∷◌, ◌++◌, if◌then◌else◌}
 use Rattle.std.specs.List.{flat_map}
 use Rattle.std.specs.Fmt.{signed_decimal}

@@ -1,5 +1,6 @@
 -- Words for the parts of the printer.
 use Rattle.std.specs.Prelude.{◌≡◌, ℕ, Bool, ◌==◌, ◌&&◌, not, nat_lt, List, ◌++◌}
+use Rattle.aterm_text.specs.Signs.{quote, backslash}
 
 -- the new list is the old one with something behind it
 pub record Extends (old new : List ℕ) : Type 0 where
@@ -8,4 +9,4 @@ pub record Extends (old new : List ℕ) : Type 0 where
 
 -- this byte stands as it is in a quoted name
 abbrev pub is_plain : ℕ → Bool
-is_plain b = nat_lt 31 b && nat_lt b 127 && not (b == 34) && not (b == 92)
+is_plain b = nat_lt 31 b && nat_lt b 127 && not (b == quote) && not (b == backslash)

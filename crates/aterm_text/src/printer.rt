@@ -16,7 +16,8 @@ use term_core::{Kind, Name, NoMemory, Term};
 
 const QUOTE: u8 = b'"';
 
-/// Appends the one printed spelling of the term, which has no white space and is read as this term.
+/// Appends the one printed spelling of the term, which has no white space between tokens and is read
+/// as this term.
 /// It recurses as deep as the term is high.
 ///
 /// Where a growth of memory is refused, `out` is as before. Its capacity never shrinks.

@@ -3,6 +3,7 @@
 use crate::{ReadFault, after_blanks, is_blank, print, read, read_annotations};
 use std::alloc::Global;
 use std::test::Fail;
+use term_core::Term;
 
 // What is printed of the term that the text spells.
 fn printed(alloc: Global, text: &[u8]) -> Result<Vec<u8>, Fail> {
@@ -82,7 +83,11 @@ fn texts_that_spell_no_term(rt: HostRuntime) {
 #[test]
 fn annotation_texts(rt: HostRuntime) -> Result<(), Fail> {
     let alloc = rt.alloc();
-    assert_eq!(rt; read_annotations(alloc, b" { a , 1 } ")?.len(), 2);
+    let annotations = read_annotations(alloc, b" { a , 1 } ")?;
+    let bearer = Term::list(alloc, Vec::new(alloc)).with_annotations(annotations);
+    let mut out = Vec::new(alloc);
+    print(&bearer, &mut out)?;
+    assert_eq!(rt; out.as_slice(), b"[]{a,1}".as_slice());
     assert_eq!(rt; read_annotations(alloc, b"{}")?.len(), 0);
     let table: [&[u8]; 6] = [b"", b"a", b"{a", b"{a}{b}", b"{a,}", b"a{b}"];
     for text in table {

@@ -12,7 +12,7 @@ ghost use Rattle.stratbench.specs.CommandView.{form as form_seen};
 use aterm_text::{after_blanks, is_blank};
 use session_core::Refusal;
 use std::alloc::Global;
-use term_core::{Label, LabelFault};
+use term_core::Label;
 
 /// A command, with what it names.
 #[derive(Drop)]
@@ -28,8 +28,7 @@ pub enum Command<'a> {
 }
 
 impl<'a> Command<'a> {
-    /// Reads a command. It is refused for its form, for its name, or for want of memory, in this
-    /// order; `undo` and `redo` take no memory.
+    /// Reads a command. Its form is tested before its name. `undo` and `redo` take no memory.
     pub fn read(alloc: Global, command: &'a [u8]) -> Result<Command<'a>, Refusal>
         ensures ok { IfOk result (λ read. command_of command.now ≡ Ok (form_seen read)) }
         ensures undo_or_redo { IfOk result (λ read. begins_undo_or_redo command.now
@@ -105,11 +104,7 @@ fn read_label(alloc: Global, name: &[u8]) -> Result<Label, Refusal>
     ensures refused { IfErr result (λ refusal. (refusal ≡ Refusal.Memory)
         ⊎ ((refusal ≡ Refusal.Name) × (label_of name.now ≡ None))) }
 {
-    match Label::read(alloc, name) {
-        Ok(label) => Ok(label),
-        Err(LabelFault::Name) => Err(Refusal::Name),
-        Err(LabelFault::Memory) => Err(Refusal::Memory),
-    }
+    Ok(Label::read(alloc, name)?)
 }
 
 // ---- words

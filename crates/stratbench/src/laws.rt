@@ -8,5 +8,6 @@ use aterm_text::laws::one_term;
 pub fn one_run()
     ensures { OneRun }
 {
+    // Called for its contract: at most one tree comes of a text.
     one_term();
 }

@@ -22,13 +22,13 @@ pub struct Summary {
     pub refused: u64,
 }
 
-/// Why a run ended before its last command was answered.
+/// Why a run didn't come to its end.
 #[derive(Clone, Copy, Debug, PartialEq, Eq, Error)]
 pub enum RunFault {
     /// A read failed.
     #[error("read fault")]
     Read,
-    /// A write failed, or took no byte.
+    /// A write or the flush failed, or a write took no byte.
     #[error("write fault")]
     Write,
     /// There were 1,000,000,000 reads, and the end wasn't reached.

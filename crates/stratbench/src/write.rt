@@ -19,6 +19,7 @@ pub fn write_whole<W: Write>(writer: &mut W, bytes: &[u8]) -> Result<(), WriteFa
         × WritesFront (W.contents writer.old) (W.contents writer.new) bytes.now lost) }
 {
     let mut rest = bytes;
+    // No run comes to this bound: it is there so that the loop ends.
     for _ in 0..u64::MAX {
         if rest.is_empty() {
             break;

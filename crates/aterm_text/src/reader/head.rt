@@ -19,7 +19,7 @@ pub enum Head {
     Tuple,
 }
 
-// The head of the term at the front, behind white space or none, and what follows it.
+/// The head of the term at the front, behind white space or none, and what follows it.
 pub fn first_head(alloc: Global, text: &[u8]) -> Result<(Head, &[u8]), ReadFault>
     ensures found { IfOk result (λ found. Begins found.0 text.now found.1.now) }
     ensures shorter { IfOk result (λ found. length found.1.now < length text.now) }

@@ -1,5 +1,5 @@
 //! The machine that reads a term: a state, the open brackets and the rest of the text. Each step
-//! takes at least one byte, and looks at no byte before the rest.
+//! but the last takes at least one byte, and none looks at a byte before the rest.
 
 ghost use Rattle.std.specs.Prelude.{◌≡◌, ◌≢◌, ◌<◌, ◌∷◌, [], ℕ, List, IfOk, Err, length};
 ghost use Rattle.term_core.specs.Tree.{Tree, Symbol};
@@ -197,8 +197,8 @@ fn make_step<'a>(
     }
 }
 
-/// Runs the machine to its end, where no bracket is open yet.
-pub fn finish(alloc: Global, start: State, text: &[u8]) -> Result<Term, ReadFault>
+/// Runs the machine from a state to its end, where no bracket is open yet.
+pub fn read_from(alloc: Global, start: State, text: &[u8]) -> Result<Term, ReadFault>
     requires { IsBare start }
     ensures found { IfOk result (λ t. Unread start [] text.now t) }
     ensures only { IfOk result (λ t. (u : Tree) → Unread start [] text.now u → u ≡ t) }

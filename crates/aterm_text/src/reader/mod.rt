@@ -11,7 +11,7 @@ mod machine;
 mod scan;
 
 use crate::{MAX_NESTING, nesting};
-use machine::{State, finish};
+use machine::{State, read_from};
 pub use scan::{after_blanks, is_blank};
 use std::alloc::{AllocFailed, Global};
 use term_core::{NoMemory, Term};
@@ -31,7 +31,10 @@ pub enum ReadFault {
     Memory,
 }
 
-/// The term that the text spells, by the grammar of the ATerm format.
+/// The term that the text spells, by the grammar of the textual ATerm format.
+///
+/// Errors: `Deep` where more than 1,000 brackets are open at one place, tested first; `Term` where
+/// the text spells no term; `Memory` where a growth of memory is refused.
 pub fn read(alloc: Global, text: &[u8]) -> Result<Term, ReadFault>
     ensures deep { (result ≡ Err ReadFault.Deep) ↔ (MAX_NESTING < nesting_of text.now) }
     ensures spelled { IfOk result (λ t. Spells text.now t) }
@@ -39,11 +42,11 @@ pub fn read(alloc: Global, text: &[u8]) -> Result<Term, ReadFault>
     ensures no_term { result ≡ Err ReadFault.Term → (u : Tree) → Spells text.now u → ⊥ }
 {
     check_nesting(text)?;
-    finish(alloc, State::Expected, text)
+    read_from(alloc, State::Expected, text)
 }
 
 /// The list of annotations that the text spells: an annotation part alone, with white space round
-/// it.
+/// it. Its errors are those of [`read`].
 pub fn read_annotations(alloc: Global, text: &[u8]) -> Result<Vec<Term>, ReadFault>
     ensures deep { (result ≡ Err ReadFault.Deep) ↔ (MAX_NESTING < nesting_of text.now) }
     ensures spelled { IfOk result (λ ts. SpellsAnnotations text.now ts.items) }
@@ -58,7 +61,7 @@ pub fn read_annotations(alloc: Global, text: &[u8]) -> Result<Vec<Term>, ReadFau
     };
     // What stands behind the empty list is read as its annotations.
     let bearer = Term::list(alloc, Vec::new(alloc));
-    match finish(alloc, State::Base(bearer), text) {
+    match read_from(alloc, State::Base(bearer), text) {
         Ok(mut term) => {
             let mut annotations = Vec::new(alloc);
             term.swap_annotations(&mut annotations);

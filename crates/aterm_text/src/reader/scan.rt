@@ -44,7 +44,7 @@ fn after_byte(byte: u8, text: &[u8]) -> Option<&[u8]>
     }
 }
 
-// What follows this sign, where it comes first, behind white space or none.
+/// What follows this sign, where it comes first, behind white space or none.
 pub fn after_sign(sign: u8, text: &[u8]) -> Option<&[u8]>
     ensures some { IfSome result (λ rest. NextSign sign text.now rest.now) }
     ensures shorter { IfSome result (λ rest. length rest.now < length text.now) }
@@ -53,7 +53,7 @@ pub fn after_sign(sign: u8, text: &[u8]) -> Option<&[u8]>
     after_byte(sign, after_blanks(text))
 }
 
-// How many bytes at the front may go on a word.
+/// How many bytes at the front may go on a word.
 pub fn word_length(text: &[u8]) -> usize
     ensures value { result ≡ prefix_len continues_word text.now }
     ensures bound { result ≤ length text.now }
@@ -80,7 +80,7 @@ fn integer_length(text: &[u8]) -> usize
     }
 }
 
-// The integer at the front, and what follows it.
+/// The integer at the front, and what follows it.
 pub fn integer(text: &[u8]) -> Option<(i64, &[u8])>
     ensures some { IfSome result (λ found.
         IsInteger (take (integer_len text.now) text.now) found.0
@@ -164,7 +164,7 @@ fn item(text: &[u8]) -> Option<(u8, &[u8])>
     }
 }
 
-// The bytes that the items up to the closing quote stand for, and the text behind it.
+/// The bytes that the items up to the closing quote stand for, and the text behind it.
 pub fn quoted(alloc: Global, text: &[u8]) -> Result<(Vec<u8>, &[u8]), ReadFault>
     ensures found { IfOk result (λ found. ReadsItems found.0.items text.now found.1.now) }
     ensures shorter { IfOk result (λ found. length found.1.now < length text.now) }

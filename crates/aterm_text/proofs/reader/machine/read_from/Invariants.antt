@@ -1,6 +1,6 @@
 use Rattle.std.proofs.Common.{[], length}
 use Rattle.aterm_text.specs.Unread.{Continues, IsBare}
-use Rattle.aterm_text.proofs.reader.machine.finish.Given as goal
+use Rattle.aterm_text.proofs.reader.machine.read_from.Given as goal
 
 -- what the whole text had to spell, the rest has to spell now
 abbrev pub invariant-loop-levels : goal.invariant-loop-levels
