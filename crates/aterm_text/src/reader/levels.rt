@@ -1,6 +1,6 @@
 //! The open brackets of a text that is being read, with what stands in them so far.
 
-ghost use Rattle.std.specs.Prelude.{◌≡◌, ◌∷◌, ◌++◌, [], ℕ, List, IfOk, IfSome, IfNone, OnOk, MatchOption};
+ghost use Rattle.std.specs.Prelude.{◌≡◌, ◌≢◌, ◌∷◌, ◌++◌, [], ℕ, List, IfOk, IfSome, IfNone, OnOk, MatchOption};
 ghost use Rattle.aterm_text.specs.Level.{Level, new_level, first_closing, add_term};
 
 use std::alloc::Global;
@@ -79,12 +79,13 @@ impl Levels {
         }
     }
 
-    /// Adds a term to the innermost bracket. Where none is open, the term is dropped.
+    /// Adds a term to the innermost bracket.
     pub fn add(&mut self, term: Term) -> Result<(), NoMemory>
+        requires { self.old ≢ [] }
         ensures ok { OnOk result (self.new ≡ add_term term self.old) }
     {
         let Some(last) = self.brackets.len().checked_sub(1) else {
-            return Ok(());
+            unreachable!()
         };
         self.brackets[last].done.push(term)?;
         Ok(())
