@@ -1,6 +1,7 @@
 pub mod Word
 pub mod Tree
 pub mod TreeCode
+pub mod NameView
 pub mod Kind
 pub mod Size
 pub mod TermView

@@ -1,9 +1,9 @@
 -- Words, quoted names and labels of the textual ATerm format, as lists of bytes.
-use Rattle.std.specs.Prelude.{ℕ, Bool, false, List, [], ◌∷◌, ◌||◌, ◌&&◌, ◌==◌, length, nat_le, Some, None, if◌then◌else◌}
+use Rattle.std.specs.Prelude.{ℕ, Bool, false, List, [], ◌∷◌, ◌||◌, ◌&&◌, ◌==◌, length, take, drop, nat_le, Some, None, if◌then◌else◌}
 use Rattle.std.specs.declared.option.Option.{Option}
 use Rattle.term_core.specs.declared.label.TheConstants.{MAX_LABEL}
 use Rattle.std.specs.Char.{is_ascii_alphabetic, is_ascii_alphanumeric}
-use Rattle.std.specs.List.{list_all}
+use Rattle.std.specs.List.{list_all, prefix_len}
 
 -- A word begins with an ASCII letter or `_`.
 abbrev pub begins_word : ℕ → Bool
@@ -19,6 +19,13 @@ continues_word b =
 abbrev pub is_word : List ℕ → Bool
 is_word [] = false
 is_word (b ∷ bs) = begins_word b && list_all continues_word bs
+
+-- the word that a text begins with, as long as it can be, and what follows it
+abbrev pub first_word : List ℕ → Option (List ℕ × List ℕ)
+first_word [] = None
+first_word (b ∷ bs) =
+    let n = prefix_len continues_word bs in
+    if (begins_word b) then Some (b ∷ take n bs, drop n bs) else None
 
 -- A label is a word of at most 64 bytes: this text, if it is one.
 abbrev pub label_of : List ℕ → Option (List ℕ)

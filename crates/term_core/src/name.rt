@@ -1,24 +1,40 @@
 //! Names: words and quoted names.
 
-ghost use Rattle.std.specs.Prelude.{◌≡◌, ◌↔◌, ◌⊎◌, IsTrue, IfOk, IfSome, Ok, None, true, false};
-ghost use Rattle.std.specs.List.{list_all};
-ghost use Rattle.term_core.specs.Word.{begins_word, continues_word, is_word};
+ghost use Rattle.std.specs.Prelude.{◌≡◌, ◌↔◌, ◌≤◌, ◌⊎◌, IsTrue, IfOk, IfSome, Ok, Some, None, true, false, length};
+ghost use Rattle.std.specs.List.{list_all, prefix_len};
+ghost use Rattle.term_core.specs.Word.{begins_word, continues_word, is_word, first_word};
+ghost use Rattle.term_core.specs.NameView.{text_of, IsText};
 
 use crate::NoMemory;
 use std::alloc::Global;
 use std::marker::Model;
+use std::rc::Rc;
+
+/// The greatest length of a name that lies in the value itself, in bytes.
+pub const SHORT: usize = 13;
 
 /// A name: a list of bytes that is a word or is quoted. The word `f` and the quoted name `"f"` are
 /// two names.
 #[derive(Drop)]
 pub struct Name {
-    text: Vec<u8>,
-    quoted: bool,
+    text: Text,
+}
+
+// Short names lie in the value itself, without an allocation; long ones are shared.
+#[derive(Drop)]
+enum Text {
+    Short {
+        quoted: bool,
+        length: u8,
+        bytes: [u8; SHORT],
+    },
+    Long {
+        quoted: bool,
+        bytes: Rc<Vec<u8>>,
+    },
 }
 
 impl Model for Name {
-    ghost use Rattle.std.specs.Prelude.{◌||◌, IsTrue};
-    ghost use Rattle.term_core.specs.Word.{is_word};
     ghost use Rattle.term_core.specs.Tree.{Symbol};
     ghost use Rattle.term_core.specs.TreeCode.{symbol_code};
 
@@ -26,9 +42,11 @@ impl Model for Name {
 
     ghost coded = { symbol_code };
 
-    ghost view = { λ n. record { text = n.text.items; is_quoted = n.quoted } };
+    ghost use Rattle.term_core.specs.NameView.{name_of, IsName};
 
-    ghost invariant = { λ n. IsTrue (n.quoted || is_word n.text.items) };
+    ghost view = { name_of };
+
+    ghost invariant = { IsName };
 }
 
 /// Whether a word may begin with this byte: an ASCII letter or `_`.
@@ -61,6 +79,44 @@ pub fn is_word(text: &[u8]) -> bool
     begins_word(*first) && all_continue_word(rest)
 }
 
+// How many bytes at the front may go on a word.
+fn word_length(rest: &[u8]) -> usize
+    ensures value { result ≡ prefix_len continues_word rest.now }
+    ensures bound { result ≤ length rest.now }
+{
+    rest.iter().take_while(|b| continues_word(**b)).count()
+}
+
+impl Text {
+    // These bytes, where they are to be copied.
+    fn new(alloc: Global, quoted: bool, text: &[u8]) -> Result<Text, NoMemory>
+        ensures value { IfOk result (λ made. text_of made
+            ≡ record { text = text.now; is_quoted = quoted }) }
+        ensures short { IfOk result (λ made. IsText made) }
+    {
+        if text.len() <= SHORT {
+            return Ok(Text::short(quoted, text));
+        }
+        let bytes = Vec::from_slice(alloc, text)?;
+        let bytes = Rc::new(alloc, bytes)?;
+        Ok(Text::Long { quoted, bytes })
+    }
+
+    fn short(quoted: bool, text: &[u8]) -> Text
+        requires { length text.now ≤ SHORT }
+        ensures value { text_of result ≡ record { text = text.now; is_quoted = quoted } }
+        ensures short { IsText result }
+    {
+        let mut bytes = [0; SHORT];
+        bytes[..text.len()].copy_from_slice(text);
+        Text::Short {
+            quoted,
+            length: text.len() as u8,
+            bytes,
+        }
+    }
+}
+
 impl Name {
     /// The word of these bytes, or `None` where they are no word.
     pub fn word(alloc: Global, text: &[u8]) -> Result<Option<Name>, NoMemory>
@@ -71,26 +127,36 @@ impl Name {
         if !is_word(text) {
             return Ok(None);
         }
-        let text = Vec::from_slice(alloc, text)?;
-        Ok(Some(Name {
-            text,
-            quoted: false,
-        }))
+        let text = Text::new(alloc, false, text)?;
+        Ok(Some(Name { text }))
+    }
+
+    /// The word that the text begins with, as long as it can be, and what follows it; `None` where
+    /// the text begins with no word.
+    pub fn first_word(alloc: Global, text: &[u8]) -> Result<Option<(Name, &[u8])>, NoMemory>
+        ensures no_word { (result ≡ Ok None) ↔ (first_word text.now ≡ None) }
+        ensures word { IfOk result (λ found. IfSome found (λ found.
+            first_word text.now ≡ Some (found.0.text, found.1.now))) }
+        ensures unquoted { IfOk result (λ found. IfSome found (λ found.
+            found.0.is_quoted ≡ false)) }
+    {
+        let Some((first, rest)) = text.split_first() else {
+            return Ok(None);
+        };
+        if !begins_word(*first) {
+            return Ok(None);
+        }
+        let (front, rest) = text.split_at(1 + word_length(rest));
+        let text = Text::new(alloc, false, front)?;
+        Ok(Some((Name { text }, rest)))
     }
 
     /// The quoted name of these bytes, which may be any.
     pub fn quoted(alloc: Global, text: &[u8]) -> Result<Name, NoMemory>
         ensures { IfOk result (λ name. name ≡ record { text = text.now; is_quoted = true }) }
     {
-        let text = Vec::from_slice(alloc, text)?;
-        Ok(Name::quoted_from(text))
-    }
-
-    /// The quoted name of these bytes. It takes no memory.
-    pub fn quoted_from(text: Vec<u8>) -> Name
-        ensures { result ≡ record { text = text.items; is_quoted = true } }
-    {
-        Name { text, quoted: true }
+        let text = Text::new(alloc, true, text)?;
+        Ok(Name { text })
     }
 
     /// The bytes of the name, without quotes and escapes.
@@ -98,31 +164,47 @@ impl Name {
         ensures value { result.now ≡ self.now.text }
         ensures word { IsTrue self.now.is_quoted ⊎ IsTrue (is_word result.now) }
     {
-        self.text.as_slice()
+        match &self.text {
+            Text::Short { length, bytes, .. } => &bytes[..usize::from(*length)],
+            Text::Long { bytes, .. } => bytes.as_slice(),
+        }
     }
 
     /// Whether the name is quoted.
     pub fn is_quoted(&self) -> bool
         ensures { result ≡ self.now.is_quoted }
     {
-        self.quoted
+        match &self.text {
+            Text::Short { quoted, .. } | Text::Long { quoted, .. } => *quoted,
+        }
     }
 
     /// Whether the two names have the same bytes and both are words or both are quoted.
     pub fn equals(&self, other: &Name) -> bool
         ensures { IsTrue result ↔ (self.now ≡ other.now) }
     {
-        self.is_quoted() == other.is_quoted() && self.text == other.text
+        self.is_quoted() == other.is_quoted() && self.bytes() == other.bytes()
     }
 
-    /// An equal name.
+    /// An equal name. It takes no memory: a short name is copied in place, and a long one shared.
     pub fn try_clone(&self) -> Result<Name, NoMemory>
         ensures { IfOk result (λ name. name ≡ self.now) }
     {
-        let text = Vec::from_slice(*self.text.allocator(), &self.text)?;
-        Ok(Name {
-            text,
-            quoted: self.is_quoted(),
-        })
+        let text = match &self.text {
+            Text::Short {
+                quoted,
+                length,
+                bytes,
+            } => Text::Short {
+                quoted: *quoted,
+                length: *length,
+                bytes: *bytes,
+            },
+            Text::Long { quoted, bytes } => Text::Long {
+                quoted: *quoted,
+                bytes: bytes.clone()?,
+            },
+        };
+        Ok(Name { text })
     }
 }

@@ -260,13 +260,10 @@ impl Term {
         ensures { IfOk result (λ term. term ≡ self.now) }
     {
         let alloc = *self.children.allocator();
-        let node = self.node.try_clone()?;
-        let children = clone_all(alloc, &self.children)?;
-        let annotations = clone_all(alloc, &self.annotations)?;
         Ok(Term {
-            node,
-            children,
-            annotations,
+            node: self.node.try_clone()?,
+            children: clone_list(alloc, &self.children)?,
+            annotations: clone_list(alloc, &self.annotations)?,
         })
     }
 }
@@ -347,6 +344,17 @@ fn room_left_by_all(terms: &[Term], height: u64, mut size: u64) -> Option<u64>
         size = left;
     }
     Some(size)
+}
+
+// Nothing is called for an empty list.
+#[cycle(try_clone)]
+fn clone_list(alloc: Global, terms: &[Term]) -> Result<Vec<Term>, NoMemory>
+    ensures { IfOk result (λ all. all.items ≡ terms.now) }
+{
+    if terms.is_empty() {
+        return Ok(Vec::new(alloc));
+    }
+    clone_all(alloc, terms)
 }
 
 #[cycle(try_clone)]

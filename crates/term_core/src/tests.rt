@@ -3,6 +3,7 @@
 use crate::{Kind, Label, LabelFault, Name, Term};
 use std::alloc::Global;
 use std::cmp::Ordering;
+use std::mem::size_of;
 use std::test::Fail;
 
 // A list in a list, as high as told.
@@ -44,6 +45,30 @@ fn names(rt: HostRuntime) -> Result<(), Fail> {
     ] {
         assert!(rt; Name::word(alloc, text)?.is_none());
     }
+    Ok(())
+}
+
+// Names on both sides of the length up to which they lie in the value itself.
+#[test]
+fn short_and_long_names(rt: HostRuntime) -> Result<(), Fail> {
+    let alloc = rt.alloc();
+    let letters = b"abcdefghijklmnopqrstuvwxyz";
+    for length in 0..27usize {
+        let text = letters.get(..length).ok_or("no such front")?;
+        let name = Name::quoted(alloc, text)?;
+        let copy = name.try_clone()?;
+        assert_eq!(rt; copy.bytes(), text);
+        assert!(rt; copy.is_quoted() && copy.equals(&name));
+        assert!(rt; !copy.equals(&Name::quoted(alloc, b"abc de")?));
+    }
+    let (first, rest) = Name::first_word(alloc, b"ab-c(d)")?.ok_or("no word")?;
+    assert_eq!(rt;
+        (first.bytes(), rest),
+        (b"ab-c".as_slice(), b"(d)".as_slice())
+    );
+    assert!(rt; Name::first_word(alloc, b"(d)")?.is_none());
+    assert_eq!(rt; size_of::<Name>(), 16);
+    assert_eq!(rt; size_of::<Term>(), 72);
     Ok(())
 }
 

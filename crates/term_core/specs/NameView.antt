@@ -1,0 +1,24 @@
+-- What the fields of a `Name` stand for.
+use Rattle.std.specs.Prelude.{◌≤◌, ◌||◌, IsTrue, take}
+use Rattle.term_core.specs.Word.{is_word}
+use Rattle.term_core.specs.Tree.{Symbol}
+use Rattle.term_core.specs.declared.name.TheConstants.{SHORT}
+use Rattle.term_core.specs.declared.name.Text.{Text}
+use Rattle.term_core.specs.declared.name.Text.TheVariants.{Short, Long}
+use Rattle.term_core.specs.declared.name.Name.TheInside.{Inside}
+
+abbrev pub text_of : Text → Symbol
+text_of (Short quoted n bytes) = record { text = take n bytes; is_quoted = quoted }
+text_of (Long quoted bytes) = record { text = bytes.value.items; is_quoted = quoted }
+
+-- a short name lies within its array
+abbrev pub IsText : Text → Type 0
+IsText (Short quoted n bytes) = n ≤ SHORT
+IsText (Long quoted bytes) = Unit {0}
+
+abbrev pub name_of : Inside → Symbol
+name_of a = text_of a.text
+
+-- a name that isn't quoted is a word
+abbrev pub IsName : Inside → Type 0
+IsName a = IsText a.text × IsTrue ((name_of a).is_quoted || is_word (name_of a).text)
