@@ -1,123 +1,393 @@
 -- The steps of the machine, as the answers of its functions cite them: each premise is what a call ensures.
-use Rattle.std.proofs.Common.{◌≡◌, ℕ, ℤ, ◌<◌, List, [], ◌∷◌, ◌++◌, length, Some, Ok, Err, IfOk, refl, sym, ap, ◌∙◌, subst}
+use Rattle.std.proofs.Common.{◌≡◌, ℕ, ℤ, ◌<◌, ◌≤◌, List, [], ◌∷◌, ◌++◌, length, Some, None, Ok, Err, IfOk, refl, sym, ap, ◌∙◌, subst, arith}
+use Rattle.std.specs.declared.option.Option.{Option}
 use Rattle.std.proofs.lemmas.Int.{to_z-of_z}
 use Rattle.std.specs.Int.{w64}
 use mir.Val.{to_z, of_z}
-use Rattle.std.specs.declared.result.Result.{Result}
-use Rattle.aterm_text.specs.declared.reader.ReadFault.{ReadFault}
-use Rattle.term_core.specs.Tree.{Symbol, Tree, integer_term, application_term, with_annotations}
-use Rattle.aterm_text.specs.Tokens.{NextSign, NextName}
-use Rattle.aterm_text.specs.Heads.{Begins}
-use Rattle.aterm_text.specs.Level.{Level, closing_of, with_term, new_level, add_term, first_closing}
-use Rattle.aterm_text.specs.Unread.{Continues, IsStuck, IsBare, Goes, GoesOn, IsClosed, closed}
+use Rattle.term_core.specs.Tree.{Symbol, Tree, integer_term, application_term, list_term, tuple_term, with_annotations}
+use Rattle.aterm_text.specs.Tokens.{NextSign, NextName, without_blanks}
+use Rattle.aterm_text.specs.Heads.{Begins, NoTerm}
+use Rattle.aterm_text.specs.Level.{Bracket, arguments, elements, components, annotating, Level, closing_of, with_term, new_level}
+use Rattle.aterm_text.specs.Stack.{Stack, Group, no_terms, with_top, inside, first_closing, closes}
+use Rattle.aterm_text.specs.Unread.{Reading, expected, entered, base, whole, Continues, IsStuck, IsEnd, Holds, Before, Stands, GoesOn, Goes, Leads, IsLost, IsClosed, opened_of, closed}
 use Rattle.aterm_text.specs.declared.reader.head.Head.{Head as Beginning}
 use Rattle.aterm_text.specs.declared.reader.head.Head.TheVariants.{Integer, List as ListHead, Tuple as TupleHead}
-use Rattle.aterm_text.specs.declared.reader.levels.Opened.TheVariants.{Arguments, List as AList, Tuple, Annotations}
+use Rattle.aterm_text.specs.declared.reader.stack.Opened.{Opened}
+use Rattle.aterm_text.specs.declared.reader.stack.Opened.TheVariants.{Arguments, List as AList, Tuple, Annotations}
 use Rattle.aterm_text.specs.declared.reader.machine.State.{State}
 use Rattle.aterm_text.specs.declared.reader.machine.State.TheVariants.{Expected, Entered, Base, Whole}
 use Rattle.aterm_text.specs.declared.reader.machine.Step.{Step}
-use Rattle.aterm_text.proofs.StepLemmas.{step-integer, step-list, step-tuple, step-arguments, step-constant, step-closing, step-entered, step-annotations, step-comma, step-close, stuck-whole, closed-bare, goes_after}
+use Rattle.aterm_text.specs.declared.reader.ReadFault.{ReadFault}
+use Rattle.std.specs.declared.result.Result.{Result}
+use Rattle.aterm_text.specs.declared.reader.machine.Step.TheVariants.{More, Done}
+use Rattle.aterm_text.proofs.StepLemmas.{step-integer, step-list, step-tuple, step-arguments, step-constant, step-closing, step-entered, step-annotations, step-bare, step-comma, step-close, stuck-whole, stuck-no_term, end-whole, continues_on, stuck_after, end_after}
+use Rattle.aterm_text.proofs.TrimLemmas.{continues-trimmed}
 
-module _ (levels levels' : List Level) (x y : List ℕ) (shorter : length y < length x) where
-  pub goes-integer : (head : Beginning) (z : ℤ) (t : Tree) → Begins head x y → head ≡ Integer z → t ≡ integer_term (to_z w64 (of_z w64 z)) → levels' ≡ levels → GoesOn Expected levels x (Base t) levels' y
-  goes-integer head z t h e converted same =
+-- ---- what the state tells of the reading
+
+pub at_expected : (r : Reading) (levels : List Level) (s : Stack) → Stands r levels Expected s → (r ≡ expected) × Holds levels s
+at_expected expected levels s h = (refl, h.1)
+at_expected entered levels s h = let no = h.0 in absurd (cc)
+at_expected (base t) levels s h = let no = h.1 in absurd (cc)
+at_expected (whole t) levels s h = let no = h.1 in absurd (cc)
+
+pub at_entered : (r : Reading) (levels : List Level) (s : Stack) → Stands r levels Entered s → (r ≡ entered) × Holds levels s
+at_entered expected levels s h = let no = h.0 in absurd (cc)
+at_entered entered levels s h = (refl, h.1)
+at_entered (base t) levels s h = let no = h.1 in absurd (cc)
+at_entered (whole t) levels s h = let no = h.1 in absurd (cc)
+
+-- the term that was read last, and the stack below it
+pub record Last (levels : List Level) (s : Stack) (t : Tree) : Type 0 where
+  pub below : Stack
+  pub is : s ≡ with_top t below
+  pub holds : Holds levels below
+
+pub at_base : (r : Reading) (levels : List Level) (s : Stack) → Stands r levels Base s → (t : Tree) × (r ≡ base t) × (with_annotations t [] ≡ t) × Last levels s t
+at_base expected levels s h = let no = h.0 in absurd (cc)
+at_base entered levels s h = let no = h.0 in absurd (cc)
+at_base (base t) levels s h = (t, refl, h.4, record { below = h.0; is = h.2; holds = h.3 })
+at_base (whole t) levels s h = let no = h.1 in absurd (cc)
+
+pub at_whole : (r : Reading) (levels : List Level) (s : Stack) → Stands r levels Whole s → (t : Tree) × (r ≡ whole t) × Last levels s t
+at_whole expected levels s h = let no = h.0 in absurd (cc)
+at_whole entered levels s h = let no = h.0 in absurd (cc)
+at_whole (base t) levels s h = let no = h.1 in absurd (cc)
+at_whole (whole t) levels s h = (t, refl, record { below = h.0; is = h.2; holds = h.3 })
+
+-- ---- what closes the innermost bracket
+
+closes-opened_of : (o : Bracket) → closes (opened_of o) ≡ closing_of o
+closes-opened_of (arguments name) = refl
+closes-opened_of elements = refl
+closes-opened_of components = refl
+closes-opened_of (annotating t) = refl
+
+closing-inside : (level : Level) (levels : List Level) (s : Stack) → Holds (level ∷ levels) s → first_closing s ≡ Some (closing_of level.opened)
+closing-inside level levels s h = ap first_closing h.1 ∙ ap Some (closes-opened_of level.opened)
+
+closing-top : (level : Level) (levels : List Level) (s : Stack) (t : Tree) → Last (level ∷ levels) s t → first_closing s ≡ Some (closing_of level.opened)
+closing-top level levels s t h = ap first_closing h.is ∙ ap (λ b. first_closing (with_top t b)) h.holds.1 ∙ ap Some (closes-opened_of level.opened)
+
+same_sign : (o : Option ℕ) (a b : ℕ) → o ≡ Some a → o ≡ Some b → a ≡ b
+same_sign o a b h k = let same : Some a ≡ Some b = sym h ∙ k in cc
+
+-- ---- one step after another
+
+pub goes_after : (r r' : Reading) (levels levels' : List Level) (x x' : List ℕ) (step : Step) (s : Stack) → Continues r levels x r' levels' x' → length x' ≤ length x
+    → Goes r' levels' x' step s → Goes r levels x step s
+goes_after r r' levels levels' x x' (More state rest) s c le g = record {
+  reading = g.reading;
+  levels' = g.levels';
+  stands = g.stands;
+  continues = continues_on r r' g.reading levels levels' g.levels' x x' rest.now c g.continues;
+  shorter = omega (arith, g.shorter);
+}
+goes_after r r' levels levels' x x' Done s c le g = (g.0, g.1, end_after r r' levels levels' x x' g.0 c g.2)
+
+pub leads-trimmed : (state : State) (s s' : Stack) (x text : List ℕ) (step : Step) → text ≡ without_blanks x → length text ≤ length x → Leads state s text step s' → Leads state s x step s'
+leads-trimmed state s s' x text step e le leads r levels h =
+    goes_after r r levels levels x text step s' (subst (λ l. Continues r levels x r levels l) (sym e) (continues-trimmed r levels x)) le (leads r levels h)
+
+pub lost-trimmed : (state : State) (s : Stack) (x text : List ℕ) → text ≡ without_blanks x → IsLost state s text → IsLost state s x
+lost-trimmed state s x text e lost r levels h = stuck_after r r levels levels x text (subst (λ l. Continues r levels x r levels l) (sym e) (continues-trimmed r levels x)) (lost r levels h)
+
+-- ---- where a term has to begin
+
+pub lost-no_term : (s : Stack) (x : List ℕ) → NoTerm x → IsLost Expected s x
+lost-no_term s x absent r levels h = subst (λ q. IsStuck q levels x) (sym (at_expected r levels s h).0) (stuck-no_term levels x absent)
+
+module _ (s s' : Stack) (x y : List ℕ) (shorter : length y < length x) where
+  pub leads-integer : (head : Beginning) (z : ℤ) (t : Tree) → Begins head x y → head ≡ Integer z → t ≡ integer_term (to_z w64 (of_z w64 z)) → s' ≡ with_top t s
+      → (r : Reading) (levels : List Level) → Stands r levels Expected s → GoesOn r levels x Base s' y
+  leads-integer head z t h e converted same r levels stands =
+      let at = at_expected r levels s stands in
       let found : Begins (Integer z) x y = subst (λ k. Begins k x y) e h in
       let made : t ≡ integer_term z = converted ∙ ap integer_term (to_z-of_z w64 z found.0.2) in
       record {
-        continues = subst (λ u. Continues Expected levels x (Base u) levels' y) (sym made) (subst (λ l. Continues Expected levels x (Base (integer_term z)) l y) (sym same)
-            (step-integer levels x y z found));
-        bare = subst (λ u. with_annotations u [] ≡ u) (sym made) refl;
+        reading = base (integer_term z);
+        levels' = levels;
+        stands = (s, refl, same ∙ ap (λ u. with_top u s) made, at.1, refl);
+        continues = subst (λ q. Continues q levels x (base (integer_term z)) levels y) (sym at.0) (step-integer levels x y z found);
         shorter = shorter;
       }
 
-  pub goes-list : (head : Beginning) → Begins head x y → head ≡ ListHead → levels' ≡ new_level AList ∷ levels → GoesOn Expected levels x Entered levels' y
-  goes-list head h e same = record {
-    continues = subst (λ l. Continues Expected levels x Entered l y) (sym same) (step-list levels x y (subst (λ k. Begins k x y) e h));
-    bare = tt;
-    shorter = shorter;
-  }
-
-  pub goes-tuple : (head : Beginning) → Begins head x y → head ≡ TupleHead → levels' ≡ new_level Tuple ∷ levels → GoesOn Expected levels x Entered levels' y
-  goes-tuple head h e same = record {
-    continues = subst (λ l. Continues Expected levels x Entered l y) (sym same) (step-tuple levels x y (subst (λ k. Begins k x y) e h));
-    bare = tt;
-    shorter = shorter;
-  }
-
-  pub goes-annotations : (t : Tree) → NextSign 123 x y → levels' ≡ new_level (Annotations t) ∷ levels → GoesOn (Base t) levels x Entered levels' y
-  goes-annotations t next same = record {
-    continues = subst (λ l. Continues (Base t) levels x Entered l y) (sym same) (step-annotations levels t x y next);
-    bare = tt;
-    shorter = shorter;
-  }
-
-module _ (levels levels' : List Level) (name : Symbol) (x a y : List ℕ) (h : NextName name x a) where
-  pub goes-arguments : length y < length x → NextSign 40 a y → levels' ≡ new_level (Arguments name) ∷ levels → GoesOn Expected levels x Entered levels' y
-  goes-arguments shorter next same = record {
-    continues = subst (λ l. Continues Expected levels x Entered l y) (sym same) (step-arguments levels name x a h y next);
-    bare = tt;
-    shorter = shorter;
-  }
-
-  pub goes-constant : (t : Tree) (us : List Tree) → length a < length x → ((b : List ℕ) → NextSign 40 a b → ⊥) → t ≡ application_term name us → us ≡ [] → GoesOn Expected levels x (Base t) levels a
-  goes-constant t us shorter absent made empty =
-      let same : t ≡ application_term name [] = made ∙ ap (application_term name) empty in
+  pub leads-list : (head : Beginning) → Begins head x y → head ≡ ListHead → s' ≡ inside AList [] s
+      → (r : Reading) (levels : List Level) → Stands r levels Expected s → GoesOn r levels x Entered s' y
+  leads-list head h e same r levels stands =
+      let at = at_expected r levels s stands in
       record {
-        continues = subst (λ u. Continues Expected levels x (Base u) levels a) (sym same) (step-constant levels name x a h absent);
-        bare = subst (λ u. with_annotations u [] ≡ u) (sym same) refl;
+        reading = entered;
+        levels' = new_level elements ∷ levels;
+        stands = (refl, (s, same, at.1));
+        continues = subst (λ q. Continues q levels x entered (new_level elements ∷ levels) y) (sym at.0) (step-list levels x y (subst (λ k. Begins k x y) e h));
         shorter = shorter;
       }
 
--- ---- where a bracket is open
-
-module _ (closing : ℕ) (x : List ℕ) where
-  pub goes-closing : (levels levels' : List Level) (state : State) (y : List ℕ) → first_closing levels ≡ Some closing → NextSign closing x y → IsClosed levels state levels' → length y < length x → GoesOn Entered levels x state levels' y
-  goes-closing [] levels' state y e next made shorter = absurd (cc)
-  goes-closing (level ∷ levels) levels' state y e next made shorter =
-      let sign : closing ≡ closing_of level.opened = cc in
+  pub leads-tuple : (head : Beginning) → Begins head x y → head ≡ TupleHead → s' ≡ inside Tuple [] s
+      → (r : Reading) (levels : List Level) → Stands r levels Expected s → GoesOn r levels x Entered s' y
+  leads-tuple head h e same r levels stands =
+      let at = at_expected r levels s stands in
       record {
-        continues = subst (λ s. Continues Entered (level ∷ levels) x s levels' y) (sym made.0) (subst (λ l. Continues Entered (level ∷ levels) x (closed level.opened level.done) l y) (sym made.1)
-            (step-closing level levels x y (subst (λ s. NextSign s x y) sign next)));
-        bare = subst IsBare (sym made.0) (closed-bare level.opened level.done);
+        reading = entered;
+        levels' = new_level components ∷ levels;
+        stands = (refl, (s, same, at.1));
+        continues = subst (λ q. Continues q levels x entered (new_level components ∷ levels) y) (sym at.0) (step-tuple levels x y (subst (λ k. Begins k x y) e h));
         shorter = shorter;
       }
 
-  pub continues-entered : (levels : List Level) → first_closing levels ≡ Some closing → ((y : List ℕ) → NextSign closing x y → ⊥) → Continues Entered levels x Expected levels x
-  continues-entered [] e absent = absurd (cc)
-  continues-entered (level ∷ levels) e absent =
-      let sign : closing_of level.opened ≡ closing = cc in
-      step-entered level levels x (λ y next. absent y (subst (λ s. NextSign s x y) sign next))
+  pub leads-annotations : NextSign 123 x y → s' ≡ inside Annotations [] s → (r : Reading) (levels : List Level) → Stands r levels Base s → GoesOn r levels x Entered s' y
+  leads-annotations next same r levels stands =
+      let at = at_base r levels s stands in
+      record {
+        reading = entered;
+        levels' = new_level (annotating at.0) ∷ levels;
+        stands = (refl, (s, same, (at.3.below, at.3.is, at.3.holds)));
+        continues = subst (λ q. Continues q levels x entered (new_level (annotating at.0) ∷ levels) y) (sym at.1) (step-annotations levels at.0 x y next);
+        shorter = shorter;
+      }
 
-  pub goes-comma : (levels levels' : List Level) (t : Tree) (y : List ℕ) → first_closing levels ≡ Some closing → NextSign 44 x y → levels' ≡ add_term t levels → length y < length x → GoesOn (Whole t) levels x Expected levels' y
-  goes-comma [] levels' t y e next made shorter = absurd (cc)
-  goes-comma (level ∷ levels) levels' t y e next made shorter = record {
-    continues = subst (λ l. Continues (Whole t) (level ∷ levels) x Expected l y) (sym made) (step-comma level levels t x y next);
-    bare = tt;
+module _ (s s' : Stack) (name : Symbol) (x a text : List ℕ) (h : NextName name x a) (trimmed : text ≡ without_blanks a) where
+  pub leads-arguments : (y : List ℕ) → length y < length x → text ≡ 40 ∷ y → s' ≡ inside (Arguments name) [] s
+      → (r : Reading) (levels : List Level) → Stands r levels Expected s → GoesOn r levels x Entered s' y
+  leads-arguments y shorter next same r levels stands =
+      let at = at_expected r levels s stands in
+      record {
+        reading = entered;
+        levels' = new_level (arguments name) ∷ levels;
+        stands = (refl, (s, same, at.1));
+        continues = subst (λ q. Continues q levels x entered (new_level (arguments name) ∷ levels) y) (sym at.0) (step-arguments levels name x a h y (sym trimmed ∙ next));
+        shorter = shorter;
+      }
+
+  pub leads-constant : (t : Tree) (us : List Tree) → length text < length x → ((b : List ℕ) → text ≡ 40 ∷ b → ⊥) → t ≡ application_term name us → us ≡ [] → s' ≡ with_top t s
+      → (r : Reading) (levels : List Level) → Stands r levels Expected s → GoesOn r levels x Base s' text
+  leads-constant t us shorter absent made empty same r levels stands =
+      let at = at_expected r levels s stands in
+      let constant : t ≡ application_term name [] = made ∙ ap (application_term name) empty in
+      record {
+        reading = base (application_term name []);
+        levels' = levels;
+        stands = (s, refl, same ∙ ap (λ u. with_top u s) constant, at.1, refl);
+        continues = subst (λ q. Continues q levels x (base (application_term name [])) levels text) (sym at.0)
+            (continues_on expected (base (application_term name [])) (base (application_term name [])) levels levels levels x a text
+            (step-constant levels name x a h (λ b next. absent b (trimmed ∙ next)))
+            (subst (λ l. Continues (base (application_term name [])) levels a (base (application_term name [])) levels l) (sym trimmed)
+            (continues-trimmed (base (application_term name [])) levels a)));
+        shorter = shorter;
+      }
+
+-- ---- behind an opening bracket
+
+module _ (s : Stack) (closing : ℕ) (x : List ℕ) (closes_so : first_closing s ≡ Some closing) where
+  entered-goes : (s' : Stack) (state : State) (y : List ℕ) → NextSign closing x y → IsClosed s state s' → length y < length x
+      → (levels : List Level) → Holds levels s → GoesOn entered levels x state s' y
+  entered-goes s' state y next made shorter [] h = let no : None ≡ Some closing = sym (ap first_closing h) ∙ closes_so in absurd (cc)
+  entered-goes s' state y next made shorter (level ∷ levels) h = record {
+    reading = closed level.opened level.done;
+    levels' = levels;
+    stands = made level levels h;
+    continues = step-closing level levels x y (subst (λ c. NextSign c x y) (same_sign _ closing (closing_of level.opened) closes_so (closing-inside level levels s h)) next);
     shorter = shorter;
   }
 
-  pub goes-close : (levels levels' levels'' : List Level) (t : Tree) (state : State) (y : List ℕ) → first_closing levels ≡ Some closing → NextSign closing x y → levels' ≡ add_term t levels
-      → IsClosed levels' state levels'' → length y < length x → GoesOn (Whole t) levels x state levels'' y
-  goes-close [] levels' levels'' t state y e next added made shorter = absurd (cc)
-  goes-close (level ∷ levels) levels' levels'' t state y e next added made shorter =
-      let sign : closing ≡ closing_of level.opened = cc in
-      let now : IsClosed (with_term level t ∷ levels) state levels'' = subst (λ l. IsClosed l state levels'') added made in
-      record {
-        continues = subst (λ s. Continues (Whole t) (level ∷ levels) x s levels'' y) (sym now.0) (subst (λ l. Continues (Whole t) (level ∷ levels) x (closed level.opened (level.done ++ t ∷ [])) l y) (sym now.1)
-            (step-close level levels t x y (subst (λ s. NextSign s x y) sign next)));
-        bare = subst IsBare (sym now.0) (closed-bare level.opened (level.done ++ t ∷ []));
-        shorter = shorter;
-      }
+  pub leads-closing : (s' : Stack) (state : State) (y : List ℕ) → NextSign closing x y → IsClosed s state s' → length y < length x
+      → (r : Reading) (levels : List Level) → Stands r levels Entered s → GoesOn r levels x state s' y
+  leads-closing s' state y next made shorter r levels stands =
+      let at = at_entered r levels s stands in
+      subst (λ q. GoesOn q levels x state s' y) (sym at.0) (entered-goes s' state y next made shorter levels at.1)
 
-  pub stuck-inside : (levels : List Level) (t : Tree) → first_closing levels ≡ Some closing → ((y : List ℕ) → NextSign 44 x y → ⊥) → ((y : List ℕ) → NextSign closing x y → ⊥) → IsStuck (Whole t) levels x
-  stuck-inside [] t e no_comma no_closing = absurd (cc)
-  stuck-inside (level ∷ levels) t e no_comma no_closing =
-      let sign : closing_of level.opened ≡ closing = cc in
-      stuck-whole level levels t x no_comma (λ y next. no_closing y (subst (λ s. NextSign s x y) sign next))
+  entered-expected : ((y : List ℕ) → NextSign closing x y → ⊥) → (levels : List Level) → Holds levels s → Continues entered levels x expected levels x
+  entered-expected absent [] h = let no : None ≡ Some closing = sym (ap first_closing h) ∙ closes_so in absurd (cc)
+  entered-expected absent (level ∷ levels) h =
+      step-entered level levels x (λ y next. absent y (subst (λ c. NextSign c x y) (sym (same_sign _ closing (closing_of level.opened) closes_so (closing-inside level levels s h))) next))
 
--- ---- a step from a state that is as good as the one before
+  pub leads-entered : (s' : Stack) (step : Step) → ((y : List ℕ) → NextSign closing x y → ⊥) → Leads Expected s x step s' → Leads Entered s x step s'
+  leads-entered s' step absent leads r levels stands =
+      let at = at_entered r levels s stands in
+      subst (λ q. Goes q levels x step s') (sym at.0)
+      (goes_after entered expected levels levels x x step s' (entered-expected absent levels at.1) (omega arith) (leads expected levels (refl, at.1)))
 
-pub goes_on_from : (state state' : State) (levels levels' : List Level) (x : List ℕ) (result : Result Step ReadFault) → Continues state levels x state' levels x
-    → IfOk result (λ step. Goes state' levels x step levels') → IfOk result (λ step. Goes state levels x step levels')
-goes_on_from state state' levels levels' x (Ok step) c g = goes_after state state' levels levels levels' x step c g
-goes_on_from state state' levels levels' x (Err e) c g = tt
+  pub lost-entered : ((y : List ℕ) → NextSign closing x y → ⊥) → IsLost Expected s x → IsLost Entered s x
+  lost-entered absent lost r levels stands =
+      let at = at_entered r levels s stands in
+      subst (λ q. IsStuck q levels x) (sym at.0) (stuck_after entered expected levels levels x x (entered-expected absent levels at.1) (lost expected levels (refl, at.1)))
+
+nothing-entered : (s : Stack) (x : List ℕ) → None ≡ first_closing s → (levels : List Level) → Holds levels s → IsStuck entered levels x
+nothing-entered s x e [] h all k = k
+nothing-entered s x e (level ∷ levels) h all k = let no : None ≡ Some (closing_of level.opened) = e ∙ closing-inside level levels s h in absurd (cc)
+
+pub lost-nothing-entered : (s : Stack) (x : List ℕ) → None ≡ first_closing s → IsLost Entered s x
+lost-nothing-entered s x e r levels stands =
+    let at = at_entered r levels s stands in
+    subst (λ q. IsStuck q levels x) (sym at.0) (nothing-entered s x e levels at.1)
+
+-- ---- behind a base
+
+module _ (s : Stack) (x : List ℕ) (absent : (y : List ℕ) → NextSign 123 x y → ⊥) where
+  pub leads-bare : (s' : Stack) (step : Step) → Leads Whole s x step s' → Leads Base s x step s'
+  leads-bare s' step leads r levels stands =
+      let at = at_base r levels s stands in
+      subst (λ q. Goes q levels x step s') (sym at.1)
+      (goes_after (base at.0) (whole at.0) levels levels x x step s' (step-bare levels at.0 x absent at.2) (omega arith)
+      (leads (whole at.0) levels (at.3.below, refl, at.3.is, at.3.holds)))
+
+  pub lost-bare : IsLost Whole s x → IsLost Base s x
+  lost-bare lost r levels stands =
+      let at = at_base r levels s stands in
+      subst (λ q. IsStuck q levels x) (sym at.1)
+      (stuck_after (base at.0) (whole at.0) levels levels x x (step-bare levels at.0 x absent at.2) (lost (whole at.0) levels (at.3.below, refl, at.3.is, at.3.holds)))
+
+-- ---- behind a whole term
+
+one-more : (level : Level) (levels : List Level) (s : Stack) (t : Tree) → Last (level ∷ levels) s t → Holds (with_term level t ∷ levels) s
+one-more level levels s t h = (h.holds.0, h.is ∙ ap (with_top t) h.holds.1, h.holds.2)
+
+module _ (s : Stack) (closing : ℕ) (x : List ℕ) (closes_so : first_closing s ≡ Some closing) where
+  none-open : (t : Tree) → Last [] s t → ⊥
+  none-open t h = let no : None ≡ Some closing = sym (ap first_closing h.is ∙ ap (λ b. first_closing (with_top t b)) h.holds) ∙ closes_so in absurd (cc)
+
+  whole-comma : (t : Tree) (y : List ℕ) → NextSign 44 x y → length y < length x → (levels : List Level) → Last levels s t → GoesOn (whole t) levels x Expected s y
+  whole-comma t y next shorter [] h = absurd (none-open t h)
+  whole-comma t y next shorter (level ∷ levels) h = record {
+    reading = expected;
+    levels' = with_term level t ∷ levels;
+    stands = (refl, one-more level levels s t h);
+    continues = step-comma level levels t x y next;
+    shorter = shorter;
+  }
+
+  pub leads-comma : (y : List ℕ) → NextSign 44 x y → length y < length x → (r : Reading) (levels : List Level) → Stands r levels Whole s → GoesOn r levels x Expected s y
+  leads-comma y next shorter r levels stands =
+      let at = at_whole r levels s stands in
+      subst (λ q. GoesOn q levels x Expected s y) (sym at.1) (whole-comma at.0 y next shorter levels at.2)
+
+  whole-close : (s' : Stack) (state : State) (t : Tree) (y : List ℕ) → NextSign closing x y → IsClosed s state s' → length y < length x
+      → (levels : List Level) → Last levels s t → GoesOn (whole t) levels x state s' y
+  whole-close s' state t y next made shorter [] h = absurd (none-open t h)
+  whole-close s' state t y next made shorter (level ∷ levels) h = record {
+    reading = closed level.opened (level.done ++ t ∷ []);
+    levels' = levels;
+    stands = made (with_term level t) levels (one-more level levels s t h);
+    continues = step-close level levels t x y (subst (λ c. NextSign c x y) (same_sign _ closing (closing_of level.opened) closes_so (closing-top level levels s t h)) next);
+    shorter = shorter;
+  }
+
+  pub leads-close : (s' : Stack) (state : State) (y : List ℕ) → NextSign closing x y → IsClosed s state s' → length y < length x
+      → (r : Reading) (levels : List Level) → Stands r levels Whole s → GoesOn r levels x state s' y
+  leads-close s' state y next made shorter r levels stands =
+      let at = at_whole r levels s stands in
+      subst (λ q. GoesOn q levels x state s' y) (sym at.1) (whole-close s' state at.0 y next made shorter levels at.2)
+
+  whole-stuck : (t : Tree) → ((y : List ℕ) → NextSign 44 x y → ⊥) → ((y : List ℕ) → NextSign closing x y → ⊥) → (levels : List Level) → Last levels s t → IsStuck (whole t) levels x
+  whole-stuck t no_comma no_closing [] h = absurd (none-open t h)
+  whole-stuck t no_comma no_closing (level ∷ levels) h =
+      stuck-whole level levels t x no_comma (λ y next. no_closing y (subst (λ c. NextSign c x y) (sym (same_sign _ closing (closing_of level.opened) closes_so (closing-top level levels s t h))) next))
+
+  pub lost-whole : ((y : List ℕ) → NextSign 44 x y → ⊥) → ((y : List ℕ) → NextSign closing x y → ⊥) → IsLost Whole s x
+  lost-whole no_comma no_closing r levels stands =
+      let at = at_whole r levels s stands in
+      subst (λ q. IsStuck q levels x) (sym at.1) (whole-stuck at.0 no_comma no_closing levels at.2)
+
+-- where no bracket is open
+
+all-closed : (levels : List Level) (s : Stack) (t : Tree) → None ≡ first_closing s → Last levels s t → (levels ≡ []) × (s ≡ with_top t no_terms)
+all-closed [] s t e h = (refl, h.is ∙ ap (with_top t) h.holds)
+all-closed (level ∷ levels) s t e h = let no : None ≡ Some (closing_of level.opened) = e ∙ closing-top level levels s t h in absurd (cc)
+
+pub leads-end : (s : Stack) (x : List ℕ) → None ≡ first_closing s → without_blanks x ≡ [] → (r : Reading) (levels : List Level) → Stands r levels Whole s
+    → (t : Tree) × (s ≡ with_top t no_terms) × IsEnd r levels x t
+leads-end s x e blank r levels stands =
+    let at = at_whole r levels s stands in
+    let none = all-closed levels s at.0 e at.2 in (
+      at.0,
+      none.1,
+      subst (λ q. IsEnd q levels x at.0) (sym at.1) (subst (λ l. IsEnd (whole at.0) l x at.0) (sym none.0) (end-whole at.0 x blank)),
+    )
+
+pub lost-more : (s : Stack) (x : List ℕ) → None ≡ first_closing s → (without_blanks x ≡ [] → ⊥) → IsLost Whole s x
+lost-more s x e more r levels stands =
+    let at = at_whole r levels s stands in
+    let none = all-closed levels s at.0 e at.2 in
+    subst (λ q. IsStuck q levels x) (sym at.1) (subst (λ l. IsStuck (whole at.0) l x) (sym none.0) (λ all k. more k.0))
+
+-- ---- closing
+
+-- the bracket that is left is the innermost of the levels
+module _ (s s' : Stack) (opened : Opened) (terms : List Tree) (left : s ≡ inside opened terms s') (level : Level) (levels : List Level) (h : Holds (level ∷ levels) s) where
+  both : inside (opened_of level.opened) level.done h.0 ≡ inside opened terms s'
+  both = sym h.1 ∙ left
+
+  groups : ◌≡◌ {A = List Group} (record { opened = opened_of level.opened; terms = level.done } ∷ h.0.groups) (record { opened = opened; terms = terms } ∷ s'.groups)
+  groups = ap (λ (k : Stack). k.groups) both
+
+  first : ◌≡◌ {A = Group} (record { opened = opened_of level.opened; terms = level.done }) (record { opened = opened; terms = terms })
+  first = let same = groups in cc
+
+  pub same_opened : opened_of level.opened ≡ opened
+  same_opened = ap (λ (k : Group). k.opened) first
+
+  pub same_terms : level.done ≡ terms
+  same_terms = ap (λ (k : Group). k.terms) first
+
+  pub same_rest : h.0 ≡ s'
+  same_rest =
+      let others : h.0.groups ≡ s'.groups = let same = groups in cc in
+      λ i. record { outside = (ap (λ (k : Stack). k.outside) both) i; groups = others i }
+
+-- the base that a closed bracket gives
+abbrev GivesBase : Opened → List Tree → Tree → Type 0
+GivesBase (Arguments name) us t = t ≡ application_term name us
+GivesBase AList us t = t ≡ list_term us
+GivesBase Tuple us t = t ≡ tuple_term us
+GivesBase Annotations us t = ⊥
+
+base-stands : (o : Bracket) (done : List Tree) (levels : List Level) (before s1 s' : Stack) (opened : Opened) (terms : List Tree) (t : Tree) → opened_of o ≡ opened → done ≡ terms → before ≡ s1
+    → GivesBase opened terms t → s' ≡ with_top t s1 → Before (λ u. Holds levels u) o before → Stands (closed o done) levels Base s'
+base-stands (arguments name) done levels before s1 s' opened terms t eo ed eb gives same b =
+    let made : t ≡ application_term name done = subst (λ q. GivesBase q terms t) (sym eo) gives ∙ ap (application_term name) (sym ed) in
+    (before, refl, same ∙ (λ i. with_top (made i) (sym eb i)), b, refl)
+base-stands elements done levels before s1 s' opened terms t eo ed eb gives same b =
+    let made : t ≡ list_term done = subst (λ q. GivesBase q terms t) (sym eo) gives ∙ ap list_term (sym ed) in
+    (before, refl, same ∙ (λ i. with_top (made i) (sym eb i)), b, refl)
+base-stands components done levels before s1 s' opened terms t eo ed eb gives same b =
+    let made : t ≡ tuple_term done = subst (λ q. GivesBase q terms t) (sym eo) gives ∙ ap tuple_term (sym ed) in
+    (before, refl, same ∙ (λ i. with_top (made i) (sym eb i)), b, refl)
+base-stands (annotating u) done levels before s1 s' opened terms t eo ed eb gives same b = absurd (subst (λ q. GivesBase q terms t) (sym eo) gives)
+
+whole-stands : (o : Bracket) (done : List Tree) (levels : List Level) (before s1 s' : Stack) (terms : List Tree) → opened_of o ≡ Annotations → done ≡ terms → before ≡ s1
+    → ((t : Tree) (below : Stack) → s1 ≡ with_top t below → s' ≡ with_top (with_annotations t terms) below) → Before (λ u. Holds levels u) o before → Stands (closed o done) levels Whole s'
+whole-stands (arguments name) done levels before s1 s' terms eo ed eb given b = absurd (cc)
+whole-stands elements done levels before s1 s' terms eo ed eb given b = absurd (cc)
+whole-stands components done levels before s1 s' terms eo ed eb given b = absurd (cc)
+whole-stands (annotating t) done levels before s1 s' terms eo ed eb given b =
+    (b.0, refl, given t b.0 (sym eb ∙ b.1) ∙ ap (λ l. with_top (with_annotations t l) b.0) (sym ed), b.2)
+
+module _ (s s1 s' : Stack) (opened : Opened) (terms : List Tree) (left : s ≡ inside opened terms s1) where
+  pub closed-base : (t : Tree) → GivesBase opened terms t → s' ≡ with_top t s1 → IsClosed s Base s'
+  closed-base t gives same level levels h =
+      base-stands level.opened level.done levels h.0 s1 s' opened terms t (same_opened s s1 opened terms left level levels h) (same_terms s s1 opened terms left level levels h)
+      (same_rest s s1 opened terms left level levels h) gives same h.2
+
+  pub closed-whole : opened ≡ Annotations → ((t : Tree) (below : Stack) → s1 ≡ with_top t below → s' ≡ with_top (with_annotations t terms) below) → IsClosed s Whole s'
+  closed-whole e given level levels h =
+      whole-stands level.opened level.done levels h.0 s1 s' terms (same_opened s s1 opened terms left level levels h ∙ e) (same_terms s s1 opened terms left level levels h)
+      (same_rest s s1 opened terms left level levels h) given h.2
+
+pub closed-nothing : (s s' : Stack) (state : State) → first_closing s ≡ None → IsClosed s state s'
+closed-nothing s s' state e level levels h = let no : None ≡ Some (closing_of level.opened) = sym e ∙ closing-inside level levels s h in absurd (cc)
+
+-- ---- the results of calls
+
+pub on_ok : {X : Type 0} (result : Result X ReadFault) (P Q : X → Type 0) → ((x : X) → P x → Q x) → IfOk result P → IfOk result Q
+on_ok (Ok x) P Q f h = f x h
+on_ok (Err e) P Q f h = tt
+
+module _ (state known : State) (s s' : Stack) (x text : List ℕ) (same : state ≡ known) (trimmed : text ≡ without_blanks x) where
+  pub step-leads : (result : Result Step ReadFault) → length text ≤ length x → IfOk result (λ step. Leads known s text step s') → IfOk result (λ step. Leads state s x step s')
+  step-leads result le =
+      on_ok result (λ step. Leads known s text step s') (λ step. Leads state s x step s')
+      (λ step leads. subst (λ k. Leads k s x step s') (sym same) (leads-trimmed known s s' x text step trimmed le leads))
+
+  pub step-lost : IsLost known s text → IsLost state s x
+  step-lost lost = subst (λ k. IsLost k s x) (sym same) (lost-trimmed known s x text trimmed lost)

@@ -1,19 +1,19 @@
 -- Each printed token is read back, where what follows can't belong to it.
-use Rattle.std.proofs.Common.{◌≡◌, ◌≢◌, ℕ, ℤ, pos, negsuc, neg_ℤ, ◌+◌, ◌*◌, ◌-◌, ◌/◌, ◌%◌, ◌^◌, ◌<◌, ◌==◌, ◌||◌, ◌&&◌, Bool, true, false, IsTrue, cond, if◌then◌else◌, nat_lt, List, [], ◌∷◌, ◌++◌, length, drop, Some, refl, sym, ap, ◌∙◌, subst, arith, append_assoc, suc, inl, inr, MatchBool}
+use Rattle.std.proofs.Common.{◌≡◌, ◌≢◌, ℕ, ℤ, pos, negsuc, neg_ℤ, ◌+◌, ◌*◌, ◌-◌, ◌/◌, ◌%◌, ◌^◌, ◌<◌, ◌==◌, ◌||◌, ◌&&◌, Bool, true, false, IsTrue, cond, if◌then◌else◌, nat_lt, List, [], ◌∷◌, ◌++◌, length, take, drop, Some, None, refl, sym, ap, ◌∙◌, subst, arith, append_assoc, suc, inl, inr, MatchBool}
 use Rattle.std.proofs.Math.Seq.{take-append_seam, drop-append_seam}
 use Rattle.std.proofs.lemmas.Bool.{lt-ltb, true≢false}
 use Rattle.std.proofs.lemmas.Bool.Decides.{eqb_tells}
 use Rattle.std.proofs.lemmas.Str.Parse.{numerals_by_value, tells_all_ascii_digits}
 use Rattle.std.proofs.lemmas.Fmt.{digits_decimal, decimal_is_IsNumeral}
 use Rattle.std.specs.Prelude.{FitsSigned}
-use Rattle.std.specs.Int.{w64, is_in_range}
+use Rattle.std.specs.Int.{w64}
 use Rattle.std.specs.Cmp.Derive.{both_true}
 use Rattle.std.specs.Char.{is_ascii_digit}
 use Rattle.std.specs.Str.{all_ascii_digits}
 use Rattle.std.specs.Str.Parse.{IsNumeral, digits_value, without_leading_sign, starts_with_minus}
 use Rattle.std.specs.Fmt.{decimal, signed_decimal}
 use Rattle.std.specs.List.{prefix_len, list_all, flat_map, AllByRecursion}
-use Rattle.term_core.specs.Word.{begins_word, continues_word, is_word}
+use Rattle.term_core.specs.Word.{begins_word, continues_word, is_word, first_word}
 use Rattle.term_core.specs.Tree.{Symbol}
 use Rattle.term_core.specs.Terms.{IsName}
 use Rattle.aterm_text.specs.Tokens.{is_blank, without_blanks, integer_len, IsInteger, NextInteger, item_at, is_octal_digit, ReadsItems, NextWord, NextQuoted, NextName}
@@ -55,25 +55,17 @@ prefix_whole p (b ∷ s) y h stop = count_more (p b) (prefix_len p (s ++ y)) (le
 
 -- ---- words
 
-or_continues : (d a b c e f g h i j : Bool) → ((a || b) || c) ≡ true → (((((((((d || a) || b) || c) || e) || f) || g) || h) || i) || j) ≡ true
-or_continues true a b c e f g h i j q = refl
-or_continues false true b c e f g h i j q = refl
-or_continues false false true c e f g h i j q = refl
-or_continues false false false true e f g h i j q = refl
-or_continues false false false false e f g h i j q = absurd (true≢false (sym q))
-
-begins-continues : (b : ℕ) → begins_word b ≡ true → continues_word b ≡ true
-begins-continues b h = or_continues (is_in_range 48 57 b) (is_in_range 65 90 b) (is_in_range 97 122 b) (b == 95) (b == 45) (b == 43) (b == 42) (b == 36) (b == 46) (b == 39) h
-
-word_from : (s x y : List ℕ) → without_blanks x ≡ s ++ y → IsTrue (is_word s) → prefix_len continues_word (s ++ y) ≡ length s → NextWord s x y
-word_from s x y blanks word len = rw (blanks, len) (word, sym (take-append_seam s y), sym (drop-append_seam s y))
+word_from : (b : ℕ) (s x y : List ℕ) → without_blanks x ≡ b ∷ (s ++ y) → begins_word b ≡ true → prefix_len continues_word (s ++ y) ≡ length s → NextWord (b ∷ s) x y
+word_from b s x y blanks begins len =
+    ap first_word blanks ∙ ap (λ c. cond c (Some (b ∷ take (prefix_len continues_word (s ++ y)) (s ++ y), drop (prefix_len continues_word (s ++ y)) (s ++ y))) None) begins
+    ∙ ap (λ n. Some (b ∷ take n (s ++ y), drop n (s ++ y))) len ∙ (λ i. Some (b ∷ take-append_seam s y i, drop-append_seam s y i))
 
 pub word-read : (s y : List ℕ) → IsTrue (is_word s) → prefix_len continues_word y ≡ 0 → NextWord s (s ++ y) y
 word-read [] y h stop = absurd (cc)
 word-read (b ∷ s) y h stop =
     let parts : (begins_word b ≡ true) × (list_all continues_word s ≡ true) = both (begins_word b) (list_all continues_word s) h in
-    word_from (b ∷ s) (b ∷ (s ++ y)) y (without_no_blanks b (s ++ y) (no_blank begins_word b refl refl refl refl parts.0)) h
-    (prefix_whole continues_word (b ∷ s) y (both_true (begins-continues b parts.0) parts.1) stop)
+    word_from b s (b ∷ (s ++ y)) y (without_no_blanks b (s ++ y) (no_blank begins_word b refl refl refl refl parts.0)) parts.0
+    (prefix_whole continues_word s y parts.1 stop)
 
 -- ---- integers
 

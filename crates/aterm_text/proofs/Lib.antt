@@ -1,7 +1,9 @@
 pub mod ScanLemmas
-pub mod LevelLemmas
 pub mod TokenLemmas
+pub mod StackLemmas
+pub mod TrimLemmas
 pub mod StepLemmas
+pub mod DepthLemmas
 pub mod GoesLemmas
 pub mod NestingLemmas
 pub mod PrintLemmas

@@ -1,5 +1,5 @@
 -- Laws of the tokens, for the functions that read them.
-use Rattle.std.proofs.Common.{◌≡◌, ℕ, ◌-◌, ◌<◌, ◌≤◌, ◌==◌, cond, Bool, true, false, List, [], ◌∷◌, ◌++◌, length, take, drop, Some, None, refl, sym, ap, ◌∙◌, subst, arith, append_assoc, append-nil}
+use Rattle.std.proofs.Common.{◌≡◌, ℕ, suc, ◌+◌, ◌-◌, not, ◌&&◌, ◌<◌, ◌≤◌, ◌==◌, cond, Bool, true, false, List, [], ◌∷◌, ◌++◌, length, take, drop, Some, None, refl, sym, ap, ◌∙◌, subst, arith, append_assoc, append-nil}
 use Rattle.std.specs.declared.option.Option.{Option}
 use Rattle.std.proofs.lemmas.Grind.{common_steps}
 use Rattle.std.proofs.lemmas.Bool.Decides.{nat_tests}
@@ -8,12 +8,25 @@ use Rattle.std.proofs.lemmas.Str.Ascii.{IsAscii-cons}
 use Rattle.std.proofs.lemmas.Fmt.{IsAscii-from_digits}
 use Rattle.std.specs.Str.{IsAscii, IsUtf8}
 use Rattle.std.specs.Str.Parse.{IsNumeral, without_leading_sign}
-use Rattle.aterm_text.specs.Tokens.{item_at, ReadsItems}
+use Rattle.std.specs.List.{prefix_len}
+use Rattle.aterm_text.specs.Tokens.{item_at, escape_at, is_plain, ReadsItems}
 
 -- ---- white space
 
 pub drop-rest : {X : Type 0} (n : ℕ) (xs : List X) → n ≤ length xs → take (length xs - n) (drop n xs) ≡ drop n xs
 drop-rest n xs h = grind (arith, common_steps)
+
+-- behind the longest front that passes, the next element doesn't
+rest_more : (p : ℕ → Bool) (b : ℕ) (bs : List ℕ) (passes : Bool) → p b ≡ passes → prefix_len p (drop (prefix_len p bs) bs) ≡ 0
+    → prefix_len p (drop (cond passes (1 + prefix_len p bs) 0) (b ∷ bs)) ≡ 0
+rest_more p b bs true e h =
+    let one : 1 + prefix_len p bs ≡ suc (prefix_len p bs) = omega arith in
+    ap (λ n. prefix_len p (drop n (b ∷ bs))) one ∙ h
+rest_more p b bs false e h = ap (λ c. cond c (1 + prefix_len p bs) 0) e
+
+pub prefix_len-rest : (p : ℕ → Bool) (xs : List ℕ) → prefix_len p (drop (prefix_len p xs) xs) ≡ 0
+prefix_len-rest p [] = refl
+prefix_len-rest p (b ∷ bs) = rest_more p b bs (p b) refl (prefix_len-rest p bs)
 
 -- ---- integers
 
@@ -81,3 +94,65 @@ items_only (b ∷ bs) (c ∷ cs) x y z r s =
     let same = same_pair b c r.0 s.0 (sym r.1 ∙ s.1) in
     let rest = items_only bs cs r.0 y z r.2 (subst (λ l. ReadsItems cs l z) (sym same.1) s.2) in
     (ap (λ l. l ∷ bs) same.0 ∙ ap (λ l. c ∷ l) rest.0, rest.1)
+
+-- ---- bytes that stand for themselves
+
+plain-item : (b : ℕ) (bs : List ℕ) (q k : Bool) → (b == 34) ≡ q → (b == 92) ≡ k → (not q && not k) ≡ true → item_at (b ∷ bs) ≡ Some (b, bs)
+plain-item b bs true k p r h = absurd (cc)
+plain-item b bs false true p r h = absurd (cc)
+plain-item b bs false false p r h = ap (λ c. cond c None (cond (b == 92) (escape_at bs) (Some (b, bs)))) p ∙ ap (λ c. cond c (escape_at bs) (Some (b, bs))) r
+
+abbrev After : List ℕ → List ℕ → List ℕ → ℕ → Type 0
+After text bytes rest n = IsReadSoFar text (bytes ++ take n rest) (drop n rest)
+
+run_more : (text bytes : List ℕ) (b : ℕ) (bs : List ℕ) (plain : Bool) → is_plain b ≡ plain → IsReadSoFar text bytes (b ∷ bs)
+    → ((more : List ℕ) → IsReadSoFar text more bs → After text more bs (prefix_len is_plain bs))
+    → After text bytes (b ∷ bs) (cond plain (1 + prefix_len is_plain bs) 0)
+run_more text bytes b bs true e so_far next =
+    let one : 1 + prefix_len is_plain bs ≡ suc (prefix_len is_plain bs) = omega arith in
+    let read : IsReadSoFar text (bytes ++ b ∷ []) bs = item_read text bytes (b ∷ bs) b bs (plain-item b bs (b == 34) (b == 92) refl refl e) (omega arith) so_far in
+    subst (After text bytes (b ∷ bs)) (sym one)
+    (subst (λ l. IsReadSoFar text l (drop (prefix_len is_plain bs) bs)) (append_assoc bytes (b ∷ []) (take (prefix_len is_plain bs) bs)) (next (bytes ++ b ∷ []) read))
+run_more text bytes b bs false e so_far next = subst (λ l. IsReadSoFar text l (b ∷ bs)) (sym (append-nil bytes)) so_far
+
+pub run_read : (text bytes rest : List ℕ) → IsReadSoFar text bytes rest → After text bytes rest (prefix_len is_plain rest)
+run_read text bytes [] so_far = subst (λ l. IsReadSoFar text l []) (sym (append-nil bytes)) so_far
+run_read text bytes (b ∷ bs) so_far = run_more text bytes b bs (is_plain b) refl so_far (λ more h. run_read text more bs h)
+
+-- ---- the bytes of a quoted name with escapes
+
+-- the run that a quoted name begins with
+pub run_at_start : (text run rest bytes : List ℕ) (n : ℕ) → n ≡ prefix_len is_plain text → run ≡ take n text → rest ≡ drop n text → bytes ≡ run → IsReadSoFar text bytes rest
+run_at_start text run rest bytes n e f g h =
+    subst (λ l. IsReadSoFar text l rest) (sym (h ∙ f ∙ ap (λ k. take k text) e))
+    (subst (IsReadSoFar text (take (prefix_len is_plain text) text)) (sym (g ∙ ap (λ k. drop k text) e)) (run_read text [] text (nothing_read text)))
+
+-- an escape, and the run behind it
+pub run_behind : (text bytes rest behind left run rest' bytes' : List ℕ) (b : ℕ) → IsReadSoFar text bytes rest → rest ≡ 92 ∷ behind → escape_at behind ≡ Some (b, left) → length left < length behind
+    → run ≡ take (prefix_len is_plain left) left → rest' ≡ drop (prefix_len is_plain left) left → bytes' ≡ (bytes ++ b ∷ []) ++ run → IsReadSoFar text bytes' rest'
+run_behind text bytes rest behind left run rest' bytes' b so_far e escaped shorter f g h =
+    let item : item_at rest ≡ Some (b, left) = ap item_at e ∙ escaped in
+    let read = item_read text bytes rest b left item (omega (arith, ap length e)) so_far in
+    subst (λ l. IsReadSoFar text l rest') (sym (h ∙ ap (λ l. (bytes ++ b ∷ []) ++ l) f))
+    (subst (IsReadSoFar text ((bytes ++ b ∷ []) ++ take (prefix_len is_plain left) left)) (sym g) (run_read text (bytes ++ b ∷ []) left read))
+
+pub rest_stops : (x rest : List ℕ) (n : ℕ) → n ≡ prefix_len is_plain x → rest ≡ drop n x → prefix_len is_plain rest ≡ 0
+rest_stops x rest n e f = ap (prefix_len is_plain) (f ∙ ap (λ k. drop k x) e) ∙ prefix_len-rest is_plain x
+
+-- what an escape is not
+pub no_escape : (rest behind : List ℕ) → rest ≡ 92 ∷ behind → escape_at behind ≡ None → item_at rest ≡ None
+no_escape rest behind e h = ap item_at e ∙ h
+
+pub no_quote : (rest behind : List ℕ) → rest ≡ 92 ∷ behind → (left : List ℕ) → rest ≡ 34 ∷ left → ⊥
+no_quote rest behind e left h = let same : ◌≡◌ {A = List ℕ} (92 ∷ behind) (34 ∷ left) = sym e ∙ h in let first : ◌≡◌ {A = ℕ} 92 34 = cc in omega (arith, first)
+
+plain-stop : (b : ℕ) (bs : List ℕ) (q k : Bool) → (b == 34) ≡ q → (b == 92) ≡ k → cond (not q && not k) (1 + prefix_len is_plain bs) 0 ≡ 0
+    → ((left : List ℕ) → ◌≡◌ {A = List ℕ} (b ∷ bs) (92 ∷ left) → ⊥) → item_at (b ∷ bs) ≡ None
+plain-stop b bs true k p r h other = ap (λ c. cond c None (cond (b == 92) (escape_at bs) (Some (b, bs)))) p
+plain-stop b bs false true p r h other = let is : b ≡ 92 = grind (arith, nat_tests) in absurd (other bs (ap (λ n. n ∷ bs) is))
+plain-stop b bs false false p r h other = absurd (omega (arith, h))
+
+-- where a run stops before no backslash, no item comes next
+pub no_item : (rest : List ℕ) → prefix_len is_plain rest ≡ 0 → ((left : List ℕ) → rest ≡ 92 ∷ left → ⊥) → item_at rest ≡ None
+no_item [] h other = refl
+no_item (b ∷ bs) h other = plain-stop b bs (b == 34) (b == 92) refl refl h other

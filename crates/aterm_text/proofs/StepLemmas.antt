@@ -5,16 +5,10 @@ use Rattle.term_core.proofs.TreeLemmas.{of_list-to_list}
 use Rattle.aterm_text.specs.Tokens.{NextSign, NextInteger, NextName, IsBlank}
 use Rattle.aterm_text.specs.Grammar.{Reads, ReadsUntil, ReadsMore, Optional}
 use Rattle.aterm_text.specs.Heads.{Begins, NoTerm}
-use Rattle.aterm_text.specs.Level.{Level, closing_of, with_term, new_level}
-use Rattle.aterm_text.specs.Unread.{Unread, Continues, IsStuck, IsBare, Goes, IsEnd, BehindBase, BehindClosed, BehindWhole, BeforeTerm, closed}
+use Rattle.aterm_text.specs.Level.{Bracket, arguments, elements, components, annotating, Level, closing_of, with_term, new_level}
+use Rattle.aterm_text.specs.Unread.{Reading, expected, entered, base, whole, Unread, Continues, IsStuck, IsEnd, BehindBase, BehindClosed, BehindWhole, BeforeTerm, closed}
 use Rattle.aterm_text.specs.declared.reader.head.Head.{Head as Beginning}
 use Rattle.aterm_text.specs.declared.reader.head.Head.TheVariants.{Integer, Named, List as ListHead, Tuple as TupleHead}
-use Rattle.aterm_text.specs.declared.reader.levels.Opened.{Opened}
-use Rattle.aterm_text.specs.declared.reader.levels.Opened.TheVariants.{Arguments, List as AList, Tuple, Annotations}
-use Rattle.aterm_text.specs.declared.reader.machine.State.{State}
-use Rattle.aterm_text.specs.declared.reader.machine.State.TheVariants.{Expected, Entered, Base, Whole}
-use Rattle.aterm_text.specs.declared.reader.machine.Step.{Step}
-use Rattle.aterm_text.specs.declared.reader.machine.Step.TheVariants.{More, Done}
 use Rattle.aterm_text.proofs.TokenLemmas.{class_of, begins_only, no_term-sign}
 
 -- ---- signs and heads
@@ -45,44 +39,38 @@ head_is head t x y z h r = let found = reads-begins t x z r in (begins_only head
 pub no_term-reads : (t : Tree) (x y : List ℕ) → NoTerm x → Reads t x y → ⊥
 no_term-reads t x y absent r = let found = reads-begins t x y r in absent (head_of t) found.0 found.1
 
-closing-class : (o : Opened) → class_of (closing_of o) ≡ 0
-closing-class (Arguments name) = refl
-closing-class AList = refl
-closing-class Tuple = refl
-closing-class (Annotations t) = refl
+closing-class : (o : Bracket) → class_of (closing_of o) ≡ 0
+closing-class (arguments name) = refl
+closing-class elements = refl
+closing-class components = refl
+closing-class (annotating t) = refl
 
-closing-comma : (o : Opened) → closing_of o ≡ 44 → ⊥
-closing-comma (Arguments name) e = omega arith
-closing-comma AList e = omega arith
-closing-comma Tuple e = omega arith
-closing-comma (Annotations t) e = omega arith
+closing-comma : (o : Bracket) → closing_of o ≡ 44 → ⊥
+closing-comma (arguments name) e = omega arith
+closing-comma elements e = omega arith
+closing-comma components e = omega arith
+closing-comma (annotating t) e = omega arith
 
 -- ---- what closing gives
 
 abbrev Outside : List Level → Tree → List ℕ → Tree → Type 0
 Outside levels = λ t x all. BehindWhole levels t x all
 
-to_unread : (o : Opened) (us : List Tree) (levels : List Level) (x : List ℕ) (all : Tree) → BehindClosed (Outside levels) o us x all → Unread (closed o us) levels x all
-to_unread (Arguments name) us levels x all h = h
-to_unread AList us levels x all h = h
-to_unread Tuple us levels x all h = h
-to_unread (Annotations t) us levels x all h = h
+to_unread : (o : Bracket) (us : List Tree) (levels : List Level) (x : List ℕ) (all : Tree) → BehindClosed (Outside levels) o us x all → Unread (closed o us) levels x all
+to_unread (arguments name) us levels x all h = h
+to_unread elements us levels x all h = h
+to_unread components us levels x all h = h
+to_unread (annotating t) us levels x all h = h
 
-from_unread : (o : Opened) (us : List Tree) (levels : List Level) (x : List ℕ) (all : Tree) → Unread (closed o us) levels x all → BehindClosed (Outside levels) o us x all
-from_unread (Arguments name) us levels x all h = h
-from_unread AList us levels x all h = h
-from_unread Tuple us levels x all h = h
-from_unread (Annotations t) us levels x all h = h
-
-pub closed-bare : (o : Opened) (us : List Tree) → IsBare (closed o us)
-closed-bare (Arguments name) us = refl
-closed-bare AList us = refl
-closed-bare Tuple us = refl
-closed-bare (Annotations t) us = tt
+from_unread : (o : Bracket) (us : List Tree) (levels : List Level) (x : List ℕ) (all : Tree) → Unread (closed o us) levels x all → BehindClosed (Outside levels) o us x all
+from_unread (arguments name) us levels x all h = h
+from_unread elements us levels x all h = h
+from_unread components us levels x all h = h
+from_unread (annotating t) us levels x all h = h
 
 -- ---- a head was read
 
-pub stuck-no_term : (levels : List Level) (x : List ℕ) → NoTerm x → IsStuck Expected levels x
+pub stuck-no_term : (levels : List Level) (x : List ℕ) → NoTerm x → IsStuck expected levels x
 stuck-no_term levels x absent all h = no_term-reads h.0 x h.1 absent h.2
 
 rebuilt : (head : Head) (kids notes : Trees) → branch head kids notes ≡ branch head (of_list (to_list kids)) (of_list (to_list notes))
@@ -102,13 +90,13 @@ module _ (levels : List Level) (x y : List ℕ) where
   integer-forth z h all (branch list kids notes) v r b = let no = head_is (Integer z) (branch list kids notes) x y v h r in absurd (cc)
   integer-forth z h all (branch tuple kids notes) v r b = let no = head_is (Integer z) (branch tuple kids notes) x y v h r in absurd (cc)
 
-  pub step-integer : (z : ℤ) → NextInteger z x y → Continues Expected levels x (Base (integer_term z)) levels y
+  pub step-integer : (z : ℤ) → NextInteger z x y → Continues expected levels x (base (integer_term z)) levels y
   step-integer z h = record {
     forth = λ all k. integer-forth z h all k.0 k.1 k.2 k.3;
     back = λ all k. (integer z k.0, k.1, (y, h, k.2), subst (λ t. BehindWhole levels t k.1 all) (λ i. integer z (of_list-to_list k.0 i)) k.3);
   }
 
-  list-forth : NextSign 91 x y → (all t : Tree) (v : List ℕ) → Reads t x v → BehindWhole levels t v all → Unread Entered (new_level AList ∷ levels) y all
+  list-forth : NextSign 91 x y → (all t : Tree) (v : List ℕ) → Reads t x v → BehindWhole levels t v all → Unread entered (new_level elements ∷ levels) y all
   list-forth h all (branch list kids notes) v r b = (
     kids,
     r.1,
@@ -119,13 +107,13 @@ module _ (levels : List Level) (x y : List ℕ) where
   list-forth h all (branch (application name) kids notes) v r b = let no = head_is ListHead (branch (application name) kids notes) x y v h r in absurd (cc)
   list-forth h all (branch tuple kids notes) v r b = let no = head_is ListHead (branch tuple kids notes) x y v h r in absurd (cc)
 
-  pub step-list : NextSign 91 x y → Continues Expected levels x Entered (new_level AList ∷ levels) y
+  pub step-list : NextSign 91 x y → Continues expected levels x entered (new_level elements ∷ levels) y
   step-list h = record {
     forth = λ all k. list-forth h all k.0 k.1 k.2 k.3;
     back = λ all k. (branch list k.0 k.3.0, k.3.1, (y, k.1, h, k.2, k.3.2), subst (λ t. BehindWhole levels t k.3.1 all) (sym (rebuilt list k.0 k.3.0)) k.3.3);
   }
 
-  tuple-forth : NextSign 40 x y → (all t : Tree) (v : List ℕ) → Reads t x v → BehindWhole levels t v all → Unread Entered (new_level Tuple ∷ levels) y all
+  tuple-forth : NextSign 40 x y → (all t : Tree) (v : List ℕ) → Reads t x v → BehindWhole levels t v all → Unread entered (new_level components ∷ levels) y all
   tuple-forth h all (branch tuple kids notes) v r b = (
     kids,
     r.1,
@@ -136,7 +124,7 @@ module _ (levels : List Level) (x y : List ℕ) where
   tuple-forth h all (branch (application name) kids notes) v r b = let no = head_is TupleHead (branch (application name) kids notes) x y v h r in absurd (cc)
   tuple-forth h all (branch list kids notes) v r b = let no = head_is TupleHead (branch list kids notes) x y v h r in absurd (cc)
 
-  pub step-tuple : NextSign 40 x y → Continues Expected levels x Entered (new_level Tuple ∷ levels) y
+  pub step-tuple : NextSign 40 x y → Continues expected levels x entered (new_level components ∷ levels) y
   step-tuple h = record {
     forth = λ all k. tuple-forth h all k.0 k.1 k.2 k.3;
     back = λ all k. (branch tuple k.0 k.3.0, k.3.1, (y, k.1, h, k.2, k.3.2), subst (λ t. BehindWhole levels t k.3.1 all) (sym (rebuilt tuple k.0 k.3.0)) k.3.3);
@@ -145,7 +133,7 @@ module _ (levels : List Level) (x y : List ℕ) where
 -- ---- a name was read
 
 module _ (levels : List Level) (name : Symbol) (x a : List ℕ) (h : NextName name x a) where
-  arguments-forth : (y : List ℕ) → NextSign 40 a y → (all t : Tree) (v : List ℕ) → Reads t x v → BehindWhole levels t v all → Unread Entered (new_level (Arguments name) ∷ levels) y all
+  arguments-forth : (y : List ℕ) → NextSign 40 a y → (all t : Tree) (v : List ℕ) → Reads t x v → BehindWhole levels t v all → Unread entered (new_level (arguments name) ∷ levels) y all
   arguments-forth y next all (integer z notes) v r b = let no = head_is (Named name) (integer z notes) x a v h r in absurd (cc)
   arguments-forth y next all (branch list kids notes) v r b = let no = head_is (Named name) (branch list kids notes) x a v h r in absurd (cc)
   arguments-forth y next all (branch tuple kids notes) v r b = let no = head_is (Named name) (branch tuple kids notes) x a v h r in absurd (cc)
@@ -163,7 +151,7 @@ module _ (levels : List Level) (name : Symbol) (x a : List ℕ) (h : NextName na
         | inr bare ↦ absurd (bare.0 y (subst (λ l. NextSign 40 l y) (sym only.1) next))
       ]
 
-  pub step-arguments : (y : List ℕ) → NextSign 40 a y → Continues Expected levels x Entered (new_level (Arguments name) ∷ levels) y
+  pub step-arguments : (y : List ℕ) → NextSign 40 a y → Continues expected levels x entered (new_level (arguments name) ∷ levels) y
   step-arguments y next = record {
     forth = λ all k. arguments-forth y next all k.0 k.1 k.2 k.3;
     back = λ all k. (branch (application name) k.0 k.3.0, k.3.1, (a, k.1, h, inl (y, next, k.2), k.3.2), subst (λ t. BehindWhole levels t k.3.1 all) (sym (rebuilt (application name) k.0 k.3.0)) k.3.3);
@@ -186,7 +174,7 @@ module _ (levels : List Level) (name : Symbol) (x a : List ℕ) (h : NextName na
         )
       ]
 
-  pub step-constant : ((y : List ℕ) → NextSign 40 a y → ⊥) → Continues Expected levels x (Base (application_term name [])) levels a
+  pub step-constant : ((y : List ℕ) → NextSign 40 a y → ⊥) → Continues expected levels x (base (application_term name [])) levels a
   step-constant no_sign = record {
     forth = λ all k. constant-forth no_sign all k.0 k.1 k.2 k.3;
     back = λ all k. (branch (application name) none k.0, k.1, (a, a, h, inr (no_sign, refl, refl), k.2), subst (λ t. BehindWhole levels t k.1 all) (λ i. branch (application name) none (of_list-to_list k.0 i)) k.3);
@@ -203,7 +191,7 @@ module _ (level : Level) (levels : List Level) (x : List ℕ) where
       (subst (λ l. BehindClosed (Outside levels) level.opened (level.done ++ []) l all) (sign_only (closing_of level.opened) x v y r next) b))
   closing-forth y next all (more t ts) v r b = absurd (no_term-reads t x r.0 (no_term-sign (closing_of level.opened) x y (closing-class level.opened) next) r.1)
 
-  pub step-closing : (y : List ℕ) → NextSign (closing_of level.opened) x y → Continues Entered (level ∷ levels) x (closed level.opened level.done) levels y
+  pub step-closing : (y : List ℕ) → NextSign (closing_of level.opened) x y → Continues entered (level ∷ levels) x (closed level.opened level.done) levels y
   step-closing y next = record {
     forth = λ all k. closing-forth y next all k.0 k.1 k.2 k.3;
     back = λ all k. (none, y, next, subst (λ l. BehindClosed (Outside levels) level.opened l y all) (sym (append-nil level.done)) (from_unread level.opened level.done levels y all k));
@@ -214,7 +202,7 @@ module _ (level : Level) (levels : List Level) (x : List ℕ) where
   entered-forth absent all none v r b = absurd (absent v r)
   entered-forth absent all (more t ts) v r b = (t, r.0, r.1, (ts, v, r.2, b))
 
-  pub step-entered : ((y : List ℕ) → NextSign (closing_of level.opened) x y → ⊥) → Continues Entered (level ∷ levels) x Expected (level ∷ levels) x
+  pub step-entered : ((y : List ℕ) → NextSign (closing_of level.opened) x y → ⊥) → Continues entered (level ∷ levels) x expected (level ∷ levels) x
   step-entered absent = record {
     forth = λ all k. entered-forth absent all k.0 k.1 k.2 k.3;
     back = λ all k. (more k.0 k.3.0, k.3.1, (k.1, k.2, k.3.2), k.3.3);
@@ -223,13 +211,13 @@ module _ (level : Level) (levels : List Level) (x : List ℕ) where
 -- ---- a base was read
 
 module _ (levels : List Level) (t : Tree) (x : List ℕ) where
-  annotations-forth : (y : List ℕ) → NextSign 123 x y → (all : Tree) → BehindBase (Outside levels) t x all → Unread Entered (new_level (Annotations t) ∷ levels) y all
+  annotations-forth : (y : List ℕ) → NextSign 123 x y → (all : Tree) → BehindBase (Outside levels) t x all → Unread entered (new_level (annotating t) ∷ levels) y all
   annotations-forth y next all k = elim k.2 [
     | inl opened ↦ (k.0, k.1, subst (λ l. ReadsUntil k.0 125 l k.1) (sign_only 123 x opened.0 y opened.1 next) opened.2, k.3)
     | inr bare ↦ absurd (bare.0 y next)
   ]
 
-  pub step-annotations : (y : List ℕ) → NextSign 123 x y → Continues (Base t) levels x Entered (new_level (Annotations t) ∷ levels) y
+  pub step-annotations : (y : List ℕ) → NextSign 123 x y → Continues (base t) levels x entered (new_level (annotating t) ∷ levels) y
   step-annotations y next = record {
     forth = annotations-forth y next;
     back = λ all k. (k.0, k.1, inl (y, next, k.2), k.3);
@@ -241,7 +229,7 @@ module _ (levels : List Level) (t : Tree) (x : List ℕ) where
     | inr bare ↦ subst (λ u. BehindWhole levels u x all) (ap (λ ns. with_annotations t (to_list ns)) bare.1 ∙ e) (subst (λ l. BehindWhole levels (with_annotations t (to_list k.0)) l all) bare.2 k.3)
   ]
 
-  pub step-bare : ((y : List ℕ) → NextSign 123 x y → ⊥) → IsBare (Base t) → Continues (Base t) levels x (Whole t) levels x
+  pub step-bare : ((y : List ℕ) → NextSign 123 x y → ⊥) → with_annotations t [] ≡ t → Continues (base t) levels x (whole t) levels x
   step-bare absent e = record {
     forth = bare-forth absent e;
     back = λ all k. (none, x, inr (absent, refl, refl), subst (λ u. BehindWhole levels u x all) (sym e) k);
@@ -260,7 +248,7 @@ module _ (level : Level) (levels : List Level) (t : Tree) (x : List ℕ) where
     (us, v, r.4, subst (λ l. BehindClosed (Outside levels) level.opened l v all) (sym (append_assoc level.done (t ∷ []) (u ∷ to_list us))) b),
   )
 
-  pub step-comma : (y : List ℕ) → NextSign 44 x y → Continues (Whole t) (level ∷ levels) x Expected (with_term level t ∷ levels) y
+  pub step-comma : (y : List ℕ) → NextSign 44 x y → Continues (whole t) (level ∷ levels) x expected (with_term level t ∷ levels) y
   step-comma y next = record {
     forth = λ all k. comma-forth y next all k.0 k.1 k.2 k.3;
     back = λ all k. (
@@ -278,7 +266,7 @@ module _ (level : Level) (levels : List Level) (t : Tree) (x : List ℕ) where
       (subst (λ l. BehindClosed (Outside levels) level.opened (level.done ++ t ∷ []) l all) (sign_only (closing_of level.opened) x v y r next) b)
   close-forth y next all (more u us) v r b = absurd (closing-comma level.opened (same_sign (closing_of level.opened) 44 x y r.0 next r.2))
 
-  pub step-close : (y : List ℕ) → NextSign (closing_of level.opened) x y → Continues (Whole t) (level ∷ levels) x (closed level.opened (level.done ++ t ∷ [])) levels y
+  pub step-close : (y : List ℕ) → NextSign (closing_of level.opened) x y → Continues (whole t) (level ∷ levels) x (closed level.opened (level.done ++ t ∷ [])) levels y
   step-close y next = record {
     forth = λ all k. close-forth y next all k.0 k.1 k.2 k.3;
     back = λ all k. (none, y, next, from_unread level.opened (level.done ++ t ∷ []) levels y all k);
@@ -288,24 +276,19 @@ module _ (level : Level) (levels : List Level) (t : Tree) (x : List ℕ) where
   stuck-more no_comma no_closing none v r = no_closing v r
   stuck-more no_comma no_closing (more u us) v r = no_comma r.0 r.2
 
-  pub stuck-whole : ((y : List ℕ) → NextSign 44 x y → ⊥) → ((y : List ℕ) → NextSign (closing_of level.opened) x y → ⊥) → IsStuck (Whole t) (level ∷ levels) x
+  pub stuck-whole : ((y : List ℕ) → NextSign 44 x y → ⊥) → ((y : List ℕ) → NextSign (closing_of level.opened) x y → ⊥) → IsStuck (whole t) (level ∷ levels) x
   stuck-whole no_comma no_closing all k = stuck-more no_comma no_closing k.0 k.1 k.2
 
-pub end-whole : (t : Tree) (x : List ℕ) → IsBlank x → IsEnd (Whole t) [] x t
+pub end-whole : (t : Tree) (x : List ℕ) → IsBlank x → IsEnd (whole t) [] x t
 end-whole t x blank = record { found = (blank, refl); only = λ all k. k.1 }
 
 -- ---- one step after another
 
-pub goes_after : (state state' : State) (levels levels' levels'' : List Level) (x : List ℕ) (step : Step) → Continues state levels x state' levels' x → Goes state' levels' x step levels'' → Goes state levels x step levels''
-goes_after state state' levels levels' levels'' x (More next rest) c g = record {
-  continues = record { forth = λ all h. g.continues.forth all (c.forth all h); back = λ all h. c.back all (g.continues.back all h) };
-  bare = g.bare;
-  shorter = g.shorter;
-}
-goes_after state state' levels levels' levels'' x (Done t) c g = record { found = c.back t g.found; only = λ all h. g.only all (c.forth all h) }
-
-pub stuck_after : (state state' : State) (levels levels' : List Level) (x : List ℕ) → Continues state levels x state' levels' x → IsStuck state' levels' x → IsStuck state levels x
-stuck_after state state' levels levels' x c stuck all h = stuck all (c.forth all h)
-
-pub continues_on : (a b c : State) (la lb lc : List Level) (x y z : List ℕ) → Continues a la x b lb y → Continues b lb y c lc z → Continues a la x c lc z
+pub continues_on : (a b c : Reading) (la lb lc : List Level) (x y z : List ℕ) → Continues a la x b lb y → Continues b lb y c lc z → Continues a la x c lc z
 continues_on a b c la lb lc x y z f g = record { forth = λ all h. g.forth all (f.forth all h); back = λ all h. f.back all (g.back all h) }
+
+pub stuck_after : (a b : Reading) (la lb : List Level) (x y : List ℕ) → Continues a la x b lb y → IsStuck b lb y → IsStuck a la x
+stuck_after a b la lb x y c stuck all h = stuck all (c.forth all h)
+
+pub end_after : (a b : Reading) (la lb : List Level) (x y : List ℕ) (t : Tree) → Continues a la x b lb y → IsEnd b lb y t → IsEnd a la x t
+end_after a b la lb x y t c e = record { found = c.back t e.found; only = λ all h. e.only all (c.forth all h) }

@@ -1,15 +1,16 @@
 -- What a term begins with is determined by the text.
-use Rattle.std.proofs.Common.{◌≡◌, ◌≢◌, ℕ, zero, suc, ℤ, ◌+◌, ◌<◌, ◌==◌, ◌||◌, ◌&&◌, cond, MatchBool, rules, Bool, true, false, IsTrue, List, [], ◌∷◌, length, take, refl, sym, ap, ◌∙◌, subst, arith}
+use Rattle.std.proofs.Common.{◌≡◌, ◌≢◌, ℕ, ℤ, ◌+◌, ◌<◌, ◌==◌, ◌||◌, ◌&&◌, cond, MatchBool, rules, Bool, true, false, Some, None, List, [], ◌∷◌, length, take, drop, refl, sym, ap, ◌∙◌, subst, arith}
 use Rattle.std.proofs.lemmas.Bool.Decides.{nat_tests}
 use Rattle.std.specs.Char.{is_ascii_digit}
 use Rattle.std.specs.List.{prefix_len}
 use Rattle.std.specs.Str.Parse.{without_leading_sign}
-use Rattle.term_core.specs.Word.{begins_word, continues_word, is_word}
+use Rattle.std.specs.declared.option.Option.{Option}
+use Rattle.term_core.specs.Word.{begins_word, continues_word, first_word}
 use Rattle.aterm_text.specs.Tokens.{without_blanks, NextSign, NextWord, NextQuoted, IsInteger, integer_len, ReadsItems}
 use Rattle.aterm_text.specs.Heads.{Begins, NoTerm}
 use Rattle.aterm_text.specs.declared.reader.head.Head.{Head}
 use Rattle.aterm_text.specs.declared.reader.head.Head.TheVariants.{Integer, Named, List as AList, Tuple}
-use Rattle.aterm_text.proofs.ScanLemmas.{items_only}
+use Rattle.aterm_text.proofs.ScanLemmas.{items_only, same_pair}
 
 -- ---- the first byte tells the kind of head: 0 where no term begins so
 
@@ -66,18 +67,21 @@ integer-begins : (text : List ℕ) (z : ℤ) → IsInteger (take (integer_len te
 integer-begins [] z h = let no : 0 < 0 = h.0.0 in absurd (omega arith)
 integer-begins (b ∷ bs) z h = record { first = b; rest = bs; is = refl; class = class-integer b (digits_first b bs (b == 45) (is_ascii_digit b) h.0.0) }
 
-word-first : (bytes text : List ℕ) (n : ℕ) → IsTrue (is_word bytes) → bytes ≡ take n text → (b : ℕ) × (bs : List ℕ) × (text ≡ b ∷ bs) × (begins_word b ≡ true)
-word-first [] text n h e = absurd (cc)
-word-first (c ∷ cs) text zero h e = absurd (cc)
-word-first (c ∷ cs) [] (suc n) h e = absurd (cc)
-word-first (c ∷ cs) (b ∷ bs) (suc n) h e = let first : c ≡ b = cc in (b, bs, refl, ap begins_word (sym first) ∙ and-true-left _ _ h)
+word_starts : (b : ℕ) (bs bytes y : List ℕ) (starts : Bool) → begins_word b ≡ starts
+    → ◌≡◌ {A = Option (List ℕ × List ℕ)} (cond starts (Some (b ∷ take (prefix_len continues_word bs) bs, drop (prefix_len continues_word bs) bs)) None) (Some (bytes, y)) → begins_word b ≡ true
+word_starts b bs bytes y true e h = e
+word_starts b bs bytes y false e h = absurd (cc)
 
-word-begins : (bytes text : List ℕ) (n : ℕ) → IsTrue (is_word bytes) → bytes ≡ take n text → BeginsWith text 1
-word-begins bytes text n h e = let found = word-first bytes text n h e in record { first = found.0; rest = found.1; is = found.2; class = class-word found.0 found.3 }
+word-first : (bytes text y : List ℕ) → first_word text ≡ Some (bytes, y) → (b : ℕ) × (bs : List ℕ) × (text ≡ b ∷ bs) × (begins_word b ≡ true)
+word-first bytes [] y h = absurd (cc)
+word-first bytes (b ∷ bs) y h = (b, bs, refl, word_starts b bs bytes y (begins_word b) refl h)
+
+word-begins : (bytes text y : List ℕ) → first_word text ≡ Some (bytes, y) → BeginsWith text 1
+word-begins bytes text y h = let found = word-first bytes text y h in record { first = found.0; rest = found.1; is = found.2; class = class-word found.0 found.3 }
 
 named-begins : (quoted : Bool) (bytes x y : List ℕ) → MatchBool quoted (NextQuoted bytes x y) (NextWord bytes x y) → BeginsWith (without_blanks x) (name_class quoted)
 named-begins true bytes x y h = record { first = 34; rest = h.0; is = h.1; class = refl }
-named-begins false bytes x y h = word-begins bytes (without_blanks x) (prefix_len continues_word (without_blanks x)) h.0 h.1
+named-begins false bytes x y h = word-begins bytes (without_blanks x) y h
 
 pub begins-class : (head : Head) (x y : List ℕ) → Begins head x y → BeginsWith (without_blanks x) (head_class head)
 begins-class (Integer z) x y h = integer-begins (without_blanks x) z h.0
@@ -101,7 +105,7 @@ named_only true true bytes bytes' x y z e h k =
     let rests : h.0 ≡ k.0 = cc in
     let only = items_only bytes bytes' h.0 y z h.2 (subst (λ l. ReadsItems bytes' l z) (sym rests) k.2) in
     (only.0, refl, only.1)
-named_only false false bytes bytes' x y z e h k = (h.1 ∙ sym k.1, refl, h.2 ∙ sym k.2)
+named_only false false bytes bytes' x y z e h k = let same = same_pair bytes bytes' y z (sym h ∙ k) in (same.0, refl, same.1)
 named_only true false bytes bytes' x y z e h k = absurd (omega arith)
 named_only false true bytes bytes' x y z e h k = absurd (omega arith)
 
@@ -135,7 +139,7 @@ named_none true bytes x y b r e no_quote no_word h =
     let same : ◌≡◌ {A = List ℕ} (b ∷ r) (34 ∷ h.0) = sym e ∙ h.1 in
     no_quote (cc)
 named_none false bytes x y b r e no_quote no_word h =
-    let found = word-first bytes (without_blanks x) (prefix_len continues_word (without_blanks x)) h.0 h.1 in
+    let found = word-first bytes (without_blanks x) y h in
     let same : ◌≡◌ {A = List ℕ} (b ∷ r) (found.0 ∷ found.1) = sym e ∙ found.2 in
     let first : b ≡ found.0 = cc in
     let no : false ≡ true = sym no_word ∙ ap begins_word first ∙ found.3 in

@@ -1,7 +1,5 @@
 -- What a term begins with.
-use Rattle.std.specs.Prelude.{◌≡◌, ℕ, false, IsTrue, List, take, drop}
-use Rattle.std.specs.List.{prefix_len}
-use Rattle.term_core.specs.Word.{continues_word, is_word}
+use Rattle.std.specs.Prelude.{ℕ, List}
 use Rattle.aterm_text.specs.Tokens.{NextSign, NextInteger, NextName}
 use Rattle.aterm_text.specs.declared.reader.head.Head.{Head}
 use Rattle.aterm_text.specs.declared.reader.head.Head.TheVariants.{Integer, Named, List as AList, Tuple}
@@ -17,9 +15,3 @@ Begins Tuple x y = NextSign open_round x y
 -- no term begins at the front of x
 abbrev pub NoTerm : List ℕ → Type 0
 NoTerm x = (head : Head) (y : List ℕ) → Begins head x y → ⊥
-
--- the head is the word at the front of x, and y follows it
-abbrev pub IsWordHead : List ℕ → Head → List ℕ → Type 0
-IsWordHead x head y = let bytes = take (prefix_len continues_word x) x in
-    IsTrue (is_word bytes) × (head ≡ Named (record { text = bytes; is_quoted = false }))
-    × (y ≡ drop (prefix_len continues_word x) x)

@@ -4,9 +4,11 @@ pub mod Grammar
 pub mod Nesting
 pub mod Printed
 pub mod Level
-pub mod Brackets
+pub mod Stack
+pub mod StackView
 pub mod Unread
 pub mod Heads
+pub mod Depth
 pub mod NestingPlaces
 pub mod Printing
 pub mod Laws

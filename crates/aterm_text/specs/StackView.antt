@@ -1,12 +1,23 @@
--- What the fields of `Levels` stand for.
-use Rattle.std.specs.Prelude.{List, map, reverse}
-use Rattle.aterm_text.specs.Level.{Level}
-use Rattle.aterm_text.specs.declared.reader.levels.Bracket.{Bracket}
-use Rattle.aterm_text.specs.declared.reader.levels.Levels.TheInside.{Inside}
+-- What the fields of the reader's stack stand for.
+use Rattle.std.specs.Prelude.{◌≤◌, List, [], ◌∷◌, length, take, drop, reverse}
+use Rattle.term_core.specs.Tree.{Tree}
+use Rattle.aterm_text.specs.Stack.{Stack, inside}
+use Rattle.aterm_text.specs.declared.reader.stack.Bracket.{Bracket}
+use Rattle.aterm_text.specs.declared.reader.stack.Stack.TheInside.{Inside}
 
-abbrev pub level_of : Bracket → Level
-level_of b = record { opened = b.opened; done = b.done.items }
+-- the terms, cut where the brackets stand, the innermost bracket first
+abbrev pub cut : List Bracket → List Tree → Stack
+cut [] ts = record { outside = ts; groups = [] }
+cut (b ∷ bs) ts = inside b.opened (drop b.before ts) (cut bs (take b.before ts))
 
--- the brackets, of which the innermost was opened last
-abbrev pub levels_of : Inside → List Level
-levels_of a = map level_of (reverse a.brackets.items)
+-- each bracket stands within the terms before those of the bracket in it
+abbrev pub IsCut : List Bracket → List Tree → Type 0
+IsCut [] ts = Unit {0}
+IsCut (b ∷ bs) ts = (b.before ≤ length ts) × IsCut bs (take b.before ts)
+
+-- the bracket that was opened last is the innermost
+abbrev pub stack_of : Inside → Stack
+stack_of a = cut (reverse a.brackets.items) a.terms.items
+
+abbrev pub IsStack : Inside → Type 0
+IsStack a = IsCut (reverse a.brackets.items) a.terms.items

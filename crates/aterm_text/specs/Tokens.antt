@@ -1,12 +1,12 @@
 -- The tokens of a text of the ATerm format. White space may stand before any of them, and a token
 -- is as long as it can be.
-use Rattle.std.specs.Prelude.{◌≡◌, ℕ, ℤ, ◌+◌, ◌*◌, ◌-◌, ◌==◌, ◌||◌, ◌&&◌, nat_lt, Bool, IsTrue, List, [], ◌∷◌, drop, take, Some, None, if◌then◌else◌, FitsSigned, MatchBool}
+use Rattle.std.specs.Prelude.{◌≡◌, ℕ, ℤ, ◌+◌, ◌*◌, ◌-◌, ◌==◌, ◌||◌, ◌&&◌, nat_lt, Bool, not, List, [], ◌∷◌, drop, take, Some, None, if◌then◌else◌, FitsSigned, MatchBool}
 use Rattle.std.specs.Int.{w64}
 use Rattle.std.specs.declared.option.Option.{Option}
 use Rattle.std.specs.Char.{is_ascii_digit}
 use Rattle.std.specs.List.{prefix_len}
 use Rattle.std.specs.Str.Parse.{IsNumeral, without_leading_sign, signed_digits_value}
-use Rattle.term_core.specs.Word.{continues_word, is_word}
+use Rattle.term_core.specs.Word.{first_word}
 use Rattle.term_core.specs.Tree.{Symbol}
 use Rattle.aterm_text.specs.Signs.{quote, backslash, minus}
 
@@ -88,6 +88,10 @@ item_at [] = None
 item_at (b ∷ rest) =
     if (b == quote) then None else if (b == backslash) then escape_at rest else Some (b, rest)
 
+-- a byte that stands for itself between quotes
+abbrev pub is_plain : ℕ → Bool
+is_plain b = not (b == quote) && not (b == backslash)
+
 -- items that stand for these bytes come first in x, then a quote, and y follows it
 abbrev pub ReadsItems : List ℕ → List ℕ → List ℕ → Type 0
 ReadsItems [] x y = x ≡ quote ∷ y
@@ -97,10 +101,7 @@ ReadsItems (b ∷ bs) x y = (a : List ℕ) × (item_at x ≡ Some (b, a)) × Rea
 
 -- the word comes first in x, and y follows it
 abbrev pub NextWord : List ℕ → List ℕ → List ℕ → Type 0
-NextWord bytes x y =
-    let text = without_blanks x in
-    IsTrue (is_word bytes) × (bytes ≡ take (prefix_len continues_word text) text)
-    × (y ≡ drop (prefix_len continues_word text) text)
+NextWord bytes x y = first_word (without_blanks x) ≡ Some (bytes, y)
 
 -- the quoted name of these bytes comes first in x, and y follows it
 abbrev pub NextQuoted : List ℕ → List ℕ → List ℕ → Type 0

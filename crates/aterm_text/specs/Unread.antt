@@ -4,21 +4,30 @@ use Rattle.std.specs.Prelude.{◌≡◌, ◌<◌, ℕ, List, [], ◌∷◌, ◌+
 use Rattle.term_core.specs.Tree.{Tree, Trees, to_list, application_term, list_term, tuple_term, with_annotations}
 use Rattle.aterm_text.specs.Tokens.{IsBlank}
 use Rattle.aterm_text.specs.Grammar.{Reads, ReadsUntil, ReadsMore, Optional}
-use Rattle.aterm_text.specs.Level.{Level, closing_of}
-use Rattle.aterm_text.specs.declared.reader.levels.Opened.{Opened}
-use Rattle.aterm_text.specs.declared.reader.levels.Opened.TheVariants.{Arguments, List as AList, Tuple, Annotations}
+use Rattle.aterm_text.specs.Level.{Bracket, arguments, elements, components, annotating, Level, closing_of}
+use Rattle.aterm_text.specs.Stack.{Stack, no_terms, with_top, inside}
+use Rattle.aterm_text.specs.declared.reader.stack.Opened.{Opened}
+use Rattle.aterm_text.specs.declared.reader.stack.Opened.TheVariants.{Arguments, List as AList, Tuple, Annotations}
 use Rattle.aterm_text.specs.declared.reader.machine.State.{State}
 use Rattle.aterm_text.specs.declared.reader.machine.State.TheVariants.{Expected, Entered, Base, Whole}
 use Rattle.aterm_text.specs.declared.reader.machine.Step.{Step}
 use Rattle.aterm_text.specs.declared.reader.machine.Step.TheVariants.{More, Done}
 use Rattle.aterm_text.specs.Signs.{open_curly, close_curly}
 
+-- What was read last: the start of the text or a comma, an opening bracket, a term without
+-- annotations that may come now, or a term with its annotations.
+pub data Reading : Type 0 where
+  expected : Reading
+  entered : Reading
+  base : Tree → Reading
+  whole : Tree → Reading
+
 -- what closing a bracket gives: a base, to which annotations may be added, or a term that has them
-abbrev pub closed : Opened → List Tree → State
-closed (Arguments name) us = Base (application_term name us)
-closed AList us = Base (list_term us)
-closed Tuple us = Base (tuple_term us)
-closed (Annotations t) us = Whole (with_annotations t us)
+abbrev pub closed : Bracket → List Tree → Reading
+closed (arguments name) us = base (application_term name us)
+closed elements us = base (list_term us)
+closed components us = base (tuple_term us)
+closed (annotating t) us = whole (with_annotations t us)
 
 -- Behind a base: the annotations that there may be, and then what R says of the whole term.
 abbrev pub BehindBase : (Tree → List ℕ → Tree → Type 0) → Tree → List ℕ → Tree → Type 0
@@ -28,12 +37,12 @@ BehindBase R t x all =
     × R (with_annotations t (to_list notes)) y all
 
 -- behind what closing a bracket gives
-abbrev pub BehindClosed : (Tree → List ℕ → Tree → Type 0) → Opened → List Tree → List ℕ → Tree
+abbrev pub BehindClosed : (Tree → List ℕ → Tree → Type 0) → Bracket → List Tree → List ℕ → Tree
     → Type 0
-BehindClosed R (Arguments name) us x all = BehindBase R (application_term name us) x all
-BehindClosed R AList us x all = BehindBase R (list_term us) x all
-BehindClosed R Tuple us x all = BehindBase R (tuple_term us) x all
-BehindClosed R (Annotations t) us x all = R (with_annotations t us) x all
+BehindClosed R (arguments name) us x all = BehindBase R (application_term name us) x all
+BehindClosed R elements us x all = BehindBase R (list_term us) x all
+BehindClosed R components us x all = BehindBase R (tuple_term us) x all
+BehindClosed R (annotating t) us x all = R (with_annotations t us) x all
 
 -- Behind a whole term t, inside these levels, x makes the text spell `all`: nothing more is open
 -- and only white space follows, or more terms and the closing bracket do, and so on outside.
@@ -56,49 +65,90 @@ BehindOpening (level ∷ levels) x all =
     × BehindClosed (λ u v w. BehindWhole levels u v w) level.opened (level.done ++ to_list us) y all
 
 -- what x has still to spell, so that the whole text spells `all`
-abbrev pub Unread : State → List Level → List ℕ → Tree → Type 0
-Unread Expected levels x all = BeforeTerm levels x all
-Unread Entered levels x all = BehindOpening levels x all
-Unread (Base t) levels x all = BehindBase (λ u v w. BehindWhole levels u v w) t x all
-Unread (Whole t) levels x all = BehindWhole levels t x all
+abbrev pub Unread : Reading → List Level → List ℕ → Tree → Type 0
+Unread expected levels x all = BeforeTerm levels x all
+Unread entered levels x all = BehindOpening levels x all
+Unread (base t) levels x all = BehindBase (λ u v w. BehindWhole levels u v w) t x all
+Unread (whole t) levels x all = BehindWhole levels t x all
 
--- no annotations were given to a base yet
-abbrev pub IsBare : State → Type 0
-IsBare Expected = Unit {0}
-IsBare Entered = Unit {0}
-IsBare (Base t) = with_annotations t [] ≡ t
-IsBare (Whole t) = Unit {0}
-
--- Reading went from one state to another and lost or added nothing: what the rest had to spell
+-- Reading went from one place to another and lost or added nothing: what the rest had to spell
 -- before, it has to spell now.
-pub record Continues (state : State) (levels : List Level) (x : List ℕ) (state' : State)
+pub record Continues (r : Reading) (levels : List Level) (x : List ℕ) (r' : Reading)
     (levels' : List Level) (x' : List ℕ) : Type 0 where
-  pub forth : (all : Tree) → Unread state levels x all → Unread state' levels' x' all
-  pub back : (all : Tree) → Unread state' levels' x' all → Unread state levels x all
+  pub forth : (all : Tree) → Unread r levels x all → Unread r' levels' x' all
+  pub back : (all : Tree) → Unread r' levels' x' all → Unread r levels x all
 
 -- the rest can't make the text spell a term
-abbrev pub IsStuck : State → List Level → List ℕ → Type 0
-IsStuck state levels x = (all : Tree) → Unread state levels x all → ⊥
+abbrev pub IsStuck : Reading → List Level → List ℕ → Type 0
+IsStuck r levels x = (all : Tree) → Unread r levels x all → ⊥
 
 -- only this term is what the whole text spells
-pub record IsEnd (state : State) (levels : List Level) (x : List ℕ) (t : Tree) : Type 0 where
-  pub found : Unread state levels x t
-  pub only : (all : Tree) → Unread state levels x all → all ≡ t
+pub record IsEnd (r : Reading) (levels : List Level) (x : List ℕ) (t : Tree) : Type 0 where
+  pub found : Unread r levels x t
+  pub only : (all : Tree) → Unread r levels x all → all ≡ t
+
+-- ---- what the reader's state and its stack stand for
+
+abbrev pub opened_of : Bracket → Opened
+opened_of (arguments name) = Arguments name
+opened_of elements = AList
+opened_of components = Tuple
+opened_of (annotating t) = Annotations
+
+-- The stack before a bracket has R; where the bracket gives annotations to a term, that term is on
+-- top of a stack that has R.
+abbrev pub Before : (Stack → Type 0) → Bracket → Stack → Type 0
+Before R (arguments name) s = R s
+Before R elements s = R s
+Before R components s = R s
+Before R (annotating t) s = (below : Stack) × (s ≡ with_top t below) × R below
+
+-- the stack holds these levels, and no other term
+abbrev pub Holds : List Level → Stack → Type 0
+Holds [] s = s ≡ no_terms
+Holds (level ∷ levels) s =
+    (before : Stack) × (s ≡ inside (opened_of level.opened) level.done before)
+    × Before (λ u. Holds levels u) level.opened before
+
+-- The state and the stack stand for this reading within these levels. The term that was read last is
+-- on top of the stack.
+abbrev pub Stands : Reading → List Level → State → Stack → Type 0
+Stands expected levels state s = (state ≡ Expected) × Holds levels s
+Stands entered levels state s = (state ≡ Entered) × Holds levels s
+Stands (base t) levels state s =
+    (below : Stack) × (state ≡ Base) × (s ≡ with_top t below) × Holds levels below
+    × (with_annotations t [] ≡ t)
+Stands (whole t) levels state s =
+    (below : Stack) × (state ≡ Whole) × (s ≡ with_top t below) × Holds levels below
+
+-- ---- the steps of the machine
 
 -- a step that goes on takes at least a byte and loses nothing
-pub record GoesOn (state : State) (levels : List Level) (x : List ℕ) (state' : State)
-    (levels' : List Level) (x' : List ℕ) : Type 0 where
-  pub continues : Continues state levels x state' levels' x'
-  pub bare : IsBare state'
+pub record GoesOn (r : Reading) (levels : List Level) (x : List ℕ) (state' : State) (s' : Stack)
+    (x' : List ℕ) : Type 0 where
+  pub reading : Reading
+  pub levels' : List Level
+  pub stands : Stands reading levels' state' s'
+  pub continues : Continues r levels x reading levels' x'
   pub shorter : length x' < length x
 
--- where a step leads to
-abbrev pub Goes : State → List Level → List ℕ → Step → List Level → Type 0
-Goes state levels x (More state' rest) levels' = GoesOn state levels x state' levels' rest.now
-Goes state levels x (Done t) levels' = IsEnd state levels x t
+-- where a step leads to from one reading
+abbrev pub Goes : Reading → List Level → List ℕ → Step → Stack → Type 0
+Goes r levels x (More state' rest) s' = GoesOn r levels x state' s' rest.now
+Goes r levels x Done s' = (t : Tree) × (s' ≡ with_top t no_terms) × IsEnd r levels x t
 
--- the state and the levels after the innermost bracket is closed
-abbrev pub IsClosed : List Level → State → List Level → Type 0
-IsClosed [] state levels' = ⊥
-IsClosed (level ∷ levels) state levels' =
-    (state ≡ closed level.opened level.done) × (levels' ≡ levels)
+-- where a step leads to, for all that the state and the stack may stand for
+abbrev pub Leads : State → Stack → List ℕ → Step → Stack → Type 0
+Leads state s x step s' =
+    (r : Reading) (levels : List Level) → Stands r levels state s → Goes r levels x step s'
+
+-- the text spells no term, whatever the state and the stack stand for
+abbrev pub IsLost : State → Stack → List ℕ → Type 0
+IsLost state s x =
+    (r : Reading) (levels : List Level) → Stands r levels state s → IsStuck r levels x
+
+-- the state and the stack after the innermost bracket is closed
+abbrev pub IsClosed : Stack → State → Stack → Type 0
+IsClosed s state s' =
+    (level : Level) (levels : List Level) → Holds (level ∷ levels) s
+    → Stands (closed level.opened level.done) levels state s'

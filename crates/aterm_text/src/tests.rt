@@ -16,7 +16,7 @@ fn printed(alloc: Global, text: &[u8]) -> Result<Vec<u8>, Fail> {
 #[test]
 fn texts_read_and_printed(rt: HostRuntime) -> Result<(), Fail> {
     let alloc = rt.alloc();
-    let table: [(&[u8], &[u8]); 15] = [
+    let table: [(&[u8], &[u8]); 16] = [
         (b"f(a,[1,2])", b"f(a,[1,2])"),
         (b"-0", b"0"),
         (b"-9223372036854775808", b"-9223372036854775808"),
@@ -31,6 +31,7 @@ fn texts_read_and_printed(rt: HostRuntime) -> Result<(), Fail> {
         (b"a{1}", b"a{1}"),
         (b"[a{b{c}},(1)]{d,e}", b"[a{b{c}},(1)]{d,e}"),
         (b"\"a\nb\\\\\"", b"\"a\\nb\\\\\""),
+        (b"\"\\tab\\\"c\\061d\"", b"\"\\tab\\\"c1d\""),
         (b"\r\n\t _a-b+c*d$e.f'( ) ", b"_a-b+c*d$e.f'"),
     ];
     for (text, spelling) in table {
@@ -126,5 +127,10 @@ fn deep_texts(rt: HostRuntime) -> Result<(), Fail> {
         assert!(rt; matches!(read(alloc, &text), Err(ReadFault::Deep)));
     }
     assert!(rt; matches!(read_annotations(alloc, &[b'{'; 1001]), Err(ReadFault::Deep)));
+    // The nesting is tested before anything else, also behind what spells no term.
+    let mut text = vec![in alloc; b'['; 1001]?;
+    text.insert(0, b',')?;
+    assert!(rt; matches!(read(alloc, &text), Err(ReadFault::Deep)));
+    assert!(rt; matches!(read_annotations(alloc, &text), Err(ReadFault::Deep)));
     Ok(())
 }

@@ -1,65 +1,87 @@
-//! The machine that reads a term: a state, the open brackets and the rest of the text. Each step
-//! but the last takes at least one byte, and none looks at a byte before the rest.
+//! The machine that reads a term: a state, the terms so far with the open brackets, and the rest of
+//! the text. Each step but the last takes at least one byte, and none looks at a byte before the
+//! rest.
 
-ghost use Rattle.std.specs.Prelude.{◌≡◌, ◌≢◌, ◌<◌, ◌∷◌, [], ℕ, List, IfOk, Err, length};
+ghost use Rattle.std.specs.Prelude.{◌≡◌, ◌<◌, ◌≤◌, ◌-◌, ℕ, List, [], IfOk, OnOk, Err, length};
 ghost use Rattle.term_core.specs.Tree.{Tree, Symbol};
-ghost use Rattle.aterm_text.specs.Tokens.{NextName};
-ghost use Rattle.aterm_text.specs.Level.{Level};
-ghost use Rattle.aterm_text.specs.Unread.{Unread, Continues, IsStuck, IsBare, Goes, IsClosed};
+ghost use Rattle.aterm_text.specs.Tokens.{NextName, without_blanks};
+ghost use Rattle.aterm_text.specs.Stack.{inside};
+ghost use Rattle.aterm_text.specs.Depth.{depth, IsTooDeep, KeepsDepth};
+ghost use Rattle.aterm_text.specs.Unread.{Reading, Unread, Stands, Leads, IsLost, IsClosed};
 
+use crate::MAX_NESTING;
 use crate::reader::ReadFault;
 use crate::reader::head::{Head, first_head};
-use crate::reader::levels::{Levels, Opened};
-use crate::reader::scan::{after_blanks, after_sign};
+use crate::reader::scan::{after_blanks, after_byte};
+use crate::reader::stack::{Opened, Stack};
 use std::alloc::Global;
-use term_core::{Name, Term};
+use term_core::{Name, NoMemory, Term};
 
 /// What was read last.
-#[derive(Drop)]
+#[derive(Clone, Copy)]
 pub enum State {
     /// The start of the text, or a comma: a term has to begin.
     Expected,
     /// An opening bracket: a term may begin, or the bracket is closed.
     Entered,
-    /// A term without annotations, which may come now.
-    Base(Term),
-    /// A term with its annotations.
-    Whole(Term),
+    /// A term without annotations, which may come now. It is on top of the stack.
+    Base,
+    /// A term with its annotations. It is on top of the stack.
+    Whole,
 }
 
 /// What a step of the machine leads to.
-#[derive(Drop)]
+#[derive(Clone, Copy)]
 pub enum Step<'a> {
     /// The next state, and the rest of the text.
     More(State, &'a [u8]),
-    /// The term that the whole text spells.
-    Done(Term),
+    /// The end of the text: the one term on the stack is what it spells.
+    Done,
+}
+
+// Opens a bracket, where not too many are open.
+fn enter(stack: &mut Stack, opened: Opened) -> Result<(), ReadFault>
+    ensures ok { OnOk result (stack.new ≡ inside opened [] stack.old) }
+    ensures few { OnOk result (depth stack.old < MAX_NESTING) }
+    ensures term { result ≡ Err ReadFault.Term → ⊥ }
+    ensures deep { result ≡ Err ReadFault.Deep → MAX_NESTING ≤ depth stack.old }
+{
+    if stack.depth() as u64 >= MAX_NESTING {
+        return Err(ReadFault::Deep);
+    }
+    stack.enter(opened)?;
+    Ok(())
 }
 
 // A term has to begin.
-fn expect_term<'a>(
-    alloc: Global,
-    levels: &mut Levels,
-    text: &'a [u8],
-) -> Result<Step<'a>, ReadFault>
-    ensures goes { IfOk result (λ step. Goes State.Expected levels.old text.now step levels.new) }
-    ensures none { result ≡ Err ReadFault.Term → IsStuck State.Expected levels.old text.now }
-    ensures deep { result ≡ Err ReadFault.Deep → ⊥ }
+fn expect_term<'a>(alloc: Global, stack: &mut Stack, text: &'a [u8]) -> Result<Step<'a>, ReadFault>
+    requires { without_blanks text.now ≡ text.now }
+    ensures leads { IfOk result (λ step. Leads State.Expected stack.old text.now step stack.new) }
+    ensures none { result ≡ Err ReadFault.Term → IsLost State.Expected stack.old text.now }
+    ensures nesting { IfOk result (λ step. KeepsDepth stack.old text.now step stack.new) }
+    ensures deep { result ≡ Err ReadFault.Deep → IsTooDeep (depth stack.old) text.now }
 {
     let (head, rest) = match first_head(alloc, text) {
         Ok(found) => found,
         Err(fault) => return Err(fault),
     };
     match head {
-        Head::Integer(value) => Ok(Step::More(State::Base(Term::integer(alloc, value)), rest)),
-        Head::Named(name) => behind_name(alloc, levels, name, rest),
+        Head::Integer(value) => {
+            stack.push(Term::integer(alloc, value))?;
+            Ok(Step::More(State::Base, rest))
+        }
+        Head::Named(name) => behind_name(alloc, stack, name, rest),
         Head::List => {
-            levels.enter(Opened::List)?;
-            Ok(Step::More(State::Entered, rest))
+            match enter(stack, Opened::List) {
+                Ok(()) => Ok(Step::More(State::Entered, rest)),
+                Err(fault) => Err(fault),
+            }
         }
         Head::Tuple => {
-            levels.enter(Opened::Tuple)?;
-            Ok(Step::More(State::Entered, rest))
+            match enter(stack, Opened::Tuple) {
+                Ok(()) => Ok(Step::More(State::Entered, rest)),
+                Err(fault) => Err(fault),
+            }
         }
     }
 }
@@ -67,112 +89,112 @@ fn expect_term<'a>(
 // A name was read: a bracket that comes next holds its arguments.
 fn behind_name<'a>(
     alloc: Global,
-    levels: &mut Levels,
+    stack: &mut Stack,
     name: Name,
     text: &'a [u8],
 ) -> Result<Step<'a>, ReadFault>
-    ensures goes { IfOk result (λ step. (x : List ℕ) →
+    ensures leads { IfOk result (λ step. (x : List ℕ) →
         NextName name x text.now → length text.now < length x →
-        Goes State.Expected levels.old x step levels.new) }
+        Leads State.Expected stack.old x step stack.new) }
     ensures fault { result ≡ Err ReadFault.Term → ⊥ }
-    ensures deep { result ≡ Err ReadFault.Deep → ⊥ }
+    ensures nesting { IfOk result (λ step. KeepsDepth stack.old text.now step stack.new) }
+    ensures deep { result ≡ Err ReadFault.Deep → IsTooDeep (depth stack.old) text.now }
 {
-    match after_sign(b'(', text) {
+    let text = after_blanks(text);
+    match after_byte(b'(', text) {
         Some(rest) => {
-            levels.enter(Opened::Arguments(name))?;
-            Ok(Step::More(State::Entered, rest))
+            match enter(stack, Opened::Arguments(name)) {
+                Ok(()) => Ok(Step::More(State::Entered, rest)),
+                Err(fault) => Err(fault),
+            }
         }
         None => {
-            let constant = Term::application(alloc, name, Vec::new(alloc));
-            Ok(Step::More(State::Base(constant), text))
+            stack.push(Term::application(alloc, name, Vec::new(alloc)))?;
+            Ok(Step::More(State::Base, text))
         }
     }
 }
 
-// Leaves the innermost bracket.
-fn close(alloc: Global, levels: &mut Levels) -> State
-    requires { levels.old ≢ [] }
-    ensures { IsClosed levels.old result levels.new }
+// Leaves the innermost bracket: what is in it becomes one term, or annotations of the one before.
+fn close(alloc: Global, stack: &mut Stack) -> Result<State, NoMemory>
+    ensures closed { IfOk result (λ state. IsClosed stack.old state stack.new) }
+    ensures depth { IfOk result (λ _. depth stack.new ≡ depth stack.old - 1) }
 {
-    let Some((opened, done)) = levels.leave() else {
-        unreachable!()
+    let Some((opened, terms)) = stack.leave()? else {
+        return Ok(State::Base);
     };
-    match opened {
-        Opened::Arguments(name) => State::Base(Term::application(alloc, name, done)),
-        Opened::List => State::Base(Term::list(alloc, done)),
-        Opened::Tuple => State::Base(Term::tuple(alloc, done)),
-        Opened::Annotations(base) => State::Whole(base.with_annotations(done)),
-    }
+    let term = match opened {
+        Opened::Arguments(name) => Term::application(alloc, name, terms),
+        Opened::List => Term::list(alloc, terms),
+        Opened::Tuple => Term::tuple(alloc, terms),
+        Opened::Annotations => {
+            stack.annotate(terms);
+            return Ok(State::Whole);
+        }
+    };
+    stack.push(term)?;
+    Ok(State::Base)
 }
 
 // An opening bracket was read.
 fn behind_opening<'a>(
     alloc: Global,
-    levels: &mut Levels,
+    stack: &mut Stack,
     text: &'a [u8],
 ) -> Result<Step<'a>, ReadFault>
-    ensures goes { IfOk result (λ step. Goes State.Entered levels.old text.now step levels.new) }
-    ensures none { result ≡ Err ReadFault.Term → IsStuck State.Entered levels.old text.now }
-    ensures deep { result ≡ Err ReadFault.Deep → ⊥ }
+    requires { without_blanks text.now ≡ text.now }
+    ensures leads { IfOk result (λ step. Leads State.Entered stack.old text.now step stack.new) }
+    ensures none { result ≡ Err ReadFault.Term → IsLost State.Entered stack.old text.now }
+    ensures nesting { IfOk result (λ step. KeepsDepth stack.old text.now step stack.new) }
+    ensures deep { result ≡ Err ReadFault.Deep → IsTooDeep (depth stack.old) text.now }
 {
-    let Some(closing) = levels.closing() else {
+    let Some(closing) = stack.closing() else {
         return Err(ReadFault::Term);
     };
-    match after_sign(closing, text) {
-        Some(rest) => Ok(Step::More(close(alloc, levels), rest)),
-        None => expect_term(alloc, levels, text),
+    match after_byte(closing, text) {
+        Some(rest) => Ok(Step::More(close(alloc, stack)?, rest)),
+        None => expect_term(alloc, stack, text),
     }
 }
 
 // A base was read: a bracket that comes next holds its annotations.
-fn behind_base<'a>(
-    alloc: Global,
-    levels: &mut Levels,
-    base: Term,
-    text: &'a [u8],
-) -> Result<Step<'a>, ReadFault>
-    requires { IsBare (State.Base base) }
-    ensures goes { IfOk result (λ step.
-        Goes (State.Base base) levels.old text.now step levels.new) }
-    ensures none { result ≡ Err ReadFault.Term → IsStuck (State.Base base) levels.old text.now }
-    ensures deep { result ≡ Err ReadFault.Deep → ⊥ }
+fn behind_base<'a>(alloc: Global, stack: &mut Stack, text: &'a [u8]) -> Result<Step<'a>, ReadFault>
+    requires { without_blanks text.now ≡ text.now }
+    ensures leads { IfOk result (λ step. Leads State.Base stack.old text.now step stack.new) }
+    ensures none { result ≡ Err ReadFault.Term → IsLost State.Base stack.old text.now }
+    ensures nesting { IfOk result (λ step. KeepsDepth stack.old text.now step stack.new) }
+    ensures deep { result ≡ Err ReadFault.Deep → IsTooDeep (depth stack.old) text.now }
 {
-    match after_sign(b'{', text) {
+    match after_byte(b'{', text) {
         Some(rest) => {
-            levels.enter(Opened::Annotations(base))?;
-            Ok(Step::More(State::Entered, rest))
+            match enter(stack, Opened::Annotations) {
+                Ok(()) => Ok(Step::More(State::Entered, rest)),
+                Err(fault) => Err(fault),
+            }
         }
-        None => behind_whole(alloc, levels, base, text),
+        None => behind_whole(alloc, stack, text),
     }
 }
 
 // A whole term was read: a comma, the closing bracket or the end of the text comes next.
-fn behind_whole<'a>(
-    alloc: Global,
-    levels: &mut Levels,
-    term: Term,
-    text: &'a [u8],
-) -> Result<Step<'a>, ReadFault>
-    ensures goes { IfOk result (λ step.
-        Goes (State.Whole term) levels.old text.now step levels.new) }
-    ensures none { result ≡ Err ReadFault.Term → IsStuck (State.Whole term) levels.old text.now }
-    ensures deep { result ≡ Err ReadFault.Deep → ⊥ }
+fn behind_whole<'a>(alloc: Global, stack: &mut Stack, text: &'a [u8]) -> Result<Step<'a>, ReadFault>
+    requires { without_blanks text.now ≡ text.now }
+    ensures leads { IfOk result (λ step. Leads State.Whole stack.old text.now step stack.new) }
+    ensures none { result ≡ Err ReadFault.Term → IsLost State.Whole stack.old text.now }
+    ensures nesting { IfOk result (λ step. KeepsDepth stack.old text.now step stack.new) }
+    ensures deep { result ≡ Err ReadFault.Deep → IsTooDeep (depth stack.old) text.now }
 {
-    let Some(closing) = levels.closing() else {
-        if after_blanks(text).is_empty() {
-            return Ok(Step::Done(term));
+    let Some(closing) = stack.closing() else {
+        if text.is_empty() {
+            return Ok(Step::Done);
         }
         return Err(ReadFault::Term);
     };
-    if let Some(rest) = after_sign(b',', text) {
-        levels.add(term)?;
+    if let Some(rest) = after_byte(b',', text) {
         return Ok(Step::More(State::Expected, rest));
     }
-    match after_sign(closing, text) {
-        Some(rest) => {
-            levels.add(term)?;
-            Ok(Step::More(close(alloc, levels), rest))
-        }
+    match after_byte(closing, text) {
+        Some(rest) => Ok(Step::More(close(alloc, stack)?, rest)),
         None => Err(ReadFault::Term),
     }
 }
@@ -180,41 +202,51 @@ fn behind_whole<'a>(
 // One step of the machine.
 fn make_step<'a>(
     alloc: Global,
-    levels: &mut Levels,
+    stack: &mut Stack,
     state: State,
     text: &'a [u8],
 ) -> Result<Step<'a>, ReadFault>
-    requires { IsBare state }
-    ensures goes { IfOk result (λ step. Goes state levels.old text.now step levels.new) }
-    ensures none { result ≡ Err ReadFault.Term → IsStuck state levels.old text.now }
-    ensures deep { result ≡ Err ReadFault.Deep → ⊥ }
+    ensures leads { IfOk result (λ step. Leads state stack.old text.now step stack.new) }
+    ensures none { result ≡ Err ReadFault.Term → IsLost state stack.old text.now }
+    ensures nesting { IfOk result (λ step. KeepsDepth stack.old text.now step stack.new) }
+    ensures deep { result ≡ Err ReadFault.Deep → IsTooDeep (depth stack.old) text.now }
 {
+    let text = after_blanks(text);
     match state {
-        State::Expected => expect_term(alloc, levels, text),
-        State::Entered => behind_opening(alloc, levels, text),
-        State::Base(base) => behind_base(alloc, levels, base, text),
-        State::Whole(term) => behind_whole(alloc, levels, term, text),
+        State::Expected => expect_term(alloc, stack, text),
+        State::Entered => behind_opening(alloc, stack, text),
+        State::Base => behind_base(alloc, stack, text),
+        State::Whole => behind_whole(alloc, stack, text),
     }
 }
 
-/// Runs the machine from a state to its end, where no bracket is open yet.
-pub fn read_from(alloc: Global, start: State, text: &[u8]) -> Result<Term, ReadFault>
-    requires { IsBare start }
-    ensures found { IfOk result (λ t. Unread start [] text.now t) }
-    ensures only { IfOk result (λ t. (u : Tree) → Unread start [] text.now u → u ≡ t) }
-    ensures none { result ≡ Err ReadFault.Term → IsStuck start [] text.now }
-    ensures deep { result ≡ Err ReadFault.Deep → ⊥ }
+/// Runs the machine to its end, from a state and a stack where no bracket is open yet.
+pub fn read_from(alloc: Global, stack: Stack, start: State, text: &[u8]) -> Result<Term, ReadFault>
+    requires stands { (r : Reading) × Stands r [] start stack }
+    requires closed { depth stack ≡ 0 }
+    ensures found { IfOk result (λ t. (r : Reading) → Stands r [] start stack
+        → Unread r [] text.now t) }
+    ensures only { IfOk result (λ t. (r : Reading) → Stands r [] start stack
+        → (u : Tree) → Unread r [] text.now u → u ≡ t) }
+    ensures none { result ≡ Err ReadFault.Term → (r : Reading) → Stands r [] start stack
+        → (u : Tree) → Unread r [] text.now u → ⊥ }
+    ensures shallow { IfOk result (λ _. IsTooDeep 0 text.now → ⊥) }
+    ensures deep { result ≡ Err ReadFault.Deep → IsTooDeep 0 text.now }
 {
-    let mut levels = Levels::new(alloc);
+    let mut stack = stack;
     let mut state = start;
     let mut rest = text;
     loop {
-        match make_step(alloc, &mut levels, state, rest)? {
-            Step::Done(term) => return Ok(term),
+        match make_step(alloc, &mut stack, state, rest)? {
             Step::More(next, left) => {
                 state = next;
                 rest = left;
             }
+            Step::Done => break,
         }
+    }
+    match stack.into_term() {
+        Some(term) => Ok(term),
+        None => Err(ReadFault::Term),
     }
 }

@@ -1,19 +1,20 @@
 //! Reading terms.
 
-ghost use Rattle.std.specs.Prelude.{◌≡◌, ◌<◌, ◌≤◌, ◌↔◌, ℕ, List, OnOk, IfOk, IfErr, Err};
+ghost use Rattle.std.specs.Prelude.{◌≡◌, ◌≢◌, ◌<◌, ◌≤◌, ◌↔◌, ℕ, List, IfOk, Err};
 ghost use Rattle.term_core.specs.Tree.{Tree};
 ghost use Rattle.aterm_text.specs.Nesting.{nesting as nesting_of};
 ghost use Rattle.aterm_text.specs.Grammar.{Spells, SpellsAnnotations};
 
 mod head;
-mod levels;
 mod machine;
 mod scan;
+mod stack;
 
 use crate::{MAX_NESTING, nesting};
 use machine::{State, read_from};
 pub use scan::{after_blanks, is_blank};
-use std::alloc::{AllocFailed, Global};
+use stack::Stack;
+use std::alloc::{AllocError, AllocFailed, Global};
 use term_core::{NoMemory, Term};
 use thiserror::Error;
 
@@ -41,8 +42,10 @@ pub fn read(alloc: Global, text: &[u8]) -> Result<Term, ReadFault>
     ensures only { IfOk result (λ t. (u : Tree) → Spells text.now u → u ≡ t) }
     ensures no_term { result ≡ Err ReadFault.Term → (u : Tree) → Spells text.now u → ⊥ }
 {
-    check_nesting(text)?;
-    read_from(alloc, State::Expected, text)
+    match read_from(alloc, Stack::new(alloc), State::Expected, text) {
+        Ok(term) => Ok(term),
+        Err(fault) => Err(first_fault(text, fault)),
+    }
 }
 
 /// The list of annotations that the text spells: an annotation part alone, with white space round
@@ -55,13 +58,30 @@ pub fn read_annotations(alloc: Global, text: &[u8]) -> Result<Vec<Term>, ReadFau
     ensures no_term { result ≡ Err ReadFault.Term →
         (us : List Tree) → SpellsAnnotations text.now us → ⊥ }
 {
-    check_nesting(text)?;
-    let Some(_inside) = scan::after_sign(b'{', text) else {
+    match read_alone(alloc, text) {
+        Ok(annotations) => Ok(annotations),
+        Err(fault) => Err(first_fault(text, fault)),
+    }
+}
+
+// The list of annotations that the text spells. A fault is given as it is met.
+fn read_alone(alloc: Global, text: &[u8]) -> Result<Vec<Term>, ReadFault>
+    ensures spelled { IfOk result (λ ts. SpellsAnnotations text.now ts.items) }
+    ensures only { IfOk result (λ ts.
+        (us : List Tree) → SpellsAnnotations text.now us → us ≡ ts.items) }
+    ensures no_term { result ≡ Err ReadFault.Term →
+        (us : List Tree) → SpellsAnnotations text.now us → ⊥ }
+    ensures shallow { IfOk result (λ _. nesting_of text.now ≤ MAX_NESTING) }
+    ensures deep { result ≡ Err ReadFault.Deep → MAX_NESTING < nesting_of text.now }
+{
+    let text = after_blanks(text);
+    let Some(_inside) = scan::after_byte(b'{', text) else {
         return Err(ReadFault::Term);
     };
     // What stands behind the empty list is read as its annotations.
-    let bearer = Term::list(alloc, Vec::new(alloc));
-    match read_from(alloc, State::Base(bearer), text) {
+    let mut stack = Stack::new(alloc);
+    stack.push(Term::list(alloc, Vec::new(alloc)))?;
+    match read_from(alloc, stack, State::Base, text) {
         Ok(mut term) => {
             let mut annotations = Vec::new(alloc);
             term.swap_annotations(&mut annotations);
@@ -71,15 +91,17 @@ pub fn read_annotations(alloc: Global, text: &[u8]) -> Result<Vec<Term>, ReadFau
     }
 }
 
-fn check_nesting(text: &[u8]) -> Result<(), ReadFault>
-    ensures ok { OnOk result (nesting_of text.now ≤ MAX_NESTING) }
-    ensures deep { IfErr result (λ fault. (fault ≡ ReadFault.Deep)
-        × (MAX_NESTING < nesting_of text.now)) }
+// The fault that is answered: `Deep` comes before the one that was met.
+fn first_fault(text: &[u8], met: ReadFault) -> ReadFault
+    requires { met ≡ ReadFault.Deep → MAX_NESTING < nesting_of text.now }
+    ensures deep { (result ≡ ReadFault.Deep) ↔ (MAX_NESTING < nesting_of text.now) }
+    ensures other { result ≢ ReadFault.Deep → result ≡ met }
 {
     if nesting(text) > MAX_NESTING {
-        return Err(ReadFault::Deep);
+        ReadFault::Deep
+    } else {
+        met
     }
-    Ok(())
 }
 
 impl<T: Drop> From<AllocFailed<T>> for ReadFault {
@@ -89,6 +111,17 @@ impl<T: Drop> From<AllocFailed<T>> for ReadFault {
     ghost from_gives = { λ _ e. e ≡ ReadFault.Memory };
 
     fn from(_refused: AllocFailed<T>) -> ReadFault {
+        ReadFault::Memory
+    }
+}
+
+impl From<AllocError> for ReadFault {
+    ghost use Rattle.std.specs.Prelude.{◌≡◌};
+    ghost use Rattle.aterm_text.specs.declared.reader.ReadFault.{ReadFault};
+
+    ghost from_gives = { λ _ e. e ≡ ReadFault.Memory };
+
+    fn from(_refused: AllocError) -> ReadFault {
         ReadFault::Memory
     }
 }

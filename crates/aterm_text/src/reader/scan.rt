@@ -1,14 +1,14 @@
 //! The tokens of a text: white space, integers, words and quoted bytes.
 
-ghost use Rattle.std.specs.Prelude.{◌≡◌, ◌||◌, ◌==◌, ◌+◌, ◌≤◌, ◌∷◌, ◌<◌, ℕ, ℤ, IsTrue, IfOk, IfSome, IfNone, Some, None, Err, List, take, drop, length};
+ghost use Rattle.std.specs.Prelude.{◌≡◌, ◌||◌, ◌==◌, ◌+◌, ◌≤◌, ◌∷◌, ◌<◌, ℕ, ℤ, IsTrue, IfOk, IfSome, IfNone, Some, None, Err, true, List, take, drop, length};
 ghost use Rattle.std.specs.List.{prefix_len};
 ghost use Rattle.std.specs.Char.{is_ascii_digit};
-ghost use Rattle.term_core.specs.Word.{continues_word};
-ghost use Rattle.aterm_text.specs.Tokens.{is_blank, without_blanks, NextSign, integer_len, IsInteger, item_at, escape_at, octal_at, octal_value, is_octal_digit, ReadsItems};
+ghost use Rattle.aterm_text.specs.Tokens.{is_blank, without_blanks, integer_len, IsInteger, escape_at, octal_at, octal_value, is_octal_digit, is_plain, ReadsItems};
 
 use crate::reader::ReadFault;
 use std::alloc::Global;
 use std::str;
+use term_core::Name;
 
 /// Whether this byte is white space: a space, a tab, a line feed or a carriage return.
 pub fn is_blank(b: u8) -> bool
@@ -22,6 +22,16 @@ pub fn after_blanks(text: &[u8]) -> &[u8]
     ensures value { result.now ≡ without_blanks text.now }
     ensures bound { length result.now ≤ length text.now }
 {
+    match text.first() {
+        Some(first) if is_blank(*first) => behind_blanks(text),
+        _ => text,
+    }
+}
+
+fn behind_blanks(text: &[u8]) -> &[u8]
+    ensures value { result.now ≡ without_blanks text.now }
+    ensures bound { length result.now ≤ length text.now }
+{
     &text[blanks_length(text)..]
 }
 
@@ -32,8 +42,8 @@ fn blanks_length(text: &[u8]) -> usize
     text.iter().take_while(|b| is_blank(**b)).count()
 }
 
-// What follows this byte, where it comes first.
-fn after_byte(byte: u8, text: &[u8]) -> Option<&[u8]>
+/// What follows this byte, where it comes first.
+pub fn after_byte(byte: u8, text: &[u8]) -> Option<&[u8]>
     ensures some { IfSome result (λ rest. text.now ≡ byte ∷ rest.now) }
     ensures shorter { IfSome result (λ rest. length rest.now < length text.now) }
     ensures none { IfNone result ((rest : List ℕ) → text.now ≡ byte ∷ rest → ⊥) }
@@ -42,25 +52,6 @@ fn after_byte(byte: u8, text: &[u8]) -> Option<&[u8]>
         Some((first, rest)) if *first == byte => Some(rest),
         _ => None,
     }
-}
-
-/// What follows this sign, where it comes first, behind white space or none.
-pub fn after_sign(sign: u8, text: &[u8]) -> Option<&[u8]>
-    ensures some { IfSome result (λ rest. NextSign sign text.now rest.now) }
-    ensures shorter { IfSome result (λ rest. length rest.now < length text.now) }
-    ensures none { IfNone result ((rest : List ℕ) → NextSign sign text.now rest → ⊥) }
-{
-    after_byte(sign, after_blanks(text))
-}
-
-/// How many bytes at the front may go on a word.
-pub fn word_length(text: &[u8]) -> usize
-    ensures value { result ≡ prefix_len continues_word text.now }
-    ensures bound { result ≤ length text.now }
-{
-    text.iter()
-        .take_while(|b| term_core::continues_word(**b))
-        .count()
 }
 
 fn digits_length(text: &[u8]) -> usize
@@ -150,32 +141,65 @@ fn escape(text: &[u8]) -> Option<(u8, &[u8])>
     }
 }
 
-// The byte that the first item between quotes stands for, and the text behind it.
-fn item(text: &[u8]) -> Option<(u8, &[u8])>
-    ensures some { IfSome result (λ found. item_at text.now ≡ Some (found.0, found.1.now)) }
-    ensures none { IfNone result (item_at text.now ≡ None) }
-    ensures shorter { IfSome result (λ found. length found.1.now < length text.now) }
+// The bytes at the front that stand for themselves between quotes, and what follows them.
+fn first_run(text: &[u8]) -> (&[u8], &[u8])
+    ensures run { result.0.now ≡ take (prefix_len is_plain text.now) text.now }
+    ensures rest { result.1.now ≡ drop (prefix_len is_plain text.now) text.now }
 {
-    let (first, rest) = text.split_first()?;
-    match *first {
-        b'"' => None,
-        b'\\' => escape(rest),
-        byte => Some((byte, rest)),
+    text.split_at(run_length(text))
+}
+
+fn run_length(text: &[u8]) -> usize
+    ensures value { result ≡ prefix_len is_plain text.now }
+    ensures bound { result ≤ length text.now }
+{
+    text.iter().take_while(|b| is_plain(**b)).count()
+}
+
+fn is_plain(b: u8) -> bool
+    ensures { result ≡ is_plain b }
+{
+    b != b'"' && b != b'\\'
+}
+
+/// The quoted name whose opening quote was read, and the text behind its closing quote.
+pub fn quoted(alloc: Global, text: &[u8]) -> Result<(Name, &[u8]), ReadFault>
+    ensures found { IfOk result (λ found. found.0.is_quoted ≡ true
+        × ReadsItems found.0.text text.now found.1.now) }
+    ensures shorter { IfOk result (λ found. length found.1.now < length text.now) }
+    ensures none { result ≡ Err ReadFault.Term →
+        (bytes y : List ℕ) → ReadsItems bytes text.now y → ⊥ }
+    ensures deep { result ≡ Err ReadFault.Deep → ⊥ }
+{
+    let (run, rest) = first_run(text);
+    if let Some(left) = after_byte(b'"', rest) {
+        return Ok((Name::quoted(alloc, run)?, left));
+    }
+    match escaped(alloc, text, run.len()) {
+        Ok((bytes, left)) => Ok((Name::quoted(alloc, &bytes)?, left)),
+        Err(fault) => Err(fault),
     }
 }
 
-/// The bytes that the items up to the closing quote stand for, and the text behind it.
-pub fn quoted(alloc: Global, text: &[u8]) -> Result<(Vec<u8>, &[u8]), ReadFault>
+// The bytes that the items up to the closing quote stand for, and the text behind it; the first
+// `run` of them stand for themselves.
+fn escaped(alloc: Global, text: &[u8], run: usize) -> Result<(Vec<u8>, &[u8]), ReadFault>
+    requires { run ≡ prefix_len is_plain text.now }
     ensures found { IfOk result (λ found. ReadsItems found.0.items text.now found.1.now) }
     ensures shorter { IfOk result (λ found. length found.1.now < length text.now) }
     ensures none { result ≡ Err ReadFault.Term →
         (bytes y : List ℕ) → ReadsItems bytes text.now y → ⊥ }
     ensures deep { result ≡ Err ReadFault.Deep → ⊥ }
 {
-    let mut bytes = Vec::new(alloc);
-    let mut rest = text;
-    while let Some((byte, left)) = item(rest) {
+    let (run, mut rest) = text.split_at(run);
+    let mut bytes = Vec::from_slice(alloc, run)?;
+    while let Some(behind) = after_byte(b'\\', rest) {
+        let Some((byte, behind)) = escape(behind) else {
+            return Err(ReadFault::Term);
+        };
+        let (run, left) = first_run(behind);
         bytes.push(byte)?;
+        bytes.extend_from_slice(run)?;
         rest = left;
     }
     match after_byte(b'"', rest) {

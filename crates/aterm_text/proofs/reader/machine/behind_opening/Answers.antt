@@ -1,13 +1,15 @@
-use Rattle.std.proofs.Common.{sym}
-use Rattle.aterm_text.proofs.StepLemmas.{stuck_after}
-use Rattle.aterm_text.proofs.GoesLemmas.{goes-closing, continues-entered, goes_on_from}
+use Rattle.std.proofs.Common.{sym, ◌∙◌}
+use Rattle.aterm_text.proofs.GoesLemmas.{leads-closing, leads-entered, lost-entered, on_ok}
 use Rattle.aterm_text.proofs.reader.machine.behind_opening.Goals as goal
 
-pub returns-in-Some-after_sign-clause-goes : goal.returns-in-Some-after_sign-clause-goes
-returns-in-Some-after_sign-clause-goes c = goes-closing c.in-Some.closing _ _ _ _ _ (sym c.in-Some.ensures) c.in-Some-after_sign.ensures.some c.close.ensures c.in-Some-after_sign.ensures.shorter
+pub returns-in_ok-close-in-Some-after_byte-clause-leads : goal.returns-in_ok-close-in-Some-after_byte-clause-leads
+returns-in_ok-close-in-Some-after_byte-clause-leads c =
+    leads-closing _ c.in-Some.closing _ (sym c.in-Some.ensures) _ _ _ (c.requires ∙ c.in-Some-after_byte.ensures.some) c.in_ok-close-in-Some-after_byte.ensures.closed c.in-Some-after_byte.ensures.shorter
 
-pub returns-in-None-clause-goes : goal.returns-in-None-clause-goes
-returns-in-None-clause-goes c = goes_on_from _ _ _ _ _ c.expect_term.result (continues-entered c.in-Some.closing c.args.text.now c.args.levels.now (sym c.in-Some.ensures) c.in-None.ensures.none) c.expect_term.ensures.goes
+pub returns-in-None-clause-leads : goal.returns-in-None-clause-leads
+returns-in-None-clause-leads c =
+    on_ok c.expect_term.result _ _ (λ step leads. leads-entered _ c.in-Some.closing _ (sym c.in-Some.ensures) _ step (λ y next. c.in-None.ensures.none y (sym c.requires ∙ next)) leads)
+    c.expect_term.ensures.leads
 
 pub returns-in-None-clause-none : goal.returns-in-None-clause-none
-returns-in-None-clause-none c = λ e. stuck_after _ _ _ _ _ (continues-entered c.in-Some.closing c.args.text.now c.args.levels.now (sym c.in-Some.ensures) c.in-None.ensures.none) (c.expect_term.ensures.none e)
+returns-in-None-clause-none c = λ e. lost-entered _ c.in-Some.closing _ (sym c.in-Some.ensures) (λ y next. c.in-None.ensures.none y (sym c.requires ∙ next)) (c.expect_term.ensures.none e)

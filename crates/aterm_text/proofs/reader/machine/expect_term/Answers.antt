@@ -1,16 +1,41 @@
-use Rattle.std.proofs.Common.{refl}
-use Rattle.aterm_text.proofs.StepLemmas.{stuck-no_term}
-use Rattle.aterm_text.proofs.GoesLemmas.{goes-integer, goes-list, goes-tuple}
+use Rattle.aterm_text.proofs.GoesLemmas.{lost-no_term, leads-integer, leads-list, leads-tuple}
+use Rattle.aterm_text.specs.Depth.{depth}
+use Rattle.aterm_text.proofs.DepthLemmas.{behind_integer, behind_named, behind_list, behind_tuple, keeps-push, keeps-after, too-deep, too-deep-after}
+use Rattle.aterm_text.proofs.GoesLemmas.{on_ok}
 use Rattle.aterm_text.proofs.reader.machine.expect_term.Goals as goal
 
 pub returns-in-Err-clause-none : goal.returns-in-Err-clause-none
-returns-in-Err-clause-none c = λ e. stuck-no_term c.args.levels.now c.args.text.now (c.in-Err.ensures.none (cc))
+returns-in-Err-clause-none c = λ e. lost-no_term _ _ (c.in-Err.ensures.none (cc))
 
-pub returns-in-Integer-clause-goes : goal.returns-in-Integer-clause-goes
-returns-in-Integer-clause-goes c = goes-integer c.args.levels.now c.args.levels.now c.args.text.now _ c.in-Ok.ensures.shorter _ c.in-Integer.value c.integer.result c.in-Ok.ensures.found c.in-Integer.is c.integer.ensures refl
+pub returns-in_ok-push-in-Integer-clause-leads : goal.returns-in_ok-push-in-Integer-clause-leads
+returns-in_ok-push-in-Integer-clause-leads c =
+    leads-integer _ _ _ _ c.in-Ok.ensures.shorter _ c.in-Integer.value c.integer.result c.in-Ok.ensures.found c.in-Integer.is c.integer.ensures c.in_ok-push-in-Integer.ensures.ok
 
-pub returns-in_ok-enter-in-List-clause-goes : goal.returns-in_ok-enter-in-List-clause-goes
-returns-in_ok-enter-in-List-clause-goes c = goes-list _ _ _ _ c.in-Ok.ensures.shorter _ c.in-Ok.ensures.found c.in-List.is c.in_ok-enter-in-List.ensures.ok
+pub returns-in-Ok-enter-clause-leads : goal.returns-in-Ok-enter-clause-leads
+returns-in-Ok-enter-clause-leads c = leads-list _ _ _ _ c.in-Ok.ensures.shorter _ c.in-Ok.ensures.found c.in-List.is c.in-Ok-enter.ensures.ok
 
-pub returns-in_ok-enter-in-Tuple-clause-goes : goal.returns-in_ok-enter-in-Tuple-clause-goes
-returns-in_ok-enter-in-Tuple-clause-goes c = goes-tuple _ _ _ _ c.in-Ok.ensures.shorter _ c.in-Ok.ensures.found c.in-Tuple.is c.in_ok-enter-in-Tuple.ensures.ok
+pub returns-in-Ok-enter-2-clause-leads : goal.returns-in-Ok-enter-2-clause-leads
+returns-in-Ok-enter-2-clause-leads c = leads-tuple _ _ _ _ c.in-Ok.ensures.shorter _ c.in-Ok.ensures.found c.in-Tuple.is c.in-Ok-enter-2.ensures.ok
+
+pub returns-in-Err-enter-clause-deep : goal.returns-in-Err-enter-clause-deep
+returns-in-Err-enter-clause-deep c = λ e.
+    too-deep (depth c.args.stack.now) c.args.text.now c.in-Ok.found.1.now (behind_list _ (depth c.args.stack.now) c.args.text.now _ c.in-Ok.ensures.found c.in-List.is) (c.in-Err-enter.ensures.deep (cc))
+
+pub returns-in-Err-enter-2-clause-deep : goal.returns-in-Err-enter-2-clause-deep
+returns-in-Err-enter-2-clause-deep c = λ e.
+    too-deep (depth c.args.stack.now) c.args.text.now c.in-Ok.found.1.now (behind_tuple _ (depth c.args.stack.now) c.args.text.now _ c.in-Ok.ensures.found c.in-Tuple.is) (c.in-Err-enter-2.ensures.deep (cc))
+
+pub returns-in_ok-push-in-Integer-clause-nesting : goal.returns-in_ok-push-in-Integer-clause-nesting
+returns-in_ok-push-in-Integer-clause-nesting c =
+    keeps-push c.args.stack.now _ c.args.text.now _ _
+    (behind_integer _ (depth c.args.stack.now) c.args.text.now _ c.in-Ok.ensures.found c.in-Integer.value c.in-Integer.is) c.in_ok-push-in-Integer.ensures.ok
+
+pub returns-in-Named-clause-nesting : goal.returns-in-Named-clause-nesting
+returns-in-Named-clause-nesting c =
+    on_ok c.behind_name.result _ _
+    (λ step keeps. keeps-after c.args.stack.now _ c.args.text.now _ step (behind_named _ (depth c.args.stack.now) c.args.text.now _ c.in-Ok.ensures.found _ c.in-Named.is) keeps)
+    c.behind_name.ensures.nesting
+
+pub returns-in-Named-clause-deep : goal.returns-in-Named-clause-deep
+returns-in-Named-clause-deep c = λ e.
+    too-deep-after (depth c.args.stack.now) c.args.text.now c.in-Ok.found.1.now (behind_named _ (depth c.args.stack.now) c.args.text.now _ c.in-Ok.ensures.found _ c.in-Named.is) (c.behind_name.ensures.deep e)

@@ -1,10 +1,14 @@
-use Rattle.std.proofs.Common.{[], length}
-use Rattle.aterm_text.specs.Unread.{Continues, IsBare}
+use Rattle.std.proofs.Common.{length, []}
+use Rattle.aterm_text.specs.Unread.{Reading, Stands}
+use Rattle.aterm_text.specs.Depth.{depth, IsAsDeep}
+use Rattle.aterm_text.proofs.ReadLemmas.{IsUnderWay}
 use Rattle.aterm_text.proofs.reader.machine.read_from.Given as goal
 
 -- what the whole text had to spell, the rest has to spell now
-abbrev pub invariant-loop-levels : goal.invariant-loop-levels
-invariant-loop-levels l = Continues l.fn.start [] l.text l.state l.levels l.rest × IsBare l.state
+abbrev pub invariant-loop-stack : goal.invariant-loop-stack
+invariant-loop-stack l =
+    ((r : Reading) → Stands r [] l.fn.start l.initial.stack → IsUnderWay r l.text l.state l.stack l.rest)
+    × IsAsDeep 0 l.text (depth l.stack) l.rest
 
-abbrev pub decreases-loop-levels : goal.decreases-loop-levels
-decreases-loop-levels l = length l.rest
+abbrev pub decreases-loop-stack : goal.decreases-loop-stack
+decreases-loop-stack l = length l.rest

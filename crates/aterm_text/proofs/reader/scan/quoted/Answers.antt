@@ -1,14 +1,12 @@
-use Rattle.aterm_text.proofs.ScanLemmas.{item_read, all_read, none_read, left_shorter}
+use Rattle.std.proofs.Common.{refl, sym, ap, subst}
+use Rattle.term_core.specs.Tree.{Symbol}
+use Rattle.aterm_text.specs.Tokens.{ReadsItems}
+use Rattle.aterm_text.proofs.ScanLemmas.{run_at_start, all_read}
 use Rattle.aterm_text.proofs.reader.scan.quoted.Goals as goal
 
-pub loop-byte-preserved : goal.loop-byte-preserved
-loop-byte-preserved c = rw c.in_ok-push.ensures.items (item_read _ _ _ _ _ c.in-Some.ensures.some c.in-Some.ensures.shorter c.loop-byte.invariant)
-
-pub returns-in-Some-after_byte-clause-found : goal.returns-in-Some-after_byte-clause-found
-returns-in-Some-after_byte-clause-found c = all_read _ _ _ _ c.loop-byte.invariant c.in-Some-after_byte.ensures.some
-
-pub returns-clause-none : goal.returns-clause-none
-returns-clause-none c = λ e. none_read _ _ _ c.loop-byte.invariant c.in_default.ensures.none c.in-None.ensures.none
-
-pub returns-in-Some-after_byte-clause-shorter : goal.returns-in-Some-after_byte-clause-shorter
-returns-in-Some-after_byte-clause-shorter c = left_shorter _ _ _ _ c.loop-byte.invariant c.in-Some-after_byte.ensures.some
+pub returns-in-Some-clause-found : goal.returns-in-Some-clause-found
+returns-in-Some-clause-found c = (
+  ap (λ (name : Symbol). name.is_quoted) c.in_ok-quoted.ensures,
+  subst (λ (name : Symbol). ReadsItems name.text c.args.text.now c.in-Some.left.now) (sym c.in_ok-quoted.ensures)
+      (all_read _ _ _ _ (run_at_start _ _ _ _ _ refl c.first_run.ensures.run c.first_run.ensures.rest refl) c.in-Some.ensures.some),
+)

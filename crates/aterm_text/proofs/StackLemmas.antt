@@ -1,0 +1,138 @@
+-- The reader's stack: its terms, cut where the brackets stand.
+use Rattle.std.proofs.Common.{◌≡◌, ℕ, ◌+◌, ◌<◌, List, [], ◌∷◌, ◌++◌, ◌-◌, min, length, take, drop, get_or, refl, sym, ap, ◌∙◌, subst, arith, append_assoc, length-append, Some}
+use Rattle.std.specs.Prelude.{reverse}
+use Rattle.std.specs.declared.option.Option.{Option}
+use Rattle.std.proofs.Math.ListN.{set}
+use Rattle.std.proofs.Math.Seq.{set-append_seam, get_or-append_seam, take-append_seam, drop-append_seam, take-length}
+use Rattle.std.proofs.lemmas.List.{reverse-append, length-reverse, take-append-le, drop-append-le, take-append-drop, length-take, length-take-le, drop_all}
+use Rattle.term_core.specs.Tree.{Tree, with_annotations}
+use Rattle.aterm_text.specs.Stack.{Stack, Group, no_terms, on_top, with_top, inside}
+use Rattle.aterm_text.specs.StackView.{cut, IsCut}
+use Rattle.aterm_text.specs.declared.reader.stack.Bracket.{Bracket}
+
+pub reverse-last : (bs : List Bracket) (b : Bracket) → reverse (bs ++ b ∷ []) ≡ b ∷ reverse bs
+reverse-last bs b = reverse-append bs (b ∷ [])
+
+-- ---- one more term
+
+pub cut-push : (bs : List Bracket) (ts : List Tree) (t : Tree) → IsCut bs ts → cut bs (ts ++ t ∷ []) ≡ with_top t (cut bs ts)
+cut-push [] ts t h = refl
+cut-push (b ∷ bs) ts t h = λ i. inside b.opened (drop-append-le b.before ts (t ∷ []) h.0 i) (cut bs (take-append-le b.before ts (t ∷ []) h.0 i))
+
+pub is_cut-push : (bs : List Bracket) (ts : List Tree) (t : Tree) → IsCut bs ts → IsCut bs (ts ++ t ∷ [])
+is_cut-push [] ts t h = tt
+is_cut-push (b ∷ bs) ts t h = (
+  omega (arith, h.0, length-append ts (t ∷ [])),
+  subst (IsCut bs) (sym (take-append-le b.before ts (t ∷ []) h.0)) h.1,
+)
+
+-- ---- one more bracket
+
+pub cut-enter : (b : Bracket) (bs : List Bracket) (ts : List Tree) → b.before ≡ length ts → cut (b ∷ bs) ts ≡ inside b.opened [] (cut bs ts)
+cut-enter b bs ts e =
+    let whole : take b.before ts ≡ ts = ap (λ n. take n ts) e ∙ take-length ts in
+    let nothing : drop b.before ts ≡ [] = drop_all b.before ts (omega (arith, e)) in
+    λ i. inside b.opened (nothing i) (cut bs (whole i))
+
+pub is_cut-enter : (b : Bracket) (bs : List Bracket) (ts : List Tree) → b.before ≡ length ts → IsCut bs ts → IsCut (b ∷ bs) ts
+is_cut-enter b bs ts e h = (omega (arith, e), subst (IsCut bs) (sym (ap (λ n. take n ts) e ∙ take-length ts)) h)
+
+-- ---- one bracket less
+
+pub is_cut-longer : (bs : List Bracket) (ts : List Tree) (k : ℕ) → IsCut bs (take k ts) → IsCut bs ts
+is_cut-longer [] ts k h = tt
+is_cut-longer (b ∷ bs) ts k h =
+    let same : take b.before ts ≡ take b.before (take k ts) =
+    ap (take b.before) (sym (take-append-drop k ts)) ∙ take-append-le b.before (take k ts) (drop k ts) h.0 in (
+      omega (arith, h.0, length-take k ts),
+      subst (IsCut bs) (sym same) h.1,
+    )
+
+-- the brackets that are left stand within all terms
+pub still_cut : (bs bs' : List Bracket) (b : Bracket) (ts : List Tree) → IsCut (reverse bs) ts → bs ≡ bs' ++ b ∷ [] → IsCut (reverse bs') ts
+still_cut bs bs' b ts h e =
+    let whole : IsCut (b ∷ reverse bs') ts = subst (λ l. IsCut l ts) (ap reverse e ∙ reverse-last bs' b) h in
+    is_cut-longer (reverse bs') ts b.before whole.1
+
+-- ---- the term on top
+
+on_top-bare : (ts outside : List Tree) (groups : List Group) (t : Tree) → ◌≡◌ {A = Stack} (record { outside = ts; groups = [] }) (on_top t outside groups)
+    → (ts ≡ outside ++ t ∷ []) × (groups ≡ [])
+on_top-bare ts outside [] t e = (ap (λ (s : Stack). s.outside) e, refl)
+on_top-bare ts outside (g ∷ gs) t e = let no : ◌≡◌ {A = List Group} [] (record { opened = g.opened; terms = g.terms ++ t ∷ [] } ∷ gs) = ap (λ (s : Stack). s.groups) e in absurd (cc)
+
+-- the terms below the one on top
+pub record Below (bs : List Bracket) (ts : List Tree) (t : Tree) (below : Stack) : Type 0 where
+  pub front : List Tree
+  pub is : ts ≡ front ++ t ∷ []
+  pub is_cut : IsCut bs front
+  pub is_below : cut bs front ≡ below
+
+group-below : (b : Bracket) (bs : List Bracket) (ts outside : List Tree) (groups : List Group) (t : Tree) → IsCut (b ∷ bs) ts
+    → inside b.opened (drop b.before ts) (cut bs (take b.before ts)) ≡ on_top t outside groups → Below (b ∷ bs) ts t (record { outside = outside; groups = groups })
+group-below b bs ts outside [] t h e =
+    let no : ◌≡◌ {A = List Group} (record { opened = b.opened; terms = drop b.before ts } ∷ (cut bs (take b.before ts)).groups) [] = ap (λ (s : Stack). s.groups) e in absurd (cc)
+group-below b bs ts outside (g ∷ gs) t h e =
+    let before = take b.before ts in
+    let groups : ◌≡◌ {A = List Group} (record { opened = b.opened; terms = drop b.before ts } ∷ (cut bs before).groups) (record { opened = g.opened; terms = g.terms ++ t ∷ [] } ∷ gs)
+    = ap (λ (s : Stack). s.groups) e in
+    let first : ◌≡◌ {A = Group} (record { opened = b.opened; terms = drop b.before ts }) (record { opened = g.opened; terms = g.terms ++ t ∷ [] }) = cc in
+    let others : (cut bs before).groups ≡ gs = cc in
+    let count : length before ≡ b.before = length-take-le b.before ts h.0 in
+    let again : take b.before (before ++ g.terms) ≡ before = subst (λ n. take n (before ++ g.terms) ≡ before) count (take-append_seam before g.terms) in
+    let rest : drop b.before (before ++ g.terms) ≡ g.terms = subst (λ n. drop n (before ++ g.terms) ≡ g.terms) count (drop-append_seam before g.terms) in
+    record {
+      front = before ++ g.terms;
+      is = sym (take-append-drop b.before ts) ∙ ap (λ l. before ++ l) (ap (λ (k : Group). k.terms) first) ∙ sym (append_assoc before g.terms (t ∷ []));
+      is_cut = (omega (arith, count, length-append before g.terms), subst (IsCut bs) (sym again) h.1);
+      is_below = (λ i. inside b.opened (rest i) (cut bs (again i)))
+          ∙ (λ i. record { outside = (ap (λ (s : Stack). s.outside) e) i; groups = record { opened = (ap (λ (k : Group). k.opened) first) i; terms = g.terms } ∷ others i });
+    }
+
+pub below-top : (bs : List Bracket) (ts : List Tree) (t : Tree) (below : Stack) → IsCut bs ts → cut bs ts ≡ with_top t below → Below bs ts t below
+below-top [] ts t below h e =
+    let parts = on_top-bare ts below.outside below.groups t e in
+    record { front = below.outside; is = parts.0; is_cut = tt; is_below = λ i. record { outside = below.outside; groups = sym parts.1 i } }
+below-top (b ∷ bs) ts t below h e = group-below b bs ts below.outside below.groups t h e
+
+pub is_cut-same_length : (bs : List Bracket) (ts us : List Tree) → length ts ≡ length us → IsCut bs ts → IsCut bs us
+is_cut-same_length [] ts us e h = tt
+is_cut-same_length (b ∷ bs) ts us e h = (
+  omega (arith, e, h.0),
+  is_cut-same_length bs (take b.before ts) (take b.before us) (length-take b.before ts ∙ ap (λ n. min b.before n) e ∙ sym (length-take b.before us)) h.1,
+)
+
+pub cut-annotate : (bs : List Bracket) (ts notes : List Tree) (n : ℕ) (x x' t : Tree) (below : Stack) → IsCut bs ts → n + 1 ≡ length ts → x ≡ get_or ts n x
+    → x' ≡ with_annotations x notes → cut bs ts ≡ with_top t below → cut bs (set ts n x') ≡ with_top (with_annotations t notes) below
+cut-annotate bs ts notes n x x' t below h len got made e =
+    let b = below-top bs ts t below h e in
+    let at : length b.front ≡ n = omega (arith, len, length-append b.front (t ∷ []), ap length b.is) in
+    let was : x ≡ t = got ∙ ap (λ l. get_or l n x) b.is ∙ subst (λ k. get_or (b.front ++ t ∷ []) k x ≡ t) at (get_or-append_seam b.front t [] x) in
+    let written : set ts n x' ≡ b.front ++ with_annotations t notes ∷ [] =
+    ap (λ l. set l n x') b.is ∙ subst (λ k. set (b.front ++ t ∷ []) k x' ≡ b.front ++ x' ∷ []) at (set-append_seam b.front t [] x')
+    ∙ ap (λ u. b.front ++ u ∷ []) (made ∙ ap (λ u. with_annotations u notes) was) in
+    ap (cut bs) written ∙ cut-push bs b.front (with_annotations t notes) b.is_cut ∙ ap (with_top (with_annotations t notes)) b.is_below
+
+-- where there is no term, none is on top
+pub no_top : (bs : List Bracket) (ts : List Tree) (t : Tree) (below : Stack) → IsCut bs ts → cut bs ts ≡ with_top t below → length ts ≡ 0 → ⊥
+no_top bs ts t below h e len =
+    let b = below-top bs ts t below h e in
+    omega (arith, len, length-append b.front (t ∷ []), ap length b.is)
+
+-- the one term, where no bracket is open
+pub only_term : (bs : List Bracket) (ts : List Tree) (t : Tree) (n : ℕ) (popped : Option Tree) → IsCut bs ts → cut bs ts ≡ with_top t no_terms → n ≡ length ts
+    → ((d : Tree) → 0 < n → popped ≡ Some (get_or ts (n - 1) d)) → popped ≡ Some t
+only_term bs ts t n popped h e len last =
+    let b = below-top bs ts t no_terms h e in
+    let count : n ≡ length b.front + 1 = len ∙ ap length b.is ∙ length-append b.front (t ∷ []) in
+    let at : n - 1 ≡ length b.front = omega (arith, count) in
+    last t (omega (arith, count)) ∙ ap Some (ap (λ k. get_or ts k t) at ∙ ap (λ l. get_or l (length b.front) t) b.is ∙ get_or-append_seam b.front t [] t)
+
+groups-cut : (bs : List Bracket) (ts : List Tree) → length (cut bs ts).groups ≡ length bs
+groups-cut [] ts = refl
+groups-cut (b ∷ bs) ts = omega (arith, groups-cut bs (take b.before ts))
+
+pub depth-cut : (bs : List Bracket) (ts : List Tree) → length (cut (reverse bs) ts).groups ≡ length bs
+depth-cut bs ts = groups-cut (reverse bs) ts ∙ length-reverse bs
+
+pub ruleset stack_parts = (reverse-last, cut-push, is_cut-push)

@@ -1,0 +1,12 @@
+use Rattle.std.proofs.Common.{◌≡◌, length}
+use Rattle.std.specs.List.{prefix_len}
+use Rattle.aterm_text.specs.Tokens.{is_plain}
+use Rattle.aterm_text.proofs.ScanLemmas.{IsReadSoFar}
+use Rattle.aterm_text.proofs.reader.scan.escaped.Given as goal
+
+-- what was read so far, up to a byte that doesn't stand for itself
+abbrev pub invariant-loop-behind : goal.invariant-loop-behind
+invariant-loop-behind l = IsReadSoFar l.text l.bytes.items l.rest × (prefix_len is_plain l.rest ≡ 0)
+
+abbrev pub decreases-loop-behind : goal.decreases-loop-behind
+decreases-loop-behind l = length l.rest
