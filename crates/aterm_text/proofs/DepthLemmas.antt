@@ -14,8 +14,8 @@ use Rattle.aterm_text.specs.Depth.{depth, IsTooDeep, IsAsDeep, KeepsDepth}
 use Rattle.aterm_text.specs.declared.TheConstants.{MAX_NESTING}
 use Rattle.aterm_text.specs.declared.reader.head.Head.{Head}
 use Rattle.aterm_text.specs.declared.reader.head.Head.TheVariants.{Integer, Named, List as ListHead, Tuple as TupleHead}
-use Rattle.aterm_text.specs.declared.reader.stack.Opened.{Opened}
-use Rattle.aterm_text.specs.declared.reader.stack.Opened.TheVariants.{Arguments, List as AList, Tuple, Annotations}
+use Rattle.aterm_text.specs.declared.reader.stack.Opening.{Opening}
+use Rattle.aterm_text.specs.declared.reader.stack.Opening.TheVariants.{Round, Square, Curly}
 use Rattle.aterm_text.specs.declared.reader.machine.Step.{Step}
 use Rattle.aterm_text.specs.declared.reader.machine.Step.TheVariants.{More, Done}
 use Rattle.aterm_text.proofs.ScanLemmas.{same_pair}
@@ -86,15 +86,14 @@ opening-curly n x = opens n (n + 1) x refl
 pub comma-neutral : (n : ℕ) (x : List ℕ) → Greatest n (44 ∷ x) ≡ Greatest n x
 comma-neutral n x = neutral-byte n 44 x refl
 
-closes_so : (o : Opened) (n : ℕ) (x : List ℕ) (closing : ℕ) → closing ≡ closes o → Greatest n (closing ∷ x) ≡ max n (Greatest (n - 1) x)
-closes_so (Arguments name) n x closing e = ap (λ b. Greatest n (b ∷ x)) e
-closes_so AList n x closing e = ap (λ b. Greatest n (b ∷ x)) e
-closes_so Tuple n x closing e = ap (λ b. Greatest n (b ∷ x)) e
-closes_so Annotations n x closing e = ap (λ b. Greatest n (b ∷ x)) e
+closes_so : (o : Opening) (n : ℕ) (x : List ℕ) (closing : ℕ) → closing ≡ closes o → Greatest n (closing ∷ x) ≡ max n (Greatest (n - 1) x)
+closes_so Round n x closing e = ap (λ b. Greatest n (b ∷ x)) e
+closes_so Square n x closing e = ap (λ b. Greatest n (b ∷ x)) e
+closes_so Curly n x closing e = ap (λ b. Greatest n (b ∷ x)) e
 
 closing_first : (groups : List Group) (n : ℕ) (x : List ℕ) (closing : ℕ) → closes_first groups ≡ Some closing → Greatest n (closing ∷ x) ≡ max n (Greatest (n - 1) x)
 closing_first [] n x closing e = absurd (cc)
-closing_first (g ∷ gs) n x closing e = let same : closing ≡ closes g.opened = cc in closes_so g.opened n x closing same
+closing_first (g ∷ gs) n x closing e = let same : closing ≡ closes g.opening = cc in closes_so g.opening n x closing same
 
 pub closing-byte : (s : Stack) (n : ℕ) (x : List ℕ) (closing : ℕ) → first_closing s ≡ Some closing → Greatest n (closing ∷ x) ≡ max n (Greatest (n - 1) x)
 closing-byte s n x closing e = closing_first s.groups n x closing e
@@ -212,7 +211,7 @@ top_so t outside (g ∷ gs) = refl
 depth-top : (s s' : Stack) (t : Tree) → s' ≡ with_top t s → depth s' ≡ depth s
 depth-top s s' t e = ap depth e ∙ top_so t s.outside s.groups
 
-pub depth-inside : (s s' : Stack) (o : Opened) (ts : List Tree) → s' ≡ inside o ts s → depth s' ≡ depth s + 1
+pub depth-inside : (s s' : Stack) (o : Opening) (ts : List Tree) → s' ≡ inside o ts s → depth s' ≡ depth s + 1
 depth-inside s s' o ts e = ap depth e ∙ omega arith
 
 nothing_so : (groups : List Group) → closes_first groups ≡ None → length groups ≡ 0
@@ -223,7 +222,7 @@ pub depth-nothing : (s : Stack) → first_closing s ≡ None → depth s ≡ 0
 depth-nothing s e = nothing_so s.groups e
 
 -- closing takes one bracket away
-pub depth-left : (s s1 s' : Stack) (o : Opened) (ts : List Tree) (t : Tree) → s ≡ inside o ts s1 → s' ≡ with_top t s1 → depth s' ≡ depth s - 1
+pub depth-left : (s s1 s' : Stack) (o : Opening) (ts : List Tree) (t : Tree) → s ≡ inside o ts s1 → s' ≡ with_top t s1 → depth s' ≡ depth s - 1
 depth-left s s1 s' o ts t e f = omega (arith, depth-inside s1 s o ts e, depth-top s1 s' t f)
 
 -- ---- steps
@@ -240,10 +239,17 @@ module _ (s s' : Stack) (x y : List ℕ) where
       let d = depth-top s s' t same in
       as_deep (depth s) (depth s') x y (e ∙ ap (λ k. Greatest k y) (sym d)) (omega (arith, d))
 
-  pub keeps-enter : (o : Opened) → Greatest (depth s) x ≡ Greatest (depth s + 1) y → s' ≡ inside o [] s → depth s < MAX_NESTING → depth s ≤ MAX_NESTING → IsAsDeep (depth s) x (depth s') y
+  pub keeps-enter : (o : Opening) → Greatest (depth s) x ≡ Greatest (depth s + 1) y → s' ≡ inside o [] s → depth s < MAX_NESTING → depth s ≤ MAX_NESTING → IsAsDeep (depth s) x (depth s') y
   keeps-enter o e same less few =
       let d = depth-inside s s' o [] same in
       as_deep (depth s) (depth s') x y (e ∙ ap (λ k. Greatest k y) (sym d)) (omega (arith, d, less))
+
+  pub keeps-open : (s1 : Stack) (t : Tree) (o : Opening) → Greatest (depth s) x ≡ Greatest (depth s + 1) y → s1 ≡ with_top t s → s' ≡ inside o [] s1 → depth s1 < MAX_NESTING
+      → depth s ≤ MAX_NESTING → IsAsDeep (depth s) x (depth s') y
+  keeps-open s1 t o e pushed same less few =
+      let d = depth-top s s1 t pushed in
+      let d' = depth-inside s1 s' o [] same in
+      as_deep (depth s) (depth s') x y (e ∙ ap (λ k. Greatest k y) (omega (arith, d, d'))) (omega (arith, d', less))
 
   pub keeps-close : (closing : ℕ) → first_closing s ≡ Some closing → x ≡ closing ∷ y → depth s' ≡ depth s - 1 → depth s ≤ MAX_NESTING → IsAsDeep (depth s) x (depth s') y
   keeps-close closing e next d few =
@@ -267,6 +273,9 @@ keeps-end s (b ∷ x) e few h = let zero : length (b ∷ x) ≡ 0 = grind (arith
 -- too many brackets are open already
 pub too-deep : (n : ℕ) (x y : List ℕ) → Greatest n x ≡ Greatest (n + 1) y → MAX_NESTING ≤ n → IsTooDeep n x
 too-deep n x y e full = omega (arith, e, full, greatest-le (n + 1) (outside_quotes y))
+
+pub too-deep-open : (s s1 : Stack) (t : Tree) (x y : List ℕ) → Greatest (depth s) x ≡ Greatest (depth s + 1) y → s1 ≡ with_top t s → MAX_NESTING ≤ depth s1 → IsTooDeep (depth s) x
+too-deep-open s s1 t x y e pushed full = too-deep (depth s) x y e (omega (arith, full, depth-top s s1 t pushed))
 
 pub too-deep-after : (n : ℕ) (x text : List ℕ) → Greatest n x ≡ Greatest n text → IsTooDeep n text → IsTooDeep n x
 too-deep-after n x text e h = omega (arith, e, h)

@@ -4,16 +4,16 @@ use Rattle.std.specs.declared.option.Option.{Option}
 use Rattle.std.proofs.lemmas.Int.{to_z-of_z}
 use Rattle.std.specs.Int.{w64}
 use mir.Val.{to_z, of_z}
-use Rattle.term_core.specs.Tree.{Symbol, Tree, integer_term, application_term, list_term, tuple_term, with_annotations}
+use Rattle.term_core.specs.Tree.{Symbol, Tree, integer_term, application_term, list_term, tuple_term, with_annotations, with_children}
 use Rattle.aterm_text.specs.Tokens.{NextSign, NextName, without_blanks}
 use Rattle.aterm_text.specs.Heads.{Begins, NoTerm}
 use Rattle.aterm_text.specs.Level.{Bracket, arguments, elements, components, annotating, Level, closing_of, with_term, new_level}
 use Rattle.aterm_text.specs.Stack.{Stack, Group, no_terms, with_top, inside, first_closing, closes}
-use Rattle.aterm_text.specs.Unread.{Reading, expected, entered, base, whole, Continues, IsStuck, IsEnd, Holds, Before, Stands, GoesOn, Goes, Leads, IsLost, IsClosed, opened_of, closed}
+use Rattle.aterm_text.specs.Unread.{Reading, expected, entered, base, whole, Continues, IsStuck, IsEnd, Holds, Stands, GoesOn, Goes, Leads, IsLost, IsClosed, opening_of, bearer, closed}
 use Rattle.aterm_text.specs.declared.reader.head.Head.{Head as Beginning}
 use Rattle.aterm_text.specs.declared.reader.head.Head.TheVariants.{Integer, List as ListHead, Tuple as TupleHead}
-use Rattle.aterm_text.specs.declared.reader.stack.Opened.{Opened}
-use Rattle.aterm_text.specs.declared.reader.stack.Opened.TheVariants.{Arguments, List as AList, Tuple, Annotations}
+use Rattle.aterm_text.specs.declared.reader.stack.Opening.{Opening}
+use Rattle.aterm_text.specs.declared.reader.stack.Opening.TheVariants.{Round, Square, Curly}
 use Rattle.aterm_text.specs.declared.reader.machine.State.{State}
 use Rattle.aterm_text.specs.declared.reader.machine.State.TheVariants.{Expected, Entered, Base, Whole}
 use Rattle.aterm_text.specs.declared.reader.machine.Step.{Step}
@@ -57,17 +57,17 @@ at_whole (whole t) levels s h = (t, refl, record { below = h.0; is = h.2; holds 
 
 -- ---- what closes the innermost bracket
 
-closes-opened_of : (o : Bracket) → closes (opened_of o) ≡ closing_of o
-closes-opened_of (arguments name) = refl
-closes-opened_of elements = refl
-closes-opened_of components = refl
-closes-opened_of (annotating t) = refl
+closes-opening_of : (o : Bracket) → closes (opening_of o) ≡ closing_of o
+closes-opening_of (arguments name) = refl
+closes-opening_of elements = refl
+closes-opening_of components = refl
+closes-opening_of (annotating t) = refl
 
 closing-inside : (level : Level) (levels : List Level) (s : Stack) → Holds (level ∷ levels) s → first_closing s ≡ Some (closing_of level.opened)
-closing-inside level levels s h = ap first_closing h.1 ∙ ap Some (closes-opened_of level.opened)
+closing-inside level levels s h = ap first_closing h.2 ∙ ap Some (closes-opening_of level.opened)
 
 closing-top : (level : Level) (levels : List Level) (s : Stack) (t : Tree) → Last (level ∷ levels) s t → first_closing s ≡ Some (closing_of level.opened)
-closing-top level levels s t h = ap first_closing h.is ∙ ap (λ b. first_closing (with_top t b)) h.holds.1 ∙ ap Some (closes-opened_of level.opened)
+closing-top level levels s t h = ap first_closing h.is ∙ ap (λ b. first_closing (with_top t b)) h.holds.2 ∙ ap Some (closes-opening_of level.opened)
 
 same_sign : (o : Option ℕ) (a b : ℕ) → o ≡ Some a → o ≡ Some b → a ≡ b
 same_sign o a b h k = let same : Some a ≡ Some b = sym h ∙ k in cc
@@ -112,50 +112,53 @@ module _ (s s' : Stack) (x y : List ℕ) (shorter : length y < length x) where
         shorter = shorter;
       }
 
-  pub leads-list : (head : Beginning) → Begins head x y → head ≡ ListHead → s' ≡ inside AList [] s
+  pub leads-list : (head : Beginning) (t : Tree) (us : List Tree) (s1 : Stack) → Begins head x y → head ≡ ListHead → t ≡ list_term us → us ≡ [] → s1 ≡ with_top t s → s' ≡ inside Square [] s1
       → (r : Reading) (levels : List Level) → Stands r levels Expected s → GoesOn r levels x Entered s' y
-  leads-list head h e same r levels stands =
+  leads-list head t us s1 h e made empty pushed same r levels stands =
       let at = at_expected r levels s stands in
+      let bears : s1 ≡ with_top (list_term []) s = pushed ∙ ap (λ u. with_top u s) (made ∙ ap list_term empty) in
       record {
         reading = entered;
         levels' = new_level elements ∷ levels;
-        stands = (refl, (s, same, at.1));
+        stands = (refl, (s, at.1, same ∙ ap (inside Square []) bears));
         continues = subst (λ q. Continues q levels x entered (new_level elements ∷ levels) y) (sym at.0) (step-list levels x y (subst (λ k. Begins k x y) e h));
         shorter = shorter;
       }
 
-  pub leads-tuple : (head : Beginning) → Begins head x y → head ≡ TupleHead → s' ≡ inside Tuple [] s
+  pub leads-tuple : (head : Beginning) (t : Tree) (us : List Tree) (s1 : Stack) → Begins head x y → head ≡ TupleHead → t ≡ tuple_term us → us ≡ [] → s1 ≡ with_top t s → s' ≡ inside Round [] s1
       → (r : Reading) (levels : List Level) → Stands r levels Expected s → GoesOn r levels x Entered s' y
-  leads-tuple head h e same r levels stands =
+  leads-tuple head t us s1 h e made empty pushed same r levels stands =
       let at = at_expected r levels s stands in
+      let bears : s1 ≡ with_top (tuple_term []) s = pushed ∙ ap (λ u. with_top u s) (made ∙ ap tuple_term empty) in
       record {
         reading = entered;
         levels' = new_level components ∷ levels;
-        stands = (refl, (s, same, at.1));
+        stands = (refl, (s, at.1, same ∙ ap (inside Round []) bears));
         continues = subst (λ q. Continues q levels x entered (new_level components ∷ levels) y) (sym at.0) (step-tuple levels x y (subst (λ k. Begins k x y) e h));
         shorter = shorter;
       }
 
-  pub leads-annotations : NextSign 123 x y → s' ≡ inside Annotations [] s → (r : Reading) (levels : List Level) → Stands r levels Base s → GoesOn r levels x Entered s' y
+  pub leads-annotations : NextSign 123 x y → s' ≡ inside Curly [] s → (r : Reading) (levels : List Level) → Stands r levels Base s → GoesOn r levels x Entered s' y
   leads-annotations next same r levels stands =
       let at = at_base r levels s stands in
       record {
         reading = entered;
         levels' = new_level (annotating at.0) ∷ levels;
-        stands = (refl, (s, same, (at.3.below, at.3.is, at.3.holds)));
+        stands = (refl, (at.3.below, at.3.holds, same ∙ ap (inside Curly []) at.3.is));
         continues = subst (λ q. Continues q levels x entered (new_level (annotating at.0) ∷ levels) y) (sym at.1) (step-annotations levels at.0 x y next);
         shorter = shorter;
       }
 
 module _ (s s' : Stack) (name : Symbol) (x a text : List ℕ) (h : NextName name x a) (trimmed : text ≡ without_blanks a) where
-  pub leads-arguments : (y : List ℕ) → length y < length x → text ≡ 40 ∷ y → s' ≡ inside (Arguments name) [] s
+  pub leads-arguments : (t : Tree) (us : List Tree) (s1 : Stack) (y : List ℕ) → length y < length x → text ≡ 40 ∷ y → t ≡ application_term name us → us ≡ [] → s1 ≡ with_top t s → s' ≡ inside Round [] s1
       → (r : Reading) (levels : List Level) → Stands r levels Expected s → GoesOn r levels x Entered s' y
-  leads-arguments y shorter next same r levels stands =
+  leads-arguments t us s1 y shorter next made empty pushed same r levels stands =
       let at = at_expected r levels s stands in
+      let bears : s1 ≡ with_top (application_term name []) s = pushed ∙ ap (λ u. with_top u s) (made ∙ ap (application_term name) empty) in
       record {
         reading = entered;
         levels' = new_level (arguments name) ∷ levels;
-        stands = (refl, (s, same, at.1));
+        stands = (refl, (s, at.1, same ∙ ap (inside Round []) bears));
         continues = subst (λ q. Continues q levels x entered (new_level (arguments name) ∷ levels) y) (sym at.0) (step-arguments levels name x a h y (sym trimmed ∙ next));
         shorter = shorter;
       }
@@ -241,7 +244,7 @@ module _ (s : Stack) (x : List ℕ) (absent : (y : List ℕ) → NextSign 123 x 
 -- ---- behind a whole term
 
 one-more : (level : Level) (levels : List Level) (s : Stack) (t : Tree) → Last (level ∷ levels) s t → Holds (with_term level t ∷ levels) s
-one-more level levels s t h = (h.holds.0, h.is ∙ ap (with_top t) h.holds.1, h.holds.2)
+one-more level levels s t h = (h.holds.0, h.holds.1, h.is ∙ ap (with_top t) h.holds.2)
 
 module _ (s : Stack) (closing : ℕ) (x : List ℕ) (closes_so : first_closing s ≡ Some closing) where
   none-open : (t : Tree) → Last [] s t → ⊥
@@ -314,65 +317,53 @@ lost-more s x e more r levels stands =
 -- ---- closing
 
 -- the bracket that is left is the innermost of the levels
-module _ (s s' : Stack) (opened : Opened) (terms : List Tree) (left : s ≡ inside opened terms s') (level : Level) (levels : List Level) (h : Holds (level ∷ levels) s) where
-  both : inside (opened_of level.opened) level.done h.0 ≡ inside opened terms s'
-  both = sym h.1 ∙ left
+module _ (s s1 : Stack) (opening : Opening) (terms : List Tree) (left : s ≡ inside opening terms s1) (level : Level) (levels : List Level) (h : Holds (level ∷ levels) s) where
+  both : inside (opening_of level.opened) level.done (with_top (bearer level.opened) h.0) ≡ inside opening terms s1
+  both = sym h.2 ∙ left
 
-  groups : ◌≡◌ {A = List Group} (record { opened = opened_of level.opened; terms = level.done } ∷ h.0.groups) (record { opened = opened; terms = terms } ∷ s'.groups)
+  groups : ◌≡◌ {A = List Group} (record { opening = opening_of level.opened; terms = level.done } ∷ (with_top (bearer level.opened) h.0).groups) (record { opening = opening; terms = terms } ∷ s1.groups)
   groups = ap (λ (k : Stack). k.groups) both
 
-  first : ◌≡◌ {A = Group} (record { opened = opened_of level.opened; terms = level.done }) (record { opened = opened; terms = terms })
+  first : ◌≡◌ {A = Group} (record { opening = opening_of level.opened; terms = level.done }) (record { opening = opening; terms = terms })
   first = let same = groups in cc
 
-  pub same_opened : opened_of level.opened ≡ opened
-  same_opened = ap (λ (k : Group). k.opened) first
+  pub same_opening : opening_of level.opened ≡ opening
+  same_opening = ap (λ (k : Group). k.opening) first
 
   pub same_terms : level.done ≡ terms
   same_terms = ap (λ (k : Group). k.terms) first
 
-  pub same_rest : h.0 ≡ s'
+  pub same_rest : s1 ≡ with_top (bearer level.opened) h.0
   same_rest =
-      let others : h.0.groups ≡ s'.groups = let same = groups in cc in
-      λ i. record { outside = (ap (λ (k : Stack). k.outside) both) i; groups = others i }
+      let others : (with_top (bearer level.opened) h.0).groups ≡ s1.groups = let same = groups in cc in
+      sym (λ i. record { outside = (ap (λ (k : Stack). k.outside) both) i; groups = others i })
 
--- the base that a closed bracket gives
-abbrev GivesBase : Opened → List Tree → Tree → Type 0
-GivesBase (Arguments name) us t = t ≡ application_term name us
-GivesBase AList us t = t ≡ list_term us
-GivesBase Tuple us t = t ≡ tuple_term us
-GivesBase Annotations us t = ⊥
+base-stands : (o : Bracket) (done : List Tree) (levels : List Level) (below s' : Stack) → (opening_of o ≡ Curly → ⊥) → s' ≡ with_top (with_children (bearer o) done) below → Holds levels below
+    → Stands (closed o done) levels Base s'
+base-stands (arguments name) done levels below s' other same b = (below, refl, same, b, refl)
+base-stands elements done levels below s' other same b = (below, refl, same, b, refl)
+base-stands components done levels below s' other same b = (below, refl, same, b, refl)
+base-stands (annotating t) done levels below s' other same b = absurd (other refl)
 
-base-stands : (o : Bracket) (done : List Tree) (levels : List Level) (before s1 s' : Stack) (opened : Opened) (terms : List Tree) (t : Tree) → opened_of o ≡ opened → done ≡ terms → before ≡ s1
-    → GivesBase opened terms t → s' ≡ with_top t s1 → Before (λ u. Holds levels u) o before → Stands (closed o done) levels Base s'
-base-stands (arguments name) done levels before s1 s' opened terms t eo ed eb gives same b =
-    let made : t ≡ application_term name done = subst (λ q. GivesBase q terms t) (sym eo) gives ∙ ap (application_term name) (sym ed) in
-    (before, refl, same ∙ (λ i. with_top (made i) (sym eb i)), b, refl)
-base-stands elements done levels before s1 s' opened terms t eo ed eb gives same b =
-    let made : t ≡ list_term done = subst (λ q. GivesBase q terms t) (sym eo) gives ∙ ap list_term (sym ed) in
-    (before, refl, same ∙ (λ i. with_top (made i) (sym eb i)), b, refl)
-base-stands components done levels before s1 s' opened terms t eo ed eb gives same b =
-    let made : t ≡ tuple_term done = subst (λ q. GivesBase q terms t) (sym eo) gives ∙ ap tuple_term (sym ed) in
-    (before, refl, same ∙ (λ i. with_top (made i) (sym eb i)), b, refl)
-base-stands (annotating u) done levels before s1 s' opened terms t eo ed eb gives same b = absurd (subst (λ q. GivesBase q terms t) (sym eo) gives)
+whole-stands : (o : Bracket) (done : List Tree) (levels : List Level) (below s' : Stack) → opening_of o ≡ Curly → s' ≡ with_top (with_annotations (bearer o) done) below → Holds levels below
+    → Stands (closed o done) levels Whole s'
+whole-stands (arguments name) done levels below s' e same b = absurd (cc)
+whole-stands elements done levels below s' e same b = absurd (cc)
+whole-stands components done levels below s' e same b = absurd (cc)
+whole-stands (annotating t) done levels below s' e same b = (below, refl, same, b)
 
-whole-stands : (o : Bracket) (done : List Tree) (levels : List Level) (before s1 s' : Stack) (terms : List Tree) → opened_of o ≡ Annotations → done ≡ terms → before ≡ s1
-    → ((t : Tree) (below : Stack) → s1 ≡ with_top t below → s' ≡ with_top (with_annotations t terms) below) → Before (λ u. Holds levels u) o before → Stands (closed o done) levels Whole s'
-whole-stands (arguments name) done levels before s1 s' terms eo ed eb given b = absurd (cc)
-whole-stands elements done levels before s1 s' terms eo ed eb given b = absurd (cc)
-whole-stands components done levels before s1 s' terms eo ed eb given b = absurd (cc)
-whole-stands (annotating t) done levels before s1 s' terms eo ed eb given b =
-    (b.0, refl, given t b.0 (sym eb ∙ b.1) ∙ ap (λ l. with_top (with_annotations t l) b.0) (sym ed), b.2)
+module _ (s s1 s' : Stack) (opening : Opening) (terms : List Tree) (left : s ≡ inside opening terms s1) where
+  pub closed-base : (opening ≡ Curly → ⊥) → ((t : Tree) (below : Stack) → s1 ≡ with_top t below → s' ≡ with_top (with_children t terms) below) → IsClosed s Base s'
+  closed-base other given level levels h =
+      base-stands level.opened level.done levels h.0 s' (λ e. other (sym (same_opening s s1 opening terms left level levels h) ∙ e))
+      (given (bearer level.opened) h.0 (same_rest s s1 opening terms left level levels h)
+      ∙ ap (λ l. with_top (with_children (bearer level.opened) l) h.0) (sym (same_terms s s1 opening terms left level levels h))) h.1
 
-module _ (s s1 s' : Stack) (opened : Opened) (terms : List Tree) (left : s ≡ inside opened terms s1) where
-  pub closed-base : (t : Tree) → GivesBase opened terms t → s' ≡ with_top t s1 → IsClosed s Base s'
-  closed-base t gives same level levels h =
-      base-stands level.opened level.done levels h.0 s1 s' opened terms t (same_opened s s1 opened terms left level levels h) (same_terms s s1 opened terms left level levels h)
-      (same_rest s s1 opened terms left level levels h) gives same h.2
-
-  pub closed-whole : opened ≡ Annotations → ((t : Tree) (below : Stack) → s1 ≡ with_top t below → s' ≡ with_top (with_annotations t terms) below) → IsClosed s Whole s'
+  pub closed-whole : opening ≡ Curly → ((t : Tree) (below : Stack) → s1 ≡ with_top t below → s' ≡ with_top (with_annotations t terms) below) → IsClosed s Whole s'
   closed-whole e given level levels h =
-      whole-stands level.opened level.done levels h.0 s1 s' terms (same_opened s s1 opened terms left level levels h ∙ e) (same_terms s s1 opened terms left level levels h)
-      (same_rest s s1 opened terms left level levels h) given h.2
+      whole-stands level.opened level.done levels h.0 s' (same_opening s s1 opening terms left level levels h ∙ e)
+      (given (bearer level.opened) h.0 (same_rest s s1 opening terms left level levels h)
+      ∙ ap (λ l. with_top (with_annotations (bearer level.opened) l) h.0) (sym (same_terms s s1 opening terms left level levels h))) h.1
 
 pub closed-nothing : (s s' : Stack) (state : State) → first_closing s ≡ None → IsClosed s state s'
 closed-nothing s s' state e level levels h = let no : None ≡ Some (closing_of level.opened) = sym e ∙ closing-inside level levels s h in absurd (cc)

@@ -5,7 +5,7 @@ use Rattle.std.specs.declared.option.Option.{Option}
 use Rattle.std.proofs.Math.ListN.{set}
 use Rattle.std.proofs.Math.Seq.{set-append_seam, get_or-append_seam, take-append_seam, drop-append_seam, take-length}
 use Rattle.std.proofs.lemmas.List.{reverse-append, length-reverse, take-append-le, drop-append-le, take-append-drop, length-take, length-take-le, drop_all}
-use Rattle.term_core.specs.Tree.{Tree, with_annotations}
+use Rattle.term_core.specs.Tree.{Tree}
 use Rattle.aterm_text.specs.Stack.{Stack, Group, no_terms, on_top, with_top, inside}
 use Rattle.aterm_text.specs.StackView.{cut, IsCut}
 use Rattle.aterm_text.specs.declared.reader.stack.Bracket.{Bracket}
@@ -17,7 +17,7 @@ reverse-last bs b = reverse-append bs (b ∷ [])
 
 pub cut-push : (bs : List Bracket) (ts : List Tree) (t : Tree) → IsCut bs ts → cut bs (ts ++ t ∷ []) ≡ with_top t (cut bs ts)
 cut-push [] ts t h = refl
-cut-push (b ∷ bs) ts t h = λ i. inside b.opened (drop-append-le b.before ts (t ∷ []) h.0 i) (cut bs (take-append-le b.before ts (t ∷ []) h.0 i))
+cut-push (b ∷ bs) ts t h = λ i. inside b.opening (drop-append-le b.before ts (t ∷ []) h.0 i) (cut bs (take-append-le b.before ts (t ∷ []) h.0 i))
 
 pub is_cut-push : (bs : List Bracket) (ts : List Tree) (t : Tree) → IsCut bs ts → IsCut bs (ts ++ t ∷ [])
 is_cut-push [] ts t h = tt
@@ -28,11 +28,11 @@ is_cut-push (b ∷ bs) ts t h = (
 
 -- ---- one more bracket
 
-pub cut-enter : (b : Bracket) (bs : List Bracket) (ts : List Tree) → b.before ≡ length ts → cut (b ∷ bs) ts ≡ inside b.opened [] (cut bs ts)
+pub cut-enter : (b : Bracket) (bs : List Bracket) (ts : List Tree) → b.before ≡ length ts → cut (b ∷ bs) ts ≡ inside b.opening [] (cut bs ts)
 cut-enter b bs ts e =
     let whole : take b.before ts ≡ ts = ap (λ n. take n ts) e ∙ take-length ts in
     let nothing : drop b.before ts ≡ [] = drop_all b.before ts (omega (arith, e)) in
-    λ i. inside b.opened (nothing i) (cut bs (whole i))
+    λ i. inside b.opening (nothing i) (cut bs (whole i))
 
 pub is_cut-enter : (b : Bracket) (bs : List Bracket) (ts : List Tree) → b.before ≡ length ts → IsCut bs ts → IsCut (b ∷ bs) ts
 is_cut-enter b bs ts e h = (omega (arith, e), subst (IsCut bs) (sym (ap (λ n. take n ts) e ∙ take-length ts)) h)
@@ -59,7 +59,7 @@ still_cut bs bs' b ts h e =
 on_top-bare : (ts outside : List Tree) (groups : List Group) (t : Tree) → ◌≡◌ {A = Stack} (record { outside = ts; groups = [] }) (on_top t outside groups)
     → (ts ≡ outside ++ t ∷ []) × (groups ≡ [])
 on_top-bare ts outside [] t e = (ap (λ (s : Stack). s.outside) e, refl)
-on_top-bare ts outside (g ∷ gs) t e = let no : ◌≡◌ {A = List Group} [] (record { opened = g.opened; terms = g.terms ++ t ∷ [] } ∷ gs) = ap (λ (s : Stack). s.groups) e in absurd (cc)
+on_top-bare ts outside (g ∷ gs) t e = let no : ◌≡◌ {A = List Group} [] (record { opening = g.opening; terms = g.terms ++ t ∷ [] } ∷ gs) = ap (λ (s : Stack). s.groups) e in absurd (cc)
 
 -- the terms below the one on top
 pub record Below (bs : List Bracket) (ts : List Tree) (t : Tree) (below : Stack) : Type 0 where
@@ -69,14 +69,14 @@ pub record Below (bs : List Bracket) (ts : List Tree) (t : Tree) (below : Stack)
   pub is_below : cut bs front ≡ below
 
 group-below : (b : Bracket) (bs : List Bracket) (ts outside : List Tree) (groups : List Group) (t : Tree) → IsCut (b ∷ bs) ts
-    → inside b.opened (drop b.before ts) (cut bs (take b.before ts)) ≡ on_top t outside groups → Below (b ∷ bs) ts t (record { outside = outside; groups = groups })
+    → inside b.opening (drop b.before ts) (cut bs (take b.before ts)) ≡ on_top t outside groups → Below (b ∷ bs) ts t (record { outside = outside; groups = groups })
 group-below b bs ts outside [] t h e =
-    let no : ◌≡◌ {A = List Group} (record { opened = b.opened; terms = drop b.before ts } ∷ (cut bs (take b.before ts)).groups) [] = ap (λ (s : Stack). s.groups) e in absurd (cc)
+    let no : ◌≡◌ {A = List Group} (record { opening = b.opening; terms = drop b.before ts } ∷ (cut bs (take b.before ts)).groups) [] = ap (λ (s : Stack). s.groups) e in absurd (cc)
 group-below b bs ts outside (g ∷ gs) t h e =
     let before = take b.before ts in
-    let groups : ◌≡◌ {A = List Group} (record { opened = b.opened; terms = drop b.before ts } ∷ (cut bs before).groups) (record { opened = g.opened; terms = g.terms ++ t ∷ [] } ∷ gs)
+    let groups : ◌≡◌ {A = List Group} (record { opening = b.opening; terms = drop b.before ts } ∷ (cut bs before).groups) (record { opening = g.opening; terms = g.terms ++ t ∷ [] } ∷ gs)
     = ap (λ (s : Stack). s.groups) e in
-    let first : ◌≡◌ {A = Group} (record { opened = b.opened; terms = drop b.before ts }) (record { opened = g.opened; terms = g.terms ++ t ∷ [] }) = cc in
+    let first : ◌≡◌ {A = Group} (record { opening = b.opening; terms = drop b.before ts }) (record { opening = g.opening; terms = g.terms ++ t ∷ [] }) = cc in
     let others : (cut bs before).groups ≡ gs = cc in
     let count : length before ≡ b.before = length-take-le b.before ts h.0 in
     let again : take b.before (before ++ g.terms) ≡ before = subst (λ n. take n (before ++ g.terms) ≡ before) count (take-append_seam before g.terms) in
@@ -85,8 +85,8 @@ group-below b bs ts outside (g ∷ gs) t h e =
       front = before ++ g.terms;
       is = sym (take-append-drop b.before ts) ∙ ap (λ l. before ++ l) (ap (λ (k : Group). k.terms) first) ∙ sym (append_assoc before g.terms (t ∷ []));
       is_cut = (omega (arith, count, length-append before g.terms), subst (IsCut bs) (sym again) h.1);
-      is_below = (λ i. inside b.opened (rest i) (cut bs (again i)))
-          ∙ (λ i. record { outside = (ap (λ (s : Stack). s.outside) e) i; groups = record { opened = (ap (λ (k : Group). k.opened) first) i; terms = g.terms } ∷ others i });
+      is_below = (λ i. inside b.opening (rest i) (cut bs (again i)))
+          ∙ (λ i. record { outside = (ap (λ (s : Stack). s.outside) e) i; groups = record { opening = (ap (λ (k : Group). k.opening) first) i; terms = g.terms } ∷ others i });
     }
 
 pub below-top : (bs : List Bracket) (ts : List Tree) (t : Tree) (below : Stack) → IsCut bs ts → cut bs ts ≡ with_top t below → Below bs ts t below
@@ -102,16 +102,16 @@ is_cut-same_length (b ∷ bs) ts us e h = (
   is_cut-same_length bs (take b.before ts) (take b.before us) (length-take b.before ts ∙ ap (λ n. min b.before n) e ∙ sym (length-take b.before us)) h.1,
 )
 
-pub cut-annotate : (bs : List Bracket) (ts notes : List Tree) (n : ℕ) (x x' t : Tree) (below : Stack) → IsCut bs ts → n + 1 ≡ length ts → x ≡ get_or ts n x
-    → x' ≡ with_annotations x notes → cut bs ts ≡ with_top t below → cut bs (set ts n x') ≡ with_top (with_annotations t notes) below
-cut-annotate bs ts notes n x x' t below h len got made e =
+pub cut-change : (change : Tree → Tree) (bs : List Bracket) (ts : List Tree) (n : ℕ) (x x' t : Tree) (below : Stack) → IsCut bs ts → n + 1 ≡ length ts → x ≡ get_or ts n x
+    → x' ≡ change x → cut bs ts ≡ with_top t below → cut bs (set ts n x') ≡ with_top (change t) below
+cut-change change bs ts n x x' t below h len got made e =
     let b = below-top bs ts t below h e in
     let at : length b.front ≡ n = omega (arith, len, length-append b.front (t ∷ []), ap length b.is) in
     let was : x ≡ t = got ∙ ap (λ l. get_or l n x) b.is ∙ subst (λ k. get_or (b.front ++ t ∷ []) k x ≡ t) at (get_or-append_seam b.front t [] x) in
-    let written : set ts n x' ≡ b.front ++ with_annotations t notes ∷ [] =
+    let written : set ts n x' ≡ b.front ++ change t ∷ [] =
     ap (λ l. set l n x') b.is ∙ subst (λ k. set (b.front ++ t ∷ []) k x' ≡ b.front ++ x' ∷ []) at (set-append_seam b.front t [] x')
-    ∙ ap (λ u. b.front ++ u ∷ []) (made ∙ ap (λ u. with_annotations u notes) was) in
-    ap (cut bs) written ∙ cut-push bs b.front (with_annotations t notes) b.is_cut ∙ ap (with_top (with_annotations t notes)) b.is_below
+    ∙ ap (λ u. b.front ++ u ∷ []) (made ∙ ap change was) in
+    ap (cut bs) written ∙ cut-push bs b.front (change t) b.is_cut ∙ ap (with_top (change t)) b.is_below
 
 -- where there is no term, none is on top
 pub no_top : (bs : List Bracket) (ts : List Tree) (t : Tree) (below : Stack) → IsCut bs ts → cut bs ts ≡ with_top t below → length ts ≡ 0 → ⊥

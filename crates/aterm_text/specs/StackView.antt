@@ -8,7 +8,7 @@ use Rattle.aterm_text.specs.declared.reader.stack.Stack.TheInside.{Inside}
 -- the terms, cut where the brackets stand, the innermost bracket first
 abbrev pub cut : List Bracket → List Tree → Stack
 cut [] ts = record { outside = ts; groups = [] }
-cut (b ∷ bs) ts = inside b.opened (drop b.before ts) (cut bs (take b.before ts))
+cut (b ∷ bs) ts = inside b.opening (drop b.before ts) (cut bs (take b.before ts))
 
 -- each bracket stands within the terms before those of the bracket in it
 abbrev pub IsCut : List Bracket → List Tree → Type 0

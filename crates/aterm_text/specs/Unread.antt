@@ -6,8 +6,8 @@ use Rattle.aterm_text.specs.Tokens.{IsBlank}
 use Rattle.aterm_text.specs.Grammar.{Reads, ReadsUntil, ReadsMore, Optional}
 use Rattle.aterm_text.specs.Level.{Bracket, arguments, elements, components, annotating, Level, closing_of}
 use Rattle.aterm_text.specs.Stack.{Stack, no_terms, with_top, inside}
-use Rattle.aterm_text.specs.declared.reader.stack.Opened.{Opened}
-use Rattle.aterm_text.specs.declared.reader.stack.Opened.TheVariants.{Arguments, List as AList, Tuple, Annotations}
+use Rattle.aterm_text.specs.declared.reader.stack.Opening.{Opening}
+use Rattle.aterm_text.specs.declared.reader.stack.Opening.TheVariants.{Round, Square, Curly}
 use Rattle.aterm_text.specs.declared.reader.machine.State.{State}
 use Rattle.aterm_text.specs.declared.reader.machine.State.TheVariants.{Expected, Entered, Base, Whole}
 use Rattle.aterm_text.specs.declared.reader.machine.Step.{Step}
@@ -89,26 +89,25 @@ pub record IsEnd (r : Reading) (levels : List Level) (x : List ℕ) (t : Tree) :
 
 -- ---- what the reader's state and its stack stand for
 
-abbrev pub opened_of : Bracket → Opened
-opened_of (arguments name) = Arguments name
-opened_of elements = AList
-opened_of components = Tuple
-opened_of (annotating t) = Annotations
+abbrev pub opening_of : Bracket → Opening
+opening_of (arguments name) = Round
+opening_of elements = Square
+opening_of components = Round
+opening_of (annotating t) = Curly
 
--- The stack before a bracket has R; where the bracket gives annotations to a term, that term is on
--- top of a stack that has R.
-abbrev pub Before : (Stack → Type 0) → Bracket → Stack → Type 0
-Before R (arguments name) s = R s
-Before R elements s = R s
-Before R components s = R s
-Before R (annotating t) s = (below : Stack) × (s ≡ with_top t below) × R below
+-- the term before a bracket, to which what is in it will be given
+abbrev pub bearer : Bracket → Tree
+bearer (arguments name) = application_term name []
+bearer elements = list_term []
+bearer components = tuple_term []
+bearer (annotating t) = t
 
--- the stack holds these levels, and no other term
+-- the stack holds these levels and the bearers of their brackets, and no other term
 abbrev pub Holds : List Level → Stack → Type 0
 Holds [] s = s ≡ no_terms
 Holds (level ∷ levels) s =
-    (before : Stack) × (s ≡ inside (opened_of level.opened) level.done before)
-    × Before (λ u. Holds levels u) level.opened before
+    (below : Stack) × Holds levels below
+    × (s ≡ inside (opening_of level.opened) level.done (with_top (bearer level.opened) below))
 
 -- The state and the stack stand for this reading within these levels. The term that was read last is
 -- on top of the stack.

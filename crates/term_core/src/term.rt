@@ -5,7 +5,7 @@ ghost use Rattle.std.specs.Prelude.{◌≡◌, ◌+◌, ◌≤◌, ◌<◌, ◌�
 ghost use Rattle.std.specs.Option.{option_copied, option_copied_mut};
 ghost use Rattle.std.specs.Bool.{OnTrue, OnFalse};
 ghost use Rattle.std.specs.Borrow.{sem};
-ghost use Rattle.term_core.specs.Tree.{Tree, of_list, integer_term, application_term, list_term, tuple_term, children, annotations, with_annotations, with_child};
+ghost use Rattle.term_core.specs.Tree.{Tree, of_list, integer_term, application_term, list_term, tuple_term, children, annotations, with_annotations, with_children, with_child};
 ghost use Rattle.term_core.specs.Kind.{made_of};
 ghost use Rattle.term_core.specs.Size.{height, heights, size, sizes, fits};
 ghost use Rattle.term_core.specs.Size.{height as height_of, size as size_of};
@@ -156,6 +156,15 @@ impl Term {
         ensures old { other.new.items ≡ annotations self.old }
     {
         mem::swap(&mut self.annotations, other);
+    }
+
+    /// Gives the term these children in place of its own. An integer takes none.
+    pub fn set_children(&mut self, new: Vec<Term>)
+        ensures { self.new ≡ with_children self.old new.items }
+    {
+        if !matches!(self.node, Node::Integer(_)) {
+            self.children = new;
+        }
     }
 
     /// Child `i` for writing, or `None` where there are no more than `i` children. What a caller's

@@ -13,7 +13,7 @@ use crate::MAX_NESTING;
 use crate::reader::ReadFault;
 use crate::reader::head::{Head, first_head};
 use crate::reader::scan::{after_blanks, after_byte};
-use crate::reader::stack::{Opened, Stack};
+use crate::reader::stack::{Opening, Stack};
 use std::alloc::Global;
 use term_core::{Name, NoMemory, Term};
 
@@ -40,8 +40,8 @@ pub enum Step<'a> {
 }
 
 // Opens a bracket, where not too many are open.
-fn enter(stack: &mut Stack, opened: Opened) -> Result<(), ReadFault>
-    ensures ok { OnOk result (stack.new ≡ inside opened [] stack.old) }
+fn enter(stack: &mut Stack, opening: Opening) -> Result<(), ReadFault>
+    ensures ok { OnOk result (stack.new ≡ inside opening [] stack.old) }
     ensures few { OnOk result (depth stack.old < MAX_NESTING) }
     ensures term { result ≡ Err ReadFault.Term → ⊥ }
     ensures deep { result ≡ Err ReadFault.Deep → MAX_NESTING ≤ depth stack.old }
@@ -49,7 +49,7 @@ fn enter(stack: &mut Stack, opened: Opened) -> Result<(), ReadFault>
     if stack.depth() as u64 >= MAX_NESTING {
         return Err(ReadFault::Deep);
     }
-    stack.enter(opened)?;
+    stack.enter(opening)?;
     Ok(())
 }
 
@@ -72,13 +72,15 @@ fn expect_term<'a>(alloc: Global, stack: &mut Stack, text: &'a [u8]) -> Result<S
         }
         Head::Named(name) => behind_name(alloc, stack, name, rest),
         Head::List => {
-            match enter(stack, Opened::List) {
+            stack.push(Term::list(alloc, Vec::new(alloc)))?;
+            match enter(stack, Opening::Square) {
                 Ok(()) => Ok(Step::More(State::Entered, rest)),
                 Err(fault) => Err(fault),
             }
         }
         Head::Tuple => {
-            match enter(stack, Opened::Tuple) {
+            stack.push(Term::tuple(alloc, Vec::new(alloc)))?;
+            match enter(stack, Opening::Round) {
                 Ok(()) => Ok(Step::More(State::Entered, rest)),
                 Err(fault) => Err(fault),
             }
@@ -100,40 +102,35 @@ fn behind_name<'a>(
     ensures nesting { IfOk result (λ step. KeepsDepth stack.old text.now step stack.new) }
     ensures deep { result ≡ Err ReadFault.Deep → IsTooDeep (depth stack.old) text.now }
 {
+    stack.push(Term::application(alloc, name, Vec::new(alloc)))?;
     let text = after_blanks(text);
     match after_byte(b'(', text) {
-        Some(rest) => {
-            match enter(stack, Opened::Arguments(name)) {
-                Ok(()) => Ok(Step::More(State::Entered, rest)),
-                Err(fault) => Err(fault),
-            }
-        }
-        None => {
-            stack.push(Term::application(alloc, name, Vec::new(alloc)))?;
-            Ok(Step::More(State::Base, text))
-        }
+        Some(rest) => match enter(stack, Opening::Round) {
+            Ok(()) => Ok(Step::More(State::Entered, rest)),
+            Err(fault) => Err(fault),
+        },
+        None => Ok(Step::More(State::Base, text)),
     }
 }
 
-// Leaves the innermost bracket: what is in it becomes one term, or annotations of the one before.
-fn close(alloc: Global, stack: &mut Stack) -> Result<State, NoMemory>
+// Leaves the innermost bracket: what is in it is given to the term before it.
+fn close(stack: &mut Stack) -> Result<State, NoMemory>
     ensures closed { IfOk result (λ state. IsClosed stack.old state stack.new) }
     ensures depth { IfOk result (λ _. depth stack.new ≡ depth stack.old - 1) }
 {
-    let Some((opened, terms)) = stack.leave()? else {
+    let Some((opening, terms)) = stack.leave()? else {
         return Ok(State::Base);
     };
-    let term = match opened {
-        Opened::Arguments(name) => Term::application(alloc, name, terms),
-        Opened::List => Term::list(alloc, terms),
-        Opened::Tuple => Term::tuple(alloc, terms),
-        Opened::Annotations => {
+    match opening {
+        Opening::Curly => {
             stack.annotate(terms);
-            return Ok(State::Whole);
+            Ok(State::Whole)
         }
-    };
-    stack.push(term)?;
-    Ok(State::Base)
+        _ => {
+            stack.give_children(terms);
+            Ok(State::Base)
+        }
+    }
 }
 
 // An opening bracket was read.
@@ -152,13 +149,13 @@ fn behind_opening<'a>(
         return Err(ReadFault::Term);
     };
     match after_byte(closing, text) {
-        Some(rest) => Ok(Step::More(close(alloc, stack)?, rest)),
+        Some(rest) => Ok(Step::More(close(stack)?, rest)),
         None => expect_term(alloc, stack, text),
     }
 }
 
 // A base was read: a bracket that comes next holds its annotations.
-fn behind_base<'a>(alloc: Global, stack: &mut Stack, text: &'a [u8]) -> Result<Step<'a>, ReadFault>
+fn behind_base<'a>(stack: &mut Stack, text: &'a [u8]) -> Result<Step<'a>, ReadFault>
     requires { without_blanks text.now ≡ text.now }
     ensures leads { IfOk result (λ step. Leads State.Base stack.old text.now step stack.new) }
     ensures none { result ≡ Err ReadFault.Term → IsLost State.Base stack.old text.now }
@@ -167,17 +164,17 @@ fn behind_base<'a>(alloc: Global, stack: &mut Stack, text: &'a [u8]) -> Result<S
 {
     match after_byte(b'{', text) {
         Some(rest) => {
-            match enter(stack, Opened::Annotations) {
+            match enter(stack, Opening::Curly) {
                 Ok(()) => Ok(Step::More(State::Entered, rest)),
                 Err(fault) => Err(fault),
             }
         }
-        None => behind_whole(alloc, stack, text),
+        None => behind_whole(stack, text),
     }
 }
 
 // A whole term was read: a comma, the closing bracket or the end of the text comes next.
-fn behind_whole<'a>(alloc: Global, stack: &mut Stack, text: &'a [u8]) -> Result<Step<'a>, ReadFault>
+fn behind_whole<'a>(stack: &mut Stack, text: &'a [u8]) -> Result<Step<'a>, ReadFault>
     requires { without_blanks text.now ≡ text.now }
     ensures leads { IfOk result (λ step. Leads State.Whole stack.old text.now step stack.new) }
     ensures none { result ≡ Err ReadFault.Term → IsLost State.Whole stack.old text.now }
@@ -194,7 +191,7 @@ fn behind_whole<'a>(alloc: Global, stack: &mut Stack, text: &'a [u8]) -> Result<
         return Ok(Step::More(State::Expected, rest));
     }
     match after_byte(closing, text) {
-        Some(rest) => Ok(Step::More(close(alloc, stack)?, rest)),
+        Some(rest) => Ok(Step::More(close(stack)?, rest)),
         None => Err(ReadFault::Term),
     }
 }
@@ -215,8 +212,8 @@ fn make_step<'a>(
     match state {
         State::Expected => expect_term(alloc, stack, text),
         State::Entered => behind_opening(alloc, stack, text),
-        State::Base => behind_base(alloc, stack, text),
-        State::Whole => behind_whole(alloc, stack, text),
+        State::Base => behind_base(stack, text),
+        State::Whole => behind_whole(stack, text),
     }
 }
 

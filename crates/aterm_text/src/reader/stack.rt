@@ -2,36 +2,36 @@
 #![tactic(auto, using(crate::proofs::StackLemmas::stack_parts))]
 
 ghost use Rattle.std.specs.Prelude.{◌≡◌, [], IfOk, IfSome, IfNone, OnOk, Some, None};
-ghost use Rattle.term_core.specs.Tree.{Tree, with_annotations};
+ghost use Rattle.term_core.specs.Tree.{Tree, with_annotations, with_children};
 ghost use Rattle.aterm_text.specs.Stack.{Stack as Terms, no_terms, with_top, inside, first_closing};
 ghost use Rattle.aterm_text.specs.Depth.{depth};
 
 use std::alloc::Global;
 use std::marker::Model;
-use term_core::{Name, NoMemory, Term};
+use term_core::{NoMemory, Term};
 
-/// What an open bracket will make of the terms in it.
-#[derive(Drop)]
-pub enum Opened {
-    /// The arguments of a name.
-    Arguments(Name),
-    /// The elements of a list.
-    List,
-    /// The elements of a tuple.
-    Tuple,
-    /// The annotations of the term before the bracket.
-    Annotations,
+/// An opening bracket. What is in it is given to the term before it: that term's arguments or
+/// elements, or its annotations.
+#[derive(Clone, Copy)]
+pub enum Opening {
+    /// `(`, before the arguments of a name or the elements of a tuple.
+    Round,
+    /// `[`, before the elements of a list.
+    Square,
+    /// `{`, before annotations.
+    Curly,
 }
 
 // An open bracket, and how many terms stand before it.
-#[derive(Drop)]
+#[derive(Clone, Copy)]
 struct Bracket {
-    opened: Opened,
+    opening: Opening,
     before: usize,
 }
 
 /// All terms that were read, the last on top, and the brackets that are open. A closing bracket
-/// takes off the terms behind its opening one.
+/// takes off the terms behind its opening one. A name, a list or a tuple stands on the stack before
+/// its bracket is opened, without children.
 #[derive(Drop)]
 pub struct Stack {
     brackets: Vec<Bracket>,
@@ -72,11 +72,11 @@ impl Stack {
     }
 
     /// Opens a bracket.
-    pub fn enter(&mut self, opened: Opened) -> Result<(), NoMemory>
-        ensures ok { OnOk result (self.new ≡ inside opened [] self.old) }
+    pub fn enter(&mut self, opening: Opening) -> Result<(), NoMemory>
+        ensures ok { OnOk result (self.new ≡ inside opening [] self.old) }
     {
         let before = self.terms.len();
-        self.brackets.push(Bracket { opened, before })?;
+        self.brackets.push(Bracket { opening, before })?;
         Ok(())
     }
 
@@ -92,25 +92,25 @@ impl Stack {
         ensures { result ≡ first_closing self.now }
     {
         let bracket = self.brackets.last()?;
-        match &bracket.opened {
-            Opened::Arguments(_) | Opened::Tuple => Some(b')'),
-            Opened::List => Some(b']'),
-            Opened::Annotations => Some(b'}'),
+        match bracket.opening {
+            Opening::Round => Some(b')'),
+            Opening::Square => Some(b']'),
+            Opening::Curly => Some(b'}'),
         }
     }
 
     /// Leaves the innermost bracket, and takes off the terms in it; `None` where none is open.
-    pub fn leave(&mut self) -> Result<Option<(Opened, Vec<Term>)>, NoMemory>
+    pub fn leave(&mut self) -> Result<Option<(Opening, Vec<Term>)>, NoMemory>
         ensures left { IfOk result (λ left. IfSome left (λ left.
             self.old ≡ inside left.0 left.1.items self.new)) }
         ensures none { IfOk result (λ left. IfNone left ((first_closing self.old ≡ None)
             × (self.new ≡ self.old))) }
     {
-        let Some(Bracket { opened, before }) = self.brackets.pop() else {
+        let Some(Bracket { opening, before }) = self.brackets.pop() else {
             return Ok(None);
         };
         let terms = self.terms.split_off(before)?;
-        Ok(Some((opened, terms)))
+        Ok(Some((opening, terms)))
     }
 
     /// Gives annotations to the term on top.
@@ -123,6 +123,18 @@ impl Stack {
             return;
         };
         self.terms[top].swap_annotations(&mut annotations);
+    }
+
+    /// Gives children to the term on top.
+    pub fn give_children(&mut self, children: Vec<Term>)
+        ensures top { (t : Tree) (below : Terms) → self.old ≡ with_top t below
+            → self.new ≡ with_top (with_children t children.items) below }
+        ensures depth { depth self.new ≡ depth self.old }
+    {
+        let Some(top) = self.terms.len().checked_sub(1) else {
+            return;
+        };
+        self.terms[top].set_children(children);
     }
 
     /// The only term, outside of all brackets.

@@ -1,7 +1,8 @@
 use Rattle.std.proofs.Common.{◌∙◌, sym, ap, arith}
 use Rattle.std.proofs.Math.ListN.{length-set}
+use Rattle.term_core.specs.Tree.{with_annotations}
 use Rattle.aterm_text.specs.Depth.{depth}
-use Rattle.aterm_text.proofs.StackLemmas.{is_cut-same_length, cut-annotate, no_top, depth-cut}
+use Rattle.aterm_text.proofs.StackLemmas.{is_cut-same_length, cut-change, no_top, depth-cut}
 use Rattle.aterm_text.proofs.reader.stack.Stack.annotate.Goals as goal
 
 pub returns-in_default-clause-top : goal.returns-in_default-clause-top
@@ -14,7 +15,7 @@ invariant_of-self c = is_cut-same_length _ c.self.inside.terms.items _ (sym (len
 
 pub returns-clause-top : goal.returns-clause-top
 returns-clause-top c = λ t below e.
-    cut-annotate _ c.self.inside.terms.items c.args.annotations.items c.in-Some.top _ _ t below c.self.invariant (omega (arith, c.in-Some.ensures, c.len.ensures, c.self.inside.terms.ok.0))
+    cut-change (λ u. with_annotations u c.args.annotations.items) _ c.self.inside.terms.items c.in-Some.top _ _ t below c.self.invariant (omega (arith, c.in-Some.ensures, c.len.ensures, c.self.inside.terms.ok.0))
     c.index_mut.ensures.value c.swap_annotations.ensures.term (c.self.view_is ∙ e)
 
 pub returns-clause-depth : goal.returns-clause-depth
