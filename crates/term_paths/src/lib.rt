@@ -1,0 +1,11 @@
+//! Paths: places in terms, by which every layer above names a subterm, looks at it and changes it.
+#![tactic(auto)]
+
+mod path;
+mod subterm;
+
+pub use path::{Path, parts_lie_within};
+pub use subterm::{
+    at, at_mut, at_parts, at_parts_mut, swap_annotations_at, swap_annotations_at_parts, swap_at,
+    swap_at_parts,
+};
