@@ -1,3 +1,4 @@
 pub mod PathLemmas
 pub mod StepLemmas
+pub mod LawLemmas
 pub mod TextLemmas

@@ -1,6 +1,7 @@
 //! Paths: places in terms, by which every layer above names a subterm, looks at it and changes it.
 #![tactic(auto)]
 
+pub mod laws;
 mod path;
 mod subterm;
 mod text;
