@@ -12,3 +12,6 @@ pub use subterm::{
     swap_at_parts,
 };
 pub use text::{MAX_PART, PathFault, read_path};
+
+#[cfg(test)]
+mod tests;
