@@ -3,7 +3,7 @@ use Rattle.std.proofs.Common.{◌≡◌, ℕ, List, ◌++◌, refl, sym, ap, ◌
 use Rattle.term_core.specs.Tree.{Tree, integer, branch, annotations, with_annotations}
 use Rattle.term_core.proofs.TreeLemmas.{to_list-of_list, of_list-to_list}
 use Rattle.term_paths.specs.Paths.{at, annotations_at, set_at, set_annotations_at}
-use Rattle.term_paths.specs.Laws.{PuttingBack, PuttingAnnotationsBack, SetIsThere, SetAnnotationsAreThere, swapped, annotations_swapped, SwappingTwiceIsNothing, SwappingAnnotationsTwiceIsNothing, SetBehind, SetAnnotationsBehind}
+use Rattle.term_paths.specs.Laws.{PuttingBack, PuttingAnnotationsBack, SetIsThere, SetAnnotationsAreThere, LastSetStays, LastAnnotationsStay, SubtermAfterAnnotations, swapped, annotations_swapped, SwappingTwiceIsNothing, SwappingAnnotationsTwiceIsNothing, SetBehind, SetAnnotationsBehind}
 use Rattle.term_paths.proofs.PathLemmas.{changed_at, set_at-changed, set_annotations_at-changed, at-changed_at, changed_at-changed_at, changed_at-same, changed_at-nowhere, changed_at-append}
 
 -- ---- subterms
@@ -85,6 +85,34 @@ swapping_annotations_twice p t us =
           ap (annotations_swapped p) once
           ∙ (λ i. (putting_annotations_back t us old p e i, unwrap_or (set_annotations_are_there t us old p e i) old))
     ] refl
+
+with_annotations-with_annotations : (t : Tree) (us vs : List Tree) → with_annotations (with_annotations t us) vs ≡ with_annotations t vs
+with_annotations-with_annotations (integer z notes) us vs = refl
+with_annotations-with_annotations (branch head kids notes) us vs = refl
+
+-- ---- the last set
+
+pub last_set_stays : LastSetStays
+last_set_stays t u v p =
+    ap (λ s. set_at s p v) (set_at-changed t u p)
+    ∙ set_at-changed (changed_at (λ _. u) t p) v p
+    ∙ changed_at-changed_at (λ _. u) (λ _. v) t p
+    ∙ sym (set_at-changed t v p)
+
+pub last_annotations_stay : LastAnnotationsStay
+last_annotations_stay t us vs p =
+    ap (λ s. set_annotations_at s p vs) (set_annotations_at-changed t us p)
+    ∙ set_annotations_at-changed (changed_at (λ u. with_annotations u us) t p) vs p
+    ∙ changed_at-changed_at (λ u. with_annotations u us) (λ u. with_annotations u vs) t p
+    ∙ (λ i. changed_at (λ u. with_annotations-with_annotations u us vs i) t p)
+    ∙ sym (set_annotations_at-changed t vs p)
+
+pub subterm_after_annotations : SubtermAfterAnnotations
+subterm_after_annotations t u us p =
+    ap (λ s. set_at s p u) (set_annotations_at-changed t us p)
+    ∙ set_at-changed (changed_at (λ v. with_annotations v us) t p) u p
+    ∙ changed_at-changed_at (λ v. with_annotations v us) (λ _. u) t p
+    ∙ sym (set_at-changed t u p)
 
 -- ---- one path behind another
 

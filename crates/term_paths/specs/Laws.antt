@@ -1,7 +1,7 @@
 -- Laws of what paths set.
 use Rattle.std.specs.Prelude.{◌≡◌, ℕ, List, ◌++◌, Some, unwrap_or, option_and_then}
 use Rattle.term_core.specs.Tree.{Tree}
-use Rattle.term_paths.specs.Paths.{at, annotations_at, set_at, set_annotations_at}
+use Rattle.term_paths.specs.Paths.{at, annotations_at, set_at, set_annotations_at, LiesWithin}
 
 -- Where a path leads to a subterm, putting it back after anything was set there gives the tree from
 -- before.
@@ -20,6 +20,18 @@ SetIsThere = (t u old : Tree) (p : List ℕ) → at t p ≡ Some old → at (set
 abbrev pub SetAnnotationsAreThere : Type 0
 SetAnnotationsAreThere = (t : Tree) (us old : List Tree) (p : List ℕ)
     → annotations_at t p ≡ Some old → annotations_at (set_annotations_at t p us) p ≡ Some us
+
+-- Of what was set at one path only the last shows.
+abbrev pub LastSetStays : Type 0
+LastSetStays = (t u v : Tree) (p : List ℕ) → set_at (set_at t p u) p v ≡ set_at t p v
+
+abbrev pub LastAnnotationsStay : Type 0
+LastAnnotationsStay = (t : Tree) (us vs : List Tree) (p : List ℕ)
+    → set_annotations_at (set_annotations_at t p us) p vs ≡ set_annotations_at t p vs
+
+abbrev pub SubtermAfterAnnotations : Type 0
+SubtermAfterAnnotations = (t u : Tree) (us : List Tree) (p : List ℕ)
+    → set_at (set_annotations_at t p us) p u ≡ set_at t p u
 
 -- ---- swapping
 
@@ -54,3 +66,32 @@ SetBehind = (t u v : Tree) (p q : List ℕ) → at t p ≡ Some u
 abbrev pub SetAnnotationsBehind : Type 0
 SetAnnotationsBehind = (t u : Tree) (notes : List Tree) (p q : List ℕ) → at t p ≡ Some u
     → set_annotations_at t (p ++ q) notes ≡ set_at t p (set_annotations_at u q notes)
+
+-- ---- paths apart
+
+-- Neither path lies within the other.
+abbrev pub AreApart : List ℕ → List ℕ → Type 0
+AreApart p q = (¬ (LiesWithin p q)) × (¬ (LiesWithin q p))
+
+-- What is set at a path leaves what another one apart from it leads to, and it doesn't matter at
+-- which of the two is set first.
+abbrev pub ApartIsLeft : Type 0
+ApartIsLeft = (t u : Tree) (p q : List ℕ) → AreApart p q → at (set_at t p u) q ≡ at t q
+
+abbrev pub ApartCommute : Type 0
+ApartCommute = (t u v : Tree) (p q : List ℕ) → AreApart p q
+    → set_at (set_at t p u) q v ≡ set_at (set_at t q v) p u
+
+-- And so for annotations, and for annotations and a subterm.
+abbrev pub ApartIsLeftByAnnotations : Type 0
+ApartIsLeftByAnnotations = (t : Tree) (us : List Tree) (p q : List ℕ) → AreApart p q
+    → at (set_annotations_at t p us) q ≡ at t q
+
+abbrev pub ApartAnnotationsCommute : Type 0
+ApartAnnotationsCommute = (t : Tree) (us vs : List Tree) (p q : List ℕ) → AreApart p q
+    → set_annotations_at (set_annotations_at t p us) q vs
+    ≡ set_annotations_at (set_annotations_at t q vs) p us
+
+abbrev pub ApartMixedCommute : Type 0
+ApartMixedCommute = (t u : Tree) (vs : List Tree) (p q : List ℕ) → AreApart p q
+    → set_annotations_at (set_at t p u) q vs ≡ set_at (set_annotations_at t q vs) p u

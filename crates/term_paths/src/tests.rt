@@ -134,10 +134,34 @@ fn annotations_of_subterms(rt: HostRuntime) -> Result<(), Fail> {
     Ok(())
 }
 
+// The deepest place of a term as high as one may be is looked at and changed on a stack of 8 MiB.
+#[test]
+fn deep_places(rt: HostRuntime) -> Result<(), Fail> {
+    let alloc = rt.alloc();
+    let mut tree = Term::integer(alloc, 1);
+    let mut path = Path::root(alloc);
+    for _ in 0..999 {
+        tree = Term::list(alloc, vec![in alloc; tree]?);
+        path.down(0)?;
+    }
+    let mut other = Term::integer(alloc, 2);
+    assert!(rt; swap_at(&mut tree, &path, &mut other));
+    assert!(rt; is_integer(Some(&other), 1) && is_integer(at(&tree, &path), 2));
+    let mut notes = integers(alloc, &[3])?;
+    assert!(rt; swap_annotations_at(&mut tree, &path, &mut notes));
+    assert!(rt; notes.is_empty());
+    assert!(rt; at(&tree, &path).is_some_and(|deepest| deepest.annotations().len() == 1));
+    path.down(0)?;
+    assert!(rt; at(&tree, &path).is_none() && !swap_at(&mut tree, &path, &mut other));
+    Ok(())
+}
+
 #[test]
 fn laws_are_there() {
     laws::putting_back();
     laws::what_was_set_is_there();
+    laws::the_last_set_stays();
     laws::swapping_twice_is_nothing();
     laws::one_path_behind_another();
+    laws::paths_apart_are_independent();
 }
