@@ -10,7 +10,8 @@ PuttingBack = (t u old : Tree) (p : List ℕ) → at t p ≡ Some old → set_at
 
 -- And so for the annotations of the subterm.
 abbrev pub PuttingAnnotationsBack : Type 0
-PuttingAnnotationsBack = (t : Tree) (us old : List Tree) (p : List ℕ) → annotations_at t p ≡ Some old
+PuttingAnnotationsBack = (t : Tree) (us old : List Tree) (p : List ℕ)
+    → annotations_at t p ≡ Some old
     → set_annotations_at (set_annotations_at t p us) p old ≡ t
 
 -- what was set where a path leads to a subterm is there
