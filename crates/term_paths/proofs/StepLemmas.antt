@@ -5,7 +5,7 @@ use Rattle.std.specs.Bool.{OnTrue, OnFalse}
 use Rattle.std.proofs.lemmas.List.{drop_more, drop_all, length-set, take_at}
 use Rattle.std.proofs.lemmas.Option.{slice_get-get_or, slice_get_past}
 use Rattle.term_core.specs.Tree.{Tree, children, annotations, with_children, with_child}
-use Rattle.term_paths.specs.Paths.{at, leads, annotations_at, set_at, set_annotations_at}
+use Rattle.term_paths.specs.Paths.{at, leads, annotations_at, set_at, set_annotations_at, ChangesAt}
 use Rattle.term_paths.proofs.PathLemmas.{at-child, at-no_child, set_at-child, set_annotations_at-child, with_child-same}
 
 -- ---- looking
@@ -64,3 +64,17 @@ set_annotations_below t kid new notes us i p rest false e lent is h = tt
 pub outside_below : {X : Type 0} (t kid new : Tree) (x y : X) (us : List Tree) (i : ℕ) (r : Bool) → us ≡ children t → slice_get (children t) i ≡ Some kid → OnFalse r ((new ≡ kid) × (x ≡ y)) → OnFalse r ((with_children t (refill (length (children t)) (children t) (set us i new)) ≡ t) × (x ≡ y))
 outside_below t kid new x y us i true lent is h = tt
 outside_below t kid new x y us i false lent is h = (written t new us i lent ∙ ap (with_child t i) h.0 ∙ with_child-same t i kid is, h.1)
+
+-- ---- changing by a closure
+
+pub leads_past : (t : Tree) (i : ℕ) (p rest : List ℕ) → p ≡ i ∷ rest → length (children t) ≤ i → false ≡ leads t p
+leads_past t i p rest e h = sym (ap is_some (ap (at t) e ∙ at-no_child t i rest (slice_get_past (children t) i h)))
+
+pub changed_below : (P : Tree → Tree → Type 0) (t kid new : Tree) (us : List Tree) (i : ℕ) (p rest : List ℕ) (r : Bool) → p ≡ i ∷ rest → us ≡ children t → slice_get (children t) i ≡ Some kid → OnTrue r (ChangesAt P kid rest new) → OnTrue r (ChangesAt P t p (with_children t (refill (length (children t)) (children t) (set us i new))))
+changed_below P t kid new us i p rest true e lent is h =
+    (h.0, h.1, ap (at t) e ∙ at-child t kid i rest is ∙ h.2, h.3, set_below t kid new h.1 us i p rest true e lent is h.4)
+changed_below P t kid new us i p rest false e lent is h = tt
+
+pub same_below : (t kid new : Tree) (us : List Tree) (i : ℕ) (r : Bool) → us ≡ children t → slice_get (children t) i ≡ Some kid → OnFalse r (new ≡ kid) → OnFalse r (with_children t (refill (length (children t)) (children t) (set us i new)) ≡ t)
+same_below t kid new us i true lent is h = tt
+same_below t kid new us i false lent is h = written t new us i lent ∙ ap (with_child t i) h ∙ with_child-same t i kid is

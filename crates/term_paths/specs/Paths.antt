@@ -32,6 +32,11 @@ set_annotations_at t (i ∷ p) notes =
     option_map_or (λ kid. with_child t i (set_annotations_at kid p notes))
     (slice_get (children t) i) t
 
+-- what becomes of the tree where the path leads to a subterm that P relates to what takes its place
+abbrev pub ChangesAt : (Tree → Tree → Type 0) → Tree → List ℕ → Tree → Type 0
+ChangesAt P t p after =
+    (old : Tree) × (new : Tree) × (at t p ≡ Some old) × P old new × (after ≡ set_at t p new)
+
 -- A path lies within another one where that one is its front: it leads to the subterm that the
 -- other leads to, or to one below.
 abbrev pub LiesWithin : List ℕ → List ℕ → Type 0

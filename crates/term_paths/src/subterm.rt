@@ -4,7 +4,8 @@
 ghost use Rattle.std.specs.Prelude.{◌≡◌, Some, option_copied};
 ghost use Rattle.std.specs.Option.{option_copied_mut};
 ghost use Rattle.std.specs.Bool.{OnTrue, OnFalse};
-ghost use Rattle.term_paths.specs.Paths.{at, leads, annotations_at, set_at, set_annotations_at};
+ghost use Rattle.std.specs.Fn.{FnOnceReturnsAtMut};
+ghost use Rattle.term_paths.specs.Paths.{at, leads, annotations_at, set_at, set_annotations_at, ChangesAt};
 
 use crate::Path;
 use std::mem;
@@ -29,7 +30,7 @@ pub fn at_parts<'a>(term: &'a Term, parts: &[usize]) -> Option<&'a Term>
 }
 
 /// The subterm that the path leads to, for writing, or `None` where it leads nowhere. What a
-/// caller's proof has to know of the term afterwards, [`swap_at`] says.
+/// caller's proof has to know of the term afterwards, [`change_at`] and [`swap_at`] say.
 pub fn at_mut<'a>(term: &'a mut Term, path: &Path) -> Option<&'a mut Term>
     ensures { option_copied_mut result ≡ at term.old path.now }
 {
@@ -45,6 +46,40 @@ pub fn at_parts_mut<'a>(term: &'a mut Term, parts: &[usize]) -> Option<&'a mut T
         here = here.child_mut(*part)?;
     }
     Some(here)
+}
+
+/// Changes the subterm that the path leads to by the closure, once, and keeps all else; `false`, and
+/// no change, where the path leads nowhere.
+pub fn change_at<F: FnOnce(&mut Term) + Drop>(term: &mut Term, path: &Path, change: F) -> bool
+    requires { F.IsAlwaysCallable change }
+    ensures there { result ≡ leads term.old path.now }
+    ensures changed { OnTrue result (ChangesAt (λ old new.
+        FnOnceReturnsAtMut F.FnOnce change old tt new) term.old path.now term.new) }
+    ensures outside { OnFalse result (term.new ≡ term.old) }
+{
+    change_at_parts(term, path.parts(), change)
+}
+
+/// [`change_at`], by the parts of the path.
+pub fn change_at_parts<F: FnOnce(&mut Term) + Drop>(
+    term: &mut Term,
+    parts: &[usize],
+    change: F,
+) -> bool
+    requires { F.IsAlwaysCallable change }
+    ensures there { result ≡ leads term.old parts.now }
+    ensures changed { OnTrue result (ChangesAt (λ old new.
+        FnOnceReturnsAtMut F.FnOnce change old tt new) term.old parts.now term.new) }
+    ensures outside { OnFalse result (term.new ≡ term.old) }
+{
+    let Some((first, rest)) = parts.split_first() else {
+        change(term);
+        return true;
+    };
+    if *first >= term.child_count() {
+        return false;
+    }
+    change_at_parts(&mut term.children_mut()[*first], rest, change)
 }
 
 /// Changes the subterm that the path leads to for the other term, and hands the old subterm back in

@@ -1,8 +1,9 @@
 //! The calls on paths, with ample memory.
 
 use crate::{
-    Path, PathFault, at, at_mut, at_parts, at_parts_mut, laws, parts_lie_within, read_path,
-    swap_annotations_at, swap_annotations_at_parts, swap_at, swap_at_parts,
+    Path, PathFault, at, at_mut, at_parts, at_parts_mut, change_at, change_at_parts, laws,
+    parts_lie_within, read_path, swap_annotations_at, swap_annotations_at_parts, swap_at,
+    swap_at_parts,
 };
 use std::alloc::Global;
 use std::test::Fail;
@@ -130,6 +131,24 @@ fn annotations_of_subterms(rt: HostRuntime) -> Result<(), Fail> {
     assert!(rt; notes.len() == 1 && is_integer(notes.first(), 4));
     assert!(rt; at_parts(&tree, &[1]).is_some_and(|list| list.annotations().is_empty()));
     assert!(rt; !swap_annotations_at_parts(&mut tree, &[1, 2], &mut notes));
+
+    let first = path(alloc, &[0])?;
+    assert!(rt;
+        change_at(
+            &mut tree,
+            &first,
+            |here: &mut Term| here.swap_annotations(&mut notes)
+        )
+    );
+    assert!(rt; notes.is_empty());
+    assert!(rt; at(&tree, &first).is_some_and(|here| here.annotations().len() == 1));
+    assert!(rt;
+        change_at_parts(
+            &mut tree,
+            &[0],
+            |here: &mut Term| here.swap_annotations(&mut notes)
+        )
+    );
     assert!(rt; notes.len() == 1 && tree.annotations().len() == 2);
     Ok(())
 }
