@@ -1,0 +1,5 @@
+pub mod PathLemmas
+pub mod ApartLemmas
+pub mod StepLemmas
+pub mod LawLemmas
+pub mod TextLemmas

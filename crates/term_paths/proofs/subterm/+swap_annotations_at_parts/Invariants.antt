@@ -1,0 +1,5 @@
+use Rattle.std.proofs.Common.{length}
+use Rattle.term_paths.proofs.subterm.+swap_annotations_at_parts.Given as goal
+
+abbrev pub decreases-swap_annotations_at_parts : goal.decreases-swap_annotations_at_parts
+decreases-swap_annotations_at_parts l = length l.parts.now

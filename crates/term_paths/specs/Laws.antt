@@ -1,0 +1,98 @@
+-- Laws of what paths set.
+use Rattle.std.specs.Prelude.{◌≡◌, ℕ, List, ◌++◌, Some, unwrap_or, option_and_then}
+use Rattle.term_core.specs.Tree.{Tree}
+use Rattle.term_paths.specs.Paths.{at, annotations_at, set_at, set_annotations_at, LiesWithin}
+
+-- Where a path leads to a subterm, putting it back after anything was set there gives the tree from
+-- before.
+abbrev pub PuttingBack : Type 0
+PuttingBack = (t u old : Tree) (p : List ℕ) → at t p ≡ Some old → set_at (set_at t p u) p old ≡ t
+
+-- And so for the annotations of the subterm.
+abbrev pub PuttingAnnotationsBack : Type 0
+PuttingAnnotationsBack = (t : Tree) (us old : List Tree) (p : List ℕ)
+    → annotations_at t p ≡ Some old
+    → set_annotations_at (set_annotations_at t p us) p old ≡ t
+
+-- what was set where a path leads to a subterm is there
+abbrev pub SetIsThere : Type 0
+SetIsThere = (t u old : Tree) (p : List ℕ) → at t p ≡ Some old → at (set_at t p u) p ≡ Some u
+
+abbrev pub SetAnnotationsAreThere : Type 0
+SetAnnotationsAreThere = (t : Tree) (us old : List Tree) (p : List ℕ)
+    → annotations_at t p ≡ Some old → annotations_at (set_annotations_at t p us) p ≡ Some us
+
+-- Of what was set at one path only the last shows.
+abbrev pub LastSetStays : Type 0
+LastSetStays = (t u v : Tree) (p : List ℕ) → set_at (set_at t p u) p v ≡ set_at t p v
+
+abbrev pub LastAnnotationsStay : Type 0
+LastAnnotationsStay = (t : Tree) (us vs : List Tree) (p : List ℕ)
+    → set_annotations_at (set_annotations_at t p us) p vs ≡ set_annotations_at t p vs
+
+abbrev pub SubtermAfterAnnotations : Type 0
+SubtermAfterAnnotations = (t u : Tree) (us : List Tree) (p : List ℕ)
+    → set_at (set_annotations_at t p us) p u ≡ set_at t p u
+
+-- ---- swapping
+
+-- a tree and a term of its own, with the subterm that the path leads to and that term swapped; both
+-- stay where it leads nowhere
+abbrev pub swapped : List ℕ → Tree × Tree → Tree × Tree
+swapped p both = (set_at both.0 p both.1, unwrap_or (at both.0 p) both.1)
+
+-- the same for the annotations there and a list of terms
+abbrev pub annotations_swapped : List ℕ → Tree × List Tree → Tree × List Tree
+annotations_swapped p both =
+    (set_annotations_at both.0 p both.1, unwrap_or (annotations_at both.0 p) both.1)
+
+abbrev pub SwappingTwiceIsNothing : Type 0
+SwappingTwiceIsNothing = (p : List ℕ) (t u : Tree) → swapped p (swapped p (t, u)) ≡ (t, u)
+
+abbrev pub SwappingAnnotationsTwiceIsNothing : Type 0
+SwappingAnnotationsTwiceIsNothing = (p : List ℕ) (t : Tree) (us : List Tree)
+    → annotations_swapped p (annotations_swapped p (t, us)) ≡ (t, us)
+
+-- ---- paths one after the other
+
+-- A path behind another one leads where it leads to below the subterm there, and what it sets is
+-- set in that subterm.
+abbrev pub AtBehind : Type 0
+AtBehind = (t : Tree) (p q : List ℕ) → at t (p ++ q) ≡ option_and_then (λ u. at u q) (at t p)
+
+abbrev pub SetBehind : Type 0
+SetBehind = (t u v : Tree) (p q : List ℕ) → at t p ≡ Some u
+    → set_at t (p ++ q) v ≡ set_at t p (set_at u q v)
+
+abbrev pub SetAnnotationsBehind : Type 0
+SetAnnotationsBehind = (t u : Tree) (notes : List Tree) (p q : List ℕ) → at t p ≡ Some u
+    → set_annotations_at t (p ++ q) notes ≡ set_at t p (set_annotations_at u q notes)
+
+-- ---- paths apart
+
+-- Neither path lies within the other.
+abbrev pub AreApart : List ℕ → List ℕ → Type 0
+AreApart p q = (¬ (LiesWithin p q)) × (¬ (LiesWithin q p))
+
+-- What is set at a path leaves what another one apart from it leads to, and it doesn't matter at
+-- which of the two is set first.
+abbrev pub ApartIsLeft : Type 0
+ApartIsLeft = (t u : Tree) (p q : List ℕ) → AreApart p q → at (set_at t p u) q ≡ at t q
+
+abbrev pub ApartCommute : Type 0
+ApartCommute = (t u v : Tree) (p q : List ℕ) → AreApart p q
+    → set_at (set_at t p u) q v ≡ set_at (set_at t q v) p u
+
+-- And so for annotations, and for annotations and a subterm.
+abbrev pub ApartIsLeftByAnnotations : Type 0
+ApartIsLeftByAnnotations = (t : Tree) (us : List Tree) (p q : List ℕ) → AreApart p q
+    → at (set_annotations_at t p us) q ≡ at t q
+
+abbrev pub ApartAnnotationsCommute : Type 0
+ApartAnnotationsCommute = (t : Tree) (us vs : List Tree) (p q : List ℕ) → AreApart p q
+    → set_annotations_at (set_annotations_at t p us) q vs
+    ≡ set_annotations_at (set_annotations_at t q vs) p us
+
+abbrev pub ApartMixedCommute : Type 0
+ApartMixedCommute = (t u : Tree) (vs : List Tree) (p q : List ℕ) → AreApart p q
+    → set_annotations_at (set_at t p u) q vs ≡ set_at (set_annotations_at t q vs) p u

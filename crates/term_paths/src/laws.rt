@@ -1,0 +1,45 @@
+//! Laws over the definitions of paths alone. Each is the contract of a function that does nothing.
+
+ghost use Rattle.term_paths.specs.Laws.{PuttingBack, PuttingAnnotationsBack, SetIsThere, SetAnnotationsAreThere, LastSetStays, LastAnnotationsStay, SubtermAfterAnnotations, SwappingTwiceIsNothing, SwappingAnnotationsTwiceIsNothing, AtBehind, SetBehind, SetAnnotationsBehind, ApartIsLeft, ApartIsLeftByAnnotations, ApartCommute, ApartAnnotationsCommute, ApartMixedCommute};
+
+/// Putting back what was there gives the tree from before.
+pub fn putting_back()
+    ensures subterm { PuttingBack }
+    ensures annotations { PuttingAnnotationsBack }
+{}
+
+/// What was set at a path that leads to a subterm is there.
+pub fn what_was_set_is_there()
+    ensures subterm { SetIsThere }
+    ensures annotations { SetAnnotationsAreThere }
+{}
+
+/// Of what was set at one path only the last shows.
+pub fn the_last_set_stays()
+    ensures subterm { LastSetStays }
+    ensures annotations { LastAnnotationsStay }
+    ensures subterm_after_annotations { SubtermAfterAnnotations }
+{}
+
+/// Swapping twice at one path changes nothing.
+pub fn swapping_twice_is_nothing()
+    ensures subterm { SwappingTwiceIsNothing }
+    ensures annotations { SwappingAnnotationsTwiceIsNothing }
+{}
+
+/// A path behind another one leads on from the subterm there, and sets what is in it.
+pub fn one_path_behind_another()
+    ensures at { AtBehind }
+    ensures subterm { SetBehind }
+    ensures annotations { SetAnnotationsBehind }
+{}
+
+/// What is set at one path leaves what stands at a path apart from it, and the two can be set in
+/// either order.
+pub fn paths_apart_are_independent()
+    ensures left { ApartIsLeft }
+    ensures left_by_annotations { ApartIsLeftByAnnotations }
+    ensures order { ApartCommute }
+    ensures order_of_annotations { ApartAnnotationsCommute }
+    ensures order_of_both { ApartMixedCommute }
+{}

@@ -1,0 +1,17 @@
+//! Paths: places in terms, by which every layer above names a subterm, looks at it and changes it.
+#![tactic(auto)]
+
+pub mod laws;
+mod path;
+mod subterm;
+mod text;
+
+pub use path::{Path, parts_lie_within};
+pub use subterm::{
+    at, at_mut, at_parts, at_parts_mut, change_at, change_at_parts, swap_annotations_at,
+    swap_annotations_at_parts, swap_at, swap_at_parts,
+};
+pub use text::{MAX_PART, PathFault, read_path};
+
+#[cfg(test)]
+mod tests;
