@@ -1,0 +1,2 @@
+pub mod SignatureLemmas
+pub mod IntegerLemmas
