@@ -2,11 +2,13 @@
 #![tactic(auto)]
 
 mod meaning;
+mod nothing;
 mod primitive;
 mod standard;
 mod table;
 
 pub use meaning::{BoxedOperation, Meaning, Operation};
+pub use nothing::{NoOperation, NoPrimitives};
 pub use primitive::Primitive;
 pub use standard::{
     MAX_STRING, Standard, StandardOperations, addi, divi, gti, int_to_string, muli,

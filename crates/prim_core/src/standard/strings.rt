@@ -17,6 +17,8 @@ use term_core::{Name, NoMemory, Term};
 /// The greatest length in bytes of a string that `strcat` gives.
 pub const MAX_STRING: usize = 65_536;
 
+const PLUS: u8 = b'+';
+
 fn string(alloc: Global, bytes: &[u8]) -> Result<Term, NoMemory>
     ensures { IfOk result (λ term. term ≡ string_term bytes.now) }
 {
@@ -81,7 +83,7 @@ fn parsed(bytes: &[u8]) -> Option<i64>
     ensures { option_map integer_term result
         ≡ option_and_then integer_in_range (integer_of bytes.now) }
 {
-    if bytes.is_empty() || bytes[0] == b'+' {
+    if bytes.is_empty() || bytes[0] == PLUS {
         return None;
     }
     let Ok(text) = str::from_utf8(bytes) else {

@@ -1,6 +1,7 @@
 //! Calls of primitives through tables, with ample memory.
 
 mod picking;
+#[cfg(test)]
 mod standard;
 
 ghost use Rattle.std.specs.Prelude.{◌≡◌, IfOk};
