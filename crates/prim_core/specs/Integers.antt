@@ -29,5 +29,5 @@ quotient_of =
 -- the tuple (a,b) where a > b
 abbrev pub greater_of : List Tree → Option Tree
 greater_of =
-    on_integers (λ a b. if (int_lt b a) then Some (tuple_term (integer_term a ∷ integer_term b ∷ []))
-    else None)
+    on_integers (λ a b. if (int_lt b a)
+    then Some (tuple_term (integer_term a ∷ (integer_term b ∷ []))) else None)

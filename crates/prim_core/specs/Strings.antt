@@ -23,7 +23,8 @@ length_of arguments =
 
 -- the printed text of an integer, as a string
 abbrev pub printed_of : List Tree → Option Tree
-printed_of arguments = option_map (λ z. string_term (signed_decimal z)) (one integer_value arguments)
+printed_of arguments =
+    option_map (λ z. string_term (signed_decimal z)) (one integer_value arguments)
 
 -- the number that these bytes write, where they are decimal digits, at least one
 abbrev pub number_of : List ℕ → Option ℕ

@@ -28,7 +28,8 @@ integer_value (branch head kids notes) = None
 -- the bytes of a string
 abbrev pub string_value : Tree → Option (List ℕ)
 string_value (integer z notes) = None
-string_value (branch (application name) none notes) = if name.is_quoted then Some name.text else None
+string_value (branch (application name) none notes) =
+    if name.is_quoted then Some name.text else None
 string_value (branch (application name) (more t ts) notes) = None
 string_value (branch list kids notes) = None
 string_value (branch tuple kids notes) = None

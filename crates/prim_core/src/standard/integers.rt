@@ -52,8 +52,8 @@ pub fn muli(alloc: Global, arguments: &[Term]) -> Result<Option<Term>, NoMemory>
     Ok(integer_answer(alloc, a.checked_mul(b)))
 }
 
-/// `divi`: a / b of integers a and b, cut towards zero, nothing where b is 0 or the result is out of
-/// the range of `i64`.
+/// `divi`: a / b of integers a and b, cut towards zero, nothing where b is 0 or the result is out
+/// of the range of `i64`.
 pub fn divi(alloc: Global, arguments: &[Term]) -> Result<Option<Term>, NoMemory>
     requires { length arguments.now ≡ 2 }
     ensures { IfOk result (λ found. found ≡ standard (codes "divi") arguments.now) }

@@ -1,6 +1,9 @@
 //! Calls of primitives through tables, with ample memory.
 
 mod picking;
+
+// A must-fail edit makes this module part of the library, so that the closure in `picking` is tried.
+// It has no use for the table.
 #[cfg(test)]
 mod standard;
 
