@@ -1,0 +1,3 @@
+pub mod SignatureLemmas
+pub mod IntegerLemmas
+pub mod StandardRows

@@ -1,0 +1,8 @@
+pub mod Signature
+pub mod Computes
+pub mod Values
+pub mod Integers
+pub mod Strings
+pub mod Standard
+pub mod StandardTable
+pub mod Pick

@@ -1,0 +1,20 @@
+//! Primitives: operations of a host, each kept beside the fact that it answers its named meaning.
+#![tactic(auto)]
+
+mod meaning;
+mod nothing;
+mod primitive;
+mod standard;
+mod table;
+
+pub use meaning::{BoxedOperation, Meaning, Operation};
+pub use nothing::{NoOperation, NoPrimitives};
+pub use primitive::Primitive;
+pub use standard::{
+    MAX_STRING, Standard, StandardOperations, addi, divi, gti, int_to_string, muli,
+    standard_primitives, strcat, string_to_int, strlen, subti,
+};
+pub use table::Primitives;
+
+#[cfg(test)]
+mod tests;

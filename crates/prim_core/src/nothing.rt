@@ -1,0 +1,30 @@
+//! A host without primitives.
+
+use crate::{Meaning, Operation};
+use std::alloc::Global;
+use term_core::{NoMemory, Term};
+
+/// The meaning of a host without primitives: no name means anything.
+pub struct NoPrimitives;
+
+/// The operations of such a host: there is none.
+#[derive(Drop)]
+pub enum NoOperation {}
+
+impl Meaning for NoPrimitives {
+    ghost use Rattle.std.specs.Prelude.{None};
+
+    type Operation = NoOperation;
+
+    ghost meaning = { λ name arguments. None };
+}
+
+impl Operation for NoOperation {
+    ghost may_run = { λ operation arguments. ⊥ };
+
+    ghost answers = { λ operation arguments found. ⊥ };
+
+    fn run(&self, _alloc: Global, _arguments: &[Term]) -> Result<Option<Term>, NoMemory> {
+        match *self {}
+    }
+}

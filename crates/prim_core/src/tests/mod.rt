@@ -1,0 +1,28 @@
+//! Calls of primitives through tables, with ample memory.
+
+mod picking;
+
+// A must-fail edit makes this module part of the library, so that the closure in `picking` is tried.
+// It has no use for the table.
+#[cfg(test)]
+mod standard;
+
+ghost use Rattle.std.specs.Prelude.{◌≡◌, IfOk};
+
+use crate::{Meaning, Primitives};
+use std::alloc::Global;
+use std::test::Fail;
+use term_core::Term;
+
+// The answer of the first primitive of this name that takes as many terms.
+fn answer<M: Meaning>(
+    alloc: Global,
+    primitives: &Primitives<M>,
+    name: &[u8],
+    arguments: &[Term],
+) -> Result<Option<Term>, Fail> {
+    let Some(index) = primitives.find(name, arguments.len()) else {
+        return Err("no such primitive".into());
+    };
+    Ok(primitives.call(alloc, index, arguments)?)
+}

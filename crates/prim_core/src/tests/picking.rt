@@ -1,0 +1,89 @@
+//! A host's own primitive: `pick` gives `a`, `b` or `c` for 0, 1 or 2, and nothing for any other
+//! integer.
+
+ghost use Rattle.std.specs.Prelude.{◌≡◌, length, IfOk, codes};
+ghost use Rattle.prim_core.specs.Computes.{Computes};
+ghost use Rattle.prim_core.specs.Pick.{constant, choices as three_choices, pick};
+
+use super::answer;
+use crate::{BoxedOperation, Meaning, Primitive, Primitives};
+use std::alloc::Global;
+use std::test::Fail;
+use term_core::{Kind, Name, NoMemory, Term};
+
+/// What this host's primitives mean.
+struct Picking;
+
+impl Meaning for Picking {
+    type Operation = BoxedOperation;
+
+    ghost meaning = { pick };
+}
+
+// What `pick` means, over the three terms that its closure owns.
+fn pick(choices: &[Term], arguments: &[Term]) -> Result<Option<Term>, NoMemory>
+    requires choices { choices.now ≡ three_choices }
+    requires one { length arguments.now ≡ 1 }
+    ensures { IfOk result (λ found. found ≡ pick (codes "pick") arguments.now) }
+{
+    match arguments[0].kind() {
+        Kind::Integer(0) => Ok(Some(choices[0].try_clone()?)),
+        Kind::Integer(1) => Ok(Some(choices[1].try_clone()?)),
+        Kind::Integer(2) => Ok(Some(choices[2].try_clone()?)),
+        _ => Ok(None),
+    }
+}
+
+// The word of these bytes, applied to nothing.
+fn constant(alloc: Global, text: &[u8]) -> Result<Term, Fail>
+    ensures { IfOk result (λ term. term ≡ constant text.now) }
+{
+    let Some(name) = Name::word(alloc, text)? else {
+        return Err("no word".into());
+    };
+    Ok(Term::application(alloc, name, Vec::new(alloc)))
+}
+
+// The answer of `pick`, whatever the operation is.
+fn answer_of_pick<M: Meaning>(
+    alloc: Global,
+    pick: M::Operation,
+    argument: Term,
+) -> Result<Option<Term>, Fail>
+    requires { Computes M.Operation.may_run M.Operation.answers pick 1
+        (M.meaning (codes "pick")) }
+{
+    let name = Vec::from_slice(alloc, b"pick")?;
+    let mut primitives = Vec::new(alloc);
+    primitives.push(Primitive::<M>::new(name, 1, pick))?;
+    answer(alloc, &Primitives::new(primitives), b"pick", &[argument])
+}
+
+// The answer of `pick`, through a closure that owns its choices.
+fn picked(alloc: Global, argument: Term) -> Result<Option<Term>, Fail> {
+    let choices = vec![in alloc;
+        constant(alloc, b"a")?,
+        constant(alloc, b"b")?,
+        constant(alloc, b"c")?,
+    ]?;
+    let operation: BoxedOperation = Box::new(
+        alloc,
+        move |_alloc: Global, arguments: &[Term]| -> Result<Option<Term>, NoMemory>
+            requires choices { choices.items ≡ three_choices }
+            requires one { length arguments.now ≡ 1 }
+        { pick(&choices, arguments) },
+    )?;
+    answer_of_pick::<Picking>(alloc, operation, argument)
+}
+
+#[test]
+fn picks(rt: HostRuntime) -> Result<(), Fail> {
+    let alloc = rt.alloc();
+    for (value, text) in [(0, b"a"), (1, b"b"), (2, b"c")] {
+        let answer = picked(alloc, Term::integer(alloc, value))?.ok_or("nothing")?;
+        assert!(rt; answer.equals(&constant(alloc, text)?));
+    }
+    assert!(rt; picked(alloc, Term::integer(alloc, 3))?.is_none());
+    assert!(rt; picked(alloc, constant(alloc, b"a")?)?.is_none());
+    Ok(())
+}
