@@ -11,3 +11,4 @@ pub mod LawTokens
 pub mod LawPrinted
 pub mod LawOneTerm
 pub mod ReadLemmas
+pub mod Limits

@@ -1,3 +1,4 @@
 pub mod NameLemmas
 pub mod TreeLemmas
 pub mod TermLemmas
+pub mod Limits

@@ -1,0 +1,7 @@
+-- The limits that the definitions speak of, in numbers.
+use Rattle.std.proofs.Common.{◌≡◌, refl}
+use Rattle.term_core.specs.declared.TheConstants.{MAX_HEIGHT, MAX_SIZE}
+use Rattle.term_core.specs.declared.label.TheConstants.{MAX_LABEL}
+
+limits : (MAX_LABEL ≡ 64) × (MAX_HEIGHT ≡ 1000) × (MAX_SIZE ≡ 100000)
+limits = (refl, refl, refl)
