@@ -49,7 +49,8 @@ pub fn at_parts_mut<'a>(term: &'a mut Term, parts: &[usize]) -> Option<&'a mut T
 }
 
 /// Changes the subterm that the path leads to by the closure, once, and keeps all else; `false`, and
-/// no change, where the path leads nowhere.
+/// no change, where the path leads nowhere. Nothing is said then of what the closure captured: a
+/// caller that has to know of it takes `swap_at`.
 pub fn change_at<F: FnOnce(&mut Term) + Drop>(term: &mut Term, path: &Path, change: F) -> bool
     requires { F.IsAlwaysCallable change }
     ensures there { result ≡ leads term.old path.now }

@@ -10,9 +10,6 @@ use std::alloc::{AllocFailed, Global};
 use std::str;
 use thiserror::Error;
 
-/// The greatest number that the text of a path may hold.
-pub const MAX_PART: usize = 4_294_967_295;
-
 /// Why a text was not read as a path.
 #[derive(Clone, Copy, Debug, PartialEq, Eq, Error)]
 pub enum PathFault {
