@@ -8,12 +8,11 @@ use Rattle.std.specs.Fmt.{signed_decimal}
 use Rattle.std.specs.Str.Parse.{digits_value}
 use Rattle.term_core.specs.Tree.{Tree}
 use Rattle.prim_core.specs.Values.{integer_in_range, string_term, integer_value, string_value, one, two}
-use Rattle.prim_core.specs.declared.standard.strings.TheConstants.{MAX_STRING}
 
--- the first string followed by the second; nothing where that is too long
+-- the first string followed by the second; nothing where that is longer than 65,536 bytes
 abbrev pub joined_of : List Tree → Option Tree
 joined_of arguments =
-    option_and_then (λ p. if (nat_le (length (p.0 ++ p.1)) MAX_STRING)
+    option_and_then (λ p. if (nat_le (length (p.0 ++ p.1)) 65536)
     then Some (string_term (p.0 ++ p.1)) else None) (two string_value arguments)
 
 -- the number of bytes of a string

@@ -4,7 +4,7 @@
 mod meaning;
 mod nothing;
 mod primitive;
-mod standard;
+pub mod standard;
 mod table;
 
 pub use meaning::{BoxedOperation, Meaning, Operation};

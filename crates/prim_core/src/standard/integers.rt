@@ -10,7 +10,7 @@ use std::alloc::Global;
 use term_core::{NoMemory, Term};
 
 /// The integer as a term.
-pub fn integer_answer(alloc: Global, value: Option<i64>) -> Option<Term>
+pub(crate) fn integer_answer(alloc: Global, value: Option<i64>) -> Option<Term>
     ensures { result ≡ option_map integer_term value }
 {
     match value {

@@ -1,9 +1,10 @@
-//! The standard primitives. The names are this project's own.
+//! The standard primitives. The names are this project's own. The modules are public, so that a host
+//! can box a function by its name.
 
 mod arguments;
-mod integers;
-mod operations;
-mod strings;
+pub mod integers;
+pub mod operations;
+pub mod strings;
 
 use crate::{BoxedOperation, Meaning};
 pub use integers::{addi, divi, gti, muli, subti};

@@ -1,10 +1,10 @@
-//! The table of the standard primitives, made of an operation for each.
+//! The standard primitives, made of an operation for each.
 
 ghost use Rattle.std.specs.Prelude.{◌≡◌, ◌++◌, ◌∷◌, [], IfOk, OnOk};
 ghost use Rattle.prim_core.specs.Computes.{Computes};
 ghost use Rattle.prim_core.specs.StandardTable.{ComputeStandard, standard_signatures};
 
-use crate::{Meaning, Primitive, Primitives};
+use crate::{Meaning, Primitive};
 use std::alloc::Global;
 use term_core::NoMemory;
 
@@ -22,13 +22,14 @@ pub struct StandardOperations<F> {
     pub string_to_int: F,
 }
 
-/// The standard primitives, made of an operation for each. The host makes the boxes.
+/// The standard primitives, made of an operation for each, to which a host can add its own. The host
+/// makes the boxes.
 pub fn standard_primitives<M: Meaning>(
     alloc: Global,
     operations: StandardOperations<M::Operation>,
-) -> Result<Primitives<M>, NoMemory>
+) -> Result<Vec<Primitive<M>>, NoMemory>
     requires { ComputeStandard M.Operation.may_run M.Operation.answers M.meaning operations }
-    ensures { IfOk result (λ primitives. primitives ≡ standard_signatures) }
+    ensures { IfOk result (λ primitives. primitives.items ≡ standard_signatures) }
 {
     let StandardOperations {
         addi,
@@ -51,7 +52,7 @@ pub fn standard_primitives<M: Meaning>(
     add::<M>(alloc, &mut primitives, b"strlen", 1, strlen)?;
     add::<M>(alloc, &mut primitives, b"int-to-string", 1, int_to_string)?;
     add::<M>(alloc, &mut primitives, b"string-to-int", 1, string_to_int)?;
-    Ok(Primitives::new(primitives))
+    Ok(primitives)
 }
 
 fn add<M: Meaning>(

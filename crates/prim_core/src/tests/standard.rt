@@ -177,7 +177,7 @@ fn table<M: Meaning>(
 ) -> Result<(), Fail>
     requires { ComputeStandard M.Operation.may_run M.Operation.answers M.meaning operations }
 {
-    let primitives = standard_primitives::<M>(alloc, operations)?;
+    let primitives = Primitives::new(standard_primitives::<M>(alloc, operations)?);
     assert_eq!(rt; primitives.find(b"strlen", 1), Some(6));
     assert!(rt; primitives.find(b"strlen", 2).is_none());
     assert!(rt; primitives.find(b"length", 1).is_none());
