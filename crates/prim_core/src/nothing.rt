@@ -7,9 +7,9 @@ use term_core::{NoMemory, Term};
 /// The meaning of a host without primitives: no name means anything.
 pub struct NoPrimitives;
 
-/// The operations of such a host: there is none.
+/// The operation of such a host, which finds nothing: no table holds it.
 #[derive(Drop)]
-pub enum NoOperation {}
+pub struct NoOperation;
 
 impl Meaning for NoPrimitives {
     ghost use Rattle.std.specs.Prelude.{None};
@@ -20,11 +20,13 @@ impl Meaning for NoPrimitives {
 }
 
 impl Operation for NoOperation {
-    ghost may_run = { λ operation arguments. ⊥ };
+    ghost use Rattle.std.specs.Prelude.{None, ⊤, ◌≡◌};
 
-    ghost answers = { λ operation arguments found. ⊥ };
+    ghost may_run = { λ operation arguments. ⊤ };
+
+    ghost answers = { λ operation arguments found. found ≡ None };
 
     fn run(&self, _alloc: Global, _arguments: &[Term]) -> Result<Option<Term>, NoMemory> {
-        match *self {}
+        Ok(None)
     }
 }
