@@ -7,7 +7,7 @@ use term_core::{NoMemory, Term};
 /// The meaning of a host without primitives: no name means anything.
 pub struct NoPrimitives;
 
-/// The operation of such a host, which finds nothing: no table holds it.
+/// The one operation of such a host: it finds nothing, whatever name it is kept by.
 #[derive(Drop)]
 pub struct NoOperation;
 
