@@ -1,5 +1,5 @@
 -- Laws of the tokens, for the functions that read them.
-use Rattle.std.proofs.Common.{◌≡◌, ℕ, suc, ◌+◌, ◌-◌, not, ◌&&◌, ◌<◌, ◌≤◌, ◌==◌, cond, Bool, true, false, List, [], ◌∷◌, ◌++◌, length, take, drop, Some, None, refl, sym, ap, ◌∙◌, subst, arith, append_assoc, append-nil}
+use Rattle.std.proofs.Common.{get_or, ◌*◌, ◌^◌, ◌≡◌, ℕ, suc, ◌+◌, ◌-◌, not, ◌&&◌, ◌<◌, ◌≤◌, ◌==◌, cond, Bool, true, false, List, [], ◌∷◌, ◌++◌, length, take, drop, Some, None, refl, sym, ap, ◌∙◌, subst, arith, append_assoc, append-nil}
 use Rattle.std.specs.declared.option.Option.{Option}
 use Rattle.std.proofs.lemmas.Grind.{common_steps}
 use Rattle.std.proofs.lemmas.Bool.Decides.{nat_tests}
@@ -7,6 +7,13 @@ use Rattle.std.proofs.lemmas.Str.{IsUtf8-from_ascii}
 use Rattle.std.proofs.lemmas.Str.Ascii.{IsAscii-cons}
 use Rattle.std.proofs.lemmas.Fmt.{IsAscii-from_digits}
 use Rattle.std.specs.Str.{IsAscii, IsUtf8}
+use Rattle.std.specs.Int.{IsInRange}
+use Rattle.std.specs.Char.{is_ascii_digit}
+use Rattle.std.specs.Str.Parse.{AllDigits, digits_value}
+use Rattle.std.proofs.lemmas.Str.Parse.{digits_value_short, numerals_by_value, tells_digits}
+use Rattle.std.proofs.lemmas.Int.Digits.{digits_value_more, digits_more}
+use Rattle.std.proofs.lemmas.Str.{digit_value_digit}
+use Rattle.std.proofs.lemmas.List.{length-take-le}
 use Rattle.std.specs.Str.Parse.{IsNumeral, without_leading_sign}
 use Rattle.std.specs.List.{prefix_len}
 use Rattle.aterm_text.specs.Tokens.{item_at, escape_at, is_plain, ReadsItems}
@@ -156,3 +163,26 @@ plain-stop b bs false false p r h other = absurd (omega (arith, h))
 pub no_item : (rest : List ℕ) → prefix_len is_plain rest ≡ 0 → ((left : List ℕ) → rest ≡ 92 ∷ left → ⊥) → item_at rest ≡ None
 no_item [] h other = refl
 no_item (b ∷ bs) h other = plain-stop b bs (b == 34) (b == 92) refl refl h other
+
+-- ---- a number of few digits
+
+few-bound : (ds : List ℕ) → AllDigits 10 ds → length ds ≤ 17 → digits_value 10 ds < 10 ^ 17
+few-bound ds h le = digits_value_short (numerals_by_value (AllDigits 10) tells_digits) ds 17 h le
+
+pub digits-few : (text : List ℕ) (i n : ℕ) → AllDigits 10 (take i text) → i < length text → length text ≤ 18 → n ≡ digits_value 10 (take i text) → n < 10 ^ 17
+digits-few text i n h lt le e =
+    let count : length (take i text) ≤ 17 = omega (arith, length-take-le i text (omega (arith, lt))) in
+    let few = few-bound (take i text) h count in
+    omega (arith, e, few)
+
+pub digits-more : (text : List ℕ) (i : ℕ) → i < length text → AllDigits 10 (take i text) → IsInRange 48 57 (get_or text i 0) → AllDigits 10 (take (i + 1) text)
+digits-more text i lt h r = digits_more 10 text i lt h (let d = digit_value_digit (get_or text i 0) r in omega (arith, d, r.0, r.1))
+
+pub value-more : (text : List ℕ) (i n d : ℕ) → i < length text → n ≡ digits_value 10 (take i text) → IsInRange 48 57 (get_or text i 0) → d + 48 ≡ get_or text i 0
+    → 10 * n + d ≡ digits_value 10 (take (i + 1) text)
+value-more text i n d lt e r is =
+    let digit = digit_value_digit (get_or text i 0) r in
+    omega (arith, digits_value_more 10 text i lt, e, is, digit)
+
+pub digit-range : (b : ℕ) → is_ascii_digit b ≡ true → IsInRange 48 57 b
+digit-range b h = (grind (arith, nat_tests), grind (arith, nat_tests))

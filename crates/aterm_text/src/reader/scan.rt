@@ -10,6 +10,9 @@ use std::alloc::Global;
 use std::str;
 use term_core::Name;
 
+// So many digits make no number that is out of range.
+const FEW: usize = 18;
+
 /// Whether this byte is white space: a space, a tab, a line feed or a carriage return.
 pub fn is_blank(b: u8) -> bool
     ensures { result ≡ is_blank b }
@@ -90,6 +93,9 @@ fn parsed(text: &[u8]) -> Option<i64>
     ensures some { IfSome result (λ z. IsInteger text.now z) }
     ensures none { IfNone result ((z : ℤ) → IsInteger text.now z → ⊥) }
 {
+    if let Some(value) = few_digits(text) {
+        return Some(value);
+    }
     let Ok(text) = str::from_utf8(text) else {
         return None;
     };
@@ -97,6 +103,23 @@ fn parsed(text: &[u8]) -> Option<i64>
         Ok(value) => Some(value),
         Err(_) => None,
     }
+}
+
+// The integer of at most 18 digits alone that this text is, which is how most are written.
+fn few_digits(text: &[u8]) -> Option<i64>
+    ensures { IfSome result (λ z. IsInteger text.now z) }
+{
+    if text.is_empty() || text.len() > FEW {
+        return None;
+    }
+    let mut value = 0u64;
+    for byte in text {
+        if !byte.is_ascii_digit() {
+            return None;
+        }
+        value = 10 * value + u64::from(*byte - b'0');
+    }
+    i64::try_from(value).ok()
 }
 
 fn is_octal(b: u8) -> bool
