@@ -1,0 +1,4 @@
+pub mod PatternLemmas
+pub mod StrategyLemmas
+pub mod PlaceLemmas
+pub mod ResolvedLemmas

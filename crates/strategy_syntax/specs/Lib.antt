@@ -1,0 +1,14 @@
+pub mod Syntax
+pub mod Resolved
+pub mod Modules
+pub mod Codes
+pub mod ResolvedCodes
+pub mod Heads
+pub mod PatternView
+pub mod PatternFalls
+pub mod StrategyView
+pub mod StrategyFalls
+pub mod PlaceView
+pub mod PlaceFalls
+pub mod ResolvedView
+pub mod ResolvedFalls

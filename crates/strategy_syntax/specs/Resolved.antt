@@ -1,0 +1,70 @@
+-- Strategies in which each name that has a binder is a number, as plain data. A variable, a
+-- strategy parameter and a `rec` name are the numbers of their binders among those round them,
+-- counted from the outermost of the definition or strategy, variables and strategy names apart; a
+-- definition and a primitive are their numbers in the program and among the primitives. A whole
+-- strategy, with how many free variables it has, is the struct `Resolved`.
+use Rattle.std.specs.Prelude.{ℕ, ℤ, List, [], ◌∷◌}
+use Rattle.term_core.specs.Tree.{Head}
+
+-- A pattern, whose variables are numbers.
+mutual
+  pub data Place : Type 0 where
+    wildcard : Place
+    variable : ℕ → Place
+    at : ℕ → Place → Place
+    number : ℤ → Place
+    compound : Head → Places → Place
+    with_tail : Places → Place → Place
+    annotated : Place → Places → Place
+
+  -- a list of patterns
+  pub data Places : Type 0 where
+    no_places : Places
+    and_place : Place → Places → Places
+
+abbrev pub place_list : Places → List Place
+place_list no_places = []
+place_list (and_place p ps) = p ∷ place_list ps
+
+abbrev pub places_of : List Place → Places
+places_of [] = no_places
+places_of (p ∷ ps) = and_place p (places_of ps)
+
+-- A strategy.
+mutual
+  pub data ResolvedStrategy : Type 0 where
+    id : ResolvedStrategy
+    fail : ResolvedStrategy
+    matches : Place → ResolvedStrategy
+    builds : Place → ResolvedStrategy
+    seq : ResolvedStrategy → ResolvedStrategy → ResolvedStrategy
+    guard : ResolvedStrategy → ResolvedStrategy → ResolvedStrategy → ResolvedStrategy
+    test : ResolvedStrategy → ResolvedStrategy
+    -- so many new variables
+    scope : ℕ → ResolvedStrategy → ResolvedStrategy
+    -- a strategy parameter or a `rec` name
+    param : ℕ → ResolvedStrategy
+    -- a definition, with strategies and patterns for its parameters
+    call : ℕ → ResolvedStrategies → Places → ResolvedStrategy
+    congruence : Head → ResolvedStrategies → ResolvedStrategy
+    tail_congruence : ResolvedStrategies → ResolvedStrategy → ResolvedStrategy
+    all : ResolvedStrategy → ResolvedStrategy
+    one : ResolvedStrategy → ResolvedStrategy
+    some : ResolvedStrategy → ResolvedStrategy
+    -- child i, counted from 1
+    child : ℕ → ResolvedStrategy → ResolvedStrategy
+    rec : ResolvedStrategy → ResolvedStrategy
+    prim : ℕ → Places → ResolvedStrategy
+
+  -- a list of strategies
+  pub data ResolvedStrategies : Type 0 where
+    no_strategies : ResolvedStrategies
+    and_strategy : ResolvedStrategy → ResolvedStrategies → ResolvedStrategies
+
+abbrev pub resolved_list : ResolvedStrategies → List ResolvedStrategy
+resolved_list no_strategies = []
+resolved_list (and_strategy s ss) = s ∷ resolved_list ss
+
+abbrev pub resolveds_of : List ResolvedStrategy → ResolvedStrategies
+resolveds_of [] = no_strategies
+resolveds_of (s ∷ ss) = and_strategy s (resolveds_of ss)

@@ -1,0 +1,79 @@
+-- Patterns, and strategies in their core forms, with names, as plain data.
+use Rattle.std.specs.Prelude.{ℕ, ℤ, List, [], ◌∷◌}
+use Rattle.term_core.specs.Tree.{Symbol, Head}
+
+-- A pattern.
+mutual
+  pub data Pattern : Type 0 where
+    -- `_`
+    wildcard : Pattern
+    -- `x`
+    variable : Symbol → Pattern
+    -- `x@p`
+    at : Symbol → Pattern → Pattern
+    -- an integer
+    number : ℤ → Pattern
+    -- an application of a word, a string (its quoted name over no patterns), a list or a tuple
+    compound : Head → Patterns → Pattern
+    -- `[p1,..,pn|p]`: the first elements of a list, and the list of the rest
+    with_tail : Patterns → Pattern → Pattern
+    -- `p{q1,..,qm}`
+    annotated : Pattern → Patterns → Pattern
+
+  -- a list of patterns
+  pub data Patterns : Type 0 where
+    no_patterns : Patterns
+    and_pattern : Pattern → Patterns → Patterns
+
+abbrev pub pattern_list : Patterns → List Pattern
+pattern_list no_patterns = []
+pattern_list (and_pattern p ps) = p ∷ pattern_list ps
+
+abbrev pub patterns_of : List Pattern → Patterns
+patterns_of [] = no_patterns
+patterns_of (p ∷ ps) = and_pattern p (patterns_of ps)
+
+-- A strategy.
+mutual
+  pub data Strategy : Type 0 where
+    id : Strategy
+    fail : Strategy
+    -- `?p` and `!p`
+    matches : Pattern → Strategy
+    builds : Pattern → Strategy
+    -- `s1; s2`
+    seq : Strategy → Strategy → Strategy
+    -- `s1 < s2 + s3`
+    guard : Strategy → Strategy → Strategy → Strategy
+    -- `where(s)`
+    test : Strategy → Strategy
+    -- `{x1,..,xn: s}`
+    scope : List Symbol → Strategy → Strategy
+    -- `f(s1,..,sn|p1,..,pm)`: a parameter, a definition or a constructor, by its name
+    uses : Symbol → Strategies → Patterns → Strategy
+    -- a congruence: a strategy for each child of an application, a list or a tuple
+    congruence : Head → Strategies → Strategy
+    -- `[s1,..,sn|s]`: a strategy for each of the first elements, and one for the list of the rest
+    tail_congruence : Strategies → Strategy → Strategy
+    all : Strategy → Strategy
+    one : Strategy → Strategy
+    some : Strategy → Strategy
+    -- `i(s)`: child i, counted from 1
+    child : ℕ → Strategy → Strategy
+    -- `rec x(s)`
+    rec : Symbol → Strategy → Strategy
+    -- `prim("n",p1,..,pk)`, by its quoted name
+    prim : Symbol → Patterns → Strategy
+
+  -- a list of strategies
+  pub data Strategies : Type 0 where
+    no_strategies : Strategies
+    and_strategy : Strategy → Strategies → Strategies
+
+abbrev pub strategy_list : Strategies → List Strategy
+strategy_list no_strategies = []
+strategy_list (and_strategy s ss) = s ∷ strategy_list ss
+
+abbrev pub strategies_of : List Strategy → Strategies
+strategies_of [] = no_strategies
+strategies_of (s ∷ ss) = and_strategy s (strategies_of ss)

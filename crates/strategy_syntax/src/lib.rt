@@ -1,0 +1,21 @@
+//! The syntax of the strategy language: patterns, strategies in their core forms and modules, with
+//! names as their texts have them, and resolved, with numbers in the places of names.
+#![tactic(auto)]
+
+mod head;
+mod module;
+mod names;
+mod pattern;
+mod place;
+mod resolved;
+mod strategy;
+
+pub use head::Head;
+pub use module::{Constructor, Definition, Module};
+pub use pattern::{Pattern, PatternForm};
+pub use place::{Place, PlaceForm};
+pub use resolved::{Resolved, ResolvedForm, ResolvedStrategy};
+pub use strategy::{Strategy, StrategyForm};
+
+#[cfg(test)]
+mod tests;

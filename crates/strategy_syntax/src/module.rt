@@ -1,0 +1,226 @@
+//! Modules: the constructors that they declare, and their definitions.
+
+ghost use Rattle.std.specs.Prelude.{◌≡◌, ◌↔◌, IsTrue};
+
+use crate::Strategy;
+use crate::names::same_names;
+use std::marker::Model;
+use term_core::Name;
+
+/// A constructor that a signature declares, with the number of its arguments.
+#[derive(Drop)]
+pub struct Constructor {
+    name: Name,
+    arity: usize,
+}
+
+impl Model for Constructor {
+    ghost use Rattle.strategy_syntax.specs.Modules.{Constructor, constructor_code};
+
+    ghost Value = { Constructor };
+
+    ghost coded = { constructor_code };
+
+    ghost view = { λ c. record { name = c.name; arity = c.arity } };
+}
+
+/// A definition `f(s1,..,sn|x1,..,xm) = s`. A rule is one too, with its body in core forms.
+#[derive(Drop)]
+pub struct Definition {
+    name: Name,
+    strategy_parameters: Vec<Name>,
+    term_parameters: Vec<Name>,
+    body: Strategy,
+}
+
+impl Model for Definition {
+    ghost use Rattle.strategy_syntax.specs.Modules.{Definition, definition_code};
+
+    ghost Value = { Definition };
+
+    ghost coded = { definition_code };
+
+    ghost view = { λ d. record {
+      name = d.name;
+      strategy_parameters = d.strategy_parameters.items;
+      term_parameters = d.term_parameters.items;
+      body = d.body;
+    } };
+}
+
+/// What a module declares and defines, in the order of its text.
+#[derive(Drop)]
+pub struct Module {
+    constructors: Vec<Constructor>,
+    definitions: Vec<Definition>,
+}
+
+impl Model for Module {
+    ghost use Rattle.strategy_syntax.specs.Modules.{Module, module_code};
+
+    ghost Value = { Module };
+
+    ghost coded = { module_code };
+
+    ghost view = { λ m. record {
+      constructors = m.constructors.items;
+      definitions = m.definitions.items;
+    } };
+}
+
+impl Constructor {
+    /// The constructor of this name and number of arguments.
+    pub fn new(name: Name, arity: usize) -> Constructor
+        ensures { result ≡ record { name = name; arity = arity } }
+    {
+        Constructor { name, arity }
+    }
+
+    /// The name.
+    pub fn name(&self) -> &Name
+        ensures { result.now ≡ self.now.name }
+    {
+        &self.name
+    }
+
+    /// How many arguments it has.
+    pub fn arity(&self) -> usize
+        ensures { result ≡ self.now.arity }
+    {
+        self.arity
+    }
+
+    /// Whether the two are the same.
+    pub fn equals(&self, other: &Constructor) -> bool
+        ensures { IsTrue result ↔ (self.now ≡ other.now) }
+    {
+        self.arity == other.arity && self.name.equals(&other.name)
+    }
+}
+
+impl Definition {
+    /// The definition of this name, with these parameters and this body.
+    pub fn new(
+        name: Name,
+        strategy_parameters: Vec<Name>,
+        term_parameters: Vec<Name>,
+        body: Strategy,
+    ) -> Definition
+        ensures { result ≡ record {
+          name = name;
+          strategy_parameters = strategy_parameters.items;
+          term_parameters = term_parameters.items;
+          body = body;
+        } }
+    {
+        Definition {
+            name,
+            strategy_parameters,
+            term_parameters,
+            body,
+        }
+    }
+
+    /// The name.
+    pub fn name(&self) -> &Name
+        ensures { result.now ≡ self.now.name }
+    {
+        &self.name
+    }
+
+    /// The names of the parameters that stand for strategies.
+    pub fn strategy_parameters(&self) -> &[Name]
+        ensures { result.now ≡ self.now.strategy_parameters }
+    {
+        self.strategy_parameters.as_slice()
+    }
+
+    /// The names of the parameters that stand for terms.
+    pub fn term_parameters(&self) -> &[Name]
+        ensures { result.now ≡ self.now.term_parameters }
+    {
+        self.term_parameters.as_slice()
+    }
+
+    /// What the definition stands for.
+    pub fn body(&self) -> &Strategy
+        ensures { result.now ≡ self.now.body }
+    {
+        &self.body
+    }
+
+    /// Whether the two are the same, the names of the parameters too.
+    pub fn equals(&self, other: &Definition) -> bool
+        ensures { IsTrue result ↔ (self.now ≡ other.now) }
+    {
+        self.name.equals(&other.name)
+            && same_names(&self.strategy_parameters, &other.strategy_parameters)
+            && same_names(&self.term_parameters, &other.term_parameters)
+            && self.body.equals(&other.body)
+    }
+}
+
+impl Module {
+    /// The module that declares and defines these, in this order.
+    pub fn new(constructors: Vec<Constructor>, definitions: Vec<Definition>) -> Module
+        ensures { result ≡ record {
+          constructors = constructors.items;
+          definitions = definitions.items;
+        } }
+    {
+        Module {
+            constructors,
+            definitions,
+        }
+    }
+
+    /// The constructors that are declared.
+    pub fn constructors(&self) -> &[Constructor]
+        ensures { result.now ≡ self.now.constructors }
+    {
+        self.constructors.as_slice()
+    }
+
+    /// The definitions.
+    pub fn definitions(&self) -> &[Definition]
+        ensures { result.now ≡ self.now.definitions }
+    {
+        self.definitions.as_slice()
+    }
+
+    /// Whether the two declare and define the same, in the same order.
+    pub fn equals(&self, other: &Module) -> bool
+        ensures { IsTrue result ↔ (self.now ≡ other.now) }
+    {
+        same_constructors(&self.constructors, &other.constructors)
+            && same_definitions(&self.definitions, &other.definitions)
+    }
+}
+
+fn same_constructors(constructors: &[Constructor], others: &[Constructor]) -> bool
+    ensures { IsTrue result ↔ (constructors.now ≡ others.now) }
+{
+    if constructors.len() != others.len() {
+        return false;
+    }
+    for (constructor, other) in constructors.iter().zip(others) {
+        if !constructor.equals(other) {
+            return false;
+        }
+    }
+    true
+}
+
+fn same_definitions(definitions: &[Definition], others: &[Definition]) -> bool
+    ensures { IsTrue result ↔ (definitions.now ≡ others.now) }
+{
+    if definitions.len() != others.len() {
+        return false;
+    }
+    for (definition, other) in definitions.iter().zip(others) {
+        if !definition.equals(other) {
+            return false;
+        }
+    }
+    true
+}

@@ -1,0 +1,104 @@
+//! Resolved strategies: strategies with numbers for names.
+
+ghost use Rattle.std.specs.Prelude.{◌≡◌};
+ghost use Rattle.strategy_syntax.specs.ResolvedView.{resolved_of};
+
+use crate::{Head, Place};
+use std::marker::Model;
+
+/// A whole resolved strategy: the body of a definition, or a strategy to be applied.
+#[derive(Drop)]
+pub struct Resolved {
+    /// How many free variables it has, without the term parameters of a definition. They are
+    /// numbered behind these and before the variables of inner binders.
+    pub variables: usize,
+    /// What it does.
+    pub strategy: ResolvedStrategy,
+}
+
+/// A resolved strategy or a part of one. Each name that has a binder is the number of that binder
+/// among those round it, counted from the outermost of its definition or strategy, variables and
+/// strategy names apart.
+#[derive(Drop)]
+#[cycle(resolved)]
+pub struct ResolvedStrategy {
+    form: ResolvedForm,
+}
+
+/// The forms of a resolved strategy.
+#[derive(Drop)]
+#[cycle(resolved)]
+pub enum ResolvedForm {
+    /// `id`, which gives the term.
+    Id,
+    /// `fail`.
+    Fail,
+    /// `?p`, which matches the term.
+    Match(Place),
+    /// `!p`, which builds a term.
+    Build(Place),
+    /// `s1; s2`.
+    Seq(Box<(ResolvedStrategy, ResolvedStrategy)>),
+    /// `s1 < s2 + s3`: s2 where s1 gives a term, else s3.
+    Guard(Box<(ResolvedStrategy, ResolvedStrategy, ResolvedStrategy)>),
+    /// `where(s)`, which gives the original term where s gives one.
+    Test(Box<ResolvedStrategy>),
+    /// So many new variables in a strategy.
+    Scope(usize, Box<ResolvedStrategy>),
+    /// A strategy parameter, or the name of a `rec`.
+    Param(usize),
+    /// A call of a definition, by its number in the program, with strategies and patterns for its
+    /// parameters.
+    Call(usize, Vec<ResolvedStrategy>, Vec<Place>),
+    /// A congruence: a strategy for each child.
+    Congruence(Head, Vec<ResolvedStrategy>),
+    /// `[s1,..,sn|s]`: a strategy for each of the first elements, and one for the list of the rest.
+    TailCongruence(Vec<ResolvedStrategy>, Box<ResolvedStrategy>),
+    /// `all(s)`.
+    All(Box<ResolvedStrategy>),
+    /// `one(s)`.
+    One(Box<ResolvedStrategy>),
+    /// `some(s)`.
+    Some(Box<ResolvedStrategy>),
+    /// `i(s)`: s on child i, counted from 1.
+    Child(usize, Box<ResolvedStrategy>),
+    /// `rec x(s)`: s, in which the new name stands for the whole.
+    Rec(Box<ResolvedStrategy>),
+    /// A primitive, by its number, with patterns for its arguments.
+    Prim(usize, Vec<Place>),
+}
+
+impl Model for ResolvedStrategy {
+    ghost use Rattle.strategy_syntax.specs.Resolved.{ResolvedStrategy};
+    ghost use Rattle.strategy_syntax.specs.ResolvedCodes.{resolved_code};
+
+    ghost Value = { ResolvedStrategy };
+
+    ghost coded = { resolved_code };
+
+    ghost use Rattle.strategy_syntax.specs.ResolvedView.{resolved_of, depth};
+
+    ghost view = { λ a. resolved_of a.form };
+
+    ghost size = { depth };
+
+    ghost use Rattle.strategy_syntax.specs.ResolvedFalls.{depth_le-resolved};
+
+    ghost size_decreases = { λ a h. depth_le-resolved a.form };
+}
+
+impl ResolvedStrategy {
+    /// The resolved strategy of this form.
+    pub fn new(form: ResolvedForm) -> ResolvedStrategy
+        ensures { result ≡ resolved_of form }
+    {
+        ResolvedStrategy { form }
+    }
+
+    /// The form of the resolved strategy.
+    pub fn form(&self) -> &ResolvedForm
+        ensures { self.now ≡ resolved_of result.now }
+    {
+        &self.form
+    }
+}
