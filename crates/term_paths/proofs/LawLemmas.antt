@@ -67,7 +67,7 @@ set_annotations_are_there t us old p e =
     (ap (λ s. at s p) (set_annotations_at-changed t us p) ∙ at-changed_at (λ u. with_annotations u us) t b.0 p b.1)
     ∙ ap Some (annotations-with_annotations b.0 us)
 
-set_annotations_nowhere : (t : Tree) (us : List Tree) (p : List ℕ) → annotations_at t p ≡ None → set_annotations_at t p us ≡ t
+pub set_annotations_nowhere : (t : Tree) (us : List Tree) (p : List ℕ) → annotations_at t p ≡ None → set_annotations_at t p us ≡ t
 set_annotations_nowhere t us p e =
     elim (at t p) as (λ o. at t p ≡ o → set_annotations_at t p us ≡ t) [
       | None ↦ λ is. set_annotations_at-changed t us p ∙ changed_at-nowhere (λ u. with_annotations u us) t p is

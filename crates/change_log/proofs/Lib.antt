@@ -1,0 +1,5 @@
+pub mod SlotLemmas
+pub mod EntryLemmas
+pub mod LogLemmas
+pub mod NameLemmas
+pub mod ContentsLemmas

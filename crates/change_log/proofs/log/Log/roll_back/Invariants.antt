@@ -1,0 +1,13 @@
+use Rattle.std.proofs.Common.{◌≡◌, ◌≤◌, length, take, drop, min}
+use Rattle.change_log.specs.Entries.{before}
+use Rattle.change_log.proofs.log.Log.roll_back.Given as goal
+
+-- the entries that are left are the first, and what the others changed was taken back
+abbrev pub invariant-loop-self : goal.invariant-loop-self
+invariant-loop-self l =
+    (min l.mark (length l.initial.self) ≤ length l.self)
+    × (l.self ≡ take (length l.self) l.initial.self)
+    × (l.store ≡ before (drop (length l.self) l.initial.self) l.initial.store)
+
+abbrev pub decreases-loop-self : goal.decreases-loop-self
+decreases-loop-self l = length l.self

@@ -1,0 +1,24 @@
+-- What the fields of entries and logs stand for.
+use Rattle.std.specs.Prelude.{ℕ, ◌+◌, List, [], ◌∷◌, take, drop}
+use Rattle.change_log.specs.Entries.{Entry, slot_tree, subterm, subterm_annotations, slot_text}
+use Rattle.change_log.specs.declared.entry.Kept.{Kept}
+use Rattle.change_log.specs.declared.entry.Kept.TheVariants.{Tree, Subterm, Annotations, Text}
+use Rattle.change_log.specs.declared.log.Replaced.{Replaced}
+
+-- an entry by its slot, its path and what it keeps
+abbrev pub entry_of : ℕ → List ℕ → Kept → Entry
+entry_of slot path (Tree t) = slot_tree slot t
+entry_of slot path (Subterm t) = subterm slot path t
+entry_of slot path (Annotations ts) = subterm_annotations slot path ts.items
+entry_of slot path (Text x) = slot_text slot x
+
+-- the entries whose paths stand one behind the other in these numbers
+abbrev pub entries : List Replaced → List ℕ → List Entry
+entries [] paths = []
+entries (r ∷ rs) paths =
+    entry_of r.slot (take r.depth paths) r.kept ∷ entries rs (drop r.depth paths)
+
+-- how many numbers the paths have
+abbrev pub depths : List Replaced → ℕ
+depths [] = 0
+depths (r ∷ rs) = r.depth + depths rs

@@ -1,0 +1,93 @@
+//! Entries: changes of one place of a store.
+
+ghost use Rattle.std.specs.Prelude.{◌≡◌, option_map};
+ghost use Rattle.change_log.specs.Entries.{slot_tree, subterm, subterm_annotations, slot_text};
+
+use crate::Text;
+use std::marker::Model;
+use term_core::Term;
+
+/// A place in a store, with what is to stand there. A slot of trees or of module texts is told by its
+/// number, a subterm by its path, the numbers of the children from the root on.
+#[derive(Drop)]
+pub struct Entry<'a> {
+    pub(crate) slot: usize,
+    pub(crate) path: &'a [usize],
+    pub(crate) kept: Kept,
+}
+
+/// What an entry keeps for its place.
+#[derive(Drop)]
+pub enum Kept {
+    /// A slot's tree, or none.
+    Tree(Option<Term>),
+    /// The subterm at a path.
+    Subterm(Term),
+    /// The annotations of the subterm at a path.
+    Annotations(Vec<Term>),
+    /// A slot's module text, or none.
+    Text(Option<Text>),
+}
+
+impl<'a> Model for Entry<'a> {
+    ghost use Rattle.change_log.specs.Entries.{Entry};
+    ghost use Rattle.change_log.specs.Codes.{entry_code};
+
+    ghost Value = { Entry };
+
+    ghost coded = { entry_code };
+
+    ghost use Rattle.change_log.specs.LogView.{entry_of};
+
+    ghost view = { λ a. entry_of a.slot a.path.now a.kept };
+}
+
+impl<'a> Entry<'a> {
+    /// The tree of a slot, or none.
+    pub fn tree(slot: usize, tree: Option<Term>) -> Entry<'a>
+        ensures { result ≡ slot_tree slot tree }
+    {
+        Entry {
+            slot,
+            path: &[],
+            kept: Kept::Tree(tree),
+        }
+    }
+
+    /// The subterm that the path leads to in a slot's tree.
+    pub fn subterm(slot: usize, path: &'a [usize], term: Term) -> Entry<'a>
+        ensures { result ≡ subterm slot path.now term }
+    {
+        Entry {
+            slot,
+            path,
+            kept: Kept::Subterm(term),
+        }
+    }
+
+    /// The annotations of that subterm.
+    pub fn annotations(slot: usize, path: &'a [usize], annotations: Vec<Term>) -> Entry<'a>
+        ensures { result ≡ subterm_annotations slot path.now annotations.items }
+    {
+        Entry {
+            slot,
+            path,
+            kept: Kept::Annotations(annotations),
+        }
+    }
+
+    /// The module text of a slot, or none.
+    pub fn text(slot: usize, text: Option<Vec<u8>>) -> Entry<'a>
+        ensures { result ≡ slot_text slot (option_map (λ bytes. bytes.items) text) }
+    {
+        let text = match text {
+            Some(bytes) => Some(Text::new(bytes)),
+            None => None,
+        };
+        Entry {
+            slot,
+            path: &[],
+            kept: Kept::Text(text),
+        }
+    }
+}

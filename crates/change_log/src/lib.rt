@@ -1,0 +1,25 @@
+//! Changes of named trees and module texts that can be taken back: a store of slots, and logs that
+//! keep what was replaced in it.
+#![tactic(auto)]
+
+mod entry;
+pub mod laws;
+mod log;
+mod slots;
+mod store;
+mod text;
+
+pub use entry::Entry;
+#[doc(hidden)]
+pub use entry::Kept;
+pub use log::Log;
+#[doc(hidden)]
+pub use log::Replaced;
+#[doc(hidden)]
+pub use slots::Slots;
+pub use store::Store;
+#[doc(hidden)]
+pub use text::Text;
+
+#[cfg(test)]
+mod tests;

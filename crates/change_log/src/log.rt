@@ -1,0 +1,180 @@
+//! Logs: what changes of a store replaced, so that they can be taken back.
+
+ghost use Rattle.std.specs.Prelude.{◌≡◌, ◌<◌, ◌-◌, ◌++◌, [], ◌∷◌, length, take, drop, OnOk, OnErr};
+ghost use Rattle.change_log.specs.Entries.{put, found, before, after, flipped_back, flipped_forward};
+ghost use Rattle.change_log.specs.LogView.{entry_of, entries, depths};
+
+use crate::{Entry, Kept, Store};
+use std::alloc::Global;
+use std::marker::Model;
+use term_core::NoMemory;
+
+/// What changes of one store replaced, the oldest first. The changes can be taken back, one after the
+/// other or all at once, and made again; neither takes memory.
+#[derive(Drop)]
+pub struct Log {
+    replaced: Vec<Replaced>,
+    // The paths of all entries, one behind the other.
+    paths: Vec<usize>,
+}
+
+/// What one change replaced, without the path of its place.
+#[derive(Drop)]
+pub struct Replaced {
+    slot: usize,
+    // How long the path is.
+    depth: usize,
+    kept: Kept,
+}
+
+impl Model for Log {
+    ghost use Rattle.std.specs.Prelude.{◌≡◌, List, length};
+    ghost use Rattle.std.specs.Coded.{coded_list};
+    ghost use Rattle.change_log.specs.Entries.{Entry};
+    ghost use Rattle.change_log.specs.Codes.{entry_code};
+
+    ghost Value = { List Entry };
+
+    ghost coded = { coded_list entry_code };
+
+    ghost use Rattle.change_log.specs.LogView.{entries, depths};
+
+    ghost view = { λ a. entries a.replaced.items a.paths.items };
+
+    ghost invariant = { λ a. depths a.replaced.items ≡ length a.paths.items };
+}
+
+impl Log {
+    /// A log without entries. It takes no memory.
+    pub fn new(alloc: Global) -> Log
+        ensures { result ≡ [] }
+    {
+        Log {
+            replaced: Vec::new(alloc),
+            paths: Vec::new(alloc),
+        }
+    }
+
+    /// How many entries there are.
+    pub fn count(&self) -> usize
+        ensures { result ≡ length self.now }
+    {
+        self.replaced.len()
+    }
+
+    /// The mark to roll back to: how many entries there are now.
+    pub fn mark(&self) -> usize
+        ensures { result ≡ length self.now }
+    {
+        self.count()
+    }
+
+    /// Makes the change: puts what the entry has at its place, and keeps what was found there. Where
+    /// the store doesn't have the place, nothing is put, and the entry is kept as it is.
+    ///
+    /// Where a growth of memory is refused, log and store stay as they were, and the entry is dropped.
+    pub fn push(&mut self, store: &mut Store, change: Entry<'_>) -> Result<(), NoMemory>
+        ensures log { OnOk result (self.new ≡ self.old ++ found change.entry store.old ∷ []) }
+        ensures store { OnOk result (store.new ≡ put change.entry store.old) }
+        ensures log_err { OnErr result (self.new ≡ self.old) }
+        ensures store_err { OnErr result (store.new ≡ store.old) }
+    {
+        let Entry {
+            slot,
+            path,
+            mut kept,
+        } = change;
+        self.replaced.reserve(1)?;
+        self.paths.extend_from_slice(path)?;
+        store.exchange(slot, path, &mut kept);
+        self.replaced.push_reserved(Replaced {
+            slot,
+            depth: path.len(),
+            kept,
+        });
+        Ok(())
+    }
+
+    /// Takes back the changes since the mark, the newest first, and drops their entries. It takes no
+    /// memory. A mark past the count of entries takes nothing back.
+    pub fn roll_back(&mut self, mark: usize, store: &mut Store)
+        ensures log { self.new ≡ take mark self.old }
+        ensures store { store.new ≡ before (drop mark self.old) store.old }
+    {
+        while self.count() > mark {
+            self.take_back(store);
+        }
+    }
+
+    // Takes back the newest change, and drops its entry.
+    fn take_back(&mut self, store: &mut Store)
+        requires { 0 < length self.old }
+        ensures log { self.new ≡ take (length self.old - 1) self.old }
+        ensures store { store.new ≡ before (drop (length self.old - 1) self.old) store.old }
+    {
+        if let Some(newest) = self.replaced.pop() {
+            let begin = self.paths.len() - newest.depth;
+            put_back(newest, &self.paths[begin..], store);
+            self.paths.truncate(begin);
+        }
+    }
+
+    /// Takes all changes back, the newest first. The log then leads forward again: `flip_forward`
+    /// makes them once more. It takes no memory.
+    pub fn flip_back(&mut self, store: &mut Store)
+        ensures log { self.new ≡ flipped_back self.old store.old }
+        ensures store { store.new ≡ before self.old store.old }
+    {
+        flip_back(&mut self.replaced, &self.paths, store);
+    }
+
+    /// Makes all changes again, the oldest first, after `flip_back`. It takes no memory.
+    pub fn flip_forward(&mut self, store: &mut Store)
+        ensures log { self.new ≡ flipped_forward self.old store.old }
+        ensures store { store.new ≡ after self.old store.old }
+    {
+        flip_forward(&mut self.replaced, &self.paths, store);
+    }
+}
+
+// Puts what was replaced at the path back, and drops what takes its place now.
+fn put_back(replaced: Replaced, path: &[usize], store: &mut Store)
+    ensures { store.new ≡ put (entry_of replaced.slot path.now replaced.kept) store.old }
+{
+    let Replaced { slot, mut kept, .. } = replaced;
+    store.exchange(slot, path, &mut kept);
+}
+
+fn flip_back(replaced: &mut [Replaced], paths: &[usize], store: &mut Store)
+    requires paths { depths replaced.old ≡ length paths.now }
+    ensures log { entries replaced.new paths.now
+        ≡ flipped_back (entries replaced.old paths.now) store.old }
+    ensures depths { depths replaced.new ≡ depths replaced.old }
+    ensures store { store.new ≡ before (entries replaced.old paths.now) store.old }
+{
+    let mut rest = paths;
+    let mut left = replaced.len();
+    while left > 0 {
+        left -= 1;
+        let entry = &mut replaced[left];
+        let (front, path) = rest.split_at(rest.len() - entry.depth);
+        store.exchange(entry.slot, path, &mut entry.kept);
+        rest = front;
+    }
+}
+
+fn flip_forward(replaced: &mut [Replaced], paths: &[usize], store: &mut Store)
+    requires paths { depths replaced.old ≡ length paths.now }
+    ensures log { entries replaced.new paths.now
+        ≡ flipped_forward (entries replaced.old paths.now) store.old }
+    ensures depths { depths replaced.new ≡ depths replaced.old }
+    ensures store { store.new ≡ after (entries replaced.old paths.now) store.old }
+{
+    let mut rest = paths;
+    for i in 0..replaced.len() {
+        let entry = &mut replaced[i];
+        let (path, behind) = rest.split_at(entry.depth);
+        store.exchange(entry.slot, path, &mut entry.kept);
+        rest = behind;
+    }
+}

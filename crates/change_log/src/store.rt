@@ -1,0 +1,125 @@
+//! Stores: trees and module texts in numbered slots, by their names.
+
+ghost use Rattle.std.specs.Prelude.{◌≡◌, IfOk, OnOk, OnErr, Some, option_copied};
+ghost use Rattle.std.specs.FinMap as finmap;
+ghost use Rattle.change_log.specs.Slots.{AreApart, content, slot_of, empty_store, contents, with_tree_slot, with_module_slot};
+ghost use Rattle.change_log.specs.Entries.{put, found};
+ghost use Rattle.change_log.specs.LogView.{entry_of};
+
+use crate::{Kept, Slots, Text};
+use std::alloc::Global;
+use std::marker::Model;
+use term_core::{Label, NoMemory, Term};
+
+/// Trees and module texts in slots. A slot is made for a label when it is first asked for, and stays;
+/// it is empty until a change puts something there. Its number is its index among the slots for trees,
+/// or among those for modules. The contents of a store are those of its slots that aren't empty.
+#[derive(Drop)]
+pub struct Store {
+    trees: Slots<Term>,
+    modules: Slots<Text>,
+}
+
+impl Model for Store {
+    ghost use Rattle.change_log.specs.Slots.{Store};
+    ghost use Rattle.change_log.specs.Codes.{store_code};
+
+    ghost Value = { Store };
+
+    ghost coded = { store_code };
+
+    ghost view = { λ a. record { trees = a.trees; modules = a.modules } };
+}
+
+impl Store {
+    /// A store without slots. It takes no memory.
+    pub fn new(alloc: Global) -> Store
+        ensures { result ≡ empty_store }
+    {
+        Store {
+            trees: Slots::new(alloc),
+            modules: Slots::new(alloc),
+        }
+    }
+
+    /// The slot for the tree of this label, which is made where there was none.
+    pub fn tree_slot(&mut self, name: &Label) -> Result<usize, NoMemory>
+        ensures ok { OnOk result (self.new ≡ with_tree_slot self.old name.now) }
+        ensures slot { IfOk result (λ i. slot_of self.new.trees name.now ≡ Some i) }
+        ensures err { OnErr result (self.new ≡ self.old) }
+        ensures apart { AreApart self.new.trees }
+    {
+        self.trees.find_or_make(name)
+    }
+
+    /// The slot for the module of this label, which is made where there was none.
+    pub fn module_slot(&mut self, name: &Label) -> Result<usize, NoMemory>
+        ensures ok { OnOk result (self.new ≡ with_module_slot self.old name.now) }
+        ensures slot { IfOk result (λ i. slot_of self.new.modules name.now ≡ Some i) }
+        ensures err { OnErr result (self.new ≡ self.old) }
+        ensures apart { AreApart self.new.modules }
+    {
+        self.modules.find_or_make(name)
+    }
+
+    /// The slot for the tree of this label, empty or not, or `None` where it has none.
+    pub fn find_tree(&self, name: &Label) -> Option<usize>
+        ensures slot { result ≡ slot_of self.now.trees name.now }
+        ensures apart { AreApart self.now.trees }
+    {
+        self.trees.find(name)
+    }
+
+    /// The slot for the module of this label, empty or not, or `None` where it has none.
+    pub fn find_module(&self, name: &Label) -> Option<usize>
+        ensures slot { result ≡ slot_of self.now.modules name.now }
+        ensures apart { AreApart self.now.modules }
+    {
+        self.modules.find(name)
+    }
+
+    /// The tree in the slot, or `None` where it is empty, or where there is no such slot.
+    pub fn tree(&self, slot: usize) -> Option<&Term>
+        ensures { option_copied result ≡ content self.now.trees slot }
+    {
+        self.trees.content(slot)
+    }
+
+    /// The module text in the slot, or `None` where it is empty, or where there is no such slot.
+    pub fn module(&self, slot: usize) -> Option<&[u8]>
+        ensures { option_copied result ≡ content self.now.modules slot }
+    {
+        match self.modules.content(slot) {
+            Some(text) => Some(text.bytes()),
+            None => None,
+        }
+    }
+
+    /// The names of the trees, in byte order.
+    pub fn tree_names(&self, alloc: Global) -> Result<Vec<Label>, NoMemory>
+        ensures { IfOk result (λ names. names.items ≡ finmap.keys (contents self.now).trees) }
+    {
+        self.trees.names(alloc)
+    }
+
+    /// The names of the modules, in byte order.
+    pub fn module_names(&self, alloc: Global) -> Result<Vec<Label>, NoMemory>
+        ensures { IfOk result (λ names. names.items ≡ finmap.keys (contents self.now).modules) }
+    {
+        self.modules.names(alloc)
+    }
+
+    // Swaps what stands at a place for what is kept; nothing where the store doesn't have the place.
+    pub(crate) fn exchange(&mut self, slot: usize, path: &[usize], kept: &mut Kept)
+        ensures store { self.new ≡ put (entry_of slot path.now kept.old) self.old }
+        ensures kept { entry_of slot path.now kept.new
+            ≡ found (entry_of slot path.now kept.old) self.old }
+    {
+        match kept {
+            Kept::Tree(tree) => self.trees.swap(slot, tree),
+            Kept::Subterm(term) => self.trees.swap_subterm(slot, path, term),
+            Kept::Annotations(terms) => self.trees.swap_annotations(slot, path, terms),
+            Kept::Text(text) => self.modules.swap(slot, text),
+        }
+    }
+}
