@@ -1,19 +1,19 @@
 -- The tokens of a text and the brackets that are open: only a bracket outside of quotes counts.
-use Rattle.std.proofs.Common.{◌≡◌, ℕ, suc, ℤ, ◌+◌, ◌-◌, ◌<◌, ◌≤◌, ◌==◌, ◌||◌, ◌&&◌, not, cond, if◌then◌else◌, max, Bool, MatchBool, true, false, List, [], ◌∷◌, length, drop, take, Some, None, refl, sym, ap, ◌∙◌, arith, nat_lt}
+use Rattle.std.proofs.Common.{◌≡◌, ℕ, suc, ◌+◌, ◌-◌, ◌<◌, ◌≤◌, ◌==◌, ◌||◌, ◌&&◌, not, cond, if◌then◌else◌, max, Bool, MatchBool, true, false, List, [], ◌∷◌, length, drop, take, Some, None, refl, sym, ap, ◌∙◌, arith, nat_lt}
 use Rattle.std.specs.List.{prefix_len}
 use Rattle.std.specs.Char.{is_ascii_digit}
 use Rattle.std.specs.declared.option.Option.{Option}
 use Rattle.std.proofs.lemmas.Bool.Decides.{nat_tests}
 use Rattle.term_core.specs.Word.{begins_word, continues_word, first_word}
-use Rattle.term_core.specs.Tree.{Symbol, Tree}
+use Rattle.term_core.specs.Tree.{Tree}
 use Rattle.aterm_text.specs.Nesting.{greatest_open, outside_quotes, inside_quotes, behind_backslash, open_after}
 use Rattle.aterm_text.specs.Tokens.{is_blank, without_blanks, NextQuoted, NextWord, integer_len, ReadsItems, item_at, escape_at, octal_at, octal_value, is_octal_digit, are_octal_digits}
-use Rattle.aterm_text.specs.Heads.{Begins}
+use Rattle.aterm_text.specs.Heads.{Begins, beginning_of}
 use Rattle.aterm_text.specs.Stack.{Stack, Group, on_top, with_top, inside, first_closing, closes_first, closes}
 use Rattle.aterm_text.specs.Depth.{depth, IsTooDeep, IsAsDeep, KeepsDepth}
 use Rattle.aterm_text.specs.declared.TheConstants.{MAX_NESTING}
 use Rattle.aterm_text.specs.declared.reader.head.Head.{Head}
-use Rattle.aterm_text.specs.declared.reader.head.Head.TheVariants.{Integer, Named, List as ListHead, Tuple as TupleHead}
+use Rattle.aterm_text.specs.declared.reader.head.Head.TheVariants.{Integer, Named}
 use Rattle.aterm_text.specs.declared.reader.stack.Opening.{Opening}
 use Rattle.aterm_text.specs.declared.reader.stack.Opening.TheVariants.{Round, Square, Curly}
 use Rattle.aterm_text.specs.declared.reader.machine.Step.{Step}
@@ -186,20 +186,12 @@ name_so : (n : ℕ) (quoted : Bool) (bytes x y : List ℕ) → MatchBool quoted 
 name_so n true bytes x y h = ap (Greatest n) h.1 ∙ ap (greatest_open n) (items-inside bytes h.0 y h.2)
 name_so n false bytes x y h = word-skipped n (without_blanks x) bytes y h
 
--- how many brackets are open behind a head, where n are before it
-abbrev after_head : Head → ℕ → ℕ
-after_head (Integer z) n = n
-after_head (Named name) n = n
-after_head ListHead n = n + 1
-after_head TupleHead n = n + 1
-
-behind_blanks : (head : Head) (n : ℕ) (x y : List ℕ) → Begins head x y → Greatest n (without_blanks x) ≡ Greatest (after_head head n) y
+behind_blanks : (head : Head) (n : ℕ) (x y : List ℕ) → Begins (beginning_of head) x y → Greatest n (without_blanks x) ≡ Greatest n y
 behind_blanks (Integer z) n x y h = sym (integer-skipped n (without_blanks x)) ∙ ap (Greatest n) (sym h.1)
 behind_blanks (Named name) n x y h = name_so n name.is_quoted name.text x y h
-behind_blanks ListHead n x y h = ap (Greatest n) h ∙ opening-square n y
-behind_blanks TupleHead n x y h = ap (Greatest n) h ∙ opening-round n y
 
-pub behind_head : (head : Head) (n : ℕ) (x y : List ℕ) → Begins head x y → Greatest n x ≡ Greatest (after_head head n) y
+-- a head opens no bracket
+pub behind_head : (head : Head) (n : ℕ) (x y : List ℕ) → Begins (beginning_of head) x y → Greatest n x ≡ Greatest n y
 behind_head head n x y h = sym (blanks-skipped n x) ∙ behind_blanks head n x y h
 
 -- ---- the stack
@@ -213,6 +205,9 @@ depth-top s s' t e = ap depth e ∙ top_so t s.outside s.groups
 
 pub depth-inside : (s s' : Stack) (o : Opening) (ts : List Tree) → s' ≡ inside o ts s → depth s' ≡ depth s + 1
 depth-inside s s' o ts e = ap depth e ∙ omega arith
+
+depth-opened : (s s' : Stack) (t : Tree) (o : Opening) → s' ≡ inside o [] (with_top t s) → depth s' ≡ depth s + 1
+depth-opened s s' t o e = depth-inside (with_top t s) s' o [] e ∙ ap (λ n. n + 1) (depth-top s (with_top t s) t refl)
 
 nothing_so : (groups : List Group) → closes_first groups ≡ None → length groups ≡ 0
 nothing_so [] e = refl
@@ -244,12 +239,11 @@ module _ (s s' : Stack) (x y : List ℕ) where
       let d = depth-inside s s' o [] same in
       as_deep (depth s) (depth s') x y (e ∙ ap (λ k. Greatest k y) (sym d)) (omega (arith, d, less))
 
-  pub keeps-open : (s1 : Stack) (t : Tree) (o : Opening) → Greatest (depth s) x ≡ Greatest (depth s + 1) y → s1 ≡ with_top t s → s' ≡ inside o [] s1 → depth s1 < MAX_NESTING
-      → depth s ≤ MAX_NESTING → IsAsDeep (depth s) x (depth s') y
-  keeps-open s1 t o e pushed same less few =
-      let d = depth-top s s1 t pushed in
-      let d' = depth-inside s1 s' o [] same in
-      as_deep (depth s) (depth s') x y (e ∙ ap (λ k. Greatest k y) (omega (arith, d, d'))) (omega (arith, d', less))
+  pub keeps-open : (t : Tree) (o : Opening) → Greatest (depth s) x ≡ Greatest (depth s + 1) y → s' ≡ inside o [] (with_top t s) → depth s < MAX_NESTING → depth s ≤ MAX_NESTING
+      → IsAsDeep (depth s) x (depth s') y
+  keeps-open t o e same less few =
+      let d = depth-opened s s' t o same in
+      as_deep (depth s) (depth s') x y (e ∙ ap (λ k. Greatest k y) (sym d)) (omega (arith, d, less))
 
   pub keeps-close : (closing : ℕ) → first_closing s ≡ Some closing → x ≡ closing ∷ y → depth s' ≡ depth s - 1 → depth s ≤ MAX_NESTING → IsAsDeep (depth s) x (depth s') y
   keeps-close closing e next d few =
@@ -274,26 +268,10 @@ keeps-end s (b ∷ x) e few h = let zero : length (b ∷ x) ≡ 0 = grind (arith
 pub too-deep : (n : ℕ) (x y : List ℕ) → Greatest n x ≡ Greatest (n + 1) y → MAX_NESTING ≤ n → IsTooDeep n x
 too-deep n x y e full = omega (arith, e, full, greatest-le (n + 1) (outside_quotes y))
 
-pub too-deep-open : (s s1 : Stack) (t : Tree) (x y : List ℕ) → Greatest (depth s) x ≡ Greatest (depth s + 1) y → s1 ≡ with_top t s → MAX_NESTING ≤ depth s1 → IsTooDeep (depth s) x
-too-deep-open s s1 t x y e pushed full = too-deep (depth s) x y e (omega (arith, full, depth-top s s1 t pushed))
-
 pub too-deep-after : (n : ℕ) (x text : List ℕ) → Greatest n x ≡ Greatest n text → IsTooDeep n text → IsTooDeep n x
 too-deep-after n x text e h = omega (arith, e, h)
 
 -- ---- as the answers cite them
-
-module _ (head : Head) (n : ℕ) (x y : List ℕ) (h : Begins head x y) where
-  pub behind_integer : (z : ℤ) → head ≡ Integer z → Greatest n x ≡ Greatest n y
-  behind_integer z e = behind_head head n x y h ∙ ap (λ k. Greatest (after_head k n) y) e
-
-  pub behind_named : (name : Symbol) → head ≡ Named name → Greatest n x ≡ Greatest n y
-  behind_named name e = behind_head head n x y h ∙ ap (λ k. Greatest (after_head k n) y) e
-
-  pub behind_list : head ≡ ListHead → Greatest n x ≡ Greatest (n + 1) y
-  behind_list e = behind_head head n x y h ∙ ap (λ k. Greatest (after_head k n) y) e
-
-  pub behind_tuple : head ≡ TupleHead → Greatest n x ≡ Greatest (n + 1) y
-  behind_tuple e = behind_head head n x y h ∙ ap (λ k. Greatest (after_head k n) y) e
 
 pub behind_trim : (n : ℕ) (x text : List ℕ) → text ≡ without_blanks x → Greatest n x ≡ Greatest n text
 behind_trim n x text e = sym (blanks-skipped n x) ∙ ap (Greatest n) (sym e)
@@ -303,3 +281,6 @@ behind_round n x text y e next = behind_trim n x text e ∙ ap (Greatest n) next
 
 pub behind_curly : (n : ℕ) (x y : List ℕ) → x ≡ 123 ∷ y → Greatest n x ≡ Greatest (n + 1) y
 behind_curly n x y next = ap (Greatest n) next ∙ opening-curly n y
+
+pub behind_square : (n : ℕ) (x y : List ℕ) → x ≡ 91 ∷ y → Greatest n x ≡ Greatest (n + 1) y
+behind_square n x y next = ap (Greatest n) next ∙ opening-square n y

@@ -6,12 +6,12 @@ use Rattle.std.specs.Int.{w64}
 use mir.Val.{to_z, of_z}
 use Rattle.term_core.specs.Tree.{Symbol, Tree, integer_term, application_term, list_term, tuple_term, with_annotations, with_children}
 use Rattle.aterm_text.specs.Tokens.{NextSign, NextName, without_blanks}
-use Rattle.aterm_text.specs.Heads.{Begins, NoTerm}
+use Rattle.aterm_text.specs.Heads.{an_integer, Begins, NoTerm, beginning_of}
 use Rattle.aterm_text.specs.Level.{Bracket, arguments, elements, components, annotating, Level, closing_of, with_term, new_level}
 use Rattle.aterm_text.specs.Stack.{Stack, Group, no_terms, with_top, inside, first_closing, closes}
 use Rattle.aterm_text.specs.Unread.{Reading, expected, entered, base, whole, Continues, IsStuck, IsEnd, Holds, Stands, GoesOn, Goes, Leads, IsLost, IsClosed, opening_of, bearer, closed}
-use Rattle.aterm_text.specs.declared.reader.head.Head.{Head as Beginning}
-use Rattle.aterm_text.specs.declared.reader.head.Head.TheVariants.{Integer, List as ListHead, Tuple as TupleHead}
+use Rattle.aterm_text.specs.declared.reader.head.Head.{Head}
+use Rattle.aterm_text.specs.declared.reader.head.Head.TheVariants.{Integer}
 use Rattle.aterm_text.specs.declared.reader.stack.Opening.{Opening}
 use Rattle.aterm_text.specs.declared.reader.stack.Opening.TheVariants.{Round, Square, Curly}
 use Rattle.aterm_text.specs.declared.reader.machine.State.{State}
@@ -98,11 +98,11 @@ pub lost-no_term : (s : Stack) (x : List ℕ) → NoTerm x → IsLost Expected s
 lost-no_term s x absent r levels h = subst (λ q. IsStuck q levels x) (sym (at_expected r levels s h).0) (stuck-no_term levels x absent)
 
 module _ (s s' : Stack) (x y : List ℕ) (shorter : length y < length x) where
-  pub leads-integer : (head : Beginning) (z : ℤ) (t : Tree) → Begins head x y → head ≡ Integer z → t ≡ integer_term (to_z w64 (of_z w64 z)) → s' ≡ with_top t s
+  pub leads-integer : (head : Head) (z : ℤ) (t : Tree) → Begins (beginning_of head) x y → head ≡ Integer z → t ≡ integer_term (to_z w64 (of_z w64 z)) → s' ≡ with_top t s
       → (r : Reading) (levels : List Level) → Stands r levels Expected s → GoesOn r levels x Base s' y
   leads-integer head z t h e converted same r levels stands =
       let at = at_expected r levels s stands in
-      let found : Begins (Integer z) x y = subst (λ k. Begins k x y) e h in
+      let found : Begins (an_integer z) x y = subst (λ k. Begins (beginning_of k) x y) e h in
       let made : t ≡ integer_term z = converted ∙ ap integer_term (to_z-of_z w64 z found.0.2) in
       record {
         reading = base (integer_term z);
@@ -112,29 +112,29 @@ module _ (s s' : Stack) (x y : List ℕ) (shorter : length y < length x) where
         shorter = shorter;
       }
 
-  pub leads-list : (head : Beginning) (t : Tree) (us : List Tree) (s1 : Stack) → Begins head x y → head ≡ ListHead → t ≡ list_term us → us ≡ [] → s1 ≡ with_top t s → s' ≡ inside Square [] s1
+  pub leads-list : (t : Tree) (us : List Tree) → NextSign 91 x y → t ≡ list_term us → us ≡ [] → s' ≡ inside Square [] (with_top t s)
       → (r : Reading) (levels : List Level) → Stands r levels Expected s → GoesOn r levels x Entered s' y
-  leads-list head t us s1 h e made empty pushed same r levels stands =
+  leads-list t us next made empty same r levels stands =
       let at = at_expected r levels s stands in
-      let bears : s1 ≡ with_top (list_term []) s = pushed ∙ ap (λ u. with_top u s) (made ∙ ap list_term empty) in
+      let bears : t ≡ list_term [] = made ∙ ap list_term empty in
       record {
         reading = entered;
         levels' = new_level elements ∷ levels;
-        stands = (refl, (s, at.1, same ∙ ap (inside Square []) bears));
-        continues = subst (λ q. Continues q levels x entered (new_level elements ∷ levels) y) (sym at.0) (step-list levels x y (subst (λ k. Begins k x y) e h));
+        stands = (refl, (s, at.1, same ∙ ap (λ u. inside Square [] (with_top u s)) bears));
+        continues = subst (λ q. Continues q levels x entered (new_level elements ∷ levels) y) (sym at.0) (step-list levels x y next);
         shorter = shorter;
       }
 
-  pub leads-tuple : (head : Beginning) (t : Tree) (us : List Tree) (s1 : Stack) → Begins head x y → head ≡ TupleHead → t ≡ tuple_term us → us ≡ [] → s1 ≡ with_top t s → s' ≡ inside Round [] s1
+  pub leads-tuple : (t : Tree) (us : List Tree) → NextSign 40 x y → t ≡ tuple_term us → us ≡ [] → s' ≡ inside Round [] (with_top t s)
       → (r : Reading) (levels : List Level) → Stands r levels Expected s → GoesOn r levels x Entered s' y
-  leads-tuple head t us s1 h e made empty pushed same r levels stands =
+  leads-tuple t us next made empty same r levels stands =
       let at = at_expected r levels s stands in
-      let bears : s1 ≡ with_top (tuple_term []) s = pushed ∙ ap (λ u. with_top u s) (made ∙ ap tuple_term empty) in
+      let bears : t ≡ tuple_term [] = made ∙ ap tuple_term empty in
       record {
         reading = entered;
         levels' = new_level components ∷ levels;
-        stands = (refl, (s, at.1, same ∙ ap (inside Round []) bears));
-        continues = subst (λ q. Continues q levels x entered (new_level components ∷ levels) y) (sym at.0) (step-tuple levels x y (subst (λ k. Begins k x y) e h));
+        stands = (refl, (s, at.1, same ∙ ap (λ u. inside Round [] (with_top u s)) bears));
+        continues = subst (λ q. Continues q levels x entered (new_level components ∷ levels) y) (sym at.0) (step-tuple levels x y next);
         shorter = shorter;
       }
 
@@ -150,15 +150,15 @@ module _ (s s' : Stack) (x y : List ℕ) (shorter : length y < length x) where
       }
 
 module _ (s s' : Stack) (name : Symbol) (x a text : List ℕ) (h : NextName name x a) (trimmed : text ≡ without_blanks a) where
-  pub leads-arguments : (t : Tree) (us : List Tree) (s1 : Stack) (y : List ℕ) → length y < length x → text ≡ 40 ∷ y → t ≡ application_term name us → us ≡ [] → s1 ≡ with_top t s → s' ≡ inside Round [] s1
+  pub leads-arguments : (t : Tree) (us : List Tree) (y : List ℕ) → length y < length x → text ≡ 40 ∷ y → t ≡ application_term name us → us ≡ [] → s' ≡ inside Round [] (with_top t s)
       → (r : Reading) (levels : List Level) → Stands r levels Expected s → GoesOn r levels x Entered s' y
-  leads-arguments t us s1 y shorter next made empty pushed same r levels stands =
+  leads-arguments t us y shorter next made empty same r levels stands =
       let at = at_expected r levels s stands in
-      let bears : s1 ≡ with_top (application_term name []) s = pushed ∙ ap (λ u. with_top u s) (made ∙ ap (application_term name) empty) in
+      let bears : t ≡ application_term name [] = made ∙ ap (application_term name) empty in
       record {
         reading = entered;
         levels' = new_level (arguments name) ∷ levels;
-        stands = (refl, (s, at.1, same ∙ ap (inside Round []) bears));
+        stands = (refl, (s, at.1, same ∙ ap (λ u. inside Round [] (with_top u s)) bears));
         continues = subst (λ q. Continues q levels x entered (new_level (arguments name) ∷ levels) y) (sym at.0) (step-arguments levels name x a h y (sym trimmed ∙ next));
         shorter = shorter;
       }

@@ -4,11 +4,9 @@ use Rattle.term_core.specs.Tree.{Symbol, Head, application, list, tuple, Tree, T
 use Rattle.term_core.proofs.TreeLemmas.{of_list-to_list}
 use Rattle.aterm_text.specs.Tokens.{NextSign, NextInteger, NextName, IsBlank}
 use Rattle.aterm_text.specs.Grammar.{Reads, ReadsUntil, ReadsMore, Optional}
-use Rattle.aterm_text.specs.Heads.{Begins, NoTerm}
+use Rattle.aterm_text.specs.Heads.{Beginning, an_integer, a_name, a_list, a_tuple, Begins, NoTerm}
 use Rattle.aterm_text.specs.Level.{Bracket, arguments, elements, components, annotating, Level, closing_of, with_term, new_level}
 use Rattle.aterm_text.specs.Unread.{Reading, expected, entered, base, whole, Unread, Continues, IsStuck, IsEnd, BehindBase, BehindClosed, BehindWhole, BeforeTerm, closed}
-use Rattle.aterm_text.specs.declared.reader.head.Head.{Head as Beginning}
-use Rattle.aterm_text.specs.declared.reader.head.Head.TheVariants.{Integer, Named, List as ListHead, Tuple as TupleHead}
 use Rattle.aterm_text.proofs.TokenLemmas.{class_of, begins_only, no_term-sign}
 
 -- ---- signs and heads
@@ -20,10 +18,10 @@ pub same_sign : (s r : ℕ) (x y z : List ℕ) → NextSign s x y → NextSign r
 same_sign s r x y z h k = let same : ◌≡◌ {A = List ℕ} (s ∷ y) (r ∷ z) = sym h ∙ k in cc
 
 abbrev pub head_of : Tree → Beginning
-head_of (integer z notes) = Integer z
-head_of (branch (application name) kids notes) = Named name
-head_of (branch list kids notes) = ListHead
-head_of (branch tuple kids notes) = TupleHead
+head_of (integer z notes) = an_integer z
+head_of (branch (application name) kids notes) = a_name name
+head_of (branch list kids notes) = a_list
+head_of (branch tuple kids notes) = a_tuple
 
 -- the text from behind the head of a term on
 pub reads-begins : (t : Tree) (x y : List ℕ) → Reads t x y → (a : List ℕ) × Begins (head_of t) x a
@@ -79,16 +77,16 @@ rebuilt head kids notes = λ i. branch head (sym (of_list-to_list kids) i) (sym 
 module _ (levels : List Level) (x y : List ℕ) where
   integer-forth : (z : ℤ) → NextInteger z x y → (all t : Tree) (v : List ℕ) → Reads t x v → BehindWhole levels t v all → BehindBase (Outside levels) (integer_term z) y all
   integer-forth z h all (integer w notes) v r b =
-      let only = begins_only (Integer z) (Integer w) x y r.0 h r.1 in
+      let only = begins_only (an_integer z) (an_integer w) x y r.0 h r.1 in
       let same : w ≡ z = cc in (
         notes,
         v,
         subst (λ a. Optional 123 (λ p q. ReadsUntil notes 125 p q) notes a v) (sym only.1) r.2,
         subst (λ t. BehindWhole levels t v all) (λ i. integer (same i) (sym (of_list-to_list notes) i)) b,
       )
-  integer-forth z h all (branch (application name) kids notes) v r b = let no = head_is (Integer z) (branch (application name) kids notes) x y v h r in absurd (cc)
-  integer-forth z h all (branch list kids notes) v r b = let no = head_is (Integer z) (branch list kids notes) x y v h r in absurd (cc)
-  integer-forth z h all (branch tuple kids notes) v r b = let no = head_is (Integer z) (branch tuple kids notes) x y v h r in absurd (cc)
+  integer-forth z h all (branch (application name) kids notes) v r b = let no = head_is (an_integer z) (branch (application name) kids notes) x y v h r in absurd (cc)
+  integer-forth z h all (branch list kids notes) v r b = let no = head_is (an_integer z) (branch list kids notes) x y v h r in absurd (cc)
+  integer-forth z h all (branch tuple kids notes) v r b = let no = head_is (an_integer z) (branch tuple kids notes) x y v h r in absurd (cc)
 
   pub step-integer : (z : ℤ) → NextInteger z x y → Continues expected levels x (base (integer_term z)) levels y
   step-integer z h = record {
@@ -103,9 +101,9 @@ module _ (levels : List Level) (x y : List ℕ) where
     subst (λ a. ReadsUntil kids 93 a r.1) (sign_only 91 x r.0 y r.2 h) r.3,
     (notes, v, r.4, subst (λ t. BehindWhole levels t v all) (rebuilt list kids notes) b),
   )
-  list-forth h all (integer z notes) v r b = let no = head_is ListHead (integer z notes) x y v h r in absurd (cc)
-  list-forth h all (branch (application name) kids notes) v r b = let no = head_is ListHead (branch (application name) kids notes) x y v h r in absurd (cc)
-  list-forth h all (branch tuple kids notes) v r b = let no = head_is ListHead (branch tuple kids notes) x y v h r in absurd (cc)
+  list-forth h all (integer z notes) v r b = let no = head_is a_list (integer z notes) x y v h r in absurd (cc)
+  list-forth h all (branch (application name) kids notes) v r b = let no = head_is a_list (branch (application name) kids notes) x y v h r in absurd (cc)
+  list-forth h all (branch tuple kids notes) v r b = let no = head_is a_list (branch tuple kids notes) x y v h r in absurd (cc)
 
   pub step-list : NextSign 91 x y → Continues expected levels x entered (new_level elements ∷ levels) y
   step-list h = record {
@@ -120,9 +118,9 @@ module _ (levels : List Level) (x y : List ℕ) where
     subst (λ a. ReadsUntil kids 41 a r.1) (sign_only 40 x r.0 y r.2 h) r.3,
     (notes, v, r.4, subst (λ t. BehindWhole levels t v all) (rebuilt tuple kids notes) b),
   )
-  tuple-forth h all (integer z notes) v r b = let no = head_is TupleHead (integer z notes) x y v h r in absurd (cc)
-  tuple-forth h all (branch (application name) kids notes) v r b = let no = head_is TupleHead (branch (application name) kids notes) x y v h r in absurd (cc)
-  tuple-forth h all (branch list kids notes) v r b = let no = head_is TupleHead (branch list kids notes) x y v h r in absurd (cc)
+  tuple-forth h all (integer z notes) v r b = let no = head_is a_tuple (integer z notes) x y v h r in absurd (cc)
+  tuple-forth h all (branch (application name) kids notes) v r b = let no = head_is a_tuple (branch (application name) kids notes) x y v h r in absurd (cc)
+  tuple-forth h all (branch list kids notes) v r b = let no = head_is a_tuple (branch list kids notes) x y v h r in absurd (cc)
 
   pub step-tuple : NextSign 40 x y → Continues expected levels x entered (new_level components ∷ levels) y
   step-tuple h = record {
@@ -134,11 +132,11 @@ module _ (levels : List Level) (x y : List ℕ) where
 
 module _ (levels : List Level) (name : Symbol) (x a : List ℕ) (h : NextName name x a) where
   arguments-forth : (y : List ℕ) → NextSign 40 a y → (all t : Tree) (v : List ℕ) → Reads t x v → BehindWhole levels t v all → Unread entered (new_level (arguments name) ∷ levels) y all
-  arguments-forth y next all (integer z notes) v r b = let no = head_is (Named name) (integer z notes) x a v h r in absurd (cc)
-  arguments-forth y next all (branch list kids notes) v r b = let no = head_is (Named name) (branch list kids notes) x a v h r in absurd (cc)
-  arguments-forth y next all (branch tuple kids notes) v r b = let no = head_is (Named name) (branch tuple kids notes) x a v h r in absurd (cc)
+  arguments-forth y next all (integer z notes) v r b = let no = head_is (a_name name) (integer z notes) x a v h r in absurd (cc)
+  arguments-forth y next all (branch list kids notes) v r b = let no = head_is (a_name name) (branch list kids notes) x a v h r in absurd (cc)
+  arguments-forth y next all (branch tuple kids notes) v r b = let no = head_is (a_name name) (branch tuple kids notes) x a v h r in absurd (cc)
   arguments-forth y next all (branch (application other) kids notes) v r b =
-      let only = begins_only (Named other) (Named name) x r.0 a r.2 h in
+      let only = begins_only (a_name other) (a_name name) x r.0 a r.2 h in
       let same : other ≡ name = cc in
       elim r.3 [
         | inl opened ↦
@@ -158,11 +156,11 @@ module _ (levels : List Level) (name : Symbol) (x a : List ℕ) (h : NextName na
   }
 
   constant-forth : ((y : List ℕ) → NextSign 40 a y → ⊥) → (all t : Tree) (v : List ℕ) → Reads t x v → BehindWhole levels t v all → BehindBase (Outside levels) (application_term name []) a all
-  constant-forth no_sign all (integer z notes) v r b = let no = head_is (Named name) (integer z notes) x a v h r in absurd (cc)
-  constant-forth no_sign all (branch list kids notes) v r b = let no = head_is (Named name) (branch list kids notes) x a v h r in absurd (cc)
-  constant-forth no_sign all (branch tuple kids notes) v r b = let no = head_is (Named name) (branch tuple kids notes) x a v h r in absurd (cc)
+  constant-forth no_sign all (integer z notes) v r b = let no = head_is (a_name name) (integer z notes) x a v h r in absurd (cc)
+  constant-forth no_sign all (branch list kids notes) v r b = let no = head_is (a_name name) (branch list kids notes) x a v h r in absurd (cc)
+  constant-forth no_sign all (branch tuple kids notes) v r b = let no = head_is (a_name name) (branch tuple kids notes) x a v h r in absurd (cc)
   constant-forth no_sign all (branch (application other) kids notes) v r b =
-      let only = begins_only (Named other) (Named name) x r.0 a r.2 h in
+      let only = begins_only (a_name other) (a_name name) x r.0 a r.2 h in
       let same : other ≡ name = cc in
       elim r.3 [
         | inl opened ↦ absurd (no_sign opened.0 (subst (λ l. NextSign 40 l opened.0) only.1 opened.1))

@@ -7,9 +7,8 @@ use Rattle.std.specs.Str.Parse.{without_leading_sign}
 use Rattle.std.specs.declared.option.Option.{Option}
 use Rattle.term_core.specs.Word.{begins_word, continues_word, first_word}
 use Rattle.aterm_text.specs.Tokens.{without_blanks, NextSign, NextWord, NextQuoted, IsInteger, integer_len, ReadsItems}
-use Rattle.aterm_text.specs.Heads.{Begins, NoTerm}
-use Rattle.aterm_text.specs.declared.reader.head.Head.{Head}
-use Rattle.aterm_text.specs.declared.reader.head.Head.TheVariants.{Integer, Named, List as AList, Tuple}
+use Rattle.aterm_text.specs.Heads.{Beginning, an_integer, a_name, a_list, a_tuple, Begins, NoTerm, NoHead}
+use Rattle.aterm_text.specs.declared.reader.head.Head.TheVariants.{Integer, Named}
 use Rattle.aterm_text.proofs.ScanLemmas.{items_only, same_pair}
 
 -- ---- the first byte tells the kind of head: 0 where no term begins so
@@ -21,11 +20,11 @@ abbrev pub name_class : Bool → ℕ
 name_class true = 2
 name_class false = 1
 
-abbrev pub head_class : Head → ℕ
-head_class (Integer z) = 5
-head_class (Named name) = name_class name.is_quoted
-head_class AList = 3
-head_class Tuple = 4
+abbrev pub head_class : Beginning → ℕ
+head_class (an_integer z) = 5
+head_class (a_name name) = name_class name.is_quoted
+head_class a_list = 3
+head_class a_tuple = 4
 
 class-word : (b : ℕ) → begins_word b ≡ true → class_of b ≡ 1
 class-word b h = grind (arith, nat_tests)
@@ -83,18 +82,18 @@ named-begins : (quoted : Bool) (bytes x y : List ℕ) → MatchBool quoted (Next
 named-begins true bytes x y h = record { first = 34; rest = h.0; is = h.1; class = refl }
 named-begins false bytes x y h = word-begins bytes (without_blanks x) y h
 
-pub begins-class : (head : Head) (x y : List ℕ) → Begins head x y → BeginsWith (without_blanks x) (head_class head)
-begins-class (Integer z) x y h = integer-begins (without_blanks x) z h.0
-begins-class (Named name) x y h = named-begins name.is_quoted name.text x y h
-begins-class AList x y h = record { first = 91; rest = y; is = h; class = refl }
-begins-class Tuple x y h = record { first = 40; rest = y; is = h; class = refl }
+pub begins-class : (head : Beginning) (x y : List ℕ) → Begins head x y → BeginsWith (without_blanks x) (head_class head)
+begins-class (an_integer z) x y h = integer-begins (without_blanks x) z h.0
+begins-class (a_name name) x y h = named-begins name.is_quoted name.text x y h
+begins-class a_list x y h = record { first = 91; rest = y; is = h; class = refl }
+begins-class a_tuple x y h = record { first = 40; rest = y; is = h; class = refl }
 
 -- a sign that begins no term
 pub no_term-sign : (sign : ℕ) (x y : List ℕ) → class_of sign ≡ 0 → NextSign sign x y → NoTerm x
-no_term-sign sign x y e h (Integer z) w k = let no = one_class _ 0 5 (record { first = sign; rest = y; is = h; class = e }) (begins-class (Integer z) x w k) in absurd (omega arith)
-no_term-sign sign x y e h (Named name) w k = named_not name.is_quoted 0 (search rules, search rules) (one_class _ 0 (name_class name.is_quoted) (record { first = sign; rest = y; is = h; class = e }) (begins-class (Named name) x w k))
-no_term-sign sign x y e h AList w k = let no = one_class _ 0 3 (record { first = sign; rest = y; is = h; class = e }) (begins-class AList x w k) in absurd (omega arith)
-no_term-sign sign x y e h Tuple w k = let no = one_class _ 0 4 (record { first = sign; rest = y; is = h; class = e }) (begins-class Tuple x w k) in absurd (omega arith)
+no_term-sign sign x y e h (an_integer z) w k = let no = one_class _ 0 5 (record { first = sign; rest = y; is = h; class = e }) (begins-class (an_integer z) x w k) in absurd (omega arith)
+no_term-sign sign x y e h (a_name name) w k = named_not name.is_quoted 0 (search rules, search rules) (one_class _ 0 (name_class name.is_quoted) (record { first = sign; rest = y; is = h; class = e }) (begins-class (a_name name) x w k))
+no_term-sign sign x y e h a_list w k = let no = one_class _ 0 3 (record { first = sign; rest = y; is = h; class = e }) (begins-class a_list x w k) in absurd (omega arith)
+no_term-sign sign x y e h a_tuple w k = let no = one_class _ 0 4 (record { first = sign; rest = y; is = h; class = e }) (begins-class a_tuple x w k) in absurd (omega arith)
 
 -- ---- at most one head, and one rest, for a text
 
@@ -109,45 +108,34 @@ named_only false false bytes bytes' x y z e h k = let same = same_pair bytes byt
 named_only true false bytes bytes' x y z e h k = absurd (omega arith)
 named_only false true bytes bytes' x y z e h k = absurd (omega arith)
 
-pub same_class : (head other : Head) (x y z : List ℕ) → Begins head x y → Begins other x z → head_class head ≡ head_class other
+pub same_class : (head other : Beginning) (x y z : List ℕ) → Begins head x y → Begins other x z → head_class head ≡ head_class other
 same_class head other x y z h k = one_class (without_blanks x) (head_class head) (head_class other) (begins-class head x y h) (begins-class other x z k)
 
-pub begins_only : (head other : Head) (x y z : List ℕ) → Begins head x y → Begins other x z → (head ≡ other) × (y ≡ z)
-begins_only (Integer v) (Integer w) x y z h k = (ap Integer (sym h.0.1 ∙ k.0.1), h.1 ∙ sym k.1)
-begins_only (Named n) (Named m) x y z h k =
-    let only = named_only n.is_quoted m.is_quoted n.text m.text x y z (same_class (Named n) (Named m) x y z h k) h k in
-    ((λ i. Named (record { text = only.0 i; is_quoted = only.1 i })), only.2)
-begins_only AList AList x y z h k = let same : ◌≡◌ {A = List ℕ} (91 ∷ y) (91 ∷ z) = sym h ∙ k in (refl, cc)
-begins_only Tuple Tuple x y z h k = let same : ◌≡◌ {A = List ℕ} (40 ∷ y) (40 ∷ z) = sym h ∙ k in (refl, cc)
-begins_only (Integer v) (Named m) x y z h k = absurd (named_not m.is_quoted 5 (search rules, search rules) (same_class (Integer v) (Named m) x y z h k))
-begins_only (Integer v) AList x y z h k = let no = same_class (Integer v) AList x y z h k in absurd (omega arith)
-begins_only (Integer v) Tuple x y z h k = let no = same_class (Integer v) Tuple x y z h k in absurd (omega arith)
-begins_only (Named n) (Integer w) x y z h k = absurd (named_not n.is_quoted 5 (search rules, search rules) (sym (same_class (Named n) (Integer w) x y z h k)))
-begins_only (Named n) AList x y z h k = absurd (named_not n.is_quoted 3 (search rules, search rules) (sym (same_class (Named n) AList x y z h k)))
-begins_only (Named n) Tuple x y z h k = absurd (named_not n.is_quoted 4 (search rules, search rules) (sym (same_class (Named n) Tuple x y z h k)))
-begins_only AList (Integer w) x y z h k = let no = same_class AList (Integer w) x y z h k in absurd (omega arith)
-begins_only AList (Named m) x y z h k = absurd (named_not m.is_quoted 3 (search rules, search rules) (same_class AList (Named m) x y z h k))
-begins_only AList Tuple x y z h k = let no = same_class AList Tuple x y z h k in absurd (omega arith)
-begins_only Tuple (Integer w) x y z h k = let no = same_class Tuple (Integer w) x y z h k in absurd (omega arith)
-begins_only Tuple (Named m) x y z h k = absurd (named_not m.is_quoted 4 (search rules, search rules) (same_class Tuple (Named m) x y z h k))
-begins_only Tuple AList x y z h k = let no = same_class Tuple AList x y z h k in absurd (omega arith)
+pub begins_only : (head other : Beginning) (x y z : List ℕ) → Begins head x y → Begins other x z → (head ≡ other) × (y ≡ z)
+begins_only (an_integer v) (an_integer w) x y z h k = (ap an_integer (sym h.0.1 ∙ k.0.1), h.1 ∙ sym k.1)
+begins_only (a_name n) (a_name m) x y z h k =
+    let only = named_only n.is_quoted m.is_quoted n.text m.text x y z (same_class (a_name n) (a_name m) x y z h k) h k in
+    ((λ i. a_name (record { text = only.0 i; is_quoted = only.1 i })), only.2)
+begins_only a_list a_list x y z h k = let same : ◌≡◌ {A = List ℕ} (91 ∷ y) (91 ∷ z) = sym h ∙ k in (refl, cc)
+begins_only a_tuple a_tuple x y z h k = let same : ◌≡◌ {A = List ℕ} (40 ∷ y) (40 ∷ z) = sym h ∙ k in (refl, cc)
+begins_only (an_integer v) (a_name m) x y z h k = absurd (named_not m.is_quoted 5 (search rules, search rules) (same_class (an_integer v) (a_name m) x y z h k))
+begins_only (an_integer v) a_list x y z h k = let no = same_class (an_integer v) a_list x y z h k in absurd (omega arith)
+begins_only (an_integer v) a_tuple x y z h k = let no = same_class (an_integer v) a_tuple x y z h k in absurd (omega arith)
+begins_only (a_name n) (an_integer w) x y z h k = absurd (named_not n.is_quoted 5 (search rules, search rules) (sym (same_class (a_name n) (an_integer w) x y z h k)))
+begins_only (a_name n) a_list x y z h k = absurd (named_not n.is_quoted 3 (search rules, search rules) (sym (same_class (a_name n) a_list x y z h k)))
+begins_only (a_name n) a_tuple x y z h k = absurd (named_not n.is_quoted 4 (search rules, search rules) (sym (same_class (a_name n) a_tuple x y z h k)))
+begins_only a_list (an_integer w) x y z h k = let no = same_class a_list (an_integer w) x y z h k in absurd (omega arith)
+begins_only a_list (a_name m) x y z h k = absurd (named_not m.is_quoted 3 (search rules, search rules) (same_class a_list (a_name m) x y z h k))
+begins_only a_list a_tuple x y z h k = let no = same_class a_list a_tuple x y z h k in absurd (omega arith)
+begins_only a_tuple (an_integer w) x y z h k = let no = same_class a_tuple (an_integer w) x y z h k in absurd (omega arith)
+begins_only a_tuple (a_name m) x y z h k = absurd (named_not m.is_quoted 4 (search rules, search rules) (same_class a_tuple (a_name m) x y z h k))
+begins_only a_tuple a_list x y z h k = let no = same_class a_tuple a_list x y z h k in absurd (omega arith)
 
 -- ---- no head at all
 
-named_none : (quoted : Bool) (bytes x y : List ℕ) (b : ℕ) (r : List ℕ) → without_blanks x ≡ b ∷ r → b ≢ 34 → begins_word b ≡ false → MatchBool quoted (NextQuoted bytes x y) (NextWord bytes x y) → ⊥
-named_none true bytes x y b r e no_quote no_word h =
-    let same : ◌≡◌ {A = List ℕ} (b ∷ r) (34 ∷ h.0) = sym e ∙ h.1 in
-    no_quote (cc)
-named_none false bytes x y b r e no_quote no_word h =
-    let found = word-first bytes (without_blanks x) y h in
-    let same : ◌≡◌ {A = List ℕ} (b ∷ r) (found.0 ∷ found.1) = sym e ∙ found.2 in
-    let first : b ≡ found.0 = cc in
-    let no : false ≡ true = sym no_word ∙ ap begins_word first ∙ found.3 in
-    absurd (cc)
-
-pub no_term-other : (x : List ℕ) (b : ℕ) (r : List ℕ) → without_blanks x ≡ b ∷ r → b ≢ 91 → b ≢ 40 → b ≢ 34 → begins_word b ≡ false
-    → ((z : ℤ) → IsInteger (take (integer_len (without_blanks x)) (without_blanks x)) z → ⊥) → NoTerm x
-no_term-other x b r e no_list no_tuple no_quote no_word no_integer (Integer z) y h = no_integer z h.0
-no_term-other x b r e no_list no_tuple no_quote no_word no_integer (Named name) y h = named_none name.is_quoted name.text x y b r e no_quote no_word h
-no_term-other x b r e no_list no_tuple no_quote no_word no_integer AList y h = let same : ◌≡◌ {A = List ℕ} (b ∷ r) (91 ∷ y) = sym e ∙ h in no_list (cc)
-no_term-other x b r e no_list no_tuple no_quote no_word no_integer Tuple y h = let same : ◌≡◌ {A = List ℕ} (b ∷ r) (40 ∷ y) = sym e ∙ h in no_tuple (cc)
+-- neither an integer nor a name, and no opening bracket
+pub no_term-other : (x : List ℕ) → NoHead x → ((y : List ℕ) → NextSign 91 x y → ⊥) → ((y : List ℕ) → NextSign 40 x y → ⊥) → NoTerm x
+no_term-other x no_head no_list no_tuple (an_integer z) y h = no_head (Integer z) y h
+no_term-other x no_head no_list no_tuple (a_name name) y h = no_head (Named name) y h
+no_term-other x no_head no_list no_tuple a_list y h = no_list y h
+no_term-other x no_head no_list no_tuple a_tuple y h = no_tuple y h

@@ -1,17 +1,33 @@
 -- What a term begins with.
-use Rattle.std.specs.Prelude.{ℕ, List}
+use Rattle.std.specs.Prelude.{ℕ, ℤ, List}
+use Rattle.term_core.specs.Tree.{Symbol}
 use Rattle.aterm_text.specs.Tokens.{NextSign, NextInteger, NextName}
 use Rattle.aterm_text.specs.declared.reader.head.Head.{Head}
-use Rattle.aterm_text.specs.declared.reader.head.Head.TheVariants.{Integer, Named, List as AList, Tuple}
+use Rattle.aterm_text.specs.declared.reader.head.Head.TheVariants.{Integer, Named}
 use Rattle.aterm_text.specs.Signs.{open_round, open_square}
 
--- the head comes first in x, and y follows it
-abbrev pub Begins : Head → List ℕ → List ℕ → Type 0
-Begins (Integer z) x y = NextInteger z x y
-Begins (Named name) x y = NextName name x y
-Begins AList x y = NextSign open_square x y
-Begins Tuple x y = NextSign open_round x y
+-- an integer, a name, or the opening bracket of a list or a tuple
+pub data Beginning : Type 0 where
+  an_integer : ℤ → Beginning
+  a_name : Symbol → Beginning
+  a_list : Beginning
+  a_tuple : Beginning
+
+-- it comes first in x, and y follows it
+abbrev pub Begins : Beginning → List ℕ → List ℕ → Type 0
+Begins (an_integer z) x y = NextInteger z x y
+Begins (a_name name) x y = NextName name x y
+Begins a_list x y = NextSign open_square x y
+Begins a_tuple x y = NextSign open_round x y
 
 -- no term begins at the front of x
 abbrev pub NoTerm : List ℕ → Type 0
-NoTerm x = (head : Head) (y : List ℕ) → Begins head x y → ⊥
+NoTerm x = (b : Beginning) (y : List ℕ) → Begins b x y → ⊥
+
+abbrev pub beginning_of : Head → Beginning
+beginning_of (Integer z) = an_integer z
+beginning_of (Named name) = a_name name
+
+-- no integer and no name comes first in x
+abbrev pub NoHead : List ℕ → Type 0
+NoHead x = (head : Head) (y : List ℕ) → Begins (beginning_of head) x y → ⊥

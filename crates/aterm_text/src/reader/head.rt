@@ -1,38 +1,35 @@
-//! What a term begins with.
+//! What a term begins with where that is no bracket.
 
 ghost use Rattle.std.specs.Prelude.{◌≡◌, ◌<◌, ℕ, List, IfOk, Err, length};
 ghost use Rattle.std.specs.Prelude.{Some, None};
 ghost use Rattle.term_core.specs.Word.{first_word};
 ghost use Rattle.aterm_text.specs.Tokens.{without_blanks};
-ghost use Rattle.aterm_text.specs.Heads.{Begins, NoTerm};
+ghost use Rattle.aterm_text.specs.Heads.{Begins, NoHead, beginning_of};
 
 use crate::reader::{ReadFault, scan};
 use std::alloc::Global;
 use term_core::{Name, begins_word};
 
-/// The head of a term: all of an integer, a name, or the bracket before a list or a tuple.
+/// The head of a term that is neither a list nor a tuple: all of an integer, or a name.
 #[derive(Drop)]
 pub enum Head {
     Integer(i64),
     Named(Name),
-    List,
-    Tuple,
 }
 
-/// The head of the term at the front of a text that begins with no white space, and what follows.
+/// The integer or the name at the front of a text that begins with no white space, and what follows.
 pub fn first_head(alloc: Global, text: &[u8]) -> Result<(Head, &[u8]), ReadFault>
     requires { without_blanks text.now ≡ text.now }
-    ensures found { IfOk result (λ found. Begins found.0 text.now found.1.now) }
+    ensures found { IfOk result (λ found.
+        Begins (beginning_of found.0) text.now found.1.now) }
     ensures shorter { IfOk result (λ found. length found.1.now < length text.now) }
-    ensures none { result ≡ Err ReadFault.Term → NoTerm text.now }
+    ensures none { result ≡ Err ReadFault.Term → NoHead text.now }
     ensures deep { result ≡ Err ReadFault.Deep → ⊥ }
 {
     let Some((first, rest)) = text.split_first() else {
         return Err(ReadFault::Term);
     };
     match *first {
-        b'[' => Ok((Head::List, rest)),
-        b'(' => Ok((Head::Tuple, rest)),
         b'"' => {
             let (name, rest) = scan::quoted(alloc, rest)?;
             Ok((Head::Named(name), rest))

@@ -5,7 +5,8 @@
 ghost use Rattle.std.specs.Prelude.{◌≡◌, ◌<◌, ◌≤◌, ◌-◌, ℕ, List, [], IfOk, OnOk, Err, length};
 ghost use Rattle.term_core.specs.Tree.{Tree, Symbol};
 ghost use Rattle.aterm_text.specs.Tokens.{NextName, without_blanks};
-ghost use Rattle.aterm_text.specs.Stack.{inside};
+ghost use Rattle.aterm_text.specs.Stack.{with_top, inside};
+ghost use Rattle.aterm_text.specs.Heads.{NoHead};
 ghost use Rattle.aterm_text.specs.Depth.{depth, IsTooDeep, KeepsDepth};
 ghost use Rattle.aterm_text.specs.Unread.{Reading, Unread, Stands, Leads, IsLost, IsClosed};
 
@@ -53,11 +54,48 @@ fn enter(stack: &mut Stack, opening: Opening) -> Result<(), ReadFault>
     Ok(())
 }
 
+// Puts a term on top, and opens the bracket of its children. It is inlined, as `expect_term` is: an
+// opening bracket takes less work than a call.
+#[inline(always)]
+fn open(stack: &mut Stack, term: Term, opening: Opening) -> Result<(), ReadFault>
+    ensures ok { OnOk result (stack.new ≡ inside opening [] (with_top term stack.old)) }
+    ensures few { OnOk result (depth stack.old < MAX_NESTING) }
+    ensures term { result ≡ Err ReadFault.Term → ⊥ }
+    ensures deep { result ≡ Err ReadFault.Deep → MAX_NESTING ≤ depth stack.old }
+{
+    stack.push(term)?;
+    enter(stack, opening)
+}
+
 // A term has to begin.
+#[inline(always)]
 fn expect_term<'a>(alloc: Global, stack: &mut Stack, text: &'a [u8]) -> Result<Step<'a>, ReadFault>
     requires { without_blanks text.now ≡ text.now }
     ensures leads { IfOk result (λ step. Leads State.Expected stack.old text.now step stack.new) }
     ensures none { result ≡ Err ReadFault.Term → IsLost State.Expected stack.old text.now }
+    ensures nesting { IfOk result (λ step. KeepsDepth stack.old text.now step stack.new) }
+    ensures deep { result ≡ Err ReadFault.Deep → IsTooDeep (depth stack.old) text.now }
+{
+    if let Some(rest) = after_byte(b'[', text) {
+        return match open(stack, Term::list(alloc, Vec::new(alloc)), Opening::Square) {
+            Ok(()) => Ok(Step::More(State::Entered, rest)),
+            Err(fault) => Err(fault),
+        };
+    }
+    if let Some(rest) = after_byte(b'(', text) {
+        return match open(stack, Term::tuple(alloc, Vec::new(alloc)), Opening::Round) {
+            Ok(()) => Ok(Step::More(State::Entered, rest)),
+            Err(fault) => Err(fault),
+        };
+    }
+    expect_head(alloc, stack, text)
+}
+
+// A term has to begin with no bracket.
+fn expect_head<'a>(alloc: Global, stack: &mut Stack, text: &'a [u8]) -> Result<Step<'a>, ReadFault>
+    requires { without_blanks text.now ≡ text.now }
+    ensures leads { IfOk result (λ step. Leads State.Expected stack.old text.now step stack.new) }
+    ensures none { result ≡ Err ReadFault.Term → NoHead text.now }
     ensures nesting { IfOk result (λ step. KeepsDepth stack.old text.now step stack.new) }
     ensures deep { result ≡ Err ReadFault.Deep → IsTooDeep (depth stack.old) text.now }
 {
@@ -71,20 +109,6 @@ fn expect_term<'a>(alloc: Global, stack: &mut Stack, text: &'a [u8]) -> Result<S
             Ok(Step::More(State::Base, rest))
         }
         Head::Named(name) => behind_name(alloc, stack, name, rest),
-        Head::List => {
-            stack.push(Term::list(alloc, Vec::new(alloc)))?;
-            match enter(stack, Opening::Square) {
-                Ok(()) => Ok(Step::More(State::Entered, rest)),
-                Err(fault) => Err(fault),
-            }
-        }
-        Head::Tuple => {
-            stack.push(Term::tuple(alloc, Vec::new(alloc)))?;
-            match enter(stack, Opening::Round) {
-                Ok(()) => Ok(Step::More(State::Entered, rest)),
-                Err(fault) => Err(fault),
-            }
-        }
     }
 }
 
@@ -102,14 +126,17 @@ fn behind_name<'a>(
     ensures nesting { IfOk result (λ step. KeepsDepth stack.old text.now step stack.new) }
     ensures deep { result ≡ Err ReadFault.Deep → IsTooDeep (depth stack.old) text.now }
 {
-    stack.push(Term::application(alloc, name, Vec::new(alloc)))?;
+    let term = Term::application(alloc, name, Vec::new(alloc));
     let text = after_blanks(text);
     match after_byte(b'(', text) {
-        Some(rest) => match enter(stack, Opening::Round) {
+        Some(rest) => match open(stack, term, Opening::Round) {
             Ok(()) => Ok(Step::More(State::Entered, rest)),
             Err(fault) => Err(fault),
         },
-        None => Ok(Step::More(State::Base, text)),
+        None => {
+            stack.push(term)?;
+            Ok(Step::More(State::Base, text))
+        }
     }
 }
 

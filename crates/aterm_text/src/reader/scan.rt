@@ -26,7 +26,8 @@ pub fn after_blanks(text: &[u8]) -> &[u8]
     ensures bound { length result.now ≤ length text.now }
 {
     match text.first() {
-        Some(first) if is_blank(*first) => behind_blanks(text),
+        // The first comparison alone tells for most bytes.
+        Some(first) if *first <= b' ' && is_blank(*first) => behind_blanks(text),
         _ => text,
     }
 }

@@ -1,7 +1,7 @@
 //! The terms of a text that were read so far, and the brackets that are open around them.
 #![tactic(auto, using(crate::proofs::StackLemmas::stack_parts))]
 
-ghost use Rattle.std.specs.Prelude.{◌≡◌, [], IfOk, IfSome, IfNone, OnOk, Some, None};
+ghost use Rattle.std.specs.Prelude.{◌≡◌, [], ◌≤◌, length, take, drop, IfOk, IfSome, IfNone, OnOk, OnErr, Some, None};
 ghost use Rattle.term_core.specs.Tree.{Tree, with_annotations, with_children};
 ghost use Rattle.aterm_text.specs.Stack.{Stack as Terms, no_terms, with_top, inside, first_closing};
 ghost use Rattle.aterm_text.specs.Depth.{depth};
@@ -109,7 +109,7 @@ impl Stack {
         let Some(Bracket { opening, before }) = self.brackets.pop() else {
             return Ok(None);
         };
-        let terms = self.terms.split_off(before)?;
+        let terms = taken_from(&mut self.terms, before)?;
         Ok(Some((opening, terms)))
     }
 
@@ -144,4 +144,19 @@ impl Stack {
         let Stack { mut terms, .. } = self;
         terms.pop()
     }
+}
+
+// Takes off the terms from this place on. For a single one, the usual case in deep texts, the
+// compiler sees how much is copied, and calls nothing for it.
+fn taken_from(terms: &mut Vec<Term>, before: usize) -> Result<Vec<Term>, NoMemory>
+    requires { before ≤ length terms.old.items }
+    ensures kept { OnOk result (terms.new.items ≡ take before terms.old.items) }
+    ensures taken { IfOk result (λ taken. taken.items ≡ drop before terms.old.items) }
+    ensures err { OnErr result (terms.new ≡ terms.old) }
+{
+    if before + 1 == terms.len() {
+        let last = terms.len() - 1;
+        return Ok(terms.split_off(last)?);
+    }
+    Ok(terms.split_off(before)?)
 }

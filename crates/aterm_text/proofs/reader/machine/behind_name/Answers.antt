@@ -1,30 +1,29 @@
 use Rattle.std.proofs.Common.{arith}
 use Rattle.aterm_text.specs.Depth.{depth}
 use Rattle.aterm_text.proofs.GoesLemmas.{leads-arguments, leads-constant}
-use Rattle.aterm_text.proofs.DepthLemmas.{behind_round, behind_trim, keeps-open, keeps-push, too-deep-open}
+use Rattle.aterm_text.proofs.DepthLemmas.{behind_round, behind_trim, keeps-open, keeps-push, too-deep}
 use Rattle.aterm_text.proofs.reader.machine.behind_name.Goals as goal
 
 pub returns-in-Ok-clause-leads : goal.returns-in-Ok-clause-leads
 returns-in-Ok-clause-leads c = λ x h shorter.
-    leads-arguments _ _ _ x _ _ h c.after_blanks-text.ensures.value c.application.result c.new.result.items _ _ (omega (arith, c.in-Some.ensures.shorter)) c.in-Some.ensures.some c.application.ensures
-    c.new.ensures.items c.in_ok-push.ensures.ok c.in-Ok.ensures.ok
+    leads-arguments _ _ _ x _ _ h c.after_blanks-text.ensures.value c.application-term.result c.new.result.items _ (omega (arith, c.in-Some.ensures.shorter)) c.in-Some.ensures.some c.application-term.ensures
+    c.new.ensures.items c.in-Ok.ensures.ok
 
-pub returns-in-None-clause-leads : goal.returns-in-None-clause-leads
-returns-in-None-clause-leads c = λ x h shorter.
-    leads-constant _ _ _ x _ _ h c.after_blanks-text.ensures.value c.application.result c.new.result.items (omega arith) c.in-None.ensures.none c.application.ensures c.new.ensures.items
-    c.in_ok-push.ensures.ok
+pub returns-in_ok-push-in-None-clause-leads : goal.returns-in_ok-push-in-None-clause-leads
+returns-in_ok-push-in-None-clause-leads c = λ x h shorter.
+    leads-constant _ _ _ x _ _ h c.after_blanks-text.ensures.value c.application-term.result c.new.result.items (omega arith) c.in-None.ensures.none c.application-term.ensures c.new.ensures.items
+    c.in_ok-push-in-None.ensures.ok
 
 pub returns-in-Err-clause-deep : goal.returns-in-Err-clause-deep
 returns-in-Err-clause-deep c = λ e.
-    too-deep-open c.args.stack.now _ c.application.result c.args.text.now c.in-Some.rest.now
-    (behind_round (depth c.args.stack.now) c.args.text.now _ c.in-Some.rest.now c.after_blanks-text.ensures.value c.in-Some.ensures.some) c.in_ok-push.ensures.ok (c.in-Err.ensures.deep (cc))
+    too-deep (depth c.args.stack.now) c.args.text.now c.in-Some.rest.now
+    (behind_round (depth c.args.stack.now) c.args.text.now _ c.in-Some.rest.now c.after_blanks-text.ensures.value c.in-Some.ensures.some) (c.in-Err.ensures.deep (cc))
 
 pub returns-in-Ok-clause-nesting : goal.returns-in-Ok-clause-nesting
 returns-in-Ok-clause-nesting c =
-    keeps-open c.args.stack.now _ c.args.text.now c.in-Some.rest.now _ c.application.result _
-    (behind_round (depth c.args.stack.now) c.args.text.now _ c.in-Some.rest.now c.after_blanks-text.ensures.value c.in-Some.ensures.some) c.in_ok-push.ensures.ok c.in-Ok.ensures.ok
-    c.in-Ok.ensures.few
+    keeps-open c.args.stack.now _ c.args.text.now c.in-Some.rest.now c.application-term.result _
+    (behind_round (depth c.args.stack.now) c.args.text.now _ c.in-Some.rest.now c.after_blanks-text.ensures.value c.in-Some.ensures.some) c.in-Ok.ensures.ok c.in-Ok.ensures.few
 
-pub returns-in-None-clause-nesting : goal.returns-in-None-clause-nesting
-returns-in-None-clause-nesting c =
-    keeps-push c.args.stack.now _ c.args.text.now _ _ (behind_trim (depth c.args.stack.now) c.args.text.now _ c.after_blanks-text.ensures.value) c.in_ok-push.ensures.ok
+pub returns-in_ok-push-in-None-clause-nesting : goal.returns-in_ok-push-in-None-clause-nesting
+returns-in_ok-push-in-None-clause-nesting c =
+    keeps-push c.args.stack.now _ c.args.text.now _ _ (behind_trim (depth c.args.stack.now) c.args.text.now _ c.after_blanks-text.ensures.value) c.in_ok-push-in-None.ensures.ok
