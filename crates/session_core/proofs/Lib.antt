@@ -1,3 +1,5 @@
 pub mod HistoryLemmas
-pub mod RowLemmas
-pub mod ContentsLemmas
+pub mod TimelineLemmas
+pub mod PlaceLemmas
+pub mod SoundLemmas
+pub mod ActLemmas

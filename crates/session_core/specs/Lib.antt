@@ -1,8 +1,10 @@
 pub mod Refusal
 pub mod History
 pub mod Codes
-pub mod SessionView
+pub mod Unfolded
 pub mod Step
+pub mod Dump
 pub mod Laws
 pub use Rattle.term_core.specs.Tree
 pub use Rattle.term_core.specs.Size
+pub use Rattle.change_log.specs.Contents

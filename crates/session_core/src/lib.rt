@@ -1,13 +1,17 @@
 //! Sessions: named trees, with every accepted change kept so that it can be undone and redone.
 #![tactic(auto)]
 
+mod acts;
+mod dump;
 pub mod laws;
 mod refusal;
 mod session;
-mod snapshot;
+mod timeline;
 
 pub use refusal::Refusal;
 pub use session::Session;
+#[doc(hidden)]
+pub use timeline::{OpenGroup, Timeline};
 
 #[cfg(test)]
 mod tests;

@@ -1,51 +1,53 @@
 //! Sessions: contents that change in steps, which are undone and redone.
 
-ghost use Rattle.std.specs.Prelude.{◌≡◌, ◌≤◌, ◌↔◌, ◌⊎◌, Ok, Err, OnOk, OnErr, IfOk, IfErr, option_copied};
+ghost use Rattle.std.specs.Prelude.{◌≡◌, ◌≤◌, ◌↔◌, ◌⊎◌, ◌++◌, Ok, Err, vec_capacity, OnOk, OnErr, IfOk, IfErr, length, option_copied};
 ghost use Rattle.std.specs.FinMap as finmap;
-ghost use Rattle.session_core.specs.History.{empty_history, changed, IsSound, IsSoundContents};
-ghost use Rattle.session_core.specs.Step.{step, set_tree, undo, redo};
+ghost use Rattle.session_core.specs.History.{empty_history, IsSound};
+ghost use Rattle.session_core.specs.Step.{step, set_tree, copy_tree, drop_tree, put, annotate, undo, redo, begin, commit, abandon};
+ghost use Rattle.session_core.specs.Dump.{dumped, AreNamedTerms};
 
-use crate::Refusal;
-use crate::snapshot::Snapshot;
+use crate::{Refusal, Timeline};
+use prim_core::{Meaning, Primitives};
 use std::alloc::Global;
 use std::marker::Model;
 use term_core::{Label, NoMemory, Term};
+use term_paths::Path;
 
-/// Named trees, with the contents from before each accepted change and those that were undone.
+/// Named trees, with the contents from before each step and those that were undone. A step is an
+/// accepted change, or a group of them. What is kept of a change is what it replaced.
 #[derive(Drop)]
-pub struct Session {
-    // Whole contents, the oldest first.
-    snapshots: Vec<Snapshot>,
-    // Where those now are. What stands before them is past, what stands behind them was undone.
-    position: usize,
+pub struct Session<M: Meaning> {
+    primitives: Primitives<M>,
+    timeline: Timeline,
 }
 
-impl Model for Session {
+impl<M: Meaning> Model for Session<M> {
     ghost use Rattle.session_core.specs.History.{History};
     ghost use Rattle.session_core.specs.Codes.{history_code};
-    ghost use Rattle.session_core.specs.SessionView.{history_at, IsPlaced};
 
     ghost Value = { History };
 
     ghost coded = { history_code };
 
-    ghost view = { λ a. history_at a.snapshots.items a.position };
+    ghost use Rattle.session_core.specs.History.{IsSound};
+    ghost use Rattle.session_core.specs.Unfolded.{unfolded, IsPlaced};
 
-    ghost invariant = { λ a. IsPlaced a.snapshots.items a.position };
+    ghost view = { λ a. unfolded a.primitives a.timeline };
+
+    ghost invariant = { λ a. IsPlaced a.timeline × IsSound (unfolded a.primitives a.timeline) };
 }
 
-impl Session {
-    /// A session without trees, in which nothing can be undone or redone.
-    pub fn new(alloc: Global) -> Result<Session, NoMemory>
-        ensures value { IfOk result (λ session. session ≡ empty_history) }
-        ensures sound { IfOk result IsSound }
+impl<M: Meaning> Session<M> {
+    /// A session with these primitives and without trees, in which nothing can be undone or redone. It
+    /// takes no memory.
+    pub fn new(alloc: Global, primitives: Primitives<M>) -> Session<M>
+        ensures value { result ≡ empty_history primitives }
+        ensures sound { IsSound result }
     {
-        let mut snapshots = Vec::new(alloc);
-        snapshots.push(Snapshot::new(alloc))?;
-        Ok(Session {
-            snapshots,
-            position: 0,
-        })
+        Session {
+            primitives,
+            timeline: Timeline::new(alloc),
+        }
     }
 
     /// The tree of this name, or `None` where there is none.
@@ -53,84 +55,171 @@ impl Session {
         ensures value { option_copied result ≡ finmap.get self.now.now.trees name.now }
         ensures sound { IsSound self.now }
     {
-        self.contents().tree(name)
+        self.timeline.tree(name)
+    }
+
+    /// The names of the trees, in byte order.
+    pub fn tree_names(&self) -> Result<Vec<Label>, NoMemory>
+        ensures names { IfOk result (λ names. names.items ≡ finmap.keys self.now.now.trees) }
+        ensures sound { IsSound self.now }
+    {
+        self.timeline.tree_names()
+    }
+
+    /// How many steps there are to undo, and how many to redo. In a group these are those from
+    /// outside it.
+    pub fn counts(&self) -> (u64, u64)
+        ensures undo { result.0 ≡ length self.now.past }
+        ensures redo { result.1 ≡ length self.now.later }
+        ensures sound { IsSound self.now }
+    {
+        (self.timeline.past() as u64, self.timeline.later() as u64)
+    }
+
+    /// Appends a line for each tree, in byte order of the names: `tree`, the name and the tree. As a
+    /// script these lines give the trees again where each is within 65,536 bytes and each tree within
+    /// 100,000 terms. Where a growth of memory is refused, `out` is as before. Its capacity never
+    /// shrinks.
+    pub fn dump(&self, out: &mut Vec<u8>) -> Result<(), NoMemory>
+        ensures ok { OnOk result (out.new.items ≡ out.old.items ++ dumped self.now.now) }
+        ensures terms { OnOk result (AreNamedTerms self.now.now) }
+        ensures err { OnErr result (out.new.items ≡ out.old.items) }
+        ensures room { vec_capacity out.old ≤ vec_capacity out.new }
+        ensures sound { IsSound self.now }
+    {
+        self.timeline.dump(out)
     }
 
     /// Gives the name this tree, also where it has one. That is a step, which can be undone, and
-    /// nothing can be redone after it. The tree has to fit at level 0, else the refusal is `Big`.
+    /// nothing can be redone after it; in a group it is part of the group's step. The tree has to fit
+    /// at level 0, else the refusal is `Big`.
     ///
     /// A refusal leaves the session as it was. The tree is dropped then.
     pub fn set_tree(&mut self, name: &Label, tree: Term) -> Result<(), Refusal>
         ensures ok { OnOk result (step (set_tree name.now tree) self.old ≡ Ok self.new) }
-        ensures big { (result ≡ Err Refusal.Big)
-            ↔ (step (set_tree name.now tree) self.old ≡ Err Refusal.Big) }
         ensures refused { IfErr result (λ refusal. (refusal ≡ Refusal.Memory)
             ⊎ (step (set_tree name.now tree) self.old ≡ Err refusal)) }
         ensures err { OnErr result (self.new ≡ self.old) }
         ensures sound { IsSound self.new }
     {
-        let now = self.contents();
-        if !tree.fits(0) {
-            return Err(Refusal::Big);
-        }
-        let next = now.with_tree(name, tree)?;
-        self.change(next)?;
-        Ok(())
+        self.timeline.set_tree(name, tree)
     }
 
-    /// Goes `n` steps back, at least 1. Where there are fewer to undo, the refusal is `NoUndo`, and
-    /// the session stays as it was.
+    /// Gives the name `copy` a copy of the tree of `name`, also where it has a tree or is that name.
+    /// Where there is no such tree, the refusal is `NoTree`. A refusal leaves the session as it was.
+    pub fn copy_tree(&mut self, name: &Label, copy: &Label) -> Result<(), Refusal>
+        ensures ok { OnOk result (step (copy_tree name.now copy.now) self.old ≡ Ok self.new) }
+        ensures refused { IfErr result (λ refusal. (refusal ≡ Refusal.Memory)
+            ⊎ (step (copy_tree name.now copy.now) self.old ≡ Err refusal)) }
+        ensures err { OnErr result (self.new ≡ self.old) }
+        ensures sound { IsSound self.new }
+    {
+        self.timeline.copy_tree(name, copy)
+    }
+
+    /// Takes the tree of the name away. Where there is none, the refusal is `NoTree`. A refusal leaves
+    /// the session as it was.
+    pub fn drop_tree(&mut self, name: &Label) -> Result<(), Refusal>
+        ensures ok { OnOk result (step (drop_tree name.now) self.old ≡ Ok self.new) }
+        ensures refused { IfErr result (λ refusal. (refusal ≡ Refusal.Memory)
+            ⊎ (step (drop_tree name.now) self.old ≡ Err refusal)) }
+        ensures err { OnErr result (self.new ≡ self.old) }
+        ensures sound { IsSound self.new }
+    {
+        self.timeline.drop_tree(name)
+    }
+
+    /// Replaces the subterm at the path of the name's tree, annotations and all. Where there is no such
+    /// tree, the refusal is `NoTree`; where it has no subterm there, `Path`; where the term doesn't fit
+    /// at the level that is the length of the path, `Big`.
+    ///
+    /// A refusal leaves the session as it was. The term is dropped then.
+    pub fn put(&mut self, name: &Label, path: &Path, part: Term) -> Result<(), Refusal>
+        ensures ok { OnOk result (step (put name.now path.now part) self.old ≡ Ok self.new) }
+        ensures refused { IfErr result (λ refusal. (refusal ≡ Refusal.Memory)
+            ⊎ (step (put name.now path.now part) self.old ≡ Err refusal)) }
+        ensures err { OnErr result (self.new ≡ self.old) }
+        ensures sound { IsSound self.new }
+    {
+        self.timeline.put(name, path, part)
+    }
+
+    /// Replaces the annotations of the subterm at the path of the name's tree; none takes them away.
+    /// The refusals are those of `put`; each annotation has to fit one level below the subterm.
+    ///
+    /// A refusal leaves the session as it was. The annotations are dropped then.
+    pub fn annotate(
+        &mut self,
+        name: &Label,
+        path: &Path,
+        annotations: Vec<Term>,
+    ) -> Result<(), Refusal>
+        ensures ok { OnOk result (step (annotate name.now path.now annotations.items) self.old ≡ Ok self.new) }
+        ensures refused { IfErr result (λ refusal. (refusal ≡ Refusal.Memory)
+            ⊎ (step (annotate name.now path.now annotations.items) self.old ≡ Err refusal)) }
+        ensures err { OnErr result (self.new ≡ self.old) }
+        ensures sound { IsSound self.new }
+    {
+        self.timeline.annotate(name, path, annotations)
+    }
+
+    /// Goes `n` steps back: the contents are those from before the last `n` steps, and with 0 they stay.
+    /// In a group the refusal is `Group`; where there are fewer steps, `NoUndo`. A refusal leaves the
+    /// session as it was. It takes no memory.
     pub fn undo(&mut self, n: u32) -> Result<(), Refusal>
-        requires { 1 ≤ n }
         ensures ok { OnOk result (step (undo n) self.old ≡ Ok self.new) }
         ensures refused { IfErr result (λ refusal. step (undo n) self.old ≡ Err refusal) }
         ensures err { OnErr result (self.new ≡ self.old) }
         ensures sound { IsSound self.new }
     {
-        let back = n as usize;
-        if self.position < back {
-            return Err(Refusal::NoUndo);
-        }
-        self.position -= back;
-        Ok(())
+        self.timeline.undo(n)
     }
 
-    /// Goes `n` steps forward, at least 1. Where there are fewer to redo, the refusal is `NoRedo`,
-    /// and the session stays as it was.
+    /// Goes `n` steps forward again after `undo`. In a group the refusal is `Group`; where fewer steps
+    /// were undone since the last change, `NoRedo`. A refusal leaves the session as it was. It takes no
+    /// memory.
     pub fn redo(&mut self, n: u32) -> Result<(), Refusal>
-        requires { 1 ≤ n }
         ensures ok { OnOk result (step (redo n) self.old ≡ Ok self.new) }
         ensures refused { IfErr result (λ refusal. step (redo n) self.old ≡ Err refusal) }
         ensures err { OnErr result (self.new ≡ self.old) }
         ensures sound { IsSound self.new }
     {
-        let forward = n as usize;
-        let later = self.snapshots.len() - 1 - self.position;
-        if later < forward {
-            return Err(Refusal::NoRedo);
-        }
-        self.position += forward;
-        Ok(())
+        self.timeline.redo(n)
     }
 
-    fn contents(&self) -> &Snapshot
-        ensures value { result.now ≡ self.now.now }
-        ensures sound { IsSound self.now }
-    {
-        &self.snapshots[self.position]
-    }
-
-    // Makes these the contents now, by one step. Where something later is cut, there is room, so a
-    // refused growth leaves all as it was.
-    fn change(&mut self, next: Snapshot) -> Result<(), NoMemory>
-        requires { IsSoundContents next }
-        ensures ok { OnOk result (self.new ≡ changed next self.old) }
+    /// Opens a group: all changes until `commit` are one step. Where a group is open, the refusal is
+    /// `Group`, and leaves the session as it was. It takes no memory.
+    pub fn begin(&mut self) -> Result<(), Refusal>
+        ensures ok { OnOk result (step begin self.old ≡ Ok self.new) }
+        ensures refused { IfErr result (λ refusal. step begin self.old ≡ Err refusal) }
         ensures err { OnErr result (self.new ≡ self.old) }
         ensures sound { IsSound self.new }
     {
-        self.snapshots.truncate(self.position + 1);
-        self.snapshots.push(next)?;
-        self.position += 1;
-        Ok(())
+        self.timeline.begin()
+    }
+
+    /// Closes the group. What was changed since it began is one step, and nothing can be redone after
+    /// it; a group without a change is no step and leaves what can be redone. Where no group is open, the
+    /// refusal is `NoGroup`. A refusal leaves the session as it was, the group open.
+    pub fn commit(&mut self) -> Result<(), Refusal>
+        ensures ok { OnOk result (step commit self.old ≡ Ok self.new) }
+        ensures refused { IfErr result (λ refusal. (refusal ≡ Refusal.Memory)
+            ⊎ (step commit self.old ≡ Err refusal)) }
+        ensures err { OnErr result (self.new ≡ self.old) }
+        ensures sound { IsSound self.new }
+    {
+        self.timeline.commit()
+    }
+
+    /// Closes the group and takes back what was changed since it began; what can be undone and redone
+    /// is that from before. Where no group is open, the refusal is `NoGroup`, and leaves the session as
+    /// it was. It takes no memory.
+    pub fn abandon(&mut self) -> Result<(), Refusal>
+        ensures ok { OnOk result (step abandon self.old ≡ Ok self.new) }
+        ensures refused { IfErr result (λ refusal. step abandon self.old ≡ Err refusal) }
+        ensures err { OnErr result (self.new ≡ self.old) }
+        ensures sound { IsSound self.new }
+    {
+        self.timeline.abandon()
     }
 }

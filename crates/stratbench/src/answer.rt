@@ -10,6 +10,7 @@ ghost use Rattle.aterm_text.specs.Printed.{print as print_of};
 use crate::command::Command;
 use aterm_text::{ReadFault, print, read};
 use itoa::Buffer;
+use prim_core::NoPrimitives;
 use session_core::{Refusal, Session};
 use std::alloc::Global;
 use term_core::{Label, NoMemory, Term};
@@ -21,7 +22,7 @@ pub const ANSWER_ROOM: usize = 128;
 /// growth of memory is refused, the answer says so and the session stays as it was.
 pub fn answer_command(
     alloc: Global,
-    session: &mut Session,
+    session: &mut Session<NoPrimitives>,
     command: &[u8],
     answer: &mut Vec<u8>,
 ) -> bool
@@ -43,7 +44,7 @@ pub fn answer_command(
 // were.
 fn try_answer(
     alloc: Global,
-    session: &mut Session,
+    session: &mut Session<NoPrimitives>,
     command: &[u8],
     answer: &mut Vec<u8>,
 ) -> Result<(), Refusal>
@@ -67,7 +68,7 @@ fn try_answer(
 // were.
 fn perform(
     alloc: Global,
-    session: &mut Session,
+    session: &mut Session<NoPrimitives>,
     command: Command<'_>,
     answer: &mut Vec<u8>,
 ) -> Result<(), Refusal>
@@ -103,7 +104,12 @@ fn say_ok(outcome: Result<(), Refusal>, answer: &mut Vec<u8>) -> Result<(), Refu
     Ok(())
 }
 
-fn set_tree(alloc: Global, session: &mut Session, name: &Label, text: &[u8]) -> Result<(), Refusal>
+fn set_tree(
+    alloc: Global,
+    session: &mut Session<NoPrimitives>,
+    name: &Label,
+    text: &[u8],
+) -> Result<(), Refusal>
     ensures ok { OnOk result (Replies (tree name.now text.now) session.old
         (Ok (record { answer = codes "ok"; history = session.new }))) }
     ensures refused { IfErr result (Refuses (Replies (tree name.now text.now) session.old) false) }
@@ -126,7 +132,11 @@ fn read_term(alloc: Global, text: &[u8]) -> Result<Term, Refusal>
     }
 }
 
-fn show_tree(session: &Session, name: &Label, answer: &mut Vec<u8>) -> Result<(), Refusal>
+fn show_tree(
+    session: &Session<NoPrimitives>,
+    name: &Label,
+    answer: &mut Vec<u8>,
+) -> Result<(), Refusal>
     ensures ok { OnOk result (Accepts (Replies (show name.now) session.now) session.now
         answer.old.items
         answer.new.items) }

@@ -11,8 +11,10 @@ mod script;
 mod tests;
 mod write;
 
+use prim_core::{NoPrimitives, Primitives};
 use run::{RunFault, Summary, run, status};
 use session_core::Session;
+use std::alloc::Global;
 use std::io::BufWriter;
 use std::process::ExitCode;
 
@@ -27,11 +29,13 @@ fn main(rt: HostRuntime) -> ExitCode {
 // Runs a new session over standard input and standard output.
 fn answer_input(rt: &HostRuntime) -> Result<Summary, RunFault> {
     let alloc = rt.alloc();
-    let Ok(mut session) = Session::new(alloc) else {
-        return Err(RunFault::Memory);
-    };
+    let mut session = Session::new(alloc, no_primitives(alloc));
     let Ok(mut writer) = BufWriter::new(alloc, rt.stdout()) else {
         return Err(RunFault::Memory);
     };
     run(alloc, &mut session, &mut rt.stdin(), &mut writer)
+}
+
+fn no_primitives(alloc: Global) -> Primitives<NoPrimitives> {
+    Primitives::new(Vec::new(alloc))
 }

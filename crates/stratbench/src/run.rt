@@ -10,6 +10,7 @@ use crate::answer::{ANSWER_ROOM, answer_command};
 use crate::read::read_whole;
 use crate::script::next_command;
 use crate::write::{WriteFault, write_whole};
+use prim_core::NoPrimitives;
 use session_core::Session;
 use std::alloc::Global;
 use std::io::{Read, Write};
@@ -60,7 +61,7 @@ pub fn status(outcome: &Result<Summary, RunFault>) -> u8
 /// the end, the session is the one after the commands that were answered until then.
 pub fn run<R: Read, W: Write>(
     alloc: Global,
-    session: &mut Session,
+    session: &mut Session<NoPrimitives>,
     reader: &mut R,
     writer: &mut W,
 ) -> Result<Summary, RunFault>
@@ -97,7 +98,7 @@ pub fn run<R: Read, W: Write>(
 // Answers all commands of a text, and flushes the writer.
 fn answer_script<W: Write>(
     alloc: Global,
-    session: &mut Session,
+    session: &mut Session<NoPrimitives>,
     text: &[u8],
     writer: &mut W,
     answer: &mut Vec<u8>,
@@ -117,7 +118,7 @@ fn answer_script<W: Write>(
 
 fn answer_commands<W: Write>(
     alloc: Global,
-    session: &mut Session,
+    session: &mut Session<NoPrimitives>,
     text: &[u8],
     writer: &mut W,
     answer: &mut Vec<u8>,
@@ -144,7 +145,7 @@ fn answer_commands<W: Write>(
 // Answers one command, and tells whether it was accepted. What the buffer held is dropped.
 fn answer_one<W: Write>(
     alloc: Global,
-    session: &mut Session,
+    session: &mut Session<NoPrimitives>,
     command: &[u8],
     writer: &mut W,
     answer: &mut Vec<u8>,

@@ -1,6 +1,7 @@
 //! Runs over scripts in memory, and over a reader and a writer that fail.
 
 use crate::run::{RunFault, Summary, run, status};
+use prim_core::{NoPrimitives, Primitives};
 use session_core::Session;
 use std::alloc::Global;
 use std::io::{self, Error, ErrorKind, Read, Write};
@@ -98,9 +99,13 @@ impl Write for FlushedWriter {
     }
 }
 
+fn new_session(alloc: Global) -> Session<NoPrimitives> {
+    Session::new(alloc, Primitives::new(Vec::new(alloc)))
+}
+
 // What a script is answered, and the status that its run ends with.
 fn answers(alloc: Global, mut script: &[u8]) -> Result<(Vec<u8>, u8), Fail> {
-    let mut session = Session::new(alloc)?;
+    let mut session = new_session(alloc);
     let mut written = Vec::new(alloc);
     let outcome = run(alloc, &mut session, &mut script, &mut written);
     Ok((written, status(&outcome)))
@@ -188,7 +193,7 @@ fn bounds_depth(rt: HostRuntime) -> Result<(), Fail> {
 
 #[test]
 fn read_fault_comes_before_any_command(rt: HostRuntime) -> Result<(), Fail> {
-    let mut session = Session::new(rt.alloc())?;
+    let mut session = new_session(rt.alloc());
     let mut reader = FailingReader {
         rest: b"tree t a\nshow t\n",
     };
@@ -215,7 +220,7 @@ fn read_fault_comes_before_any_command(rt: HostRuntime) -> Result<(), Fail> {
 
 #[test]
 fn write_fault_keeps_what_was_answered(rt: HostRuntime) -> Result<(), Fail> {
-    let mut session = Session::new(rt.alloc())?;
+    let mut session = new_session(rt.alloc());
     let mut script: &[u8] = b"tree t a\ntree t b\ntree t c\n";
     let mut writer = FailingWriter {
         held: Vec::new(rt.alloc()),
@@ -240,7 +245,7 @@ fn write_fault_keeps_what_was_answered(rt: HostRuntime) -> Result<(), Fail> {
 fn interruptions_and_the_flush(rt: HostRuntime) -> Result<(), Fail> {
     let table: [(bool, u8, usize); 2] = [(false, 0, 5), (true, 3, 0)];
     for (flush_fails, wanted_status, wanted_flushed) in table {
-        let mut session = Session::new(rt.alloc())?;
+        let mut session = new_session(rt.alloc());
         let mut reader = InterruptedReader {
             rest: b"tree t a\nshow t\n",
             interrupts: true,

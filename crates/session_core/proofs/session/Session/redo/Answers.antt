@@ -1,17 +1,18 @@
-use Rattle.std.proofs.Common.{◌≤◌, ◌<◌, ◌+◌, length, ok_or, sym, ap, ◌∙◌, arith}
-use Rattle.session_core.specs.History.{redone}
-use Rattle.session_core.specs.declared.refusal.Refusal.TheVariants.{NoRedo}
-use Rattle.session_core.proofs.RowLemmas.{redone_at, redone_past}
+use Rattle.session_core.specs.Step.{redo}
+use Rattle.session_core.proofs.ActLemmas.{ok_seen, surely_refused_seen, err_seen, sound_seen}
 use Rattle.session_core.proofs.session.Session.redo.Goals as goal
 
-pub returns-then-later-forward-clause-refused : goal.returns-then-later-forward-clause-refused
-returns-then-later-forward-clause-refused c =
-    let few : length c.self.inside.snapshots.items ≤ c.self.inside.position + c.args.n = omega arith in
-    ap (λ h. ok_or (redone c.args.n h) NoRedo) (sym c.self.view_is)
-    ∙ ap (λ o. ok_or o NoRedo) (redone_past c.args.n c.self.inside.snapshots.items c.self.inside.position c.self.invariant.within few)
+pub invariant_of-self : goal.invariant_of-self
+invariant_of-self g c = (c.redo.ensures.placed, sound_seen (redo c.args.n) c.redo.result c.self.inside.primitives c.self.inside.timeline c.redo.new.self c.args.self.now c.self.view_is c.redo.ensures.ok c.redo.ensures.err c.self.invariant.1)
 
 pub returns-clause-ok : goal.returns-clause-ok
-returns-clause-ok c =
-    let enough : c.self.inside.position + c.args.n < length c.self.inside.snapshots.items = omega arith in
-    ap (λ h. ok_or (redone c.args.n h) NoRedo) (sym c.self.view_is)
-    ∙ ap (λ o. ok_or o NoRedo) (redone_at c.args.n c.self.inside.snapshots.items c.self.inside.position enough)
+returns-clause-ok g c = ok_seen (redo c.args.n) c.redo.result c.self.inside.primitives c.self.inside.timeline c.redo.new.self c.args.self.now c.self.view_is c.redo.ensures.ok
+
+pub returns-clause-refused : goal.returns-clause-refused
+returns-clause-refused g c = surely_refused_seen (redo c.args.n) c.redo.result c.self.inside.primitives c.self.inside.timeline c.redo.new.self c.args.self.now c.self.view_is c.redo.ensures.refused
+
+pub returns-clause-err : goal.returns-clause-err
+returns-clause-err g c = err_seen (redo c.args.n) c.redo.result c.self.inside.primitives c.self.inside.timeline c.redo.new.self c.args.self.now c.self.view_is c.redo.ensures.err
+
+pub returns-clause-sound : goal.returns-clause-sound
+returns-clause-sound g c = sound_seen (redo c.args.n) c.redo.result c.self.inside.primitives c.self.inside.timeline c.redo.new.self c.args.self.now c.self.view_is c.redo.ensures.ok c.redo.ensures.err c.self.invariant.1

@@ -1,10 +1,18 @@
-use Rattle.std.proofs.Common.{◌≡◌, true, sym, subst, ◌∙◌}
-use Rattle.term_core.specs.Size.{fits}
-use Rattle.session_core.specs.History.{IsSoundContents}
-use Rattle.session_core.proofs.ContentsLemmas.{sound_with_tree}
+use Rattle.session_core.specs.Step.{set_tree}
+use Rattle.session_core.proofs.ActLemmas.{ok_seen, refused_seen, err_seen, sound_seen}
 use Rattle.session_core.proofs.session.Session.set_tree.Goals as goal
 
-pub change-requires : goal.change-requires
-change-requires c =
-    let fit : fits 0 c.args.tree ≡ true = sym c.fits.ensures ∙ c.if-not-fits.false in
-    subst IsSoundContents (sym c.in_ok-next.ensures) (sound_with_tree c.contents-now.result.now c.args.name.now c.args.tree (subst IsSoundContents (sym c.contents-now.ensures.value) c.contents-now.ensures.sound.1) fit)
+pub invariant_of-self : goal.invariant_of-self
+invariant_of-self g c = (c.set_tree.ensures.placed, sound_seen (set_tree c.args.name.now c.args.tree) c.set_tree.result c.self.inside.primitives c.self.inside.timeline c.set_tree.new.self c.args.self.now c.self.view_is c.set_tree.ensures.ok c.set_tree.ensures.err c.self.invariant.1)
+
+pub returns-clause-ok : goal.returns-clause-ok
+returns-clause-ok g c = ok_seen (set_tree c.args.name.now c.args.tree) c.set_tree.result c.self.inside.primitives c.self.inside.timeline c.set_tree.new.self c.args.self.now c.self.view_is c.set_tree.ensures.ok
+
+pub returns-clause-refused : goal.returns-clause-refused
+returns-clause-refused g c = refused_seen (set_tree c.args.name.now c.args.tree) c.set_tree.result c.self.inside.primitives c.self.inside.timeline c.set_tree.new.self c.args.self.now c.self.view_is c.set_tree.ensures.refused
+
+pub returns-clause-err : goal.returns-clause-err
+returns-clause-err g c = err_seen (set_tree c.args.name.now c.args.tree) c.set_tree.result c.self.inside.primitives c.self.inside.timeline c.set_tree.new.self c.args.self.now c.self.view_is c.set_tree.ensures.err
+
+pub returns-clause-sound : goal.returns-clause-sound
+returns-clause-sound g c = sound_seen (set_tree c.args.name.now c.args.tree) c.set_tree.result c.self.inside.primitives c.self.inside.timeline c.set_tree.new.self c.args.self.now c.self.view_is c.set_tree.ensures.ok c.set_tree.ensures.err c.self.invariant.1

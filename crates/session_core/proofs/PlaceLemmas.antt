@@ -1,0 +1,318 @@
+-- What each call on a timeline leaves: a timeline that is placed, and the history that it stands for.
+use Rattle.std.proofs.Common.{◌≡◌, ℕ, suc, ◌+◌, ◌-◌, ◌<◌, ◌≤◌, Bool, true, false, cond, List, [], ◌∷◌, ◌++◌, length, take, drop, set, slice_get, Option, Some, None, IsSome, Result, Ok, Err, IfOk, OnOk, OnErr, option_map, refl, sym, ap, subst, subst₂, ◌∙◌, arith}
+use Rattle.std.specs.Bool.{OnFalse}
+use Rattle.std.specs.Global.{Vec}
+use Rattle.std.proofs.lemmas.List.{length-drop, length-set}
+use Rattle.term_core.specs.Tree.{Tree}
+use Rattle.std.specs.Option.{option_map_or}
+use Rattle.std.specs.Prelude.{nat_eq, if◌then◌else◌}
+use Rattle.std.specs.Cmp.Lexicographic.{pointwise}
+use Rattle.prim_core.specs.Signature.{Signature}
+use Rattle.change_log.specs.Contents.{Contents}
+use Rattle.change_log.specs.Slots.{Slots, Store, contents, slot_of, with_tree_slot}
+use Rattle.change_log.specs.Entries.{Entry, HasPlace, put, found, before, after, flipped_back, flipped_forward, Fits}
+use Rattle.change_log.proofs.EntryLemmas.{pushed_fits}
+use Rattle.change_log.proofs.ContentsLemmas.{new_slots_are_empty, fits_with_more}
+use Rattle.session_core.specs.History.{Group, stepped, changed, back_to, forward_to, step_back, step_forward}
+use Rattle.session_core.specs.Step.{step, commit, committed, inside}
+use Rattle.session_core.specs.Unfolded.{past_of, later_of, FitBack, FitForward, unfolded, IsCurrent, IsPlaced}
+use Rattle.session_core.specs.declared.timeline.Timeline.{Timeline}
+use Rattle.session_core.specs.declared.timeline.OpenGroup.{OpenGroup}
+use Rattle.session_core.proofs.TimelineLemmas.{rewound_grown, past_grown, later_grown, length-past_of, length-later_of, count_past, stepped_past, stepped_later, stepped_back, stepped_forward, stepped_within, same_start, grouped_past, grouped_later, grouped_back, grouped_forward, grouped_within, back_past, back_later, back_back, back_forward, forward_later, forward_past, forward_back, forward_forward}
+use Rattle.session_core.proofs.HistoryLemmas.{back_to-append}
+
+-- ---- slots
+
+pub slot_within : {X : Type 0} (ss : Slots X) (name : List ℕ) (i : ℕ) → slot_of ss name ≡ Some i → i < length ss
+slot_within [] name i e = absurd (cc)
+slot_within (s ∷ ss) name i e =
+    elim (pointwise nat_eq name s.0) as (λ b. (if b then Some 0 else option_map (λ i. i + 1) (slot_of ss name)) ≡ Some i → i < length (s ∷ ss)) [
+      | true ↦ λ e. let is : 0 ≡ i = cc in omega (arith, is)
+      | false ↦ λ e. next (slot_of ss name) (λ j. slot_within ss name j) e
+    ] e
+  where
+    next : (o : Option ℕ) → ((j : ℕ) → o ≡ Some j → j < length ss) → option_map (λ i. i + 1) o ≡ Some i → i < suc (length ss)
+    next None rest e = absurd (cc)
+    next (Some j) rest e = let is : j + 1 ≡ i = cc in omega (arith, is, rest j refl)
+
+placed_grown : (t : Timeline) (name : List ℕ) → IsPlaced t → IsPlaced (record t { store = with_tree_slot t.store name })
+placed_grown t name h =
+    let here = fits_with_more t.current t.store name h.fits in
+    let past = rewound_grown name (take t.position t.logs.items) (before t.current t.store) h.back in
+    let later = later_grown name (drop t.position t.logs.items) (before t.current t.store) h.forward in
+    record {
+      within = h.within;
+      back = subst (FitBack (take t.position t.logs.items)) (sym here.1) past.0;
+      forward = subst (FitForward (drop t.position t.logs.items)) (sym here.1) later.0;
+      fits = here.0;
+      current = h.current;
+    }
+
+unfolded_grown : (t : Timeline) (name : List ℕ) (ps : List Signature) → IsPlaced t → unfolded ps (record t { store = with_tree_slot t.store name }) ≡ unfolded ps t
+unfolded_grown t name ps h =
+    let start = before t.current t.store in
+    let here : before t.current (with_tree_slot t.store name) ≡ with_tree_slot start name = (fits_with_more t.current t.store name h.fits).1 in
+    let begun : contents (before t.current (with_tree_slot t.store name)) ≡ contents start = ap contents here ∙ (new_slots_are_empty start name).0 in
+    λ i. record {
+      primitives = ps;
+      past = (ap (past_of (take t.position t.logs.items)) here ∙ past_grown name (take t.position t.logs.items) start h.back) i;
+      now = (new_slots_are_empty t.store name).0 i;
+      later = (ap (later_of (drop t.position t.logs.items)) here ∙ (later_grown name (drop t.position t.logs.items) start h.forward).1) i;
+      group = option_map (λ g. record { begun = begun i; changed = g.changed }) t.group;
+    }
+
+module _ {E : Type 0} where
+  pub all_within : (ss : Slots Tree) (name : List ℕ) (r : Result ℕ E) → IfOk r (λ i. slot_of ss name ≡ Some i) → IfOk r (λ i. i < length ss)
+  all_within ss name (Ok i) h = slot_within ss name i h
+  all_within ss name (Err e) h = tt
+
+  grown_or_same : (r : Result ℕ E) (s t u : Store) → OnOk r (s ≡ t) → OnErr r (s ≡ u) → (P : Store → Type 0) → P t → P u → P s
+  grown_or_same (Ok i) s t u ok err P p q = subst P (sym ok) p
+  grown_or_same (Err e) s t u ok err P p q = subst P (sym err) q
+
+  pub tree_slot-placed : (t : Timeline) (s : Store) (name : List ℕ) (r : Result ℕ E) → OnOk r (s ≡ with_tree_slot t.store name) → OnErr r (s ≡ t.store) → IsPlaced t → IsPlaced (record t { store = s })
+  tree_slot-placed t s name r ok err h = grown_or_same r s (with_tree_slot t.store name) t.store ok err (λ s. IsPlaced (record t { store = s })) (placed_grown t name h) h
+
+  pub tree_slot-same : (t : Timeline) (s : Store) (name : List ℕ) (r : Result ℕ E) (ps : List Signature) → OnOk r (s ≡ with_tree_slot t.store name) → OnErr r (s ≡ t.store) → IsPlaced t → unfolded ps (record t { store = s }) ≡ unfolded ps t
+  tree_slot-same t s name r ps ok err h = grown_or_same r s (with_tree_slot t.store name) t.store ok err (λ s. unfolded ps (record t { store = s }) ≡ unfolded ps t) (unfolded_grown t name ps h) refl
+
+-- ---- counts
+
+pub past_count : (t : Timeline) → IsPlaced t → length (past_of (take t.position t.logs.items) (before t.current t.store)) ≡ t.position
+past_count t h = length-past_of (take t.position t.logs.items) (before t.current t.store) ∙ count_past t.position t.logs.items h.within
+
+pub later_count : (t : Timeline) (n : ℕ) → n ≡ length t.logs.items → length (later_of (drop t.position t.logs.items) (before t.current t.store)) ≡ n - t.position
+later_count t n e = length-later_of (drop t.position t.logs.items) (before t.current t.store) ∙ omega (arith, e, length-drop t.position t.logs.items)
+
+-- ---- a change in a group
+
+module _ (t : Timeline) (e : Entry) (s : Store) (log : List Entry) (place : HasPlace e t.store) (is : s ≡ put e t.store) (more : log ≡ t.current ++ found e t.store ∷ []) (h : IsPlaced t) where
+  group_start_stays : before log s ≡ before t.current t.store
+  group_start_stays = (λ i. before (more i) (is i)) ∙ same_start t.current t.store e
+
+  pub group_placed : (g : OpenGroup) → g.changed ≡ true → IsPlaced (record t { store = s; group = Some g; current = log })
+  group_placed g was = record {
+    within = h.within;
+    back = subst (FitBack (take t.position t.logs.items)) (sym group_start_stays) h.back;
+    forward = subst (FitForward (drop t.position t.logs.items)) (sym group_start_stays) h.forward;
+    fits = subst (λ l. Fits l s) (sym more) (subst (Fits (t.current ++ found e t.store ∷ [])) (sym is) (pushed_fits t.current e t.store h.fits place));
+    current = subst (λ b. OnFalse b (log ≡ [])) (sym was) tt;
+  }
+
+  pub group_unfolded : (g : OpenGroup) (ps : List Signature) → g.changed ≡ true → IsSome t.group
+      → unfolded ps (record t { store = s; group = Some g; current = log }) ≡ changed (contents (put e t.store)) (unfolded ps t)
+  group_unfolded g ps was there =
+      (λ i. record {
+        primitives = ps;
+        past = past_of (take t.position t.logs.items) (group_start_stays i);
+        now = contents (is i);
+        later = later_of (drop t.position t.logs.items) (group_start_stays i);
+        group = Some (record { begun = contents (group_start_stays i); changed = was i });
+      })
+      ∙ in_group t.group there
+    where
+      in_group : (o : Option OpenGroup) → IsSome o
+          → record { primitives = ps; past = past_of (take t.position t.logs.items) (before t.current t.store); now = contents (put e t.store); later = later_of (drop t.position t.logs.items) (before t.current t.store); group = Some (record { begun = contents (before t.current t.store); changed = true }) }
+          ≡ changed (contents (put e t.store)) (unfolded ps (record t { group = o }))
+      in_group None there = absurd (cc)
+      in_group (Some g) there = refl
+
+-- ---- a change as a step of its own
+
+-- outside a group the current log is empty
+none_current : (g : Option OpenGroup) (log : List Entry) → g ≡ None → IsCurrent g log → log ≡ []
+none_current g log e h = subst (λ g. IsCurrent g log) e h
+
+module _ (t : Timeline) (e : Entry) (s : Store) (logs : Vec (List Entry)) (log : List Entry) (place : HasPlace e t.store) (closed : t.group ≡ None) (is : s ≡ put e t.store) (one : log ≡ [] ++ found e t.store ∷ [])
+    (all : logs.items ≡ take t.position t.logs.items ++ log ∷ []) (h : IsPlaced t) where
+  empty : t.current ≡ []
+  empty = none_current t.group t.current closed h.current
+
+  -- the logs and the stores that the lemmas on rows speak of
+  row : logs.items ≡ take t.position t.logs.items ++ (found e t.store ∷ []) ∷ []
+  row = all ∙ ap (λ l. take t.position t.logs.items ++ l ∷ []) one
+
+  before_now : before t.current s ≡ put e t.store
+  before_now = ap (λ l. before l s) empty ∙ is
+
+  before_then : before t.current t.store ≡ t.store
+  before_then = ap (λ l. before l t.store) empty
+
+  pub step_placed : IsPlaced (record t { store = s; logs = logs; position = t.position + 1 })
+  step_placed = record {
+    within = subst (λ (l : List (List Entry)). t.position + 1 ≤ length l) (sym row) (stepped_within t.logs.items t.position t.store e h.within);
+    back = subst₂ (λ l s. FitBack (take (t.position + 1) l) s) (sym row) (sym before_now) (stepped_back t.logs.items t.position t.store e h.within place (subst (FitBack (take t.position t.logs.items)) before_then h.back));
+    forward = subst₂ (λ l s. FitForward (drop (t.position + 1) l) s) (sym row) (sym before_now) (stepped_forward t.logs.items t.position t.store e h.within);
+    fits = subst (λ l. Fits l s) (sym empty) tt;
+    current = h.current;
+  }
+
+  pub step_unfolded : (ps : List Signature) → unfolded ps (record t { store = s; logs = logs; position = t.position + 1 }) ≡ changed (contents (put e t.store)) (unfolded ps t)
+  step_unfolded ps =
+      let past : past_of (take (t.position + 1) logs.items) (before t.current s) ≡ past_of (take t.position t.logs.items) (before t.current t.store) ++ contents t.store ∷ [] =
+      (λ i. past_of (take (t.position + 1) (row i)) (before_now i)) ∙ stepped_past t.logs.items t.position t.store e h.within ∙ ap (λ s. past_of (take t.position t.logs.items) s ++ contents t.store ∷ []) (sym before_then) in
+      let later : later_of (drop (t.position + 1) logs.items) (before t.current s) ≡ [] =
+      (λ i. later_of (drop (t.position + 1) (row i)) (before_now i)) ∙ stepped_later t.logs.items t.position t.store e h.within in
+      (λ i. record {
+        primitives = ps;
+        past = past i;
+        now = contents (is i);
+        later = later i;
+        group = option_map (λ g. record { begun = contents (before t.current s); changed = g.changed }) (closed i);
+      })
+      ∙ sym (ap (λ o. option_map_or (λ g. record (unfolded ps t) { now = contents (put e t.store); group = Some (record g { changed = true }) }) o (record (stepped (contents t.store) (unfolded ps t)) { now = contents (put e t.store) }))
+      (ap (option_map (λ g. record { begun = contents (before t.current t.store); changed = g.changed })) closed)
+      ∙ (λ i. record {
+        primitives = ps;
+        past = past_of (take t.position t.logs.items) (before t.current t.store) ++ contents t.store ∷ [];
+        now = contents (put e t.store);
+        later = [];
+        group = option_map (λ g. record { begun = contents (before t.current t.store); changed = g.changed }) (closed i);
+      }))
+
+-- a timeline by its parts
+pub same_timeline : (t : Timeline) (s : Store) (q : ℕ) (g : Option OpenGroup) (log : List Entry) → t.store ≡ s → t.position ≡ q → t.group ≡ g → t.current ≡ log
+    → t ≡ record { store = s; logs = t.logs; position = q; group = g; current = log }
+same_timeline t s q g log store position group current = λ i. record { store = store i; logs = t.logs; position = position i; group = group i; current = current i }
+
+-- ---- one step back and forward
+
+module _ (t : Timeline) (q : ℕ) (s : Store) (logs : Vec (List Entry)) (log : List Entry) (closed : t.group ≡ None) (inside : q < length t.logs.items) (at : slice_get t.logs.items q ≡ Some log) (h : IsPlaced t) where
+  bare : t.current ≡ []
+  bare = none_current t.group t.current closed h.current
+
+  start : (s : Store) → before t.current s ≡ s
+  start s = ap (λ l. before l s) bare
+
+  module _ (back : q + 1 ≡ t.position) (is : s ≡ before log t.store) (all : logs.items ≡ set t.logs.items q (flipped_back log t.store)) where
+    fit_back : FitBack (take (q + 1) t.logs.items) t.store
+    fit_back = subst₂ (λ n s. FitBack (take n t.logs.items) s) (sym back) (start t.store) h.back
+
+    fit_forward : FitForward (drop (q + 1) t.logs.items) t.store
+    fit_forward = subst₂ (λ n s. FitForward (drop n t.logs.items) s) (sym back) (start t.store) h.forward
+
+    now_is : before t.current s ≡ before log t.store
+    now_is = start s ∙ is
+
+    pub placed_back : IsPlaced (record t { store = s; logs = logs; position = q })
+    placed_back = record {
+      within = omega (arith, inside, ap length all, length-set t.logs.items q (flipped_back log t.store));
+      back = subst₂ (λ l s. FitBack (take q l) s) (sym all) (sym now_is) (back_back t.logs.items q t.store log at inside fit_back);
+      forward = subst₂ (λ l s. FitForward (drop q l) s) (sym all) (sym now_is) (back_forward t.logs.items q t.store log at inside fit_back fit_forward);
+      fits = subst (λ l. Fits l s) (sym bare) tt;
+      current = h.current;
+    }
+
+    pub unfolded_back : (ps : List Signature) → step_back (unfolded ps t) ≡ Some (unfolded ps (record t { store = s; logs = logs; position = q }))
+    unfolded_back ps =
+        let past : past_of (take t.position t.logs.items) (before t.current t.store) ≡ past_of (take q logs.items) (before t.current s) ++ contents s ∷ [] =
+        (λ i. past_of (take (sym back i) t.logs.items) (start t.store i)) ∙ back_past t.logs.items q t.store log at inside
+        ∙ (λ i. past_of (take q (sym all i)) (sym now_is i) ++ contents (sym is i) ∷ []) in
+        let later : contents t.store ∷ later_of (drop t.position t.logs.items) (before t.current t.store) ≡ later_of (drop q logs.items) (before t.current s) =
+        (λ i. contents t.store ∷ later_of (drop (sym back i) t.logs.items) (start t.store i)) ∙ sym (back_later t.logs.items q t.store log at inside)
+        ∙ (λ i. later_of (drop q (sym all i)) (sym now_is i)) in
+        let same : option_map (λ g. record { begun = contents (before t.current t.store); changed = g.changed }) t.group ≡ option_map (λ g. record { begun = contents (before t.current s); changed = g.changed }) t.group =
+        ap (option_map (λ g. record { begun = contents (before t.current t.store); changed = g.changed })) closed ∙ sym (ap (option_map (λ g. record { begun = contents (before t.current s); changed = g.changed })) closed) in
+        ap (back_to (unfolded ps t)) past ∙ back_to-append (unfolded ps t) (past_of (take q logs.items) (before t.current s)) (contents s)
+        ∙ (λ i. Some (record { primitives = ps; past = past_of (take q logs.items) (before t.current s); now = contents s; later = later i; group = same i }))
+
+  module _ (forth : q ≡ t.position) (is : s ≡ after log t.store) (all : logs.items ≡ set t.logs.items q (flipped_forward log t.store)) where
+    fit_behind : FitBack (take q t.logs.items) t.store
+    fit_behind = subst₂ (λ n s. FitBack (take n t.logs.items) s) (sym forth) (start t.store) h.back
+
+    fit_ahead : FitForward (drop q t.logs.items) t.store
+    fit_ahead = subst₂ (λ n s. FitForward (drop n t.logs.items) s) (sym forth) (start t.store) h.forward
+
+    then_is : before t.current s ≡ after log t.store
+    then_is = start s ∙ is
+
+    pub placed_forward : IsPlaced (record t { store = s; logs = logs; position = q + 1 })
+    placed_forward = record {
+      within = omega (arith, inside, ap length all, length-set t.logs.items q (flipped_forward log t.store));
+      back = subst₂ (λ l s. FitBack (take (q + 1) l) s) (sym all) (sym then_is) (forward_back t.logs.items q t.store log at inside fit_behind fit_ahead);
+      forward = subst₂ (λ l s. FitForward (drop (q + 1) l) s) (sym all) (sym then_is) (forward_forward t.logs.items q t.store log at inside fit_ahead);
+      fits = subst (λ l. Fits l s) (sym bare) tt;
+      current = h.current;
+    }
+
+    pub unfolded_forward : (ps : List Signature) → step_forward (unfolded ps t) ≡ Some (unfolded ps (record t { store = s; logs = logs; position = q + 1 }))
+    unfolded_forward ps =
+        let later : later_of (drop t.position t.logs.items) (before t.current t.store) ≡ contents s ∷ later_of (drop (q + 1) logs.items) (before t.current s) =
+        (λ i. later_of (drop (sym forth i) t.logs.items) (start t.store i)) ∙ forward_later t.logs.items q t.store log at inside
+        ∙ (λ i. contents (sym is i) ∷ later_of (drop (q + 1) (sym all i)) (sym then_is i)) in
+        let past : past_of (take t.position t.logs.items) (before t.current t.store) ++ contents t.store ∷ [] ≡ past_of (take (q + 1) logs.items) (before t.current s) =
+        (λ i. past_of (take (sym forth i) t.logs.items) (start t.store i) ++ contents t.store ∷ []) ∙ sym (forward_past t.logs.items q t.store log at inside)
+        ∙ (λ i. past_of (take (q + 1) (sym all i)) (sym then_is i)) in
+        let same : option_map (λ g. record { begun = contents (before t.current t.store); changed = g.changed }) t.group ≡ option_map (λ g. record { begun = contents (before t.current s); changed = g.changed }) t.group =
+        ap (option_map (λ g. record { begun = contents (before t.current t.store); changed = g.changed })) closed ∙ sym (ap (option_map (λ g. record { begun = contents (before t.current s); changed = g.changed })) closed) in
+        ap (forward_to (unfolded ps t)) later
+        ∙ (λ i. Some (record { primitives = ps; past = past i; now = contents s; later = later_of (drop (q + 1) logs.items) (before t.current s); group = same i }))
+
+-- ---- the end of a group
+
+some_group : (o : Option OpenGroup) → IsSome o → (g : OpenGroup) × (o ≡ Some g)
+some_group None h = absurd (cc)
+some_group (Some g) h = (g, refl)
+
+-- the group as the history has it
+group_seen : (o : Option OpenGroup) (g : OpenGroup) (c : Contents) → o ≡ Some g → option_map {U = Group} (λ g. record { begun = c; changed = g.changed }) o ≡ Some (record { begun = c; changed = g.changed })
+group_seen o g c e = ap (option_map {U = Group} (λ g. record { begun = c; changed = g.changed })) e
+
+flag_of : (o : Option OpenGroup) (g : OpenGroup) (b : Bool) → o ≡ Some g → b ≡ option_map_or (λ g. g.changed) o false → g.changed ≡ b
+flag_of o g b e h = sym (h ∙ ap (λ o. option_map_or (λ g. g.changed) o false) e)
+
+module _ (t : Timeline) (changed : Bool) (there : IsSome t.group) (flag : changed ≡ option_map_or (λ g. g.changed) t.group false) (h : IsPlaced t) where
+  opened : OpenGroup
+  opened = (some_group t.group there).0
+
+  is_open : t.group ≡ Some opened
+  unfolding opened
+  is_open = (some_group t.group there).1
+
+  flagged : opened.changed ≡ changed
+  flagged = flag_of t.group opened changed is_open flag
+
+  -- what is committed, by the flag
+  committing : (ps : List Signature) → step commit (unfolded ps t) ≡ Ok (cond changed (record (stepped (contents (before t.current t.store)) (unfolded ps t)) { group = None }) (record (unfolded ps t) { group = None }))
+  committing ps =
+      ap (λ o. inside o (λ g. Ok (committed g (unfolded ps t)))) (group_seen t.group opened (contents (before t.current t.store)) is_open)
+      ∙ ap (λ b. Ok (cond b (record (stepped (contents (before t.current t.store)) (unfolded ps t)) { group = None }) (record (unfolded ps t) { group = None }))) flagged
+
+  pub kept_placed : changed ≡ false → IsPlaced (record t { group = None })
+  kept_placed none = record {
+    within = h.within;
+    back = h.back;
+    forward = h.forward;
+    fits = h.fits;
+    current = subst (λ b. OnFalse b (t.current ≡ [])) (flagged ∙ none) (subst (λ g. IsCurrent g t.current) is_open h.current);
+  }
+
+  pub kept_unfolded : changed ≡ false → (ps : List Signature) → step commit (unfolded ps t) ≡ Ok (unfolded ps (record t { group = None }))
+  kept_unfolded none ps =
+      committing ps ∙ ap (λ b. Ok (cond b (record (stepped (contents (before t.current t.store)) (unfolded ps t)) { group = None }) (record (unfolded ps t) { group = None }))) none
+
+  module _ (logs : Vec (List Entry)) (log new : List Entry) (taken : log ≡ t.current) (empty : new ≡ []) (all : logs.items ≡ take t.position t.logs.items ++ log ∷ []) where
+    whole : logs.items ≡ take t.position t.logs.items ++ t.current ∷ []
+    whole = all ∙ ap (λ l. take t.position t.logs.items ++ l ∷ []) taken
+
+    begins : before new t.store ≡ t.store
+    begins = ap (λ l. before l t.store) empty
+
+    pub committed_placed : IsPlaced (record t { logs = logs; position = t.position + 1; group = None; current = new })
+    committed_placed = record {
+      within = subst (λ (l : List (List Entry)). t.position + 1 ≤ length l) (sym whole) (grouped_within t.logs.items t.position t.store t.current h.within);
+      back = subst₂ (λ l s. FitBack (take (t.position + 1) l) s) (sym whole) (sym begins) (grouped_back t.logs.items t.position t.store t.current h.within h.fits h.back);
+      forward = subst₂ (λ l s. FitForward (drop (t.position + 1) l) s) (sym whole) (sym begins) (grouped_forward t.logs.items t.position t.store t.current h.within);
+      fits = subst (λ l. Fits l t.store) (sym empty) tt;
+      current = empty;
+    }
+
+    pub committed_unfolded : changed ≡ true → (ps : List Signature) → step commit (unfolded ps t) ≡ Ok (unfolded ps (record t { logs = logs; position = t.position + 1; group = None; current = new }))
+    committed_unfolded some ps =
+        let past : past_of (take t.position t.logs.items) (before t.current t.store) ++ contents (before t.current t.store) ∷ [] ≡ past_of (take (t.position + 1) logs.items) (before new t.store) =
+        sym (grouped_past t.logs.items t.position t.store t.current h.within) ∙ (λ i. past_of (take (t.position + 1) (sym whole i)) (sym begins i)) in
+        let later : [] ≡ later_of (drop (t.position + 1) logs.items) (before new t.store) =
+        sym (grouped_later t.logs.items t.position t.store t.current h.within) ∙ (λ i. later_of (drop (t.position + 1) (sym whole i)) (sym begins i)) in
+        committing ps
+        ∙ ap (λ b. Ok (cond b (record (stepped (contents (before t.current t.store)) (unfolded ps t)) { group = None }) (record (unfolded ps t) { group = None }))) some
+        ∙ (λ i. Ok (record { primitives = ps; past = past i; now = contents t.store; later = later i; group = None }))

@@ -1,0 +1,206 @@
+-- What logs unfold to, as steps are added, taken back and made again.
+use Rattle.std.proofs.Common.{◌≡◌, ℕ, zero, suc, ◌+◌, ◌<◌, ◌≤◌, List, [], ◌∷◌, ◌++◌, length, take, drop, set, slice_get, Some, refl, sym, ap, subst, ◌∙◌, arith}
+use Rattle.std.proofs.lemmas.List.{length-append, length-take, drop_all, take_all, take-set}
+use Rattle.change_log.specs.Slots.{Store, contents, with_tree_slot}
+use Rattle.change_log.specs.Entries.{Entry, HasPlace, put, found, before, after, flipped_back, flipped_forward, Fits, FitsForward}
+use Rattle.change_log.proofs.EntryLemmas.{put_back, store_from_after, store_from_before, flipped_back_fits, flipped_forward_fits, pushed_fits, before-append}
+use Rattle.change_log.proofs.ContentsLemmas.{new_slots_are_empty, fits_with_more, fits_forward_with_more}
+use Rattle.session_core.specs.Unfolded.{rewound, past_of, later_of, FitBack, FitForward}
+
+-- ---- one log more
+
+pub rewound-append : (ls : List (List Entry)) (l : List Entry) (s : Store) → rewound (ls ++ l ∷ []) s ≡ rewound ls (before l s)
+rewound-append [] l s = refl
+rewound-append (k ∷ ls) l s = ap (before k) (rewound-append ls l s)
+
+pub past_of-append : (ls : List (List Entry)) (l : List Entry) (s : Store) → past_of (ls ++ l ∷ []) s ≡ past_of ls (before l s) ++ contents (before l s) ∷ []
+past_of-append [] l s = refl
+past_of-append (k ∷ ls) l s = λ i. contents (before k (rewound-append ls l s i)) ∷ past_of-append ls l s i
+
+pub FitBack-append : (ls : List (List Entry)) (l : List Entry) (s : Store) → FitBack ls (before l s) → Fits l s → FitBack (ls ++ l ∷ []) s
+FitBack-append [] l s h f = (f, tt)
+FitBack-append (k ∷ ls) l s h f = (subst (Fits k) (sym (rewound-append ls l s)) h.0, FitBack-append ls l s h.1 f)
+
+pub FitBack-split : (ls : List (List Entry)) (l : List Entry) (s : Store) → FitBack (ls ++ l ∷ []) s → FitBack ls (before l s) × Fits l s
+FitBack-split [] l s h = (tt, h.0)
+FitBack-split (k ∷ ls) l s h = let rest = FitBack-split ls l s h.1 in ((subst (Fits k) (rewound-append ls l s) h.0, rest.0), rest.1)
+
+-- ---- rows of logs
+
+module _ {A : Type 0} where
+  pub take_pushed : (p : ℕ) (ls : List A) (l : A) → p ≤ length ls → take (p + 1) (take p ls ++ l ∷ []) ≡ take p ls ++ l ∷ []
+  take_pushed p ls l h = take_all (p + 1) (take p ls ++ l ∷ []) (omega (arith, h, length-append (take p ls) (l ∷ []), length-take p ls))
+
+  pub drop_pushed : (p : ℕ) (ls : List A) (l : A) → p ≤ length ls → drop (p + 1) (take p ls ++ l ∷ []) ≡ []
+  drop_pushed p ls l h = drop_all (p + 1) (take p ls ++ l ∷ []) (omega (arith, h, length-append (take p ls) (l ∷ []), length-take p ls))
+
+  pub take_next : (q : ℕ) (ls : List A) (l : A) → slice_get ls q ≡ Some l → take (q + 1) ls ≡ take q ls ++ l ∷ []
+  take_next q [] l e = absurd (cc)
+  take_next zero (k ∷ ls) l e = let same : k ≡ l = cc in ap (λ x. x ∷ []) same
+  take_next (suc q) (k ∷ ls) l e = ap (λ n. take n (k ∷ ls)) {x = suc q + 1} {y = suc (q + 1)} (omega arith) ∙ ap (λ r. k ∷ r) (take_next q ls l e)
+
+  pub drop_next : (q : ℕ) (ls : List A) (l : A) → slice_get ls q ≡ Some l → drop q ls ≡ l ∷ drop (q + 1) ls
+  drop_next q [] l e = absurd (cc)
+  drop_next zero (k ∷ ls) l e = let same : k ≡ l = cc in ap (λ x. x ∷ ls) same
+  drop_next (suc q) (k ∷ ls) l e = drop_next q ls l e ∙ ap (λ n. l ∷ drop n (k ∷ ls)) {x = suc (q + 1)} {y = suc q + 1} (omega arith)
+
+  pub drop_set : (q : ℕ) (ls : List A) (l : A) → q < length ls → drop q (set ls q l) ≡ l ∷ drop (q + 1) ls
+  drop_set q [] l h = absurd (omega arith)
+  drop_set zero (k ∷ ls) l h = refl
+  drop_set (suc q) (k ∷ ls) l h = drop_set q ls l (omega arith) ∙ ap (λ n. l ∷ drop n (k ∷ ls)) {x = suc (q + 1)} {y = suc q + 1} (omega arith)
+
+  pub take_next_set : (q : ℕ) (ls : List A) (l : A) → q < length ls → take (q + 1) (set ls q l) ≡ take q ls ++ l ∷ []
+  take_next_set q [] l h = absurd (omega arith)
+  take_next_set zero (k ∷ ls) l h = refl
+  take_next_set (suc q) (k ∷ ls) l h = ap (λ n. take n (k ∷ set ls q l)) {x = suc q + 1} {y = suc (q + 1)} (omega arith) ∙ ap (λ r. k ∷ r) (take_next_set q ls l (omega arith))
+
+  pub drop_next_set : (q : ℕ) (ls : List A) (l : A) → drop (q + 1) (set ls q l) ≡ drop (q + 1) ls
+  drop_next_set q [] l = refl
+  drop_next_set zero (k ∷ ls) l = refl
+  drop_next_set (suc q) (k ∷ ls) l =
+      ap (λ n. drop n (k ∷ set ls q l)) {x = suc q + 1} {y = suc (q + 1)} (omega arith) ∙ drop_next_set q ls l ∙ ap (λ n. drop n (k ∷ ls)) {x = suc (q + 1)} {y = suc q + 1} (omega arith)
+
+  pub count_past : (p : ℕ) (ls : List A) → p ≤ length ls → length (take p ls) ≡ p
+  count_past p ls h = omega (arith, h, length-take p ls)
+
+-- ---- how many contents
+
+pub length-past_of : (ls : List (List Entry)) (s : Store) → length (past_of ls s) ≡ length ls
+length-past_of [] s = refl
+length-past_of (l ∷ ls) s = ap suc (length-past_of ls s)
+
+pub length-later_of : (ls : List (List Entry)) (s : Store) → length (later_of ls s) ≡ length ls
+length-later_of [] s = refl
+length-later_of (l ∷ ls) s = ap suc (length-later_of ls (after l s))
+
+-- ---- an empty slot more
+
+module _ (name : List ℕ) where
+  abbrev grown : Store → Store
+  grown s = with_tree_slot s name
+
+  pub rewound_grown : (ls : List (List Entry)) (s : Store) → FitBack ls s → FitBack ls (with_tree_slot s name) × (rewound ls (with_tree_slot s name) ≡ with_tree_slot (rewound ls s) name)
+  rewound_grown [] s h = (tt, refl)
+  rewound_grown (l ∷ ls) s h =
+      let rest = rewound_grown ls s h.1 in
+      let here = fits_with_more l (rewound ls s) name h.0 in
+      ((subst (Fits l) (sym rest.1) here.0, rest.0), ap (before l) rest.1 ∙ here.1)
+
+  pub past_grown : (ls : List (List Entry)) (s : Store) → FitBack ls s → past_of ls (with_tree_slot s name) ≡ past_of ls s
+  past_grown [] s h = refl
+  past_grown (l ∷ ls) s h =
+      λ i. (ap contents ((rewound_grown (l ∷ ls) s h).1) ∙ (new_slots_are_empty (before l (rewound ls s)) name).0) i ∷ past_grown ls s h.1 i
+
+  pub later_grown : (ls : List (List Entry)) (s : Store) → FitForward ls s → FitForward ls (with_tree_slot s name) × (later_of ls (with_tree_slot s name) ≡ later_of ls s)
+  later_grown [] s h = (tt, refl)
+  later_grown (l ∷ ls) s h =
+      let here = fits_forward_with_more l s name h.0 in
+      let rest = later_grown ls (after l s) h.1 in (
+        (here.0, subst (FitForward ls) (sym here.1) rest.0),
+        (λ i. (ap contents here.1 ∙ (new_slots_are_empty (after l s) name).0) i ∷ (ap (later_of ls) here.1 ∙ rest.1) i),
+      )
+
+-- ---- a change as a step of its own
+
+module _ (ls : List (List Entry)) (p : ℕ) (s : Store) (e : Entry) (inside : p ≤ length ls) where
+  -- the log of the one change
+  abbrev pub one : List Entry
+  one = found e s ∷ []
+
+  pub stepped_past : past_of (take (p + 1) (take p ls ++ one ∷ [])) (put e s) ≡ past_of (take p ls) s ++ contents s ∷ []
+  stepped_past =
+      ap (λ l. past_of l (put e s)) (take_pushed p ls one inside) ∙ past_of-append (take p ls) one (put e s)
+      ∙ ap (λ t. past_of (take p ls) t ++ contents t ∷ []) (put_back e s)
+
+  pub stepped_later : later_of (drop (p + 1) (take p ls ++ one ∷ [])) (put e s) ≡ []
+  stepped_later = ap (λ l. later_of l (put e s)) (drop_pushed p ls one inside)
+
+  pub stepped_back : HasPlace e s → FitBack (take p ls) s → FitBack (take (p + 1) (take p ls ++ one ∷ [])) (put e s)
+  stepped_back place h =
+      subst (λ l. FitBack l (put e s)) (sym (take_pushed p ls one inside))
+      (FitBack-append (take p ls) one (put e s) (subst (FitBack (take p ls)) (sym (put_back e s)) h) (pushed_fits [] e s tt place))
+
+  pub stepped_forward : FitForward (drop (p + 1) (take p ls ++ one ∷ [])) (put e s)
+  stepped_forward = subst (λ l. FitForward l (put e s)) (sym (drop_pushed p ls one inside)) tt
+
+  pub stepped_within : p + 1 ≤ length (take p ls ++ one ∷ [])
+  stepped_within = omega (arith, inside, length-append (take p ls) (one ∷ []), length-take p ls)
+
+-- ---- a change in a group
+
+-- the store where the group began is the same
+pub same_start : (log : List Entry) (s : Store) (e : Entry) → before (log ++ found e s ∷ []) (put e s) ≡ before log s
+same_start log s e = before-append log (found e s ∷ []) (put e s) ∙ ap (before log) (put_back e s)
+
+-- ---- a group as a step
+
+module _ (ls : List (List Entry)) (p : ℕ) (s : Store) (log : List Entry) (inside : p ≤ length ls) where
+  pub grouped_past : past_of (take (p + 1) (take p ls ++ log ∷ [])) s ≡ past_of (take p ls) (before log s) ++ contents (before log s) ∷ []
+  grouped_past = ap (λ l. past_of l s) (take_pushed p ls log inside) ∙ past_of-append (take p ls) log s
+
+  pub grouped_later : later_of (drop (p + 1) (take p ls ++ log ∷ [])) s ≡ []
+  grouped_later = ap (λ l. later_of l s) (drop_pushed p ls log inside)
+
+  pub grouped_back : Fits log s → FitBack (take p ls) (before log s) → FitBack (take (p + 1) (take p ls ++ log ∷ [])) s
+  grouped_back f h = subst (λ l. FitBack l s) (sym (take_pushed p ls log inside)) (FitBack-append (take p ls) log s h f)
+
+  pub grouped_forward : FitForward (drop (p + 1) (take p ls ++ log ∷ [])) s
+  grouped_forward = subst (λ l. FitForward l s) (sym (drop_pushed p ls log inside)) tt
+
+  pub grouped_within : p + 1 ≤ length (take p ls ++ log ∷ [])
+  grouped_within = omega (arith, inside, length-append (take p ls) (log ∷ []), length-take p ls)
+
+-- ---- one step back
+
+module _ (ls : List (List Entry)) (q : ℕ) (s : Store) (log : List Entry) (at : slice_get ls q ≡ Some log) (inside : q < length ls) where
+  -- the log that leads forward again
+  abbrev pub flipped : List Entry
+  flipped = flipped_back log s
+
+  pub back_past : past_of (take (q + 1) ls) s ≡ past_of (take q (set ls q flipped)) (before log s) ++ contents (before log s) ∷ []
+  back_past =
+      ap (λ l. past_of l s) (take_next q ls log at) ∙ past_of-append (take q ls) log s
+      ∙ ap (λ l. past_of l (before log s) ++ contents (before log s) ∷ []) (sym (take-set ls q flipped))
+
+  pub back_later : later_of (drop q (set ls q flipped)) (before log s) ≡ contents s ∷ later_of (drop (q + 1) ls) s
+  back_later =
+      ap (λ l. later_of l (before log s)) (drop_set q ls flipped inside)
+      ∙ ap (λ t. contents t ∷ later_of (drop (q + 1) ls) t) (store_from_after log s)
+
+  fitted : FitBack (take (q + 1) ls) s → FitBack (take q ls) (before log s) × Fits log s
+  fitted h = FitBack-split (take q ls) log s (subst (λ l. FitBack l s) (take_next q ls log at) h)
+
+  pub back_back : FitBack (take (q + 1) ls) s → FitBack (take q (set ls q flipped)) (before log s)
+  back_back h = subst (λ l. FitBack l (before log s)) (sym (take-set ls q flipped)) (fitted h).0
+
+  pub back_forward : FitBack (take (q + 1) ls) s → FitForward (drop (q + 1) ls) s → FitForward (drop q (set ls q flipped)) (before log s)
+  back_forward h f =
+      subst (λ l. FitForward l (before log s)) (sym (drop_set q ls flipped inside))
+      (flipped_back_fits log s (fitted h).1, subst (FitForward (drop (q + 1) ls)) (sym (store_from_after log s)) f)
+
+-- ---- one step forward
+
+module _ (ls : List (List Entry)) (q : ℕ) (s : Store) (log : List Entry) (at : slice_get ls q ≡ Some log) (inside : q < length ls) where
+  -- the log that leads back again
+  abbrev pub returned : List Entry
+  returned = flipped_forward log s
+
+  pub forward_later : later_of (drop q ls) s ≡ contents (after log s) ∷ later_of (drop (q + 1) (set ls q returned)) (after log s)
+  forward_later =
+      ap (λ l. later_of l s) (drop_next q ls log at) ∙ ap (λ l. contents (after log s) ∷ later_of l (after log s)) (sym (drop_next_set q ls returned))
+
+  pub forward_past : past_of (take (q + 1) (set ls q returned)) (after log s) ≡ past_of (take q ls) s ++ contents s ∷ []
+  forward_past =
+      ap (λ l. past_of l (after log s)) (take_next_set q ls returned inside) ∙ past_of-append (take q ls) returned (after log s)
+      ∙ ap (λ t. past_of (take q ls) t ++ contents t ∷ []) (store_from_before log s)
+
+  led : FitForward (drop q ls) s → FitsForward log s × FitForward (drop (q + 1) ls) (after log s)
+  led f = subst (λ l. FitForward l s) (drop_next q ls log at) f
+
+  pub forward_back : FitBack (take q ls) s → FitForward (drop q ls) s → FitBack (take (q + 1) (set ls q returned)) (after log s)
+  forward_back h f =
+      subst (λ l. FitBack l (after log s)) (sym (take_next_set q ls returned inside))
+      (FitBack-append (take q ls) returned (after log s) (subst (FitBack (take q ls)) (sym (store_from_before log s)) h) (flipped_forward_fits log s (led f).0))
+
+  pub forward_forward : FitForward (drop q ls) s → FitForward (drop (q + 1) (set ls q returned)) (after log s)
+  forward_forward f = subst (λ l. FitForward l (after log s)) (sym (drop_next_set q ls returned)) (led f).1

@@ -1,0 +1,71 @@
+-- What the logs of a session stand for: the whole contents before and after each step.
+use Rattle.std.specs.Prelude.{◌≡◌, ◌≤◌, ℕ, List, [], ◌∷◌, length, take, drop, true, Some, None, option_map}
+use Rattle.std.specs.declared.option.Option.{Option}
+use Rattle.std.specs.Bool.{OnFalse}
+use Rattle.term_core.specs.Tree.{Tree}
+use Rattle.term_paths.specs.Paths.{leads}
+use Rattle.prim_core.specs.Signature.{Signature}
+use Rattle.change_log.specs.Contents.{Contents}
+use Rattle.change_log.specs.Slots.{Store, AreApart, contents, content, slot_of}
+use Rattle.change_log.specs.Entries.{Entry, before, after, Fits, FitsForward}
+use Rattle.session_core.specs.History.{History}
+use Rattle.session_core.specs.declared.timeline.Timeline.{Timeline}
+use Rattle.session_core.specs.declared.timeline.OpenGroup.{OpenGroup}
+
+-- the store before the steps of these logs, the newest last
+abbrev pub rewound : List (List Entry) → Store → Store
+rewound [] s = s
+rewound (log ∷ logs) s = before log (rewound logs s)
+
+-- the contents before each of the steps
+abbrev pub past_of : List (List Entry) → Store → List Contents
+past_of [] s = []
+past_of (log ∷ logs) s = contents (before log (rewound logs s)) ∷ past_of logs s
+
+-- the contents after each of the steps that these logs make again, the nearest first
+abbrev pub later_of : List (List Entry) → Store → List Contents
+later_of [] s = []
+later_of (log ∷ logs) s = contents (after log s) ∷ later_of logs (after log s)
+
+-- each log leads back where it stands
+abbrev pub FitBack : List (List Entry) → Store → Type 0
+FitBack [] s = Unit {0}
+FitBack (log ∷ logs) s = Fits log (rewound logs s) × FitBack logs s
+
+-- each log leads forward where it stands
+abbrev pub FitForward : List (List Entry) → Store → Type 0
+FitForward [] s = Unit {0}
+FitForward (log ∷ logs) s = FitsForward log s × FitForward logs (after log s)
+
+-- The history that a timeline stands for, in a session with these primitives. The current log has
+-- what was changed since the open group began, and is empty outside a group.
+abbrev pub unfolded : List Signature → Timeline → History
+unfolded primitives t =
+    let start = before t.current t.store in
+    record {
+      primitives = primitives;
+      past = past_of (take t.position t.logs.items) start;
+      now = contents t.store;
+      later = later_of (drop t.position t.logs.items) start;
+      group = option_map (λ g. record { begun = contents start; changed = g.changed }) t.group;
+    }
+
+-- where nothing was changed in a group, or no group is open, the current log is empty
+abbrev pub IsCurrent : Option OpenGroup → List Entry → Type 0
+IsCurrent None log = log ≡ []
+IsCurrent (Some g) log = OnFalse g.changed (log ≡ [])
+
+-- The position is one of the logs or their end; the logs before it lead back, the others forward.
+-- What an open group changed leads back too.
+pub record IsPlaced (t : Timeline) : Type 0 where
+  pub within : t.position ≤ length t.logs.items
+  pub back : FitBack (take t.position t.logs.items) (before t.current t.store)
+  pub forward : FitForward (drop t.position t.logs.items) (before t.current t.store)
+  pub fits : Fits t.current t.store
+  pub current : IsCurrent t.group t.current
+
+-- the slot of a name's tree, in which the path leads to a subterm
+abbrev pub IsPlaceOf : Store → List ℕ → List ℕ → ℕ → Type 0
+IsPlaceOf s name path slot =
+    (t : Tree) × (slot_of s.trees name ≡ Some slot) × (AreApart s.trees)
+    × (content s.trees slot ≡ Some t) × (leads t path ≡ true)

@@ -1,0 +1,288 @@
+//! Steps over one store: the logs that lead back from each, and forward again.
+
+ghost use Rattle.std.specs.Prelude.{◌≡◌, ◌<◌, ◌≤◌, ◌+◌, ◌-◌, ◌++◌, ℕ, List, [], ◌∷◌, length, take, vec_capacity, IfOk, OnOk, OnErr, Some, None, Ok, IsSome, true, false, is_some, option_copied};
+ghost use Rattle.std.specs.Option.{option_map_or};
+ghost use Rattle.std.specs.FinMap as finmap;
+ghost use Rattle.std.specs.declared.option.Option.{Option};
+ghost use Rattle.prim_core.specs.Signature.{Signature};
+ghost use Rattle.change_log.specs.Slots.{contents, slot_of};
+ghost use Rattle.change_log.specs.Entries.{HasPlace, put};
+ghost use Rattle.session_core.specs.History.{empty_history, changed, step_back, step_forward, undone, redone};
+ghost use Rattle.session_core.specs.Step.{step, begin, commit, abandon};
+ghost use Rattle.session_core.specs.Unfolded.{unfolded, IsPlaced};
+
+use change_log::{Entry, Log, Store};
+use std::alloc::Global;
+use std::mem;
+use term_core::{Label, NoMemory, Term};
+
+/// The contents now, and the steps from and to other contents.
+#[derive(Drop)]
+pub struct Timeline {
+    pub(crate) store: Store,
+    // One log for each step, the oldest first. Those before the position lead back, the others were
+    // undone and lead forward.
+    logs: Vec<Log>,
+    position: usize,
+    group: Option<OpenGroup>,
+    // What was changed since the open group began; nothing outside a group.
+    current: Log,
+}
+
+/// A group that is open.
+#[derive(Clone, Copy)]
+pub struct OpenGroup {
+    // Whether a change was accepted since it began.
+    changed: bool,
+}
+
+impl Timeline {
+    /// No contents and no steps. It takes no memory.
+    pub(crate) fn new(alloc: Global) -> Timeline
+        ensures value { (ps : List Signature) → unfolded ps result ≡ empty_history ps }
+        ensures placed { IsPlaced result }
+    {
+        Timeline {
+            store: Store::new(alloc),
+            logs: Vec::new(alloc),
+            position: 0,
+            group: None,
+            current: Log::new(alloc),
+        }
+    }
+
+    /// How many steps there are to undo.
+    pub(crate) fn past(&self) -> usize
+        requires { IsPlaced self.now }
+        ensures value { (ps : List Signature) → length (unfolded ps self.now).past ≡ result }
+        ensures position { result ≡ self.now.position }
+    {
+        self.position
+    }
+
+    /// How many steps there are to redo.
+    pub(crate) fn later(&self) -> usize
+        requires { IsPlaced self.now }
+        ensures value { (ps : List Signature) → length (unfolded ps self.now).later ≡ result }
+        ensures rest { self.now.position + result ≡ length self.now.logs.items }
+    {
+        self.logs.len() - self.position
+    }
+
+    /// Whether a group is open.
+    pub(crate) fn in_group(&self) -> bool
+        ensures open { result ≡ true → (ps : List Signature) → is_some (unfolded ps self.now).group ≡ true }
+        ensures inside { result ≡ true → IsSome self.now.group }
+        ensures closed { result ≡ false → self.now.group ≡ None }
+    {
+        self.group.is_some()
+    }
+
+    /// The tree of this name, or `None` where there is none.
+    pub(crate) fn tree(&self, name: &Label) -> Option<&Term>
+        ensures { option_copied result ≡ finmap.get (contents self.now.store).trees name.now }
+    {
+        let slot = self.store.find_tree(name)?;
+        self.store.tree(slot)
+    }
+
+    /// The names of the trees, in byte order.
+    pub(crate) fn tree_names(&self) -> Result<Vec<Label>, NoMemory>
+        ensures { IfOk result (λ names. names.items
+            ≡ finmap.keys (contents self.now.store).trees) }
+    {
+        self.store.tree_names(*self.logs.allocator())
+    }
+
+    /// The slot for the tree of this name, which is made where there was none.
+    pub(crate) fn tree_slot(&mut self, name: &Label) -> Result<usize, NoMemory>
+        requires { IsPlaced self.old }
+        ensures placed { IsPlaced self.new }
+        ensures same { (ps : List Signature) → unfolded ps self.new ≡ unfolded ps self.old }
+        ensures slot { IfOk result (λ i. slot_of self.new.store.trees name.now ≡ Some i) }
+        ensures within { IfOk result (λ i. i < length self.new.store.trees) }
+    {
+        self.store.tree_slot(name)
+    }
+
+    /// Makes a change, as a step, or as part of the group that is open. Where a growth of memory is
+    /// refused, all stays as it was.
+    pub(crate) fn change(&mut self, entry: Entry<'_>) -> Result<(), NoMemory>
+        requires placed { IsPlaced self.old }
+        requires place { HasPlace entry self.old.store }
+        ensures placed { IsPlaced self.new }
+        ensures ok { OnOk result ((ps : List Signature) → unfolded ps self.new
+            ≡ changed (contents (put entry.entry self.old.store)) (unfolded ps self.old)) }
+        ensures err { OnErr result ((ps : List Signature) → unfolded ps self.new
+            ≡ unfolded ps self.old) }
+    {
+        if self.in_group() {
+            self.change_in_group(entry)
+        } else {
+            self.change_as_step(entry)
+        }
+    }
+
+    fn change_in_group(&mut self, entry: Entry<'_>) -> Result<(), NoMemory>
+        requires placed { IsPlaced self.old }
+        requires place { HasPlace entry self.old.store }
+        requires inside { IsSome self.old.group }
+        ensures placed { IsPlaced self.new }
+        ensures ok { OnOk result ((ps : List Signature) → unfolded ps self.new
+            ≡ changed (contents (put entry.entry self.old.store)) (unfolded ps self.old)) }
+        ensures err { OnErr result ((ps : List Signature) → unfolded ps self.new
+            ≡ unfolded ps self.old) }
+    {
+        self.current.push(&mut self.store, entry)?;
+        self.group = Some(OpenGroup { changed: true });
+        Ok(())
+    }
+
+    // The place in the list of steps is reserved before anything is changed.
+    fn change_as_step(&mut self, entry: Entry<'_>) -> Result<(), NoMemory>
+        requires placed { IsPlaced self.old }
+        requires place { HasPlace entry self.old.store }
+        requires outside { self.old.group ≡ None }
+        ensures placed { IsPlaced self.new }
+        ensures ok { OnOk result ((ps : List Signature) → unfolded ps self.new
+            ≡ changed (contents (put entry.entry self.old.store)) (unfolded ps self.old)) }
+        ensures err { OnErr result ((ps : List Signature) → unfolded ps self.new
+            ≡ unfolded ps self.old) }
+    {
+        self.logs.reserve(1)?;
+        let mut log = Log::new(*self.logs.allocator());
+        log.push(&mut self.store, entry)?;
+        self.add_step(log);
+        Ok(())
+    }
+
+    // Adds a step where there is room for it. Those that were undone are dropped.
+    fn add_step(&mut self, log: Log)
+        requires within { self.old.position ≤ length self.old.logs.items }
+        requires room { length self.old.logs.items < vec_capacity self.old.logs }
+        ensures logs { self.new.logs.items ≡ take self.old.position self.old.logs.items ++ log ∷ [] }
+        ensures position { self.new.position ≡ self.old.position + 1 }
+        ensures store { self.new.store ≡ self.old.store }
+        ensures group { self.new.group ≡ self.old.group }
+        ensures current { self.new.current ≡ self.old.current }
+    {
+        self.logs.truncate(self.position);
+        self.logs.push_reserved(log);
+        self.position += 1;
+    }
+
+    /// Goes one step back.
+    pub(crate) fn back(&mut self)
+        requires placed { IsPlaced self.old }
+        requires some { 0 < self.old.position }
+        requires outside { self.old.group ≡ None }
+        ensures placed { IsPlaced self.new }
+        ensures outside { self.new.group ≡ None }
+        ensures position { self.new.position ≡ self.old.position - 1 }
+        ensures value { (ps : List Signature) → step_back (unfolded ps self.old)
+            ≡ Some (unfolded ps self.new) }
+    {
+        self.position -= 1;
+        self.logs[self.position].flip_back(&mut self.store);
+    }
+
+    /// Goes so many steps back.
+    pub(crate) fn back_by(&mut self, steps: usize)
+        requires placed { IsPlaced self.old }
+        requires enough { steps ≤ self.old.position }
+        requires outside { self.old.group ≡ None }
+        ensures placed { IsPlaced self.new }
+        ensures value { (ps : List Signature) → undone steps (unfolded ps self.old)
+            ≡ Some (unfolded ps self.new) }
+    {
+        let mut left = steps;
+        while left > 0 {
+            self.back();
+            left -= 1;
+        }
+    }
+
+    /// Goes one step forward.
+    pub(crate) fn forward(&mut self)
+        requires placed { IsPlaced self.old }
+        requires some { self.old.position < length self.old.logs.items }
+        requires outside { self.old.group ≡ None }
+        ensures placed { IsPlaced self.new }
+        ensures outside { self.new.group ≡ None }
+        ensures position { self.new.position ≡ self.old.position + 1 }
+        ensures count { length self.new.logs.items ≡ length self.old.logs.items }
+        ensures value { (ps : List Signature) → step_forward (unfolded ps self.old)
+            ≡ Some (unfolded ps self.new) }
+    {
+        self.logs[self.position].flip_forward(&mut self.store);
+        self.position += 1;
+    }
+
+    /// Goes so many steps forward.
+    pub(crate) fn forward_by(&mut self, steps: usize)
+        requires placed { IsPlaced self.old }
+        requires enough { self.old.position + steps ≤ length self.old.logs.items }
+        requires outside { self.old.group ≡ None }
+        ensures placed { IsPlaced self.new }
+        ensures value { (ps : List Signature) → redone steps (unfolded ps self.old)
+            ≡ Some (unfolded ps self.new) }
+    {
+        let mut left = steps;
+        while left > 0 {
+            self.forward();
+            left -= 1;
+        }
+    }
+
+    /// Opens a group. It takes no memory.
+    pub(crate) fn open_group(&mut self)
+        requires placed { IsPlaced self.old }
+        requires outside { self.old.group ≡ None }
+        ensures placed { IsPlaced self.new }
+        ensures value { (ps : List Signature) → step begin (unfolded ps self.old)
+            ≡ Ok (unfolded ps self.new) }
+    {
+        self.group = Some(OpenGroup { changed: false });
+    }
+
+    /// Makes what the open group changed one step, and closes it. Where a growth of memory is refused,
+    /// all stays as it was.
+    pub(crate) fn close_group(&mut self) -> Result<(), NoMemory>
+        requires placed { IsPlaced self.old }
+        requires inside { IsSome self.old.group }
+        ensures placed { IsPlaced self.new }
+        ensures ok { OnOk result ((ps : List Signature) → step commit (unfolded ps self.old)
+            ≡ Ok (unfolded ps self.new)) }
+        ensures err { OnErr result ((ps : List Signature) → unfolded ps self.new
+            ≡ unfolded ps self.old) }
+    {
+        if !self.has_changed() {
+            self.group = None;
+            return Ok(());
+        }
+        self.logs.reserve(1)?;
+        let log = mem::replace(&mut self.current, Log::new(*self.logs.allocator()));
+        self.add_step(log);
+        self.group = None;
+        Ok(())
+    }
+
+    // Whether something was changed in the open group.
+    fn has_changed(&self) -> bool
+        ensures { result ≡ option_map_or (λ g. g.changed) self.now.group false }
+    {
+        self.group.is_some_and(|group| group.changed)
+    }
+
+    /// Takes back what the open group changed, and closes it. It takes no memory.
+    pub(crate) fn leave_group(&mut self)
+        requires placed { IsPlaced self.old }
+        requires inside { IsSome self.old.group }
+        ensures placed { IsPlaced self.new }
+        ensures value { (ps : List Signature) → step abandon (unfolded ps self.old)
+            ≡ Ok (unfolded ps self.new) }
+    {
+        self.current.roll_back(0, &mut self.store);
+        self.group = None;
+    }
+}
