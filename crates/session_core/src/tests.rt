@@ -1,11 +1,30 @@
-//! The calls of a session, with ample memory.
+//! The calls of a session, with ample memory: what a row of them is answered, and what is left.
 
 use crate::{Refusal, Session};
+use prim_core::{NoPrimitives, Primitives};
 use std::alloc::Global;
 use std::test::Fail;
-use term_core::{Kind, Label, LabelFault, NoMemory, Term};
+use term_core::{Label, LabelFault, NoMemory, Term};
+use term_paths::Path;
 
-// A list in a list, as high as told.
+// A call. Its first word is the name of a tree.
+#[derive(Clone, Copy)]
+enum Call<'a> {
+    Set(&'a [u8], i64),
+    // Lists in lists, as high as told.
+    SetLists(&'a [u8], u32),
+    Copy(&'a [u8], &'a [u8]),
+    Drop(&'a [u8]),
+    Put(&'a [u8], &'a [usize], i64),
+    PutLists(&'a [u8], &'a [usize], u32),
+    Annotate(&'a [u8], &'a [usize], i64),
+    Undo(u32),
+    Redo(u32),
+    Begin,
+    Commit,
+    Abandon,
+}
+
 fn nested_lists(alloc: Global, height: u32) -> Result<Term, NoMemory> {
     let mut term = Term::list(alloc, Vec::new(alloc));
     for _ in 1..height {
@@ -16,13 +35,17 @@ fn nested_lists(alloc: Global, height: u32) -> Result<Term, NoMemory> {
     Ok(term)
 }
 
-fn shows(session: &Session, name: &Label, value: i64) -> bool {
-    match session.tree(name) {
-        None => false,
-        Some(tree) => matches!(tree.kind(), Kind::Integer(shown) if shown == value),
-    }
+fn path(alloc: Global, parts: &[usize]) -> Result<Path, Fail> {
+    Ok(Path::from_parts(Vec::from_slice(alloc, parts)?))
 }
 
+fn one_number(alloc: Global, value: i64) -> Result<Vec<Term>, Fail> {
+    let mut terms = Vec::new(alloc);
+    terms.push(Term::integer(alloc, value))?;
+    Ok(terms)
+}
+
+// 0 for Ok.
 fn number_of(answer: Result<(), Refusal>) -> u8 {
     match answer {
         Ok(()) => 0,
@@ -30,36 +53,224 @@ fn number_of(answer: Result<(), Refusal>) -> u8 {
     }
 }
 
-#[test]
-fn steps_are_undone_and_redone(rt: HostRuntime) -> Result<(), Fail> {
-    let alloc = rt.alloc();
-    let (t, u) = (Label::read(alloc, b"t")?, Label::read(alloc, b"u")?);
-    let mut session = Session::new(alloc)?;
-    assert_eq!(rt; number_of(session.undo(1)), 15);
-    session.set_tree(&t, Term::integer(alloc, 1))?;
-    session.set_tree(&t, Term::integer(alloc, 2))?;
-    session.undo(1)?;
-    assert!(rt; shows(&session, &t, 1));
-    session.set_tree(&t, Term::integer(alloc, 3))?;
-    assert_eq!(rt; number_of(session.redo(1)), 16);
-    assert!(rt; shows(&session, &t, 3));
-    assert_eq!(rt; number_of(session.undo(3)), 15);
-    session.undo(2)?;
-    assert!(rt; session.tree(&t).is_none());
-    assert_eq!(rt; number_of(session.redo(3)), 16);
-    session.redo(2)?;
-    assert!(rt; shows(&session, &t, 3));
+fn put(
+    alloc: Global,
+    session: &mut Session<NoPrimitives>,
+    name: &[u8],
+    parts: &[usize],
+    term: Term,
+) -> Result<u8, Fail> {
+    let path = path(alloc, parts)?;
+    let name = Label::read(alloc, name)?;
+    Ok(number_of(session.put(&name, &path, term)))
+}
 
-    // A refused change leaves what can be undone and redone.
-    session.undo(1)?;
-    assert_eq!(rt;
-        number_of(session.set_tree(&u, nested_lists(alloc, 1001)?)),
-        14
-    );
-    assert!(rt; session.tree(&u).is_none() && shows(&session, &t, 1));
-    session.redo(1)?;
-    session.set_tree(&u, nested_lists(alloc, 1000)?)?;
-    assert!(rt; session.tree(&u).is_some() && shows(&session, &t, 3));
+fn annotate(
+    alloc: Global,
+    session: &mut Session<NoPrimitives>,
+    name: &[u8],
+    parts: &[usize],
+    value: i64,
+) -> Result<u8, Fail> {
+    let path = path(alloc, parts)?;
+    let name = Label::read(alloc, name)?;
+    Ok(number_of(session.annotate(&name, &path, one_number(alloc, value)?)))
+}
+
+fn set(
+    alloc: Global,
+    session: &mut Session<NoPrimitives>,
+    name: &[u8],
+    tree: Term,
+) -> Result<u8, Fail> {
+    let name = Label::read(alloc, name)?;
+    Ok(number_of(session.set_tree(&name, tree)))
+}
+
+fn copy(
+    alloc: Global,
+    session: &mut Session<NoPrimitives>,
+    name: &[u8],
+    copy: &[u8],
+) -> Result<u8, Fail> {
+    let name = Label::read(alloc, name)?;
+    let copy = Label::read(alloc, copy)?;
+    Ok(number_of(session.copy_tree(&name, &copy)))
+}
+
+fn drop_tree(alloc: Global, session: &mut Session<NoPrimitives>, name: &[u8]) -> Result<u8, Fail> {
+    let name = Label::read(alloc, name)?;
+    Ok(number_of(session.drop_tree(&name)))
+}
+
+fn answer(alloc: Global, session: &mut Session<NoPrimitives>, call: &Call<'_>) -> Result<u8, Fail> {
+    match call {
+        Call::Set(name, value) => set(alloc, session, name, Term::integer(alloc, *value)),
+        Call::SetLists(name, height) => set(alloc, session, name, nested_lists(alloc, *height)?),
+        Call::Copy(name, other) => copy(alloc, session, name, other),
+        Call::Drop(name) => drop_tree(alloc, session, name),
+        Call::Put(name, path, value) => {
+            put(alloc, session, name, path, Term::integer(alloc, *value))
+        }
+        Call::PutLists(name, path, height) => {
+            put(alloc, session, name, path, nested_lists(alloc, *height)?)
+        }
+        Call::Annotate(name, path, value) => annotate(alloc, session, name, path, *value),
+        Call::Undo(n) => Ok(number_of(session.undo(*n))),
+        Call::Redo(n) => Ok(number_of(session.redo(*n))),
+        Call::Begin => Ok(number_of(session.begin())),
+        Call::Commit => Ok(number_of(session.commit())),
+        Call::Abandon => Ok(number_of(session.abandon())),
+    }
+}
+
+// Whether the calls are answered so, in a new session, and leave this dump and these counts.
+fn is_row(
+    alloc: Global,
+    calls: &[(Call<'_>, u8)],
+    dump: &[u8],
+    counts: (u64, u64),
+) -> Result<bool, Fail> {
+    let mut session = Session::new(alloc, Primitives::new(Vec::new(alloc)));
+    for (call, number) in calls {
+        if answer(alloc, &mut session, call)? != *number {
+            return Ok(false);
+        }
+    }
+    let mut text = Vec::new(alloc);
+    session.dump(&mut text)?;
+    Ok(text.as_slice() == dump && session.counts() == counts)
+}
+
+#[test]
+fn steps(rt: HostRuntime) -> Result<(), Fail> {
+    let calls = [
+        (Call::Undo(1), 15),
+        (Call::Set(b"t", 1), 0),
+        (Call::Set(b"t", 2), 0),
+        (Call::Undo(1), 0),
+        (Call::Set(b"t", 3), 0),
+        (Call::Redo(1), 16),
+        (Call::Undo(3), 15),
+        (Call::Undo(2), 0),
+        (Call::Redo(3), 16),
+        (Call::Redo(2), 0),
+    ];
+    assert!(rt; is_row(rt.alloc(), &calls, b"tree t 3\n", (2, 0))?);
+    Ok(())
+}
+
+#[test]
+fn refused_changes(rt: HostRuntime) -> Result<(), Fail> {
+    let calls = [
+        (Call::Set(b"t", 1), 0),
+        (Call::SetLists(b"u", 1000), 0),
+        (Call::Undo(1), 0),
+        (Call::SetLists(b"t", 1001), 14),
+        (Call::Copy(b"u", b"t"), 5),
+        (Call::Drop(b"u"), 5),
+        (Call::Put(b"u", &[0], 1), 5),
+        (Call::Put(b"t", &[0], 1), 9),
+        (Call::Annotate(b"t", &[0], 1), 9),
+        (Call::PutLists(b"t", &[], 1001), 14),
+        (Call::Commit, 18),
+        (Call::Abandon, 18),
+    ];
+    assert!(rt; is_row(rt.alloc(), &calls, b"tree t 1\n", (1, 1))?);
+    Ok(())
+}
+
+#[test]
+fn places(rt: HostRuntime) -> Result<(), Fail> {
+    let calls = [
+        (Call::SetLists(b"t", 2), 0),
+        (Call::Put(b"t", &[0], 1), 0),
+        (Call::Annotate(b"t", &[0], 7), 0),
+        (Call::Put(b"t", &[0], 2), 0),
+        (Call::PutLists(b"t", &[0], 1000), 14),
+        (Call::Undo(1), 0),
+        (Call::Copy(b"t", b"a"), 0),
+        (Call::Drop(b"t"), 0),
+        (Call::Undo(1), 0),
+    ];
+    let dump = b"tree a [1{7}]\ntree t [1{7}]\n";
+    assert!(rt; is_row(rt.alloc(), &calls, dump, (4, 1))?);
+    Ok(())
+}
+
+#[test]
+fn groups(rt: HostRuntime) -> Result<(), Fail> {
+    let calls = [
+        (Call::Set(b"t", 1), 0),
+        (Call::Begin, 0),
+        (Call::Set(b"t", 2), 0),
+        (Call::Set(b"u", 3), 0),
+        (Call::Begin, 17),
+        (Call::Undo(9), 17),
+        (Call::Redo(9), 17),
+        (Call::Abandon, 0),
+        (Call::Begin, 0),
+        (Call::Set(b"t", 4), 0),
+        (Call::Copy(b"t", b"u"), 0),
+        (Call::Commit, 0),
+        (Call::Undo(1), 0),
+        (Call::Redo(1), 0),
+    ];
+    assert!(rt; is_row(rt.alloc(), &calls, b"tree t 4\ntree u 4\n", (2, 0))?);
+    Ok(())
+}
+
+// A group without a change is no step, and leaves what can be redone; one that is abandoned too.
+#[test]
+fn groups_after_undo(rt: HostRuntime) -> Result<(), Fail> {
+    let calls = [
+        (Call::Set(b"t", 1), 0),
+        (Call::Set(b"t", 2), 0),
+        (Call::Undo(1), 0),
+        (Call::Begin, 0),
+        (Call::Commit, 0),
+        (Call::Redo(1), 0),
+        (Call::Undo(1), 0),
+        (Call::Begin, 0),
+        (Call::Set(b"t", 3), 0),
+        (Call::Abandon, 0),
+        (Call::Redo(1), 0),
+        (Call::Undo(1), 0),
+        (Call::Begin, 0),
+        (Call::Set(b"t", 3), 0),
+        (Call::Commit, 0),
+        (Call::Redo(1), 16),
+    ];
+    assert!(rt; is_row(rt.alloc(), &calls, b"tree t 3\n", (2, 0))?);
+    Ok(())
+}
+
+#[test]
+fn trees_by_name(rt: HostRuntime) -> Result<(), Fail> {
+    let alloc = rt.alloc();
+    let name = Label::read(alloc, b"t")?;
+    let mut session = Session::<NoPrimitives>::new(alloc, Primitives::new(Vec::new(alloc)));
+    assert!(rt; session.tree(&name).is_none());
+    session.set_tree(&name, Term::integer(alloc, 1))?;
+    assert!(rt; session.tree(&name).is_some_and(|tree| tree.size() == 1));
+    assert!(rt; session.tree_names()?.len() == 1);
+    Ok(())
+}
+
+#[test]
+fn many_steps_are_dropped(rt: HostRuntime) -> Result<(), Fail> {
+    let alloc = rt.alloc();
+    let name = Label::read(alloc, b"t")?;
+    let mut session = Session::<NoPrimitives>::new(alloc, Primitives::new(Vec::new(alloc)));
+    for i in 0..100_000 {
+        session.set_tree(&name, Term::integer(alloc, i))?;
+    }
+    assert_eq!(rt; session.counts(), (100_000, 0));
+    Ok(())
+}
+
+#[test]
+fn refusals_have_numbers_and_words(rt: HostRuntime) -> Result<(), Fail> {
     assert_eq!(rt; Refusal::NoUndo.word(), "noundo");
     assert_eq!(rt; Refusal::from(LabelFault::Name).number(), 4);
     assert_eq!(rt; Refusal::from(NoMemory).number(), 1);
