@@ -2,7 +2,7 @@
 use Rattle.std.proofs.Common.{◌≡◌, ℕ, zero, suc, ◌<◌, List, [], ◌∷◌, ◌++◌, length, take, drop, refl, sym, ap, subst, ◌∙◌}
 use Rattle.change_log.specs.Slots.{Store}
 use Rattle.change_log.specs.Entries.{Entry, slot_tree, subterm, subterm_annotations, slot_text, HasPlace, put, found, before, after, flipped_back, flipped_forward, Fits, FitsForward}
-use Rattle.change_log.specs.Laws.{StoreFromAfter, FlipsForward, StoreFromBefore, FlipsBack, FlippedBackFits, FlippedForwardFits, PushedFits, RolledBackFits}
+use Rattle.change_log.specs.Laws.{StoreFromAfter, FlipsForward, StoreFromBefore, FlipsBack, FlippedBackFits, FlippedForwardFits, PushedFits, RolledBackFits, PushedLeadsBack, RolledBackLeadsBack}
 use Rattle.change_log.proofs.SlotLemmas.{length-with_content, slot_twice, slot_found_twice, subterm_twice, subterm_found_twice, annotations_twice, annotations_found_twice, subterm_stays, annotated_stays}
 
 -- ---- one entry
@@ -68,17 +68,20 @@ pub before-append : (es fs : List Entry) (s : Store) → before (es ++ fs) s ≡
 before-append [] fs s = refl
 before-append (e ∷ es) fs s = ap (put e) (before-append es fs s)
 
+pub pushed_leads_back : PushedLeadsBack
+pushed_leads_back log e s = before-append log (found e s ∷ []) (put e s) ∙ ap (before log) (put_back e s)
+
+pub rolled_back_leads_back : RolledBackLeadsBack
+rolled_back_leads_back zero es s = refl
+rolled_back_leads_back (suc m) [] s = refl
+rolled_back_leads_back (suc m) (e ∷ es) s = ap (put e) (rolled_back_leads_back m es s)
+
 pub pushed_fits : PushedFits
 pushed_fits [] e s h place = (place_stays e s place, tt)
 pushed_fits (d ∷ ds) e s h place =
-    (subst (HasPlace d) (sym (before-append ds (found e s ∷ []) (put e s) ∙ ap (before ds) (put_back e s))) h.0, pushed_fits ds e s h.1 place)
+    (subst (HasPlace d) (sym (pushed_leads_back ds e s)) h.0, pushed_fits ds e s h.1 place)
 
 pub rolled_back_fits : RolledBackFits
 rolled_back_fits zero es s h = tt
 rolled_back_fits (suc m) [] s h = tt
-rolled_back_fits (suc m) (e ∷ es) s h = (subst (HasPlace e) (split m es s) h.0, rolled_back_fits m es s h.1)
-  where
-    split : (m : ℕ) (es : List Entry) (s : Store) → before es s ≡ before (take m es) (before (drop m es) s)
-    split zero es s = refl
-    split (suc m) [] s = refl
-    split (suc m) (e ∷ es) s = ap (put e) (split m es s)
+rolled_back_fits (suc m) (e ∷ es) s h = (subst (HasPlace e) (sym (rolled_back_leads_back m es s)) h.0, rolled_back_fits m es s h.1)

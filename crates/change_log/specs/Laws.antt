@@ -43,6 +43,16 @@ abbrev pub RolledBackFits : Type 0
 RolledBackFits = (mark : ℕ) (log : List Entry) (s : Store)
     → Fits log s → Fits (take mark log) (before (drop mark log) s)
 
+-- What a log leads back to: a push keeps it, since it keeps what the change replaces, and rolling back
+-- keeps it too.
+abbrev pub PushedLeadsBack : Type 0
+PushedLeadsBack = (log : List Entry) (e : Entry) (s : Store)
+    → before (log ++ found e s ∷ []) (put e s) ≡ before log s
+
+abbrev pub RolledBackLeadsBack : Type 0
+RolledBackLeadsBack = (mark : ℕ) (log : List Entry) (s : Store)
+    → before (take mark log) (before (drop mark log) s) ≡ before log s
+
 -- ---- the contents of a store
 
 -- A new slot is empty, so it leaves the contents.

@@ -1,7 +1,7 @@
 //! Laws of logs and stores, over every log and every store. Each is the contract of a function that
 //! does nothing.
 
-ghost use Rattle.change_log.specs.Laws.{FlipsForward, FlipsBack, StoreFromAfter, StoreFromBefore, FlippedBackFits, FlippedForwardFits, PushedFits, RolledBackFits, NewSlotsAreEmpty, TreePut, TreeTaken, ModulePut, ModuleTaken, SubtermPut, AnnotationsPut, TreeOfName, ModuleOfName, FitsWithMore, FitsForwardWithMore, FitsWithMoreModules, FitsForwardWithMoreModules};
+ghost use Rattle.change_log.specs.Laws.{FlipsForward, FlipsBack, StoreFromAfter, StoreFromBefore, FlippedBackFits, FlippedForwardFits, PushedFits, RolledBackFits, PushedLeadsBack, RolledBackLeadsBack, NewSlotsAreEmpty, TreePut, TreeTaken, ModulePut, ModuleTaken, SubtermPut, AnnotationsPut, TreeOfName, ModuleOfName, FitsWithMore, FitsForwardWithMore, FitsWithMoreModules, FitsForwardWithMoreModules};
 
 /// Each of the two flips takes back what the other did: the store is that from before, and so is the
 /// log.
@@ -19,6 +19,13 @@ pub fn logs_fit()
     ensures rolled_back { RolledBackFits }
     ensures flipped_back { FlippedBackFits }
     ensures flipped_forward { FlippedForwardFits }
+{}
+
+/// A log leads back to the same store after a change was pushed, whether or not its place is there, and
+/// after a part of it was rolled back.
+pub fn logs_lead_back()
+    ensures pushed { PushedLeadsBack }
+    ensures rolled_back { RolledBackLeadsBack }
 {}
 
 /// What a store contains by its names: new slots are empty; what is put in the slot of a name is under

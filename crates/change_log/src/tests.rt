@@ -160,6 +160,7 @@ fn names_in_byte_order(rt: HostRuntime) -> Result<(), Fail> {
 fn laws_are_there() {
     laws::flips_are_inverse();
     laws::logs_fit();
+    laws::logs_lead_back();
     laws::contents_by_name();
     laws::slots_stay();
 }
