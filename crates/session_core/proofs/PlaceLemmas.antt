@@ -11,14 +11,14 @@ use Rattle.prim_core.specs.Signature.{Signature}
 use Rattle.change_log.specs.Contents.{Contents}
 use Rattle.change_log.specs.Slots.{Slots, Store, contents, slot_of, with_tree_slot}
 use Rattle.change_log.specs.Entries.{Entry, HasPlace, put, found, before, after, flipped_back, flipped_forward, Fits}
-use Rattle.change_log.proofs.EntryLemmas.{pushed_fits}
+use Rattle.change_log.proofs.EntryLemmas.{pushed_fits, pushed_leads_back}
 use Rattle.change_log.proofs.ContentsLemmas.{new_slots_are_empty, fits_with_more}
 use Rattle.session_core.specs.History.{Group, stepped, changed, back_to, forward_to, step_back, step_forward}
 use Rattle.session_core.specs.Step.{step, commit, committed, inside}
 use Rattle.session_core.specs.Unfolded.{past_of, later_of, FitBack, FitForward, unfolded, IsCurrent, IsPlaced}
 use Rattle.session_core.specs.declared.timeline.Timeline.{Timeline}
 use Rattle.session_core.specs.declared.timeline.OpenGroup.{OpenGroup}
-use Rattle.session_core.proofs.TimelineLemmas.{rewound_grown, past_grown, later_grown, length-past_of, length-later_of, count_past, stepped_past, stepped_later, stepped_back, stepped_forward, stepped_within, same_start, grouped_past, grouped_later, grouped_back, grouped_forward, grouped_within, back_past, back_later, back_back, back_forward, forward_later, forward_past, forward_back, forward_forward}
+use Rattle.session_core.proofs.TimelineLemmas.{rewound_grown, past_grown, later_grown, length-past_of, length-later_of, count_past, stepped_past, stepped_later, stepped_back, stepped_forward, stepped_within, grouped_past, grouped_later, grouped_back, grouped_forward, grouped_within, back_past, back_later, back_back, back_forward, forward_later, forward_past, forward_back, forward_forward}
 use Rattle.session_core.proofs.HistoryLemmas.{back_to-append}
 
 -- ---- slots
@@ -88,7 +88,7 @@ later_count t n e = length-later_of (drop t.position t.logs.items) (before t.cur
 
 module _ (t : Timeline) (e : Entry) (s : Store) (log : List Entry) (place : HasPlace e t.store) (is : s ≡ put e t.store) (more : log ≡ t.current ++ found e t.store ∷ []) (h : IsPlaced t) where
   group_start_stays : before log s ≡ before t.current t.store
-  group_start_stays = (λ i. before (more i) (is i)) ∙ same_start t.current t.store e
+  group_start_stays = (λ i. before (more i) (is i)) ∙ pushed_leads_back t.current e t.store
 
   pub group_placed : (g : OpenGroup) → g.changed ≡ true → IsPlaced (record t { store = s; group = Some g; current = log })
   group_placed g was = record {

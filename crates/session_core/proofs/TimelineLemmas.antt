@@ -3,7 +3,7 @@ use Rattle.std.proofs.Common.{◌≡◌, ℕ, zero, suc, ◌+◌, ◌<◌, ◌�
 use Rattle.std.proofs.lemmas.List.{length-append, length-take, drop_all, take_all, take-set}
 use Rattle.change_log.specs.Slots.{Store, contents, with_tree_slot}
 use Rattle.change_log.specs.Entries.{Entry, HasPlace, put, found, before, after, flipped_back, flipped_forward, Fits, FitsForward}
-use Rattle.change_log.proofs.EntryLemmas.{put_back, store_from_after, store_from_before, flipped_back_fits, flipped_forward_fits, pushed_fits, before-append}
+use Rattle.change_log.proofs.EntryLemmas.{pushed_leads_back, store_from_after, store_from_before, flipped_back_fits, flipped_forward_fits, pushed_fits}
 use Rattle.change_log.proofs.ContentsLemmas.{new_slots_are_empty, fits_with_more, fits_forward_with_more}
 use Rattle.session_core.specs.Unfolded.{rewound, past_of, later_of, FitBack, FitForward}
 
@@ -110,7 +110,7 @@ module _ (ls : List (List Entry)) (p : ℕ) (s : Store) (e : Entry) (inside : p 
   pub stepped_past : past_of (take (p + 1) (take p ls ++ one ∷ [])) (put e s) ≡ past_of (take p ls) s ++ contents s ∷ []
   stepped_past =
       ap (λ l. past_of l (put e s)) (take_pushed p ls one inside) ∙ past_of-append (take p ls) one (put e s)
-      ∙ ap (λ t. past_of (take p ls) t ++ contents t ∷ []) (put_back e s)
+      ∙ ap (λ t. past_of (take p ls) t ++ contents t ∷ []) (pushed_leads_back [] e s)
 
   pub stepped_later : later_of (drop (p + 1) (take p ls ++ one ∷ [])) (put e s) ≡ []
   stepped_later = ap (λ l. later_of l (put e s)) (drop_pushed p ls one inside)
@@ -118,7 +118,7 @@ module _ (ls : List (List Entry)) (p : ℕ) (s : Store) (e : Entry) (inside : p 
   pub stepped_back : HasPlace e s → FitBack (take p ls) s → FitBack (take (p + 1) (take p ls ++ one ∷ [])) (put e s)
   stepped_back place h =
       subst (λ l. FitBack l (put e s)) (sym (take_pushed p ls one inside))
-      (FitBack-append (take p ls) one (put e s) (subst (FitBack (take p ls)) (sym (put_back e s)) h) (pushed_fits [] e s tt place))
+      (FitBack-append (take p ls) one (put e s) (subst (FitBack (take p ls)) (sym (pushed_leads_back [] e s)) h) (pushed_fits [] e s tt place))
 
   pub stepped_forward : FitForward (drop (p + 1) (take p ls ++ one ∷ [])) (put e s)
   stepped_forward = subst (λ l. FitForward l (put e s)) (sym (drop_pushed p ls one inside)) tt
@@ -127,10 +127,6 @@ module _ (ls : List (List Entry)) (p : ℕ) (s : Store) (e : Entry) (inside : p 
   stepped_within = omega (arith, inside, length-append (take p ls) (one ∷ []), length-take p ls)
 
 -- ---- a change in a group
-
--- the store where the group began is the same
-pub same_start : (log : List Entry) (s : Store) (e : Entry) → before (log ++ found e s ∷ []) (put e s) ≡ before log s
-same_start log s e = before-append log (found e s ∷ []) (put e s) ∙ ap (before log) (put_back e s)
 
 -- ---- a group as a step
 
