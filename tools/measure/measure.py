@@ -44,9 +44,9 @@ def instructions(program, words, text):
     return int(count.group(1)), run.stdout.decode().strip()
 
 
-def build(folder):
-    """Proves and builds the small program on copies of the crates, and tells where it is."""
-    for crate in ["term_core", "aterm_text"]:
+def build(folder, program, crates, uses):
+    """Proves and builds a small program on copies of these crates, and tells where it is."""
+    for crate in crates:
         shutil.copytree(os.path.join(TOP, "crates", crate), os.path.join(folder, "crates", crate))
     subprocess.run(["rt", "new", "crates/measure", "start_io"], cwd=folder, check=True)
     crate = os.path.join(folder, "crates", "measure")
@@ -55,11 +55,12 @@ def build(folder):
             os.remove(os.path.join(crate, name))
     for name in os.listdir(os.path.join(crate, "src")):
         os.remove(os.path.join(crate, "src", name))
-    source = os.path.join(TOP, "tools", "measure", "program.txt")
+    source = os.path.join(TOP, "tools", "measure", program)
     shutil.copy(source, os.path.join(crate, "src", "main.rt"))
+    with open(os.path.join(TOP, "crates.txt")) as lines:
+        needed = [line for line in lines if line.split(":")[0] in crates]
     with open(os.path.join(folder, "crates.txt"), "w") as lines:
-        lines.write("term_core: thiserror\naterm_text: term_core itoa thiserror\n")
-        lines.write("measure: term_core aterm_text anyhow\n")
+        lines.writelines([*needed, "measure: " + uses + "\n"])
     subprocess.run(["rt", "run"], cwd=crate, check=True, stdin=subprocess.DEVNULL)
     return os.path.join(crate, "out", "measure")
 
@@ -70,7 +71,7 @@ def main():
         sys.exit("build the program first: (cd crates/stratbench && rt run < stdin)")
     empty, _ = instructions(stratbench, [], "")
     with tempfile.TemporaryDirectory() as folder:
-        program = build(folder)
+        program = build(folder, "program.txt", ["term_core", "aterm_text"], "term_core aterm_text anyhow")
         print("| Text | read, a byte | print, a byte | clone and drop, a term | compare, a term |")
         print("|---|---|---|---|---|")
         for name, shape in SHAPES.items():
