@@ -1,158 +1,289 @@
-//! The calls on stores and logs, with ample memory.
+//! Rows of calls on a store and its log, with ample memory, and what is so after them.
 
 use crate::{Entry, Log, Store, laws};
 use std::alloc::Global;
 use std::test::Fail;
 use term_core::{Kind, Label, Name, Term};
 
-// The word applied to these terms.
-fn application(alloc: Global, word: &[u8], arguments: Vec<Term>) -> Result<Term, Fail> {
+// A call, or what has to be so then. Two words stand for the first applied to the second, which is
+// applied to nothing.
+#[derive(Clone, Copy)]
+enum Step<'a> {
+    NewLog,
+    // The name's tree is this now, or this number; its module this text.
+    GiveTree(&'a [u8], &'a [u8], &'a [u8]),
+    GiveNumber(&'a [u8], i64),
+    GiveText(&'a [u8], &'a [u8]),
+    // A tree, or a word applied to nothing, is put at a place of the slot's tree.
+    PutTree(usize, &'a [usize], &'a [u8], &'a [u8]),
+    PutWord(usize, &'a [usize], &'a [u8]),
+    Annotate(usize, &'a [usize], i64),
+    FlipBack,
+    FlipForward,
+    RollBack(usize),
+    // What a name's slot is found to be, or made.
+    FoundTree(&'a [u8], Option<usize>),
+    FoundModule(&'a [u8], Option<usize>),
+    MadeTreeSlot(&'a [u8], usize),
+    // What a slot has: this tree, no tree, a tree with so many annotations, this module text.
+    HasTree(usize, &'a [u8], &'a [u8]),
+    HasNoTree(usize),
+    HasAnnotations(usize, usize),
+    HasModule(usize, Option<&'a [u8]>),
+    TreeNames(&'a [&'a [u8]]),
+    ModuleNames(&'a [&'a [u8]]),
+    Count(usize),
+}
+
+fn word(alloc: Global, word: &[u8], arguments: Vec<Term>) -> Result<Term, Fail> {
     let name = Name::word(alloc, word)?.ok_or("no word")?;
     Ok(Term::application(alloc, name, arguments))
 }
 
-// The word applied to the other word, which is applied to nothing.
-fn nested(alloc: Global, word: &[u8], inner: &[u8]) -> Result<Term, Fail> {
-    let inner = application(alloc, inner, Vec::new(alloc))?;
-    application(alloc, word, vec![in alloc; inner]?)
+fn constant(alloc: Global, name: &[u8]) -> Result<Term, Fail> {
+    word(alloc, name, Vec::new(alloc))
+}
+
+fn tree(alloc: Global, outer: &[u8], inner: &[u8]) -> Result<Term, Fail> {
+    let inner = constant(alloc, inner)?;
+    word(alloc, outer, vec![in alloc; inner]?)
 }
 
 fn has_word(term: &Term, word: &[u8]) -> bool {
     matches!(term.kind(), Kind::Application(name) if name.bytes() == word)
 }
 
-// Whether the slot's tree is such a term.
-fn shows(store: &Store, slot: usize, word: &[u8], inner: &[u8]) -> bool {
+fn has_tree(store: &Store, slot: usize, outer: &[u8], inner: &[u8]) -> bool {
     let Some(tree) = store.tree(slot) else {
         return false;
     };
-    has_word(tree, word) && tree.child(0).is_some_and(|child| has_word(child, inner))
+    has_word(tree, outer) && tree.child(0).is_some_and(|child| has_word(child, inner))
 }
 
-// Gives the name a tree, and tells its slot.
-fn give(store: &mut Store, log: &mut Log, name: &Label, tree: Term) -> Result<usize, Fail> {
-    let slot = store.tree_slot(name)?;
-    log.push(store, Entry::tree(slot, Some(tree)))?;
-    Ok(slot)
+fn has_annotations(store: &Store, slot: usize, count: usize) -> bool {
+    store
+        .tree(slot)
+        .is_some_and(|tree| tree.annotations().len() == count)
 }
 
-// Pushes `g(b)` at the root of the slot's tree, and then `c` at its first child.
-fn change(alloc: Global, store: &mut Store, log: &mut Log, slot: usize) -> Result<(), Fail> {
-    let root = nested(alloc, b"g", b"b")?;
-    log.push(store, Entry::subterm(slot, &[], root))?;
-    let child = application(alloc, b"c", Vec::new(alloc))?;
-    log.push(store, Entry::subterm(slot, &[0], child))?;
-    Ok(())
+fn are_words(names: &[Label], words: &[&[u8]]) -> bool {
+    if names.len() != words.len() {
+        return false;
+    }
+    for (name, word) in names.iter().zip(words) {
+        if name.bytes() != *word {
+            return false;
+        }
+    }
+    true
+}
+
+fn push(store: &mut Store, log: &mut Log, entry: Entry<'_>) -> Result<bool, Fail> {
+    log.push(store, entry)?;
+    Ok(true)
+}
+
+fn tree_slot(alloc: Global, store: &mut Store, name: &[u8]) -> Result<usize, Fail> {
+    let name = Label::read(alloc, name)?;
+    Ok(store.tree_slot(&name)?)
+}
+
+fn module_slot(alloc: Global, store: &mut Store, name: &[u8]) -> Result<usize, Fail> {
+    let name = Label::read(alloc, name)?;
+    Ok(store.module_slot(&name)?)
+}
+
+fn find_tree(alloc: Global, store: &Store, name: &[u8]) -> Result<Option<usize>, Fail> {
+    let name = Label::read(alloc, name)?;
+    Ok(store.find_tree(&name))
+}
+
+fn find_module(alloc: Global, store: &Store, name: &[u8]) -> Result<Option<usize>, Fail> {
+    let name = Label::read(alloc, name)?;
+    Ok(store.find_module(&name))
+}
+
+fn give_text(
+    alloc: Global,
+    store: &mut Store,
+    log: &mut Log,
+    name: &[u8],
+    text: &[u8],
+) -> Result<bool, Fail> {
+    let slot = module_slot(alloc, store, name)?;
+    let text = Vec::from_slice(alloc, text)?;
+    push(store, log, Entry::text(slot, Some(text)))
+}
+
+fn give_tree(
+    alloc: Global,
+    store: &mut Store,
+    log: &mut Log,
+    name: &[u8],
+    tree: Term,
+) -> Result<bool, Fail> {
+    let slot = tree_slot(alloc, store, name)?;
+    push(store, log, Entry::tree(slot, Some(tree)))
+}
+
+fn annotate(
+    alloc: Global,
+    store: &mut Store,
+    log: &mut Log,
+    slot: usize,
+    path: &[usize],
+    value: i64,
+) -> Result<bool, Fail> {
+    let notes = vec![in alloc; Term::integer(alloc, value)]?;
+    push(store, log, Entry::annotations(slot, path, notes))
+}
+
+// Makes the call, and tells whether what has to be so is.
+fn is_so(alloc: Global, store: &mut Store, log: &mut Log, step: &Step<'_>) -> Result<bool, Fail> {
+    match step {
+        Step::GiveTree(name, outer, inner) => {
+            give_tree(alloc, store, log, name, tree(alloc, outer, inner)?)
+        }
+        Step::GiveNumber(name, value) => {
+            give_tree(alloc, store, log, name, Term::integer(alloc, *value))
+        }
+        Step::GiveText(name, text) => give_text(alloc, store, log, name, text),
+        Step::PutTree(slot, path, outer, inner) => {
+            push(
+                store,
+                log,
+                Entry::subterm(*slot, path, tree(alloc, outer, inner)?),
+            )
+        }
+        Step::PutWord(slot, path, word) => {
+            push(
+                store,
+                log,
+                Entry::subterm(*slot, path, constant(alloc, word)?),
+            )
+        }
+        Step::Annotate(slot, path, value) => annotate(alloc, store, log, *slot, path, *value),
+        Step::FoundTree(name, slot) => Ok(find_tree(alloc, store, name)? == *slot),
+        Step::FoundModule(name, slot) => Ok(find_module(alloc, store, name)? == *slot),
+        Step::MadeTreeSlot(name, slot) => Ok(tree_slot(alloc, store, name)? == *slot),
+        Step::TreeNames(words) => Ok(are_words(&store.tree_names(alloc)?, words)),
+        Step::ModuleNames(words) => Ok(are_words(&store.module_names(alloc)?, words)),
+        _ => Ok(is_so_without_memory(alloc, store, log, step)),
+    }
+}
+
+// The steps that take no memory.
+fn is_so_without_memory(alloc: Global, store: &mut Store, log: &mut Log, step: &Step<'_>) -> bool {
+    match step {
+        Step::NewLog => *log = Log::new(alloc),
+        Step::FlipBack => log.flip_back(store),
+        Step::FlipForward => log.flip_forward(store),
+        Step::RollBack(mark) => log.roll_back(*mark, store),
+        _ => return is_seen(store, log, step),
+    }
+    true
+}
+
+fn is_seen(store: &Store, log: &Log, step: &Step<'_>) -> bool {
+    match step {
+        Step::HasTree(slot, outer, inner) => has_tree(store, *slot, outer, inner),
+        Step::HasNoTree(slot) => store.tree(*slot).is_none(),
+        Step::HasAnnotations(slot, count) => has_annotations(store, *slot, *count),
+        Step::HasModule(slot, text) => store.module(*slot) == *text,
+        Step::Count(count) => log.count() == *count && log.mark() == *count,
+        _ => false,
+    }
+}
+
+// Whether all is so, from an empty store and log on.
+fn is_row(alloc: Global, steps: &[Step<'_>]) -> Result<bool, Fail> {
+    let mut store = Store::new(alloc);
+    let mut log = Log::new(alloc);
+    for step in steps {
+        if !is_so(alloc, &mut store, &mut log, step)? {
+            return Ok(false);
+        }
+    }
+    Ok(true)
 }
 
 #[test]
 fn subterms_are_taken_back(rt: HostRuntime) -> Result<(), Fail> {
-    let alloc = rt.alloc();
-    let name = Label::read(alloc, b"t")?;
-    let mut store = Store::new(alloc);
-    let slot = give(
-        &mut store,
-        &mut Log::new(alloc),
-        &name,
-        nested(alloc, b"f", b"a")?,
-    )?;
-    let mut log = Log::new(alloc);
-    change(alloc, &mut store, &mut log, slot)?;
-    assert!(rt; shows(&store, slot, b"g", b"c") && log.count() == 2);
-    log.flip_back(&mut store);
-    assert!(rt; shows(&store, slot, b"f", b"a"));
-    log.flip_forward(&mut store);
-    assert!(rt; shows(&store, slot, b"g", b"c"));
-    log.roll_back(1, &mut store);
-    assert!(rt; shows(&store, slot, b"g", b"b") && log.mark() == 1);
+    let steps = [
+        Step::GiveTree(b"t", b"f", b"a"),
+        Step::NewLog,
+        Step::PutTree(0, &[], b"g", b"b"),
+        Step::PutWord(0, &[0], b"c"),
+        Step::HasTree(0, b"g", b"c"),
+        Step::Count(2),
+        Step::FlipBack,
+        Step::HasTree(0, b"f", b"a"),
+        Step::FlipForward,
+        Step::HasTree(0, b"g", b"c"),
+        Step::RollBack(1),
+        Step::HasTree(0, b"g", b"b"),
+        Step::Count(1),
+    ];
+    assert!(rt; is_row(rt.alloc(), &steps)?);
     Ok(())
 }
 
 #[test]
 fn empty_slots_of_trees(rt: HostRuntime) -> Result<(), Fail> {
-    let alloc = rt.alloc();
-    let name = Label::read(alloc, b"t")?;
-    let (mut store, mut log) = (Store::new(alloc), Log::new(alloc));
-    assert_eq!(rt; store.find_tree(&name), None);
-    let slot = give(&mut store, &mut log, &name, nested(alloc, b"f", b"a")?)?;
-    assert!(rt; shows(&store, slot, b"f", b"a") && store.tree(7).is_none());
-    assert_eq!(rt;
-        (store.find_tree(&name), store.tree_slot(&name)?),
-        (Some(slot), slot)
-    );
-    log.flip_back(&mut store);
-    assert!(rt; store.tree(slot).is_none() && store.tree_names(alloc)?.is_empty());
+    let steps = [
+        Step::FoundTree(b"t", None),
+        Step::GiveTree(b"t", b"f", b"a"),
+        Step::HasTree(0, b"f", b"a"),
+        Step::HasNoTree(7),
+        Step::FoundTree(b"t", Some(0)),
+        Step::MadeTreeSlot(b"t", 0),
+        Step::FlipBack,
+        Step::HasNoTree(0),
+        Step::TreeNames(&[]),
+    ];
+    assert!(rt; is_row(rt.alloc(), &steps)?);
     Ok(())
 }
 
 #[test]
 fn module_texts(rt: HostRuntime) -> Result<(), Fail> {
-    let alloc = rt.alloc();
-    let name = Label::read(alloc, b"m")?;
-    let (mut store, mut log) = (Store::new(alloc), Log::new(alloc));
-    let slot = store.module_slot(&name)?;
-    let text = Vec::from_slice(alloc, b"strategies f = id")?;
-    log.push(&mut store, Entry::text(slot, Some(text)))?;
-    assert_eq!(rt; store.module(slot), Some(b"strategies f = id".as_slice()));
-    assert_eq!(rt;
-        (store.find_module(&name), store.find_tree(&name)),
-        (Some(slot), None)
-    );
-    assert_eq!(rt; store.module_names(alloc)?.len(), 1);
-    log.flip_back(&mut store);
-    assert!(rt; store.module(slot).is_none());
+    let steps = [
+        Step::GiveText(b"m", b"strategies f = id"),
+        Step::HasModule(0, Some(b"strategies f = id")),
+        Step::FoundModule(b"m", Some(0)),
+        Step::FoundTree(b"m", None),
+        Step::ModuleNames(&[b"m"]),
+        Step::FlipBack,
+        Step::HasModule(0, None),
+    ];
+    assert!(rt; is_row(rt.alloc(), &steps)?);
     Ok(())
 }
 
 #[test]
 fn annotations(rt: HostRuntime) -> Result<(), Fail> {
-    let alloc = rt.alloc();
-    let name = Label::read(alloc, b"t")?;
-    let (mut store, mut log) = (Store::new(alloc), Log::new(alloc));
-    let slot = give(&mut store, &mut log, &name, Term::integer(alloc, 1))?;
-    let notes = vec![in alloc; Term::integer(alloc, 2)]?;
-    log.push(&mut store, Entry::annotations(slot, &[], notes))?;
-    assert!(rt;
-        store
-            .tree(slot)
-            .is_some_and(|tree| tree.annotations().len() == 1)
-    );
-    log.roll_back(1, &mut store);
-    assert!(rt;
-        store
-            .tree(slot)
-            .is_some_and(|tree| tree.annotations().is_empty())
-    );
-    Ok(())
-}
-
-// Gives each of these names a tree.
-fn give_all(alloc: Global, store: &mut Store, names: &[&[u8]]) -> Result<(), Fail> {
-    let mut log = Log::new(alloc);
-    for name in names {
-        let name = Label::read(alloc, name)?;
-        give(store, &mut log, &name, Term::integer(alloc, 1))?;
-    }
+    let steps = [
+        Step::GiveNumber(b"t", 1),
+        Step::Annotate(0, &[], 2),
+        Step::HasAnnotations(0, 1),
+        Step::RollBack(1),
+        Step::HasAnnotations(0, 0),
+    ];
+    assert!(rt; is_row(rt.alloc(), &steps)?);
     Ok(())
 }
 
 #[test]
 fn names_in_byte_order(rt: HostRuntime) -> Result<(), Fail> {
-    let alloc = rt.alloc();
-    let mut store = Store::new(alloc);
-    give_all(alloc, &mut store, &[b"b", b"a_", b"c", b"B", b"a"])?;
-    let names = store.tree_names(alloc)?;
-    let all = names.iter().zip([
-        b"B".as_slice(),
-        b"a".as_slice(),
-        b"a_".as_slice(),
-        b"b".as_slice(),
-        b"c".as_slice(),
-    ]);
-    for (name, word) in all {
-        assert_eq!(rt; name.bytes(), word);
-    }
-    assert_eq!(rt; names.len(), 5);
+    let steps = [
+        Step::GiveNumber(b"b", 1),
+        Step::GiveNumber(b"a_", 1),
+        Step::GiveNumber(b"c", 1),
+        Step::GiveNumber(b"B", 1),
+        Step::GiveNumber(b"a", 1),
+        Step::TreeNames(&[b"B", b"a", b"a_", b"b", b"c"]),
+    ];
+    assert!(rt; is_row(rt.alloc(), &steps)?);
     Ok(())
 }
 
