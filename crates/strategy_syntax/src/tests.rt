@@ -61,11 +61,15 @@ fn deep_pattern(alloc: Global) -> Result<Pattern, Fail> {
     Ok(p)
 }
 
+fn deep_patterns_are_equal(alloc: Global) -> Result<bool, Fail> {
+    let p = deep_pattern(alloc)?;
+    let same = deep_pattern(alloc)?;
+    Ok(p.equals(&same))
+}
+
 #[test]
 fn deep_patterns(rt: HostRuntime) -> Result<(), Fail> {
-    let p = deep_pattern(rt.alloc())?;
-    let same = deep_pattern(rt.alloc())?;
-    assert!(rt; p.equals(&same));
+    assert!(rt; deep_patterns_are_equal(rt.alloc())?);
     Ok(())
 }
 
@@ -77,11 +81,15 @@ fn deep_strategy(alloc: Global) -> Result<Strategy, Fail> {
     Ok(s)
 }
 
+fn deep_strategies_are_equal(alloc: Global) -> Result<bool, Fail> {
+    let s = deep_strategy(alloc)?;
+    let same = deep_strategy(alloc)?;
+    Ok(s.equals(&same))
+}
+
 #[test]
 fn deep_strategies(rt: HostRuntime) -> Result<(), Fail> {
-    let s = deep_strategy(rt.alloc())?;
-    let same = deep_strategy(rt.alloc())?;
-    assert!(rt; s.equals(&same));
+    assert!(rt; deep_strategies_are_equal(rt.alloc())?);
     Ok(())
 }
 
@@ -93,45 +101,66 @@ fn deep_use(alloc: Global) -> Result<Strategy, Fail> {
     Ok(s)
 }
 
-#[test]
-fn deep_uses(rt: HostRuntime) -> Result<(), Fail> {
-    let s = deep_use(rt.alloc())?;
-    let same = deep_use(rt.alloc())?;
-    assert!(rt; s.equals(&same));
-    Ok(())
+fn deep_uses_are_equal(alloc: Global) -> Result<bool, Fail> {
+    let s = deep_use(alloc)?;
+    let same = deep_use(alloc)?;
+    Ok(s.equals(&same))
 }
 
 #[test]
-fn deep_resolved(rt: HostRuntime) -> Result<(), Fail> {
-    let alloc = rt.alloc();
+fn deep_uses(rt: HostRuntime) -> Result<(), Fail> {
+    assert!(rt; deep_uses_are_equal(rt.alloc())?);
+    Ok(())
+}
+
+fn deep_resolved_is_made(alloc: Global) -> Result<bool, Fail> {
     let mut strategy = ResolvedStrategy::new(ResolvedForm::Id);
-    let mut p = Place::new(PlaceForm::Variable(0));
     for _ in 0..DEPTH {
         strategy = resolved_round(alloc, strategy)?;
-        p = place_round(alloc, p)?;
     }
     let whole = Resolved {
         variables: 1,
         strategy,
     };
-    assert!(rt; matches!(whole.strategy.form(), ResolvedForm::Seq(_)));
-    assert!(rt; matches!(p.form(), PlaceForm::At(0, _)));
+    Ok(matches!(whole.strategy.form(), ResolvedForm::Seq(_)))
+}
+
+fn deep_place_is_made(alloc: Global) -> Result<bool, Fail> {
+    let mut p = Place::new(PlaceForm::Variable(0));
+    for _ in 0..DEPTH {
+        p = place_round(alloc, p)?;
+    }
+    Ok(matches!(p.form(), PlaceForm::At(0, _)))
+}
+
+#[test]
+fn deep_resolved(rt: HostRuntime) -> Result<(), Fail> {
+    assert!(rt; deep_resolved_is_made(rt.alloc())?);
+    assert!(rt; deep_place_is_made(rt.alloc())?);
     Ok(())
+}
+
+fn heads_are_alike(alloc: Global) -> Result<bool, Fail> {
+    let f = Head::Application(word(alloc, b"f")?);
+    let copy = f.try_clone()?;
+    Ok(f.equals(&copy) && !f.equals(&Head::Tuple))
 }
 
 #[test]
 fn heads(rt: HostRuntime) -> Result<(), Fail> {
-    let f = Head::Application(word(rt.alloc(), b"f")?);
-    let copy = f.try_clone()?;
-    assert!(rt; f.equals(&copy));
-    assert!(rt; !f.equals(&Head::Tuple));
+    assert!(rt; heads_are_alike(rt.alloc())?);
     assert!(rt; Head::List.is_head_of(Kind::List) && !Head::List.is_head_of(Kind::Integer(1)));
     Ok(())
 }
 
+fn one_name(alloc: Global, name: &[u8]) -> Result<Vec<Name>, Fail> {
+    let name = word(alloc, name)?;
+    Ok(vec![in alloc; name]?)
+}
+
 fn definition(alloc: Global, name: &[u8]) -> Result<Definition, Fail> {
-    let s = vec![in alloc; word(alloc, b"s")?]?;
-    let x = vec![in alloc; word(alloc, b"x")?]?;
+    let s = one_name(alloc, b"s")?;
+    let x = one_name(alloc, b"x")?;
     let name = word(alloc, name)?;
     Ok(Definition::new(name, s, x, id()))
 }
@@ -143,34 +172,53 @@ fn is_as_made(f: &Definition) -> bool {
         && matches!(f.body().form(), StrategyForm::Id)
 }
 
+fn definitions_are_as_made(alloc: Global) -> Result<bool, Fail> {
+    let f = definition(alloc, b"f")?;
+    let same = definition(alloc, b"f")?;
+    Ok(is_as_made(&f) && f.equals(&same))
+}
+
 #[test]
 fn definitions(rt: HostRuntime) -> Result<(), Fail> {
-    let f = definition(rt.alloc(), b"f")?;
-    assert!(rt; is_as_made(&f));
-    assert!(rt; f.equals(&definition(rt.alloc(), b"f")?));
+    assert!(rt; definitions_are_as_made(rt.alloc())?);
     Ok(())
+}
+
+fn plus(alloc: Global) -> Result<Constructor, Fail> {
+    Ok(Constructor::new(word(alloc, b"Plus")?, 2))
+}
+
+fn constructors_are_as_made(alloc: Global) -> Result<bool, Fail> {
+    let plus_of_two = plus(alloc)?;
+    let same = plus(alloc)?;
+    Ok(
+        plus_of_two.name().bytes() == b"Plus".as_slice()
+            && plus_of_two.arity() == 2
+            && plus_of_two.equals(&same),
+    )
 }
 
 #[test]
 fn constructors(rt: HostRuntime) -> Result<(), Fail> {
-    let plus = Constructor::new(word(rt.alloc(), b"Plus")?, 2);
-    assert!(rt; plus.name().bytes() == b"Plus".as_slice() && plus.arity() == 2);
-    let same = Constructor::new(word(rt.alloc(), b"Plus")?, 2);
-    assert!(rt; plus.equals(&same));
+    assert!(rt; constructors_are_as_made(rt.alloc())?);
     Ok(())
 }
 
 fn module(alloc: Global) -> Result<Module, Fail> {
-    let constructors = vec![in alloc; Constructor::new(word(alloc, b"Plus")?, 2)]?;
-    let definitions = vec![in alloc; definition(alloc, b"f")?]?;
-    Ok(Module::new(constructors, definitions))
+    let plus = plus(alloc)?;
+    let constructors = vec![in alloc; plus]?;
+    let f = definition(alloc, b"f")?;
+    Ok(Module::new(constructors, vec![in alloc; f]?))
+}
+
+fn modules_are_as_made(alloc: Global) -> Result<bool, Fail> {
+    let same = module(alloc)?;
+    let module = module(alloc)?;
+    Ok(module.constructors().len() == 1 && module.definitions().len() == 1 && module.equals(&same))
 }
 
 #[test]
 fn modules(rt: HostRuntime) -> Result<(), Fail> {
-    let same = module(rt.alloc())?;
-    let module = module(rt.alloc())?;
-    assert!(rt; module.constructors().len() == 1 && module.definitions().len() == 1);
-    assert!(rt; module.equals(&same));
+    assert!(rt; modules_are_as_made(rt.alloc())?);
     Ok(())
 }
