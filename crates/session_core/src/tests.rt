@@ -124,7 +124,38 @@ fn answer(alloc: Global, session: &mut Session<NoPrimitives>, call: &Call<'_>) -
     }
 }
 
-// Whether the calls are answered so, in a new session, and leave this dump and these counts.
+fn are_answered(
+    alloc: Global,
+    session: &mut Session<NoPrimitives>,
+    calls: &[(Call<'_>, u8)],
+) -> Result<bool, Fail> {
+    for (call, number) in calls {
+        if answer(alloc, session, call)? != *number {
+            return Ok(false);
+        }
+    }
+    Ok(true)
+}
+
+fn dumps(alloc: Global, session: &Session<NoPrimitives>, dump: &[u8]) -> Result<bool, Fail> {
+    let mut text = Vec::new(alloc);
+    session.dump(&mut text)?;
+    Ok(text.as_slice() == dump)
+}
+
+fn is_answered_and_left(
+    alloc: Global,
+    session: &mut Session<NoPrimitives>,
+    calls: &[(Call<'_>, u8)],
+    dump: &[u8],
+    counts: (u64, u64),
+) -> Result<bool, Fail> {
+    let is_so = are_answered(alloc, session, calls)? && dumps(alloc, session, dump)?;
+    Ok(is_so && session.counts() == counts)
+}
+
+// Whether the calls are answered so, in a new session, and leave this dump and these counts. A
+// function that holds a session has one way out, since each is checked to drop it.
 fn is_row(
     alloc: Global,
     calls: &[(Call<'_>, u8)],
@@ -132,14 +163,7 @@ fn is_row(
     counts: (u64, u64),
 ) -> Result<bool, Fail> {
     let mut session = Session::new(alloc, Primitives::new(Vec::new(alloc)));
-    for (call, number) in calls {
-        if answer(alloc, &mut session, call)? != *number {
-            return Ok(false);
-        }
-    }
-    let mut text = Vec::new(alloc);
-    session.dump(&mut text)?;
-    Ok(text.as_slice() == dump && session.counts() == counts)
+    is_answered_and_left(alloc, &mut session, calls, dump, counts)
 }
 
 #[test]
@@ -245,27 +269,50 @@ fn groups_after_undo(rt: HostRuntime) -> Result<(), Fail> {
     Ok(())
 }
 
+fn is_found_by_name(alloc: Global, session: &mut Session<NoPrimitives>) -> Result<bool, Fail> {
+    let name = Label::read(alloc, b"t")?;
+    if session.tree(&name).is_some() {
+        return Ok(false);
+    }
+    session.set_tree(&name, Term::integer(alloc, 1))?;
+    Ok(session.tree(&name).is_some_and(|tree| tree.size() == 1))
+}
+
+fn has_one_name(session: &Session<NoPrimitives>) -> Result<bool, Fail> {
+    Ok(session.tree_names()?.len() == 1)
+}
+
+fn trees_are_found(alloc: Global, session: &mut Session<NoPrimitives>) -> Result<bool, Fail> {
+    Ok(is_found_by_name(alloc, session)? && has_one_name(session)?)
+}
+
+fn new_session_finds_trees(alloc: Global) -> Result<bool, Fail> {
+    let mut session = Session::new(alloc, Primitives::new(Vec::new(alloc)));
+    trees_are_found(alloc, &mut session)
+}
+
 #[test]
 fn trees_by_name(rt: HostRuntime) -> Result<(), Fail> {
-    let alloc = rt.alloc();
-    let name = Label::read(alloc, b"t")?;
-    let mut session = Session::<NoPrimitives>::new(alloc, Primitives::new(Vec::new(alloc)));
-    assert!(rt; session.tree(&name).is_none());
-    session.set_tree(&name, Term::integer(alloc, 1))?;
-    assert!(rt; session.tree(&name).is_some_and(|tree| tree.size() == 1));
-    assert!(rt; session.tree_names()?.len() == 1);
+    assert!(rt; new_session_finds_trees(rt.alloc())?);
     Ok(())
+}
+
+fn makes_many_steps(alloc: Global, session: &mut Session<NoPrimitives>) -> Result<bool, Fail> {
+    let name = Label::read(alloc, b"t")?;
+    for i in 0..100_000 {
+        session.set_tree(&name, Term::integer(alloc, i))?;
+    }
+    Ok(session.counts() == (100_000, 0))
+}
+
+fn new_session_makes_many_steps(alloc: Global) -> Result<bool, Fail> {
+    let mut session = Session::new(alloc, Primitives::new(Vec::new(alloc)));
+    makes_many_steps(alloc, &mut session)
 }
 
 #[test]
 fn many_steps_are_dropped(rt: HostRuntime) -> Result<(), Fail> {
-    let alloc = rt.alloc();
-    let name = Label::read(alloc, b"t")?;
-    let mut session = Session::<NoPrimitives>::new(alloc, Primitives::new(Vec::new(alloc)));
-    for i in 0..100_000 {
-        session.set_tree(&name, Term::integer(alloc, i))?;
-    }
-    assert_eq!(rt; session.counts(), (100_000, 0));
+    assert!(rt; new_session_makes_many_steps(rt.alloc())?);
     Ok(())
 }
 
