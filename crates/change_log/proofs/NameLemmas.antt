@@ -1,12 +1,12 @@
 -- The names of slots with content, in order.
-use Rattle.std.proofs.Common.{◌≡◌, ℕ, zero, suc, ◌+◌, Bool, true, false, cond, T, ◌&&◌, ◌||◌, List, [], ◌∷◌, ◌++◌, map, Option, Some, None, option_map, is_some, IsPermutation, IsSorted, refl, sym, ap, subst, ◌∙◌, nat_eq, arith}
+use Rattle.std.proofs.Common.{◌≡◌, ℕ, Bool, true, false, cond, T, ◌&&◌, ◌||◌, List, [], ◌∷◌, ◌++◌, map, Some, None, is_some, IsPermutation, IsSorted, refl, sym, ap, subst, ◌∙◌, nat_eq}
 use Rattle.std.specs.List.{AllByRecursion, IsDistinct, list_any, dedup, dedup_from}
 use Rattle.std.specs.List.Sorted.{IsStrictlySortedBy}
 use Rattle.std.specs.Ordering.{nat_cmp, eq_by_cmp, is_lt}
 use Rattle.std.specs.declared.cmp.Ordering.{Ordering}
 use Rattle.std.specs.declared.cmp.Ordering.TheVariants.{Less, Equal, Greater}
 use Rattle.std.specs.Cmp.Lexicographic.{slice_cmp, pointwise, nat_list_cmp_total}
-use Rattle.std.specs.FinMap.{FinMap, find, is_sorted, entries, entries_sorted, from_sorted, get, entries-from_sorted, get-from_sorted, contains_key-keys, get-from_entries, same_map}
+use Rattle.std.specs.FinMap.{find, is_sorted, entries, entries_sorted, from_sorted, entries-from_sorted, get-from_sorted, contains_key-keys, get-from_entries, same_map}
 use Rattle.std.specs.FinMap.Entries.{below_all}
 use Rattle.std.specs.FinMap as finmap
 use Rattle.std.specs.Map.{keys_of}
@@ -17,7 +17,6 @@ use Rattle.std.proofs.lemmas.Map.Keys.{IsDistinct-IsPermutation, IsDistinct-head
 use Rattle.std.proofs.lemmas.List.Sorted.{list_any-IsPermutation}
 use Rattle.std.proofs.lemmas.List.Kept.{IsStrictlySortedBy-dedup}
 use Rattle.std.proofs.lemmas.List.{append-nil}
-use Rattle.change_log.specs.Contents.{Named}
 use Rattle.change_log.specs.Slots.{Slots, labels, AreApart, filled, named}
 
 -- ---- a strictly rising list of keys is the list of a map

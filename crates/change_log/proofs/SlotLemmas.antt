@@ -1,8 +1,7 @@
 -- What stands in slots after a swap.
-use Rattle.std.proofs.Common.{◌≡◌, ℕ, zero, suc, ◌+◌, ◌<◌, cond, List, [], ◌∷◌, ◌++◌, length, map, slice_get, Option, Some, None, option_map, option_and_then, unwrap_or, is_some, IsSome, Bool, true, false, refl, sym, ap, subst, ◌∙◌, arith}
+use Rattle.std.proofs.Common.{◌≡◌, ℕ, zero, suc, ◌+◌, cond, List, [], ◌∷◌, ◌++◌, length, map, slice_get, Option, Some, None, option_map, option_and_then, unwrap_or, is_some, IsSome, Bool, true, false, refl, sym, ap, subst, ◌∙◌, arith}
 use Rattle.std.specs.Bool.{OnTrue, OnFalse}
 use Rattle.std.specs.Prelude.{nat_eq, nat_lt, position, if◌then◌else◌}
-use Rattle.std.specs.List.{position_or_len}
 use Rattle.std.specs.Cmp.Lexicographic.{pointwise}
 use Rattle.std.proofs.lemmas.List.Recursion.{is_position_or_len}
 use Rattle.std.proofs.lemmas.Bool.Decides.{nat_tests}
@@ -10,7 +9,6 @@ use Rattle.std.proofs.lemmas.Cmp.{nat_list_eq_equiv}
 use Rattle.indexmap.specs.IndexMap.{insert_entry}
 use Rattle.term_core.specs.Tree.{Tree, annotations}
 use Rattle.term_paths.specs.Paths.{at, leads, annotations_at, set_at, set_annotations_at}
-use Rattle.term_paths.specs.Laws.{swapped, annotations_swapped}
 use Rattle.term_paths.proofs.LawLemmas.{swapping_twice, swapping_annotations_twice, set_nowhere, set_annotations_nowhere, set_is_there, set_annotations_are_there}
 use Rattle.change_log.specs.Slots.{Slots, labels, slot_at, content, with_content, slot_of, with_slot}
 use Rattle.change_log.specs.Entries.{subterm_in, annotations_in, changed_tree}

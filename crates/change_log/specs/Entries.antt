@@ -1,6 +1,6 @@
 -- Logs of changes. An entry is a place in a store with what is kept for it: what stood there before
 -- a change, or, once the change was taken back, what the change put there.
-use Rattle.std.specs.Prelude.{◌≡◌, ℕ, ◌<◌, List, [], ◌∷◌, length, Some, option_map, option_and_then, unwrap_or, is_some, IsSome}
+use Rattle.std.specs.Prelude.{ℕ, ◌<◌, List, [], ◌∷◌, length, option_map, option_and_then, unwrap_or, IsSome}
 use Rattle.std.specs.declared.option.Option.{Option}
 use Rattle.term_core.specs.Tree.{Tree}
 use Rattle.term_paths.specs.Paths.{at, annotations_at, set_at, set_annotations_at}

@@ -1,6 +1,6 @@
 -- Slots: places with a label each, which stay, so that their numbers can be kept. A slot has content
 -- or is empty.
-use Rattle.std.specs.Prelude.{ℕ, Bool, List, [], ◌∷◌, ◌++◌, Some, None, length, map, slice_get, ◌+◌, is_some, option_map, option_and_then, filter_map, if◌then◌else◌, nat_eq}
+use Rattle.std.specs.Prelude.{ℕ, List, [], ◌∷◌, ◌++◌, Some, None, map, slice_get, ◌+◌, is_some, option_map, option_and_then, filter_map, if◌then◌else◌, nat_eq}
 use Rattle.std.specs.declared.option.Option.{Option}
 use Rattle.std.specs.Cmp.Lexicographic.{pointwise}
 use Rattle.std.specs.FinMap as finmap

@@ -1,4 +1,4 @@
-use Rattle.std.proofs.Common.{refl, sym, ap, ◌∙◌, ◌-◌, length, take, slice_index_or, arith}
+use Rattle.std.proofs.Common.{sym, ◌-◌, length, slice_index_or, arith}
 use Rattle.std.proofs.lemmas.List.{take_all}
 use Rattle.std.proofs.lemmas.Option.{slice_get-get_or}
 use Rattle.change_log.proofs.LogLemmas.{none_flipped_back, path_begin, path_begin_all, turn_back, path_left_back}

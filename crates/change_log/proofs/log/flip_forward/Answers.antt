@@ -1,4 +1,4 @@
-use Rattle.std.proofs.Common.{refl, sym, ap, ◌∙◌, length, slice_index_or, arith}
+use Rattle.std.proofs.Common.{slice_index_or, arith}
 use Rattle.std.proofs.lemmas.Option.{slice_get-get_or}
 use Rattle.change_log.proofs.LogLemmas.{turn_forward, path_left_forward, all_flipped_forward}
 use Rattle.change_log.proofs.log.flip_forward.Goals as goal

@@ -1,5 +1,4 @@
-use Rattle.std.proofs.Common.{length, sym, ap, ◌∙◌, arith}
-use Rattle.std.specs.Prelude.{vec_len}
+use Rattle.std.proofs.Common.{length, ap, arith}
 use Rattle.change_log.proofs.LogLemmas.{length-entries}
 use Rattle.change_log.proofs.log.Log.count.Goals as goal
 

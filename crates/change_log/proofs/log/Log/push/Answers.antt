@@ -1,6 +1,6 @@
-use Rattle.std.proofs.Common.{refl, sym, ap, ◌∙◌, ◌++◌, ◌∷◌, []}
+use Rattle.std.proofs.Common.{refl, ap, ◌∙◌, ◌++◌, ◌∷◌, []}
 use Rattle.change_log.specs.Entries.{found}
-use Rattle.change_log.specs.LogView.{entry_of, entries, depths}
+use Rattle.change_log.specs.LogView.{entries, depths}
 use Rattle.change_log.proofs.LogLemmas.{pushed_depths, pushed_entries}
 use Rattle.change_log.proofs.log.Log.push.Goals as goal
 

@@ -1,4 +1,4 @@
-use Rattle.std.proofs.Common.{arith, ap, length, ◌∙◌}
+use Rattle.std.proofs.Common.{arith}
 use Rattle.change_log.proofs.LogLemmas.{rolled_once}
 use Rattle.change_log.proofs.log.Log.roll_back.Goals as goal
 

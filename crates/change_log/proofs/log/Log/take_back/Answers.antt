@@ -1,7 +1,7 @@
-use Rattle.std.proofs.Common.{◌≡◌, sym, ap, ◌∙◌, ◌++◌, ◌∷◌, ◌-◌, [], length, take, drop, arith}
+use Rattle.std.proofs.Common.{◌≡◌, sym, ap, ◌∙◌, ◌-◌, length, take, drop, arith}
 use Rattle.std.proofs.lemmas.List.{take_all, length-drop}
-use Rattle.change_log.specs.Entries.{before, put}
-use Rattle.change_log.specs.LogView.{entry_of, entries, depths}
+use Rattle.change_log.specs.Entries.{put}
+use Rattle.change_log.specs.LogView.{entry_of, entries}
 use Rattle.change_log.proofs.LogLemmas.{popped_depth, popped_depths, popped_entries, all_but_newest, before_newest}
 use Rattle.change_log.proofs.log.Log.take_back.Goals as goal
 

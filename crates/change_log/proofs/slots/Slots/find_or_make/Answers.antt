@@ -1,5 +1,5 @@
-use Rattle.std.proofs.Common.{◌∙◌, sym, ap, Some, refl}
-use Rattle.change_log.specs.Slots.{slot_of, with_slot}
+use Rattle.std.proofs.Common.{◌∙◌, sym, ap, Some}
+use Rattle.change_log.specs.Slots.{slot_of}
 use Rattle.change_log.proofs.SlotLemmas.{slot_stays, slot_made}
 use Rattle.change_log.proofs.slots.Slots.find_or_make.Goals as goal
 
