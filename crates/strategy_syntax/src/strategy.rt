@@ -91,6 +91,14 @@ impl Strategy {
         &self.form
     }
 
+    /// The form of the strategy, by value.
+    pub fn into_form(self) -> StrategyForm
+        ensures { self ≡ strategy_of result }
+    {
+        let Strategy { form } = self;
+        form
+    }
+
     /// Whether the two strategies are the same.
     #[cycle(same_strategy)]
     pub fn equals(&self, other: &Strategy) -> bool
