@@ -1,0 +1,215 @@
+-- The free names of what the machine reads at the front of some tokens.
+use Rattle.std.proofs.Common.{◌≡◌, ◌+◌, ◌≤◌, Bool, true, false, ◌||◌, refl, sym, ap, ◌∙◌, subst, List, [], ◌∷◌, ◌++◌, Some, None, length, length-append, append_assoc, append-nil, arith}
+use Rattle.std.specs.Prelude.{if◌then◌else◌}
+use Rattle.std.specs.declared.option.Option.{Option}
+use Rattle.std.proofs.lemmas.List.{append_cancel_right}
+use Rattle.term_core.specs.Tree.{Symbol}
+use Rattle.strategy_syntax.specs.Syntax.{Strategy}
+use Rattle.strategy_parse.specs.declared.tokens.token.Token.{Token}
+use Rattle.strategy_parse.specs.declared.tokens.token.Token.TheVariants.{Bad}
+use Rattle.strategy_parse.specs.declared.tokens.token.Sign.TheVariants.{OpenRound, OpenCurly, Semicolon, FatArrow, Less, LeftChoice, At}
+use Rattle.strategy_parse.specs.declared.parser.state.State.{State}
+use Rattle.strategy_parse.specs.declared.parser.state.State.TheVariants.{Strategy as ToStrategy, FirstStrategy, Read, Used, Opening, Rec as BehindRec, Prim as BehindPrim, PrimOpen, PrimNamed, ScopeOpen, ScopeComma, ScopeNamed, Pattern as ToPattern, FirstPattern, Named, Base, Whole}
+use Rattle.strategy_parse.specs.declared.parser.state.Frame.{Frame}
+use Rattle.strategy_parse.specs.Marks.{is_mark}
+use Rattle.strategy_parse.specs.Machine.{Next, goes, ends, stuck, step, begin, front, front_of}
+use Rattle.strategy_parse.specs.Grammar.{Reading, ReadsChoice}
+use Rattle.strategy_parse.specs.Core.{core, free_in_choice}
+use Rattle.strategy_parse.specs.Written.{Choice}
+use Rattle.strategy_parse.specs.Fronts.{Stops}
+use Rattle.strategy_parse.specs.FreeNames.{seen, next_token, seen_behind, names_seen}
+use Rattle.strategy_parse.proofs.Frames.{Front, Framed, choice_framed}
+use Rattle.strategy_parse.proofs.FrontGives.{front-gives, choice-front}
+use Rattle.strategy_parse.proofs.SeenStrategies.{names_free, ChoiceEnds}
+
+-- what is seen where so much is read
+abbrev pub SeenFrom : State → List Frame → List Token → List Symbol
+SeenFrom q S x = seen q S (next_token x) ++ names_seen (step q S) x
+
+-- only the tokens that are taken show names
+record Cut (q : State) (S : List Frame) (x y : List Token) : Type 0 where
+  pub taken : List Token
+  pub splits : x ≡ taken ++ y
+  pub same : SeenFrom q S x ≡ SeenFrom q S taken
+
+not_open : (b : Bool) (n m : Next) (s : Strategy) (q : State) (S : List Frame) → (if b then goes q S else m) ≡ ends s → b ≡ false
+not_open true n m s q S e = absurd (cc)
+not_open false n m s q S e = refl
+
+seen-end : (q : State) (S : List Frame) (t : Token) (s : Strategy) → step q S t ≡ ends s → seen q S t ≡ seen q S Bad
+seen-end (Named f) S t s e = rw (not_open (is_mark OpenRound t) stuck _ s _ S e) refl
+seen-end ToStrategy S t s e = refl
+seen-end (FirstStrategy g) S t s e = refl
+seen-end (Read r) S t s e = refl
+seen-end (Used f) S t s e = refl
+seen-end (Opening F) S t s e = refl
+seen-end BehindRec S t s e = refl
+seen-end BehindPrim S t s e = refl
+seen-end PrimOpen S t s e = refl
+seen-end (PrimNamed f) S t s e = refl
+seen-end ScopeOpen S t s e = refl
+seen-end (ScopeComma xs) S t s e = refl
+seen-end (ScopeNamed xs) S t s e = refl
+seen-end ToPattern S t s e = refl
+seen-end (FirstPattern g) S t s e = refl
+seen-end (Base p) S t s e = refl
+seen-end (Whole p) S t s e = refl
+
+some-left : (s r : Strategy) (x y : List Token) → ◌≡◌ {A = Option (Strategy × List Token)} (Some (s, x)) (Some (r, y)) → s ≡ r
+some-left s r x y e = let pair : ◌≡◌ {A = Strategy × List Token} (s, x) (r, y) = cc in ap (λ (q : Strategy × List Token). q.0) pair
+
+some-right : (s r : Strategy) (x y : List Token) → ◌≡◌ {A = Option (Strategy × List Token)} (Some (s, x)) (Some (r, y)) → x ≡ y
+some-right s r x y e = let pair : ◌≡◌ {A = Strategy × List Token} (s, x) (r, y) = cc in ap (λ (q : Strategy × List Token). q.1) pair
+
+abbrev Rest : (State → List Frame → Option (Strategy × List Token)) → List Token → Next → Strategy → List Token → Type 0
+Rest k x n s y = front_of k x n ≡ Some (s, y)
+
+module _ (q : State) (S : List Frame) (t : Token) (ts : List Token) (s : Strategy) (y : List Token) where
+  abbrev Names : Next → List Symbol
+  Names n = seen_behind (λ r R. SeenFrom r R ts) n
+
+  at_step : (n : Next) → step q S t ≡ n → ((r : State) (R : List Frame) → front (step r R) ts ≡ Some (s, y) → Cut r R ts y)
+      → Rest (λ r R. front (step r R) ts) (t ∷ ts) n s y → Cut q S (t ∷ ts) y
+  at_step (goes r R) e more h =
+      let c : Cut r R ts y = more r R h in
+      record {
+        taken = t ∷ c.taken;
+        splits = ap (λ l. t ∷ l) c.splits;
+        same = ap (λ l. seen q S t ++ l) (ap Names e ∙ c.same ∙ ap (λ n. seen_behind (λ p P. SeenFrom p P c.taken) n) (sym e));
+      }
+  at_step (ends r) e more h = record {
+    taken = [];
+    splits = some-right r s (t ∷ ts) y h;
+    same = ap (λ l. seen q S t ++ l) (ap Names e) ∙ ap (λ l. l ++ []) (seen-end q S t r e);
+  }
+  at_step stuck e more h = absurd (cc)
+
+at_last : (q : State) (S : List Frame) (s : Strategy) (y : List Token) (n : Next) → front_of (λ r R. None) [] n ≡ Some (s, y) → Cut q S [] y
+at_last q S s y (goes r R) h = absurd (cc)
+at_last q S s y (ends r) h = record { taken = []; splits = some-right r s [] y h; same = refl }
+at_last q S s y stuck h = absurd (cc)
+
+cut : (x : List Token) (q : State) (S : List Frame) (s : Strategy) (y : List Token) → front (step q S) x ≡ Some (s, y) → Cut q S x y
+cut [] q S s y h = at_last q S s y (step q S Bad) h
+cut (t ∷ ts) q S s y h = at_step q S t ts s y (step q S t) refl (λ r R k. cut ts r R s y k) h
+
+nothing_left : ChoiceEnds []
+nothing_left = record {
+  seq = record { arrow = record { prefix = record { name = record { round = refl; at_sign = refl }; curly = refl }; arrow = refl }; semicolon = refl };
+  choice = refl;
+  less = refl;
+}
+
+-- a condition at the front of x: what it is, and its free names
+pub record ConditionGives (x : List Token) (s : Strategy) (fs : List Symbol) (y : List Token) : Type 0 where
+  pub choice : Choice
+  pub reads : ReadsChoice choice x y
+  pub is : core choice ≡ s
+  pub names : free_in_choice choice ≡ fs
+
+pub condition_gives : (x : List Token) (s : Strategy) (y : List Token) → front (begin []) x ≡ Some (s, y) → ConditionGives x s (names_seen (begin []) x) y
+condition_gives x s y h =
+    let found = front-gives x s y h in
+    let c : Cut ToStrategy [] x y = cut x ToStrategy [] s y h in
+    let f : Front (ReadsChoice found.0) x y = (choice_framed found.0).frames x y found.1 in
+    let same : f.taken ≡ c.taken = append_cancel_right f.taken c.taken y (sym f.splits ∙ c.splits) in
+    let alone : ReadsChoice found.0 c.taken [] = subst (λ l. ReadsChoice found.0 l []) (append-nil f.taken ∙ same) (f.anywhere []) in
+    record {
+      choice = found.0;
+      reads = found.1;
+      is = found.2;
+      names = sym (c.same ∙ names_free found.0 c.taken [] alone nothing_left);
+    }
+
+or-left : (a b : Bool) → (a || b) ≡ false → a ≡ false
+or-left true b e = e
+or-left false b e = refl
+
+or-right : (a b : Bool) → (a || b) ≡ false → b ≡ false
+or-right true b e = absurd (cc)
+or-right false b e = e
+
+ends_of : (y : List Token) → Stops y → ChoiceEnds y
+ends_of [] e = nothing_left
+ends_of (t ∷ ts) e =
+    let curly = or-right (is_mark OpenRound t) _ e in
+    let at_sign = or-right (is_mark OpenCurly t) _ curly in
+    let fat = or-right (is_mark At t) _ at_sign in
+    let semicolon = or-right (is_mark FatArrow t) _ fat in
+    let choice = or-right (is_mark Semicolon t) _ semicolon in
+    record {
+      seq = record {
+        arrow = record {
+          prefix = record {
+            name = record { round = or-left (is_mark OpenRound t) _ e; at_sign = or-left (is_mark At t) _ at_sign };
+            curly = or-left (is_mark OpenCurly t) _ curly;
+          };
+          arrow = or-left (is_mark FatArrow t) _ fat;
+        };
+        semicolon = or-left (is_mark Semicolon t) _ semicolon;
+      };
+      choice = or-left (is_mark LeftChoice t) (is_mark Less t) choice;
+      less = or-right (is_mark LeftChoice t) (is_mark Less t) choice;
+    }
+
+pub names_only : (a : Choice) (x y : List Token) → ReadsChoice a x y → Stops y → free_in_choice a ≡ names_seen (begin []) x
+names_only a x y h e = sym (names_free a x y h (ends_of y e))
+
+-- whatever reads as a choice and stops is what the machine reads there
+pub condition_only : (x : List Token) (s : Strategy) (y : List Token) → front (begin []) x ≡ Some (s, y) → (a : Choice) (z : List Token) → ReadsChoice a x z → Stops z
+    → (core a ≡ s) × (z ≡ y)
+condition_only x s y h a z r e =
+    let same : ◌≡◌ {A = Option (Strategy × List Token)} (Some (core a, z)) (Some (s, y)) = sym (choice-front a x z r e) ∙ h in
+    (some-left (core a) s z y same, some-right (core a) s z y same)
+
+pub condition_none : (x : List Token) → front (begin []) x ≡ None → (a : Choice) (z : List Token) → ReadsChoice a x z → Stops z → ⊥
+condition_none x h a z r e = let no : ◌≡◌ {A = Option (Strategy × List Token)} None (Some (core a, z)) = sym h ∙ choice-front a x z r e in cc
+
+-- ---- what reads takes tokens, or none
+
+pub shorter : (R : Reading) → Framed R → (x y : List Token) → R x y → length y ≤ length x
+shorter R f x y h =
+    let g : Front R x y = f.frames x y h in
+    let l : length x ≡ length g.taken + length y = ap length g.splits ∙ length-append g.taken y in
+    omega arith
+
+-- ---- the loop over tokens
+
+pub front_goes : (q r : State) (S R : List Frame) (x : List Token) (t : Token) (ts : List Token) → x ≡ t ∷ ts → step q S t ≡ goes r R → front (step r R) ts ≡ front (step q S) x
+front_goes q r S R x t ts h e = sym (ap (front (step q S)) h ∙ ap (front_of (λ p P. front (step p P) ts) (t ∷ ts)) e)
+
+pub front_ends : (q : State) (S : List Frame) (x : List Token) (t : Token) (ts : List Token) (s : Strategy) → x ≡ t ∷ ts → step q S t ≡ ends s → front (step q S) x ≡ Some (s, x)
+front_ends q S x t ts s h e = ap (front (step q S)) h ∙ ap (front_of (λ p P. front (step p P) ts) (t ∷ ts)) e ∙ ap (λ l. Some (s, l)) (sym h)
+
+pub front_last : (q : State) (S : List Frame) (x : List Token) (s : Strategy) → x ≡ [] → step q S Bad ≡ ends s → front (step q S) x ≡ Some (s, x)
+front_last q S x s h e = ap (front (step q S)) h ∙ ap (front_of (λ p P. None) []) e ∙ ap (λ l. Some (s, l)) (sym h)
+
+pub front_stuck : (q : State) (S : List Frame) (x : List Token) (t : Token) (ts : List Token) → x ≡ t ∷ ts → step q S t ≡ stuck → front (step q S) x ≡ None
+front_stuck q S x t ts h e = ap (front (step q S)) h ∙ ap (front_of (λ p P. front (step p P) ts) (t ∷ ts)) e
+
+pub front_over : (q r : State) (S R : List Frame) (x : List Token) → x ≡ [] → step q S Bad ≡ goes r R → front (step q S) x ≡ None
+front_over q r S R x h e = ap (front (step q S)) h ∙ ap (front_of (λ p P. None) []) e
+
+pub front_lost : (q : State) (S : List Frame) (x : List Token) → x ≡ [] → step q S Bad ≡ stuck → front (step q S) x ≡ None
+front_lost q S x h e = ap (front (step q S)) h ∙ ap (front_of (λ p P. None) []) e
+
+module _ (q : State) (S : List Frame) (names more total : List Symbol) (x : List Token) (so_far : names ++ SeenFrom q S x ≡ total) where
+  pub seen_goes : (r : State) (R : List Frame) (t : Token) (ts : List Token) → x ≡ t ∷ ts → more ≡ names ++ seen q S t → step q S t ≡ goes r R → more ++ SeenFrom r R ts ≡ total
+  seen_goes r R t ts h m e =
+      ap (λ l. l ++ SeenFrom r R ts) m
+      ∙ append_assoc names (seen q S t) (SeenFrom r R ts)
+      ∙ ap (λ n. names ++ (seen q S t ++ seen_behind (λ p P. SeenFrom p P ts) n)) (sym e)
+      ∙ ap (λ l. names ++ SeenFrom q S l) (sym h) ∙ so_far
+
+  pub seen_ends : (t : Token) (ts : List Token) (s : Strategy) → x ≡ t ∷ ts → more ≡ names ++ seen q S t → step q S t ≡ ends s → more ≡ total
+  seen_ends t ts s h m e =
+      m ∙ ap (λ l. names ++ l) (sym (append-nil (seen q S t)))
+      ∙ ap (λ n. names ++ (seen q S t ++ seen_behind (λ p P. SeenFrom p P ts) n)) (sym e)
+      ∙ ap (λ l. names ++ SeenFrom q S l) (sym h) ∙ so_far
+
+  pub seen_last : x ≡ [] → more ≡ names ++ seen q S Bad → more ≡ total
+  seen_last h m =
+      m ∙ ap (λ l. names ++ l) (sym (append-nil (seen q S Bad)))
+      ∙ ap (λ l. names ++ SeenFrom q S l) (sym h) ∙ so_far
+
+pub ruleset condition_rules = (front_goes, front_ends, front_last, front_stuck, front_over, front_lost)

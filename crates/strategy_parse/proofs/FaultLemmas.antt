@@ -1,0 +1,10 @@
+-- The faults of a text and of its tokens.
+use Rattle.std.proofs.Common.{◌≡◌, refl}
+use Rattle.strategy_parse.specs.declared.parser.fault.Fault.{Fault}
+use Rattle.strategy_parse.specs.declared.parser.fault.Fault.TheVariants.{Syntax, Memory}
+use Rattle.strategy_parse.specs.declared.tokens.fault.ParseFault.TheVariants as of_text
+use Rattle.strategy_parse.specs.Faults.{text_fault}
+
+pub syntax_back : (f : Fault) → of_text.Syntax ≡ text_fault f → f ≡ Syntax
+syntax_back Syntax e = refl
+syntax_back Memory e = absurd (cc)

@@ -1,0 +1,51 @@
+-- What the machine does, by what is on top of its stack.
+use Rattle.std.proofs.Common.{◌≡◌, ◌+◌, refl, ap, ◌∙◌, List, [], ◌∷◌, ◌++◌, length, arith}
+use Rattle.std.specs.Prelude.{if◌then◌else◌}
+use Rattle.term_core.specs.Tree.{Symbol, tuple}
+use Rattle.strategy_syntax.specs.Syntax as syntax
+use Rattle.strategy_syntax.specs.Syntax.{Pattern, wildcard, variable, at, number, compound, with_tail, annotated, no_patterns, and_pattern, pattern_list, patterns_of, Strategy, strategy_list, strategies_of}
+use Rattle.strategy_parse.specs.declared.tokens.token.Token.{Token}
+use Rattle.strategy_parse.specs.declared.tokens.token.Sign.TheVariants.{Plus}
+use Rattle.strategy_parse.specs.declared.parser.state.State.TheVariants.{Strategy as ToStrategy}
+use Rattle.strategy_parse.specs.declared.parser.state.Frame.{Frame}
+use Rattle.strategy_parse.specs.declared.parser.state.Frame.TheVariants.{Operand, At, Strategy as ForStrategy, Pattern as ForPattern}
+use Rattle.strategy_parse.specs.declared.parser.state.Infix.TheVariants.{Before, Guarded, Otherwise}
+use Rattle.strategy_parse.specs.declared.parser.state.PatternGroup.TheVariants.{Prim}
+use Rattle.strategy_parse.specs.Marks.{is_mark}
+use Rattle.strategy_parse.specs.Core.{in_brackets}
+use Rattle.std.proofs.Common.{length-append}
+use Rattle.strategy_parse.specs.Machine.{goes, stuck, behind_arrow, behind_seq, behind_choice, behind_pattern, no_operand, HasOperand}
+
+pub arrow-before : (s r : Strategy) (S R : List Frame) (t : Token) → S ≡ Operand Before r ∷ R → behind_arrow (syntax.seq r s) R t ≡ behind_arrow s S t
+arrow-before s r S R t e = rw e refl
+
+pub arrow-guarded : (s : Strategy) (S : List Frame) (t : Token) → HasOperand Guarded S → behind_arrow s S t ≡ (if (is_mark Plus t) then goes ToStrategy (Operand Otherwise s ∷ S) else stuck)
+arrow-guarded s S t h = rw h.2 refl
+
+pub arrow-bare : (s : Strategy) (S : List Frame) (t : Token) → no_operand Before S → no_operand Guarded S → behind_arrow s S t ≡ behind_seq s S t
+arrow-bare s [] t h k = refl
+arrow-bare s (Operand Before r ∷ S) t h k = absurd (h r S refl)
+arrow-bare s (Operand Guarded r ∷ S) t h k = absurd (k r S refl)
+arrow-bare s (Operand Otherwise b ∷ S) t h k = refl
+arrow-bare s (At x ∷ S) t h k = refl
+arrow-bare s (ForStrategy F ∷ S) t h k = refl
+arrow-bare s (ForPattern F ∷ S) t h k = refl
+
+pub choice-guard : (s a b : Strategy) (S R Q : List Frame) (t : Token) → S ≡ Operand Otherwise b ∷ R → R ≡ Operand Guarded a ∷ Q → behind_choice (syntax.guard a b s) Q t ≡ behind_choice s S t
+choice-guard s a b S R Q t e h = rw (e, h) refl
+
+pub pattern-at : (p : Pattern) (x : Symbol) (S R : List Frame) (t : Token) → S ≡ At x ∷ R → behind_pattern (at x p) R t ≡ behind_pattern p S t
+pattern-at p x S R t e = rw e refl
+
+pub brackets-many : (ss : List Strategy) → (length ss ≡ 1 → ⊥) → syntax.congruence tuple (strategies_of ss) ≡ in_brackets (strategies_of ss)
+brackets-many [] h = refl
+brackets-many (s ∷ []) h = absurd (h refl)
+brackets-many (s ∷ (r ∷ ss)) h = refl
+
+pub brackets-one : (ss rest : List Strategy) (s : Strategy) → ss ≡ rest ++ s ∷ [] → length ss ≡ 1 → s ≡ in_brackets (strategies_of ss)
+brackets-one ss [] s e h = rw e refl
+brackets-one ss (r ∷ rest) s e h =
+    let l : length ss ≡ length (r ∷ rest) + length (s ∷ []) = ap length e ∙ length-append (r ∷ rest) (s ∷ []) in
+    absurd (omega arith)
+
+pub ruleset machine_rules = (arrow-before, arrow-guarded, arrow-bare, choice-guard, pattern-at, brackets-many, brackets-one)

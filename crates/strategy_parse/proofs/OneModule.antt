@@ -1,0 +1,191 @@
+-- A list of tokens gives at most one module.
+use Rattle.std.proofs.Common.{◌≡◌, ℕ, zero, suc, ◌<◌, ◌≤◌, refl, sym, ap, ◌∙◌, subst, List, [], ◌∷◌, ◌++◌, Some, None, length, arith}
+use Rattle.std.specs.declared.option.Option.{Option}
+use Rattle.term_core.specs.Tree.{Symbol}
+use Rattle.strategy_syntax.specs.Syntax as syntax
+use Rattle.strategy_syntax.specs.Syntax.{Pattern, Strategy, scope}
+use Rattle.strategy_syntax.specs.Modules.{Module, Constructor, Definition}
+use Rattle.strategy_parse.specs.declared.tokens.token.Token.{Token}
+use Rattle.strategy_parse.specs.declared.tokens.token.Token.TheVariants.{Ident, Wildcard, Reserved, Integer, Text, Sign as ASign, Bad}
+use Rattle.strategy_parse.specs.declared.tokens.token.Keyword.{Keyword}
+use Rattle.strategy_parse.specs.declared.tokens.token.Keyword.TheVariants.{Module as KModule}
+use Rattle.strategy_parse.specs.declared.tokens.token.Sign.TheVariants.{Colon, Equals, Arrow as RightArrow}
+use Rattle.strategy_parse.specs.declared.modules.sections.Part.{Part}
+use Rattle.strategy_parse.specs.declared.modules.sections.Part.TheVariants.{Outside, Signature as InSignature, Sorts, Constructors, Definitions}
+use Rattle.strategy_parse.specs.Written.{Defined, definition, rule, rule_where}
+use Rattle.strategy_parse.specs.Grammar.{ReadsPattern}
+use Rattle.strategy_parse.specs.GrammarModules.{ReadsDefined}
+use Rattle.strategy_parse.specs.Core.{core, core_definition, defined, declared, rewrite, rewrite_where, once, without, variables}
+use Rattle.strategy_parse.specs.Fronts.{Stops}
+use Rattle.strategy_parse.specs.FreeNames.{names_seen}
+use Rattle.strategy_parse.specs.Machine.{begin}
+use Rattle.strategy_parse.specs.ModuleFronts.{behind_mark, head_at, DeclaredLeft}
+use Rattle.strategy_parse.specs.Definitions.{DefinitionEnds}
+use Rattle.strategy_parse.specs.Gives.{GivesModule}
+use Rattle.strategy_parse.specs.Sections.{IsItem, joined, SectionsLeft, SortsLeft, DeclarationsLeft, DefinitionsLeft, Left}
+use Rattle.strategy_parse.proofs.HeadLemmas.{behind_found, head_named}
+use Rattle.strategy_parse.proofs.SortLemmas.{sort_alone}
+use Rattle.strategy_parse.proofs.DeclarationLemmas.{declaration_named}
+use Rattle.strategy_parse.proofs.FrontGives.{choice-front, pattern-front}
+use Rattle.strategy_parse.proofs.ConditionLemmas.{condition_only}
+use Rattle.strategy_parse.proofs.RuleLemmas.{PatternAt, Headed, headed, rule_only, where_only, body_only, ruled_only}
+use Rattle.strategy_parse.proofs.SectionWords.{WordStep, word_step, left_end}
+use Rattle.strategy_parse.proofs.SectionItems.{outside_item, signature_item, SortStep, sort_step, DeclarationStep, declaration_step, DefinitionStep, definition_step}
+use Rattle.strategy_parse.proofs.TitleLemmas.{title_forth, untitled_forth}
+use Rattle.strategy_parse.proofs.ModuleFrames.{sort_shorter, declaration_shorter, defined_shorter}
+
+pair-left : (s r : Strategy) (x y : List Token) → ◌≡◌ {A = Option (Strategy × List Token)} (Some (s, x)) (Some (r, y)) → s ≡ r
+pair-left s r x y e = let pair : ◌≡◌ {A = Strategy × List Token} (s, x) (r, y) = cc in ap (λ (q : Strategy × List Token). q.0) pair
+
+pair-right : (s r : Strategy) (x y : List Token) → ◌≡◌ {A = Option (Strategy × List Token)} (Some (s, x)) (Some (r, y)) → x ≡ y
+pair-right s r x y e = let pair : ◌≡◌ {A = Strategy × List Token} (s, x) (r, y) = cc in ap (λ (q : Strategy × List Token). q.1) pair
+
+-- ---- what reads at the front is one
+
+pattern_at : (x : List Token) (p : Pattern) (y : List Token) → ReadsPattern p x y → Stops y → PatternAt x p y
+pattern_at x p y h e = record {
+  given = h;
+  only = λ q z r s.
+      let same : ◌≡◌ {A = Option (Strategy × List Token)} (Some (syntax.matches q, z)) (Some (syntax.matches p, y)) = sym (pattern-front q x z r s) ∙ pattern-front p x y h e in
+      let left : syntax.matches q ≡ syntax.matches p = pair-left (syntax.matches q) (syntax.matches p) z y same in
+      let is : q ≡ p = cc in
+      (is, pair-right (syntax.matches q) (syntax.matches p) z y same);
+}
+
+-- whatever reads as a definition there is this
+abbrev Only : List Token → Definition → List Token → Type 0
+Only x d y = (w : Defined) (z : List Token) → ReadsDefined w x z → DefinitionEnds z → (core_definition w ≡ d) × (z ≡ y)
+
+record One (x : List Token) : Type 0 where
+  pub definition : Definition
+  pub rest : List Token
+  pub only : Only x definition rest
+
+definition_one : (v : Defined) (x y : List Token) → ReadsDefined v x y → DefinitionEnds y → One x
+definition_one (definition h u) x y r e =
+    let t : Headed (definition h u) x y = headed (definition h u) x y r in
+    let head : head_at x ≡ Some (h, r.0) = head_named h x r.0 r.1 t.ends in
+    let sign : behind_mark Equals r.0 ≡ Some r.2.0 = ap (behind_mark Equals) r.2.1 ∙ behind_found Equals r.2.0 in
+    record {
+      definition = defined h (core u);
+      rest = y;
+      only = body_only x h r.0 head r.2.0 sign (core u) y (defined h (core u))
+          (λ w z s k. condition_only r.2.0 (core u) y (choice-front u r.2.0 y r.2.2 e.stops) w z s k) refl;
+    }
+definition_one (rule h p q) x y r e =
+    let t : Headed (rule h p q) x y = headed (rule h p q) x y r in
+    let head : head_at x ≡ Some (h, r.0) = head_named h x r.0 r.1 t.ends in
+    let plain : behind_mark Equals r.0 ≡ None = ap (behind_mark Equals) r.2.1 in
+    let colon : behind_mark Colon r.0 ≡ Some r.2.0 = ap (behind_mark Colon) r.2.1 ∙ behind_found Colon r.2.0 in
+    let arrow : behind_mark RightArrow r.2.2.0 ≡ Some r.2.2.2.0 = ap (behind_mark RightArrow) r.2.2.2.1 ∙ behind_found RightArrow r.2.2.2.0 in
+    let d : Definition = defined h (scope (once (without h.terms (variables p ++ variables q))) (rewrite p q)) in
+    record {
+      definition = d;
+      rest = y;
+      only = ruled_only x h r.0 head plain r.2.0 colon d y
+          (rule_only r.2.0 p r.2.2.0 (pattern_at r.2.0 p r.2.2.0 r.2.2.1 (subst Stops (sym r.2.2.2.1) refl)) r.2.2.2.0 arrow q y
+          (pattern_at r.2.2.2.0 q y r.2.2.2.2 e.stops) h d refl e.no_condition);
+    }
+definition_one (rule_where h p q u) x y r e =
+    let t : Headed (rule_where h p q u) x y = headed (rule_where h p q u) x y r in
+    let head : head_at x ≡ Some (h, r.0) = head_named h x r.0 r.1 t.ends in
+    let plain : behind_mark Equals r.0 ≡ None = ap (behind_mark Equals) r.2.1 in
+    let colon : behind_mark Colon r.0 ≡ Some r.2.0 = ap (behind_mark Colon) r.2.1 ∙ behind_found Colon r.2.0 in
+    let arrow : behind_mark RightArrow r.2.2.0 ≡ Some r.2.2.2.0 = ap (behind_mark RightArrow) r.2.2.2.1 ∙ behind_found RightArrow r.2.2.2.0 in
+    let names : List Symbol = (variables p ++ variables q) ++ names_seen (begin []) r.2.2.2.2.2.0 in
+    let d : Definition = defined h (scope (once (without h.terms names)) (rewrite_where p q (core u))) in
+    record {
+      definition = d;
+      rest = y;
+      only = ruled_only x h r.0 head plain r.2.0 colon d y
+          (where_only r.2.0 p r.2.2.0 (pattern_at r.2.0 p r.2.2.0 r.2.2.1 (subst Stops (sym r.2.2.2.1) refl)) r.2.2.2.0 arrow q r.2.2.2.2.0
+          (pattern_at r.2.2.2.0 q r.2.2.2.2.0 r.2.2.2.2.1 (subst Stops (sym r.2.2.2.2.2.1) refl))
+          r.2.2.2.2.2.0 r.2.2.2.2.2.1 (core u) y (choice-front u r.2.2.2.2.2.0 y r.2.2.2.2.2.2 e.stops) h names d refl refl);
+    }
+
+-- ---- what is left is one
+
+abbrev LeftOne : ℕ → Type 0
+LeftOne n = (p : Part) (x : List Token) (m r : Module) → length x ≤ n → Left p x m → Left p x r → m ≡ r
+
+some-is : (q r : Part) → ◌≡◌ {A = Option Part} (Some q) (Some r) → q ≡ r
+some-is q r e = cc
+
+module _ (n : ℕ) (one : LeftOne n) where
+  word_one : (p : Part) (w : Keyword) (x : List Token) (m r : Module) → length x ≤ n → Left p (Reserved w ∷ x) m → Left p (Reserved w ∷ x) r → m ≡ r
+  word_one p w x m r le a b =
+      let s : WordStep p w x m = word_step p w x m a in
+      let t : WordStep p w x r = word_step p w x r b in
+      let same : t.part ≡ s.part = some-is t.part s.part (sym t.is ∙ s.is) in
+      one s.part x m r le s.left (subst (λ q. Left q x r) same t.left)
+
+  sorts_one : (x : List Token) (m r : Module) → length x ≤ suc n → IsItem x → SortsLeft x m → SortsLeft x r → m ≡ r
+  sorts_one x m r le i a b =
+      let s : SortStep x m = sort_step x m a i in
+      let t : SortStep x r = sort_step x r b i in
+      let both : ◌≡◌ {A = Option (List Token)} (Some t.rest) (Some s.rest) = sym (sort_alone t.sort x t.rest t.reads t.ends.round t.ends.star) ∙ sort_alone s.sort x s.rest s.reads s.ends.round s.ends.star in
+      let same : t.rest ≡ s.rest = cc in
+      let less : length s.rest < length x = sort_shorter s.sort x s.rest s.reads in
+      one Sorts s.rest m r (omega arith) s.left (subst (λ l. SortsLeft l r) same t.left)
+
+  declared-pair : (a b : List Constructor) (y z : List Token) → ◌≡◌ {A = DeclaredLeft} (Some (a, y)) (Some (b, z)) → ◌≡◌ {A = List Constructor × List Token} (a, y) (b, z)
+  declared-pair a b y z e = cc
+
+  declarations_one : (x : List Token) (m r : Module) → length x ≤ suc n → IsItem x → DeclarationsLeft x m → DeclarationsLeft x r → m ≡ r
+  declarations_one x m r le i a b =
+      let s : DeclarationStep x m = declaration_step x m a i in
+      let t : DeclarationStep x r = declaration_step x r b i in
+      let both : ◌≡◌ {A = List Constructor × List Token} (declared t.declaration, t.rest) (declared s.declaration, s.rest) =
+      declared-pair (declared t.declaration) (declared s.declaration) t.rest s.rest
+      (sym (declaration_named t.declaration x t.rest t.reads t.ends) ∙ declaration_named s.declaration x s.rest s.reads s.ends) in
+      let less : length s.rest < length x = declaration_shorter s.declaration x s.rest s.reads in
+      let same : s.behind ≡ t.behind = one Constructors s.rest s.behind t.behind (omega arith) s.left (subst (λ l. DeclarationsLeft l t.behind) (ap (λ (q : List Constructor × List Token). q.1) both) t.left) in
+      sym s.gives ∙ ap (joined (declared s.declaration) []) same ∙ ap (λ l. joined l [] t.behind) (sym (ap (λ (q : List Constructor × List Token). q.0) both)) ∙ t.gives
+
+  definitions_one : (x : List Token) (m r : Module) → length x ≤ suc n → IsItem x → DefinitionsLeft x m → DefinitionsLeft x r → m ≡ r
+  definitions_one x m r le i a b =
+      let s : DefinitionStep x m = definition_step x m a i in
+      let t : DefinitionStep x r = definition_step x r b i in
+      let o : One x = definition_one s.definition x s.rest s.reads s.ends in
+      let first = o.only s.definition s.rest s.reads s.ends in
+      let second = o.only t.definition t.rest t.reads t.ends in
+      let less : length s.rest < length x = defined_shorter s.definition x s.rest s.reads in
+      let same : s.behind ≡ t.behind = one Definitions s.rest s.behind t.behind (omega arith) s.left (subst (λ l. DefinitionsLeft l t.behind) (second.1 ∙ sym first.1) t.left) in
+      sym s.gives ∙ ap (joined [] (core_definition s.definition ∷ [])) same ∙ ap (λ l. joined [] (l ∷ []) t.behind) (first.0 ∙ sym second.0) ∙ t.gives
+
+  item_one : (p : Part) (x : List Token) (m r : Module) → length x ≤ suc n → IsItem x → Left p x m → Left p x r → m ≡ r
+  item_one Outside x m r le i a b = absurd (outside_item x m a i)
+  item_one InSignature x m r le i a b = absurd (signature_item x m a i)
+  item_one Sorts x m r le i a b = sorts_one x m r le i a b
+  item_one Constructors x m r le i a b = declarations_one x m r le i a b
+  item_one Definitions x m r le i a b = definitions_one x m r le i a b
+
+  token_one : (p : Part) (t : Token) (ts : List Token) (m r : Module) → length (t ∷ ts) ≤ suc n → Left p (t ∷ ts) m → Left p (t ∷ ts) r → m ≡ r
+  token_one p (Reserved w) ts m r le a b = word_one p w ts m r (omega arith) a b
+  token_one p (Ident f) ts m r le a b = item_one p (Ident f ∷ ts) m r le tt a b
+  token_one p Wildcard ts m r le a b = item_one p (Wildcard ∷ ts) m r le tt a b
+  token_one p (Integer z) ts m r le a b = item_one p (Integer z ∷ ts) m r le tt a b
+  token_one p (Text f) ts m r le a b = item_one p (Text f ∷ ts) m r le tt a b
+  token_one p (ASign s) ts m r le a b = item_one p (ASign s ∷ ts) m r le tt a b
+  token_one p Bad ts m r le a b = item_one p (Bad ∷ ts) m r le tt a b
+
+left_one : (n : ℕ) → LeftOne n
+left_one n p [] m r le a b = sym (left_end p m a) ∙ left_end p r b
+left_one zero p (t ∷ ts) m r le a b = absurd (omega arith)
+left_one (suc n) p (t ∷ ts) m r le a b = token_one n (left_one n) p t ts m r le a b
+
+title_is : (x y : List Token) (m r : Module) → x ≡ Reserved KModule ∷ y → GivesModule x m → GivesModule x r → m ≡ r
+title_is x y m r e a b =
+    let s = title_forth x y m e a in
+    let t = title_forth x y r e b in
+    let both : Ident s.0 ∷ s.1 ≡ Ident t.0 ∷ t.1 = sym s.2 ∙ t.2 in
+    let same : t.1 ≡ s.1 = cc in
+    left_one (length s.1) Outside s.1 m r (omega arith) s.3 (subst (λ l. SectionsLeft l r) same t.3)
+
+plain_is : (x : List Token) (m r : Module) → ((y : List Token) → x ≡ Reserved KModule ∷ y → ⊥) → GivesModule x m → GivesModule x r → m ≡ r
+plain_is x m r h a b = left_one (length x) Outside x m r (omega arith) (untitled_forth x m h a) (untitled_forth x r h b)
+
+pub one_module : (x : List Token) (m r : Module) → GivesModule x m → GivesModule x r → m ≡ r
+one_module [] m r a b = plain_is [] m r (λ y e. let no : ◌≡◌ {A = List Token} [] (Reserved KModule ∷ y) = e in cc) a b
+one_module (Reserved KModule ∷ ts) m r a b = title_is (Reserved KModule ∷ ts) ts m r refl a b
+one_module (t ∷ ts) m r a b = plain_is (t ∷ ts) m r (λ y e. let same : t ∷ ts ≡ Reserved KModule ∷ y = e in cc) a b

@@ -1,0 +1,332 @@
+-- Rules and definitions, by the grammar and as they are read.
+use Rattle.std.proofs.Common.{◌≡◌, true, false, refl, sym, ap, ◌∙◌, subst, List, [], ◌∷◌, ◌++◌, Some, None, append_assoc}
+use Rattle.std.specs.declared.option.Option.{Option}
+use Rattle.term_core.specs.Tree.{Symbol}
+use Rattle.strategy_syntax.specs.Syntax.{Pattern, Strategy, scope}
+use Rattle.strategy_syntax.specs.Modules.{Definition}
+use Rattle.strategy_parse.specs.declared.tokens.token.Token.{Token}
+use Rattle.strategy_parse.specs.declared.tokens.token.Token.TheVariants.{Reserved, Sign as ASign}
+use Rattle.strategy_parse.specs.declared.tokens.token.Keyword.TheVariants.{Where}
+use Rattle.strategy_parse.specs.declared.tokens.token.Sign.{Sign}
+use Rattle.strategy_parse.specs.declared.tokens.token.Sign.TheVariants.{OpenRound, Colon, Equals, Arrow as RightArrow}
+use Rattle.strategy_parse.specs.Marks.{is_mark, is_word}
+use Rattle.strategy_parse.specs.Written.{Choice, Head, Defined, definition, rule, rule_where}
+use Rattle.strategy_parse.specs.Grammar.{ReadsPattern, ReadsChoice}
+use Rattle.strategy_parse.specs.GrammarModules.{ReadsHead, ReadsDefined}
+use Rattle.strategy_parse.specs.Core.{core, core_definition, defined, rewrite, rewrite_where, once, without, variables, free_in_choice}
+use Rattle.strategy_parse.specs.Fronts.{FrontGives, Stops}
+use Rattle.strategy_parse.specs.FreeNames.{next_token, names_seen}
+use Rattle.strategy_parse.specs.Machine.{begin, front}
+use Rattle.strategy_parse.specs.ModuleFronts.{behind_mark, head_at, HeadLeft}
+use Rattle.strategy_parse.specs.Definitions.{DefinitionEnds, DefinitionGives, head_of, ReadsRule, RuleGives}
+use Rattle.strategy_parse.proofs.SeenPatterns.{NoMark}
+use Rattle.strategy_parse.proofs.HeadLemmas.{behind_found, mark_found, head_named, head_found}
+use Rattle.strategy_parse.proofs.ConditionLemmas.{ConditionGives, condition_gives, condition_only, condition_none, names_only}
+
+-- ---- a pattern at the front of x, and what is left
+
+pub record PatternAt (x : List Token) (p : Pattern) (a : List Token) : Type 0 where
+  pub given : ReadsPattern p x a
+  pub only : (q : Pattern) (y : List Token) → ReadsPattern q x y → Stops y → (q ≡ p) × (y ≡ a)
+
+abbrev pub NoPattern : List Token → Type 0
+NoPattern x = (p : Pattern) (y : List Token) → ReadsPattern p x y → Stops y → ⊥
+
+arrow_stops : (y z : List Token) → y ≡ ASign RightArrow ∷ z → Stops y
+arrow_stops y z e = subst Stops (sym e) refl
+
+where_stops : (y z : List Token) → y ≡ Reserved Where ∷ z → Stops y
+where_stops y z e = subst Stops (sym e) refl
+
+no_behind : (m : Sign) (x y : List Token) → behind_mark m x ≡ None → x ≡ ASign m ∷ y → ⊥
+no_behind m x y e h = let no : ◌≡◌ {A = Option (List Token)} None (Some y) = sym e ∙ ap (behind_mark m) h ∙ behind_found m y in cc
+
+same_behind : (m : Sign) (x y z : List Token) → behind_mark m x ≡ Some z → x ≡ ASign m ∷ y → y ≡ z
+same_behind m x y z e h = let same : ◌≡◌ {A = Option (List Token)} (Some y) (Some z) = sym (behind_found m y) ∙ ap (behind_mark m) (sym h) ∙ e in cc
+
+-- ---- the patterns of a rule, and what is behind them
+
+record Patterns (w : Defined) (x y : List Token) : Type 0 where
+  pub left : Pattern
+  pub behind_left : List Token
+  pub reads_left : ReadsPattern left x behind_left
+  pub right_at : List Token
+  pub arrow : behind_left ≡ ASign RightArrow ∷ right_at
+  pub right : Pattern
+  pub behind_right : List Token
+  pub reads_right : ReadsPattern right right_at behind_right
+  pub stops : Stops behind_right
+
+abbrev patterns_of : (w : Defined) (x y : List Token) → ReadsRule w x y → DefinitionEnds y → Patterns w x y
+patterns_of (definition h a) x y r e = absurd r
+patterns_of (rule h p q) x y r e = record {
+  left = p;
+  behind_left = r.0;
+  reads_left = r.1;
+  right_at = r.2.0;
+  arrow = r.2.1;
+  right = q;
+  behind_right = y;
+  reads_right = r.2.2;
+  stops = e.stops;
+}
+patterns_of (rule_where h p q a) x y r e = record {
+  left = p;
+  behind_left = r.0;
+  reads_left = r.1;
+  right_at = r.2.0;
+  arrow = r.2.1;
+  right = q;
+  behind_right = r.2.2.0;
+  reads_right = r.2.2.1;
+  stops = where_stops r.2.2.0 r.2.2.2.0 r.2.2.2.1;
+}
+
+abbrev pub NoRule : List Token → Type 0
+NoRule x = (w : Defined) (y : List Token) → ReadsRule w x y → DefinitionEnds y → ⊥
+
+pub no_left : (x : List Token) → NoPattern x → NoRule x
+no_left x none w y r e =
+    let p : Patterns w x y = patterns_of w x y r e in
+    none p.left p.behind_left p.reads_left (arrow_stops p.behind_left p.right_at p.arrow)
+
+module _ (x : List Token) (p : Pattern) (a : List Token) (at_left : PatternAt x p a) where
+  left_is : (w : Defined) (y : List Token) → (t : Patterns w x y) → (t.left ≡ p) × (t.behind_left ≡ a)
+  left_is w y t = at_left.only t.left t.behind_left t.reads_left (arrow_stops t.behind_left t.right_at t.arrow)
+
+  pub no_arrow : behind_mark RightArrow a ≡ None → NoRule x
+  no_arrow none w y r e =
+      let t : Patterns w x y = patterns_of w x y r e in
+      no_behind RightArrow a t.right_at none (sym (left_is w y t).1 ∙ t.arrow)
+
+  module _ (b : List Token) (arrow : behind_mark RightArrow a ≡ Some b) where
+    right_is : (w : Defined) (y : List Token) → (t : Patterns w x y) → t.right_at ≡ b
+    right_is w y t = same_behind RightArrow a t.right_at b arrow (sym (left_is w y t).1 ∙ t.arrow)
+
+    pub no_right : NoPattern b → NoRule x
+    no_right none w y r e =
+        let t : Patterns w x y = patterns_of w x y r e in
+        none t.right t.behind_right (subst (λ l. ReadsPattern t.right l t.behind_right) (right_is w y t) t.reads_right) t.stops
+
+    module _ (q : Pattern) (c : List Token) (at_right : PatternAt b q c) where
+      both_are : (w : Defined) (y : List Token) → (t : Patterns w x y) → (t.right ≡ q) × (t.behind_right ≡ c)
+      both_are w y t = at_right.only t.right t.behind_right (subst (λ l. ReadsPattern t.right l t.behind_right) (right_is w y t) t.reads_right) t.stops
+
+      -- both patterns are read, and no condition follows
+      pub rule_gives : (h : Head) (d : Definition) → d ≡ defined h (scope (once (without h.terms (variables p ++ variables q))) (rewrite p q)) → RuleGives h x d c
+      rule_gives h d e = record {
+        written = rule h p q;
+        head = refl;
+        reads = (a, at_left.given, (b, mark_found RightArrow a b arrow, at_right.given));
+        is = sym e;
+      }
+
+      same_rule : (h k : Head) (l r : Pattern) → k ≡ h → l ≡ p → r ≡ q → core_definition (rule k l r) ≡ core_definition (rule h p q)
+      same_rule h k l r e f g = λ i. core_definition (rule (e i) (f i) (g i))
+
+      pub rule_only : (h : Head) (d : Definition) → d ≡ defined h (scope (once (without h.terms (variables p ++ variables q))) (rewrite p q))
+          → is_word Where (next_token c) ≡ false → (w : Defined) (y : List Token) → head_of w ≡ h → ReadsRule w x y → DefinitionEnds y → (core_definition w ≡ d) × (y ≡ c)
+      rule_only h d e none (definition k s) y f r ends = absurd r
+      rule_only h d e none (rule k l s) y f r ends =
+          let t : Patterns (rule k l s) x y = patterns_of (rule k l s) x y r ends in
+          (same_rule h k l s f (left_is (rule k l s) y t).0 (both_are (rule k l s) y t).0 ∙ sym e, (both_are (rule k l s) y t).1)
+      rule_only h d e none (rule_where k l s u) y f r ends =
+          let t : Patterns (rule_where k l s u) x y = patterns_of (rule_where k l s u) x y r ends in
+          let front : c ≡ Reserved Where ∷ r.2.2.2.0 = sym (both_are (rule_where k l s u) y t).1 ∙ r.2.2.2.1 in
+          let no : true ≡ false = sym (ap (λ z. is_word Where (next_token z)) front) ∙ none in
+          cc
+
+      -- a condition follows
+      module _ (z : List Token) (word : c ≡ Reserved Where ∷ z) where
+        rest-is : (m n : List Token) → c ≡ Reserved Where ∷ m → c ≡ Reserved Where ∷ n → m ≡ n
+        rest-is m n e f = let same : Reserved Where ∷ m ≡ Reserved Where ∷ n = sym e ∙ f in cc
+
+        no_plain : (y : List Token) → y ≡ c → DefinitionEnds y → ⊥
+        no_plain y e ends = let no : true ≡ false = sym (ap (λ l. is_word Where (next_token l)) (e ∙ word)) ∙ ends.no_condition in cc
+
+        pub no_condition : front (begin []) z ≡ None → NoRule x
+        no_condition none (definition k s) y r ends = absurd r
+        no_condition none (rule k l s) y r ends =
+            let t : Patterns (rule k l s) x y = patterns_of (rule k l s) x y r ends in
+            no_plain y (both_are (rule k l s) y t).1 ends
+        no_condition none (rule_where k l s u) y r ends =
+            let t : Patterns (rule_where k l s u) x y = patterns_of (rule_where k l s u) x y r ends in
+            let at_z : r.2.2.2.0 ≡ z = rest-is r.2.2.2.0 z (sym (both_are (rule_where k l s u) y t).1 ∙ r.2.2.2.1) word in
+            condition_none z none u y (subst (λ m. ReadsChoice u m y) at_z r.2.2.2.2) ends.stops
+
+        module _ (s : Strategy) (v : List Token) (run : front (begin []) z ≡ Some (s, v)) (h : Head) (names : List Symbol) (d : Definition)
+            (seen : names ≡ (variables p ++ variables q) ++ names_seen (begin []) z)
+            (is : d ≡ defined h (scope (once (without h.terms names)) (rewrite_where p q s))) where
+          given : ConditionGives z s (names_seen (begin []) z) v
+          given = condition_gives z s v run
+
+          all_names : names ≡ variables p ++ (variables q ++ free_in_choice given.choice)
+          all_names =
+              seen ∙ ap (λ l. (variables p ++ variables q) ++ l) (sym given.names)
+              ∙ append_assoc (variables p) (variables q) (free_in_choice given.choice)
+
+          written_is : core_definition (rule_where h p q given.choice) ≡ d
+          written_is =
+              ap (λ l. defined h (scope (once (without h.terms l)) (rewrite_where p q (core given.choice)))) (sym all_names)
+              ∙ ap (λ l. defined h (scope (once (without h.terms names)) (rewrite_where p q l))) given.is ∙ sym is
+
+          pub where_gives : RuleGives h x d v
+          where_gives = record {
+            written = rule_where h p q given.choice;
+            head = refl;
+            reads = (a, at_left.given, (b, mark_found RightArrow a b arrow, (c, at_right.given, (z, word, given.reads))));
+            is = written_is;
+          }
+
+          -- another choice that reads there has the same core form and the same free names
+          same_where : (k : Head) (l r : Pattern) (u : Choice) → k ≡ h → l ≡ p → r ≡ q → core u ≡ s → free_in_choice u ≡ names_seen (begin []) z → core_definition (rule_where k l r u) ≡ d
+          same_where k l r u e f g o n =
+              (λ i. defined (e i) (scope (once (without (e i).terms (variables (f i) ++ (variables (g i) ++ n i)))) (rewrite_where (f i) (g i) (o i))))
+              ∙ ap (λ m. defined h (scope (once (without h.terms m)) (rewrite_where p q s)))
+              (sym (append_assoc (variables p) (variables q) (names_seen (begin []) z)) ∙ sym seen)
+              ∙ sym is
+
+          pub where_only : (w : Defined) (y : List Token) → head_of w ≡ h → ReadsRule w x y → DefinitionEnds y → (core_definition w ≡ d) × (y ≡ v)
+          where_only (definition k t) y f r ends = absurd r
+          where_only (rule k l t) y f r ends =
+              let m : Patterns (rule k l t) x y = patterns_of (rule k l t) x y r ends in
+              absurd (no_plain y (both_are (rule k l t) y m).1 ends)
+          where_only (rule_where k l t u) y f r ends =
+              let m : Patterns (rule_where k l t u) x y = patterns_of (rule_where k l t u) x y r ends in
+              let at_z : r.2.2.2.0 ≡ z = rest-is r.2.2.2.0 z (sym (both_are (rule_where k l t u) y m).1 ∙ r.2.2.2.1) word in
+              let reads : ReadsChoice u z y = subst (λ n. ReadsChoice u n y) at_z r.2.2.2.2 in
+              let only = condition_only z s v run u y reads ends.stops in
+              (same_where k l t u f (left_is (rule_where k l t u) y m).0 (both_are (rule_where k l t u) y m).0 only.0 (names_only u z y reads ends.stops), only.1)
+
+-- ---- definitions
+
+pub record HeadAt (x : List Token) (h : Head) (a : List Token) : Type 0 where
+  pub is : head_at x ≡ Some (h, a)
+
+pub head_stops : (m : Sign) (y z : List Token) → y ≡ ASign m ∷ z → is_mark OpenRound (ASign m) ≡ false → NoMark OpenRound y
+head_stops m y z e h = ap (λ l. is_mark OpenRound (next_token l)) e ∙ h
+
+abbrev pub NoDefinition : List Token → Type 0
+NoDefinition x = (w : Defined) (y : List Token) → ReadsDefined w x y → DefinitionEnds y → ⊥
+
+-- the head of a definition, and the sign behind it
+pub record Headed (w : Defined) (x y : List Token) : Type 0 where
+  pub behind : List Token
+  pub reads : ReadsHead (head_of w) x behind
+  pub ends : NoMark OpenRound behind
+
+abbrev pub headed : (w : Defined) (x y : List Token) → ReadsDefined w x y → Headed w x y
+headed (definition h a) x y r = record { behind = r.0; reads = r.1; ends = head_stops Equals r.0 r.2.0 r.2.1 refl }
+headed (rule h p q) x y r = record { behind = r.0; reads = r.1; ends = head_stops Colon r.0 r.2.0 r.2.1 refl }
+headed (rule_where h p q a) x y r = record { behind = r.0; reads = r.1; ends = head_stops Colon r.0 r.2.0 r.2.1 refl }
+
+pub no_head : (x : List Token) → head_at x ≡ None → NoDefinition x
+no_head x none w y r e =
+    let t : Headed w x y = headed w x y r in
+    let no : ◌≡◌ {A = HeadLeft} None (Some (head_of w, t.behind)) = sym none ∙ head_named (head_of w) x t.behind t.reads t.ends in
+    cc
+
+module _ (x : List Token) (h : Head) (a : List Token) (at_head : head_at x ≡ Some (h, a)) where
+  both : (w : Defined) (y : List Token) → (t : Headed w x y) → ◌≡◌ {A = Head × List Token} (head_of w, t.behind) (h, a)
+  both w y t = let same : ◌≡◌ {A = HeadLeft} (Some (head_of w, t.behind)) (Some (h, a)) = sym (head_named (head_of w) x t.behind t.reads t.ends) ∙ at_head in cc
+
+  head_is : (w : Defined) (y : List Token) → (t : Headed w x y) → head_of w ≡ h
+  head_is w y t = ap (λ (q : Head × List Token). q.0) (both w y t)
+
+  behind_is : (w : Defined) (y : List Token) → (t : Headed w x y) → t.behind ≡ a
+  behind_is w y t = ap (λ (q : Head × List Token). q.1) (both w y t)
+
+  -- a `=` follows
+  module _ (b : List Token) (sign : behind_mark Equals a ≡ Some b) where
+    equals_is : a ≡ ASign Equals ∷ b
+    equals_is = mark_found Equals a b sign
+
+    no_rule : (w : Defined) (z y : List Token) → (t : Headed w x y) → t.behind ≡ ASign Colon ∷ z → ⊥
+    no_rule w z y t e = let no : ASign Equals ∷ b ≡ ASign Colon ∷ z = sym equals_is ∙ sym (behind_is w y t) ∙ e in cc
+
+    pub body_gives : (s : Strategy) (y : List Token) (d : Definition) → FrontGives b s y → d ≡ defined h s → DefinitionGives x d y
+    body_gives s y d g e = record {
+      written = definition h g.0;
+      reads = (a, head_found x h a at_head, (b, equals_is, g.1));
+      is = ap (defined h) g.2 ∙ sym e;
+    }
+
+    pub body_only : (s : Strategy) (v : List Token) (d : Definition) → ((u : Choice) (y : List Token) → ReadsChoice u b y → Stops y → (core u ≡ s) × (y ≡ v)) → d ≡ defined h s
+        → (w : Defined) (y : List Token) → ReadsDefined w x y → DefinitionEnds y → (core_definition w ≡ d) × (y ≡ v)
+    body_only s v d only e (definition k u) y r ends =
+        let t : Headed (definition k u) x y = headed (definition k u) x y r in
+        let at_b : r.2.0 ≡ b = same_behind Equals a r.2.0 b sign (sym (behind_is (definition k u) y t) ∙ r.2.1) in
+        let o = only u y (subst (λ l. ReadsChoice u l y) at_b r.2.2) ends.stops in
+        ((λ i. defined (head_is (definition k u) y t i) (o.0 i)) ∙ sym e, o.1)
+    body_only s v d only e (rule k p q) y r ends = absurd (no_rule (rule k p q) r.2.0 y (headed (rule k p q) x y r) r.2.1)
+    body_only s v d only e (rule_where k p q u) y r ends = absurd (no_rule (rule_where k p q u) r.2.0 y (headed (rule_where k p q u) x y r) r.2.1)
+
+    pub no_body : ((u : Choice) (y : List Token) → ReadsChoice u b y → Stops y → ⊥) → NoDefinition x
+    no_body none (definition k u) y r ends =
+        let t : Headed (definition k u) x y = headed (definition k u) x y r in
+        let at_b : r.2.0 ≡ b = same_behind Equals a r.2.0 b sign (sym (behind_is (definition k u) y t) ∙ r.2.1) in
+        none u y (subst (λ l. ReadsChoice u l y) at_b r.2.2) ends.stops
+    no_body none (rule k p q) y r ends = no_rule (rule k p q) r.2.0 y (headed (rule k p q) x y r) r.2.1
+    no_body none (rule_where k p q u) y r ends = no_rule (rule_where k p q u) r.2.0 y (headed (rule_where k p q u) x y r) r.2.1
+
+  -- no `=` follows
+  module _ (plain : behind_mark Equals a ≡ None) where
+    no_equals : (w : Defined) (z y : List Token) → (t : Headed w x y) → t.behind ≡ ASign Equals ∷ z → ⊥
+    no_equals w z y t e = no_behind Equals a z plain (sym (behind_is w y t) ∙ e)
+
+    pub no_colon : behind_mark Colon a ≡ None → NoDefinition x
+    no_colon none (definition k u) y r ends = no_equals (definition k u) r.2.0 y (headed (definition k u) x y r) r.2.1
+    no_colon none (rule k p q) y r ends = no_behind Colon a r.2.0 none (sym (behind_is (rule k p q) y (headed (rule k p q) x y r)) ∙ r.2.1)
+    no_colon none (rule_where k p q u) y r ends = no_behind Colon a r.2.0 none (sym (behind_is (rule_where k p q u) y (headed (rule_where k p q u) x y r)) ∙ r.2.1)
+
+    module _ (b : List Token) (colon : behind_mark Colon a ≡ Some b) where
+      -- the rule behind the colon
+      record Ruled (w : Defined) (y : List Token) : Type 0 where
+        pub head : head_of w ≡ h
+        pub reads : ReadsRule w b y
+
+      ruled : (w : Defined) (y : List Token) → ReadsDefined w x y → Ruled w y
+      ruled (definition k u) y r = absurd (no_equals (definition k u) r.2.0 y (headed (definition k u) x y r) r.2.1)
+      ruled (rule k p q) y r =
+          let t : Headed (rule k p q) x y = headed (rule k p q) x y r in
+          record {
+            head = head_is (rule k p q) y t;
+            reads = subst (λ l. ReadsRule (rule k p q) l y) (same_behind Colon a r.2.0 b colon (sym (behind_is (rule k p q) y t) ∙ r.2.1)) r.2.2;
+          }
+      ruled (rule_where k p q u) y r =
+          let t : Headed (rule_where k p q u) x y = headed (rule_where k p q u) x y r in
+          record {
+            head = head_is (rule_where k p q u) y t;
+            reads = subst (λ l. ReadsRule (rule_where k p q u) l y) (same_behind Colon a r.2.0 b colon (sym (behind_is (rule_where k p q u) y t) ∙ r.2.1)) r.2.2;
+          }
+
+      defined_by : (w : Defined) (y : List Token) → head_of w ≡ h → ReadsRule w b y → ReadsDefined w x y
+      defined_by (definition k u) y e r = absurd r
+      defined_by (rule k p q) y e r = (a, subst (λ l. ReadsHead l x a) (sym e) (head_found x h a at_head), (b, mark_found Colon a b colon, r))
+      defined_by (rule_where k p q u) y e r = (a, subst (λ l. ReadsHead l x a) (sym e) (head_found x h a at_head), (b, mark_found Colon a b colon, r))
+
+      pub ruled_gives : (d : Definition) (y : List Token) → RuleGives h b d y → DefinitionGives x d y
+      ruled_gives d y g = record { written = g.written; reads = defined_by g.written y g.head g.reads; is = g.is }
+
+      pub ruled_only : (d : Definition) (v : List Token) → ((w : Defined) (y : List Token) → head_of w ≡ h → ReadsRule w b y → DefinitionEnds y → (core_definition w ≡ d) × (y ≡ v))
+          → (w : Defined) (y : List Token) → ReadsDefined w x y → DefinitionEnds y → (core_definition w ≡ d) × (y ≡ v)
+      ruled_only d v only w y r ends = let t : Ruled w y = ruled w y r in only w y t.head t.reads ends
+
+      pub no_ruled : NoRule b → NoDefinition x
+      no_ruled none w y r ends = let t : Ruled w y = ruled w y r in none w y t.reads ends
+
+-- ---- what a rule is made of
+
+pub rule_built : (h : Head) (p q : Pattern) (start names more : List Symbol) (body : Strategy) (d : Definition) → start ≡ [] → names ≡ start ++ variables p → more ≡ names ++ variables q
+    → body ≡ rewrite p q → d ≡ defined h (scope (once (without h.terms more)) body) → d ≡ defined h (scope (once (without h.terms (variables p ++ variables q))) (rewrite p q))
+rule_built h p q start names more body d e f g b is =
+    let all : more ≡ variables p ++ variables q = g ∙ ap (λ l. l ++ variables q) (f ∙ ap (λ l. l ++ variables p) e) in
+    is ∙ (λ i. defined h (scope (once (without h.terms (all i))) (b i)))
+
+pub seen_built : (p q : Pattern) (start names more all l : List Symbol) → start ≡ [] → names ≡ start ++ variables p → more ≡ names ++ variables q
+    → all ≡ more ++ l → all ≡ (variables p ++ variables q) ++ l
+seen_built p q start names more all l e f g h = h ∙ ap (λ m. m ++ l) (g ∙ ap (λ m. m ++ variables q) (f ∙ ap (λ m. m ++ variables p) e))
+
+pub where_built : (h : Head) (p q : Pattern) (s body : Strategy) (names : List Symbol) (d : Definition) → body ≡ rewrite_where p q s → d ≡ defined h (scope (once (without h.terms names)) body)
+    → d ≡ defined h (scope (once (without h.terms names)) (rewrite_where p q s))
+where_built h p q s body names d b is = is ∙ ap (λ r. defined h (scope (once (without h.terms names)) r)) b

@@ -1,0 +1,304 @@
+-- What the machine accepts, and where it is stuck.
+use Rattle.std.proofs.Common.{◌≡◌, Bool, true, false, refl, sym, ap, ◌∙◌, subst, inl, inr, List, [], ◌∷◌, ◌++◌, Some, None}
+use Rattle.std.specs.Prelude.{if◌then◌else◌, ◌⊎◌}
+use Rattle.std.specs.declared.option.Option.{Option}
+use Rattle.strategy_syntax.specs.Syntax as syntax
+use Rattle.strategy_syntax.specs.Syntax.{Pattern, wildcard, variable, at, number, compound, with_tail, annotated, no_patterns, and_pattern, pattern_list, patterns_of, Strategy, strategy_list, strategies_of}
+use Rattle.strategy_parse.specs.declared.tokens.token.Token.{Token}
+use Rattle.strategy_parse.specs.declared.tokens.token.Token.TheVariants.{Reserved, Sign as ASign}
+use Rattle.strategy_parse.specs.declared.tokens.token.Keyword.{Keyword}
+use Rattle.strategy_parse.specs.declared.tokens.token.Keyword.TheVariants.{Where as KWhere, Then as KThen, Else as KElse, End as KEnd}
+use Rattle.strategy_parse.specs.declared.tokens.token.Sign.{Sign}
+use Rattle.strategy_parse.specs.declared.tokens.token.Sign.TheVariants.{OpenRound, CloseRound, CloseSquare, OpenCurly, CloseCurly, Comma, Semicolon, Bar, FatArrow, Arrow as RightArrow, Less, Greater, LeftChoice, Plus, At as AtSign, Backslash}
+use Rattle.strategy_parse.specs.declared.parser.state.State.{State}
+use Rattle.strategy_parse.specs.declared.parser.state.Frame.{Frame}
+use Rattle.strategy_parse.specs.declared.parser.state.Frame.TheVariants.{Operand, At, Strategy as ForStrategy, Pattern as ForPattern}
+use Rattle.strategy_parse.specs.declared.parser.state.Infix.TheVariants.{Before, Guarded, Otherwise}
+use Rattle.strategy_parse.specs.declared.parser.state.StrategyFrame.{StrategyFrame}
+use Rattle.strategy_parse.specs.declared.parser.state.StrategyFrame.TheVariants.{Operator as Operated, Rec, Child, Scope, Application, If, Then, Else, Where, List as Strategies, Tail as SquareTail}
+use Rattle.strategy_parse.specs.declared.parser.state.PatternFrame.{PatternFrame}
+use Rattle.strategy_parse.specs.declared.parser.state.PatternFrame.TheVariants.{Match, Build, Applied, Matched, Left as ClosureLeft, Right as ClosureRight, List as Patterns, Tail as PatternTail}
+use Rattle.strategy_parse.specs.declared.parser.state.Group.{Group}
+use Rattle.strategy_parse.specs.declared.parser.state.Group.TheVariants.{Round, Square, Arguments}
+use Rattle.strategy_parse.specs.declared.parser.state.PatternGroup.{PatternGroup}
+use Rattle.strategy_parse.specs.declared.parser.state.PatternGroup.TheVariants.{Application as PApplication, List as PList, Tuple as PTuple, Annotations, Terms, Prim}
+use Rattle.strategy_parse.specs.Marks.{is_mark, is_word}
+use Rattle.strategy_parse.specs.Machine.{Next, stuck, behind, behind_arrow, behind_choice, in_frame, behind_element, behind_pattern, pattern_in_frame, behind_one, step, resume, go_on}
+use Rattle.strategy_parse.proofs.Marks.{mark_is, word_is}
+
+-- from where f says where the first token leads to, the tokens give the strategy
+abbrev pub Accepts : (Token → Next) → List Token → Strategy → Type 0
+Accepts f x r = resume f x ≡ Some r
+
+-- ... and from a place already reached
+abbrev pub Goes : Next → List Token → Strategy → Type 0
+Goes n x r = go_on (λ q S. resume (step q S) x) n ≡ Some r
+
+-- ---- tokens that end no open form
+
+pub record NoEnd (t : Token) : Type 0 where
+  pub round : is_mark CloseRound t ≡ false
+  pub square : is_mark CloseSquare t ≡ false
+  pub curly : is_mark CloseCurly t ≡ false
+  pub comma : is_mark Comma t ≡ false
+  pub bar : is_mark Bar t ≡ false
+  pub greater : is_mark Greater t ≡ false
+  pub backslash : is_mark Backslash t ≡ false
+  pub arrow : is_mark RightArrow t ≡ false
+  pub plus : is_mark Plus t ≡ false
+  pub then_word : is_word KThen t ≡ false
+  pub else_word : is_word KElse t ≡ false
+  pub end_word : is_word KEnd t ≡ false
+  pub where_word : is_word KWhere t ≡ false
+
+pub open_round : NoEnd (ASign OpenRound)
+open_round = record {
+  round = refl;
+  square = refl;
+  curly = refl;
+  comma = refl;
+  bar = refl;
+  greater = refl;
+  backslash = refl;
+  arrow = refl;
+  plus = refl;
+  then_word = refl;
+  else_word = refl;
+  end_word = refl;
+  where_word = refl;
+}
+
+pub open_curly : NoEnd (ASign OpenCurly)
+open_curly = record {
+  round = refl;
+  square = refl;
+  curly = refl;
+  comma = refl;
+  bar = refl;
+  greater = refl;
+  backslash = refl;
+  arrow = refl;
+  plus = refl;
+  then_word = refl;
+  else_word = refl;
+  end_word = refl;
+  where_word = refl;
+}
+
+pub at_sign : NoEnd (ASign AtSign)
+at_sign = record {
+  round = refl;
+  square = refl;
+  curly = refl;
+  comma = refl;
+  bar = refl;
+  greater = refl;
+  backslash = refl;
+  arrow = refl;
+  plus = refl;
+  then_word = refl;
+  else_word = refl;
+  end_word = refl;
+  where_word = refl;
+}
+
+pub fat_arrow : NoEnd (ASign FatArrow)
+fat_arrow = record {
+  round = refl;
+  square = refl;
+  curly = refl;
+  comma = refl;
+  bar = refl;
+  greater = refl;
+  backslash = refl;
+  arrow = refl;
+  plus = refl;
+  then_word = refl;
+  else_word = refl;
+  end_word = refl;
+  where_word = refl;
+}
+
+pub semicolon : NoEnd (ASign Semicolon)
+semicolon = record {
+  round = refl;
+  square = refl;
+  curly = refl;
+  comma = refl;
+  bar = refl;
+  greater = refl;
+  backslash = refl;
+  arrow = refl;
+  plus = refl;
+  then_word = refl;
+  else_word = refl;
+  end_word = refl;
+  where_word = refl;
+}
+
+pub left_choice_sign : NoEnd (ASign LeftChoice)
+left_choice_sign = record {
+  round = refl;
+  square = refl;
+  curly = refl;
+  comma = refl;
+  bar = refl;
+  greater = refl;
+  backslash = refl;
+  arrow = refl;
+  plus = refl;
+  then_word = refl;
+  else_word = refl;
+  end_word = refl;
+  where_word = refl;
+}
+
+pub less : NoEnd (ASign Less)
+less = record {
+  round = refl;
+  square = refl;
+  curly = refl;
+  comma = refl;
+  bar = refl;
+  greater = refl;
+  backslash = refl;
+  arrow = refl;
+  plus = refl;
+  then_word = refl;
+  else_word = refl;
+  end_word = refl;
+  where_word = refl;
+}
+
+abbrev pub Refuses : Next → Type 0
+Refuses n = (K : State → List Frame → Option Strategy) → go_on K n ≡ None
+
+module _ (t : Token) (h : NoEnd t) where
+  group-stuck : (g : Group) (done : List Strategy) (S : List Frame) → Refuses (behind_element g done S t)
+  group-stuck Round done S K = rw (h.comma, h.bar, h.round) refl
+  group-stuck Square done S K = rw (h.comma, h.bar, h.square) refl
+  group-stuck (Arguments f) done S K = rw (h.comma, h.bar, h.round) refl
+
+  frame-stuck : (F : StrategyFrame) (s : Strategy) (S : List Frame) → Refuses (in_frame s F S t)
+  frame-stuck (Operated o) s S K = rw h.round refl
+  frame-stuck (Rec x) s S K = rw h.round refl
+  frame-stuck (Child i) s S K = rw h.round refl
+  frame-stuck (Scope xs) s S K = rw h.curly refl
+  frame-stuck Application s S K = rw h.greater refl
+  frame-stuck If s S K = rw h.then_word refl
+  frame-stuck (Then a) s S K = rw (h.else_word, h.end_word) refl
+  frame-stuck (Else a b) s S K = rw h.end_word refl
+  frame-stuck (Where p q) s S K = rw h.backslash refl
+  frame-stuck (Strategies g done) s S K = group-stuck g (done ++ s ∷ []) S K
+  frame-stuck (SquareTail done) s S K = rw h.square refl
+
+  pub choice-stuck : (S : List Frame) (s : Strategy) → Refuses (behind_choice s S t)
+  choice-stuck [] s K = refl
+  choice-stuck (Operand Otherwise b ∷ []) s K = refl
+  choice-stuck (Operand Otherwise b ∷ (Operand Guarded a ∷ S)) s K = choice-stuck S (syntax.guard a b s) K
+  choice-stuck (Operand Otherwise b ∷ (Operand Before a ∷ S)) s K = refl
+  choice-stuck (Operand Otherwise b ∷ (Operand Otherwise a ∷ S)) s K = refl
+  choice-stuck (Operand Otherwise b ∷ (At x ∷ S)) s K = refl
+  choice-stuck (Operand Otherwise b ∷ (ForStrategy F ∷ S)) s K = refl
+  choice-stuck (Operand Otherwise b ∷ (ForPattern F ∷ S)) s K = refl
+  choice-stuck (ForStrategy F ∷ S) s K = frame-stuck F s S K
+  choice-stuck (Operand Before a ∷ S) s K = refl
+  choice-stuck (Operand Guarded a ∷ S) s K = refl
+  choice-stuck (At x ∷ S) s K = refl
+  choice-stuck (ForPattern F ∷ S) s K = refl
+
+  module _ (choice : is_mark LeftChoice t ≡ false) (lesser : is_mark Less t ≡ false) where
+    pub arrow-stuck : (S : List Frame) (s : Strategy) → Refuses (behind_arrow s S t)
+    arrow-stuck [] s K = rw (choice, lesser) refl
+    arrow-stuck (Operand Before a ∷ S) s K = arrow-stuck S (syntax.seq a s) K
+    arrow-stuck (Operand Guarded a ∷ S) s K = rw h.plus refl
+    arrow-stuck (Operand Otherwise b ∷ S) s K = rw (choice, lesser) (choice-stuck (Operand Otherwise b ∷ S) s K)
+    arrow-stuck (ForStrategy F ∷ S) s K = rw (choice, lesser) (choice-stuck (ForStrategy F ∷ S) s K)
+    arrow-stuck (At x ∷ S) s K = rw (choice, lesser) refl
+    arrow-stuck (ForPattern F ∷ S) s K = rw (choice, lesser) refl
+
+    module _ (fat : is_mark FatArrow t ≡ false) (semi : is_mark Semicolon t ≡ false) where
+      pub behind-stuck : (S : List Frame) (s : Strategy) → Refuses (behind s S t)
+      behind-stuck S s K = rw (fat, semi) (arrow-stuck S s K)
+
+      one-stuck : (g : PatternGroup) (ps : List Pattern) (S : List Frame) → Refuses (behind_one g ps S t)
+      one-stuck (PApplication f) ps S K = rw (h.comma, h.round, h.bar) refl
+      one-stuck PList ps S K = rw (h.comma, h.square, h.bar) refl
+      one-stuck PTuple ps S K = rw (h.comma, h.round, h.bar) refl
+      one-stuck (Annotations p) ps S K = rw (h.comma, h.curly, h.bar) refl
+      one-stuck (Terms f ss) ps S K = rw (h.comma, h.round, h.bar) refl
+      one-stuck (Prim f) ps S K = rw (h.comma, h.round, h.bar) refl
+
+      pattern_frame-stuck : (F : PatternFrame) (p : Pattern) (S : List Frame) → Refuses (pattern_in_frame p F S t)
+      pattern_frame-stuck Match p S K = behind-stuck S (syntax.matches p) K
+      pattern_frame-stuck Build p S K = behind-stuck S (syntax.builds p) K
+      pattern_frame-stuck (Applied s) p S K = behind-stuck S (syntax.seq (syntax.builds p) s) K
+      pattern_frame-stuck (Matched s) p S K = behind-stuck S (syntax.seq s (syntax.matches p)) K
+      pattern_frame-stuck ClosureLeft p S K = rw h.arrow refl
+      pattern_frame-stuck (ClosureRight l) p S K = rw (h.backslash, h.where_word) refl
+      pattern_frame-stuck (Patterns g ps) p S K = one-stuck g (ps ++ p ∷ []) S K
+      pattern_frame-stuck (PatternTail ps) p S K = rw h.square refl
+
+      pub pattern-stuck : (S : List Frame) (p : Pattern) → Refuses (behind_pattern p S t)
+      pattern-stuck [] p K = refl
+      pattern-stuck (At x ∷ S) p K = pattern-stuck S (at x p) K
+      pattern-stuck (ForPattern F ∷ S) p K = pattern_frame-stuck F p S K
+      pattern-stuck (Operand Before a ∷ S) p K = refl
+      pattern-stuck (Operand Guarded a ∷ S) p K = refl
+      pattern-stuck (Operand Otherwise b ∷ S) p K = refl
+      pattern-stuck (ForStrategy F ∷ S) p K = refl
+
+-- ---- tests for one sign
+
+pub none_some : (o : Option Strategy) (r : Strategy) → o ≡ None → o ≡ Some r → ⊥
+none_some o r h k = let no : ◌≡◌ {A = Option Strategy} None (Some r) = sym h ∙ k in cc
+
+skip : (b : Bool) (X Y : Next) (y : List Token) (r : Strategy) → (b ≡ true → Refuses Y) → Goes Y y r → Goes (if b then X else Y) y r
+skip true X Y y r h k = absurd (none_some (go_on (λ q S. resume (step q S) y) Y) r (h refl (λ q S. resume (step q S) y)) k)
+skip false X Y y r h k = k
+
+-- a test for a sign that f is stuck at changes nothing
+pub passes : (m : Sign) (X : Next) (f : Token → Next) (x : List Token) (r : Strategy) → Refuses (f (ASign m)) → Accepts f x r → Accepts (λ t. if (is_mark m t) then X else f t) x r
+passes m X f [] r h k = k
+passes m X f (t ∷ ts) r h k = skip (is_mark m t) X (f t) ts r (λ e. subst (λ u. Refuses (f u)) (sym (mark_is m t e)) h) k
+
+-- the token is the sign, or it is taken as f says
+abbrev pub AtMark : Sign → Next → (Token → Next) → List Token → Strategy → Type 0
+AtMark m X f x r = ((y : List Token) × (x ≡ ASign m ∷ y) × Goes X y r) ⊎ Accepts f x r
+
+by_test : (m : Sign) (X : Next) (f : Token → Next) (t : Token) (ts : List Token) (r : Strategy) (b : Bool) → is_mark m t ≡ b → Goes (if b then X else f t) ts r → AtMark m X f (t ∷ ts) r
+by_test m X f t ts r true e k = inl (ts, ap (λ u. u ∷ ts) (mark_is m t e), k)
+by_test m X f t ts r false e k = inr k
+
+pub at_mark : (m : Sign) (X : Next) (f : Token → Next) (x : List Token) (r : Strategy) → Accepts (λ t. if (is_mark m t) then X else f t) x r → AtMark m X f x r
+at_mark m X f [] r k = inr k
+at_mark m X f (t ∷ ts) r k = by_test m X f t ts r (is_mark m t) refl k
+
+-- the same for a reserved word
+abbrev pub AtWord : Keyword → Next → (Token → Next) → List Token → Strategy → Type 0
+AtWord m X f x r = ((y : List Token) × (x ≡ Reserved m ∷ y) × Goes X y r) ⊎ Accepts f x r
+
+by_word : (m : Keyword) (X : Next) (f : Token → Next) (t : Token) (ts : List Token) (r : Strategy) (b : Bool) → is_word m t ≡ b → Goes (if b then X else f t) ts r → AtWord m X f (t ∷ ts) r
+by_word m X f t ts r true e k = inl (ts, ap (λ u. u ∷ ts) (word_is m t e), k)
+by_word m X f t ts r false e k = inr k
+
+pub at_word : (m : Keyword) (X : Next) (f : Token → Next) (x : List Token) (r : Strategy) → Accepts (λ t. if (is_word m t) then X else f t) x r → AtWord m X f x r
+at_word m X f [] r k = inr k
+at_word m X f (t ∷ ts) r k = by_word m X f t ts r (is_word m t) refl k
+
+pub no_accepts : (x : List Token) (r : Strategy) → Accepts (λ t. stuck) x r → ⊥
+no_accepts [] r k = cc
+no_accepts (t ∷ ts) r k = cc
+
+-- where only one sign is taken
+pub only_mark : (m : Sign) (X : Next) (x : List Token) (r : Strategy) → Accepts (λ t. if (is_mark m t) then X else stuck) x r → (y : List Token) × (x ≡ ASign m ∷ y) × Goes X y r
+only_mark m X x r k = elim (at_mark m X (λ t. stuck) x r k) [
+  | inl found ↦ found
+  | inr other ↦ absurd (no_accepts x r other)
+]
+
+pub only_word : (m : Keyword) (X : Next) (x : List Token) (r : Strategy) → Accepts (λ t. if (is_word m t) then X else stuck) x r → (y : List Token) × (x ≡ Reserved m ∷ y) × Goes X y r
+only_word m X x r k = elim (at_word m X (λ t. stuck) x r k) [
+  | inl found ↦ found
+  | inr other ↦ absurd (no_accepts x r other)
+]

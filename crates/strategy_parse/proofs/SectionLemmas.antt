@@ -1,0 +1,188 @@
+-- What was read of a module and what is left stand for the same modules before and behind each step.
+use Rattle.std.proofs.Common.{◌≡◌, refl, sym, ap, ◌∙◌, subst, List, [], ◌∷◌, ◌++◌, Some, None, Err, append-nil, length, arith}
+use Rattle.std.specs.declared.option.Option.{Option}
+use Rattle.std.specs.declared.result.Result.{Result}
+use Rattle.strategy_parse.specs.declared.parser.fault.Fault.{Fault}
+use Rattle.strategy_syntax.specs.Modules.{Module, Constructor, Definition}
+use Rattle.strategy_parse.specs.declared.tokens.token.Token.{Token}
+use Rattle.strategy_parse.specs.declared.tokens.token.Token.TheVariants.{Reserved}
+use Rattle.strategy_parse.specs.declared.tokens.token.Keyword.{Keyword}
+use Rattle.strategy_parse.specs.declared.modules.sections.Part.{Part}
+use Rattle.strategy_parse.specs.declared.modules.sections.Part.TheVariants.{Outside, Signature as InSignature, Sorts, Constructors, Definitions}
+use Rattle.strategy_parse.specs.Written.{Declaration, Defined}
+use Rattle.strategy_parse.specs.GrammarModules.{ReadsDefined}
+use Rattle.strategy_parse.specs.Core.{declared, core_definition}
+use Rattle.strategy_parse.specs.Definitions.{DefinitionEnds, DefinitionGives}
+use Rattle.strategy_parse.specs.ModuleFronts.{sort_at, declaration_at, DeclaredLeft, listed}
+use Rattle.strategy_parse.specs.Sections.{next_part, IsItem, joined, SortsLeft, DeclarationsLeft, DefinitionsLeft, Left, Stands}
+use Rattle.strategy_parse.proofs.SortLemmas.{sort_alone, sort_found}
+use Rattle.strategy_parse.proofs.DeclarationLemmas.{declaration_named, DeclarationFound, declaration_found}
+unfoldable use Rattle.strategy_parse.proofs.SectionWords.{nothing}
+use Rattle.strategy_parse.proofs.SectionWords.{joined-joined, WordStep, word_step, word_back, some-is, left_end, left_nothing}
+use Rattle.strategy_parse.proofs.SectionItems.{outside_item, signature_item, DefinitionStep, definition_step, definition_back, DeclarationStep, declaration_step, declaration_back, SortStep, sort_step, sort_back}
+
+-- ---- a word is taken, or the text ends
+
+module _ (p : Part) (cs : List Constructor) (ds : List Definition) (m : Module) where
+  pub word_forth : (w : Keyword) (q : Part) (x : List Token) → next_part p w ≡ Some q → Stands p cs ds (Reserved w ∷ x) m → Stands q cs ds x m
+  word_forth w q x e s =
+      let t : WordStep p w x s.behind = word_step p w x s.behind s.left in
+      record { behind = s.behind; left = subst (λ r. Left r x s.behind) (some-is t.part q (sym t.is ∙ e)) t.left; gives = s.gives }
+
+  pub word_behind : (w : Keyword) (q : Part) (x : List Token) → next_part p w ≡ Some q → Stands q cs ds x m → Stands p cs ds (Reserved w ∷ x) m
+  word_behind w q x e s = record { behind = s.behind; left = word_back p w q x s.behind e s.left; gives = s.gives }
+
+  pub word_none : (w : Keyword) (x : List Token) → next_part p w ≡ None → Stands p cs ds (Reserved w ∷ x) m → ⊥
+  word_none w x e s =
+      let t : WordStep p w x s.behind = word_step p w x s.behind s.left in
+      let no : ◌≡◌ {A = Option Part} None (Some t.part) = sym e ∙ t.is in
+      cc
+
+  pub end_forth : Stands p cs ds [] m → m ≡ record { constructors = cs; definitions = ds }
+  unfolding nothing
+  end_forth s =
+      sym s.gives ∙ ap (joined cs ds) (sym (left_end p s.behind s.left))
+      ∙ (λ i. record { constructors = append-nil cs i; definitions = append-nil ds i })
+
+  pub end_behind : m ≡ record { constructors = cs; definitions = ds } → Stands p cs ds [] m
+  unfolding nothing
+  end_behind e = record {
+    behind = nothing;
+    left = left_nothing p;
+    gives = (λ i. record { constructors = append-nil cs i; definitions = append-nil ds i }) ∙ sym e;
+  }
+
+-- ---- an item is taken
+
+module _ (cs : List Constructor) (ds : List Definition) (x : List Token) (m : Module) (item : IsItem x) where
+  pub sort_forth : (y : List Token) → sort_at x ≡ Some y → Stands Sorts cs ds x m → Stands Sorts cs ds y m
+  sort_forth y h s =
+      let t : SortStep x s.behind = sort_step x s.behind s.left item in
+      let same : ◌≡◌ {A = Option (List Token)} (Some t.rest) (Some y) = sym (sort_alone t.sort x t.rest t.reads t.ends.round t.ends.star) ∙ h in
+      let rest : t.rest ≡ y = cc in
+      record { behind = s.behind; left = subst (λ l. SortsLeft l s.behind) rest t.left; gives = s.gives }
+
+  pub sort_none : sort_at x ≡ None → Stands Sorts cs ds x m → ⊥
+  sort_none h s =
+      let t : SortStep x s.behind = sort_step x s.behind s.left item in
+      let no : ◌≡◌ {A = Option (List Token)} None (Some t.rest) = sym h ∙ sort_alone t.sort x t.rest t.reads t.ends.round t.ends.star in
+      cc
+
+  declared-same : (d : Declaration) (es : List Constructor) (y z : List Token) → ◌≡◌ {A = DeclaredLeft} (Some (declared d, z)) (Some (es, y)) → ◌≡◌ {A = List Constructor × List Token} (declared d, z) (es, y)
+  declared-same d es y z e = cc
+
+  pub declaration_forth : (es : List Constructor) (y : List Token) → declaration_at x ≡ Some (es, y) → Stands Constructors cs ds x m → Stands Constructors (cs ++ es) ds y m
+  declaration_forth es y h s =
+      let t : DeclarationStep x s.behind = declaration_step x s.behind s.left item in
+      let pair : ◌≡◌ {A = List Constructor × List Token} (declared t.declaration, t.rest) (es, y) = declared-same t.declaration es y t.rest (sym (declaration_named t.declaration x t.rest t.reads t.ends) ∙ h) in
+      record {
+        behind = t.behind;
+        left = subst (λ l. DeclarationsLeft l t.behind) (ap (λ (q : List Constructor × List Token). q.1) pair) t.left;
+        gives =
+            ap (λ l. joined (cs ++ l) ds t.behind) (sym (ap (λ (q : List Constructor × List Token). q.0) pair))
+            ∙ ap (λ l. joined (cs ++ declared t.declaration) l t.behind) (sym (append-nil ds))
+            ∙ sym (joined-joined cs (declared t.declaration) ds [] t.behind)
+            ∙ ap (joined cs ds) t.gives ∙ s.gives;
+      }
+
+  pub declaration_none : declaration_at x ≡ None → Stands Constructors cs ds x m → ⊥
+  declaration_none h s =
+      let t : DeclarationStep x s.behind = declaration_step x s.behind s.left item in
+      let no : ◌≡◌ {A = DeclaredLeft} None (Some (declared t.declaration, t.rest)) = sym h ∙ declaration_named t.declaration x t.rest t.reads t.ends in
+      cc
+
+  pub definition_forth : (d : Definition) (y : List Token) → ((w : Defined) (z : List Token) → ReadsDefined w x z → DefinitionEnds z → (core_definition w ≡ d) × (z ≡ y))
+      → Stands Definitions cs ds x m → Stands Definitions cs (ds ++ d ∷ []) y m
+  definition_forth d y only s =
+      let t : DefinitionStep x s.behind = definition_step x s.behind s.left item in
+      let same = only t.definition t.rest t.reads t.ends in
+      record {
+        behind = t.behind;
+        left = subst (λ l. DefinitionsLeft l t.behind) same.1 t.left;
+        gives =
+            ap (λ l. joined cs (ds ++ l ∷ []) t.behind) (sym same.0)
+            ∙ ap (λ l. joined l (ds ++ core_definition t.definition ∷ []) t.behind) (sym (append-nil cs))
+            ∙ sym (joined-joined cs [] ds (core_definition t.definition ∷ []) t.behind)
+            ∙ ap (joined cs ds) t.gives ∙ s.gives;
+      }
+
+  pub definition_none : ((w : Defined) (z : List Token) → ReadsDefined w x z → DefinitionEnds z → ⊥) → Stands Definitions cs ds x m → ⊥
+  definition_none none s =
+      let t : DefinitionStep x s.behind = definition_step x s.behind s.left item in
+      none t.definition t.rest t.reads t.ends
+
+  pub no_outside : Stands Outside cs ds x m → ⊥
+  no_outside s = outside_item x s.behind s.left item
+
+  pub no_signature : Stands InSignature cs ds x m → ⊥
+  no_signature s = signature_item x s.behind s.left item
+
+module _ (cs : List Constructor) (ds : List Definition) (x y : List Token) (m : Module) where
+  pub sort_behind : sort_at x ≡ Some y → Stands Sorts cs ds y m → Stands Sorts cs ds x m
+  sort_behind h s =
+      let found = sort_found x y h in
+      record { behind = s.behind; left = sort_back found.0 x y s.behind found.1 s.left; gives = s.gives }
+
+  pub declaration_behind : (es : List Constructor) → declaration_at x ≡ Some (es, y) → Stands Constructors (cs ++ es) ds y m → Stands Constructors cs ds x m
+  declaration_behind es h s =
+      let found : DeclarationFound x es y = declaration_found x es y h in
+      record {
+        behind = joined (declared found.declaration) [] s.behind;
+        left = declaration_back found.declaration x y s.behind found.reads s.left;
+        gives =
+            joined-joined cs (declared found.declaration) ds [] s.behind
+            ∙ ap (λ l. joined (cs ++ declared found.declaration) l s.behind) (append-nil ds)
+            ∙ ap (λ l. joined (cs ++ l) ds s.behind) found.is ∙ s.gives;
+      }
+
+  pub definition_behind : (d : Definition) → DefinitionGives x d y → Stands Definitions cs (ds ++ d ∷ []) y m → Stands Definitions cs ds x m
+  definition_behind d g s = record {
+    behind = joined [] (core_definition g.written ∷ []) s.behind;
+    left = definition_back g.written x y s.behind g.reads s.left;
+    gives =
+        joined-joined cs [] ds (core_definition g.written ∷ []) s.behind
+        ∙ ap (λ l. joined l (ds ++ core_definition g.written ∷ []) s.behind) (append-nil cs)
+        ∙ ap (λ l. joined cs (ds ++ l ∷ []) s.behind) g.is ∙ s.gives;
+  }
+
+-- ---- as the code has it
+
+pub err_is : {T : Type 0} (a b : Fault) → ◌≡◌ {A = Result T Fault} (Err a) (Err b) → a ≡ b
+err_is a b e = cc
+
+module _ (cs ks : List Constructor) (ds : List Definition) (x : List Token) (m : Module) (found : Option Constructor) (y : List Token) (all : ks ≡ cs ++ listed found) (h : declaration_at x ≡ Some (listed found, y)) where
+  pub declaration_taken : IsItem x → Stands Constructors cs ds x m → Stands Constructors ks ds y m
+  declaration_taken i s = subst (λ l. Stands Constructors l ds y m) (sym all) (declaration_forth cs ds x m i (listed found) y h s)
+
+  pub declaration_given : Stands Constructors ks ds y m → Stands Constructors cs ds x m
+  declaration_given s = declaration_behind cs ds x y m (listed found) h (subst (λ l. Stands Constructors l ds y m) all s)
+
+pub none_listed : (cs : List Constructor) (found : Option Constructor) → found ≡ None → cs ≡ cs ++ listed found
+none_listed cs found e = sym (ap (λ o. cs ++ listed o) e ∙ append-nil cs)
+
+pub one_listed : (cs ks : List Constructor) (found : Option Constructor) (c : Constructor) → found ≡ Some c → ks ≡ cs ++ c ∷ [] → ks ≡ cs ++ listed found
+one_listed cs ks found c e h = h ∙ ap (λ o. cs ++ listed o) (sym e)
+
+pub word_comes : (p : Part) (cs : List Constructor) (ds : List Definition) (m : Module) (x rest : List Token) (t : Token) (w : Keyword) → x ≡ t ∷ rest → t ≡ Reserved w → Stands p cs ds x m → Stands p cs ds (Reserved w ∷ rest) m
+word_comes p cs ds m x rest t w e h s = subst (λ l. Stands p cs ds l m) (e ∙ ap (λ u. u ∷ rest) h) s
+
+pub word_goes : (p : Part) (cs : List Constructor) (ds : List Definition) (m : Module) (x rest : List Token) (t : Token) (w : Keyword) → x ≡ t ∷ rest → t ≡ Reserved w → Stands p cs ds (Reserved w ∷ rest) m → Stands p cs ds x m
+word_goes p cs ds m x rest t w e h s = subst (λ l. Stands p cs ds l m) (sym (e ∙ ap (λ u. u ∷ rest) h)) s
+
+pub all_read : (p : Part) (cs : List Constructor) (ds : List Definition) (m : Module) (x : List Token) → x ≡ [] → m ≡ record { constructors = cs; definitions = ds } → Stands p cs ds x m
+all_read p cs ds m x e h = subst (λ l. Stands p cs ds l m) (sym e) (end_behind p cs ds m h)
+
+pub read_all : (p : Part) (cs : List Constructor) (ds : List Definition) (m r : Module) (x : List Token) → x ≡ [] → m ≡ record { constructors = cs; definitions = ds } → Stands p cs ds x r → r ≡ m
+read_all p cs ds m r x e h s = end_forth p cs ds r (subst (λ l. Stands p cs ds l r) e s) ∙ sym h
+
+-- no item comes where a part has to begin
+pub no_item : (p : Part) → (p ≡ Sorts → ⊥) → (p ≡ Constructors → ⊥) → (p ≡ Definitions → ⊥) → (cs : List Constructor) (ds : List Definition) (x : List Token) (m : Module) → IsItem x → Stands p cs ds x m → ⊥
+no_item Outside a b e cs ds x m i s = no_outside cs ds x m i s
+no_item InSignature a b e cs ds x m i s = no_signature cs ds x m i s
+no_item Sorts a b e cs ds x m i s = a refl
+no_item Constructors a b e cs ds x m i s = b refl
+no_item Definitions a b e cs ds x m i s = e refl
+
+pub empty_is : (x : List Token) → length x ≡ 0 → x ≡ []
+empty_is [] e = refl
+empty_is (t ∷ ts) e = absurd (omega arith)

@@ -1,0 +1,10 @@
+use Rattle.std.proofs.Common.{◌≡◌, length}
+use Rattle.strategy_parse.specs.ModuleFronts.{more_names}
+use Rattle.strategy_parse.proofs.modules.heads.read_more_names.Given as goal
+
+-- what is left gives what all gave
+abbrev pub invariant-loop-rest : goal.invariant-loop-rest
+invariant-loop-rest l = more_names l.names l.left ≡ more_names l.fn.first l.tokens
+
+abbrev pub decreases-loop-rest : goal.decreases-loop-rest
+decreases-loop-rest l = length l.left

@@ -1,0 +1,15 @@
+use Rattle.std.proofs.Common.{length}
+use Rattle.strategy_syntax.specs.Modules as syntax
+use Rattle.strategy_parse.specs.declared.modules.sections.Part.TheVariants.{Outside}
+use Rattle.strategy_parse.specs.Sections.{Left, Stands}
+use Rattle.strategy_parse.proofs.modules.sections.read_sections.Given as goal
+
+-- the module of all is what was read, and what is left gives
+abbrev pub invariant-loop-token : goal.invariant-loop-token
+invariant-loop-token l = record {
+  forth : (m : syntax.Module) → Left Outside l.tokens m → Stands l.part l.built.constructors.items l.built.definitions.items l.left m;
+  back : (m : syntax.Module) → Stands l.part l.built.constructors.items l.built.definitions.items l.left m → Left Outside l.tokens m;
+}
+
+abbrev pub decreases-loop-token : goal.decreases-loop-token
+decreases-loop-token l = length l.left

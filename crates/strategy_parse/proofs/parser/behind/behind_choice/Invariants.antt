@@ -1,0 +1,10 @@
+use Rattle.std.proofs.Common.{◌≡◌, length}
+use Rattle.strategy_parse.specs.Forms.{forms}
+use Rattle.strategy_parse.specs.Machine as machine
+use Rattle.strategy_parse.proofs.parser.behind.behind_choice.Given as goal
+
+abbrev pub invariant-loop-second : goal.invariant-loop-second
+invariant-loop-second l = machine.behind_choice l.strategy (forms l.stack) l.token ≡ machine.behind_choice l.fn.last (forms l.fn.stack) l.token
+
+abbrev pub decreases-loop-second : goal.decreases-loop-second
+decreases-loop-second l = length (forms l.stack)

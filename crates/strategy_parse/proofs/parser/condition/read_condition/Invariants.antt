@@ -1,0 +1,15 @@
+use Rattle.std.proofs.Common.{◌≡◌, ◌++◌, [], length}
+use Rattle.strategy_parse.specs.Forms.{forms}
+use Rattle.strategy_parse.specs.FreeNames.{names_seen}
+use Rattle.strategy_parse.specs.Machine.{begin, front, step}
+use Rattle.strategy_parse.proofs.ConditionLemmas.{SeenFrom}
+use Rattle.strategy_parse.proofs.parser.condition.read_condition.Given as goal
+
+-- what is left gives what all gave, and the names seen so far and those to be seen are all
+abbrev pub invariant-loop-token : goal.invariant-loop-token
+invariant-loop-token l =
+    (front (step l.state (forms l.stack)) l.left ≡ front (begin []) l.tokens)
+    × (l.names ++ SeenFrom l.state (forms l.stack) l.left ≡ l.fn.before ++ names_seen (begin []) l.tokens)
+
+abbrev pub decreases-loop-token : goal.decreases-loop-token
+decreases-loop-token l = length l.left

@@ -1,0 +1,210 @@
+-- The translation of what is written into core forms.
+use Rattle.std.specs.Prelude.{ℕ, suc, Bool, false, ◌||◌, ◌&&◌, cond, List, [], ◌∷◌, ◌++◌, Some, None}
+use Rattle.std.specs.Bool.{beq}
+use Rattle.std.specs.List.{flat_map}
+use Rattle.term_core.specs.Tree.{Symbol, list, tuple}
+use Rattle.strategy_syntax.specs.Syntax.{Pattern, wildcard, variable, at, number, compound, with_tail, annotated, Patterns, no_patterns, and_pattern, Strategy, id, fail, matches, builds, seq, guard, test, scope, uses, congruence, tail_congruence, all, one, some, child as nth_child, rec, prim, Strategies, no_strategies, and_strategy}
+use Rattle.strategy_syntax.specs.Modules as syntax
+use Rattle.strategy_parse.specs.Tokens.{same_bytes}
+use Rattle.strategy_parse.specs.declared.parser.state.Operator.{Operator}
+use Rattle.strategy_parse.specs.declared.parser.state.Operator.TheVariants.{All, One, Some as SomeChild, Not, Where, Test}
+use Rattle.strategy_parse.specs.Written.{Choice, sequence, left_choice, guarded_choice, Seq, last, before, Arrow, arrow, Prefix, question, exclamation, application, identity, failure, operator, if_then, if_then_else, recursion, primitive, local, closure, closure_where, round, square, square_with_tail, name, call, call_with_terms, child, Choices, no_choices, and_choice, Sorts, no_sorts, and_sort, Declaration, constant, function, Head, Defined, definition, rule, rule_where, Signature, sorts, constructors, Section, signature, definitions}
+
+-- ---- variables
+
+abbrev pub same_name : Symbol → Symbol → Bool
+same_name f g = beq f.is_quoted g.is_quoted && same_bytes f.text g.text
+
+abbrev pub is_among : Symbol → List Symbol → Bool
+is_among f [] = false
+is_among f (g ∷ gs) = same_name f g || is_among f gs
+
+-- the names that aren't among the others
+abbrev pub without : List Symbol → List Symbol → List Symbol
+without others [] = []
+without others (f ∷ fs) = cond (is_among f others) (without others fs) (f ∷ without others fs)
+
+-- each name once, where it first stands
+abbrev pub once : List Symbol → List Symbol
+once [] = []
+once (f ∷ fs) = f ∷ without (f ∷ []) (once fs)
+
+-- the variables of a pattern, in the order of the text
+abbrev mutual
+  pub variables : Pattern → List Symbol
+  variables wildcard = []
+  variables (variable x) = x ∷ []
+  variables (at x p) = x ∷ variables p
+  variables (number z) = []
+  variables (compound h ps) = variables_of_all ps
+  variables (with_tail ps p) = variables_of_all ps ++ variables p
+  variables (annotated p ps) = variables p ++ variables_of_all ps
+
+  pub variables_of_all : Patterns → List Symbol
+  variables_of_all no_patterns = []
+  variables_of_all (and_pattern p ps) = variables p ++ variables_of_all ps
+
+-- The variables that stand free in a strategy, in the order of the text: in a pattern, where no
+-- scope round it names them. A closure is a scope of the variables of its left side.
+abbrev mutual
+  pub free_in_choice : Choice → List Symbol
+  free_in_choice (sequence a) = free_in_seq a
+  free_in_choice (left_choice a b) = free_in_seq a ++ free_in_choice b
+  free_in_choice (guarded_choice a b c) = free_in_seq a ++ (free_in_seq b ++ free_in_choice c)
+
+  pub free_in_seq : Seq → List Symbol
+  free_in_seq (last a) = free_in_arrow a
+  free_in_seq (before a b) = free_in_arrow a ++ free_in_seq b
+
+  pub free_in_arrow : Arrow → List Symbol
+  free_in_arrow (arrow a ps) = free_in_prefix a ++ variables_of_all ps
+
+  pub free_in_prefix : Prefix → List Symbol
+  free_in_prefix (question p) = variables p
+  free_in_prefix (exclamation p) = variables p
+  free_in_prefix (application a p) = free_in_choice a ++ variables p
+  free_in_prefix identity = []
+  free_in_prefix failure = []
+  free_in_prefix (operator o a) = free_in_choice a
+  free_in_prefix (if_then a b) = free_in_choice a ++ free_in_choice b
+  free_in_prefix (if_then_else a b c) =
+      free_in_choice a ++ (free_in_choice b ++ free_in_choice c)
+  free_in_prefix (recursion f a) = free_in_choice a
+  free_in_prefix (primitive n ps) = variables_of_all ps
+  free_in_prefix (local fs a) = without fs (free_in_choice a)
+  free_in_prefix (closure p q) = without (variables p) (variables q)
+  free_in_prefix (closure_where p q a) =
+      without (variables p) (variables q ++ free_in_choice a)
+  free_in_prefix (round cs) = free_in_choices cs
+  free_in_prefix (square cs) = free_in_choices cs
+  free_in_prefix (square_with_tail cs a) = free_in_choices cs ++ free_in_choice a
+  free_in_prefix (name f) = []
+  free_in_prefix (call f cs) = free_in_choices cs
+  free_in_prefix (call_with_terms f cs ps) = free_in_choices cs ++ variables_of_all ps
+  free_in_prefix (child i a) = free_in_choice a
+
+  pub free_in_choices : Choices → List Symbol
+  free_in_choices no_choices = []
+  free_in_choices (and_choice a cs) = free_in_choice a ++ free_in_choices cs
+
+-- ---- core forms
+
+-- `s => p` is Seq(s, Match(p))
+abbrev pub then_matched : Strategy → Patterns → Strategy
+then_matched s no_patterns = s
+then_matched s (and_pattern p ps) = then_matched (seq s (matches p)) ps
+
+abbrev pub operated : Operator → Strategy → Strategy
+operated All s = all s
+operated One s = one s
+operated SomeChild s = some s
+operated Not s = guard s fail id
+operated Where s = test s
+operated Test s = test s
+
+-- `(s)` is s; any other number of strategies in round brackets is the congruence of a tuple
+abbrev pub in_brackets : Strategies → Strategy
+in_brackets no_strategies = congruence tuple no_strategies
+in_brackets (and_strategy s no_strategies) = s
+in_brackets (and_strategy s (and_strategy r ss)) =
+    congruence tuple (and_strategy s (and_strategy r ss))
+
+-- what a rule and a closure do
+abbrev pub rewrite : Pattern → Pattern → Strategy
+rewrite p q = seq (matches p) (builds q)
+
+abbrev pub rewrite_where : Pattern → Pattern → Strategy → Strategy
+rewrite_where p q s = seq (matches p) (seq (test s) (builds q))
+
+abbrev mutual
+  pub core : Choice → Strategy
+  core (sequence a) = core_seq a
+  core (left_choice a b) = guard (core_seq a) id (core b)
+  core (guarded_choice a b c) = guard (core_seq a) (core_seq b) (core c)
+
+  pub core_seq : Seq → Strategy
+  core_seq (last a) = core_arrow a
+  core_seq (before a b) = seq (core_arrow a) (core_seq b)
+
+  pub core_arrow : Arrow → Strategy
+  core_arrow (arrow a ps) = then_matched (core_prefix a) ps
+
+  pub core_prefix : Prefix → Strategy
+  core_prefix (question p) = matches p
+  core_prefix (exclamation p) = builds p
+  core_prefix (application a p) = seq (builds p) (core a)
+  core_prefix identity = id
+  core_prefix failure = fail
+  core_prefix (operator o a) = operated o (core a)
+  core_prefix (if_then a b) = guard (test (core a)) (core b) id
+  core_prefix (if_then_else a b c) = guard (test (core a)) (core b) (core c)
+  core_prefix (recursion f a) = rec f (core a)
+  core_prefix (primitive n ps) = prim n ps
+  core_prefix (local fs a) = scope fs (core a)
+  core_prefix (closure p q) = scope (once (variables p)) (rewrite p q)
+  core_prefix (closure_where p q a) = scope (once (variables p)) (rewrite_where p q (core a))
+  core_prefix (round cs) = in_brackets (core_all cs)
+  core_prefix (square cs) = congruence list (core_all cs)
+  core_prefix (square_with_tail cs a) = tail_congruence (core_all cs) (core a)
+  core_prefix (name f) = uses f no_strategies no_patterns
+  core_prefix (call f cs) = uses f (core_all cs) no_patterns
+  core_prefix (call_with_terms f cs ps) = uses f (core_all cs) ps
+  core_prefix (child i a) = nth_child i (core a)
+
+  pub core_all : Choices → Strategies
+  core_all no_choices = no_strategies
+  core_all (and_choice a cs) = and_strategy (core a) (core_all cs)
+
+-- ---- modules
+
+abbrev pub sort_count : Sorts → ℕ
+sort_count no_sorts = 0
+sort_count (and_sort s ss) = suc (sort_count ss)
+
+-- a declaration without the name of a constructor declares nothing
+abbrev pub declared : Declaration → List syntax.Constructor
+declared (constant f s) = record { name = f; arity = 0 } ∷ []
+declared (function None ss r) = []
+declared (function (Some f) ss r) = record { name = f; arity = sort_count ss } ∷ []
+
+abbrev pub defined : Head → Strategy → syntax.Definition
+defined h s = record {
+  name = h.name;
+  strategy_parameters = h.strategies;
+  term_parameters = h.terms;
+  body = s;
+}
+
+-- A rule is a definition with a scope of the variables that stand free in it, without its term
+-- parameters.
+abbrev pub core_definition : Defined → syntax.Definition
+core_definition (definition h a) = defined h (core a)
+core_definition (rule h p q) =
+    defined h (scope (once (without h.terms (variables p ++ variables q))) (rewrite p q))
+core_definition (rule_where h p q a) =
+    defined h (scope (once (without h.terms (variables p ++ (variables q ++ free_in_choice a))))
+    (rewrite_where p q (core a)))
+
+abbrev pub declared_in_part : Signature → List syntax.Constructor
+declared_in_part (sorts ss) = []
+declared_in_part (constructors ds) = flat_map declared ds
+
+abbrev pub declared_in : Section → List syntax.Constructor
+declared_in (signature parts) = flat_map declared_in_part parts
+declared_in (definitions ds) = []
+
+abbrev pub core_definitions : List Defined → List syntax.Definition
+core_definitions [] = []
+core_definitions (d ∷ ds) = core_definition d ∷ core_definitions ds
+
+abbrev pub defined_in : Section → List syntax.Definition
+defined_in (signature parts) = []
+defined_in (definitions ds) = core_definitions ds
+
+-- What the sections of a module declare and define, in the order of the text. Definitions of one name
+-- stand apart here: which of them are one definition is a matter of all loaded modules together.
+abbrev pub core_module : List Section → syntax.Module
+core_module ss = record {
+  constructors = flat_map declared_in ss;
+  definitions = flat_map defined_in ss;
+}

@@ -1,0 +1,44 @@
+-- What the front of a list of tokens gives as a definition.
+use Rattle.std.specs.Prelude.{◌≡◌, false, List}
+use Rattle.strategy_syntax.specs.Modules.{Definition}
+use Rattle.strategy_parse.specs.declared.tokens.token.Token.{Token}
+use Rattle.strategy_parse.specs.declared.tokens.token.Keyword.TheVariants.{Where}
+use Rattle.strategy_parse.specs.declared.tokens.token.Sign.TheVariants.{Arrow as RightArrow}
+use Rattle.strategy_parse.specs.Written.{Head, Defined, definition, rule, rule_where}
+use Rattle.strategy_parse.specs.Grammar.{Reading, ◌▸◌, Word, Mark, ReadsPattern, ReadsChoice}
+use Rattle.strategy_parse.specs.GrammarModules.{ReadsDefined}
+use Rattle.strategy_parse.specs.Core.{core_definition}
+use Rattle.strategy_parse.specs.Fronts.{Stops}
+use Rattle.strategy_parse.specs.FreeNames.{next_token}
+use Rattle.strategy_parse.specs.Marks.{is_word}
+
+-- nothing comes next that goes on with a definition
+pub record DefinitionEnds (y : List Token) : Type 0 where
+  pub stops : Stops y
+  pub no_condition : is_word Where (next_token y) ≡ false
+
+-- the front of x reads as a definition, whose core form it is, and y is left
+pub record DefinitionGives (x : List Token) (d : Definition) (y : List Token) : Type 0 where
+  pub written : Defined
+  pub reads : ReadsDefined written x y
+  pub is : core_definition written ≡ d
+
+-- ---- rules, behind the colon
+
+abbrev pub head_of : Defined → Head
+head_of (definition h a) = h
+head_of (rule h p q) = h
+head_of (rule_where h p q a) = h
+
+abbrev pub ReadsRule : Defined → Reading
+ReadsRule (definition h a) u v = ⊥
+ReadsRule (rule h p q) u v = (ReadsPattern p ▸ Mark RightArrow ▸ ReadsPattern q) u v
+ReadsRule (rule_where h p q a) u v =
+    (ReadsPattern p ▸ Mark RightArrow ▸ ReadsPattern q ▸ Word Where ▸ ReadsChoice a) u v
+
+-- the front of x reads as the rest of a rule with this head
+pub record RuleGives (h : Head) (x : List Token) (d : Definition) (y : List Token) : Type 0 where
+  pub written : Defined
+  pub head : head_of written ≡ h
+  pub reads : ReadsRule written x y
+  pub is : core_definition written ≡ d

@@ -1,0 +1,109 @@
+-- The grammar of module texts, by cases on its productions.
+--   module  = [ "module" ident ] { section }
+--   section = "signature" { "sorts" { sort } | "constructors" { decl } }
+--           | ( "rules" | "strategies" ) { def }
+--   decl    = [ ident ] ":" sort { "*" sort } "->" sort | ident ":" sort
+--   sort    = ident [ "(" sort { "," sort } ")" ]
+--   def     = head "=" choice | head ":" pattern "->" pattern [ "where" choice ]
+--   head    = ident [ "(" [ ident { "," ident } ] [ "|" [ ident { "," ident } ] ] ")" ]
+use Rattle.std.specs.Prelude.{◌≡◌, List, [], ◌∷◌, ◌⊎◌, Some, None}
+use Rattle.std.specs.declared.option.Option.{Option}
+use Rattle.term_core.specs.Tree.{Symbol}
+use Rattle.strategy_parse.specs.declared.tokens.token.Token.{Token}
+use Rattle.strategy_parse.specs.declared.tokens.token.Token.TheVariants.{Ident}
+use Rattle.strategy_parse.specs.declared.tokens.token.Keyword.TheVariants.{Module, Signature as KSignature, Sorts as KSorts, Constructors, Rules, Strategies, Where}
+use Rattle.strategy_parse.specs.declared.tokens.token.Sign.{Sign}
+use Rattle.strategy_parse.specs.declared.tokens.token.Sign.TheVariants.{OpenRound, CloseRound, Comma, Colon, Bar, Equals, Arrow as RightArrow, Star}
+use Rattle.strategy_parse.specs.Written.{Sort, sort, Sorts, no_sorts, and_sort, Declaration, constant, function, Head, Defined, definition, rule, rule_where, Signature, sorts, constructors, Section, signature, definitions}
+use Rattle.strategy_parse.specs.Grammar.{Reading, ◌▸◌, Next, Word, Mark, ReadsPattern, ReadsNames, ReadsChoice}
+
+-- ---- sorts and declarations
+
+abbrev mutual
+  pub ReadsSort : Sort → Reading
+  ReadsSort (sort f no_sorts) u v = Next (Ident f) u v
+  ReadsSort (sort f (and_sort s ss)) u v =
+      (Next (Ident f) ▸ Mark OpenRound ▸ (λ x y. ReadsSort s x y)
+      ▸ (λ x y. ReadsMoreSorts ss Comma (Mark CloseRound) x y)) u v
+
+  -- the sorts behind the first one, each after the sign, and then the end
+  pub ReadsMoreSorts : Sorts → Sign → Reading → Reading
+  ReadsMoreSorts no_sorts between end u v = end u v
+  ReadsMoreSorts (and_sort s ss) between end u v =
+      (Mark between ▸ (λ x y. ReadsSort s x y)
+      ▸ (λ x y. ReadsMoreSorts ss between end x y)) u v
+
+-- the name of a constructor, or none
+abbrev pub ReadsOptionalName : Option Symbol → Reading
+ReadsOptionalName None u v = v ≡ u
+ReadsOptionalName (Some f) u v = Next (Ident f) u v
+
+abbrev pub ReadsDeclaration : Declaration → Reading
+ReadsDeclaration (constant f s) u v =
+    (Next (Ident f) ▸ Mark Colon ▸ ReadsSort s) u v
+ReadsDeclaration (function f no_sorts r) u v = ⊥
+ReadsDeclaration (function f (and_sort s ss) r) u v =
+    (ReadsOptionalName f ▸ Mark Colon ▸ ReadsSort s ▸ ReadsMoreSorts ss Star (Mark RightArrow)
+    ▸ ReadsSort r) u v
+
+-- ---- definitions
+
+-- the parameters in brackets: strategies, and behind a `|` terms
+abbrev pub ReadsParameters : List Symbol → List Symbol → Reading
+ReadsParameters ss ts u v =
+    ((ts ≡ []) × ReadsNames ss CloseRound u v)
+    ⊎ (ReadsNames ss Bar ▸ ReadsNames ts CloseRound) u v
+
+abbrev pub ReadsHead : Head → Reading
+ReadsHead h u v =
+    (Next (Ident h.name) ▸ (λ x y. (Mark OpenRound ▸ ReadsParameters h.strategies h.terms) x y
+    ⊎ ((y ≡ x) × (h.strategies ≡ []) × (h.terms ≡ [])))) u v
+
+abbrev pub ReadsDefined : Defined → Reading
+ReadsDefined (definition h a) u v = (ReadsHead h ▸ Mark Equals ▸ ReadsChoice a) u v
+ReadsDefined (rule h p q) u v =
+    (ReadsHead h ▸ Mark Colon ▸ ReadsPattern p ▸ Mark RightArrow ▸ ReadsPattern q) u v
+ReadsDefined (rule_where h p q a) u v =
+    (ReadsHead h ▸ Mark Colon ▸ ReadsPattern p ▸ Mark RightArrow ▸ ReadsPattern q ▸ Word Where
+    ▸ ReadsChoice a) u v
+
+-- ---- sections
+
+abbrev pub ReadsSorts : List Sort → Reading
+ReadsSorts [] u v = v ≡ u
+ReadsSorts (s ∷ ss) u v = (ReadsSort s ▸ ReadsSorts ss) u v
+
+abbrev pub ReadsDeclarations : List Declaration → Reading
+ReadsDeclarations [] u v = v ≡ u
+ReadsDeclarations (d ∷ ds) u v = (ReadsDeclaration d ▸ ReadsDeclarations ds) u v
+
+abbrev pub ReadsSignature : Signature → Reading
+ReadsSignature (sorts ss) u v = (Word KSorts ▸ ReadsSorts ss) u v
+ReadsSignature (constructors ds) u v = (Word Constructors ▸ ReadsDeclarations ds) u v
+
+abbrev pub ReadsSignatures : List Signature → Reading
+ReadsSignatures [] u v = v ≡ u
+ReadsSignatures (s ∷ ss) u v = (ReadsSignature s ▸ ReadsSignatures ss) u v
+
+abbrev pub ReadsDefinitions : List Defined → Reading
+ReadsDefinitions [] u v = v ≡ u
+ReadsDefinitions (d ∷ ds) u v = (ReadsDefined d ▸ ReadsDefinitions ds) u v
+
+abbrev pub ReadsSection : Section → Reading
+ReadsSection (signature ss) u v = (Word KSignature ▸ ReadsSignatures ss) u v
+ReadsSection (definitions ds) u v =
+    ((λ x y. Word Rules x y ⊎ Word Strategies x y) ▸ ReadsDefinitions ds) u v
+
+-- sections to the end of the text
+abbrev pub ReadsSections : List Section → List Token → Type 0
+ReadsSections [] u = u ≡ []
+ReadsSections (s ∷ ss) u = (v : List Token) × ReadsSection s u v × ReadsSections ss v
+
+-- the name behind `module`, which isn't used, or none
+abbrev pub ReadsTitle : Reading
+ReadsTitle u v =
+    ((f : Symbol) × (Word Module ▸ Next (Ident f)) u v) ⊎ (v ≡ u)
+
+-- the text is a module of these sections
+abbrev pub ReadsModule : List Section → List Token → Type 0
+ReadsModule ss u = (v : List Token) × ReadsTitle u v × ReadsSections ss v

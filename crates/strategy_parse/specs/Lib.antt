@@ -1,0 +1,17 @@
+pub mod Tokens
+pub mod Pieces
+pub mod Written
+pub mod Grammar
+pub mod GrammarModules
+pub mod Core
+pub mod Gives
+pub mod Marks
+pub mod Machine
+pub mod Fronts
+pub mod Faults
+pub mod Forms
+pub mod Laws
+pub mod FreeNames
+pub mod ModuleFronts
+pub mod Sections
+pub mod Definitions

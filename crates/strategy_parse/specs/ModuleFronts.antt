@@ -1,0 +1,171 @@
+-- What stands at the front of a list of tokens in a module, and what is left, as functions: names,
+-- the heads of definitions, sorts and declarations.
+use Rattle.std.specs.Prelude.{ℕ, zero, suc, List, [], ◌∷◌, ◌++◌, if◌then◌else◌, Some, None}
+use Rattle.std.specs.declared.option.Option.{Option}
+use Rattle.term_core.specs.Tree.{Symbol}
+use Rattle.strategy_syntax.specs.Modules as syntax
+use Rattle.strategy_parse.specs.declared.tokens.token.Token.{Token}
+use Rattle.strategy_parse.specs.declared.tokens.token.Token.TheVariants.{Ident, Bad}
+use Rattle.strategy_parse.specs.declared.tokens.token.Sign.{Sign}
+use Rattle.strategy_parse.specs.declared.tokens.token.Sign.TheVariants.{OpenRound, CloseRound, Comma, Colon, Bar, Arrow as RightArrow, Star}
+use Rattle.strategy_parse.specs.declared.modules.sorts.Place.{Place}
+use Rattle.strategy_parse.specs.declared.modules.sorts.Place.TheVariants.{Begins, Named, Closed}
+use Rattle.strategy_parse.specs.declared.modules.sorts.Turn.{Turn}
+use Rattle.strategy_parse.specs.declared.modules.sorts.Turn.TheVariants.{Reads, Ends, Stuck}
+use Rattle.strategy_parse.specs.Marks.{is_mark}
+use Rattle.strategy_parse.specs.Written.{Head}
+
+-- what is behind a sign, where it comes first
+abbrev pub behind_mark : Sign → List Token → Option (List Token)
+behind_mark s [] = None
+behind_mark s (t ∷ ts) = if (is_mark s t) then Some ts else None
+
+-- what is behind an identifier, where one comes first
+abbrev pub behind_ident : List Token → Option (List Token)
+behind_ident (Ident f ∷ ts) = Some ts
+behind_ident x = None
+
+-- ---- names and heads
+
+abbrev pub NamesLeft : Type 0
+NamesLeft = Option (List Symbol × List Token)
+
+-- the names behind those done, each after a comma
+abbrev pub more_names : List Symbol → List Token → NamesLeft
+more_names done [] = Some (done, [])
+more_names done (t ∷ []) = if (is_mark Comma t) then None else Some (done, t ∷ [])
+more_names done (t ∷ (Ident f ∷ ts)) =
+    if (is_mark Comma t) then more_names (done ++ f ∷ []) ts else Some (done, t ∷ (Ident f ∷ ts))
+more_names done (t ∷ (u ∷ ts)) = if (is_mark Comma t) then None else Some (done, t ∷ (u ∷ ts))
+
+abbrev pub names_at : List Token → NamesLeft
+names_at [] = Some ([], [])
+names_at (Ident f ∷ ts) = more_names (f ∷ []) ts
+names_at (t ∷ ts) = Some ([], t ∷ ts)
+
+abbrev pub HeadLeft : Type 0
+HeadLeft = Option (Head × List Token)
+
+abbrev pub make_head : Symbol → List Symbol → List Symbol → Head
+make_head f ss ts = record { name = f; strategies = ss; terms = ts }
+
+abbrev pub close_head : Head → Option (List Token) → HeadLeft
+close_head h None = None
+close_head h (Some x) = Some (h, x)
+
+abbrev pub behind_terms : Symbol → List Symbol → NamesLeft → HeadLeft
+behind_terms f ss None = None
+behind_terms f ss (Some (ts, x)) = close_head (make_head f ss ts) (behind_mark CloseRound x)
+
+abbrev pub behind_bar : Symbol → List Symbol → Option (List Token) → HeadLeft
+behind_bar f ss None = None
+behind_bar f ss (Some x) = behind_terms f ss (names_at x)
+
+abbrev pub without_terms : Symbol → List Symbol → List Token → Option (List Token) → HeadLeft
+without_terms f ss x (Some y) = Some (make_head f ss [], y)
+without_terms f ss x None = behind_bar f ss (behind_mark Bar x)
+
+abbrev pub behind_strategies : Symbol → NamesLeft → HeadLeft
+behind_strategies f None = None
+behind_strategies f (Some (ss, x)) = without_terms f ss x (behind_mark CloseRound x)
+
+-- the parameters behind the bracket that opens them
+abbrev pub parameters_at : Symbol → List Token → HeadLeft
+parameters_at f x = behind_strategies f (names_at x)
+
+abbrev pub behind_name : Symbol → List Token → Option (List Token) → HeadLeft
+behind_name f x (Some y) = parameters_at f y
+behind_name f x None = Some (make_head f [] [], x)
+
+abbrev pub head_at : List Token → HeadLeft
+head_at (Ident f ∷ ts) = behind_name f ts (behind_mark OpenRound ts)
+head_at x = None
+
+-- ---- sorts
+
+-- behind a whole sort, where so many brackets are open
+abbrev pub behind_sort : ℕ → Token → Turn
+behind_sort zero t = Ends
+behind_sort (suc n) t =
+    if (is_mark Comma t) then Reads Begins (suc n) else
+    if (is_mark CloseRound t) then Reads Closed n else Stuck
+
+abbrev pub begin_sort : ℕ → Token → Turn
+begin_sort n (Ident f) = Reads Named n
+begin_sort n t = Stuck
+
+abbrev pub sort_step : Place → ℕ → Token → Turn
+sort_step Begins n t = begin_sort n t
+sort_step Named n t = if (is_mark OpenRound t) then Reads Begins (suc n) else behind_sort n t
+sort_step Closed n t = behind_sort n t
+
+abbrev pub SortsLeft : Type 0
+SortsLeft = Option (ℕ × List Token)
+
+-- a sort ended, which is number n: another one follows behind a `*`
+abbrev pub behind_sorts : (List Token → SortsLeft) → ℕ → Token → List Token → SortsLeft
+behind_sorts k n t ts = if (is_mark Star t) then k ts else Some (n, t ∷ ts)
+
+abbrev pub sort_goes : (Place → ℕ → SortsLeft) → SortsLeft → Turn → SortsLeft
+sort_goes k end (Reads p d) = k p d
+sort_goes k end Ends = end
+sort_goes k end Stuck = None
+
+-- how many sorts there are at the front, where n have begun, and what is left
+abbrev pub sorts_from : Place → ℕ → ℕ → List Token → SortsLeft
+sorts_from p d n [] = sort_goes (λ q e. None) (Some (n, [])) (sort_step p d Bad)
+sorts_from p d n (t ∷ ts) =
+    sort_goes (λ q e. sorts_from q e n ts)
+    (if (is_mark Star t) then sorts_from Begins 0 (suc n) ts else Some (n, t ∷ ts))
+    (sort_step p d t)
+
+abbrev pub sorts_at : List Token → SortsLeft
+sorts_at x = sorts_from Begins 0 1 x
+
+-- one sort, and what is left
+abbrev pub one_sort : SortsLeft → Option (List Token)
+one_sort (Some (suc zero, x)) = Some x
+one_sort r = None
+
+abbrev pub sort_at : List Token → Option (List Token)
+sort_at x = one_sort (sorts_at x)
+
+-- ---- declarations
+
+abbrev pub DeclaredLeft : Type 0
+DeclaredLeft = Option (List syntax.Constructor × List Token)
+
+-- the constructor of this name and number of arguments
+abbrev pub named_constructor : Option Symbol → ℕ → List syntax.Constructor
+named_constructor None n = []
+named_constructor (Some f) n = record { name = f; arity = n } ∷ []
+
+abbrev pub behind_result : List syntax.Constructor → Option (List Token) → DeclaredLeft
+behind_result cs None = None
+behind_result cs (Some x) = Some (cs, x)
+
+-- no arrow follows: it is a name with one sort
+abbrev pub without_arrow : Option Symbol → ℕ → List Token → DeclaredLeft
+without_arrow (Some f) (suc zero) x = Some (named_constructor (Some f) 0, x)
+without_arrow f n x = None
+
+abbrev pub behind_arrow : Option Symbol → ℕ → List Token → Option (List Token) → DeclaredLeft
+behind_arrow f n x (Some y) = behind_result (named_constructor f n) (sort_at y)
+behind_arrow f n x None = without_arrow f n x
+
+abbrev pub behind_arguments : Option Symbol → SortsLeft → DeclaredLeft
+behind_arguments f None = None
+behind_arguments f (Some (n, x)) = behind_arrow f n x (behind_mark RightArrow x)
+
+abbrev pub behind_colon : Option Symbol → Option (List Token) → DeclaredLeft
+behind_colon f None = None
+behind_colon f (Some x) = behind_arguments f (sorts_at x)
+
+abbrev pub declaration_at : List Token → DeclaredLeft
+declaration_at (Ident f ∷ ts) = behind_colon (Some f) (behind_mark Colon ts)
+declaration_at x = behind_colon None (behind_mark Colon x)
+
+-- a constructor, or none, as a list
+abbrev pub listed : Option syntax.Constructor → List syntax.Constructor
+listed None = []
+listed (Some c) = c ∷ []

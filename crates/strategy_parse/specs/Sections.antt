@@ -1,0 +1,97 @@
+-- What the rest of a module gives, by what was read last of it.
+use Rattle.std.specs.Prelude.{◌≡◌, List, [], ◌∷◌, ◌++◌, Some, None}
+use Rattle.std.specs.declared.option.Option.{Option}
+use Rattle.std.specs.List.{flat_map}
+use Rattle.strategy_syntax.specs.Modules.{Module, Constructor, Definition}
+use Rattle.strategy_parse.specs.declared.tokens.token.Token.{Token}
+use Rattle.strategy_parse.specs.declared.tokens.token.Token.TheVariants.{Reserved}
+use Rattle.strategy_parse.specs.declared.tokens.token.Keyword.{Keyword}
+use Rattle.strategy_parse.specs.declared.tokens.token.Keyword.TheVariants.{Signature as KSignature, Sorts as KSorts, Constructors as KConstructors, Rules, Strategies}
+use Rattle.strategy_parse.specs.declared.modules.sections.Part.{Part}
+use Rattle.strategy_parse.specs.declared.modules.sections.Part.TheVariants.{Outside, Signature as InSignature, Sorts, Constructors, Definitions}
+use Rattle.strategy_parse.specs.Written.{Sort, Declaration, Defined, Signature, Section}
+use Rattle.strategy_parse.specs.GrammarModules.{ReadsSorts, ReadsDeclarations, ReadsDefinitions, ReadsSignatures, ReadsSections}
+use Rattle.strategy_parse.specs.Core.{declared, declared_in_part, core_definitions, core_module}
+
+-- ---- words
+
+-- a word that begins a part of a signature
+abbrev pub in_signature : Part → Part → Option Part
+in_signature Outside q = None
+in_signature Definitions q = None
+in_signature p q = Some q
+
+-- the part of a module behind a reserved word, where it may come
+abbrev pub next_part : Part → Keyword → Option Part
+next_part p KSignature = Some InSignature
+next_part p Rules = Some Definitions
+next_part p Strategies = Some Definitions
+next_part p KSorts = in_signature p Sorts
+next_part p KConstructors = in_signature p Constructors
+next_part p w = None
+
+-- a token comes next, which is no reserved word
+abbrev pub IsItem : List Token → Type 0
+IsItem [] = ⊥
+IsItem (Reserved w ∷ ts) = ⊥
+IsItem (t ∷ ts) = Unit {0}
+
+-- ---- what is left
+
+-- what was read before, and what the rest gives
+abbrev pub joined : List Constructor → List Definition → Module → Module
+joined cs ds m = record { constructors = cs ++ m.constructors; definitions = ds ++ m.definitions }
+
+-- sections, up to the end of the text
+pub record SectionsLeft (x : List Token) (m : Module) : Type 0 where
+  pub sections : List Section
+  pub reads : ReadsSections sections x
+  pub gives : core_module sections ≡ m
+
+-- parts of a signature, and sections
+pub record SignatureLeft (x : List Token) (m : Module) : Type 0 where
+  pub parts : List Signature
+  pub rest : List Token
+  pub reads : ReadsSignatures parts x rest
+  pub behind : Module
+  pub left : SectionsLeft rest behind
+  pub gives : joined (flat_map declared_in_part parts) [] behind ≡ m
+
+-- sorts, and then as in a signature
+pub record SortsLeft (x : List Token) (m : Module) : Type 0 where
+  pub sorts : List Sort
+  pub rest : List Token
+  pub reads : ReadsSorts sorts x rest
+  pub left : SignatureLeft rest m
+
+-- declarations, and then as in a signature
+pub record DeclarationsLeft (x : List Token) (m : Module) : Type 0 where
+  pub declarations : List Declaration
+  pub rest : List Token
+  pub reads : ReadsDeclarations declarations x rest
+  pub behind : Module
+  pub left : SignatureLeft rest behind
+  pub gives : joined (flat_map declared declarations) [] behind ≡ m
+
+-- definitions, and sections
+pub record DefinitionsLeft (x : List Token) (m : Module) : Type 0 where
+  pub definitions : List Defined
+  pub rest : List Token
+  pub reads : ReadsDefinitions definitions x rest
+  pub behind : Module
+  pub left : SectionsLeft rest behind
+  pub gives : joined [] (core_definitions definitions) behind ≡ m
+
+abbrev pub Left : Part → List Token → Module → Type 0
+Left Outside x m = SectionsLeft x m
+Left InSignature x m = SignatureLeft x m
+Left Sorts x m = SortsLeft x m
+Left Constructors x m = DeclarationsLeft x m
+Left Definitions x m = DefinitionsLeft x m
+
+-- the module is what was read, and what is left gives
+pub record Stands (p : Part) (cs : List Constructor) (ds : List Definition) (x : List Token)
+    (m : Module) : Type 0 where
+  pub behind : Module
+  pub left : Left p x behind
+  pub gives : joined cs ds behind ≡ m

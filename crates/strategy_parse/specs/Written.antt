@@ -1,0 +1,99 @@
+-- What strategy and module texts give, production by production of the grammar, before it is
+-- translated into core forms. Patterns need no translation.
+use Rattle.std.specs.Prelude.{ℕ, List}
+use Rattle.std.specs.declared.option.Option.{Option}
+use Rattle.term_core.specs.Tree.{Symbol}
+use Rattle.strategy_syntax.specs.Syntax.{Pattern, Patterns}
+use Rattle.strategy_parse.specs.declared.parser.state.Operator.{Operator}
+
+mutual
+  -- `seq`, `seq <+ choice`, or `seq < seq + choice`
+  pub data Choice : Type 0 where
+    sequence : Seq → Choice
+    left_choice : Seq → Choice → Choice
+    guarded_choice : Seq → Seq → Choice → Choice
+
+  -- `arrow`, or `arrow ; seq`
+  pub data Seq : Type 0 where
+    last : Arrow → Seq
+    before : Arrow → Seq → Seq
+
+  -- `prefix`, and the patterns that follow it, each behind a `=>`
+  pub data Arrow : Type 0 where
+    arrow : Prefix → Patterns → Arrow
+
+  pub data Prefix : Type 0 where
+    -- `? pattern`, `! pattern`, `< choice > pattern`
+    question : Pattern → Prefix
+    exclamation : Pattern → Prefix
+    application : Choice → Pattern → Prefix
+    identity : Prefix
+    failure : Prefix
+    -- a word and `( choice )`
+    operator : Operator → Choice → Prefix
+    -- `if choice then choice end`, and with `else choice`
+    if_then : Choice → Choice → Prefix
+    if_then_else : Choice → Choice → Choice → Prefix
+    -- `rec ident ( choice )`
+    recursion : Symbol → Choice → Prefix
+    -- `prim ( string, pattern, .. )`
+    primitive : Symbol → Patterns → Prefix
+    -- `{ ident, .. : choice }`
+    local : List Symbol → Choice → Prefix
+    -- `\ pattern -> pattern \`, and with `where choice`
+    closure : Pattern → Pattern → Prefix
+    closure_where : Pattern → Pattern → Choice → Prefix
+    -- `( choice, .. )`, of any number
+    round : Choices → Prefix
+    -- `[ choice, .. ]`, and with `| choice`
+    square : Choices → Prefix
+    square_with_tail : Choices → Choice → Prefix
+    -- `ident`, `ident ( choice, .. )` and `ident ( choice, .. | pattern, .. )`
+    name : Symbol → Prefix
+    call : Symbol → Choices → Prefix
+    call_with_terms : Symbol → Choices → Patterns → Prefix
+    -- `integer ( choice )`
+    child : ℕ → Choice → Prefix
+
+  -- a list of choices
+  pub data Choices : Type 0 where
+    no_choices : Choices
+    and_choice : Choice → Choices → Choices
+
+-- ---- modules
+
+mutual
+  -- `ident`, or `ident ( sort, .. )`
+  pub data Sort : Type 0 where
+    sort : Symbol → Sorts → Sort
+
+  pub data Sorts : Type 0 where
+    no_sorts : Sorts
+    and_sort : Sort → Sorts → Sorts
+
+-- `ident : sort`, or `[ ident ] : sort * .. -> sort`
+pub data Declaration : Type 0 where
+  constant : Symbol → Sort → Declaration
+  function : Option Symbol → Sorts → Sort → Declaration
+
+-- `ident`, `ident ( ident, .. )` or `ident ( ident, .. | ident, .. )`
+pub record Head : Type 0 where
+  pub name : Symbol
+  pub strategies : List Symbol
+  pub terms : List Symbol
+
+-- `head = choice`, or `head : pattern -> pattern`, and with `where choice`
+pub data Defined : Type 0 where
+  definition : Head → Choice → Defined
+  rule : Head → Pattern → Pattern → Defined
+  rule_where : Head → Pattern → Pattern → Choice → Defined
+
+-- what stands behind `sorts` and behind `constructors`
+pub data Signature : Type 0 where
+  sorts : List Sort → Signature
+  constructors : List Declaration → Signature
+
+-- `signature` and its parts; or `rules` or `strategies`, and definitions
+pub data Section : Type 0 where
+  signature : List Signature → Section
+  definitions : List Defined → Section

@@ -1,0 +1,66 @@
+//! Declarations of constructors.
+
+ghost use Rattle.std.specs.Prelude.{◌≡◌, [], IfOk, Err, Some, None};
+ghost use Rattle.strategy_parse.specs.ModuleFronts.{sorts_at, listed};
+ghost use Rattle.strategy_parse.specs.ModuleFronts.{behind_arguments, declaration_at};
+
+use crate::modules::sorts::{skip_sort, skip_sorts};
+use crate::modules::tokens::{behind_mark, expect_mark};
+use crate::parser::Fault;
+use crate::tokens::{Sign, Token};
+use strategy_syntax::Constructor;
+use term_core::Name;
+
+/// The constructor that the declaration at the front of the tokens declares, where it has a name,
+/// and the tokens behind it.
+pub fn read_declaration<'a>(
+    tokens: &'a [Token],
+) -> Result<(Option<Constructor>, &'a [Token]), Fault>
+    ensures ok { IfOk result (λ r. declaration_at tokens.now ≡ Some (listed r.0, r.1.now)) }
+    ensures none { result ≡ Err Fault.Syntax → declaration_at tokens.now ≡ None }
+{
+    match tokens.split_first() {
+        Some((Token::Ident(name), left)) => {
+            let rest = expect_mark(left, Sign::Colon)?;
+            read_named(name, rest)
+        }
+        _ => {
+            let rest = expect_mark(tokens, Sign::Colon)?;
+            let left = skip_nameless(rest)?;
+            Ok((None, left))
+        }
+    }
+}
+
+// The sorts of a constructor of this name: those of its arguments and an arrow, or none; and its
+// own.
+fn read_named<'a>(
+    name: &Name,
+    tokens: &'a [Token],
+) -> Result<(Option<Constructor>, &'a [Token]), Fault>
+    ensures ok { IfOk result (λ r.
+        behind_arguments (Some name.now) (sorts_at tokens.now) ≡ Some (listed r.0, r.1.now)) }
+    ensures none { result ≡ Err Fault.Syntax →
+        behind_arguments (Some name.now) (sorts_at tokens.now) ≡ None }
+{
+    let (count, left) = skip_sorts(tokens)?;
+    if let Some(rest) = behind_mark(left, Sign::Arrow) {
+        let behind = skip_sort(rest)?;
+        return Ok((Some(Constructor::new(name.try_clone()?, count)), behind));
+    }
+    if count != 1 {
+        return Err(Fault::Syntax);
+    }
+    Ok((Some(Constructor::new(name.try_clone()?, 0)), left))
+}
+
+// The sorts of a declaration without a name, which has an arrow.
+fn skip_nameless<'a>(tokens: &'a [Token]) -> Result<&'a [Token], Fault>
+    ensures ok { IfOk result (λ rest.
+        behind_arguments None (sorts_at tokens.now) ≡ Some ([], rest.now)) }
+    ensures none { result ≡ Err Fault.Syntax → behind_arguments None (sorts_at tokens.now) ≡ None }
+{
+    let (_, left) = skip_sorts(tokens)?;
+    let rest = expect_mark(left, Sign::Arrow)?;
+    skip_sort(rest)
+}

@@ -1,0 +1,39 @@
+//! Definitions.
+
+ghost use Rattle.std.specs.Prelude.{◌≡◌, ◌<◌, List, length, IfOk, Err};
+ghost use Rattle.strategy_parse.specs.Core.{core_definition};
+ghost use Rattle.strategy_parse.specs.Definitions.{DefinitionEnds, DefinitionGives};
+ghost use Rattle.strategy_parse.specs.GrammarModules.{ReadsDefined};
+ghost use Rattle.strategy_parse.specs.Written.{Defined};
+ghost use Rattle.strategy_parse.specs.declared.tokens.token.Token.{Token};
+
+use crate::modules::heads::{Head, read_head};
+use crate::modules::rules::{make_definition, read_rule};
+use crate::modules::tokens::{behind_mark, expect_mark};
+use crate::parser::{Fault, read_strategy};
+use crate::tokens::{Sign, Token};
+use std::alloc::Global;
+use strategy_syntax::Definition;
+
+/// The definition at the front of the tokens, and those behind it.
+pub fn read_definition<'a>(
+    alloc: Global,
+    tokens: &'a [Token],
+) -> Result<(Definition, &'a [Token]), Fault>
+    ensures given { IfOk result (λ r. DefinitionGives tokens.now r.0 r.1.now) }
+    ensures only { IfOk result (λ r. (w : Defined) (y : List Token) → ReadsDefined w tokens.now y
+        → DefinitionEnds y → (core_definition w ≡ r.0) × (y ≡ r.1.now)) }
+    ensures none { result ≡ Err Fault.Syntax → (w : Defined) (y : List Token)
+        → ReadsDefined w tokens.now y → DefinitionEnds y → ⊥ }
+{
+    let (head, left) = read_head(alloc, tokens)?;
+    if let Some(rest) = behind_mark(left, Sign::Equals) {
+        let (body, behind) = read_strategy(alloc, rest)?;
+        return Ok((make_definition(head, body), behind));
+    }
+    let rest = expect_mark(left, Sign::Colon)?;
+    match read_rule(alloc, head, rest) {
+        Ok(read) => Ok(read),
+        Err(fault) => Err(fault),
+    }
+}

@@ -1,0 +1,117 @@
+//! The heads of definitions.
+#![tactic(auto, using(crate::proofs::HeadLemmas::head_rules))]
+
+ghost use Rattle.std.specs.Prelude.{◌≡◌, [], ◌∷◌, IfOk, Err, Some, None};
+ghost use Rattle.strategy_parse.specs.ModuleFronts.{names_at, more_names};
+ghost use Rattle.strategy_parse.specs.ModuleFronts.{make_head, parameters_at, head_at};
+
+use crate::modules::tokens::{behind_mark, expect_mark};
+use crate::parser::{Fault, NameList, is_mark};
+use crate::tokens::{Sign, Token};
+use std::alloc::Global;
+use term_core::Name;
+
+/// The name of a definition, and its parameters: strategies, and terms.
+#[derive(Drop)]
+pub struct Head {
+    /// The name.
+    pub name: Name,
+    /// The names that stand for strategies.
+    pub strategies: NameList,
+    /// The names that stand for terms.
+    pub terms: NameList,
+}
+
+/// The head at the front of the tokens, and those behind it.
+pub fn read_head<'a>(alloc: Global, tokens: &'a [Token]) -> Result<(Head, &'a [Token]), Fault>
+    ensures ok { IfOk result (λ r. head_at tokens.now ≡ Some
+        (make_head r.0.name r.0.strategies r.0.terms, r.1.now)) }
+    ensures none { result ≡ Err Fault.Syntax → head_at tokens.now ≡ None }
+{
+    let Some((Token::Ident(name), left)) = tokens.split_first() else {
+        return Err(Fault::Syntax);
+    };
+    let name = name.try_clone()?;
+    match behind_mark(left, Sign::OpenRound) {
+        Some(inside) => read_parameters(alloc, name, inside),
+        None => {
+            let strategies = NameList::new(alloc);
+            let terms = NameList::new(alloc);
+            Ok((
+                Head {
+                    name,
+                    strategies,
+                    terms,
+                },
+                left,
+            ))
+        }
+    }
+}
+
+// The parameters behind the bracket that opens them.
+fn read_parameters<'a>(
+    alloc: Global,
+    name: Name,
+    tokens: &'a [Token],
+) -> Result<(Head, &'a [Token]), Fault>
+    ensures ok { IfOk result (λ r. parameters_at name tokens.now ≡ Some
+        (make_head r.0.name r.0.strategies r.0.terms, r.1.now)) }
+    ensures none { result ≡ Err Fault.Syntax → parameters_at name tokens.now ≡ None }
+{
+    let (strategies, left) = read_names(alloc, tokens)?;
+    if let Some(rest) = behind_mark(left, Sign::CloseRound) {
+        let terms = NameList::new(alloc);
+        return Ok((
+            Head {
+                name,
+                strategies,
+                terms,
+            },
+            rest,
+        ));
+    }
+    let rest = expect_mark(left, Sign::Bar)?;
+    let (terms, left) = read_names(alloc, rest)?;
+    let rest = expect_mark(left, Sign::CloseRound)?;
+    Ok((
+        Head {
+            name,
+            strategies,
+            terms,
+        },
+        rest,
+    ))
+}
+
+// The identifiers at the front, with commas between, and the tokens behind them.
+fn read_names<'a>(alloc: Global, tokens: &'a [Token]) -> Result<(NameList, &'a [Token]), Fault>
+    ensures ok { IfOk result (λ r. names_at tokens.now ≡ Some (r.0, r.1.now)) }
+    ensures none { result ≡ Err Fault.Syntax → names_at tokens.now ≡ None }
+{
+    let names = NameList::new(alloc);
+    match tokens.split_first() {
+        Some((Token::Ident(name), left)) => read_more_names(names.with(name.try_clone()?)?, left),
+        _ => Ok((names, tokens)),
+    }
+}
+
+// The identifiers that follow, each behind a comma.
+fn read_more_names<'a>(
+    first: NameList,
+    tokens: &'a [Token],
+) -> Result<(NameList, &'a [Token]), Fault>
+    ensures ok { IfOk result (λ r. more_names first tokens.now ≡ Some (r.0, r.1.now)) }
+    ensures none { result ≡ Err Fault.Syntax → more_names first tokens.now ≡ None }
+{
+    let mut names = first;
+    let mut left = tokens;
+    while let Some(rest) = behind_mark(left, Sign::Comma) {
+        let Some((Token::Ident(name), behind)) = rest.split_first() else {
+            return Err(Fault::Syntax);
+        };
+        names = names.with(name.try_clone()?)?;
+        left = behind;
+    }
+    Ok((names, left))
+}

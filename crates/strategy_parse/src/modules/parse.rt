@@ -1,0 +1,52 @@
+//! A whole module.
+
+ghost use Rattle.std.specs.Prelude.{◌≡◌, ◌↔◌, ◌<◌, length, IfOk, Err};
+ghost use Rattle.strategy_syntax.specs.Modules as syntax;
+ghost use Rattle.strategy_parse.specs.Gives.{GivesModule};
+ghost use Rattle.strategy_parse.specs.Sections.{Left};
+ghost use Rattle.strategy_parse.specs.Tokens.{tokens};
+
+use crate::MAX_TOKENS;
+use crate::modules::sections::{Part, read_sections};
+use crate::modules::tokens::{behind_ident, behind_word};
+use crate::parser::Fault;
+use crate::tokens::{Keyword, ParseFault, Token, read_tokens};
+use std::alloc::Global;
+use strategy_syntax::Module;
+
+/// The module that a text gives, with its rules and strategies in their core forms. The name behind
+/// `module` isn't used. The empty text is a module without anything in it.
+///
+/// Errors: `Deep` where the text has more than 4,000 tokens, tested first; `Syntax` where it is no
+/// module; `Memory` where a growth of memory is refused.
+pub fn parse_module(alloc: Global, text: &[u8]) -> Result<Module, ParseFault>
+    ensures deep { (result ≡ Err ParseFault.Deep) ↔ (MAX_TOKENS < length (tokens text.now)) }
+    ensures given { IfOk result (λ m. GivesModule (tokens text.now) m) }
+    ensures only { IfOk result (λ m. (r : syntax.Module) → GivesModule (tokens text.now) r
+        → r ≡ m) }
+    ensures no_module { result ≡ Err ParseFault.Syntax → (r : syntax.Module)
+        → GivesModule (tokens text.now) r → ⊥ }
+{
+    let tokens = read_tokens(alloc, text)?;
+    let sections = behind_title(&tokens)?;
+    let module = read_sections(alloc, sections)?;
+    Ok(module)
+}
+
+// The tokens behind the word `module` and a name, where these come first.
+fn behind_title<'a>(tokens: &'a [Token]) -> Result<&'a [Token], Fault>
+    ensures back { IfOk result (λ rest. (m : syntax.Module) → Left Part.Outside rest.now m
+        → GivesModule tokens.now m) }
+    ensures forth { IfOk result (λ rest. (m : syntax.Module) → GivesModule tokens.now m
+        → Left Part.Outside rest.now m) }
+    ensures none { result ≡ Err Fault.Syntax → (m : syntax.Module) → GivesModule tokens.now m → ⊥ }
+    ensures memory { result ≡ Err Fault.Memory → ⊥ }
+{
+    let Some(rest) = behind_word(tokens, Keyword::Module) else {
+        return Ok(tokens);
+    };
+    match behind_ident(rest) {
+        Some(left) => Ok(left),
+        None => Err(Fault::Syntax),
+    }
+}

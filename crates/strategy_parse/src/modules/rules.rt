@@ -1,0 +1,79 @@
+//! Rules, which are definitions with a scope of their variables.
+
+ghost use Rattle.std.specs.Prelude.{◌≡◌, List, IfOk, Err};
+ghost use Rattle.strategy_syntax.specs.Syntax.{scope};
+ghost use Rattle.strategy_parse.specs.Core.{core_definition, defined, once, without};
+ghost use Rattle.strategy_parse.specs.Definitions.{DefinitionEnds, head_of, ReadsRule, RuleGives};
+ghost use Rattle.strategy_parse.specs.ModuleFronts.{make_head};
+ghost use Rattle.strategy_parse.specs.Written.{Defined};
+ghost use Rattle.strategy_parse.specs.declared.tokens.token.Token.{Token};
+
+use crate::modules::heads::Head;
+use crate::modules::tokens::{behind_word, expect_mark};
+use crate::parser::{
+    Condition, Fault, NameList, add_variables, make_rewrite, make_rewrite_where, make_scope,
+    once_without, read_condition, read_pattern,
+};
+use crate::tokens::{Keyword, Sign, Token};
+use std::alloc::Global;
+use strategy_syntax::{Definition, Pattern, Strategy};
+use term_core::NoMemory;
+
+/// The rule with this head, whose patterns stand at the front of the tokens, and those behind it.
+pub fn read_rule<'a>(
+    alloc: Global,
+    head: Head,
+    tokens: &'a [Token],
+) -> Result<(Definition, &'a [Token]), Fault>
+    ensures given { IfOk result (λ r. RuleGives
+        (make_head head.name head.strategies head.terms) tokens.now r.0 r.1.now) }
+    ensures only { IfOk result (λ r. (w : Defined) (y : List Token)
+        → head_of w ≡ make_head head.name head.strategies head.terms → ReadsRule w tokens.now y
+        → DefinitionEnds y → (core_definition w ≡ r.0) × (y ≡ r.1.now)) }
+    ensures none { result ≡ Err Fault.Syntax → (w : Defined) (y : List Token)
+        → ReadsRule w tokens.now y → DefinitionEnds y → ⊥ }
+{
+    let (before, left) = read_pattern(alloc, tokens)?;
+    let rest = expect_mark(left, Sign::Arrow)?;
+    let (after, left) = read_pattern(alloc, rest)?;
+    let names = add_variables(&before, NameList::new(alloc))?;
+    let names = add_variables(&after, names)?;
+    let Some(rest) = behind_word(left, Keyword::Where) else {
+        let body = make_rewrite(alloc, before, after)?;
+        let rule = make_rule(alloc, head, &names, body)?;
+        return Ok((rule, left));
+    };
+    let (condition, behind) = read_condition(alloc, names, rest)?;
+    let Condition { strategy, names } = condition;
+    let body = make_rewrite_where(alloc, before, after, strategy)?;
+    let rule = make_rule(alloc, head, &names, body)?;
+    Ok((rule, behind))
+}
+
+// The definition of a rule: a scope of the names that are no term parameters round its body.
+fn make_rule(
+    alloc: Global,
+    head: Head,
+    names: &NameList,
+    body: Strategy,
+) -> Result<Definition, NoMemory>
+    ensures { IfOk result (λ made. made
+        ≡ defined (make_head head.name head.strategies head.terms)
+        (scope (once (without head.terms names.now)) body)) }
+{
+    let scope = once_without(alloc, names.as_slice(), head.terms.as_slice())?;
+    let body = make_scope(alloc, scope, body)?;
+    Ok(make_definition(head, body))
+}
+
+/// The definition with this head and this body.
+pub fn make_definition(head: Head, body: Strategy) -> Definition
+    ensures { result ≡ defined (make_head head.name head.strategies head.terms) body }
+{
+    let Head {
+        name,
+        strategies,
+        terms,
+    } = head;
+    Definition::new(name, strategies.into_vec(), terms.into_vec(), body)
+}

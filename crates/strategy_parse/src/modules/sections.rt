@@ -1,0 +1,217 @@
+//! The sections of a module.
+
+ghost use Rattle.std.specs.Prelude.{◌≡◌, ◌<◌, ◌∷◌, length, IfOk, Err};
+ghost use Rattle.strategy_syntax.specs.Modules as syntax;
+ghost use Rattle.strategy_parse.specs.Sections.{IsItem, Left, Stands, in_signature, next_part};
+
+use crate::modules::declarations::read_declaration;
+use crate::modules::definitions::read_definition;
+use crate::modules::sorts::skip_sort;
+use crate::parser::Fault;
+use crate::tokens::{Keyword, Token};
+use std::alloc::Global;
+use strategy_syntax::{Constructor, Definition, Module};
+
+/// What may come next in a module, besides another section.
+#[derive(Clone, Copy)]
+pub enum Part {
+    /// Before the first section: nothing.
+    Outside,
+    /// In a signature: its parts.
+    Signature,
+    /// In a part of a signature: sorts.
+    Sorts,
+    /// In a part of a signature: declarations.
+    Constructors,
+    /// In a section of rules or strategies: definitions.
+    Definitions,
+}
+
+/// What was read of a module.
+#[derive(Drop)]
+pub struct Built {
+    /// What is declared.
+    pub constructors: Vec<Constructor>,
+    /// What is defined.
+    pub definitions: Vec<Definition>,
+}
+
+/// The module of the sections that the tokens are.
+pub fn read_sections(alloc: Global, tokens: &[Token]) -> Result<Module, Fault>
+    ensures given { IfOk result (λ m. Left Part.Outside tokens.now m) }
+    ensures only { IfOk result (λ m. (r : syntax.Module) → Left Part.Outside tokens.now r → r ≡ m) }
+    ensures none { result ≡ Err Fault.Syntax → (r : syntax.Module)
+        → Left Part.Outside tokens.now r → ⊥ }
+{
+    let mut built = Built {
+        constructors: Vec::new(alloc),
+        definitions: Vec::new(alloc),
+    };
+    let mut part = Part::Outside;
+    let mut left = tokens;
+    while let Some((token, rest)) = left.split_first() {
+        let (next, behind) = read_next(alloc, part, token, left, rest, &mut built)?;
+        part = next;
+        left = behind;
+    }
+    let Built {
+        constructors,
+        definitions,
+    } = built;
+    Ok(Module::new(constructors, definitions))
+}
+
+// Takes a word that begins a part of the module, or else an item of the part, from the front of the
+// tokens, and answers with the part and the tokens behind it.
+fn read_next<'a>(
+    alloc: Global,
+    part: Part,
+    token: &Token,
+    tokens: &'a [Token],
+    rest: &'a [Token],
+    built: &mut Built,
+) -> Result<(Part, &'a [Token]), Fault>
+    requires { tokens.now ≡ token.now ∷ rest.now }
+    ensures forth { IfOk result (λ r. (m : syntax.Module)
+        → Stands part built.old.constructors.items built.old.definitions.items tokens.now m
+        → Stands r.0 built.new.constructors.items built.new.definitions.items r.1.now m) }
+    ensures back { IfOk result (λ r. (m : syntax.Module)
+        → Stands r.0 built.new.constructors.items built.new.definitions.items r.1.now m
+        → Stands part built.old.constructors.items built.old.definitions.items tokens.now m) }
+    ensures none { result ≡ Err Fault.Syntax → (m : syntax.Module)
+        → Stands part built.old.constructors.items built.old.definitions.items tokens.now m → ⊥ }
+    ensures shorter { IfOk result (λ r. length r.1.now < length tokens.now) }
+{
+    if let Token::Reserved(word) = token {
+        return match next_part(part, *word) {
+            Some(next) => Ok((next, rest)),
+            None => Err(Fault::Syntax),
+        };
+    }
+    match read_item(alloc, part, tokens, built) {
+        Ok(behind) => Ok((part, behind)),
+        Err(fault) => Err(fault),
+    }
+}
+
+// The part of a module behind a reserved word, where it may come.
+fn next_part(part: Part, word: Keyword) -> Option<Part>
+    ensures { result ≡ next_part part word }
+{
+    match word {
+        Keyword::Signature => Some(Part::Signature),
+        Keyword::Rules => Some(Part::Definitions),
+        Keyword::Strategies => Some(Part::Definitions),
+        Keyword::Sorts => in_signature(part, Part::Sorts),
+        Keyword::Constructors => in_signature(part, Part::Constructors),
+        _ => None,
+    }
+}
+
+// The part of a signature, where it may come.
+fn in_signature(part: Part, next: Part) -> Option<Part>
+    ensures { result ≡ in_signature part next }
+{
+    match part {
+        Part::Outside => None,
+        Part::Definitions => None,
+        _ => Some(next),
+    }
+}
+
+// Takes a sort, a declaration or a definition from the front of the tokens, as the part of the
+// module has them, and answers with those behind it.
+fn read_item<'a>(
+    alloc: Global,
+    part: Part,
+    tokens: &'a [Token],
+    built: &mut Built,
+) -> Result<&'a [Token], Fault>
+    requires { IsItem tokens.now }
+    ensures forth { IfOk result (λ rest. (m : syntax.Module)
+        → Stands part built.old.constructors.items built.old.definitions.items tokens.now m
+        → Stands part built.new.constructors.items built.new.definitions.items rest.now m) }
+    ensures back { IfOk result (λ rest. (m : syntax.Module)
+        → Stands part built.new.constructors.items built.new.definitions.items rest.now m
+        → Stands part built.old.constructors.items built.old.definitions.items tokens.now m) }
+    ensures none { result ≡ Err Fault.Syntax → (m : syntax.Module)
+        → Stands part built.old.constructors.items built.old.definitions.items tokens.now m → ⊥ }
+    ensures shorter { IfOk result (λ rest. length rest.now < length tokens.now) }
+{
+    match part {
+        Part::Sorts => match skip_sort(tokens) {
+            Ok(rest) => Ok(rest),
+            Err(fault) => Err(fault),
+        },
+        Part::Constructors => match add_declaration(tokens, built) {
+            Ok(rest) => Ok(rest),
+            Err(fault) => Err(fault),
+        },
+        Part::Definitions => match add_definition(alloc, tokens, built) {
+            Ok(rest) => Ok(rest),
+            Err(fault) => Err(fault),
+        },
+        _ => Err(Fault::Syntax),
+    }
+}
+
+// Takes a declaration.
+fn add_declaration<'a>(tokens: &'a [Token], built: &mut Built) -> Result<&'a [Token], Fault>
+    requires { IsItem tokens.now }
+    ensures forth { IfOk result (λ rest. (m : syntax.Module)
+        → Stands Part.Constructors built.old.constructors.items built.old.definitions.items
+        tokens.now m
+        → Stands Part.Constructors built.new.constructors.items built.new.definitions.items
+        rest.now m) }
+    ensures back { IfOk result (λ rest. (m : syntax.Module)
+        → Stands Part.Constructors built.new.constructors.items built.new.definitions.items
+        rest.now m
+        → Stands Part.Constructors built.old.constructors.items built.old.definitions.items
+        tokens.now m) }
+    ensures none { result ≡ Err Fault.Syntax → (m : syntax.Module)
+        → Stands Part.Constructors built.old.constructors.items built.old.definitions.items
+        tokens.now m → ⊥ }
+    ensures shorter { IfOk result (λ rest. length rest.now < length tokens.now) }
+{
+    let (declared, rest) = match read_declaration(tokens) {
+        Ok(read) => read,
+        Err(fault) => return Err(fault),
+    };
+    match declared {
+        Some(constructor) => {
+            built.constructors.push(constructor)?;
+            Ok(rest)
+        }
+        None => Ok(rest),
+    }
+}
+
+// Takes a definition.
+fn add_definition<'a>(
+    alloc: Global,
+    tokens: &'a [Token],
+    built: &mut Built,
+) -> Result<&'a [Token], Fault>
+    requires { IsItem tokens.now }
+    ensures forth { IfOk result (λ rest. (m : syntax.Module)
+        → Stands Part.Definitions built.old.constructors.items built.old.definitions.items
+        tokens.now m
+        → Stands Part.Definitions built.new.constructors.items built.new.definitions.items
+        rest.now m) }
+    ensures back { IfOk result (λ rest. (m : syntax.Module)
+        → Stands Part.Definitions built.new.constructors.items built.new.definitions.items
+        rest.now m
+        → Stands Part.Definitions built.old.constructors.items built.old.definitions.items
+        tokens.now m) }
+    ensures none { result ≡ Err Fault.Syntax → (m : syntax.Module)
+        → Stands Part.Definitions built.old.constructors.items built.old.definitions.items
+        tokens.now m → ⊥ }
+    ensures shorter { IfOk result (λ rest. length rest.now < length tokens.now) }
+{
+    let (definition, rest) = match read_definition(alloc, tokens) {
+        Ok(read) => read,
+        Err(fault) => return Err(fault),
+    };
+    built.definitions.push(definition)?;
+    Ok(rest)
+}

@@ -1,0 +1,113 @@
+//! Sorts, which are read and stand for nothing.
+#![tactic(auto, using(crate::proofs::SortLemmas::sort_rules))]
+
+ghost use Rattle.std.specs.Prelude.{◌≡◌, ◌<◌, ◌^◌, length, IfOk, Err, Some, None};
+ghost use Rattle.strategy_parse.specs.ModuleFronts.{sort_step, behind_sort, sorts_at, sort_at};
+
+use crate::parser::{Fault, is_mark};
+use crate::tokens::{Sign, Token};
+
+/// What was read last of a sort.
+#[derive(Clone, Copy)]
+pub enum Place {
+    /// Nothing: an identifier has to come.
+    Begins,
+    /// An identifier, behind which sorts in brackets may come.
+    Named,
+    /// A closing bracket.
+    Closed,
+}
+
+/// Where a token leads to.
+#[derive(Clone, Copy)]
+pub enum Turn {
+    /// It was taken, and so many brackets are open behind it.
+    Reads(Place, usize),
+    /// A whole sort ended before it.
+    Ends,
+    /// No sort goes on with it.
+    Stuck,
+}
+
+// Takes one token, where so many brackets are open.
+fn sort_step(place: Place, depth: usize, token: &Token) -> Turn
+    requires { depth < 2 ^ 63 }
+    ensures { result ≡ sort_step place depth token.now }
+{
+    match place {
+        Place::Begins => match token {
+            Token::Ident(_) => Turn::Reads(Place::Named, depth),
+            _ => Turn::Stuck,
+        },
+        Place::Named => {
+            if is_mark(token, Sign::OpenRound) {
+                return Turn::Reads(Place::Begins, depth + 1);
+            }
+            behind_sort(depth, token)
+        }
+        Place::Closed => behind_sort(depth, token),
+    }
+}
+
+// Behind a whole sort, which may stand in brackets.
+fn behind_sort(depth: usize, token: &Token) -> Turn
+    ensures { result ≡ behind_sort depth token.now }
+{
+    if depth == 0 {
+        return Turn::Ends;
+    }
+    if is_mark(token, Sign::Comma) {
+        return Turn::Reads(Place::Begins, depth);
+    }
+    if is_mark(token, Sign::CloseRound) {
+        return Turn::Reads(Place::Closed, depth - 1);
+    }
+    Turn::Stuck
+}
+
+/// How many sorts stand at the front of the tokens with a `*` between, at least one, and the tokens
+/// behind them.
+pub fn skip_sorts<'a>(tokens: &'a [Token]) -> Result<(usize, &'a [Token]), Fault>
+    ensures ok { IfOk result (λ r. sorts_at tokens.now ≡ Some (r.0, r.1.now)) }
+    ensures none { result ≡ Err Fault.Syntax → sorts_at tokens.now ≡ None }
+    ensures memory { result ≡ Err Fault.Memory → ⊥ }
+{
+    let mut count = 1usize;
+    let mut place = Place::Begins;
+    let mut depth = 0usize;
+    let mut left = tokens;
+    while let Some((token, rest)) = left.split_first() {
+        match sort_step(place, depth, token) {
+            Turn::Reads(next, open) => {
+                place = next;
+                depth = open;
+            }
+            Turn::Ends => {
+                if !is_mark(token, Sign::Star) {
+                    return Ok((count, left));
+                }
+                count += 1;
+                place = Place::Begins;
+            }
+            Turn::Stuck => return Err(Fault::Syntax),
+        }
+        left = rest;
+    }
+    match sort_step(place, depth, &Token::Bad) {
+        Turn::Ends => Ok((count, left)),
+        _ => Err(Fault::Syntax),
+    }
+}
+
+/// The tokens behind the sort at the front.
+pub fn skip_sort<'a>(tokens: &'a [Token]) -> Result<&'a [Token], Fault>
+    ensures ok { IfOk result (λ rest. sort_at tokens.now ≡ Some rest.now) }
+    ensures none { result ≡ Err Fault.Syntax → sort_at tokens.now ≡ None }
+    ensures memory { result ≡ Err Fault.Memory → ⊥ }
+{
+    let (count, rest) = skip_sorts(tokens)?;
+    if count != 1 {
+        return Err(Fault::Syntax);
+    }
+    Ok(rest)
+}

@@ -1,0 +1,59 @@
+//! Single tokens at the front.
+#![tactic(auto, using(crate::proofs::WordLemmas::word_rules))]
+
+ghost use Rattle.std.specs.Prelude.{◌≡◌, ◌∷◌, IfOk, IfSome, IfNone, Err, Some, None, false};
+ghost use Rattle.strategy_parse.specs.FreeNames.{next_token};
+ghost use Rattle.strategy_parse.specs.Marks.{is_word};
+ghost use Rattle.strategy_parse.specs.ModuleFronts.{behind_ident, behind_mark};
+
+use crate::parser::{Fault, is_mark, is_word};
+use crate::tokens::{Keyword, Sign, Token};
+
+/// The tokens behind the sign, where it comes first.
+pub fn behind_mark<'a>(tokens: &'a [Token], sign: Sign) -> Option<&'a [Token]>
+    ensures some { IfSome result (λ rest. behind_mark sign tokens.now ≡ Some rest.now) }
+    ensures none { IfNone result (behind_mark sign tokens.now ≡ None) }
+{
+    let (token, rest) = tokens.split_first()?;
+    if is_mark(token, sign) {
+        Some(rest)
+    } else {
+        None
+    }
+}
+
+/// The tokens behind the sign, which has to come first.
+pub fn expect_mark<'a>(tokens: &'a [Token], sign: Sign) -> Result<&'a [Token], Fault>
+    ensures ok { IfOk result (λ rest. behind_mark sign tokens.now ≡ Some rest.now) }
+    ensures none { result ≡ Err Fault.Syntax → behind_mark sign tokens.now ≡ None }
+{
+    match behind_mark(tokens, sign) {
+        Some(rest) => Ok(rest),
+        None => Err(Fault::Syntax),
+    }
+}
+
+/// The tokens behind the reserved word, where it comes first.
+pub fn behind_word<'a>(tokens: &'a [Token], word: Keyword) -> Option<&'a [Token]>
+    ensures some { IfSome result (λ rest. tokens.now ≡ Token.Reserved word ∷ rest.now) }
+    ensures none { IfNone result (is_word word (next_token tokens.now) ≡ false) }
+{
+    let (token, rest) = tokens.split_first()?;
+    if is_word(token, word) {
+        Some(rest)
+    } else {
+        None
+    }
+}
+
+/// The tokens behind the identifier, where one comes first.
+pub fn behind_ident<'a>(tokens: &'a [Token]) -> Option<&'a [Token]>
+    ensures some { IfSome result (λ rest. behind_ident tokens.now ≡ Some rest.now) }
+    ensures none { IfNone result (behind_ident tokens.now ≡ None) }
+{
+    let (token, rest) = tokens.split_first()?;
+    match token {
+        Token::Ident(_) => Some(rest),
+        _ => None,
+    }
+}

@@ -1,0 +1,270 @@
+//! What may come behind a strategy.
+#![tactic(auto, using(crate::proofs::MachineLemmas::machine_rules))]
+
+ghost use Rattle.std.specs.Prelude.{◌≡◌, IfOk, Err};
+ghost use Rattle.strategy_syntax.specs.Syntax as syntax;
+ghost use Rattle.strategy_parse.specs.Forms.{forms};
+ghost use Rattle.strategy_parse.specs.Machine as machine;
+ghost use Rattle.strategy_parse.specs.Machine.{no_operand};
+
+use crate::parser::fault::Fault;
+use crate::parser::group::{closing_of, make_group};
+use crate::parser::lists::StrategyList;
+use crate::parser::make::{
+    make_child, make_closure_where, make_guard, make_id, make_if, make_operated, make_rec,
+    make_scope, make_seq, make_square_tail,
+};
+use crate::parser::marks::{expect, expect_word, is_mark, is_word};
+use crate::parser::stack::Stack;
+use crate::parser::state::{
+    Frame, Group, Infix, Outcome, PatternFrame, PatternGroup, State, StrategyFrame,
+};
+use crate::tokens::{Keyword, Sign, Token};
+use std::alloc::Global;
+use strategy_syntax::Strategy;
+
+/// A strategy is read, which may go on.
+pub fn behind(
+    alloc: Global,
+    strategy: Strategy,
+    stack: &mut Stack,
+    token: &Token,
+) -> Result<Outcome, Fault>
+    ensures ok { IfOk result (λ o.
+        machine.behind strategy (forms stack.old) token.now ≡ machine.leads o (forms stack.new)) }
+    ensures none { result ≡ Err Fault.Syntax →
+        machine.behind strategy (forms stack.old) token.now ≡ machine.stuck }
+{
+    if is_mark(token, Sign::FatArrow) {
+        stack.push(Frame::Pattern(PatternFrame::Matched(strategy)))?;
+        return Ok(Outcome::Goes(State::Pattern));
+    }
+    if is_mark(token, Sign::Semicolon) {
+        stack.push(Frame::Operand(Infix::Before, strategy))?;
+        return Ok(Outcome::Goes(State::Strategy));
+    }
+    behind_arrow(alloc, strategy, stack, token)
+}
+
+// No `;` follows: the strategies of a sequence are joined, from the right. Behind `s < r` a `+` has
+// to come.
+fn behind_arrow(
+    alloc: Global,
+    last: Strategy,
+    stack: &mut Stack,
+    token: &Token,
+) -> Result<Outcome, Fault>
+    ensures ok { IfOk result (λ o.
+        machine.behind_arrow last (forms stack.old) token.now ≡ machine.leads o (forms stack.new)) }
+    ensures none { result ≡ Err Fault.Syntax →
+        machine.behind_arrow last (forms stack.old) token.now ≡ machine.stuck }
+{
+    let mut strategy = last;
+    while let Some(first) = stack.pop_operand(Infix::Before) {
+        strategy = make_seq(alloc, first, strategy)?;
+    }
+    if stack.has_operand(Infix::Guarded) {
+        expect(token, Sign::Plus)?;
+        stack.push(Frame::Operand(Infix::Otherwise, strategy))?;
+        return Ok(Outcome::Goes(State::Strategy));
+    }
+    behind_seq(alloc, strategy, stack, token)
+}
+
+// A sequence is read, which isn't the second part of a guarded choice.
+fn behind_seq(
+    alloc: Global,
+    strategy: Strategy,
+    stack: &mut Stack,
+    token: &Token,
+) -> Result<Outcome, Fault>
+    ensures ok { IfOk result (λ o.
+        machine.behind_seq strategy (forms stack.old) token.now
+        ≡ machine.leads o (forms stack.new)) }
+    ensures none { result ≡ Err Fault.Syntax →
+        machine.behind_seq strategy (forms stack.old) token.now ≡ machine.stuck }
+{
+    if is_mark(token, Sign::LeftChoice) {
+        stack.push(Frame::Operand(Infix::Guarded, strategy))?;
+        stack.push(Frame::Operand(Infix::Otherwise, make_id()))?;
+        return Ok(Outcome::Goes(State::Strategy));
+    }
+    if is_mark(token, Sign::Less) {
+        stack.push(Frame::Operand(Infix::Guarded, strategy))?;
+        return Ok(Outcome::Goes(State::Strategy));
+    }
+    behind_choice(alloc, strategy, stack, token)
+}
+
+// A choice ends before the token: choices are joined, from the right.
+fn behind_choice(
+    alloc: Global,
+    last: Strategy,
+    stack: &mut Stack,
+    token: &Token,
+) -> Result<Outcome, Fault>
+    ensures ok { IfOk result (λ o.
+        machine.behind_choice last (forms stack.old) token.now
+        ≡ machine.leads o (forms stack.new)) }
+    ensures none { result ≡ Err Fault.Syntax →
+        machine.behind_choice last (forms stack.old) token.now ≡ machine.stuck }
+{
+    let mut strategy = last;
+    while let Some(second) = stack.pop_operand(Infix::Otherwise) {
+        let Some(first) = stack.pop_operand(Infix::Guarded) else {
+            return Err(Fault::Syntax);
+        };
+        strategy = make_guard(alloc, first, second, strategy)?;
+    }
+    leave_choice(alloc, strategy, stack, token)
+}
+
+// A whole choice is read.
+fn leave_choice(
+    alloc: Global,
+    strategy: Strategy,
+    stack: &mut Stack,
+    token: &Token,
+) -> Result<Outcome, Fault>
+    requires { no_operand Infix.Otherwise (forms stack.old) }
+    ensures ok { IfOk result (λ o.
+        machine.behind_choice strategy (forms stack.old) token.now
+        ≡ machine.leads o (forms stack.new)) }
+    ensures none { result ≡ Err Fault.Syntax →
+        machine.behind_choice strategy (forms stack.old) token.now ≡ machine.stuck }
+{
+    match stack.pop() {
+        Some(Frame::Strategy(frame)) => in_frame(alloc, strategy, frame, stack, token),
+        Some(other) => {
+            drop(other);
+            Err(Fault::Syntax)
+        }
+        None => Ok(Outcome::Ends(strategy)),
+    }
+}
+
+// A whole strategy is read, in an open form.
+fn in_frame(
+    alloc: Global,
+    strategy: Strategy,
+    frame: StrategyFrame,
+    stack: &mut Stack,
+    token: &Token,
+) -> Result<Outcome, Fault>
+    ensures ok { IfOk result (λ o.
+        machine.in_frame strategy frame (forms stack.old) token.now
+        ≡ machine.leads o (forms stack.new)) }
+    ensures none { result ≡ Err Fault.Syntax →
+        machine.in_frame strategy frame (forms stack.old) token.now ≡ machine.stuck }
+{
+    match frame {
+        StrategyFrame::Operator(operator) => {
+            expect(token, Sign::CloseRound)?;
+            Ok(Outcome::Goes(State::Read(make_operated(alloc, operator, strategy)?)))
+        }
+        StrategyFrame::Rec(name) => {
+            expect(token, Sign::CloseRound)?;
+            Ok(Outcome::Goes(State::Read(make_rec(alloc, name, strategy)?)))
+        }
+        StrategyFrame::Child(index) => {
+            expect(token, Sign::CloseRound)?;
+            Ok(Outcome::Goes(State::Read(make_child(alloc, index, strategy)?)))
+        }
+        StrategyFrame::Scope(names) => {
+            expect(token, Sign::CloseCurly)?;
+            Ok(Outcome::Goes(State::Read(make_scope(alloc, names, strategy)?)))
+        }
+        StrategyFrame::Application => {
+            expect(token, Sign::Greater)?;
+            stack.push(Frame::Pattern(PatternFrame::Applied(strategy)))?;
+            Ok(Outcome::Goes(State::Pattern))
+        }
+        StrategyFrame::If => {
+            expect_word(token, Keyword::Then)?;
+            stack.push(Frame::Strategy(StrategyFrame::Then(strategy)))?;
+            Ok(Outcome::Goes(State::Strategy))
+        }
+        StrategyFrame::Then(tested) => behind_then(alloc, tested, strategy, stack, token),
+        StrategyFrame::Else(tested, then) => {
+            expect_word(token, Keyword::End)?;
+            Ok(Outcome::Goes(State::Read(make_if(alloc, tested, then, strategy)?)))
+        }
+        StrategyFrame::Where(left, right) => {
+            expect(token, Sign::Backslash)?;
+            Ok(Outcome::Goes(State::Read(make_closure_where(alloc, left, right, strategy)?)))
+        }
+        StrategyFrame::List(group, done) => {
+            behind_element(alloc, group, done.with(strategy)?, stack, token)
+        }
+        StrategyFrame::Tail(done) => {
+            expect(token, Sign::CloseSquare)?;
+            Ok(Outcome::Goes(State::Read(make_square_tail(alloc, done, strategy)?)))
+        }
+    }
+}
+
+fn behind_then(
+    alloc: Global,
+    tested: Strategy,
+    strategy: Strategy,
+    stack: &mut Stack,
+    token: &Token,
+) -> Result<Outcome, Fault>
+    ensures ok { IfOk result (λ o.
+        machine.in_frame strategy (StrategyFrame.Then tested) (forms stack.old) token.now
+        ≡ machine.leads o (forms stack.new)) }
+    ensures none { result ≡ Err Fault.Syntax →
+        machine.in_frame strategy (StrategyFrame.Then tested) (forms stack.old) token.now
+        ≡ machine.stuck }
+{
+    if is_word(token, Keyword::Else) {
+        stack.push(Frame::Strategy(StrategyFrame::Else(tested, strategy)))?;
+        return Ok(Outcome::Goes(State::Strategy));
+    }
+    expect_word(token, Keyword::End)?;
+    Ok(Outcome::Goes(State::Read(make_if(alloc, tested, strategy, make_id())?)))
+}
+
+// A strategy of a list is read, and is among those done.
+fn behind_element(
+    alloc: Global,
+    group: Group,
+    done: StrategyList,
+    stack: &mut Stack,
+    token: &Token,
+) -> Result<Outcome, Fault>
+    ensures ok { IfOk result (λ o.
+        machine.behind_element group done (forms stack.old) token.now
+        ≡ machine.leads o (forms stack.new)) }
+    ensures none { result ≡ Err Fault.Syntax →
+        machine.behind_element group done (forms stack.old) token.now ≡ machine.stuck }
+{
+    if is_mark(token, Sign::Comma) {
+        stack.push(Frame::Strategy(StrategyFrame::List(group, done)))?;
+        return Ok(Outcome::Goes(State::Strategy));
+    }
+    if is_mark(token, Sign::Bar) {
+        return behind_bar(group, done, stack);
+    }
+    expect(token, closing_of(&group))?;
+    Ok(Outcome::Goes(State::Read(make_group(alloc, group, done))))
+}
+
+// A `|` behind the strategies of a list.
+fn behind_bar(group: Group, done: StrategyList, stack: &mut Stack) -> Result<Outcome, Fault>
+    ensures ok { IfOk result (λ o.
+        machine.behind_bar group done (forms stack.old) ≡ machine.leads o (forms stack.new)) }
+    ensures none { result ≡ Err Fault.Syntax →
+        machine.behind_bar group done (forms stack.old) ≡ machine.stuck }
+{
+    match group {
+        Group::Round => Err(Fault::Syntax),
+        Group::Square => {
+            stack.push(Frame::Strategy(StrategyFrame::Tail(done)))?;
+            Ok(Outcome::Goes(State::Strategy))
+        }
+        Group::Arguments(name) => {
+            Ok(Outcome::Goes(State::FirstPattern(PatternGroup::Terms(name, done))))
+        }
+    }
+}

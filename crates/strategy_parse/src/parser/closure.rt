@@ -1,0 +1,57 @@
+//! The variables of a closure.
+#![tactic(auto, using(crate::proofs::VariableLemmas::variable_rules))]
+
+ghost use Rattle.std.specs.Prelude.{◌≡◌, ◌++◌, [], IfOk};
+ghost use Rattle.strategy_parse.specs.Core.{once, variables, variables_of_all};
+ghost use Rattle.strategy_syntax.specs.Syntax.{patterns_of};
+
+use crate::parser::lists::NameList;
+use crate::parser::once::once_without;
+use std::alloc::Global;
+use strategy_syntax::{Pattern, PatternForm};
+use term_core::NoMemory;
+
+/// The variables of a pattern, each once, in the order in which they first stand in it.
+pub fn scope_of(alloc: Global, left: &Pattern) -> Result<NameList, NoMemory>
+    ensures { IfOk result (λ names. names ≡ once (variables left.now)) }
+{
+    let names = add_variables(left, NameList::new(alloc))?;
+    let kept = once_without(alloc, names.as_slice(), &[])?;
+    Ok(kept)
+}
+
+/// The names, and the variables of the pattern behind them.
+#[cycle(variables)]
+pub fn add_variables(pattern: &Pattern, names: NameList) -> Result<NameList, NoMemory>
+    ensures { IfOk result (λ more. more ≡ names ++ variables pattern.now) }
+{
+    match pattern.form() {
+        PatternForm::Wildcard => Ok(names),
+        PatternForm::Integer(_) => Ok(names),
+        PatternForm::Variable(name) => names.with(name.try_clone()?),
+        PatternForm::At(name, inner) => {
+            let names = names.with(name.try_clone()?)?;
+            add_variables(inner, names)
+        }
+        PatternForm::Compound(_, patterns) => add_all(patterns, names),
+        PatternForm::WithTail(patterns, tail) => {
+            let names = add_all(patterns, names)?;
+            add_variables(tail, names)
+        }
+        PatternForm::Annotated(base, annotations) => {
+            let names = add_variables(base, names)?;
+            add_all(annotations, names)
+        }
+    }
+}
+
+#[cycle(variables)]
+fn add_all(patterns: &[Pattern], names: NameList) -> Result<NameList, NoMemory>
+    ensures { IfOk result (λ more. more ≡ names ++ variables_of_all (patterns_of patterns.now)) }
+{
+    let mut more = names;
+    for pattern in patterns {
+        more = add_variables(pattern, more)?;
+    }
+    Ok(more)
+}

@@ -1,0 +1,26 @@
+//! The parser: a machine that takes one token after another, with a stack of open forms.
+
+mod behind;
+mod closure;
+mod condition;
+mod fault;
+mod group;
+mod lists;
+mod make;
+mod marks;
+mod once;
+mod patterns;
+mod run;
+mod stack;
+mod state;
+mod step;
+mod strategies;
+
+pub use closure::add_variables;
+pub use condition::{Condition, read_condition};
+pub use fault::Fault;
+pub use lists::NameList;
+pub use make::{make_rewrite, make_rewrite_where, make_scope};
+pub use marks::{is_mark, is_word};
+pub use once::once_without;
+pub use run::{read_pattern, read_strategy};

@@ -1,0 +1,247 @@
+//! Patterns: what may begin one, and what may come behind one.
+#![tactic(auto, using(crate::proofs::MachineLemmas::machine_rules))]
+
+ghost use Rattle.std.specs.Prelude.{◌≡◌, ◌∷◌, [], IfOk, Err, List};
+ghost use Rattle.strategy_syntax.specs.Syntax as syntax;
+ghost use Rattle.strategy_parse.specs.Forms.{forms};
+ghost use Rattle.strategy_parse.specs.Machine as machine;
+ghost use Rattle.strategy_parse.specs.Machine.{no_at};
+ghost use Rattle.strategy_parse.specs.declared.parser.state.Frame.{Frame};
+
+use crate::parser::behind::behind;
+use crate::parser::fault::Fault;
+use crate::parser::group::{close_patterns, closing_sign_of};
+use crate::parser::lists::PatternList;
+use crate::parser::make::{make_build, make_closure, make_match, make_seq};
+use crate::parser::marks::{expect, expect_word, is_mark};
+use crate::parser::stack::Stack;
+use crate::parser::state::{Frame, Outcome, PatternFrame, PatternGroup, State, StrategyFrame};
+use crate::tokens::{Keyword, Sign, Token};
+use std::alloc::Global;
+use strategy_syntax::{Head, Pattern, PatternForm};
+use term_core::{Name, NoMemory};
+
+/// A pattern has to begin.
+pub fn begin_pattern(alloc: Global, token: &Token) -> Result<Outcome, Fault>
+    ensures ok { IfOk result (λ o. (S : List Frame) →
+        machine.begin_pattern S token.now ≡ machine.leads o S) }
+    ensures none { result ≡ Err Fault.Syntax → (S : List Frame) →
+        machine.begin_pattern S token.now ≡ machine.stuck }
+{
+    match token {
+        Token::Wildcard => Ok(Outcome::Goes(State::Base(Pattern::new(PatternForm::Wildcard)))),
+        Token::Ident(name) => Ok(Outcome::Goes(State::Named(name.try_clone()?))),
+        Token::Integer(value) => {
+            Ok(Outcome::Goes(State::Base(Pattern::new(PatternForm::Integer(*value)))))
+        }
+        Token::Text(name) => {
+            let head = Head::Application(name.try_clone()?);
+            let pattern = Pattern::new(PatternForm::Compound(head, Vec::new(alloc)));
+            Ok(Outcome::Goes(State::Base(pattern)))
+        }
+        Token::Sign(sign) => open_pattern(*sign),
+        _ => Err(Fault::Syntax),
+    }
+}
+
+// A list or a tuple of patterns has to be opened.
+fn open_pattern(sign: Sign) -> Result<Outcome, Fault>
+    ensures ok { IfOk result (λ o. (S : List Frame) →
+        machine.open_pattern S sign ≡ machine.leads o S) }
+    ensures none { result ≡ Err Fault.Syntax → (S : List Frame) →
+        machine.open_pattern S sign ≡ machine.stuck }
+{
+    match sign {
+        Sign::OpenSquare => Ok(Outcome::Goes(State::FirstPattern(PatternGroup::List))),
+        Sign::OpenRound => Ok(Outcome::Goes(State::FirstPattern(PatternGroup::Tuple))),
+        _ => Err(Fault::Syntax),
+    }
+}
+
+/// A list of patterns was opened: it ends, or a pattern has to begin.
+pub fn first_pattern(
+    alloc: Global,
+    group: PatternGroup,
+    stack: &mut Stack,
+    token: &Token,
+) -> Result<Outcome, Fault>
+    ensures ok { IfOk result (λ o.
+        machine.first_pattern group (forms stack.old) token.now
+        ≡ machine.leads o (forms stack.new)) }
+    ensures none { result ≡ Err Fault.Syntax →
+        machine.first_pattern group (forms stack.old) token.now ≡ machine.stuck }
+{
+    if is_mark(token, closing_sign_of(&group)) {
+        return Ok(Outcome::Goes(close_patterns(alloc, group, PatternList::new(alloc))?));
+    }
+    stack.push(Frame::Pattern(PatternFrame::List(group, PatternList::new(alloc))))?;
+    begin_pattern(alloc, token)
+}
+
+/// A pattern without annotations is read, which may come.
+pub fn behind_base(
+    alloc: Global,
+    pattern: Pattern,
+    stack: &mut Stack,
+    token: &Token,
+) -> Result<Outcome, Fault>
+    ensures ok { IfOk result (λ o.
+        machine.behind_base pattern (forms stack.old) token.now
+        ≡ machine.leads o (forms stack.new)) }
+    ensures none { result ≡ Err Fault.Syntax →
+        machine.behind_base pattern (forms stack.old) token.now ≡ machine.stuck }
+{
+    if is_mark(token, Sign::OpenCurly) {
+        let group = PatternGroup::Annotations(pattern);
+        return Ok(Outcome::Goes(State::FirstPattern(group)));
+    }
+    behind_pattern(alloc, pattern, stack, token)
+}
+
+/// A whole pattern is read: it belongs to the `x@` before it.
+pub fn behind_pattern(
+    alloc: Global,
+    last: Pattern,
+    stack: &mut Stack,
+    token: &Token,
+) -> Result<Outcome, Fault>
+    ensures ok { IfOk result (λ o.
+        machine.behind_pattern last (forms stack.old) token.now
+        ≡ machine.leads o (forms stack.new)) }
+    ensures none { result ≡ Err Fault.Syntax →
+        machine.behind_pattern last (forms stack.old) token.now ≡ machine.stuck }
+{
+    let mut pattern = last;
+    while let Some(name) = stack.pop_at() {
+        pattern = make_at(alloc, name, pattern)?;
+    }
+    leave_pattern(alloc, pattern, stack, token)
+}
+
+fn make_at(alloc: Global, name: Name, pattern: Pattern) -> Result<Pattern, NoMemory>
+    ensures { IfOk result (λ made. made ≡ syntax.at name pattern) }
+{
+    let pattern = Box::new(alloc, pattern)?;
+    Ok(Pattern::new(PatternForm::At(name, pattern)))
+}
+
+// A whole pattern is read, which no `x@` stands before.
+fn leave_pattern(
+    alloc: Global,
+    pattern: Pattern,
+    stack: &mut Stack,
+    token: &Token,
+) -> Result<Outcome, Fault>
+    requires { no_at (forms stack.old) }
+    ensures ok { IfOk result (λ o.
+        machine.behind_pattern pattern (forms stack.old) token.now
+        ≡ machine.leads o (forms stack.new)) }
+    ensures none { result ≡ Err Fault.Syntax →
+        machine.behind_pattern pattern (forms stack.old) token.now ≡ machine.stuck }
+{
+    match stack.pop() {
+        Some(Frame::Pattern(frame)) => pattern_in_frame(alloc, pattern, frame, stack, token),
+        Some(other) => {
+            drop(other);
+            Err(Fault::Syntax)
+        }
+        None => Err(Fault::Syntax),
+    }
+}
+
+// A whole pattern is read, in an open form.
+fn pattern_in_frame(
+    alloc: Global,
+    pattern: Pattern,
+    frame: PatternFrame,
+    stack: &mut Stack,
+    token: &Token,
+) -> Result<Outcome, Fault>
+    ensures ok { IfOk result (λ o.
+        machine.pattern_in_frame pattern frame (forms stack.old) token.now
+        ≡ machine.leads o (forms stack.new)) }
+    ensures none { result ≡ Err Fault.Syntax →
+        machine.pattern_in_frame pattern frame (forms stack.old) token.now ≡ machine.stuck }
+{
+    match frame {
+        PatternFrame::Match => behind(alloc, make_match(pattern), stack, token),
+        PatternFrame::Build => behind(alloc, make_build(pattern), stack, token),
+        PatternFrame::Applied(strategy) => {
+            let whole = make_seq(alloc, make_build(pattern), strategy)?;
+            behind(alloc, whole, stack, token)
+        }
+        PatternFrame::Matched(strategy) => {
+            let whole = make_seq(alloc, strategy, make_match(pattern))?;
+            behind(alloc, whole, stack, token)
+        }
+        PatternFrame::Left => {
+            expect(token, Sign::Arrow)?;
+            stack.push(Frame::Pattern(PatternFrame::Right(pattern)))?;
+            Ok(Outcome::Goes(State::Pattern))
+        }
+        PatternFrame::Right(left) => behind_closure(alloc, left, pattern, stack, token),
+        PatternFrame::List(group, done) => {
+            behind_one(alloc, group, done.with(pattern)?, stack, token)
+        }
+        PatternFrame::Tail(done) => {
+            expect(token, Sign::CloseSquare)?;
+            let tail = Box::new(alloc, pattern)?;
+            let whole = Pattern::new(PatternForm::WithTail(done.into_vec(), tail));
+            Ok(Outcome::Goes(State::Base(whole)))
+        }
+    }
+}
+
+// The right side of a closure is read.
+fn behind_closure(
+    alloc: Global,
+    left: Pattern,
+    right: Pattern,
+    stack: &mut Stack,
+    token: &Token,
+) -> Result<Outcome, Fault>
+    ensures ok { IfOk result (λ o.
+        machine.pattern_in_frame right (PatternFrame.Right left) (forms stack.old) token.now
+        ≡ machine.leads o (forms stack.new)) }
+    ensures none { result ≡ Err Fault.Syntax →
+        machine.pattern_in_frame right (PatternFrame.Right left) (forms stack.old) token.now
+        ≡ machine.stuck }
+{
+    if is_mark(token, Sign::Backslash) {
+        return Ok(Outcome::Goes(State::Read(make_closure(alloc, left, right)?)));
+    }
+    expect_word(token, Keyword::Where)?;
+    stack.push(Frame::Strategy(StrategyFrame::Where(left, right)))?;
+    Ok(Outcome::Goes(State::Strategy))
+}
+
+// A pattern of a list is read, and is among those done.
+fn behind_one(
+    alloc: Global,
+    group: PatternGroup,
+    done: PatternList,
+    stack: &mut Stack,
+    token: &Token,
+) -> Result<Outcome, Fault>
+    ensures ok { IfOk result (λ o.
+        machine.behind_one group done (forms stack.old) token.now
+        ≡ machine.leads o (forms stack.new)) }
+    ensures none { result ≡ Err Fault.Syntax →
+        machine.behind_one group done (forms stack.old) token.now ≡ machine.stuck }
+{
+    if is_mark(token, Sign::Comma) {
+        stack.push(Frame::Pattern(PatternFrame::List(group, done)))?;
+        return Ok(Outcome::Goes(State::Pattern));
+    }
+    if is_mark(token, closing_sign_of(&group)) {
+        return Ok(Outcome::Goes(close_patterns(alloc, group, done)?));
+    }
+    expect(token, Sign::Bar)?;
+    match group {
+        PatternGroup::List => {
+            stack.push(Frame::Pattern(PatternFrame::Tail(done)))?;
+            Ok(Outcome::Goes(State::Pattern))
+        }
+        _ => Err(Fault::Syntax),
+    }
+}

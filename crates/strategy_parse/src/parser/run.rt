@@ -1,0 +1,90 @@
+//! The front of a list of tokens.
+
+ghost use Rattle.std.specs.Prelude.{◌≡◌, List, IfOk, Err, Some, None};
+ghost use Rattle.strategy_syntax.specs.Syntax as syntax;
+ghost use Rattle.strategy_parse.specs.Core.{core};
+ghost use Rattle.strategy_parse.specs.Forms.{forms};
+ghost use Rattle.strategy_parse.specs.Fronts.{FrontGives, Stops};
+ghost use Rattle.strategy_parse.specs.Grammar.{ReadsChoice, ReadsPattern};
+ghost use Rattle.strategy_parse.specs.Machine.{front, step as step_of};
+ghost use Rattle.strategy_parse.specs.Written.{Choice};
+ghost use Rattle.strategy_parse.specs.declared.tokens.token.Token.{Token};
+
+use crate::parser::fault::Fault;
+use crate::parser::stack::Stack;
+use crate::parser::state::{Frame, Outcome, PatternFrame, State};
+use crate::parser::step::step;
+use crate::tokens::Token;
+use std::alloc::Global;
+use strategy_syntax::{Pattern, Strategy, StrategyForm};
+
+/// The strategy at the front of the tokens, and those behind it. It goes on as long as it can.
+pub fn read_strategy<'a>(
+    alloc: Global,
+    tokens: &'a [Token],
+) -> Result<(Strategy, &'a [Token]), Fault>
+    ensures given { IfOk result (λ r. FrontGives tokens.now r.0 r.1.now) }
+    ensures only { IfOk result (λ r. (a : Choice) (y : List Token) → ReadsChoice a tokens.now y
+        → Stops y → (core a ≡ r.0) × (y ≡ r.1.now)) }
+    ensures none { result ≡ Err Fault.Syntax → (a : Choice) (y : List Token)
+        → ReadsChoice a tokens.now y → Stops y → ⊥ }
+{
+    match run(alloc, State::Strategy, Stack::new(alloc), tokens) {
+        Ok(read) => Ok(read),
+        Err(fault) => Err(fault),
+    }
+}
+
+/// The pattern at the front of the tokens, and those behind it. It goes on as long as it can.
+pub fn read_pattern<'a>(alloc: Global, tokens: &'a [Token]) -> Result<(Pattern, &'a [Token]), Fault>
+    ensures given { IfOk result (λ r. ReadsPattern r.0 tokens.now r.1.now) }
+    ensures only { IfOk result (λ r. (p : syntax.Pattern) (y : List Token)
+        → ReadsPattern p tokens.now y → Stops y → (p ≡ r.0) × (y ≡ r.1.now)) }
+    ensures none { result ≡ Err Fault.Syntax → (p : syntax.Pattern) (y : List Token)
+        → ReadsPattern p tokens.now y → Stops y → ⊥ }
+{
+    let mut stack = Stack::new(alloc);
+    stack.push(Frame::Pattern(PatternFrame::Match))?;
+    let (strategy, left) = match run(alloc, State::Pattern, stack, tokens) {
+        Ok(read) => read,
+        Err(fault) => return Err(fault),
+    };
+    match strategy.into_form() {
+        StrategyForm::Match(pattern) => Ok((pattern, left)),
+        other => {
+            drop(other);
+            Err(Fault::Syntax)
+        }
+    }
+}
+
+// What the machine gives from there on, and the tokens that it leaves.
+fn run<'a>(
+    alloc: Global,
+    first: State,
+    bottom: Stack,
+    tokens: &'a [Token],
+) -> Result<(Strategy, &'a [Token]), Fault>
+    ensures ok { IfOk result (λ r.
+        front (step_of first (forms bottom)) tokens.now ≡ Some (r.0, r.1.now)) }
+    ensures none { result ≡ Err Fault.Syntax →
+        front (step_of first (forms bottom)) tokens.now ≡ None }
+{
+    let mut state = first;
+    let mut stack = bottom;
+    let mut left = tokens;
+    while let Some((token, rest)) = left.split_first() {
+        match step(alloc, state, &mut stack, token)? {
+            Outcome::Goes(next) => state = next,
+            Outcome::Ends(strategy) => return Ok((strategy, left)),
+        }
+        left = rest;
+    }
+    match step(alloc, state, &mut stack, &Token::Bad)? {
+        Outcome::Ends(strategy) => Ok((strategy, left)),
+        Outcome::Goes(next) => {
+            drop(next);
+            Err(Fault::Syntax)
+        }
+    }
+}

@@ -1,0 +1,196 @@
+//! One token.
+
+ghost use Rattle.std.specs.Prelude.{◌≡◌, ◌∷◌, [], IfOk, Err, List};
+ghost use Rattle.strategy_parse.specs.Forms.{forms};
+ghost use Rattle.strategy_parse.specs.Machine as machine;
+ghost use Rattle.strategy_parse.specs.declared.parser.state.Frame.{Frame};
+ghost use Rattle.strategy_syntax.specs.Syntax as syntax;
+
+use crate::parser::behind::behind;
+use crate::parser::fault::Fault;
+use crate::parser::lists::{NameList, PatternList};
+use crate::parser::marks::{expect, is_mark};
+use crate::parser::patterns::{begin_pattern, behind_base, behind_pattern, first_pattern};
+use crate::parser::stack::Stack;
+use crate::parser::state::{
+    Frame, Group, Outcome, PatternFrame, PatternGroup, State, StrategyFrame,
+};
+use crate::parser::strategies::{begin, first_strategy};
+use crate::tokens::{Sign, Token};
+use std::alloc::Global;
+use strategy_syntax::{Pattern, PatternForm, Strategy, StrategyForm};
+use term_core::Name;
+
+/// Takes one token.
+pub fn step(alloc: Global, state: State, stack: &mut Stack, token: &Token) -> Result<Outcome, Fault>
+    ensures ok { IfOk result (λ o.
+        machine.step state (forms stack.old) token.now ≡ machine.leads o (forms stack.new)) }
+    ensures none { result ≡ Err Fault.Syntax →
+        machine.step state (forms stack.old) token.now ≡ machine.stuck }
+{
+    match state {
+        State::Strategy => begin(stack, token),
+        State::FirstStrategy(group) => first_strategy(alloc, group, stack, token),
+        State::Read(strategy) => behind(alloc, strategy, stack, token),
+        State::Used(name) => behind_used(alloc, name, stack, token),
+        State::Opening(frame) => {
+            expect(token, Sign::OpenRound)?;
+            stack.push(Frame::Strategy(frame))?;
+            Ok(Outcome::Goes(State::Strategy))
+        }
+        State::Rec => rec_name(token),
+        State::Prim => {
+            expect(token, Sign::OpenRound)?;
+            Ok(Outcome::Goes(State::PrimOpen))
+        }
+        State::PrimOpen => prim_name(token),
+        State::PrimNamed(name) => behind_prim(alloc, name, stack, token),
+        State::ScopeOpen => {
+            if is_mark(token, Sign::Colon) {
+                return begin_scope(NameList::new(alloc), stack);
+            }
+            scope_name(NameList::new(alloc), token)
+        }
+        State::ScopeComma(names) => scope_name(names, token),
+        State::ScopeNamed(names) => {
+            if is_mark(token, Sign::Colon) {
+                return begin_scope(names, stack);
+            }
+            expect(token, Sign::Comma)?;
+            Ok(Outcome::Goes(State::ScopeComma(names)))
+        }
+        State::Pattern => begin_pattern(alloc, token),
+        State::FirstPattern(group) => first_pattern(alloc, group, stack, token),
+        State::Named(name) => behind_named(alloc, name, stack, token),
+        State::Base(pattern) => behind_base(alloc, pattern, stack, token),
+        State::Whole(pattern) => behind_pattern(alloc, pattern, stack, token),
+    }
+}
+
+// An identifier is read, which uses a strategy.
+fn behind_used(
+    alloc: Global,
+    name: Name,
+    stack: &mut Stack,
+    token: &Token,
+) -> Result<Outcome, Fault>
+    ensures ok { IfOk result (λ o.
+        machine.step (State.Used name) (forms stack.old) token.now
+        ≡ machine.leads o (forms stack.new)) }
+    ensures none { result ≡ Err Fault.Syntax →
+        machine.step (State.Used name) (forms stack.old) token.now ≡ machine.stuck }
+{
+    if is_mark(token, Sign::OpenRound) {
+        return Ok(Outcome::Goes(State::FirstStrategy(Group::Arguments(name))));
+    }
+    let form = StrategyForm::Use(name, Vec::new(alloc), Vec::new(alloc));
+    behind(alloc, Strategy::new(form), stack, token)
+}
+
+// The name behind `rec` has to come.
+fn rec_name(token: &Token) -> Result<Outcome, Fault>
+    ensures ok { IfOk result (λ o. (S : List Frame) →
+        machine.rec_name S token.now ≡ machine.leads o S) }
+    ensures none { result ≡ Err Fault.Syntax → (S : List Frame) →
+        machine.rec_name S token.now ≡ machine.stuck }
+{
+    match token {
+        Token::Ident(name) => Ok(Outcome::Goes(State::Opening(StrategyFrame::Rec(
+            name.try_clone()?,
+        )))),
+        _ => Err(Fault::Syntax),
+    }
+}
+
+// The name of a primitive has to come.
+fn prim_name(token: &Token) -> Result<Outcome, Fault>
+    ensures ok { IfOk result (λ o. (S : List Frame) →
+        machine.prim_name S token.now ≡ machine.leads o S) }
+    ensures none { result ≡ Err Fault.Syntax → (S : List Frame) →
+        machine.prim_name S token.now ≡ machine.stuck }
+{
+    match token {
+        Token::Text(name) => Ok(Outcome::Goes(State::PrimNamed(name.try_clone()?))),
+        _ => Err(Fault::Syntax),
+    }
+}
+
+// Behind the name of a primitive.
+fn behind_prim(
+    alloc: Global,
+    name: Name,
+    stack: &mut Stack,
+    token: &Token,
+) -> Result<Outcome, Fault>
+    ensures ok { IfOk result (λ o.
+        machine.step (State.PrimNamed name) (forms stack.old) token.now
+        ≡ machine.leads o (forms stack.new)) }
+    ensures none { result ≡ Err Fault.Syntax →
+        machine.step (State.PrimNamed name) (forms stack.old) token.now ≡ machine.stuck }
+{
+    if is_mark(token, Sign::Comma) {
+        stack.push(Frame::Pattern(PatternFrame::List(
+            PatternGroup::Prim(name),
+            PatternList::new(alloc),
+        )))?;
+        return Ok(Outcome::Goes(State::Pattern));
+    }
+    expect(token, Sign::CloseRound)?;
+    let form = StrategyForm::Prim(name, Vec::new(alloc));
+    Ok(Outcome::Goes(State::Read(Strategy::new(form))))
+}
+
+// A name of a scope has to come.
+fn scope_name(names: NameList, token: &Token) -> Result<Outcome, Fault>
+    ensures ok { IfOk result (λ o. (S : List Frame) →
+        machine.scope_name names S token.now ≡ machine.leads o S) }
+    ensures none { result ≡ Err Fault.Syntax → (S : List Frame) →
+        machine.scope_name names S token.now ≡ machine.stuck }
+{
+    match token {
+        Token::Ident(name) => {
+            let names = names.with(name.try_clone()?)?;
+            Ok(Outcome::Goes(State::ScopeNamed(names)))
+        }
+        _ => Err(Fault::Syntax),
+    }
+}
+
+// The names of a scope are read.
+fn begin_scope(names: NameList, stack: &mut Stack) -> Result<Outcome, Fault>
+    ensures ok { IfOk result (λ o. machine.begin_scope names (forms stack.old)
+        ≡ machine.leads o (forms stack.new)) }
+    ensures none { result ≡ Err Fault.Syntax →
+        machine.begin_scope names (forms stack.old) ≡ machine.stuck }
+{
+    stack.push(Frame::Strategy(StrategyFrame::Scope(names)))?;
+    Ok(Outcome::Goes(State::Strategy))
+}
+
+// An identifier is read, in a pattern.
+fn behind_named(
+    alloc: Global,
+    name: Name,
+    stack: &mut Stack,
+    token: &Token,
+) -> Result<Outcome, Fault>
+    ensures ok { IfOk result (λ o.
+        machine.step (State.Named name) (forms stack.old) token.now
+        ≡ machine.leads o (forms stack.new)) }
+    ensures none { result ≡ Err Fault.Syntax →
+        machine.step (State.Named name) (forms stack.old) token.now ≡ machine.stuck }
+{
+    if is_mark(token, Sign::OpenRound) {
+        return Ok(Outcome::Goes(State::FirstPattern(PatternGroup::Application(name))));
+    }
+    if is_mark(token, Sign::At) {
+        stack.push(Frame::At(name))?;
+        return Ok(Outcome::Goes(State::Pattern));
+    }
+    behind_base(
+        alloc,
+        Pattern::new(PatternForm::Variable(name)),
+        stack,
+        token,
+    )
+}

@@ -1,0 +1,32 @@
+//! Strategies as texts.
+
+ghost use Rattle.std.specs.Prelude.{◌≡◌, ◌↔◌, ◌<◌, length, IfOk, Err};
+ghost use Rattle.strategy_syntax.specs.Syntax as syntax;
+ghost use Rattle.strategy_parse.specs.Gives.{GivesStrategy};
+ghost use Rattle.strategy_parse.specs.Tokens.{tokens};
+
+use crate::MAX_TOKENS;
+use crate::parser::read_strategy;
+use crate::tokens::{ParseFault, read_tokens};
+use std::alloc::Global;
+use strategy_syntax::Strategy;
+
+/// The strategy that a text gives, in its core form.
+///
+/// Errors: `Deep` where the text has more than 4,000 tokens, tested first; `Syntax` where it is no
+/// strategy; `Memory` where a growth of memory is refused.
+pub fn parse_strategy(alloc: Global, text: &[u8]) -> Result<Strategy, ParseFault>
+    ensures deep { (result ≡ Err ParseFault.Deep) ↔ (MAX_TOKENS < length (tokens text.now)) }
+    ensures given { IfOk result (λ s. GivesStrategy (tokens text.now) s) }
+    ensures only { IfOk result (λ s. (r : syntax.Strategy) → GivesStrategy (tokens text.now) r
+        → r ≡ s) }
+    ensures no_strategy { result ≡ Err ParseFault.Syntax → (r : syntax.Strategy)
+        → GivesStrategy (tokens text.now) r → ⊥ }
+{
+    let tokens = read_tokens(alloc, text)?;
+    let (strategy, left) = read_strategy(alloc, &tokens)?;
+    if !left.is_empty() {
+        return Err(ParseFault::Syntax);
+    }
+    Ok(strategy)
+}

@@ -1,0 +1,6 @@
+//! Rows of the calls on texts.
+
+mod modules;
+mod show;
+mod strategies;
+mod tokens;
