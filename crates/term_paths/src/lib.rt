@@ -11,7 +11,7 @@ pub use subterm::{
     at, at_mut, at_parts, at_parts_mut, change_at, change_at_parts, swap_annotations_at,
     swap_annotations_at_parts, swap_at, swap_at_parts,
 };
-pub use text::{PathFault, read_path};
+pub use text::{PathFault, read_number, read_path};
 
 #[cfg(test)]
 mod tests;

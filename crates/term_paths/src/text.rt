@@ -55,7 +55,7 @@ fn read_parts(alloc: Global, text: &[u8]) -> Result<Path, PathFault>
 {
     let mut parts = Vec::new(alloc);
     for piece in text.split(|b| *b == b'/') {
-        match read_part(piece) {
+        match read_number(piece) {
             Some(part) => parts.push(part)?,
             None => return Err(PathFault::Line),
         }
@@ -63,7 +63,9 @@ fn read_parts(alloc: Global, text: &[u8]) -> Result<Path, PathFault>
     Ok(Path::from_parts(parts))
 }
 
-fn read_part(digits: &[u8]) -> Option<usize>
+/// The number that decimal digits spell, as a part of a path is written: at most 4,294,967,295, leading
+/// zeros allowed, and nothing but digits.
+pub fn read_number(digits: &[u8]) -> Option<usize>
     ensures { result ≡ part_of digits.now }
 {
     if !are_digits(digits) {

@@ -15,14 +15,14 @@ loop-piece-preserved c =
     let turn = YieldsList-turn (YieldsList-from_slice_split _ is_slash c.args.text.now (cc) (cc) (cc) (λ x b q k. search (rules, tests))) c.loop-piece.yielded _ c.loop-piece.yielded_by _ _ c.in-Some.piece c.in-Some.is c.next.ensures.steps in
     let pieces = slice_split is_slash c.args.text.now in
     c.loop-piece.invariant
-    ∙ one_more_part pieces (length c.loop-piece.yielded) c.in-Some.piece.now c.loop-piece.parts.items c.in-Some-read_part.part turn (sym c.in-Some-read_part.ensures)
-    ∙ ap (λ xs. behind xs (parts_of (drop (length c.loop-piece.yielded + 1) pieces))) (sym c.in_ok-push-in-Some-read_part.ensures.items)
+    ∙ one_more_part pieces (length c.loop-piece.yielded) c.in-Some.piece.now c.loop-piece.parts.items c.in-Some-read_number.part turn (sym c.in-Some-read_number.ensures)
+    ∙ ap (λ xs. behind xs (parts_of (drop (length c.loop-piece.yielded + 1) pieces))) (sym c.in_ok-push-in-Some-read_number.ensures.items)
     ∙ ap (λ n. behind c.push.new.self.items (parts_of (drop n pieces))) (sym (length_push c.loop-piece.yielded c.in-Some.piece))
 
-pub returns-in-None-read_part-clause-line : goal.returns-in-None-read_part-clause-line
-returns-in-None-read_part-clause-line c =
+pub returns-in-None-read_number-clause-line : goal.returns-in-None-read_number-clause-line
+returns-in-None-read_number-clause-line c =
     let turn = YieldsList-turn (YieldsList-from_slice_split _ is_slash c.args.text.now (cc) (cc) (cc) (λ x b q k. search (rules, tests))) c.loop-piece.yielded _ c.loop-piece.yielded_by _ _ c.in-Some.piece c.in-Some.is c.next.ensures.steps in
-    λ _. c.loop-piece.invariant ∙ no_part (slice_split is_slash c.args.text.now) (length c.loop-piece.yielded) c.in-Some.piece.now c.loop-piece.parts.items turn (sym c.in-None-read_part.ensures)
+    λ _. c.loop-piece.invariant ∙ no_part (slice_split is_slash c.args.text.now) (length c.loop-piece.yielded) c.in-Some.piece.now c.loop-piece.parts.items turn (sym c.in-None-read_number.ensures)
 
 pub returns-clause-path : goal.returns-clause-path
 returns-clause-path c =

@@ -1,7 +1,7 @@
 use Rattle.std.proofs.Common.{sym, ◌∙◌, ap}
 use Rattle.term_paths.specs.PathText.{part_of}
 use Rattle.term_paths.proofs.TextLemmas.{digits_utf8, part_parsed, part_refused}
-use Rattle.term_paths.proofs.text.read_part.Goals as goal
+use Rattle.term_paths.proofs.text.read_number.Goals as goal
 
 pub returns-in_default : goal.returns-in_default
 returns-in_default c = absurd (c.in_default.ensures.cases.0 (digits_utf8 c.args.digits.now (sym c.are_digits.ensures ∙ c.if-not-are_digits.false)))
