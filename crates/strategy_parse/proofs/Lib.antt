@@ -20,6 +20,7 @@ pub mod VariableLemmas
 pub mod SeenPatterns
 pub mod SeenStrategies
 pub mod HiddenLemmas
+pub mod CountLemmas
 pub mod SortLemmas
 pub mod HeadLemmas
 pub mod DeclarationLemmas

@@ -87,7 +87,7 @@ or-true-right : (a b : Bool) → b ≡ true → (a || b) ≡ true
 or-true-right true b e = refl
 or-true-right false b e = e
 
-same_name-sym : (f g : Symbol) → same_name f g ≡ same_name g f
+pub same_name-sym : (f g : Symbol) → same_name f g ≡ same_name g f
 same_name-sym f g = by (same_name f g) refl where
   by : (b : Bool) → same_name f g ≡ b → same_name f g ≡ same_name g f
   by true e = let same : f ≡ g = same_name-true f g e in ap (λ h. same_name h g) same ∙ sym (ap (λ h. same_name g h) same)

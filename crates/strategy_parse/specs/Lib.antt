@@ -10,6 +10,7 @@ pub mod Machine
 pub mod Fronts
 pub mod Faults
 pub mod Forms
+pub mod Counts
 pub mod Laws
 pub mod FreeNames
 pub mod ModuleFronts

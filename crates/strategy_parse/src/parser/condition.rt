@@ -1,23 +1,21 @@
 //! The condition of a rule, whose free names belong to the scope of the rule.
-#![tactic(auto, using(crate::proofs::HiddenLemmas::hidden_rules))]
+#![tactic(auto)]
 
-ghost use Rattle.std.specs.Prelude.{◌≡◌, ◌++◌, [], reverse, IfOk, Err, Some, None};
-ghost use Rattle.strategy_syntax.specs.Syntax.{patterns_of};
-ghost use Rattle.strategy_parse.specs.Core.{is_among, variables, variables_of_all};
+ghost use Rattle.std.specs.Prelude.{◌≡◌, ◌++◌, [], IfOk, Err, Some, None};
 ghost use Rattle.strategy_parse.specs.Forms.{forms};
-ghost use Rattle.strategy_parse.specs.FreeNames.{is_hidden, hides, seen, names_seen};
+ghost use Rattle.strategy_parse.specs.FreeNames.{seen, names_seen};
 ghost use Rattle.strategy_parse.specs.Machine.{front, begin};
 
 use crate::parser::fault::Fault;
 use crate::parser::lists::NameList;
 use crate::parser::marks::is_mark;
 use crate::parser::stack::Stack;
-use crate::parser::state::{Frame, Outcome, PatternFrame, State, StrategyFrame};
+use crate::parser::state::{Outcome, State};
 use crate::parser::step::step;
 use crate::tokens::{Sign, Token};
 use std::alloc::Global;
-use strategy_syntax::{Pattern, PatternForm, Strategy};
-use term_core::{Name, NoMemory};
+use strategy_syntax::Strategy;
+use term_core::NoMemory;
 
 /// A condition, as it was read.
 #[derive(Drop)]
@@ -43,7 +41,7 @@ pub fn read_condition<'a>(
 {
     let mut names = before;
     let mut state = State::Strategy;
-    let mut stack = Stack::new(alloc);
+    let mut stack = Stack::counting(alloc);
     let mut left = tokens;
     while let Some((token, rest)) = left.split_first() {
         names = with_seen(names, &state, &stack, token)?;
@@ -79,76 +77,8 @@ fn with_seen(
     if is_mark(token, Sign::OpenRound) {
         return Ok(names);
     }
-    if is_hidden(name, stack.frames()) {
+    if stack.hides(name)? {
         return Ok(names);
     }
     names.with(name.try_clone()?)
-}
-
-// Whether one of the open forms names it.
-fn is_hidden(name: &Name, frames: &[Frame]) -> bool
-    ensures { result ≡ is_hidden name.now (reverse frames.now) }
-{
-    for frame in frames {
-        if hides(frame, name) {
-            return true;
-        }
-    }
-    false
-}
-
-// Whether the open form names it. What stands in the left side of a closure is named by it.
-fn hides(frame: &Frame, name: &Name) -> bool
-    ensures { result ≡ hides frame.now name.now }
-{
-    match frame {
-        Frame::Strategy(StrategyFrame::Scope(names)) => is_among(name, names.as_slice()),
-        Frame::Strategy(StrategyFrame::Where(left, _)) => has_variable(left, name),
-        Frame::Pattern(PatternFrame::Left) => true,
-        Frame::Pattern(PatternFrame::Right(left)) => has_variable(left, name),
-        _ => false,
-    }
-}
-
-fn is_among(name: &Name, others: &[Name]) -> bool
-    ensures { result ≡ is_among name.now others.now }
-{
-    for other in others {
-        if other.equals(name) {
-            return true;
-        }
-    }
-    false
-}
-
-// Whether the pattern has this variable.
-#[cycle(has_variable)]
-fn has_variable(pattern: &Pattern, name: &Name) -> bool
-    ensures { result ≡ is_among name.now (variables pattern.now) }
-{
-    match pattern.form() {
-        PatternForm::Wildcard => false,
-        PatternForm::Integer(_) => false,
-        PatternForm::Variable(variable) => variable.equals(name),
-        PatternForm::At(variable, inner) => variable.equals(name) || has_variable(inner, name),
-        PatternForm::Compound(_, patterns) => have_variable(patterns, name),
-        PatternForm::WithTail(patterns, tail) => {
-            have_variable(patterns, name) || has_variable(tail, name)
-        }
-        PatternForm::Annotated(base, annotations) => {
-            has_variable(base, name) || have_variable(annotations, name)
-        }
-    }
-}
-
-#[cycle(has_variable)]
-fn have_variable(patterns: &[Pattern], name: &Name) -> bool
-    ensures { result ≡ is_among name.now (variables_of_all (patterns_of patterns.now)) }
-{
-    for pattern in patterns {
-        if has_variable(pattern, name) {
-            return true;
-        }
-    }
-    false
 }

@@ -3,6 +3,7 @@
 mod behind;
 mod closure;
 mod condition;
+mod counts;
 mod fault;
 mod group;
 mod lists;

@@ -1,13 +1,13 @@
 //! The forms that are open, the innermost on top.
 #![tactic(auto, unfolding(crate::specs::Forms::forms))]
 
-ghost use Rattle.std.specs.Prelude.{◌≡◌, ◌∷◌, [], IfSome, IfNone, OnOk, true, false, Some, None, reverse};
-ghost use Rattle.strategy_parse.specs.Machine.{no_operand, no_at, HasOperand};
-ghost use Rattle.strategy_parse.specs.Forms.{forms};
-ghost use Rattle.strategy_parse.specs.declared.parser.state.Frame.{Frame};
+ghost use Rattle.std.specs.Prelude.{◌≡◌, true};
+ghost use Rattle.strategy_parse.specs.Counts.{IsCounted};
 
+use crate::parser::counts::{Key, count, lower_form, raise_form};
 use crate::parser::state::{Frame, Infix};
 use std::alloc::Global;
+use std::collections::HashMap;
 use strategy_syntax::Strategy;
 use term_core::{Name, NoMemory};
 
@@ -15,15 +15,41 @@ use term_core::{Name, NoMemory};
 #[derive(Drop)]
 pub struct Stack {
     frames: Vec<Frame>,
+    // Whether the two fields behind it say what the open forms hide.
+    counting: bool,
+    counts: HashMap<Key, usize>,
+    lefts: usize,
+    ghost counted: { counting ≡ true → IsCounted counts lefts frames.items },
 }
 
 impl Stack {
+    ghost use Rattle.std.specs.Prelude.{◌≡◌, ◌∷◌, [], IfOk, IfSome, IfNone, OnOk, true, false, Some, None, reverse};
+    ghost use Rattle.strategy_parse.specs.Machine.{no_operand, no_at, HasOperand};
+    ghost use Rattle.strategy_parse.specs.Forms.{forms};
+    ghost use Rattle.strategy_parse.specs.FreeNames.{is_hidden};
+    ghost use Rattle.strategy_parse.specs.declared.parser.state.Frame.{Frame};
+
     /// No form is open.
     pub fn new(alloc: Global) -> Stack
         ensures { forms result ≡ [] }
     {
         Stack {
             frames: Vec::new(alloc),
+            counting: false,
+            counts: HashMap::new(alloc),
+            lefts: 0,
+        }
+    }
+
+    /// No form is open, and what the forms hide is counted, which `hides` needs.
+    pub fn counting(alloc: Global) -> Stack
+        ensures { forms result ≡ [] }
+    {
+        Stack {
+            frames: Vec::new(alloc),
+            counting: true,
+            counts: HashMap::new(alloc),
+            lefts: 0,
         }
     }
 
@@ -31,7 +57,15 @@ impl Stack {
     pub fn push(&mut self, frame: Frame) -> Result<(), NoMemory>
         ensures { OnOk result (forms self.new ≡ frame ∷ forms self.old) }
     {
+        let counting = self.counting;
+        self.counting = false;
+        let alloc = *self.frames.allocator();
+        let raised = raise_form(counting, alloc, &mut self.counts, self.lefts, &frame);
         self.frames.push(frame)?;
+        if let Some(lefts) = raised {
+            self.lefts = lefts;
+            self.counting = true;
+        }
         Ok(())
     }
 
@@ -40,14 +74,37 @@ impl Stack {
         ensures some { IfSome result (λ frame. forms self.old ≡ frame ∷ forms self.new) }
         ensures none { IfNone result ((forms self.old ≡ []) × (forms self.new ≡ [])) }
     {
-        self.frames.pop()
+        let counting = self.counting;
+        self.counting = false;
+        let Some(frame) = self.frames.pop() else {
+            return None;
+        };
+        if counting {
+            let alloc = *self.frames.allocator();
+            if let Ok(lefts) = lower_form(alloc, &mut self.counts, self.lefts, &frame) {
+                self.lefts = lefts;
+                self.counting = true;
+            }
+        }
+        Some(frame)
     }
 
-    /// The open forms, the outermost first.
-    pub fn frames(&self) -> &[Frame]
-        ensures { forms self.now ≡ reverse result.now }
+    /// Whether one of the open forms names it, in a time that doesn't grow with them. `NoMemory`
+    /// where a growth of memory was refused before, or the stack isn't one that counts.
+    pub fn hides(&self, name: &Name) -> Result<bool, NoMemory>
+        ensures { IfOk result (λ hidden. hidden ≡ is_hidden name.now (forms self.now)) }
     {
-        self.frames.as_slice()
+        if !self.counting {
+            return Err(NoMemory);
+        }
+        if self.lefts > 0 {
+            return Ok(true);
+        }
+        let often = count(&self.counts, name)?;
+        if often == 0 {
+            return Ok(false);
+        }
+        Ok(true)
     }
 
     /// Whether the innermost form is a strategy with this operator.
@@ -71,7 +128,7 @@ impl Stack {
         if !self.has_operand(operator) {
             return None;
         }
-        match self.frames.pop() {
+        match self.pop() {
             Some(Frame::Operand(_, strategy)) => Some(strategy),
             other => {
                 drop(other);
@@ -88,7 +145,7 @@ impl Stack {
         if !matches!(self.frames.last(), Some(Frame::At(_))) {
             return None;
         }
-        match self.frames.pop() {
+        match self.pop() {
             Some(Frame::At(name)) => Some(name),
             other => {
                 drop(other);
