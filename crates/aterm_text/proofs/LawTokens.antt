@@ -21,7 +21,7 @@ use Rattle.aterm_text.specs.Printed.{escaped, octal_escape, print_name}
 
 -- ---- tests of a byte
 
-both : (a b : Bool) → (a && b) ≡ true → (a ≡ true) × (b ≡ true)
+pub both : (a b : Bool) → (a && b) ≡ true → (a ≡ true) × (b ≡ true)
 both true b h = (refl, h)
 both false b h = absurd (cc)
 
@@ -29,7 +29,7 @@ unequal : (a b : ℕ) → a ≢ b → (a == b) ≡ false
 unequal a b ne = elim (eqb_tells a b) [ inl h ↦ absurd (ne h.1) | inr h ↦ h.0 ]
 
 -- a byte that passes a test is none that fails it
-other_byte : (p : ℕ → Bool) (k b : ℕ) → p k ≡ false → p b ≡ true → (b == k) ≡ false
+pub other_byte : (p : ℕ → Bool) (k b : ℕ) → p k ≡ false → p b ≡ true → (b == k) ≡ false
 other_byte p k b fails passes = unequal b k (λ e. true≢false (sym passes ∙ ap p e ∙ fails))
 
 no_blank : (p : ℕ → Bool) (b : ℕ) → p 32 ≡ false → p 9 ≡ false → p 10 ≡ false → p 13 ≡ false → p b ≡ true → is_blank b ≡ false
@@ -97,7 +97,7 @@ minus_read : (s : List ℕ) (n : ℕ) (y : List ℕ) → list_all is_ascii_digit
 minus_read s n y digits numeral value fits stop =
     integer_from (negsuc n) (45 ∷ s) (45 ∷ (s ++ y)) y refl (omega (arith, prefix_whole is_ascii_digit s y digits stop)) (numeral, ap (λ m. neg_ℤ (pos m)) value, fits)
 
-decimal_digits : (n : ℕ) → n < 2 ^ 64 → list_all is_ascii_digit (decimal n) ≡ true
+pub decimal_digits : (n : ℕ) → n < 2 ^ 64 → list_all is_ascii_digit (decimal n) ≡ true
 decimal_digits n h = sym (all_digits (decimal n)) ∙ digits_decimal (numerals_by_value _ tells_all_ascii_digits) n h
 
 pub integer-read : (z : ℤ) (y : List ℕ) → FitsSigned w64 z → prefix_len is_ascii_digit y ≡ 0 → NextInteger z (signed_decimal z ++ y) y

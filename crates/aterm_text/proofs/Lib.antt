@@ -10,5 +10,8 @@ pub mod PrintLemmas
 pub mod LawTokens
 pub mod LawPrinted
 pub mod LawOneTerm
+pub mod LawOneLine
+pub mod LawNesting
+pub mod LawLength
 pub mod ReadLemmas
 pub mod Limits

@@ -1,9 +1,13 @@
 -- Laws of the text of terms.
-use Rattle.std.specs.Prelude.{◌≡◌, ℕ, List}
+use Rattle.std.specs.Prelude.{◌≡◌, ◌<◌, ◌≤◌, ℕ, List, length}
+use Rattle.std.specs.List.{AllByRecursion, prefix_len, suffix_len}
 use Rattle.term_core.specs.Tree.{Tree}
 use Rattle.term_core.specs.Terms.{IsTerm}
+use Rattle.term_core.specs.Size.{height, size}
 use Rattle.aterm_text.specs.Grammar.{Spells, SpellsAnnotations}
+use Rattle.aterm_text.specs.Nesting.{nesting}
 use Rattle.aterm_text.specs.Printed.{print}
+use Rattle.aterm_text.specs.Tokens.{is_blank}
 
 -- what is printed of a term spells this term
 abbrev pub PrintedTextReadsBack : Type 0
@@ -14,3 +18,26 @@ pub record OneTerm : Type 0 where
   pub term : (x : List ℕ) (t u : Tree) → Spells x t → Spells x u → t ≡ u
   pub annotations : (x : List ℕ) (ts us : List Tree) → SpellsAnnotations x ts
       → SpellsAnnotations x us → ts ≡ us
+
+-- the bytes that are printed: visible ASCII and the space
+abbrev pub IsPrinted : ℕ → Type 0
+IsPrinted b = (32 ≤ b) × (b ≤ 126)
+
+-- a line, with no white space at its ends
+pub record IsOneLine (x : List ℕ) : Type 0 where
+  pub bytes : AllByRecursion IsPrinted x
+  pub some : 0 < length x
+  pub front : prefix_len is_blank x ≡ 0
+  pub end : suffix_len is_blank x ≡ 0
+
+-- what is printed of a term is one line
+abbrev pub PrintedTextIsOneLine : Type 0
+PrintedTextIsOneLine = (t : Tree) → IsTerm t → IsOneLine (print t)
+
+-- its brackets are nested no deeper than the term is high
+abbrev pub PrintedTextNests : Type 0
+PrintedTextNests = (t : Tree) → IsTerm t → nesting (print t) ≤ height t
+
+-- it has at least a byte for each term in it
+abbrev pub PrintedTextIsAsLong : Type 0
+PrintedTextIsAsLong = (t : Tree) → IsTerm t → size t ≤ length (print t)

@@ -1,7 +1,7 @@
 //! Laws over the definitions of the text of terms alone. Each is the contract of a function that
 //! does nothing.
 
-ghost use Rattle.aterm_text.specs.Laws.{OneTerm, PrintedTextReadsBack};
+ghost use Rattle.aterm_text.specs.Laws.{OneTerm, PrintedTextIsAsLong, PrintedTextIsOneLine, PrintedTextNests, PrintedTextReadsBack};
 
 /// The text that is printed of a term spells this term.
 pub fn printed_text_reads_back()
@@ -11,4 +11,20 @@ pub fn printed_text_reads_back()
 /// A text spells at most one term, and at most one annotation part.
 pub fn one_term()
     ensures { OneTerm }
+{}
+
+/// The text that is printed of a term is one line: bytes from 32 to 126, with no white space at its
+/// ends.
+pub fn printed_text_is_one_line()
+    ensures { PrintedTextIsOneLine }
+{}
+
+/// The brackets of the text that is printed of a term are nested no deeper than the term is high.
+pub fn printed_text_nests()
+    ensures { PrintedTextNests }
+{}
+
+/// The text that is printed of a term has at least a byte for each term in it.
+pub fn printed_text_is_as_long()
+    ensures { PrintedTextIsAsLong }
 {}
