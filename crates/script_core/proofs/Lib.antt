@@ -1,0 +1,13 @@
+pub mod HandedLemmas
+pub mod LineLemmas
+pub mod SplitLemmas
+pub mod AnswerLemmas
+pub mod WriteLemmas
+pub mod RunLemmas
+pub mod RunningLemmas
+pub mod LawLemmas
+pub mod DumpText
+pub mod DumpContents
+pub mod DumpLemmas
+pub mod DumpRows
+pub mod DefinitionRows

@@ -1,0 +1,50 @@
+-- How one command of a run is answered.
+use Rattle.std.specs.Prelude.{◌≡◌, ◌⊎◌, ℕ, Bool, true, false, List, ◌++◌, Ok, Err, is_ok}
+use Rattle.session_core.specs.History.{History}
+use Rattle.session_core.specs.declared.refusal.Refusal.{Refusal}
+use Rattle.session_core.specs.declared.refusal.Refusal.TheVariants.{Memory, Deep, Term}
+use Rattle.aterm_text.specs.declared.reader.ReadFault.{ReadFault}
+use Rattle.aterm_text.specs.declared.reader.ReadFault.TheVariants.{Deep as DeepText, Term as NoTerm, Memory as NoMemory}
+use Rattle.script_core.specs.Form.{takes_no_memory}
+use Rattle.script_core.specs.Machine.{Reply, ReplyTo, history_after, written}
+use Rattle.script_core.specs.Handed.{Handed, text, long}
+
+-- whether a command that is handed out takes no memory
+abbrev pub takes_none : Handed → Bool
+takes_none (text command) = takes_no_memory command
+takes_none long = true
+
+-- The reply to a command in a run. Where the flag says that a growth of memory was refused, it is
+-- `refused 1 memory`; no command that takes no memory has a flag.
+abbrev pub ReplyInRun : ℕ → Handed → Bool → History → Reply → Type 0
+ReplyInRun steps command false h reply = ReplyTo steps command h reply
+ReplyInRun steps command true h reply = (takes_none command ≡ false) × (reply ≡ Err Memory)
+
+-- A command is answered: what the answer's buffer held before, it holds with the answer behind it.
+pub record Answered (steps : ℕ) (command : Handed) (old new : History) (before after : List ℕ)
+    (verdict : Bool) : Type 0 where
+  pub flag : Bool
+  pub reply : Reply
+  pub replied : ReplyInRun steps command flag old reply
+  pub history : new ≡ history_after old reply
+  pub answer : after ≡ before ++ written reply
+  pub accepted : verdict ≡ is_ok reply
+
+-- ---- the parts of it: a rule accepts or refuses
+
+-- The rule accepts, with an answer that the buffer holds behind what it held.
+pub record Accepts (Rule : Reply → Type 0) (new : History) (before after : List ℕ) : Type 0 where
+  pub text : List ℕ
+  pub reply : Rule (Ok (record { answer = text; history = new }))
+  pub answer : after ≡ before ++ text
+
+-- The rule gives this refusal; or memory is wanted, where it may be.
+abbrev pub Refuses : (Reply → Type 0) → Bool → Refusal → Type 0
+Refuses Rule takes_none refusal =
+    ((refusal ≡ Memory) × (takes_none ≡ false)) ⊎ Rule (Err refusal)
+
+-- what a fault of reading a term or annotations is told as
+abbrev pub refusal_of : ReadFault → Refusal
+refusal_of DeepText = Deep
+refusal_of NoTerm = Term
+refusal_of NoMemory = Memory

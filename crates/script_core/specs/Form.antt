@@ -1,0 +1,197 @@
+-- The forms of commands, as a command's bytes spell them.
+use Rattle.std.specs.Prelude.{ℕ, Bool, true, false, not, ◌||◌, ◌&&◌, nat_eq, nat_le, List, [], ◌∷◌, drop, codes, Some, None, Ok, Err, is_some, option_map, option_and_then, if◌then◌else◌}
+use Rattle.std.specs.declared.option.Option.{Option}
+use Rattle.std.specs.declared.result.Result.{Result}
+use Rattle.std.specs.List.{before_first, position_or_len}
+use lib.Pointwise.{pointwise}
+use Rattle.term_core.specs.Word.{label_of}
+use Rattle.term_paths.specs.PathText.{path_of, part_of}
+use Rattle.aterm_text.specs.Tokens.{is_blank, without_blanks}
+use Rattle.session_core.specs.declared.refusal.Refusal.{Refusal}
+use Rattle.session_core.specs.declared.refusal.Refusal.TheVariants.{Line, Name}
+use Rattle.script_core.specs.Script.{without_end}
+use Rattle.script_core.specs.declared.TheConstants.{MAX_STEPS}
+
+pub data Form : Type 0 where
+  -- gives the name the tree that the text spells
+  tree : List ℕ → List ℕ → Form
+  -- gives the second name a copy of the tree of the first
+  copy : List ℕ → List ℕ → Form
+  -- takes the tree of the name away
+  drop_tree : List ℕ → Form
+  -- replaces the subterm at the path of the name's tree by what the text spells
+  put : List ℕ → List ℕ → List ℕ → Form
+  -- replaces the annotations there by those that the text spells
+  annotate : List ℕ → List ℕ → List ℕ → Form
+  -- goes so many steps back, or forward
+  undo : ℕ → Form
+  redo : ℕ → Form
+  -- begins a group, makes what it changed one step, or takes that back
+  begin : Form
+  commit : Form
+  abandon : Form
+  -- shows the subterm at the path of the name's tree
+  show : List ℕ → List ℕ → Form
+  -- lists the names of the trees
+  trees : Form
+  -- counts the steps
+  history : Form
+  -- gives the text of all trees
+  dump : Form
+
+-- ---- words, which blanks part: spaces, tabs, line feeds and carriage returns
+
+-- the first word, with nothing in it where there is none
+abbrev pub first_word : List ℕ → List ℕ
+first_word text = before_first is_blank (without_blanks text)
+
+-- what stands behind the first word
+abbrev pub behind_word : List ℕ → List ℕ
+behind_word text = drop (position_or_len is_blank (without_blanks text)) (without_blanks text)
+
+abbrev pub has_bytes : List ℕ → Bool
+has_bytes [] = false
+has_bytes (b ∷ bytes) = true
+
+abbrev pub has_word : List ℕ → Bool
+has_word text = has_bytes (first_word text)
+
+-- whether the word has the bytes of the other
+abbrev pub is_same : List ℕ → List ℕ → Bool
+is_same word other = pointwise nat_eq word other
+
+-- ---- parts of forms
+
+-- A form goes on with a word, and what that makes of the rest.
+abbrev pub with_word : List ℕ → (List ℕ → List ℕ → Option Form) → Option Form
+with_word rest next = if has_word rest then next (first_word rest) (behind_word rest) else None
+
+-- A form ends here.
+abbrev pub ended : Form → List ℕ → Option Form
+ended form rest = if has_word rest then None else Some form
+
+-- A form goes on with a path, and ends with a text: all from the first byte that isn't a blank on. It
+-- may be empty.
+abbrev pub with_path_and_text : (List ℕ → List ℕ → Form) → List ℕ → Option Form
+with_path_and_text form rest =
+    option_map (λ path. form path (without_blanks (behind_word rest))) (path_of (first_word rest))
+
+-- a number of steps, from 1 to 1,000,000, written as a part of a path is
+abbrev pub within_steps : ℕ → Option ℕ
+within_steps n = if nat_le 1 n && nat_le n MAX_STEPS then Some n else None
+
+abbrev pub steps_of : List ℕ → Option ℕ
+steps_of digits = option_and_then within_steps (part_of digits)
+
+-- A form ends with a number of steps, which may be missing and is 1 then.
+abbrev pub last_steps : List ℕ → Option ℕ
+last_steps rest =
+    if has_word rest
+    then (if has_word (behind_word rest) then None else steps_of (first_word rest))
+    else Some 1
+
+-- A form ends with `at` and a path, which may both be missing: the path is then the root.
+abbrev pub last_place : List ℕ → Option (List ℕ)
+last_place rest =
+    if has_word rest
+    then (if is_same (first_word rest) (codes "at") && not (has_word (behind_word (behind_word rest)))
+    then path_of (first_word (behind_word rest)) else None)
+    else Some []
+
+-- ---- forms
+
+abbrev pub tree_form : List ℕ → Option Form
+tree_form rest = with_word rest (λ name text. Some (tree name (without_blanks text)))
+
+abbrev pub copy_form : List ℕ → Option Form
+copy_form rest =
+    with_word rest (λ name behind. with_word behind (λ other end. ended (copy name other) end))
+
+abbrev pub drop_form : List ℕ → Option Form
+drop_form rest = with_word rest (λ name end. ended (drop_tree name) end)
+
+abbrev pub put_form : List ℕ → Option Form
+put_form rest = with_word rest (λ name behind. with_path_and_text (put name) behind)
+
+abbrev pub annotate_form : List ℕ → Option Form
+annotate_form rest = with_word rest (λ name behind. with_path_and_text (annotate name) behind)
+
+abbrev pub show_form : List ℕ → Option Form
+show_form rest = with_word rest (λ name behind. option_map (show name) (last_place behind))
+
+-- the form that a keyword begins
+abbrev pub form_with : List ℕ → List ℕ → Option Form
+form_with keyword rest =
+    if is_same keyword (codes "tree") then tree_form rest else
+    if is_same keyword (codes "copy") then copy_form rest else
+    if is_same keyword (codes "drop") then drop_form rest else
+    if is_same keyword (codes "put") then put_form rest else
+    if is_same keyword (codes "annotate") then annotate_form rest else
+    if is_same keyword (codes "undo") then option_map undo (last_steps rest) else
+    if is_same keyword (codes "redo") then option_map redo (last_steps rest) else
+    if is_same keyword (codes "begin") then ended begin rest else
+    if is_same keyword (codes "commit") then ended commit rest else
+    if is_same keyword (codes "abandon") then ended abandon rest else
+    if is_same keyword (codes "show") then show_form rest else
+    if is_same keyword (codes "trees") then ended trees rest else
+    if is_same keyword (codes "history") then ended history rest else
+    if is_same keyword (codes "dump") then ended dump rest else None
+
+-- the form of a command, without the blanks at its end
+abbrev pub form_of : List ℕ → Option Form
+form_of command =
+    let text = without_end is_blank command in form_with (first_word text) (behind_word text)
+
+-- whether the names of a form are labels
+abbrev pub has_labels : Form → Bool
+has_labels (tree name text) = is_some (label_of name)
+has_labels (copy name other) = is_some (label_of name) && is_some (label_of other)
+has_labels (drop_tree name) = is_some (label_of name)
+has_labels (put name path text) = is_some (label_of name)
+has_labels (annotate name path text) = is_some (label_of name)
+has_labels (undo n) = true
+has_labels (redo n) = true
+has_labels begin = true
+has_labels commit = true
+has_labels abandon = true
+has_labels (show name path) = is_some (label_of name)
+has_labels trees = true
+has_labels history = true
+has_labels dump = true
+
+-- The form is tested before the names.
+abbrev pub checked : Option Form → Result Form Refusal
+checked None = Err Line
+checked (Some form) = if has_labels form then Ok form else Err Name
+
+-- What a command says. The steps are the budget of a command that names none.
+abbrev pub command_of : ℕ → List ℕ → Result Form Refusal
+command_of steps command = checked (form_of command)
+
+-- ---- commands that take no memory
+
+-- whether a keyword is `undo`, `redo`, `begin` or `abandon`
+abbrev pub takes_no_memory_with : List ℕ → Bool
+takes_no_memory_with word =
+    is_same word (codes "undo") || is_same word (codes "redo")
+    || is_same word (codes "begin") || is_same word (codes "abandon")
+
+abbrev pub takes_no_memory : List ℕ → Bool
+takes_no_memory command = takes_no_memory_with (first_word (without_end is_blank command))
+
+-- the same of a form
+abbrev pub is_without_memory : Form → Bool
+is_without_memory (tree name text) = false
+is_without_memory (copy name other) = false
+is_without_memory (drop_tree name) = false
+is_without_memory (put name path text) = false
+is_without_memory (annotate name path text) = false
+is_without_memory (undo n) = true
+is_without_memory (redo n) = true
+is_without_memory begin = true
+is_without_memory commit = false
+is_without_memory abandon = true
+is_without_memory (show name path) = false
+is_without_memory trees = false
+is_without_memory history = false
+is_without_memory dump = false

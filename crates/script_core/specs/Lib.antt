@@ -1,0 +1,14 @@
+pub mod Script
+pub mod Handed
+pub mod Splitting
+pub mod PendingView
+pub mod Split
+pub mod FedRight
+pub mod Steps
+pub mod Form
+pub mod CommandView
+pub mod Machine
+pub mod Answer
+pub mod Run
+pub mod Running
+pub mod Laws

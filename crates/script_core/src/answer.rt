@@ -1,0 +1,379 @@
+//! Answering one command.
+
+ghost use Rattle.std.specs.Prelude.{◌≡◌, ◌≤◌, ◌⊎◌, ◌+◌, ◌++◌, ◌∷◌, [], Ok, Err, OnOk, OnErr, IfOk, IfErr, true, false, length, codes, vec_capacity, vec_len};
+ghost use Rattle.std.specs.List.{flat_map};
+ghost use Rattle.aterm_text.specs.Grammar.{Spells, SpellsAnnotations};
+ghost use Rattle.aterm_text.specs.Printed.{print as print_of};
+ghost use Rattle.aterm_text.specs.Printing.{Extends};
+ghost use Rattle.session_core.specs.Step.{with_place};
+ghost use Rattle.script_core.specs.Steps.{AreSteps};
+ghost use Rattle.script_core.specs.Form.{tree, put, annotate, show, trees, history, dump, takes_no_memory, is_without_memory};
+ghost use Rattle.script_core.specs.FedRight.{handed_out};
+ghost use Rattle.script_core.specs.Machine.{ReadAs, Replies, ReplyTo, ReplyToText, line, listed, counted, ok_with, told_of, refused as refused_text};
+ghost use Rattle.script_core.specs.Answer.{Accepts, Answered, Refuses, refusal_of, takes_none};
+ghost use Rattle.script_core.specs.CommandView.{form as form_seen};
+
+use crate::{Command, Piece};
+use aterm_text::{ReadFault, print, read, read_annotations};
+use itoa::Buffer;
+use prim_core::Meaning;
+use session_core::{Refusal, Session};
+use std::alloc::Global;
+use term_core::{Label, NoMemory, Term};
+use term_paths::{Path, at};
+
+/// The bytes that the answer's buffer has to spare, so that a refusal always has room.
+pub const ANSWER_ROOM: usize = 128;
+
+/// Answers a command behind what the buffer holds, and tells whether it was accepted. Where a
+/// growth of memory is refused, the answer is `refused 1 memory` and the session stays as it was.
+/// `steps`, from 1 to 1,000,000, is the budget of a command that names none.
+pub fn answer_text<M: Meaning>(
+    alloc: Global,
+    session: &mut Session<M>,
+    command: Piece<'_>,
+    steps: u32,
+    answer: &mut Vec<u8>,
+) -> bool
+    requires steps { AreSteps steps }
+    requires room { vec_len answer.old + ANSWER_ROOM ≤ vec_capacity answer.old }
+    ensures answered { Answered steps (handed_out command.entry) session.old session.new answer.old.items
+        answer.new.items result }
+    ensures room { vec_capacity answer.old ≤ vec_capacity answer.new }
+{
+    match try_answer(alloc, session, command, steps, answer) {
+        Ok(()) => true,
+        Err(refusal) => {
+            append_refusal(answer, &refusal);
+            false
+        }
+    }
+}
+
+// Appends the answer of a command that is accepted. A refusal leaves session and buffer as they
+// were.
+fn try_answer<M: Meaning>(
+    alloc: Global,
+    session: &mut Session<M>,
+    command: Piece<'_>,
+    steps: u32,
+    answer: &mut Vec<u8>,
+) -> Result<(), Refusal>
+    requires steps { AreSteps steps }
+    requires room { vec_len answer.old + ANSWER_ROOM ≤ vec_capacity answer.old }
+    ensures ok { OnOk result (Accepts (ReplyTo steps (handed_out command.entry) session.old) session.new
+        answer.old.items answer.new.items) }
+    ensures refused { IfErr result (Refuses (ReplyTo steps (handed_out command.entry) session.old)
+        (takes_none (handed_out command.entry))) }
+    ensures err { OnErr result ((session.new ≡ session.old)
+        × (answer.new.items ≡ answer.old.items)) }
+    ensures len { OnErr result (vec_len answer.new ≡ vec_len answer.old) }
+    ensures room { vec_capacity answer.old ≤ vec_capacity answer.new }
+{
+    match command {
+        Piece::Text(text) => answer_line(alloc, session, text, steps, answer),
+        Piece::Long => Err(Refusal::Long),
+    }
+}
+
+fn answer_line<M: Meaning>(
+    alloc: Global,
+    session: &mut Session<M>,
+    command: &[u8],
+    steps: u32,
+    answer: &mut Vec<u8>,
+) -> Result<(), Refusal>
+    requires steps { AreSteps steps }
+    requires room { vec_len answer.old + ANSWER_ROOM ≤ vec_capacity answer.old }
+    ensures ok { OnOk result (Accepts (ReplyToText steps command.now session.old) session.new
+        answer.old.items answer.new.items) }
+    ensures refused { IfErr result (Refuses (ReplyToText steps command.now session.old)
+        (takes_no_memory command.now)) }
+    ensures err { OnErr result ((session.new ≡ session.old)
+        × (answer.new.items ≡ answer.old.items)) }
+    ensures len { OnErr result (vec_len answer.new ≡ vec_len answer.old) }
+    ensures room { vec_capacity answer.old ≤ vec_capacity answer.new }
+{
+    match Command::read(alloc, command, steps) {
+        Ok(read) => perform(alloc, session, read, answer),
+        Err(refusal) => Err(refusal),
+    }
+}
+
+// Does what a command says, and appends its answer. A refusal leaves session and buffer as they
+// were.
+fn perform<M: Meaning>(
+    alloc: Global,
+    session: &mut Session<M>,
+    command: Command<'_>,
+    answer: &mut Vec<u8>,
+) -> Result<(), Refusal>
+    requires { vec_len answer.old + ANSWER_ROOM ≤ vec_capacity answer.old }
+    ensures ok { OnOk result (Accepts (Replies (form_seen command.entry) session.old) session.new
+        answer.old.items answer.new.items) }
+    ensures refused { IfErr result (Refuses (Replies (form_seen command.entry) session.old)
+        (is_without_memory (form_seen command.entry))) }
+    ensures err { OnErr result ((session.new ≡ session.old)
+        × (answer.new.items ≡ answer.old.items)) }
+    ensures len { OnErr result (vec_len answer.new ≡ vec_len answer.old) }
+    ensures room { vec_capacity answer.old ≤ vec_capacity answer.new }
+{
+    match command {
+        Command::Tree(name, text) => say_ok(set_tree(alloc, session, &name, text), answer),
+        Command::Copy(name, copy) => say_ok(session.copy_tree(&name, &copy), answer),
+        Command::Drop(name) => say_ok(session.drop_tree(&name), answer),
+        Command::Put(name, path, text) => say_ok(put(alloc, session, &name, &path, text), answer),
+        Command::Annotate(name, path, text) => {
+            say_ok(annotate(alloc, session, &name, &path, text), answer)
+        }
+        Command::Undo(n) => say_ok(session.undo(n), answer),
+        Command::Redo(n) => say_ok(session.redo(n), answer),
+        Command::Begin => say_ok(session.begin(), answer),
+        Command::Commit => say_ok(session.commit(), answer),
+        Command::Abandon => say_ok(session.abandon(), answer),
+        Command::Show(name, path) => show_place(session, &name, &path, answer),
+        Command::Trees => list_trees(session, answer),
+        Command::History => {
+            count_steps(session, answer);
+            Ok(())
+        }
+        Command::Dump => Ok(session.dump(answer)?),
+    }
+}
+
+// Appends `ok` where the step was accepted.
+fn say_ok(outcome: Result<(), Refusal>, answer: &mut Vec<u8>) -> Result<(), Refusal>
+    requires { vec_len answer.old + ANSWER_ROOM ≤ vec_capacity answer.old }
+    ensures same { result ≡ outcome }
+    ensures ok { OnOk result (answer.new.items ≡ answer.old.items ++ line (codes "ok")) }
+    ensures err { OnErr result (answer.new.items ≡ answer.old.items) }
+    ensures len { OnErr result (vec_len answer.new ≡ vec_len answer.old) }
+    ensures room { vec_capacity answer.old ≤ vec_capacity answer.new }
+{
+    outcome?;
+    answer.extend_from_slice(b"ok\n").unwrap();
+    Ok(())
+}
+
+fn set_tree<M: Meaning>(
+    alloc: Global,
+    session: &mut Session<M>,
+    name: &Label,
+    text: &[u8],
+) -> Result<(), Refusal>
+    ensures ok { OnOk result (Replies (tree name.now text.now) session.old (Ok (ok_with session.new))) }
+    ensures refused { IfErr result (Refuses (Replies (tree name.now text.now) session.old) false) }
+    ensures err { OnErr result (session.new ≡ session.old) }
+{
+    match read_term(alloc, text) {
+        Ok(tree) => session.set_tree(name, tree),
+        Err(refusal) => Err(refusal),
+    }
+}
+
+fn put<M: Meaning>(
+    alloc: Global,
+    session: &mut Session<M>,
+    name: &Label,
+    path: &Path,
+    text: &[u8],
+) -> Result<(), Refusal>
+    ensures ok { OnOk result (Replies (put name.now path.now text.now) session.old
+        (Ok (ok_with session.new))) }
+    ensures refused { IfErr result (Refuses (Replies (put name.now path.now text.now) session.old)
+        false) }
+    ensures err { OnErr result (session.new ≡ session.old) }
+{
+    find_place(session, name, path)?;
+    match read_term(alloc, text) {
+        Ok(part) => session.put(name, path, part),
+        Err(refusal) => Err(refusal),
+    }
+}
+
+fn annotate<M: Meaning>(
+    alloc: Global,
+    session: &mut Session<M>,
+    name: &Label,
+    path: &Path,
+    text: &[u8],
+) -> Result<(), Refusal>
+    ensures ok { OnOk result (Replies (annotate name.now path.now text.now) session.old
+        (Ok (ok_with session.new))) }
+    ensures refused { IfErr result (Refuses (Replies (annotate name.now path.now text.now) session.old)
+        false) }
+    ensures err { OnErr result (session.new ≡ session.old) }
+{
+    find_place(session, name, path)?;
+    match read_notes(alloc, text) {
+        Ok(annotations) => session.annotate(name, path, annotations),
+        Err(refusal) => Err(refusal),
+    }
+}
+
+// The subterm at the path of the name's tree, or which of the two isn't there.
+fn find_place<'s, M: Meaning>(
+    session: &'s Session<M>,
+    name: &Label,
+    path: &Path,
+) -> Result<&'s Term, Refusal>
+    ensures found { IfOk result (λ part. with_place session.now name.now path.now (λ _. Ok session.now)
+        ≡ Ok session.now) }
+    ensures refused { IfErr result (λ refusal. with_place session.now name.now path.now
+        (λ _. Ok session.now) ≡ Err refusal) }
+    ensures shown { IfOk result (λ part. Replies (show name.now path.now) session.now
+        (Ok (told_of session.now (line (print_of part.now))))) }
+    ensures not_shown { IfErr result (λ refusal. Replies (show name.now path.now) session.now
+        (Err refusal)) }
+{
+    let Some(tree) = session.tree(name) else {
+        return Err(Refusal::NoTree);
+    };
+    match at(tree, path) {
+        Some(part) => Ok(part),
+        None => Err(Refusal::Path),
+    }
+}
+
+fn read_term(alloc: Global, text: &[u8]) -> Result<Term, Refusal>
+    ensures ok { IfOk result (λ term. ReadAs Spells text.now (Ok term)) }
+    ensures refused { IfErr result (λ refusal. (refusal ≡ Refusal.Memory)
+        ⊎ ReadAs Spells text.now (Err refusal)) }
+{
+    match read(alloc, text) {
+        Ok(term) => Ok(term),
+        Err(fault) => Err(read_refusal(fault)),
+    }
+}
+
+fn read_notes(alloc: Global, text: &[u8]) -> Result<Vec<Term>, Refusal>
+    ensures ok { IfOk result (λ terms. ReadAs SpellsAnnotations text.now (Ok terms.items)) }
+    ensures refused { IfErr result (λ refusal. (refusal ≡ Refusal.Memory)
+        ⊎ ReadAs SpellsAnnotations text.now (Err refusal)) }
+{
+    match read_annotations(alloc, text) {
+        Ok(terms) => Ok(terms),
+        Err(fault) => Err(read_refusal(fault)),
+    }
+}
+
+fn read_refusal(fault: ReadFault) -> Refusal
+    ensures { result ≡ refusal_of fault }
+{
+    match fault {
+        ReadFault::Deep => Refusal::Deep,
+        ReadFault::Term => Refusal::Term,
+        ReadFault::Memory => Refusal::Memory,
+    }
+}
+
+fn show_place<M: Meaning>(
+    session: &Session<M>,
+    name: &Label,
+    path: &Path,
+    answer: &mut Vec<u8>,
+) -> Result<(), Refusal>
+    ensures ok { OnOk result (Accepts (Replies (show name.now path.now) session.now) session.now
+        answer.old.items answer.new.items) }
+    ensures refused { IfErr result (Refuses (Replies (show name.now path.now) session.now) false) }
+    ensures err { OnErr result (answer.new.items ≡ answer.old.items) }
+    ensures len { OnErr result (vec_len answer.new ≡ vec_len answer.old) }
+    ensures room { vec_capacity answer.old ≤ vec_capacity answer.new }
+{
+    match find_place(session, name, path) {
+        Ok(part) => append_shown(part, answer),
+        Err(refusal) => Err(refusal),
+    }
+}
+
+fn append_shown(tree: &Term, answer: &mut Vec<u8>) -> Result<(), Refusal>
+    ensures ok { OnOk result (answer.new.items ≡ answer.old.items ++ line (print_of tree.now)) }
+    ensures refused { IfErr result (λ refusal. refusal ≡ Refusal.Memory) }
+    ensures err { OnErr result (answer.new.items ≡ answer.old.items) }
+    ensures len { OnErr result (vec_len answer.new ≡ vec_len answer.old) }
+    ensures room { vec_capacity answer.old ≤ vec_capacity answer.new }
+{
+    let start = answer.len();
+    print(tree, answer)?;
+    if answer.push(b'\n').is_err() {
+        answer.truncate(start);
+        return Err(Refusal::Memory);
+    }
+    Ok(())
+}
+
+// The names of the trees, on one line.
+fn list_trees<M: Meaning>(session: &Session<M>, answer: &mut Vec<u8>) -> Result<(), Refusal>
+    ensures ok { OnOk result (answer.new.items ≡ answer.old.items ++ listed session.now) }
+    ensures refused { IfErr result (λ refusal. refusal ≡ Refusal.Memory) }
+    ensures err { OnErr result (answer.new.items ≡ answer.old.items) }
+    ensures len { OnErr result (vec_len answer.new ≡ vec_len answer.old) }
+    ensures room { vec_capacity answer.old ≤ vec_capacity answer.new }
+{
+    let names = session.tree_names()?;
+    let start = answer.len();
+    if append_names(&names, answer).is_err() {
+        answer.truncate(start);
+        return Err(Refusal::Memory);
+    }
+    Ok(())
+}
+
+fn append_names(names: &[Label], answer: &mut Vec<u8>) -> Result<(), NoMemory>
+    ensures ok { OnOk result (answer.new.items ≡ answer.old.items
+        ++ line (codes "trees" ++ flat_map (λ name. 32 ∷ name) names.now)) }
+    ensures err { Extends answer.old.items answer.new.items }
+    ensures room { vec_capacity answer.old ≤ vec_capacity answer.new }
+{
+    answer.extend_from_slice(b"trees")?;
+    for name in names {
+        append_name(name, answer)?;
+    }
+    answer.push(b'\n')?;
+    Ok(())
+}
+
+fn append_name(name: &Label, answer: &mut Vec<u8>) -> Result<(), NoMemory>
+    ensures ok { OnOk result (answer.new.items ≡ answer.old.items ++ 32 ∷ name.now) }
+    ensures err { Extends answer.old.items answer.new.items }
+    ensures room { vec_capacity answer.old ≤ vec_capacity answer.new }
+{
+    answer.push(b' ')?;
+    answer.extend_from_slice(name.bytes())?;
+    Ok(())
+}
+
+// The numbers of steps to undo and to redo, for which there is room.
+fn count_steps<M: Meaning>(session: &Session<M>, answer: &mut Vec<u8>)
+    requires { vec_len answer.old + ANSWER_ROOM ≤ vec_capacity answer.old }
+    ensures text { answer.new.items ≡ answer.old.items ++ counted session.now }
+    ensures room { vec_capacity answer.old ≤ vec_capacity answer.new }
+{
+    let (past, later) = session.counts();
+    let mut number = Buffer::new();
+    answer.extend_from_slice(b"undo ").unwrap();
+    answer
+        .extend_from_slice(number.format(past).as_bytes())
+        .unwrap();
+    answer.extend_from_slice(b" redo ").unwrap();
+    answer
+        .extend_from_slice(number.format(later).as_bytes())
+        .unwrap();
+    answer.extend_from_slice(b"\n").unwrap();
+}
+
+// Appends the line of a refusal, which the room to spare always has place for.
+fn append_refusal(answer: &mut Vec<u8>, refusal: &Refusal)
+    requires { vec_len answer.old + ANSWER_ROOM ≤ vec_capacity answer.old }
+    ensures text { answer.new.items ≡ answer.old.items ++ line (refused_text refusal.now) }
+    ensures room { vec_capacity answer.old ≤ vec_capacity answer.new }
+{
+    let mut number = Buffer::new();
+    answer.extend_from_slice(b"refused ").unwrap();
+    answer
+        .extend_from_slice(number.format(refusal.number()).as_bytes())
+        .unwrap();
+    answer.extend_from_slice(b" ").unwrap();
+    answer.extend_from_slice(refusal.word().as_bytes()).unwrap();
+    answer.extend_from_slice(b"\n").unwrap();
+}

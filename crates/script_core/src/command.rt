@@ -1,0 +1,314 @@
+//! The forms of commands.
+
+ghost use Rattle.std.specs.Prelude.{◌≡◌, ◌≤◌, length, ◌⊎◌, ℕ, false, IfOk, IfErr, IfSome, Ok, Err, Some, None};
+ghost use Rattle.std.specs.List.{prefix_len, suffix_len, position_or_len};
+ghost use Rattle.term_core.specs.Word.{label_of};
+ghost use Rattle.aterm_text.specs.Tokens.{is_blank, without_blanks};
+ghost use Rattle.script_core.specs.Script.{without_end};
+ghost use Rattle.script_core.specs.Steps.{AreSteps};
+ghost use Rattle.script_core.specs.Form.{Form, command_of, checked, tree_form, copy_form, drop_form, put_form, annotate_form, show_form, last_steps, last_place, ended, form_with, is_without_memory, takes_no_memory, takes_no_memory_with, first_word, behind_word, has_word};
+ghost use Rattle.term_paths.specs.PathText.{path_of};
+ghost use Rattle.script_core.specs.CommandView.{form as form_seen};
+
+use crate::MAX_STEPS;
+use aterm_text::{after_blanks, is_blank};
+use session_core::Refusal;
+use std::alloc::Global;
+use term_core::Label;
+use term_paths::{Path, PathFault, read_number, read_path};
+
+/// A command, with what it names.
+#[derive(Drop)]
+pub enum Command<'a> {
+    /// Gives the name the tree that the text spells.
+    Tree(Label, &'a [u8]),
+    /// Gives the second name a copy of the tree of the first.
+    Copy(Label, Label),
+    /// Takes the tree of the name away.
+    Drop(Label),
+    /// Replaces the subterm at the path by what the text spells.
+    Put(Label, Path, &'a [u8]),
+    /// Replaces the annotations there by those that the text spells.
+    Annotate(Label, Path, &'a [u8]),
+    /// Goes so many steps back.
+    Undo(u32),
+    /// Goes so many steps forward.
+    Redo(u32),
+    /// Begins a group.
+    Begin,
+    /// Makes what a group changed one step.
+    Commit,
+    /// Takes back what a group changed.
+    Abandon,
+    /// Shows the subterm at the path.
+    Show(Label, Path),
+    /// Lists the names of the trees.
+    Trees,
+    /// Counts the steps.
+    History,
+    /// Gives the text of all trees.
+    Dump,
+}
+
+impl<'a> Command<'a> {
+    /// Reads a command. Its form is tested before its names. `undo`, `redo`, `begin` and `abandon` take
+    /// no memory. The steps, from 1 to 1,000,000, are the budget of a command that names none.
+    ///
+    /// Errors: `Line` where the command has no form of those above; `Name` where a name is no word or has
+    /// more than 64 bytes; `Memory` where a growth of memory is refused.
+    pub fn read(alloc: Global, command: &'a [u8], _steps: u32) -> Result<Command<'a>, Refusal>
+        requires { AreSteps _steps }
+        ensures ok { IfOk result (λ read. command_of _steps command.now ≡ Ok (form_seen read)) }
+        ensures without_memory { IfOk result (λ read. takes_no_memory command.now
+            ≡ is_without_memory (form_seen read)) }
+        ensures refused { IfErr result (λ refusal. ((refusal ≡ Refusal.Memory)
+            × (takes_no_memory command.now ≡ false))
+            ⊎ (command_of _steps command.now ≡ Err refusal)) }
+    {
+        let text = without_last_blanks(command);
+        let (keyword, rest) = split_word(text);
+        if keyword == b"undo".as_slice() {
+            Ok(Command::Undo(read_steps(rest)?))
+        } else if keyword == b"redo".as_slice() {
+            Ok(Command::Redo(read_steps(rest)?))
+        } else if keyword == b"begin".as_slice() {
+            read_ended(Command::Begin, rest)
+        } else if keyword == b"abandon".as_slice() {
+            read_ended(Command::Abandon, rest)
+        } else {
+            read_other(alloc, keyword, rest)
+        }
+    }
+}
+
+// The forms that may take memory.
+fn read_other<'a>(alloc: Global, keyword: &[u8], rest: &'a [u8]) -> Result<Command<'a>, Refusal>
+    requires { takes_no_memory_with keyword.now ≡ false }
+    ensures ok { IfOk result (λ read. checked (form_with keyword.now rest.now) ≡ Ok (form_seen read)) }
+    ensures may_take_memory { IfOk result (λ read. is_without_memory (form_seen read) ≡ false) }
+    ensures refused { IfErr result (λ refusal. (refusal ≡ Refusal.Memory)
+        ⊎ (checked (form_with keyword.now rest.now) ≡ Err refusal)) }
+{
+    if keyword == b"tree".as_slice() {
+        read_tree(alloc, rest)
+    } else if keyword == b"copy".as_slice() {
+        read_copy(alloc, rest)
+    } else if keyword == b"drop".as_slice() {
+        read_drop(alloc, rest)
+    } else if keyword == b"put".as_slice() {
+        read_put(alloc, rest)
+    } else if keyword == b"annotate".as_slice() {
+        read_annotate(alloc, rest)
+    } else if keyword == b"show".as_slice() {
+        read_show(alloc, rest)
+    } else if keyword == b"commit".as_slice() {
+        read_ended(Command::Commit, rest)
+    } else if keyword == b"trees".as_slice() {
+        read_ended(Command::Trees, rest)
+    } else if keyword == b"history".as_slice() {
+        read_ended(Command::History, rest)
+    } else if keyword == b"dump".as_slice() {
+        read_ended(Command::Dump, rest)
+    } else {
+        Err(Refusal::Line)
+    }
+}
+
+fn read_tree(alloc: Global, rest: &[u8]) -> Result<Command<'_>, Refusal>
+    ensures ok { IfOk result (λ read. checked (tree_form rest.now) ≡ Ok (form_seen read)) }
+    ensures may_take_memory { IfOk result (λ read. is_without_memory (form_seen read) ≡ false) }
+    ensures refused { IfErr result (λ refusal. (refusal ≡ Refusal.Memory)
+        ⊎ (checked (tree_form rest.now) ≡ Err refusal)) }
+{
+    let (name, rest) = split_word(rest);
+    if name.is_empty() {
+        return Err(Refusal::Line);
+    }
+    let name = read_label(alloc, name)?;
+    Ok(Command::Tree(name, after_blanks(rest)))
+}
+
+fn read_copy<'a>(alloc: Global, rest: &[u8]) -> Result<Command<'a>, Refusal>
+    ensures ok { IfOk result (λ read. checked (copy_form rest.now) ≡ Ok (form_seen read)) }
+    ensures may_take_memory { IfOk result (λ read. is_without_memory (form_seen read) ≡ false) }
+    ensures refused { IfErr result (λ refusal. (refusal ≡ Refusal.Memory)
+        ⊎ (checked (copy_form rest.now) ≡ Err refusal)) }
+{
+    let (name, rest) = split_word(rest);
+    let (copy, rest) = split_word(rest);
+    if name.is_empty() || copy.is_empty() || has_more(rest) {
+        return Err(Refusal::Line);
+    }
+    let name = read_label(alloc, name)?;
+    let copy = read_label(alloc, copy)?;
+    Ok(Command::Copy(name, copy))
+}
+
+fn read_drop<'a>(alloc: Global, rest: &[u8]) -> Result<Command<'a>, Refusal>
+    ensures ok { IfOk result (λ read. checked (drop_form rest.now) ≡ Ok (form_seen read)) }
+    ensures may_take_memory { IfOk result (λ read. is_without_memory (form_seen read) ≡ false) }
+    ensures refused { IfErr result (λ refusal. (refusal ≡ Refusal.Memory)
+        ⊎ (checked (drop_form rest.now) ≡ Err refusal)) }
+{
+    let (name, rest) = split_word(rest);
+    if name.is_empty() || has_more(rest) {
+        return Err(Refusal::Line);
+    }
+    Ok(Command::Drop(read_label(alloc, name)?))
+}
+
+fn read_put(alloc: Global, rest: &[u8]) -> Result<Command<'_>, Refusal>
+    ensures ok { IfOk result (λ read. checked (put_form rest.now) ≡ Ok (form_seen read)) }
+    ensures may_take_memory { IfOk result (λ read. is_without_memory (form_seen read) ≡ false) }
+    ensures refused { IfErr result (λ refusal. (refusal ≡ Refusal.Memory)
+        ⊎ (checked (put_form rest.now) ≡ Err refusal)) }
+{
+    let (name, rest) = split_word(rest);
+    if name.is_empty() {
+        return Err(Refusal::Line);
+    }
+    let (path, rest) = split_word(rest);
+    let path = read_path_word(alloc, path)?;
+    let name = read_label(alloc, name)?;
+    Ok(Command::Put(name, path, after_blanks(rest)))
+}
+
+fn read_annotate(alloc: Global, rest: &[u8]) -> Result<Command<'_>, Refusal>
+    ensures ok { IfOk result (λ read. checked (annotate_form rest.now) ≡ Ok (form_seen read)) }
+    ensures may_take_memory { IfOk result (λ read. is_without_memory (form_seen read) ≡ false) }
+    ensures refused { IfErr result (λ refusal. (refusal ≡ Refusal.Memory)
+        ⊎ (checked (annotate_form rest.now) ≡ Err refusal)) }
+{
+    let (name, rest) = split_word(rest);
+    if name.is_empty() {
+        return Err(Refusal::Line);
+    }
+    let (path, rest) = split_word(rest);
+    let path = read_path_word(alloc, path)?;
+    let name = read_label(alloc, name)?;
+    Ok(Command::Annotate(name, path, after_blanks(rest)))
+}
+
+fn read_show<'a>(alloc: Global, rest: &[u8]) -> Result<Command<'a>, Refusal>
+    ensures ok { IfOk result (λ read. checked (show_form rest.now) ≡ Ok (form_seen read)) }
+    ensures may_take_memory { IfOk result (λ read. is_without_memory (form_seen read) ≡ false) }
+    ensures refused { IfErr result (λ refusal. (refusal ≡ Refusal.Memory)
+        ⊎ (checked (show_form rest.now) ≡ Err refusal)) }
+{
+    let (name, rest) = split_word(rest);
+    if name.is_empty() {
+        return Err(Refusal::Line);
+    }
+    let path = read_place(alloc, rest)?;
+    let name = read_label(alloc, name)?;
+    Ok(Command::Show(name, path))
+}
+
+// `at` and a path at the end of a form, or nothing, which is the root.
+fn read_place(alloc: Global, rest: &[u8]) -> Result<Path, Refusal>
+    ensures ok { IfOk result (λ path. last_place rest.now ≡ Some path) }
+    ensures refused { IfErr result (λ refusal. (refusal ≡ Refusal.Memory)
+        ⊎ ((refusal ≡ Refusal.Line) × (last_place rest.now ≡ None))) }
+{
+    let (word, rest) = split_word(rest);
+    if word.is_empty() {
+        return Ok(Path::root(alloc));
+    }
+    let (path, rest) = split_word(rest);
+    if word != b"at".as_slice() || has_more(rest) {
+        return Err(Refusal::Line);
+    }
+    read_path_word(alloc, path)
+}
+
+fn read_path_word(alloc: Global, word: &[u8]) -> Result<Path, Refusal>
+    ensures ok { IfOk result (λ path. path_of word.now ≡ Some path) }
+    ensures refused { IfErr result (λ refusal. (refusal ≡ Refusal.Memory)
+        ⊎ ((refusal ≡ Refusal.Line) × (path_of word.now ≡ None))) }
+{
+    match read_path(alloc, word) {
+        Ok(path) => Ok(path),
+        Err(PathFault::Line) => Err(Refusal::Line),
+        Err(PathFault::Memory) => Err(Refusal::Memory),
+    }
+}
+
+// A number of steps at the end of a form, which may be missing and is 1 then.
+fn read_steps(rest: &[u8]) -> Result<u32, Refusal>
+    ensures ok { IfOk result (λ steps. last_steps rest.now ≡ Some steps) }
+    ensures refused { IfErr result (λ refusal. (refusal ≡ Refusal.Line)
+        × (last_steps rest.now ≡ None)) }
+    ensures within { IfOk result (λ steps. 1 ≤ steps) }
+{
+    let (word, rest) = split_word(rest);
+    if word.is_empty() {
+        return Ok(1);
+    }
+    if has_more(rest) {
+        return Err(Refusal::Line);
+    }
+    match read_number(word) {
+        Some(steps) if steps >= 1 && steps <= MAX_STEPS as usize => Ok(steps as u32),
+        _ => Err(Refusal::Line),
+    }
+}
+
+// A form without further words.
+fn read_ended<'a>(form: Command<'a>, rest: &[u8]) -> Result<Command<'a>, Refusal>
+    ensures ok { IfOk result (λ read. ended (form_seen form.entry) rest.now
+        ≡ Some (form_seen read)) }
+    ensures refused { IfErr result (λ refusal. (refusal ≡ Refusal.Line)
+        × (ended (form_seen form.entry) rest.now ≡ None)) }
+{
+    if has_more(rest) {
+        return Err(Refusal::Line);
+    }
+    Ok(form)
+}
+
+fn has_more(rest: &[u8]) -> bool
+    ensures { result ≡ has_word rest.now }
+{
+    let (word, _) = split_word(rest);
+    !word.is_empty()
+}
+
+fn read_label(alloc: Global, name: &[u8]) -> Result<Label, Refusal>
+    ensures ok { IfOk result (λ label. label_of name.now ≡ Some label) }
+    ensures same { IfOk result (λ label. label ≡ name.now) }
+    ensures refused { IfErr result (λ refusal. (refusal ≡ Refusal.Memory)
+        ⊎ ((refusal ≡ Refusal.Name) × (label_of name.now ≡ None))) }
+{
+    Ok(Label::read(alloc, name)?)
+}
+
+// ---- words
+
+fn without_last_blanks(text: &[u8]) -> &[u8]
+    ensures { result.now ≡ without_end is_blank text.now }
+{
+    &text[..text.len() - blanks_at_end(text)]
+}
+
+fn blanks_at_end(text: &[u8]) -> usize
+    ensures run { result ≡ suffix_len is_blank text.now }
+    ensures within { result ≤ length text.now }
+{
+    text.iter().rev().take_while(|b| is_blank(**b)).count()
+}
+
+// The first word of a text, with nothing in it where there is none, and what stands behind it.
+fn split_word(text: &[u8]) -> (&[u8], &[u8])
+    ensures word { result.0.now ≡ first_word text.now }
+    ensures behind { result.1.now ≡ behind_word text.now }
+{
+    let text = after_blanks(text);
+    text.split_at(word_len(text))
+}
+
+fn word_len(text: &[u8]) -> usize
+    ensures run { result ≡ position_or_len is_blank text.now }
+    ensures within { result ≤ length text.now }
+{
+    text.iter().take_while(|b| !is_blank(**b)).count()
+}

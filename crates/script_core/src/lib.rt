@@ -1,0 +1,27 @@
+//! Scripts: commands cut out of bytes as they come, each answered when it is complete.
+#![tactic(auto)]
+
+mod answer;
+mod command;
+pub mod laws;
+mod pending;
+mod running;
+mod sink;
+mod source;
+mod splitter;
+#[cfg(test)]
+mod tests;
+mod write;
+
+pub use answer::{ANSWER_ROOM, answer_text};
+pub use command::Command;
+pub use running::{MAX_READS, PIECE, RunFault, Settings, Summary, run};
+pub use sink::{Held, Sink};
+pub use source::{Bytes, Counted, Failed, Source};
+pub use splitter::{Fed, Piece, Splitter};
+
+/// The most bytes of a command.
+pub const MAX_COMMAND: usize = 65_536;
+
+/// The most steps that one `undo` or `redo` goes, and the greatest budget of an evaluation.
+pub const MAX_STEPS: u32 = 1_000_000;

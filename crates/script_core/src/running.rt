@@ -1,0 +1,312 @@
+//! Running a script: reading it piece by piece, answering each command when it is complete, and writing
+//! the answers.
+
+ghost use Rattle.std.specs.Prelude.{◌≡◌, ◌≤◌, ◌<◌, ◌+◌, ◌*◌, ◌^◌, ◌∷◌, [], Ok, Err, OnOk, OnErr, IfOk, true, false, not, is_some, Some, vec_capacity, length};
+ghost use Rattle.script_core.specs.Handed.{Handed};
+ghost use Rattle.script_core.specs.Splitting.{StandsBehind};
+ghost use Rattle.script_core.specs.Steps.{AreSteps};
+ghost use Rattle.script_core.specs.Running.{AnswersReady, AnswersBytes, Breaks, Ends, TurnRight, RunRight, streams};
+ghost use Rattle.script_core.specs.Run.{Answers, AnswersPart, AnswersFirst, Completes, BreaksOff, one_if};
+
+use crate::answer::{ANSWER_ROOM, answer_text};
+use crate::sink::Sink;
+use crate::source::{Failed, Source};
+use crate::splitter::{Fed, Splitter};
+use crate::write::write_whole;
+use prim_core::Meaning;
+use session_core::Session;
+use std::alloc::Global;
+use thiserror::Error;
+
+/// The greatest number of reads in a run.
+pub const MAX_READS: u64 = 1_000_000_000;
+
+/// The bytes that are read at a time.
+pub const PIECE: usize = 4096;
+
+/// How a script is run.
+#[derive(Clone, Copy, Debug, PartialEq, Eq)]
+pub struct Settings {
+    /// The budget of commands that name none, from 1 to 1,000,000.
+    pub steps: u32,
+    /// Whether the run ends behind the first command that is refused.
+    pub stop: bool,
+}
+
+/// How many commands were accepted and how many refused.
+#[derive(Clone, Copy, Debug, PartialEq, Eq)]
+pub struct Summary {
+    pub accepted: u64,
+    pub refused: u64,
+}
+
+/// Why a run didn't come to its end.
+#[derive(Clone, Copy, Debug, PartialEq, Eq, Error)]
+pub enum RunFault {
+    /// A read failed.
+    #[error("read fault")]
+    Read,
+    /// A write or a flush failed.
+    #[error("write fault")]
+    Write,
+    /// There were 1,000,000,000 reads, and the end wasn't reached.
+    #[error("read bound")]
+    Turns,
+    /// A growth of memory was refused before the first command.
+    #[error("no memory")]
+    Memory,
+}
+
+// What is kept over a run.
+#[derive(Drop)]
+struct Running {
+    splitter: Splitter,
+    answer: Vec<u8>,
+    summary: Summary,
+    settings: Settings,
+}
+
+/// Runs a script: each command is answered when it is complete, and its answer written. A command is
+/// complete when the first byte of the next one was read, or the end. Before each read, and at the end,
+/// the sink is flushed.
+///
+/// Errors: `Memory` before the first command alone. After `Read` and `Turns` all complete commands of
+/// what was read are answered; a command that was begun isn't run. After `Write` the first so many commands
+/// are answered, and the sink took their answers, but perhaps for an end of the last.
+pub fn run<M: Meaning, I: Source, O: Sink>(
+    alloc: Global,
+    session: &mut Session<M>,
+    source: &mut I,
+    sink: &mut O,
+    settings: Settings,
+) -> Result<Summary, RunFault>
+    requires steps { AreSteps settings.steps }
+    requires source_counts { I.failed source.old + 1 < 2 ^ 64 }
+    requires sink_counts { O.failed sink.old + 1 < 2 ^ 64 }
+
+    // All that was read is answered, up to its end; or the run stopped at a refusal.
+    ensures done { IfOk result (λ summary. Answers settings session.old session.new
+        (I.left source.old) (I.left source.new) (O.held sink.old) (O.held sink.new)
+        summary.accepted summary.refused) }
+    ensures calm { OnOk result ((I.failed source.new ≡ I.failed source.old)
+        × (O.failed sink.new ≡ O.failed sink.old)) }
+
+    // Where a read fails, the complete commands are answered; and so after so many reads that at
+    // least as many bytes were read.
+    ensures read { result ≡ Err RunFault.Read → (I.failed source.new ≡ I.failed source.old + 1)
+        × (O.failed sink.new ≡ O.failed sink.old)
+        × AnswersPart settings session.old session.new
+        (I.left source.old) (I.left source.new) (O.held sink.old) (O.held sink.new) 0 }
+    ensures turns { result ≡ Err RunFault.Turns → ((I.failed source.new ≡ I.failed source.old)
+        × (O.failed sink.new ≡ O.failed sink.old))
+        × AnswersPart settings session.old session.new
+        (I.left source.old) (I.left source.new) (O.held sink.old) (O.held sink.new) MAX_READS }
+
+    // Where a write or a flush fails, the first commands of what was read are answered.
+    ensures write { result ≡ Err RunFault.Write → (O.failed sink.new ≡ O.failed sink.old + 1)
+        × (I.failed source.new ≡ I.failed source.old)
+        × AnswersFirst settings session.old session.new
+        (I.left source.old) (I.left source.new) (O.held sink.old) (O.held sink.new) }
+
+    // Without memory nothing happened.
+    ensures memory { result ≡ Err RunFault.Memory → (session.new ≡ session.old)
+        × (source.new ≡ source.old) × (sink.new ≡ sink.old) }
+{
+    let Ok(splitter) = Splitter::new(alloc) else {
+        return Err(RunFault::Memory);
+    };
+    let Ok(answer) = Vec::with_capacity(alloc, ANSWER_ROOM) else {
+        return Err(RunFault::Memory);
+    };
+    let mut running = Running {
+        splitter,
+        answer,
+        summary: Summary {
+            accepted: 0,
+            refused: 0,
+        },
+        settings,
+    };
+    running.answer_all(alloc, session, source, sink)
+}
+
+impl Running {
+    // Answers the command that is ready, and tells whether the run goes on.
+    fn answer_ready<M: Meaning, O: Sink>(
+        &mut self,
+        alloc: Global,
+        session: &mut Session<M>,
+        sink: &mut O,
+    ) -> Result<bool, Failed>
+        requires ready { is_some self.old.splitter.ready ≡ true }
+        requires steps { AreSteps self.old.settings.steps }
+        requires room { ANSWER_ROOM ≤ vec_capacity self.old.answer }
+        requires counts { self.old.summary.accepted + self.old.summary.refused + 1 < 2 ^ 64 }
+        requires sink { O.failed sink.old + 1 < 2 ^ 64 }
+        ensures answers { IfOk result (AnswersReady self.old self.new session.old session.new
+            (O.held sink.old) (O.held sink.new)) }
+        ensures same { OnOk result (O.failed sink.new ≡ O.failed sink.old) }
+        ensures breaks { OnErr result ((command : Handed) × (self.old.splitter.ready ≡ Some command)
+            × BreaksOff self.old.settings (command ∷ []) session.old session.new
+            (O.held sink.old) (O.held sink.new)) }
+        ensures count { OnErr result (O.failed sink.new ≡ O.failed sink.old + 1) }
+        ensures splitter { self.new.splitter ≡ self.old.splitter }
+        ensures room { ANSWER_ROOM ≤ vec_capacity self.new.answer }
+    {
+        self.answer.clear();
+        let accepted = answer_text(
+            alloc,
+            session,
+            self.splitter.command(),
+            self.settings.steps,
+            &mut self.answer,
+        );
+        write_whole(sink, &self.answer)?;
+        self.summary.count(accepted);
+        Ok(accepted || !self.settings.stop)
+    }
+    // Answers the commands that these bytes make complete, up to where the run stops, and tells whether
+    // it goes on.
+    fn answer_bytes<M: Meaning, O: Sink>(
+        &mut self,
+        alloc: Global,
+        session: &mut Session<M>,
+        sink: &mut O,
+        bytes: &[u8],
+    ) -> Result<bool, Failed>
+        requires steps { AreSteps self.old.settings.steps }
+        requires room { ANSWER_ROOM ≤ vec_capacity self.old.answer }
+        requires counts { self.old.summary.accepted + self.old.summary.refused + length bytes.now
+            < 2 ^ 64 }
+        requires sink { O.failed sink.old + 1 < 2 ^ 64 }
+        ensures answers { IfOk result (AnswersBytes self.old self.new session.old session.new
+            (O.held sink.old) (O.held sink.new) bytes.now) }
+        ensures same { OnOk result (O.failed sink.new ≡ O.failed sink.old) }
+        ensures breaks { OnErr result (Breaks self.old session.old session.new
+            (O.held sink.old) (O.held sink.new) bytes.now) }
+        ensures count { OnErr result (O.failed sink.new ≡ O.failed sink.old + 1) }
+        ensures room { ANSWER_ROOM ≤ vec_capacity self.new.answer }
+    {
+        let mut rest = bytes;
+        while let Fed::Command(taken) = self.splitter.feed(rest) {
+            rest = &rest[taken..];
+            if !self.answer_ready(alloc, session, sink)? {
+                return Ok(false);
+            }
+        }
+        Ok(true)
+    }
+
+    // Answers the command that stands at the end, if there is one.
+    fn answer_last<M: Meaning, O: Sink>(
+        &mut self,
+        alloc: Global,
+        session: &mut Session<M>,
+        sink: &mut O,
+    ) -> Result<(), Failed>
+        requires steps { AreSteps self.old.settings.steps }
+        requires room { ANSWER_ROOM ≤ vec_capacity self.old.answer }
+        requires counts { self.old.summary.accepted + self.old.summary.refused + 1 < 2 ^ 64 }
+        requires sink { O.failed sink.old + 1 < 2 ^ 64 }
+        ensures ends { OnOk result (Ends self.old self.new session.old session.new
+            (O.held sink.old) (O.held sink.new) []) }
+        ensures same { OnOk result (O.failed sink.new ≡ O.failed sink.old) }
+        ensures breaks { OnErr result (Breaks self.old session.old session.new
+            (O.held sink.old) (O.held sink.new) []) }
+        ensures count { OnErr result (O.failed sink.new ≡ O.failed sink.old + 1) }
+    {
+        if self.splitter.finish() {
+            self.answer_ready(alloc, session, sink)?;
+        }
+        Ok(())
+    }
+    // Flushes what was written, reads once and answers what is complete then. Tells whether the run goes
+    // on.
+    fn turn<M: Meaning, I: Source, O: Sink>(
+        &mut self,
+        alloc: Global,
+        session: &mut Session<M>,
+        source: &mut I,
+        sink: &mut O,
+        piece: &mut [u8],
+    ) -> Result<bool, RunFault>
+        requires steps { AreSteps self.old.settings.steps }
+        requires room { ANSWER_ROOM ≤ vec_capacity self.old.answer }
+        requires piece { 0 < length piece.old }
+        requires counts { self.old.summary.accepted + self.old.summary.refused + length piece.old
+            < 2 ^ 64 }
+        requires source { I.failed source.old + 1 < 2 ^ 64 }
+        requires sink { O.failed sink.old + 1 < 2 ^ 64 }
+        ensures right { TurnRight result self.old self.new session.old session.new
+            (streams (I.left source.old) (O.held sink.old) (I.failed source.old) (O.failed sink.old))
+            (streams (I.left source.new) (O.held sink.new) (I.failed source.new) (O.failed sink.new))
+            (length piece.old) }
+        ensures room { result ≡ Ok true → ANSWER_ROOM ≤ vec_capacity self.new.answer }
+        ensures piece { length piece.new ≡ length piece.old }
+    {
+        let Ok(()) = sink.flush() else {
+            return Err(RunFault::Write);
+        };
+        match source.read(piece) {
+            Err(Failed) => Err(RunFault::Read),
+            Ok(0) => match self.answer_last(alloc, session, sink) {
+                Ok(()) => Ok(false),
+                Err(Failed) => Err(RunFault::Write),
+            },
+            Ok(given) => match self.answer_bytes(alloc, session, sink, &piece[..given]) {
+                Ok(goes_on) => Ok(goes_on),
+                Err(Failed) => Err(RunFault::Write),
+            },
+        }
+    }
+    // Reads and answers up to the end, or to where the run stops.
+    fn answer_all<M: Meaning, I: Source, O: Sink>(
+        &mut self,
+        alloc: Global,
+        session: &mut Session<M>,
+        source: &mut I,
+        sink: &mut O,
+    ) -> Result<Summary, RunFault>
+        requires fresh { StandsBehind [] [] self.old.splitter.left }
+        requires zero { (self.old.summary.accepted ≡ 0) × (self.old.summary.refused ≡ 0) }
+        requires steps { AreSteps self.old.settings.steps }
+        requires room { ANSWER_ROOM ≤ vec_capacity self.old.answer }
+        requires source { I.failed source.old + 1 < 2 ^ 64 }
+        requires sink { O.failed sink.old + 1 < 2 ^ 64 }
+        ensures { RunRight result self.old.settings session.old session.new
+            (streams (I.left source.old) (O.held sink.old) (I.failed source.old) (O.failed sink.old))
+            (streams (I.left source.new) (O.held sink.new) (I.failed source.new) (O.failed sink.new)) }
+    {
+        let mut piece = [0; PIECE];
+        for _ in 0..MAX_READS {
+            match self.turn(alloc, session, source, sink, &mut piece) {
+                Ok(true) => {}
+                Ok(false) => {
+                    let Ok(()) = sink.flush() else {
+                        return Err(RunFault::Write);
+                    };
+                    return Ok(self.summary);
+                }
+                Err(fault) => return Err(fault),
+            }
+        }
+        let Ok(()) = sink.flush() else {
+            return Err(RunFault::Write);
+        };
+        Err(RunFault::Turns)
+    }
+}
+
+impl Summary {
+    fn count(&mut self, accepted: bool)
+        requires { self.old.accepted + self.old.refused + 1 < 2 ^ 64 }
+        ensures accepted { self.new.accepted ≡ self.old.accepted + one_if accepted }
+        ensures refused { self.new.refused ≡ self.old.refused + one_if (not accepted) }
+    {
+        if accepted {
+            self.accepted += 1;
+        } else {
+            self.refused += 1;
+        }
+    }
+}

@@ -1,0 +1,5 @@
+//! Tests of runs.
+
+mod pieces;
+mod rows;
+mod streams;

@@ -1,0 +1,87 @@
+//! A run over a script that is read in pieces of a given size.
+
+ghost use Rattle.script_core.specs.Steps.{AreSteps};
+
+use crate::{Counted, Held, MAX_STEPS, RunFault, Settings, Summary, run};
+use prim_core::{NoPrimitives, Primitives};
+use session_core::Session;
+use std::alloc::Global;
+use std::io::{self, Error, ErrorKind, Read};
+use std::test::Fail;
+
+/// Gives at most so many bytes at a time, and at its end fails where that is wanted.
+#[derive(Drop)]
+pub struct PieceReader<'a> {
+    pub rest: &'a [u8],
+    pub most: usize,
+    pub fails: bool,
+}
+
+impl Read for PieceReader<'_> {
+    fn read(&mut self, buf: &mut [u8]) -> io::Result<usize> {
+        if self.rest.is_empty() && self.fails {
+            return Err(Error::from(ErrorKind::Other));
+        }
+        let given = self.rest.len().min(buf.len()).min(self.most);
+        let (front, rest) = self.rest.split_at(given);
+        buf[..given].copy_from_slice(front);
+        self.rest = rest;
+        Ok(given)
+    }
+}
+
+pub fn new_session(alloc: Global) -> Session<NoPrimitives> {
+    Session::new(alloc, Primitives::new(Vec::new(alloc)))
+}
+
+pub fn settings(stop: bool) -> Settings
+    ensures { AreSteps result.steps }
+{
+    Settings {
+        steps: MAX_STEPS,
+        stop,
+    }
+}
+
+/// How a run is to end.
+pub type Outcome = Result<Summary, RunFault>;
+
+pub fn ends(accepted: u64, refused: u64) -> Outcome {
+    Ok(Summary { accepted, refused })
+}
+
+/// Whether a run of a new session over the reader answers this and ends so.
+pub fn is_answered(
+    alloc: Global,
+    reader: PieceReader<'_>,
+    stop: bool,
+    answers: &[u8],
+    outcome: Outcome,
+) -> bool {
+    let mut session = new_session(alloc);
+    let mut source = Counted::new(reader);
+    let mut sink = Held::new(alloc);
+    let ended = run(alloc, &mut session, &mut source, &mut sink, settings(stop));
+    ended == outcome && sink.bytes() == answers
+}
+
+/// The same, in pieces of 1, 2 and 4,096 bytes, of a reader that doesn't fail.
+pub fn is_row(
+    alloc: Global,
+    script: &[u8],
+    stop: bool,
+    answers: &[u8],
+    outcome: Outcome,
+) -> Result<bool, Fail> {
+    for most in [1, 2, 4096] {
+        let reader = PieceReader {
+            rest: script,
+            most,
+            fails: false,
+        };
+        if !is_answered(alloc, reader, stop, answers, outcome) {
+            return Ok(false);
+        }
+    }
+    Ok(true)
+}

@@ -1,0 +1,280 @@
+//! Readers and writers that fail, and the order of reads and flushes.
+
+ghost use Rattle.std.specs.Prelude.{◌≡◌};
+
+use super::pieces::{Outcome, PieceReader, ends, is_answered, new_session, settings};
+use crate::{Bytes, Counted, RunFault, Sink, Source, run};
+use std::alloc::Global;
+use std::cell::Cell;
+use std::io::{self, Error, ErrorKind, Read, Write};
+use std::test::Fail;
+
+// Every front of a script with joined lines and a comment, behind which the reader fails: the first
+// command is complete when the first byte of the next has come.
+#[test]
+fn answers_complete_commands_before_a_read_fault(rt: HostRuntime) -> Result<(), Fail> {
+    let script: &[u8] = b"tree t f(\n  a)\n# note\n\nshow t\n";
+    for k in 0..=script.len() {
+        let answers: &[u8] = if k < 24 { b"" } else { b"ok\n" };
+        for most in [1, 4096] {
+            let reader = PieceReader {
+                rest: &script[..k],
+                most,
+                fails: true,
+            };
+            assert!(rt;
+                is_answered(rt.alloc(), reader, false, answers, Err(RunFault::Read)),
+                "{k}"
+            );
+        }
+    }
+    Ok(())
+}
+
+// A run that stops doesn't read on.
+#[test]
+fn stops_before_a_read_fault(rt: HostRuntime) -> Result<(), Fail> {
+    let table: [(&[u8], &[u8], Result<(u64, u64), RunFault>); 2] = [
+        (b"undo\nhistory\n", b"refused 15 noundo\n", Ok((0, 1))),
+        (b"undo\n", b"", Err(RunFault::Read)),
+    ];
+    for (script, answers, wanted) in table {
+        let outcome = match wanted {
+            Ok((accepted, refused)) => ends(accepted, refused),
+            Err(fault) => Err(fault),
+        };
+        let reader = PieceReader {
+            rest: script,
+            most: 4096,
+            fails: true,
+        };
+        assert!(rt; is_answered(rt.alloc(), reader, true, answers, outcome));
+    }
+    Ok(())
+}
+
+// Takes at most two bytes a write, and where it has no more room it fails or takes none.
+#[derive(Drop)]
+struct NarrowWriter {
+    held: Vec<u8>,
+    room: usize,
+    fails: bool,
+}
+
+impl Write for NarrowWriter {
+    fn write(&mut self, buf: &[u8]) -> io::Result<usize> {
+        if self.room == 0 && self.fails {
+            return Err(Error::from(ErrorKind::Other));
+        }
+        let taken = self.room.min(buf.len()).min(2);
+        self.held.extend_from_slice(&buf[..taken])?;
+        self.room -= taken;
+        Ok(taken)
+    }
+
+    fn flush(&mut self) -> io::Result<()> {
+        Ok(())
+    }
+}
+
+// How many steps the session has after a run whose writer has so much room, whether the writer holds the
+// front of the answers, and how the run ended.
+fn steps_behind(alloc: Global, room: usize, fails: bool) -> (u64, bool, Result<u64, RunFault>) {
+    let mut session = new_session(alloc);
+    let mut source = Bytes::new(b"tree t a\ntree t b\nshow t\n");
+    let mut sink = Counted::new(NarrowWriter {
+        held: Vec::new(alloc),
+        room,
+        fails,
+    });
+    let outcome = run(alloc, &mut session, &mut source, &mut sink, settings(false));
+    let answers: &[u8] = b"ok\nok\nb\n";
+    let held = sink.inner.held.as_slice();
+    let is_front = held.len() == room && answers.starts_with(held);
+    let failures = sink.failures();
+    let (past, _) = session.counts();
+    match outcome {
+        Ok(_) => (past, is_front, Ok(failures)),
+        Err(fault) => (past, is_front, Err(fault)),
+    }
+}
+
+// The session is the one behind the command whose answer couldn't be written whole.
+#[test]
+fn breaks_off_at_a_write_fault(rt: HostRuntime) -> Result<(), Fail> {
+    for fails in [true, false] {
+        for room in 0..8 {
+            let wanted = if room < 3 { 1 } else { 2 };
+            assert!(rt;
+                steps_behind(rt.alloc(), room, fails) == (wanted, true, Err(RunFault::Write))
+            );
+        }
+        assert!(rt; steps_behind(rt.alloc(), 8, fails) == (2, true, Ok(0)));
+    }
+    Ok(())
+}
+
+// What a reader and a writer that belong together have seen.
+#[derive(Drop)]
+struct Order {
+    written: Cell<usize>,
+    flushed: Cell<usize>,
+    reads: Cell<usize>,
+    // whether before each read the answers to all commands were flushed that were complete by then
+    is_kept: Cell<bool>,
+}
+
+// So many bytes of answers are due before this read, of a byte each: a command is complete with the first
+// byte of the next.
+fn due_before(read: usize) -> usize {
+    match read {
+        0..=9 => 0,
+        10..=16 => 3,
+        17..=23 => 5,
+        _ => 23,
+    }
+}
+
+// A byte at a time, as somebody who types.
+#[derive(Drop)]
+struct TypedReader<'a> {
+    rest: &'a [u8],
+    order: &'a Order,
+}
+
+impl Read for TypedReader<'_> {
+    fn read(&mut self, buf: &mut [u8]) -> io::Result<usize> {
+        let read = self.order.reads.get();
+        if self.order.flushed.get() != due_before(read) {
+            self.order.is_kept.set(false);
+        }
+        self.order.reads.set(read.saturating_add(1));
+        let Some((byte, rest)) = self.rest.split_first() else {
+            return Ok(0);
+        };
+        let Some(first) = buf.first_mut() else {
+            return Ok(0);
+        };
+        *first = *byte;
+        self.rest = rest;
+        Ok(1)
+    }
+}
+
+#[derive(Drop)]
+struct SeenWriter<'a> {
+    order: &'a Order,
+}
+
+impl Write for SeenWriter<'_> {
+    fn write(&mut self, buf: &[u8]) -> io::Result<usize> {
+        self.order
+            .written
+            .set(self.order.written.get().saturating_add(buf.len()));
+        Ok(buf.len())
+    }
+
+    fn flush(&mut self) -> io::Result<()> {
+        self.order.flushed.set(self.order.written.get());
+        Ok(())
+    }
+}
+
+fn order_of(alloc: Global, script: &[u8]) -> (usize, usize, bool) {
+    let order = Order {
+        written: Cell::new(0),
+        flushed: Cell::new(0),
+        reads: Cell::new(0),
+        is_kept: Cell::new(true),
+    };
+    let mut session = new_session(alloc);
+    let mut source = Counted::new(TypedReader {
+        rest: script,
+        order: &order,
+    });
+    let mut sink = Counted::new(SeenWriter { order: &order });
+    let outcome = run(alloc, &mut session, &mut source, &mut sink, settings(false));
+    let is_kept = order.is_kept.get() && outcome.is_ok() && source.failures() == 0;
+    (order.written.get(), order.flushed.get(), is_kept)
+}
+
+// Each answer is flushed before the next read, and the last at the end.
+#[test]
+fn flushes_before_reads(rt: HostRuntime) -> Result<(), Fail> {
+    let seen = order_of(rt.alloc(), b"tree t a\nshow t\nundo 2\ntrees");
+    assert_eq!(rt; seen, (3 + 2 + 18 + 8, 31, true));
+    Ok(())
+}
+
+// Is interrupted at its first read or write and then at every other. Its flush fails where that is wanted.
+#[derive(Drop)]
+struct Interrupted<'a> {
+    rest: &'a [u8],
+    held: Vec<u8>,
+    interrupts: bool,
+    flush_fails: bool,
+}
+
+impl Interrupted<'_> {
+    fn turn(&mut self) -> io::Result<()> {
+        self.interrupts = !self.interrupts;
+        if self.interrupts {
+            return Err(Error::from(ErrorKind::Interrupted));
+        }
+        Ok(())
+    }
+}
+
+impl Read for Interrupted<'_> {
+    fn read(&mut self, buf: &mut [u8]) -> io::Result<usize> {
+        self.turn()?;
+        let given = self.rest.len().min(buf.len()).min(3);
+        let (front, rest) = self.rest.split_at(given);
+        buf[..given].copy_from_slice(front);
+        self.rest = rest;
+        Ok(given)
+    }
+}
+
+impl Write for Interrupted<'_> {
+    fn write(&mut self, buf: &[u8]) -> io::Result<usize> {
+        self.turn()?;
+        self.held.extend_from_slice(buf)?;
+        Ok(buf.len())
+    }
+
+    fn flush(&mut self) -> io::Result<()> {
+        if self.flush_fails {
+            return Err(Error::from(ErrorKind::Other));
+        }
+        Ok(())
+    }
+}
+
+fn counted(alloc: Global, script: &[u8], flush_fails: bool) -> Counted<Interrupted<'_>>
+    ensures { result.failures ≡ 0 }
+{
+    Counted::new(Interrupted {
+        rest: script,
+        held: Vec::new(alloc),
+        interrupts: false,
+        flush_fails,
+    })
+}
+
+// Whether a run between an interrupted reader and writer ends so and has written this.
+fn is_tried_again(alloc: Global, flush_fails: bool, answers: &[u8], outcome: Outcome) -> bool {
+    let mut session = new_session(alloc);
+    let mut source = counted(alloc, b"tree t a\nshow t\n", false);
+    let mut sink = counted(alloc, b"", flush_fails);
+    let ended = run(alloc, &mut session, &mut source, &mut sink, settings(false));
+    ended == outcome && sink.inner.held.as_slice() == answers && source.failures == 0
+}
+
+// Interrupted reads and writes are tried again and don't count as failures; a flush that fails does.
+#[test]
+fn tries_again_and_flushes(rt: HostRuntime) -> Result<(), Fail> {
+    assert!(rt; is_tried_again(rt.alloc(), false, b"ok\na\n", ends(2, 0)));
+    assert!(rt; is_tried_again(rt.alloc(), true, b"", Err(RunFault::Write)));
+    Ok(())
+}
