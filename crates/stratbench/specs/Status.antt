@@ -1,9 +1,9 @@
 -- The exit status for the end of a run.
 use Rattle.std.specs.Prelude.{ℕ, ◌==◌, Ok, Err, if◌then◌else◌}
 use Rattle.std.specs.declared.result.Result.{Result}
-use Rattle.stratbench.specs.declared.run.Summary.{Summary}
-use Rattle.stratbench.specs.declared.run.RunFault.{RunFault}
-use Rattle.stratbench.specs.declared.run.RunFault.TheVariants.{Read, Write, Turns, Memory}
+use Rattle.script_core.specs.declared.running.Summary.{Summary}
+use Rattle.script_core.specs.declared.running.RunFault.{RunFault}
+use Rattle.script_core.specs.declared.running.RunFault.TheVariants.{Read, Write, Turns, Memory}
 
 -- 0 where all commands were accepted, 1 where some were refused, 3 where reading or writing failed,
 -- 4 where there was no memory

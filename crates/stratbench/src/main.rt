@@ -1,39 +1,108 @@
-//! Reads a script from standard input and answers each of its commands on standard output.
+//! Reads a script from a file or standard input and answers each of its commands on standard output.
 #![tactic(auto)]
 
-mod answer;
-mod command;
-pub mod laws;
-mod read;
-pub mod run;
-mod script;
+ghost use Rattle.script_core.specs.Steps.{AreSteps};
+
+mod arguments;
+mod status;
 #[cfg(test)]
 mod tests;
-mod write;
 
+use arguments::{CommandLine, arguments};
+use clap::Error;
+use clap::error::ErrorKind;
 use prim_core::{NoPrimitives, Primitives};
-use run::{RunFault, Summary, run, status};
+use script_core::{Counted, RunFault, Settings, Summary, run};
 use session_core::Session;
+use status::status;
 use std::alloc::Global;
-use std::io::BufWriter;
+use std::env;
+use std::fs::File;
+use std::io::{self, BufWriter, Read, Write};
 use std::process::ExitCode;
 
+// The exit status where the command line is refused.
+const REFUSED: u8 = 2;
+
 fn main(rt: HostRuntime) -> ExitCode {
-    let outcome = answer_input(&rt);
+    ExitCode::from(start(&rt))
+}
+
+// Reads the command line and runs the script. Answers the exit status.
+fn start(rt: &HostRuntime) -> u8 {
+    match words(rt) {
+        Ok(words) => start_with(rt, &words),
+        Err(error) if error.kind() == io::ErrorKind::OutOfMemory => {
+            report(rt, Err(RunFault::Memory))
+        }
+        Err(error) => {
+            let _ = eprintln!(rt; "stratbench: {error}");
+            REFUSED
+        }
+    }
+}
+
+fn start_with(rt: &HostRuntime, words: &[String]) -> u8 {
+    match arguments(rt.alloc(), words) {
+        Ok(line) => report(rt, run_script(rt, &line)),
+        Err(error) => refuse(rt, &error),
+    }
+}
+
+// The words of the command line, which have to be text.
+fn words(rt: &HostRuntime) -> io::Result<Vec<String>> {
+    Ok(env::args(rt)?.collect(rt.alloc())?)
+}
+
+// Prints the text of help, or why the command line is refused.
+fn refuse(rt: &HostRuntime, error: &Error) -> u8 {
+    if error.kind() == ErrorKind::OutOfMemory {
+        return report(rt, Err(RunFault::Memory));
+    }
+    let _ = error.print(rt);
+    error.exit_code() as u8
+}
+
+// Prints the fault of a run, if there was one.
+fn report(rt: &HostRuntime, outcome: Result<Summary, RunFault>) -> u8 {
     if let Err(fault) = &outcome {
         let _ = eprintln!(rt; "stratbench: {fault}");
     }
-    ExitCode::from(status(&outcome))
+    status(&outcome)
 }
 
-// Runs a new session over standard input and standard output.
-fn answer_input(rt: &HostRuntime) -> Result<Summary, RunFault> {
-    let alloc = rt.alloc();
-    let mut session = Session::new(alloc, no_primitives(alloc));
-    let Ok(mut writer) = BufWriter::new(alloc, rt.stdout()) else {
+// Runs a new session over the file, or over standard input where none is named.
+fn run_script(rt: &HostRuntime, line: &CommandLine<'_>) -> Result<Summary, RunFault>
+    requires { AreSteps line.now.steps }
+{
+    let Ok(writer) = BufWriter::new(rt.alloc(), rt.stdout()) else {
         return Err(RunFault::Memory);
     };
-    run(alloc, &mut session, &mut rt.stdin(), &mut writer)
+    match line.file {
+        None => run_between(rt.alloc(), line, rt.stdin(), writer),
+        Some(path) => match File::open(rt, path) {
+            Ok(file) => run_between(rt.alloc(), line, file, writer),
+            Err(_) => Err(RunFault::Read),
+        },
+    }
+}
+
+fn run_between<R: Read + Drop, W: Write + Drop>(
+    alloc: Global,
+    line: &CommandLine<'_>,
+    reader: R,
+    writer: W,
+) -> Result<Summary, RunFault>
+    requires { AreSteps line.now.steps }
+{
+    let mut session = Session::new(alloc, no_primitives(alloc));
+    let settings = Settings {
+        steps: line.steps,
+        stop: line.stop,
+    };
+    let mut source = Counted::new(reader);
+    let mut sink = Counted::new(writer);
+    run(alloc, &mut session, &mut source, &mut sink, settings)
 }
 
 fn no_primitives(alloc: Global) -> Primitives<NoPrimitives> {

@@ -1,6 +1,0 @@
-pub mod ScriptLemmas
-pub mod AnswerLemmas
-pub mod WriteLemmas
-pub mod RunLemmas
-pub mod LawLemmas
-pub mod DefinitionRows

@@ -1,5 +1,0 @@
-use Rattle.stratbench.proofs.LawLemmas.{Replied-one}
-use Rattle.stratbench.proofs.laws.one_run.Goals as goal
-
-pub returns : goal.returns
-returns c = Replied-one c.one_term.ensures

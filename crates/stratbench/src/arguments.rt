@@ -1,0 +1,70 @@
+//! The command line.
+
+ghost use Rattle.std.specs.Prelude.{◌≡◌, ◌≤◌, IfOk};
+ghost use Rattle.script_core.specs.Steps.{AreSteps};
+
+use clap::{Arg, ArgAction, ArgMatches, Command, Error, value_parser};
+use script_core::MAX_STEPS;
+use std::alloc::{AllocError, Global};
+use std::convert::AsStr;
+
+/// The budget of a command that names none, where the command line names none either.
+pub const DEFAULT_STEPS: u32 = 100_000;
+
+/// What the command line says.
+#[derive(Clone, Copy, Debug, PartialEq, Eq)]
+pub struct CommandLine<'a> {
+    /// The budget of commands that name none, from 1 to 1,000,000.
+    pub steps: u32,
+    /// Whether the run ends behind the first command that is refused.
+    pub stop: bool,
+    /// The file that the script is read from, or none for standard input.
+    pub file: Option<&'a str>,
+}
+
+/// Reads the command line, the program's name first: `[--steps N] [--stop] [FILE]`.
+///
+/// Errors: those of `clap`, among them the text of help that was asked for, and want of memory.
+pub fn arguments<'a, S: AsStr>(alloc: Global, words: &'a [S]) -> Result<CommandLine<'a>, Error>
+    ensures steps { IfOk result (λ arguments. AreSteps arguments.steps) }
+{
+    let matches = command(alloc)?.try_get_matches_from(words)?;
+    Ok(CommandLine {
+        steps: steps(&matches),
+        stop: matches.get_flag("stop"),
+        file: matches.get_str("file"),
+    })
+}
+
+fn command<'a>(alloc: Global) -> Result<Command<'a>, AllocError> {
+    let steps = Arg::new(alloc, "steps")
+        .long("steps")
+        .value_name("N")
+        .value_parser(value_parser!(u32).range(1..=MAX_STEPS as i64))
+        .default_value("100000")
+        .help("The steps that a strategy may take, where the command doesn't say");
+    let stop = Arg::new(alloc, "stop")
+        .long("stop")
+        .action(ArgAction::SetTrue)
+        .help("Ends the run after the first command that is refused");
+    let file = Arg::new(alloc, "file")
+        .value_name("FILE")
+        .help("The script, or standard input where there is none");
+    Command::new(alloc, "stratbench")
+        .about(
+            "Transforms program trees by the commands of a script, and takes back what they changed",
+        )
+        .arg(steps)?
+        .arg(stop)?
+        .arg(file)
+}
+
+// The number of steps, which the parser holds in its range.
+fn steps(matches: &ArgMatches<'_>) -> u32
+    ensures { AreSteps result }
+{
+    match matches.get_one::<u32>("steps") {
+        Some(steps) if steps >= 1 && steps <= MAX_STEPS => steps,
+        _ => DEFAULT_STEPS,
+    }
+}
