@@ -1,6 +1,7 @@
 pub mod Syntax
 pub mod Resolved
 pub mod Modules
+pub mod Variables
 pub mod Codes
 pub mod ResolvedCodes
 pub mod Heads

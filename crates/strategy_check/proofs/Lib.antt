@@ -1,0 +1,11 @@
+pub mod NameLemmas
+pub mod BinderLemmas
+pub mod FaultLemmas
+pub mod FirstLemmas
+pub mod FreeLemmas
+pub mod GroupLemmas
+pub mod PlaceLemmas
+pub mod BodyLemmas
+pub mod ListLemmas
+pub mod RangeLemmas
+pub mod ProgramLemmas

@@ -1,0 +1,16 @@
+use Rattle.std.proofs.Common.{◌≡◌, ◌+◌, ◌*◌, drop}
+use Rattle.strategy_syntax.specs.Syntax.{patterns_of}
+use Rattle.strategy_syntax.specs.PatternView.{pattern_depth, patterns_depth}
+use Rattle.strategy_check.specs.FirstFault.{first_in_patterns}
+use Rattle.strategy_check.proofs.patterns.+pattern.Given as goal
+
+abbrev pub decreases-check_pattern : goal.decreases-check_pattern
+decreases-check_pattern l = 2 * pattern_depth l.pattern.now
+
+abbrev pub decreases-check_patterns : goal.decreases-check_patterns
+decreases-check_patterns l = 2 * patterns_depth (patterns_of l.patterns.now) + 1
+
+-- the first fault of what is left is that of all
+abbrev pub invariant-check_patterns-loop-pattern : goal.invariant-check_patterns-loop-pattern
+invariant-check_patterns-loop-pattern l =
+    first_in_patterns l.table l.building (patterns_of (drop l.pattern-index l.patterns)) ≡ first_in_patterns l.table l.building (patterns_of l.patterns)

@@ -1,0 +1,33 @@
+use Rattle.std.proofs.Common.{[], map, ap, sym, ◌∙◌, subst}
+use Rattle.strategy_check.specs.Tables.{table_of, definitions_of}
+use Rattle.strategy_check.specs.Faults.{faults, first}
+use Rattle.strategy_check.specs.FirstFault.{first_in_modules, IsTold}
+use Rattle.strategy_check.specs.Programs.{joined_definition, groups}
+use Rattle.strategy_check.specs.Ranges.{IsSound}
+use Rattle.strategy_check.proofs.FaultLemmas.{told_err}
+use Rattle.strategy_check.proofs.FirstLemmas.{first-modules, none_first}
+use Rattle.strategy_check.proofs.ProgramLemmas.{program_sound}
+use Rattle.strategy_check.proofs.program.check.Goals as goal
+
+pub returns-clause-faultless : goal.returns-clause-faultless
+returns-clause-faultless g c =
+    let ms = c.args.modules.now in
+    let P = c.args.primitives.now in
+    none_first (faults ms P) (first-modules (table_of ms) P [] ms ∙ ap (λ T. first_in_modules T P [] ms) (sym c.in_ok-table.ensures) ∙ c.in_ok-check_modules.ensures)
+
+pub returns-in_err-check_modules-clause-fault : goal.returns-in_err-check_modules-clause-fault
+returns-in_err-check_modules-clause-fault g c =
+    let ms = c.args.modules.now in
+    let P = c.args.primitives.now in
+    let e = c.in_err-check_modules.field-0.0 in
+    told_err c.from_residual-in_err-check_modules.result e (first (faults ms P)) c.from_residual-in_err-check_modules.ensures
+    (subst (IsTold e) (ap (λ T. first_in_modules T P [] ms) c.in_ok-table.ensures ∙ sym (first-modules (table_of ms) P [] ms)) c.in_err-check_modules.ensures)
+
+pub returns-clause-in_range : goal.returns-clause-in_range
+returns-clause-in_range g c =
+    let ms = c.args.modules.now in
+    let P = c.args.primitives.now in
+    let bodies = c.in_ok-bodies.ensures ∙ ap (map (joined_definition c.in_ok-table.table P)) (c.as_slice.ensures.value ∙ c.in_ok-groups.ensures)
+    ∙ ap (λ T. map (joined_definition T P) (groups T (definitions_of ms))) c.in_ok-table.ensures in
+    subst (λ p. IsSound p P) (sym (λ i. record { table = c.in_ok-table.ensures i; bodies = bodies i }))
+    (program_sound ms P (returns-clause-faultless g c))

@@ -1,0 +1,35 @@
+-- What the binders that are kept stand for.
+use Rattle.std.specs.Prelude.{◌≡◌, ℕ, List, [], ◌∷◌, reverse, map, ⊤}
+use Rattle.std.specs.declared.option.Option.{Option}
+use Rattle.std.specs.Option.{option_flatten}
+use Rattle.std.specs.declared.hash.FoldHasher.{FoldHasher}
+use Rattle.std.specs.declared.hash.BuildHasherDefault.{BuildHasherDefault}
+use Rattle.std.specs.HashMap.{get, HashMap}
+use Rattle.term_core.specs.Tree.{Symbol}
+use Rattle.strategy_syntax.specs.Variables.{same_name}
+use Rattle.strategy_check.specs.Binders.{Binder, number_of}
+use Rattle.strategy_check.specs.declared.binders.Entry.{Entry}
+
+-- what names stand for
+abbrev pub Numbers : Type 0
+Numbers = HashMap Symbol (Option ℕ) (BuildHasherDefault FoldHasher)
+
+abbrev pub number_in : Numbers → Symbol → Option ℕ
+number_in m f = option_flatten (get same_name m f)
+
+abbrev pub binder_of : Entry → Binder
+binder_of e = record { name = e.name; number = e.number }
+
+-- the innermost first; what is kept has the outermost first
+abbrev pub binders_of : List Entry → List Binder
+binders_of es = map binder_of (reverse es)
+
+-- each entry keeps what its name stands for outside
+abbrev pub Hides : List Entry → Type 0
+Hides [] = ⊤
+Hides (e ∷ es) = (e.hidden ≡ number_of e.name (map binder_of es)) × Hides es
+
+-- the map says what each name stands for, inside and outside of each entry
+pub record IsKept (m : Numbers) (es : List Entry) : Type 0 where
+  pub numbers : (f : Symbol) → number_in m f ≡ number_of f (binders_of es)
+  pub hidden : Hides (reverse es)

@@ -1,0 +1,15 @@
+pub mod Lists
+pub mod Binders
+pub mod Words
+pub mod Tables
+pub mod TableCodes
+pub mod Faults
+pub mod Free
+pub mod Resolving
+pub mod Programs
+pub mod ProgramCodes
+pub mod Ranges
+pub mod FirstFault
+pub mod Grouping
+pub mod Met
+pub mod BinderView

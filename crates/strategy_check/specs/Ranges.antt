@@ -1,0 +1,64 @@
+-- When each number in a resolved strategy is in range of what it counts.
+use Rattle.std.specs.Prelude.{◌≡◌, ℕ, suc, ◌+◌, ◌<◌, List, length, slice_get, IsSomeAnd, Some, ⊤}
+use Rattle.strategy_syntax.specs.Resolved.{Place, wildcard, variable, at, number, compound, with_tail, annotated, Places, no_places, and_place, place_list, ResolvedStrategy, id, fail, matches, builds, seq, guard, test, scope, param, call, congruence, tail_congruence, all, one, some, child, rec, prim, ResolvedStrategies, no_strategies, and_strategy, resolved_list}
+use Rattle.strategy_syntax.specs.declared.resolved.Resolved.{Resolved}
+use Rattle.strategy_check.specs.Tables.{Signature}
+use Rattle.strategy_check.specs.Faults.{Primitives}
+use Rattle.strategy_check.specs.Programs.{Program}
+
+-- each variable is below the number of variables
+abbrev mutual
+  pub PlaceInRange : ℕ → Place → Type 0
+  PlaceInRange n wildcard = ⊤
+  PlaceInRange n (variable x) = x < n
+  PlaceInRange n (at x p) = (x < n) × PlaceInRange n p
+  PlaceInRange n (number z) = ⊤
+  PlaceInRange n (compound h ps) = PlacesInRange n ps
+  PlaceInRange n (with_tail ps p) = PlacesInRange n ps × PlaceInRange n p
+  PlaceInRange n (annotated p ps) = PlaceInRange n p × PlacesInRange n ps
+
+  pub PlacesInRange : ℕ → Places → Type 0
+  PlacesInRange n no_places = ⊤
+  PlacesInRange n (and_place p ps) = PlaceInRange n p × PlacesInRange n ps
+
+-- Where there are so many variables and strategy names round the strategy: each of their numbers is
+-- below that, a call is of a definition that takes as many strategies and terms, and a primitive is
+-- one that takes as many terms.
+abbrev mutual
+  pub InRange : List Signature → Primitives → ℕ → ℕ → ResolvedStrategy → Type 0
+  InRange D P n m id = ⊤
+  InRange D P n m fail = ⊤
+  InRange D P n m (matches p) = PlaceInRange n p
+  InRange D P n m (builds p) = PlaceInRange n p
+  InRange D P n m (seq r s) = InRange D P n m r × InRange D P n m s
+  InRange D P n m (guard q r s) = InRange D P n m q × (InRange D P n m r × InRange D P n m s)
+  InRange D P n m (test s) = InRange D P n m s
+  InRange D P n m (scope k s) = InRange D P (n + k) m s
+  InRange D P n m (param x) = x < m
+  InRange D P n m (call f ss ps) =
+      IsSomeAnd (slice_get D f) (λ k. (k.strategies ≡ length (resolved_list ss)) × (k.terms ≡ length (place_list ps)))
+      × (AllInRange D P n m ss × PlacesInRange n ps)
+  InRange D P n m (congruence h ss) = AllInRange D P n m ss
+  InRange D P n m (tail_congruence ss s) = AllInRange D P n m ss × InRange D P n m s
+  InRange D P n m (all s) = InRange D P n m s
+  InRange D P n m (one s) = InRange D P n m s
+  InRange D P n m (some s) = InRange D P n m s
+  InRange D P n m (child i s) = InRange D P n m s
+  InRange D P n m (rec s) = InRange D P n (suc m) s
+  InRange D P n m (prim f ps) =
+      IsSomeAnd (slice_get P f) (λ p. length (place_list ps) ≡ p.arity) × PlacesInRange n ps
+
+  pub AllInRange : List Signature → Primitives → ℕ → ℕ → ResolvedStrategies → Type 0
+  AllInRange D P n m no_strategies = ⊤
+  AllInRange D P n m (and_strategy s ss) = InRange D P n m s × AllInRange D P n m ss
+
+-- a whole strategy, where so many terms and strategy names have the first numbers
+abbrev pub IsInRange : Program → Primitives → ℕ → ℕ → Resolved → Type 0
+IsInRange p P terms strategies r =
+    InRange p.table.definitions P (terms + r.variables) strategies r.strategy
+
+-- each definition of the program has a body, which is in range where its parameters are given
+abbrev pub IsSound : Program → Primitives → Type 0
+IsSound p P =
+    (f : ℕ) (k : Signature) → slice_get p.table.definitions f ≡ Some k
+    → IsSomeAnd (slice_get p.bodies f) (λ r. IsInRange p P k.terms k.strategies r)

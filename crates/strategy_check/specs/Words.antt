@@ -1,0 +1,13 @@
+-- The words for the kinds of faults.
+use Rattle.std.specs.Prelude.{ℕ, List, codes}
+use Rattle.strategy_check.specs.declared.fault.Kind.{Kind}
+use Rattle.strategy_check.specs.declared.fault.Kind.TheVariants.{Parameter, Twice, Clash, Unknown, Undeclared, Wild, Primitive}
+
+abbrev pub word_of : Kind → List ℕ
+word_of Parameter = codes "parameter"
+word_of Twice = codes "twice"
+word_of Clash = codes "clash"
+word_of Unknown = codes "unknown"
+word_of Undeclared = codes "undeclared"
+word_of Wild = codes "wild"
+word_of Primitive = codes "primitive"

@@ -1,0 +1,121 @@
+//! Names with the numbers of their binders, the innermost of which counts.
+#![tactic(auto)]
+
+ghost use Rattle.std.specs.Prelude.{◌≡◌, ◌+◌, ◌∷◌, [], drop, length, IfOk, OnOk};
+ghost use Rattle.strategy_check.specs.Binders.{number_of, bound_from};
+
+use crate::key::Key;
+use std::alloc::Global;
+use std::collections::HashMap;
+use std::marker::Model;
+use term_core::{Name, NoMemory};
+
+/// Names with numbers, one inside the other. A name stands for the number of the innermost of this
+/// name, which is found through a map.
+#[derive(Drop)]
+pub struct Binders {
+    entries: Vec<Entry>,
+    // what each name stands for now, or None where its binders are closed
+    numbers: HashMap<Key, Option<usize>>,
+}
+
+#[derive(Drop)]
+struct Entry {
+    name: Name,
+    number: usize,
+    // what the name stands for outside
+    hidden: Option<usize>,
+}
+
+impl Model for Binders {
+    ghost use Rattle.std.specs.Prelude.{List};
+    ghost use Rattle.strategy_check.specs.Binders.{Binder};
+    ghost use Rattle.strategy_check.specs.BinderView.{binders_of, IsKept};
+
+    ghost Value = { List Binder };
+
+    ghost view = { λ b. binders_of b.entries.items };
+
+    ghost invariant = { λ b. IsKept b.numbers b.entries.items };
+}
+
+impl Binders {
+    /// No binders.
+    pub fn new(alloc: Global) -> Binders
+        ensures { result ≡ [] }
+    {
+        Binders {
+            entries: Vec::new(alloc),
+            numbers: HashMap::new(alloc),
+        }
+    }
+
+    /// How many there are.
+    pub fn len(&self) -> usize
+        ensures { result ≡ length self.now }
+    {
+        self.entries.len()
+    }
+
+    /// The number that the name stands for, or `None` where it has no binder.
+    pub fn number(&self, name: &Name) -> Result<Option<usize>, NoMemory>
+        ensures { IfOk result (λ found. found ≡ number_of name.now self.now) }
+    {
+        let key = Key::new(name)?;
+        Ok(self.numbers.get(&key).copied().flatten())
+    }
+
+    /// One more inside, of this name and number.
+    pub fn open(&mut self, name: &Name, number: usize) -> Result<(), NoMemory>
+        ensures { OnOk result (self.new
+            ≡ record { name = name.now; number = number } ∷ self.old) }
+    {
+        let key = Key::new(name)?;
+        let name = name.try_clone()?;
+        self.entries.reserve(1)?;
+        let hidden = self.numbers.insert(key, Some(number))?.flatten();
+        let entry = Entry {
+            name,
+            number,
+            hidden,
+        };
+        self.entries.push_reserved(entry);
+        Ok(())
+    }
+
+    /// These names inside, numbered from `first` on. Gives the number behind the last.
+    pub fn open_all(&mut self, names: &[Name], first: usize) -> Result<usize, NoMemory>
+        ensures binders { OnOk result (self.new ≡ bound_from first names.now self.old) }
+        ensures next { IfOk result (λ next. next ≡ first + length names.now) }
+    {
+        let mut number = first;
+        for name in names {
+            self.open(name, number)?;
+            number = number.checked_add(1).ok_or(NoMemory)?;
+        }
+        Ok(number)
+    }
+
+    /// Without the innermost, where there is one.
+    pub fn close(&mut self) -> Result<(), NoMemory>
+        ensures { OnOk result (self.new ≡ drop 1 self.old) }
+    {
+        let Some(last) = self.entries.last() else {
+            return Ok(());
+        };
+        let key = Key::new(&last.name)?;
+        self.numbers.insert(key, last.hidden)?;
+        self.entries.pop();
+        Ok(())
+    }
+
+    /// Without so many of the innermost.
+    pub fn close_all(&mut self, count: usize) -> Result<(), NoMemory>
+        ensures { OnOk result (self.new ≡ drop count self.old) }
+    {
+        for _ in 0..count {
+            self.close()?;
+        }
+        Ok(())
+    }
+}

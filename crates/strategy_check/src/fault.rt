@@ -1,0 +1,84 @@
+//! The faults that the checker finds.
+
+ghost use Rattle.std.specs.Prelude.{◌≡◌, true};
+ghost use Rattle.strategy_check.specs.FirstFault.{IsTold, fault_when};
+ghost use Rattle.strategy_check.specs.Words.{word_of};
+
+use std::fmt;
+use term_core::{Name, NoMemory};
+use thiserror::Error;
+
+/// The kinds of faults.
+#[derive(Clone, Copy, Debug, PartialEq, Eq)]
+pub enum Kind {
+    /// A name stands twice in a head or a scope, or a strategy parameter has arguments.
+    Parameter,
+    /// A module before defines the same name with as many parameters.
+    Twice,
+    /// A definition without term parameters has the name of a constructor of as many arguments.
+    Clash,
+    /// A name is no parameter, no definition and no constructor.
+    Unknown,
+    /// A pattern has a constructor that no module declares with as many arguments.
+    Undeclared,
+    /// `_` or `x@p` stands where a term is built.
+    Wild,
+    /// There is no primitive of this name and number of arguments.
+    Primitive,
+}
+
+impl Kind {
+    /// The word by which a refusal names the kind.
+    pub fn word(self) -> &'static str
+        ensures { result.now ≡ word_of self }
+    {
+        match self {
+            Kind::Parameter => "parameter",
+            Kind::Twice => "twice",
+            Kind::Clash => "clash",
+            Kind::Unknown => "unknown",
+            Kind::Undeclared => "undeclared",
+            Kind::Wild => "wild",
+            Kind::Primitive => "primitive",
+        }
+    }
+}
+
+/// Why modules give no program, or a strategy can't be resolved.
+#[derive(Drop, Error)]
+pub enum CheckFault {
+    /// A growth of memory was refused.
+    #[error("memory")]
+    Memory,
+    /// The first fault: its kind, the name, and two numbers, mostly of strategies and of terms. The
+    /// name is quoted for `Primitive`, else a word.
+    #[error("{}", .0.word())]
+    Fault(Kind, Name, u64, u64),
+}
+
+impl fmt::Debug for CheckFault {
+    fn fmt<W: fmt::Write>(&self, f: &mut fmt::Formatter<W>) -> Result<(), fmt::Error> {
+        fmt::Display::fmt(self, f)
+    }
+}
+
+impl From<NoMemory> for CheckFault {
+    ghost use Rattle.std.specs.Prelude.{◌≡◌};
+    ghost use Rattle.strategy_check.specs.declared.fault.CheckFault.{CheckFault};
+
+    ghost from_gives = { λ _ e. e ≡ CheckFault.Memory };
+
+    fn from(_refused: NoMemory) -> CheckFault {
+        CheckFault::Memory
+    }
+}
+
+/// This fault, or `Memory` where memory was refused.
+pub fn fault(kind: Kind, name: &Name, first: usize, second: usize) -> CheckFault
+    ensures { IsTold result (fault_when true kind name.now first second) }
+{
+    match name.try_clone() {
+        Ok(name) => CheckFault::Fault(kind, name, first as u64, second as u64),
+        Err(_) => CheckFault::Memory,
+    }
+}

@@ -1,0 +1,81 @@
+//! The first fault in a list of names and in the head of a definition.
+#![tactic(auto, using(crate::proofs::FaultLemmas::told))]
+
+ghost use Rattle.std.specs.Prelude.{◌≡◌, ◌∷◌, ◌++◌, [], OnOk};
+ghost use Rattle.indexmap.specs.IndexSet.{insert_key};
+ghost use Rattle.strategy_syntax.specs.Variables.{same_name};
+ghost use Rattle.strategy_check.specs.FirstFault.{Tells, first_repeated, first_in_definition_head};
+
+use crate::fault::fault;
+use crate::key::{Key, Signature};
+use crate::table::Table;
+use crate::{CheckFault, Kind};
+use indexmap::IndexSet;
+use std::alloc::Global;
+use strategy_syntax::Definition;
+use term_core::{Name, NoMemory};
+
+/// The fault of a list of names, which is in two parts, in which one stands twice.
+pub fn check_names(alloc: Global, names: &[Name], further: &[Name]) -> Result<(), CheckFault>
+    ensures { Tells result (first_repeated [] (names.now ++ further.now)) }
+{
+    let mut seen = IndexSet::new(alloc);
+    check_distinct(&mut seen, names)?;
+    check_distinct(&mut seen, further)
+}
+
+// The fault of the first name that was seen before.
+fn check_distinct(seen: &mut IndexSet<Key>, names: &[Name]) -> Result<(), CheckFault>
+    ensures told { Tells result (first_repeated seen.old.keys names.now) }
+    ensures seen { OnOk result (seen.new.keys ≡ seen.old.keys ++ names.now) }
+{
+    for name in names {
+        check_new(seen, name)?;
+    }
+    Ok(())
+}
+
+fn check_new(seen: &mut IndexSet<Key>, name: &Name) -> Result<(), CheckFault>
+    ensures told { Tells result (first_repeated seen.old.keys (name.now ∷ [])) }
+    ensures seen { OnOk result (seen.new.keys ≡ seen.old.keys ++ name.now ∷ []) }
+{
+    let key = Key::new(name)?;
+    if seen.contains(&key) {
+        return Err(fault(Kind::Parameter, name, 0, 0));
+    }
+    add_name(seen, key)?;
+    Ok(())
+}
+
+fn add_name(seen: &mut IndexSet<Key>, key: Key) -> Result<bool, NoMemory>
+    ensures { OnOk result (seen.new.keys ≡ insert_key same_name seen.old.keys key) }
+{
+    Ok(seen.insert(key)?)
+}
+
+/// The first fault in the head of a definition, where these are defined in modules before.
+pub fn check_head(
+    alloc: Global,
+    table: &Table,
+    earlier: &IndexSet<Signature>,
+    definition: &Definition,
+) -> Result<(), CheckFault>
+    ensures { Tells result
+        (first_in_definition_head table.now earlier.now.keys definition.now) }
+{
+    check_names(
+        alloc,
+        definition.strategy_parameters(),
+        definition.term_parameters(),
+    )?;
+    let strategies = definition.strategy_parameters().len();
+    let terms = definition.term_parameters().len();
+    let name = definition.name();
+    if earlier.contains(&Signature::new(name, strategies, terms)?) {
+        return Err(fault(Kind::Twice, name, strategies, terms));
+    }
+    if terms == 0 && table.declares(name, strategies)? {
+        return Err(fault(Kind::Clash, name, strategies, 0));
+    }
+    Ok(())
+}

@@ -1,0 +1,24 @@
+//! Whether modules and strategies keep the rules of names, and what they are with numbers in the
+//! places of names.
+#![tactic(auto)]
+
+mod binders;
+mod bodies;
+mod fault;
+mod free;
+mod groups;
+mod heads;
+mod key;
+mod modules;
+mod patterns;
+mod places;
+mod program;
+mod scope;
+mod strategies;
+mod table;
+
+pub use fault::{CheckFault, Kind};
+pub use program::{Program, check, resolve};
+
+#[cfg(test)]
+mod tests;

@@ -1,0 +1,86 @@
+//! What stands round a part of a strategy while it is resolved.
+#![tactic(auto)]
+
+ghost use Rattle.std.specs.Prelude.{◌≡◌, IfOk, OnOk};
+ghost use Rattle.strategy_check.specs.Binders.{number_of};
+ghost use Rattle.strategy_check.specs.Resolving.{variable_number, with_variables, with_name, without_variables, without_name};
+
+use crate::binders::Binders;
+use std::marker::Model;
+use term_core::{Name, NoMemory};
+
+/// The binders of variables, how many variables there have been, and the binders of strategy names.
+#[derive(Drop)]
+pub struct Scope {
+    variables: Binders,
+    count: usize,
+    names: Binders,
+}
+
+impl Model for Scope {
+    ghost use Rattle.strategy_check.specs.Resolving.{Scope};
+
+    ghost Value = { Scope };
+
+    ghost view = { λ s. record { variables = s.variables; count = s.count; names = s.names } };
+}
+
+impl Scope {
+    /// The scope of these variables and strategy names; further variables are numbered from `count`
+    /// on.
+    pub fn new(variables: Binders, count: usize, names: Binders) -> Scope
+        ensures { result ≡ record { variables = variables; count = count; names = names } }
+    {
+        Scope {
+            variables,
+            count,
+            names,
+        }
+    }
+
+    /// The number of a variable; 0 where it has no binder.
+    pub fn variable(&self, name: &Name) -> Result<usize, NoMemory>
+        ensures { IfOk result (λ number. number ≡ variable_number self.now.variables name.now) }
+    {
+        Ok(self.variables.number(name)?.unwrap_or(0))
+    }
+
+    /// The number of a strategy name, or `None` where it has no binder.
+    pub fn strategy(&self, name: &Name) -> Result<Option<usize>, NoMemory>
+        ensures { IfOk result (λ found. found ≡ number_of name.now self.now.names) }
+    {
+        self.names.number(name)
+    }
+
+    /// With new variables inside.
+    pub fn open_variables(&mut self, names: &[Name]) -> Result<(), NoMemory>
+        ensures { OnOk result (self.new ≡ with_variables self.old names.now) }
+    {
+        self.count = self.variables.open_all(names, self.count)?;
+        Ok(())
+    }
+
+    /// Without so many of the innermost variables.
+    pub fn close_variables(&mut self, count: usize) -> Result<(), NoMemory>
+        ensures { OnOk result (self.new ≡ without_variables self.old count) }
+    {
+        self.variables.close_all(count)?;
+        self.count = self.count.saturating_sub(count);
+        Ok(())
+    }
+
+    /// With a new strategy name inside.
+    pub fn open_name(&mut self, name: &Name) -> Result<(), NoMemory>
+        ensures { OnOk result (self.new ≡ with_name self.old name.now) }
+    {
+        let number = self.names.len();
+        self.names.open(name, number)
+    }
+
+    /// Without the innermost strategy name.
+    pub fn close_name(&mut self) -> Result<(), NoMemory>
+        ensures { OnOk result (self.new ≡ without_name self.old) }
+    {
+        self.names.close()
+    }
+}

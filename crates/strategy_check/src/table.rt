@@ -1,0 +1,100 @@
+//! What modules define and declare, all together.
+#![tactic(auto)]
+
+ghost use Rattle.std.specs.Prelude.{◌≡◌, IfOk, OnOk};
+ghost use Rattle.strategy_check.specs.Lists.{with_new};
+ghost use Rattle.strategy_check.specs.Tables.{definition_number, is_declared, same_signature, same_constructor, signatures_of, table_of};
+
+use crate::key::{Declared, Signature};
+use indexmap::IndexSet;
+use std::alloc::Global;
+use std::marker::Model;
+use strategy_syntax::{Constructor, Definition, Module};
+use term_core::{Label, Name, NoMemory};
+
+/// The signatures of the definitions, whose places are the numbers of these, and the constructors.
+#[derive(Drop)]
+pub struct Table {
+    pub definitions: IndexSet<Signature>,
+    pub constructors: IndexSet<Declared>,
+}
+
+impl Model for Table {
+    ghost use Rattle.strategy_check.specs.Tables.{Table};
+
+    ghost Value = { Table };
+
+    ghost view = { λ t. record {
+      definitions = t.definitions.keys;
+      constructors = t.constructors.keys;
+    } };
+}
+
+impl Table {
+    /// The table of the modules, one after the other.
+    pub fn new(alloc: Global, modules: &[(Label, Module)]) -> Result<Table, NoMemory>
+        ensures { IfOk result (λ table. table ≡ table_of modules.now) }
+    {
+        let mut definitions = IndexSet::new(alloc);
+        let mut constructors = IndexSet::new(alloc);
+        for (_, module) in modules {
+            add_definitions(&mut definitions, module.definitions())?;
+            add_constructors(&mut constructors, module.constructors())?;
+        }
+        Ok(Table {
+            definitions,
+            constructors,
+        })
+    }
+
+    /// The number of the definition of this name for so many strategies and terms.
+    pub fn definition(
+        &self,
+        name: &Name,
+        strategies: usize,
+        terms: usize,
+    ) -> Result<Option<usize>, NoMemory>
+        ensures { IfOk result (λ found. found
+            ≡ definition_number self.now name.now strategies terms) }
+    {
+        let signature = Signature::new(name, strategies, terms)?;
+        Ok(self.definitions.get_index_of(&signature))
+    }
+
+    /// Whether the constructor of this name and number of arguments is declared.
+    pub fn declares(&self, name: &Name, arity: usize) -> Result<bool, NoMemory>
+        ensures { IfOk result (λ found. found ≡ is_declared self.now name.now arity) }
+    {
+        let constructor = Declared::new(name, arity)?;
+        Ok(self.constructors.contains(&constructor))
+    }
+}
+
+/// Adds the signatures of the definitions, each once.
+pub fn add_definitions(
+    signatures: &mut IndexSet<Signature>,
+    definitions: &[Definition],
+) -> Result<(), NoMemory>
+    ensures { OnOk result (signatures.new.keys
+        ≡ with_new same_signature signatures.old.keys (signatures_of definitions.now)) }
+{
+    for definition in definitions {
+        let strategies = definition.strategy_parameters().len();
+        let terms = definition.term_parameters().len();
+        signatures.insert(Signature::new(definition.name(), strategies, terms)?)?;
+    }
+    Ok(())
+}
+
+fn add_constructors(
+    declared: &mut IndexSet<Declared>,
+    constructors: &[Constructor],
+) -> Result<(), NoMemory>
+    ensures { OnOk result (declared.new.keys
+        ≡ with_new same_constructor declared.old.keys constructors.now) }
+{
+    for constructor in constructors {
+        declared.insert(Declared::new(constructor.name(), constructor.arity())?)?;
+    }
+    Ok(())
+}

@@ -1,0 +1,25 @@
+-- The variables of patterns, and when two names are the same.
+use Rattle.std.specs.Prelude.{Bool, ◌&&◌, List, [], ◌∷◌, ◌++◌}
+use Rattle.std.specs.Bool.{beq}
+use Rattle.std.specs.Str.{bytes_eq}
+use Rattle.term_core.specs.Tree.{Symbol}
+use Rattle.strategy_syntax.specs.Syntax.{Pattern, wildcard, variable, at, number, compound, with_tail, annotated, Patterns, no_patterns, and_pattern}
+
+abbrev pub same_name : Symbol → Symbol → Bool
+same_name f g = beq f.is_quoted g.is_quoted && bytes_eq f.text g.text
+
+-- the variables of a pattern: the outer one first, then its parts from left to right, then its
+-- annotations
+abbrev mutual
+  pub variables : Pattern → List Symbol
+  variables wildcard = []
+  variables (variable x) = x ∷ []
+  variables (at x p) = x ∷ variables p
+  variables (number z) = []
+  variables (compound h ps) = variables_of_all ps
+  variables (with_tail ps p) = variables_of_all ps ++ variables p
+  variables (annotated p ps) = variables p ++ variables_of_all ps
+
+  pub variables_of_all : Patterns → List Symbol
+  variables_of_all no_patterns = []
+  variables_of_all (and_pattern p ps) = variables p ++ variables_of_all ps
