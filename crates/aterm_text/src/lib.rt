@@ -7,7 +7,7 @@ mod printer;
 mod reader;
 
 pub use brackets::nesting;
-pub use printer::print;
+pub use printer::{print, print_name};
 pub use reader::{ReadFault, after_blanks, is_blank, read, read_annotations};
 
 /// The greatest number of brackets that may be open at one place of a text.

@@ -36,6 +36,23 @@ pub fn print(term: &Term, out: &mut Vec<u8>) -> Result<(), NoMemory>
     printed
 }
 
+/// Appends the name as it is printed in a term: a word as it stands, a quoted name in quotes with its
+/// escapes.
+///
+/// Where a growth of memory is refused, `out` is as before. Its capacity never shrinks.
+pub fn print_name(name: &Name, out: &mut Vec<u8>) -> Result<(), NoMemory>
+    ensures ok { OnOk result (out.new.items ≡ out.old.items ++ print_name_of name.now) }
+    ensures err { OnErr result (out.new.items ≡ out.old.items) }
+    ensures room { vec_capacity out.old ≤ vec_capacity out.new }
+{
+    let start = out.len();
+    let printed = append_name(name, out);
+    if printed.is_err() {
+        out.truncate(start);
+    }
+    printed
+}
+
 #[cycle(print)]
 fn print_term(term: &Term, out: &mut Vec<u8>) -> Result<(), NoMemory>
     ensures ok { OnOk result (out.new.items ≡ out.old.items ++ print_of term.now) }
@@ -58,7 +75,7 @@ fn print_bare(term: &Term, out: &mut Vec<u8>) -> Result<(), NoMemory>
     match term.kind() {
         Kind::Integer(value) => print_integer(value, out),
         Kind::Application(name) => {
-            print_name(name, out)?;
+            append_name(name, out)?;
             print_bracketed(b'(', term.children(), b')', out)
         }
         Kind::List => print_between(b'[', term.children(), b']', out),
@@ -135,7 +152,7 @@ fn print_integer(value: i64, out: &mut Vec<u8>) -> Result<(), NoMemory>
     Ok(())
 }
 
-fn print_name(name: &Name, out: &mut Vec<u8>) -> Result<(), NoMemory>
+fn append_name(name: &Name, out: &mut Vec<u8>) -> Result<(), NoMemory>
     ensures ok { OnOk result (out.new.items ≡ out.old.items ++ print_name_of name.now) }
     ensures name { IsName name.now }
     ensures err { Extends out.old.items out.new.items }
