@@ -13,11 +13,28 @@ use Rattle.session_core.specs.Unfolded.{unfolded, IsPlaceOf}
 use Rattle.session_core.specs.declared.timeline.Timeline.{Timeline}
 use Rattle.session_core.specs.declared.refusal.Refusal.{Refusal}
 use Rattle.session_core.specs.declared.refusal.Refusal.TheVariants.{Memory, NoTree, Path, Group as InGroup, NoGroup}
-use Rattle.session_core.proofs.SoundLemmas.{act_sound}
+use Rattle.session_core.proofs.SoundLemmas.{Asks, act_sound}
 
 pub on_err : {A E : Type 0} {P : Type 0} (r : Result A E) → P → OnErr r P
 on_err (Ok x) p = tt
 on_err (Err e) p = p
+
+module _ {A E : Type 0} {P Q : Type 0} where
+  pub each_ok : (r : Result A E) → (P → Q) → OnOk r P → OnOk r Q
+  each_ok (Ok x) f p = f p
+  each_ok (Err e) f p = tt
+
+  pub each_err : (r : Result A E) → (P → Q) → OnErr r P → OnErr r Q
+  each_err (Ok x) f p = tt
+  each_err (Err e) f p = f p
+
+pub both_ok : {A E : Type 0} {P Q S : Type 0} (r : Result A E) → (P → Q → S) → OnOk r P → OnOk r Q → OnOk r S
+both_ok (Ok x) f p q = f p q
+both_ok (Err e) f p q = tt
+
+pub each_refusal : {A E : Type 0} {P Q : E → Type 0} (r : Result A E) → ((e : E) → P e → Q e) → IfErr r P → IfErr r Q
+each_refusal (Ok x) f p = tt
+each_refusal (Err e) f p = f e p
 
 -- a tree that was put in the slot of its name
 pub tree_told : (t m n : Timeline) (name : List ℕ) (tree : Tree) (i : ℕ) (e : Entry) (ps : List Signature) → slot_of m.store.trees name ≡ Some i → e ≡ slot_tree i (Some tree)
@@ -61,9 +78,28 @@ module _ {A : Type 0} (act : Act) (r : Result A Refusal) (ps : List Signature) (
       by (Ok x) err = tt
       by (Err e) err = err ps ∙ seen
 
-  pub sound_seen : OnOk r ((ps : List Signature) → step act (unfolded ps old) ≡ Ok (unfolded ps new)) → OnErr r ((ps : List Signature) → unfolded ps new ≡ unfolded ps old)
+  pub sound_seen : Asks act h → OnOk r ((ps : List Signature) → step act (unfolded ps old) ≡ Ok (unfolded ps new)) → OnErr r ((ps : List Signature) → unfolded ps new ≡ unfolded ps old)
       → IsSound (unfolded ps old) → IsSound (unfolded ps new)
-  sound_seen ok err sound = act_sound act r h (unfolded ps new) (ok_seen ok) (err_seen err) (subst IsSound seen sound)
+  sound_seen asks ok err sound = act_sound act r h (unfolded ps new) asks (ok_seen ok) (err_seen err) (subst IsSound seen sound)
+
+-- ---- what a session says of a call that its timeline relates to two histories
+
+module _ {A : Type 0} (Says : History → Result History Refusal → Type 0) (r : Result A Refusal) (old new h : History) (seen : old ≡ h) where
+  pub said_ok : OnOk r (Says old (Ok new)) → OnOk r (Says h (Ok new))
+  said_ok ok = subst (λ (x : History). OnOk r (Says x (Ok new))) seen ok
+
+  pub said_refused : IfErr r (λ refusal. (refusal ≡ Memory) ⊎ Says old (Err refusal)) → IfErr r (λ refusal. (refusal ≡ Memory) ⊎ Says h (Err refusal))
+  said_refused refused = subst (λ (x : History). IfErr r (λ refusal. (refusal ≡ Memory) ⊎ Says x (Err refusal))) seen refused
+
+  pub said_err : OnErr r (new ≡ old) → OnErr r (new ≡ h)
+  said_err err = subst (λ (x : History). OnErr r (new ≡ x)) seen err
+
+  pub said_sound : ((g : History) → Says old (Ok g) → IsSound old → IsSound g) → OnOk r (Says old (Ok new)) → OnErr r (new ≡ old) → IsSound old → IsSound new
+  said_sound keeps ok err s = by r ok err
+    where
+      by : (r : Result A Refusal) → OnOk r (Says old (Ok new)) → OnErr r (new ≡ old) → IsSound new
+      by (Ok x) ok err = keeps new ok s
+      by (Err e) ok err = subst IsSound (sym err) s
 
 -- ---- a name's tree
 
@@ -80,11 +116,11 @@ the_tree_of t name ps i tree next apart here is =
     ap (λ o. with_some o next) (tree_of_name t.store name apart ∙ ap (option_and_then (content t.store.trees)) (sym here) ∙ is)
 
 -- a reference that is there, or not
-pub seen_none : (o : Option (Bor Tree)) (c : Option Tree) → option_copied o ≡ c → is_some o ≡ false → c ≡ None
+pub seen_none : {X : Type 0} (o : Option (Bor X)) (c : Option X) → option_copied o ≡ c → is_some o ≡ false → c ≡ None
 seen_none None c e h = sym e
 seen_none (Some x) c e h = absurd (cc)
 
-pub seen_some : (o : Option (Bor Tree)) (c : Option Tree) → option_copied o ≡ c → is_some o ≡ true → (tree : Tree) × (c ≡ Some tree)
+pub seen_some : {X : Type 0} (o : Option (Bor X)) (c : Option X) → option_copied o ≡ c → is_some o ≡ true → (x : X) × (c ≡ Some x)
 seen_some None c e h = absurd (cc)
 seen_some (Some x) c e h = (x.now, sym e)
 

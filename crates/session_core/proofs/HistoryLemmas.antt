@@ -1,17 +1,18 @@
 -- One place back and one place forward take each other back, and so do as many places as one likes.
-use Rattle.std.proofs.Common.{◌≡◌, ◌<◌, ℕ, zero, suc, List, [], ◌∷◌, ◌++◌, ◌+◌, length, arith, Bool, true, false, cond, Some, None, Ok, Err, Option, Result, option_and_then, ok_or, refl, sym, ap, subst, ◌∙◌}
+use Rattle.std.proofs.Common.{◌≡◌, ◌<◌, ℕ, zero, suc, List, [], ◌∷◌, ◌++◌, ◌+◌, length, arith, Bool, true, false, cond, Some, None, Ok, Err, Option, Result, option_and_then, inl, inr, ok_or, refl, sym, ap, subst, ◌∙◌}
 use Rattle.std.specs.Option.{option_map_or}
 use Rattle.std.specs.List.{list_all}
 use Rattle.std.specs.FinMap as finmap
 use Rattle.term_core.specs.Tree.{Tree}
 use Rattle.term_core.specs.Size.{fits}
 use Rattle.term_paths.specs.Paths.{leads, set_at, set_annotations_at}
-use Rattle.change_log.specs.Contents.{Contents, with_tree, without_tree}
+use Rattle.change_log.specs.Contents.{Contents, with_tree, without_tree, with_module, without_module}
 use Rattle.session_core.specs.History.{Group, History, stepped, changed, newest, older, back_to, forward_to, step_back, step_forward, undone, redone}
-use Rattle.session_core.specs.Step.{set_tree, copy_tree, drop_tree, put, annotate, undo, redo, begin, commit, abandon, step, with_some, with_place, outside, inside, committed, retold}
+use Rattle.session_core.specs.Step.{Act, IsChange, set_tree, copy_tree, drop_tree, put, annotate, undo, redo, begin, commit, abandon, step, with_some, with_place, outside, inside, committed, retold}
 use Rattle.session_core.specs.Laws.{ChangeIsUndone, GroupIsUndone, RedoTakesUndoBack, UndoTakesRedoBack}
 use Rattle.session_core.specs.declared.refusal.Refusal.{Refusal}
 use Rattle.session_core.specs.declared.refusal.Refusal.TheVariants.{Path, Big, NoUndo, NoRedo}
+use Rattle.session_core.proofs.ModuleLemmas.{becomes_ok, sets_ok, unloads_ok, commits_ok}
 
 -- ---- the last of a row
 
@@ -199,29 +200,38 @@ given_place h name path next g e =
 same_Ok : (g h : History) → ◌≡◌ {A = Result History Refusal} (Ok h) (Ok g) → h ≡ g
 same_Ok g h e = cc
 
-pub change_is_undone : ChangeIsUndone
-change_is_undone (set_tree name tree) h g change none e = change_by_cases _ h g none (chosen_Ok (fits 0 tree) _ _ e)
-change_is_undone (copy_tree name copy) h g change none e =
+act_is_undone : (act : Act) (h g : History) → IsChange act → h.group ≡ None → step act h ≡ Ok g →
+    (step (undo 1) g ≡ Ok (record h { later = g.now ∷ [] })) × (step (redo 1) (record h { later = g.now ∷ [] }) ≡ Ok g)
+act_is_undone (set_tree name tree) h g change none e = change_by_cases _ h g none (chosen_Ok (fits 0 tree) _ _ e)
+act_is_undone (copy_tree name copy) h g change none e =
     let there = given_tree (finmap.get h.now.trees name) (λ t. Ok (retold h copy t)) g e in
     change_by_cases (with_tree h.now copy there.0) h g none (same_Ok g (retold h copy there.0) there.1)
-change_is_undone (drop_tree name) h g change none e =
+act_is_undone (drop_tree name) h g change none e =
     let there = given_tree (finmap.get h.now.trees name) (λ t. Ok (changed (without_tree h.now name) h)) g e in
     change_by_cases (without_tree h.now name) h g none (same_Ok g (changed (without_tree h.now name) h) there.1)
-change_is_undone (put name path part) h g change none e =
+act_is_undone (put name path part) h g change none e =
     let there = given_place h name path (λ t. cond (fits (length path) part) (Ok (retold h name (set_at t path part))) (Err Big)) g e in
     change_by_cases (with_tree h.now name (set_at there.0 path part)) h g none (chosen_Ok (fits (length path) part) (retold h name (set_at there.0 path part)) g there.1)
-change_is_undone (annotate name path annotations) h g change none e =
+act_is_undone (annotate name path annotations) h g change none e =
     let fit = list_all (fits (length path + 1)) annotations in
     let there = given_place h name path (λ t. cond fit (Ok (retold h name (set_annotations_at t path annotations))) (Err Big)) g e in
     change_by_cases (with_tree h.now name (set_annotations_at there.0 path annotations)) h g none (chosen_Ok fit (retold h name (set_annotations_at there.0 path annotations)) g there.1)
-change_is_undone (undo k) h g change none e = absurd change
-change_is_undone (redo k) h g change none e = absurd change
-change_is_undone begin h g change none e = absurd change
-change_is_undone commit h g change none e = absurd change
-change_is_undone abandon h g change none e = absurd change
+act_is_undone (undo k) h g change none e = absurd change
+act_is_undone (redo k) h g change none e = absurd change
+act_is_undone begin h g change none e = absurd change
+act_is_undone commit h g change none e = absurd change
+act_is_undone abandon h g change none e = absurd change
+
+pub change_is_undone : ChangeIsUndone
+change_is_undone h g (inl (act, change, e)) none = act_is_undone act h g change none e
+change_is_undone h g (inr (inl (name, text, sets))) none =
+    change_by_cases (with_module h.now name text) h g none (becomes_ok (with_module h.now name text) h h.group g (sets_ok name text h g sets).2).0
+change_is_undone h g (inr (inr (name, unloads))) none =
+    change_by_cases (without_module h.now name) h g none (becomes_ok (without_module h.now name) h h.group g (unloads_ok name h g unloads)).0
 
 pub group_is_undone : GroupIsUndone
-group_is_undone group h g is was e =
+group_is_undone group h g is was commits =
+    let e = (commits_ok h g commits).0 in
     let done : committed group h ≡ g = same_Ok g _ (ap (λ o. inside o (λ g. Ok (committed g h))) (sym is) ∙ e) in
     let stepped_from : record (stepped group.begun (record h { group = None })) { now = h.now } ≡ g =
     ap (λ b. cond b (record (stepped group.begun h) { group = None }) (record h { group = None })) (sym was) ∙ done in

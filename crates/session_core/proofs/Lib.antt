@@ -1,5 +1,8 @@
+pub mod MapLemmas
+pub mod SoundLemmas
+pub mod ModuleLemmas
 pub mod HistoryLemmas
 pub mod TimelineLemmas
 pub mod PlaceLemmas
-pub mod SoundLemmas
+pub mod CheckLemmas
 pub mod ActLemmas

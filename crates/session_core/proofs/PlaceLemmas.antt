@@ -9,16 +9,15 @@ use Rattle.std.specs.Prelude.{nat_eq, if◌then◌else◌}
 use Rattle.std.specs.Cmp.Lexicographic.{pointwise}
 use Rattle.prim_core.specs.Signature.{Signature}
 use Rattle.change_log.specs.Contents.{Contents}
-use Rattle.change_log.specs.Slots.{Slots, Store, contents, slot_of, with_tree_slot}
+use Rattle.change_log.specs.Slots.{Slots, Store, contents, slot_of}
 use Rattle.change_log.specs.Entries.{Entry, HasPlace, put, found, before, after, flipped_back, flipped_forward, Fits}
 use Rattle.change_log.proofs.EntryLemmas.{pushed_fits, pushed_leads_back}
-use Rattle.change_log.proofs.ContentsLemmas.{new_slots_are_empty, fits_with_more}
 use Rattle.session_core.specs.History.{Group, stepped, changed, back_to, forward_to, step_back, step_forward}
 use Rattle.session_core.specs.Step.{step, commit, committed, inside}
 use Rattle.session_core.specs.Unfolded.{past_of, later_of, FitBack, FitForward, unfolded, IsCurrent, IsPlaced}
 use Rattle.session_core.specs.declared.timeline.Timeline.{Timeline}
 use Rattle.session_core.specs.declared.timeline.OpenGroup.{OpenGroup}
-use Rattle.session_core.proofs.TimelineLemmas.{rewound_grown, past_grown, later_grown, length-past_of, length-later_of, count_past, stepped_past, stepped_later, stepped_back, stepped_forward, stepped_within, grouped_past, grouped_later, grouped_back, grouped_forward, grouped_within, back_past, back_later, back_back, back_forward, forward_later, forward_past, forward_back, forward_forward}
+use Rattle.session_core.proofs.TimelineLemmas.{IsGrowth, rewound_grown, past_grown, later_grown, length-past_of, length-later_of, count_past, stepped_past, stepped_later, stepped_back, stepped_forward, stepped_within, grouped_past, grouped_later, grouped_back, grouped_forward, grouped_within, back_past, back_later, back_back, back_forward, forward_later, forward_past, forward_back, forward_forward}
 use Rattle.session_core.proofs.HistoryLemmas.{back_to-append}
 
 -- ---- slots
@@ -35,34 +34,35 @@ slot_within (s ∷ ss) name i e =
     next None rest e = absurd (cc)
     next (Some j) rest e = let is : j + 1 ≡ i = cc in omega (arith, is, rest j refl)
 
-placed_grown : (t : Timeline) (name : List ℕ) → IsPlaced t → IsPlaced (record t { store = with_tree_slot t.store name })
-placed_grown t name h =
-    let here = fits_with_more t.current t.store name h.fits in
-    let past = rewound_grown name (take t.position t.logs.items) (before t.current t.store) h.back in
-    let later = later_grown name (drop t.position t.logs.items) (before t.current t.store) h.forward in
-    record {
-      within = h.within;
-      back = subst (FitBack (take t.position t.logs.items)) (sym here.1) past.0;
-      forward = subst (FitForward (drop t.position t.logs.items)) (sym here.1) later.0;
-      fits = here.0;
-      current = h.current;
-    }
+module _ (grow : Store → Store) (is : IsGrowth grow) where
+  placed_grown : (t : Timeline) → IsPlaced t → IsPlaced (record t { store = grow t.store })
+  placed_grown t h =
+      let here = is.fits t.current t.store h.fits in
+      let past = rewound_grown grow is (take t.position t.logs.items) (before t.current t.store) h.back in
+      let later = later_grown grow is (drop t.position t.logs.items) (before t.current t.store) h.forward in
+      record {
+        within = h.within;
+        back = subst (FitBack (take t.position t.logs.items)) (sym here.1) past.0;
+        forward = subst (FitForward (drop t.position t.logs.items)) (sym here.1) later.0;
+        fits = here.0;
+        current = h.current;
+      }
 
-unfolded_grown : (t : Timeline) (name : List ℕ) (ps : List Signature) → IsPlaced t → unfolded ps (record t { store = with_tree_slot t.store name }) ≡ unfolded ps t
-unfolded_grown t name ps h =
-    let start = before t.current t.store in
-    let here : before t.current (with_tree_slot t.store name) ≡ with_tree_slot start name = (fits_with_more t.current t.store name h.fits).1 in
-    let begun : contents (before t.current (with_tree_slot t.store name)) ≡ contents start = ap contents here ∙ (new_slots_are_empty start name).0 in
-    λ i. record {
-      primitives = ps;
-      past = (ap (past_of (take t.position t.logs.items)) here ∙ past_grown name (take t.position t.logs.items) start h.back) i;
-      now = (new_slots_are_empty t.store name).0 i;
-      later = (ap (later_of (drop t.position t.logs.items)) here ∙ (later_grown name (drop t.position t.logs.items) start h.forward).1) i;
-      group = option_map (λ g. record { begun = begun i; changed = g.changed }) t.group;
-    }
+  unfolded_grown : (t : Timeline) (ps : List Signature) → IsPlaced t → unfolded ps (record t { store = grow t.store }) ≡ unfolded ps t
+  unfolded_grown t ps h =
+      let start = before t.current t.store in
+      let here : before t.current (grow t.store) ≡ grow start = (is.fits t.current t.store h.fits).1 in
+      let begun : contents (before t.current (grow t.store)) ≡ contents start = ap contents here ∙ is.same start in
+      λ i. record {
+        primitives = ps;
+        past = (ap (past_of (take t.position t.logs.items)) here ∙ past_grown grow is (take t.position t.logs.items) start h.back) i;
+        now = is.same t.store i;
+        later = (ap (later_of (drop t.position t.logs.items)) here ∙ (later_grown grow is (drop t.position t.logs.items) start h.forward).1) i;
+        group = option_map (λ g. record { begun = begun i; changed = g.changed }) t.group;
+      }
 
 module _ {E : Type 0} where
-  pub all_within : (ss : Slots Tree) (name : List ℕ) (r : Result ℕ E) → IfOk r (λ i. slot_of ss name ≡ Some i) → IfOk r (λ i. i < length ss)
+  pub all_within : {X : Type 0} (ss : Slots X) (name : List ℕ) (r : Result ℕ E) → IfOk r (λ i. slot_of ss name ≡ Some i) → IfOk r (λ i. i < length ss)
   all_within ss name (Ok i) h = slot_within ss name i h
   all_within ss name (Err e) h = tt
 
@@ -70,11 +70,13 @@ module _ {E : Type 0} where
   grown_or_same (Ok i) s t u ok err P p q = subst P (sym ok) p
   grown_or_same (Err e) s t u ok err P p q = subst P (sym err) q
 
-  pub tree_slot-placed : (t : Timeline) (s : Store) (name : List ℕ) (r : Result ℕ E) → OnOk r (s ≡ with_tree_slot t.store name) → OnErr r (s ≡ t.store) → IsPlaced t → IsPlaced (record t { store = s })
-  tree_slot-placed t s name r ok err h = grown_or_same r s (with_tree_slot t.store name) t.store ok err (λ s. IsPlaced (record t { store = s })) (placed_grown t name h) h
+  -- a slot that was found or made
+  module _ (grow : Store → Store) (is : IsGrowth grow) (t : Timeline) (s : Store) (r : Result ℕ E) (ok : OnOk r (s ≡ grow t.store)) (err : OnErr r (s ≡ t.store)) (h : IsPlaced t) where
+    pub slot-placed : IsPlaced (record t { store = s })
+    slot-placed = grown_or_same r s (grow t.store) t.store ok err (λ s. IsPlaced (record t { store = s })) (placed_grown grow is t h) h
 
-  pub tree_slot-same : (t : Timeline) (s : Store) (name : List ℕ) (r : Result ℕ E) (ps : List Signature) → OnOk r (s ≡ with_tree_slot t.store name) → OnErr r (s ≡ t.store) → IsPlaced t → unfolded ps (record t { store = s }) ≡ unfolded ps t
-  tree_slot-same t s name r ps ok err h = grown_or_same r s (with_tree_slot t.store name) t.store ok err (λ s. unfolded ps (record t { store = s }) ≡ unfolded ps t) (unfolded_grown t name ps h) refl
+    pub slot-same : (ps : List Signature) → unfolded ps (record t { store = s }) ≡ unfolded ps t
+    slot-same ps = grown_or_same r s (grow t.store) t.store ok err (λ s. unfolded ps (record t { store = s }) ≡ unfolded ps t) (unfolded_grown grow is t ps h) refl
 
 -- ---- counts
 
@@ -169,6 +171,31 @@ module _ (t : Timeline) (e : Entry) (s : Store) (logs : Vec (List Entry)) (log :
         later = [];
         group = option_map (λ g. record { begun = contents (before t.current t.store); changed = g.changed }) (closed i);
       }))
+
+-- ---- a change that was taken back
+
+module _ (t : Timeline) (e : Entry) (pushed s : Store) (logs : Vec (List Entry)) (log : List Entry) (is : pushed ≡ put e t.store) (one : log ≡ [] ++ found e t.store ∷ []) (back : s ≡ before (drop 0 log) pushed)
+    (all : logs.items ≡ t.logs.items) (h : IsPlaced t) where
+  rolled_store : s ≡ t.store
+  rolled_store = back ∙ (λ i. before (drop 0 (one i)) (is i)) ∙ pushed_leads_back [] e t.store
+
+  pub rolled_placed : IsPlaced (record t { store = s; logs = logs })
+  rolled_placed = record {
+    within = subst (λ (l : List (List Entry)). t.position ≤ length l) (sym all) h.within;
+    back = subst₂ (λ l s. FitBack (take t.position l) (before t.current s)) (sym all) (sym rolled_store) h.back;
+    forward = subst₂ (λ l s. FitForward (drop t.position l) (before t.current s)) (sym all) (sym rolled_store) h.forward;
+    fits = subst (Fits t.current) (sym rolled_store) h.fits;
+    current = h.current;
+  }
+
+  pub rolled_unfolded : (ps : List Signature) → unfolded ps (record t { store = s; logs = logs }) ≡ unfolded ps t
+  rolled_unfolded ps = λ i. record {
+    primitives = ps;
+    past = past_of (take t.position (all i)) (before t.current (rolled_store i));
+    now = contents (rolled_store i);
+    later = later_of (drop t.position (all i)) (before t.current (rolled_store i));
+    group = option_map (λ g. record { begun = contents (before t.current (rolled_store i)); changed = g.changed }) t.group;
+  }
 
 -- a timeline by its parts
 pub same_timeline : (t : Timeline) (s : Store) (q : ℕ) (g : Option OpenGroup) (log : List Entry) → t.store ≡ s → t.position ≡ q → t.group ≡ g → t.current ≡ log

@@ -5,6 +5,7 @@ use Rattle.std.specs.List.{AllByRecursion, list_all}
 use Rattle.std.specs.Ordering.{nat_cmp, eq_by_cmp}
 use Rattle.std.specs.Cmp.Lexicographic.{slice_cmp, nat_list_cmp_total}
 use Rattle.std.proofs.lemmas.Bool.Decides.{nat_tests}
+use Rattle.std.specs.FinMap as finmap
 use Rattle.std.specs.FinMap.{get, get-empty, get-insert, get-remove}
 use Rattle.term_core.specs.Tree.{Tree, integer, branch, to_list, of_list, children, with_child, with_annotations}
 use Rattle.term_core.specs.Size.{height, heights, fits}
@@ -12,28 +13,58 @@ use Rattle.term_core.specs.declared.TheConstants.{MAX_HEIGHT}
 use Rattle.term_paths.specs.Paths.{leads, set_at, set_annotations_at}
 use Rattle.term_core.proofs.TreeLemmas.{of_list-to_list}
 use Rattle.term_paths.proofs.PathLemmas.{changed_at, set_at-changed, set_annotations_at-changed, changed_at-child, changed_at-no_child}
-use Rattle.change_log.specs.Contents.{Contents, no_contents, with_tree, without_tree}
-use Rattle.session_core.specs.History.{Group, History, stepped, changed, newest, older, back_to, forward_to, step_back, step_forward, undone, redone, IsSoundContents, IsSound}
+use Rattle.strategy_syntax.specs.Modules.{Module}
+use Rattle.strategy_check.specs.Faults.{Primitives}
+use Rattle.change_log.specs.Contents.{Contents, Named, no_contents, without_tree}
+use Rattle.session_core.specs.Modules.{Texts, ReadsModule, AreReadable, AreRead, Finds}
+use Rattle.session_core.specs.History.{Group, History, stepped, changed, newest, older, back_to, forward_to, step_back, step_forward, undone, redone, AreLow, AreFormed, AreSound, IsSoundNow, IsSound}
 use Rattle.session_core.specs.Step.{Act, set_tree, copy_tree, drop_tree, put, annotate, undo, redo, begin, commit, abandon, step, with_some, outside, inside, committed, retold}
 use Rattle.session_core.specs.declared.refusal.Refusal.{Refusal}
 use Rattle.session_core.specs.declared.refusal.Refusal.TheVariants.{Path, Big, NoUndo, NoRedo}
+use Rattle.session_core.proofs.MapLemmas.{no_keys}
 
 -- ---- contents
 
-pub sound_no_contents : IsSoundContents no_contents
-sound_no_contents = λ q. subst (λ (o : Option Tree). IfSome o (λ t. height t ≤ MAX_HEIGHT)) (sym (get-empty (slice_cmp nat_cmp) q)) tt
+pub low_empty : AreLow finmap.empty
+low_empty = λ q. subst (λ (o : Option Tree). IfSome o (λ t. height t ≤ MAX_HEIGHT)) (sym (get-empty (slice_cmp nat_cmp) q)) tt
 
-pub sound_with_tree : (c : Contents) (name : List ℕ) (tree : Tree) → IsSoundContents c → height tree ≤ MAX_HEIGHT → IsSoundContents (with_tree c name tree)
-sound_with_tree c name tree s h = λ q.
+pub low_with_tree : (trees : Named Tree) (name : List ℕ) (tree : Tree) → AreLow trees → height tree ≤ MAX_HEIGHT → AreLow (finmap.insert trees name tree)
+low_with_tree trees name tree s h = λ q.
     let Low : Option Tree → Type 0 = λ o. IfSome o (λ t. height t ≤ MAX_HEIGHT) in
-    subst Low (sym (get-insert nat_list_cmp_total c.trees name tree q))
-    (elim (eq_by_cmp (slice_cmp nat_cmp) q name) as (λ b. Low (cond b (Some tree) (get c.trees q))) [ true ↦ h | false ↦ s q ])
+    subst Low (sym (get-insert nat_list_cmp_total trees name tree q))
+    (elim (eq_by_cmp (slice_cmp nat_cmp) q name) as (λ b. Low (cond b (Some tree) (get trees q))) [ true ↦ h | false ↦ s q ])
 
-pub sound_without_tree : (c : Contents) (name : List ℕ) → IsSoundContents c → IsSoundContents (without_tree c name)
-sound_without_tree c name s = λ q.
+pub low_without_tree : (trees : Named Tree) (name : List ℕ) → AreLow trees → AreLow (finmap.remove trees name)
+low_without_tree trees name s = λ q.
     let Low : Option Tree → Type 0 = λ o. IfSome o (λ t. height t ≤ MAX_HEIGHT) in
-    subst Low (sym (get-remove nat_list_cmp_total c.trees name q))
-    (elim (eq_by_cmp (slice_cmp nat_cmp) q name) as (λ b. Low (cond b None (get c.trees q))) [ true ↦ tt | false ↦ s q ])
+    subst Low (sym (get-remove nat_list_cmp_total trees name q))
+    (elim (eq_by_cmp (slice_cmp nat_cmp) q name) as (λ b. Low (cond b None (get trees q))) [ true ↦ tt | false ↦ s q ])
+
+abbrev GivesSome : Option (List ℕ) → Type 0
+GivesSome o = IfSome o (λ text. (m : Module) × ReadsModule text (Ok m))
+
+pub readable_empty : AreReadable finmap.empty
+readable_empty = λ q. subst GivesSome (sym (get-empty (slice_cmp nat_cmp) q)) tt
+
+pub readable_with : (texts : Texts) (name text : List ℕ) (m : Module) → AreReadable texts → ReadsModule text (Ok m) → AreReadable (finmap.insert texts name text)
+readable_with texts name text m s h = λ q.
+    subst GivesSome (sym (get-insert nat_list_cmp_total texts name text q))
+    (elim (eq_by_cmp (slice_cmp nat_cmp) q name) as (λ b. GivesSome (cond b (Some text) (get texts q))) [ true ↦ (m, h) | false ↦ s q ])
+
+pub readable_without : (texts : Texts) (name : List ℕ) → AreReadable texts → AreReadable (finmap.remove texts name)
+readable_without texts name s = λ q.
+    subst GivesSome (sym (get-remove nat_list_cmp_total texts name q))
+    (elim (eq_by_cmp (slice_cmp nat_cmp) q name) as (λ b. GivesSome (cond b None (get texts q))) [ true ↦ tt | false ↦ s q ])
+
+pub sound_no_contents : (ps : Primitives) → AreSound ps no_contents
+sound_no_contents ps = (
+  (low_empty, readable_empty),
+  record {
+    modules = [];
+    are = subst (λ (names : List (List ℕ)). AreRead finmap.empty names []) (sym (no_keys finmap.empty (λ q. get-empty (slice_cmp nat_cmp) q))) tt;
+    fault = refl;
+  },
+)
 
 -- ---- heights of what is put at a path
 
@@ -119,43 +150,70 @@ module _ (P : Contents → Type 0) where
   All-newest c [] h = h.0
   All-newest c (d ∷ ds) h = All-newest d ds h.1
 
-sound_changed : (c : Contents) (h : History) → IsSound h → IsSoundContents c → IsSound (changed c h)
-sound_changed c h s k = by h.group s.3
+-- the contents now are well formed, and outside a group they are sound
+pub formed_now : (ps : Primitives) (c : Contents) (o : Option Group) → IsSoundNow ps c o → AreFormed c
+formed_now ps c None s = s.0
+formed_now ps c (Some g) s = s.0
+
+pub sound_outside : (h : History) → IsSound h → h.group ≡ None → AreSound h.primitives h.now
+sound_outside h s closed = subst (IsSoundNow h.primitives h.now) closed s.1
+
+pub sound_begun : (h : History) (group : Group) → IsSound h → h.group ≡ Some group → AreSound h.primitives group.begun
+sound_begun h group s e = (subst (IsSoundNow h.primitives h.now) e s.1).1
+
+pub sound_changed : (c : Contents) (h : History) → IsSound h → AreFormed c → (h.group ≡ None → Finds h.primitives c.modules None) → IsSound (changed c h)
+sound_changed c h s k f = by h.group refl s.1
   where
-    by : (o : Option Group) → IfSome o (λ g. IsSoundContents g.begun)
+    by : (o : Option Group) → h.group ≡ o → IsSoundNow h.primitives h.now o
         → IsSound (option_map_or (λ g. record h { now = c; group = Some (record g { changed = true }) }) o (record (stepped h.now h) { now = c }))
-    by None g = (All-push IsSoundContents h.past h.now s.0 s.1, k, tt, s.3)
-    by (Some group) g = (s.0, k, s.2, g)
+    by None e n = (All-push (AreSound h.primitives) h.past h.now s.0 n, subst (IsSoundNow h.primitives c) (sym e) (k, f e), tt)
+    by (Some group) e n = (s.0, (k, n.1), s.2)
+
+-- a change of the trees leaves the modules as they are
+sound_trees : (trees : Named Tree) (h : History) → IsSound h → AreLow trees → IsSound (changed (record h.now { trees = trees }) h)
+sound_trees trees h s low =
+    sound_changed (record h.now { trees = trees }) h s (low, (formed_now h.primitives h.now h.group s.1).1) (λ closed. (sound_outside h s closed).1)
 
 same_Some : (g h : History) → Some h ≡ Some g → h ≡ g
 same_Some g h e = cc
 
-same_Ok : (g h : History) → ◌≡◌ {A = Result History Refusal} (Ok h) (Ok g) → h ≡ g
+pub same_Ok : (g h : History) → ◌≡◌ {A = Result History Refusal} (Ok h) (Ok g) → h ≡ g
 same_Ok g h e = cc
 
-sound_back : (h : History) (past : List Contents) (g : History) → IsSound h → AllByRecursion IsSoundContents past → back_to h past ≡ Some g → IsSound g
-sound_back h [] g s a e = absurd (cc)
-sound_back h (c ∷ cs) g s a e = subst IsSound (same_Some g _ e) (All-older IsSoundContents c cs a, All-newest IsSoundContents c cs a, (s.1, s.2), s.3)
+-- a sound history without an open group
+abbrev Whole : History → Type 0
+Whole h = (h.group ≡ None) × (AllByRecursion (AreSound h.primitives) h.past × AreSound h.primitives h.now × AllByRecursion (AreSound h.primitives) h.later)
 
-sound_forward : (h : History) (later : List Contents) (g : History) → IsSound h → AllByRecursion IsSoundContents later → forward_to h later ≡ Some g → IsSound g
-sound_forward h [] g s a e = absurd (cc)
-sound_forward h (c ∷ cs) g s a e = subst IsSound (same_Some g _ e) (All-push IsSoundContents h.past h.now s.0 s.1, a.0, a.1, s.3)
+whole : (h : History) → IsSound h → h.group ≡ None → Whole h
+whole h s closed = (closed, (s.0, sound_outside h s closed, s.2))
 
-sound_undone : (k : ℕ) (h g : History) → IsSound h → undone k h ≡ Some g → IsSound g
-sound_undone zero h g s e = subst IsSound (same_Some g h e) s
-sound_undone (suc k) h g s e = by (step_back h) refl (λ m. sound_undone k m g) e
+sound_whole : (h : History) → Whole h → IsSound h
+sound_whole h w = (w.1.0, subst (IsSoundNow h.primitives h.now) (sym w.0) w.1.1, w.1.2)
+
+whole_back : (h : History) (past : List Contents) (g : History) → Whole h → AllByRecursion (AreSound h.primitives) past → back_to h past ≡ Some g → Whole g
+whole_back h [] g w a e = absurd (cc)
+whole_back h (c ∷ cs) g w a e =
+    subst Whole (same_Some g _ e) (w.0, (All-older (AreSound h.primitives) c cs a, All-newest (AreSound h.primitives) c cs a, (w.1.1, w.1.2)))
+
+whole_forward : (h : History) (later : List Contents) (g : History) → Whole h → AllByRecursion (AreSound h.primitives) later → forward_to h later ≡ Some g → Whole g
+whole_forward h [] g w a e = absurd (cc)
+whole_forward h (c ∷ cs) g w a e = subst Whole (same_Some g _ e) (w.0, (All-push (AreSound h.primitives) h.past h.now w.1.0 w.1.1, a.0, a.1))
+
+whole_undone : (k : ℕ) (h g : History) → Whole h → undone k h ≡ Some g → Whole g
+whole_undone zero h g w e = subst Whole (same_Some g h e) w
+whole_undone (suc k) h g w e = by (step_back h) refl (λ m. whole_undone k m g) e
   where
-    by : (o : Option History) → step_back h ≡ o → ((m : History) → IsSound m → undone k m ≡ Some g → IsSound g) → option_and_then (λ m. undone k m) o ≡ Some g → IsSound g
+    by : (o : Option History) → step_back h ≡ o → ((m : History) → Whole m → undone k m ≡ Some g → Whole g) → option_and_then (λ m. undone k m) o ≡ Some g → Whole g
     by None p rest q = absurd (cc)
-    by (Some m) p rest q = rest m (sound_back h h.past m s s.0 p) q
+    by (Some m) p rest q = rest m (whole_back h h.past m w w.1.0 p) q
 
-sound_redone : (k : ℕ) (h g : History) → IsSound h → redone k h ≡ Some g → IsSound g
-sound_redone zero h g s e = subst IsSound (same_Some g h e) s
-sound_redone (suc k) h g s e = by (step_forward h) refl (λ m. sound_redone k m g) e
+whole_redone : (k : ℕ) (h g : History) → Whole h → redone k h ≡ Some g → Whole g
+whole_redone zero h g w e = subst Whole (same_Some g h e) w
+whole_redone (suc k) h g w e = by (step_forward h) refl (λ m. whole_redone k m g) e
   where
-    by : (o : Option History) → step_forward h ≡ o → ((m : History) → IsSound m → redone k m ≡ Some g → IsSound g) → option_and_then (λ m. redone k m) o ≡ Some g → IsSound g
+    by : (o : Option History) → step_forward h ≡ o → ((m : History) → Whole m → redone k m ≡ Some g → Whole g) → option_and_then (λ m. redone k m) o ≡ Some g → Whole g
     by None p rest q = absurd (cc)
-    by (Some m) p rest q = rest m (sound_forward h h.later m s s.2 p) q
+    by (Some m) p rest q = rest m (whole_forward h h.later m w w.1.2 p) q
 
 -- ---- steps
 
@@ -177,56 +235,79 @@ the_tree None next g e = absurd (cc)
 the_tree (Some t) next g e = (t, refl, e)
 
 low_tree : (h : History) (name : List ℕ) (t : Tree) → IsSound h → get h.now.trees name ≡ Some t → height t ≤ MAX_HEIGHT
-low_tree h name t s e = subst (λ (o : Option Tree). IfSome o (λ t. height t ≤ MAX_HEIGHT)) e (s.1 name)
+low_tree h name t s e = subst (λ (o : Option Tree). IfSome o (λ t. height t ≤ MAX_HEIGHT)) e ((formed_now h.primitives h.now h.group s.1).0 name)
 
-when_outside : (o : Option Group) (x : Result History Refusal) (g : History) → outside o x ≡ Ok g → x ≡ Ok g
-when_outside None x g e = e
+when_outside : (o : Option Group) (x : Result History Refusal) (g : History) → outside o x ≡ Ok g → (o ≡ None) × (x ≡ Ok g)
+when_outside None x g e = (refl, e)
 when_outside (Some group) x g e = absurd (cc)
 
 the_group : (o : Option Group) (next : Group → Result History Refusal) (g : History) → inside o next ≡ Ok g → (group : Group) × (o ≡ Some group) × (next group ≡ Ok g)
 the_group None next g e = absurd (cc)
 the_group (Some group) next g e = (group, refl, e)
 
-begun_sound : (h : History) (group : Group) → IsSound h → h.group ≡ Some group → IsSoundContents group.begun
-begun_sound h group s e = subst (λ (o : Option Group). IfSome o (λ g. IsSoundContents g.begun)) e s.3
+low_now : (h : History) → IsSound h → AreLow h.now.trees
+low_now h s = (formed_now h.primitives h.now h.group s.1).0
 
-pub step_sound : (act : Act) (h g : History) → IsSound h → step act h ≡ Ok g → IsSound g
-step_sound (set_tree name tree) h g s e =
+-- what an act asks of a sound history: a group is committed where the checker finds no fault
+abbrev pub Asks : Act → History → Type 0
+Asks (set_tree name tree) h = Unit {0}
+Asks (copy_tree name copy) h = Unit {0}
+Asks (drop_tree name) h = Unit {0}
+Asks (put name path part) h = Unit {0}
+Asks (annotate name path us) h = Unit {0}
+Asks (undo k) h = Unit {0}
+Asks (redo k) h = Unit {0}
+Asks begin h = Unit {0}
+Asks commit h = Finds h.primitives h.now.modules None
+Asks abandon h = Unit {0}
+
+pub step_sound : (act : Act) (h g : History) → IsSound h → Asks act h → step act h ≡ Ok g → IsSound g
+step_sound (set_tree name tree) h g s _ e =
     let done = chosen (fits 0 tree) (retold h name tree) g Big e in
     let low = height_of_fit 0 tree done.0 in
-    subst IsSound done.1 (sound_changed (with_tree h.now name tree) h s (sound_with_tree h.now name tree s.1 (omega (arith, low))))
-step_sound (copy_tree name copy) h g s e =
+    subst IsSound done.1 (sound_trees (finmap.insert h.now.trees name tree) h s (low_with_tree h.now.trees name tree (low_now h s) (omega (arith, low))))
+step_sound (copy_tree name copy) h g s _ e =
     let found = the_tree (get h.now.trees name) (λ t. Ok (retold h copy t)) g e in
-    subst IsSound (same_Ok g (retold h copy found.0) found.2) (sound_changed (with_tree h.now copy found.0) h s (sound_with_tree h.now copy found.0 s.1 (low_tree h name found.0 s found.1)))
-step_sound (drop_tree name) h g s e =
+    subst IsSound (same_Ok g (retold h copy found.0) found.2) (sound_trees (finmap.insert h.now.trees copy found.0) h s (low_with_tree h.now.trees copy found.0 (low_now h s) (low_tree h name found.0 s found.1)))
+step_sound (drop_tree name) h g s _ e =
     let found = the_tree (get h.now.trees name) (λ t. Ok (changed (without_tree h.now name) h)) g e in
-    subst IsSound (same_Ok g (changed (without_tree h.now name) h) found.2) (sound_changed (without_tree h.now name) h s (sound_without_tree h.now name s.1))
-step_sound (put name path part) h g s e =
+    subst IsSound (same_Ok g (changed (without_tree h.now name) h) found.2) (sound_trees (finmap.remove h.now.trees name) h s (low_without_tree h.now.trees name (low_now h s)))
+step_sound (put name path part) h g s _ e =
     let found = the_tree (get h.now.trees name) (λ t. cond (leads t path) (cond (fits (length path) part) (Ok (retold h name (set_at t path part))) (Err Big)) (Err Path)) g e in
     let tree = set_at found.0 path part in
     let done = chosen (fits (length path) part) (retold h name tree) g Big (led (leads found.0 path) _ g found.2) in
-    subst IsSound done.1 (sound_changed (with_tree h.now name tree) h s (sound_with_tree h.now name tree s.1 (height_of_set found.0 part path (low_tree h name found.0 s found.1) done.0)))
-step_sound (annotate name path us) h g s e =
+    subst IsSound done.1 (sound_trees (finmap.insert h.now.trees name tree) h s (low_with_tree h.now.trees name tree (low_now h s) (height_of_set found.0 part path (low_tree h name found.0 s found.1) done.0)))
+step_sound (annotate name path us) h g s _ e =
     let fit = list_all (fits (length path + 1)) us in
     let found = the_tree (get h.now.trees name) (λ t. cond (leads t path) (cond fit (Ok (retold h name (set_annotations_at t path us))) (Err Big)) (Err Path)) g e in
     let tree = set_annotations_at found.0 path us in
     let done = chosen fit (retold h name tree) g Big (led (leads found.0 path) _ g found.2) in
-    subst IsSound done.1 (sound_changed (with_tree h.now name tree) h s (sound_with_tree h.now name tree s.1 (height_of_annotated found.0 us path (low_tree h name found.0 s found.1) done.0)))
-step_sound (undo k) h g s e = sound_undone k h g s (ok_or-Ok (undone k h) NoUndo g (when_outside h.group _ g e))
-step_sound (redo k) h g s e = sound_redone k h g s (ok_or-Ok (redone k h) NoRedo g (when_outside h.group _ g e))
-step_sound begin h g s e = subst IsSound (same_Ok g _ (when_outside h.group _ g e)) (s.0, s.1, s.2, s.1)
-step_sound commit h g s e =
+    subst IsSound done.1 (sound_trees (finmap.insert h.now.trees name tree) h s (low_with_tree h.now.trees name tree (low_now h s) (height_of_annotated found.0 us path (low_tree h name found.0 s found.1) done.0)))
+step_sound (undo k) h g s _ e =
+    let there = when_outside h.group _ g e in
+    sound_whole g (whole_undone k h g (whole h s there.0) (ok_or-Ok (undone k h) NoUndo g there.1))
+step_sound (redo k) h g s _ e =
+    let there = when_outside h.group _ g e in
+    sound_whole g (whole_redone k h g (whole h s there.0) (ok_or-Ok (redone k h) NoRedo g there.1))
+step_sound begin h g s _ e =
+    let there = when_outside h.group _ g e in
+    let now = sound_outside h s there.0 in
+    subst IsSound (same_Ok g _ there.1) (s.0, (now.0, now), s.2)
+step_sound commit h g s found e =
     let there = the_group h.group (λ group. Ok (committed group h)) g e in
-    subst IsSound (same_Ok g (committed there.0 h) there.2) (by there.0 (begun_sound h there.0 s there.1) there.0.changed)
+    subst IsSound (same_Ok g (committed there.0 h) there.2) (by there.0 (sound_begun h there.0 s there.1) there.0.changed)
   where
-    by : (group : Group) → IsSoundContents group.begun → (b : Bool) → IsSound (cond b (record (stepped group.begun h) { group = None }) (record h { group = None }))
-    by group k true = (All-push IsSoundContents h.past group.begun s.0 k, s.1, tt, tt)
-    by group k false = (s.0, s.1, s.2, tt)
-step_sound abandon h g s e =
+    now : AreSound h.primitives h.now
+    now = (formed_now h.primitives h.now h.group s.1, found)
+
+    by : (group : Group) → AreSound h.primitives group.begun → (b : Bool) → IsSound (cond b (record (stepped group.begun h) { group = None }) (record h { group = None }))
+    by group k true = (All-push (AreSound h.primitives) h.past group.begun s.0 k, now, tt)
+    by group k false = (s.0, now, s.2)
+step_sound abandon h g s _ e =
     let there = the_group h.group (λ group. Ok (record h { now = group.begun; group = None })) g e in
-    subst IsSound (same_Ok g (record h { now = there.0.begun; group = None }) there.2) (s.0, begun_sound h there.0 s there.1, s.2, tt)
+    subst IsSound (same_Ok g (record h { now = there.0.begun; group = None }) there.2) (s.0, sound_begun h there.0 s there.1, s.2)
 
 -- an act that is accepted leaves what the machine does, and a refused one leaves all
-pub act_sound : {A E : Type 0} (act : Act) (r : Result A E) (old new : History) → OnOk r (step act old ≡ Ok new) → OnErr r (new ≡ old) → IsSound old → IsSound new
-act_sound act (Ok x) old new ok err s = step_sound act old new s ok
-act_sound act (Err e) old new ok err s = subst IsSound (sym err) s
+pub act_sound : {A E : Type 0} (act : Act) (r : Result A E) (old new : History) → Asks act old → OnOk r (step act old ≡ Ok new) → OnErr r (new ≡ old) → IsSound old → IsSound new
+act_sound act (Ok x) old new asks ok err s = step_sound act old new s asks ok
+act_sound act (Err e) old new asks ok err s = subst IsSound (sym err) s

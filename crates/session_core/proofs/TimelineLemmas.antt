@@ -1,10 +1,10 @@
 -- What logs unfold to, as steps are added, taken back and made again.
 use Rattle.std.proofs.Common.{◌≡◌, ℕ, zero, suc, ◌+◌, ◌<◌, ◌≤◌, List, [], ◌∷◌, ◌++◌, length, take, drop, set, slice_get, Some, refl, sym, ap, subst, ◌∙◌, arith}
 use Rattle.std.proofs.lemmas.List.{length-append, length-take, drop_all, take_all, take-set}
-use Rattle.change_log.specs.Slots.{Store, contents, with_tree_slot}
+use Rattle.change_log.specs.Slots.{Store, contents, with_tree_slot, with_module_slot}
 use Rattle.change_log.specs.Entries.{Entry, HasPlace, put, found, before, after, flipped_back, flipped_forward, Fits, FitsForward}
 use Rattle.change_log.proofs.EntryLemmas.{pushed_leads_back, store_from_after, store_from_before, flipped_back_fits, flipped_forward_fits, pushed_fits}
-use Rattle.change_log.proofs.ContentsLemmas.{new_slots_are_empty, fits_with_more, fits_forward_with_more}
+use Rattle.change_log.proofs.ContentsLemmas.{new_slots_are_empty, fits_with_more, fits_forward_with_more, fits_with_more_modules, fits_forward_with_more_modules}
 use Rattle.session_core.specs.Unfolded.{rewound, past_of, later_of, FitBack, FitForward}
 
 -- ---- one log more
@@ -75,29 +75,46 @@ length-later_of (l ∷ ls) s = ap suc (length-later_of ls (after l s))
 
 -- ---- an empty slot more
 
-module _ (name : List ℕ) where
-  abbrev grown : Store → Store
-  grown s = with_tree_slot s name
+-- how a store gets a slot: it keeps its contents, and logs fit it as before
+pub record IsGrowth (grow : Store → Store) : Type 0 where
+  pub same : (s : Store) → contents (grow s) ≡ contents s
+  pub fits : (log : List Entry) (s : Store) → Fits log s → Fits log (grow s) × (before log (grow s) ≡ grow (before log s))
+  pub fits_forward : (log : List Entry) (s : Store) → FitsForward log s → FitsForward log (grow s) × (after log (grow s) ≡ grow (after log s))
 
-  pub rewound_grown : (ls : List (List Entry)) (s : Store) → FitBack ls s → FitBack ls (with_tree_slot s name) × (rewound ls (with_tree_slot s name) ≡ with_tree_slot (rewound ls s) name)
+pub tree_growth : (name : List ℕ) → IsGrowth (λ s. with_tree_slot s name)
+tree_growth name = record {
+  same = λ s. (new_slots_are_empty s name).0;
+  fits = λ log s h. fits_with_more log s name h;
+  fits_forward = λ log s h. fits_forward_with_more log s name h;
+}
+
+pub module_growth : (name : List ℕ) → IsGrowth (λ s. with_module_slot s name)
+module_growth name = record {
+  same = λ s. (new_slots_are_empty s name).1;
+  fits = λ log s h. fits_with_more_modules log s name h;
+  fits_forward = λ log s h. fits_forward_with_more_modules log s name h;
+}
+
+module _ (grow : Store → Store) (is : IsGrowth grow) where
+  pub rewound_grown : (ls : List (List Entry)) (s : Store) → FitBack ls s → FitBack ls (grow s) × (rewound ls (grow s) ≡ grow (rewound ls s))
   rewound_grown [] s h = (tt, refl)
   rewound_grown (l ∷ ls) s h =
       let rest = rewound_grown ls s h.1 in
-      let here = fits_with_more l (rewound ls s) name h.0 in
+      let here = is.fits l (rewound ls s) h.0 in
       ((subst (Fits l) (sym rest.1) here.0, rest.0), ap (before l) rest.1 ∙ here.1)
 
-  pub past_grown : (ls : List (List Entry)) (s : Store) → FitBack ls s → past_of ls (with_tree_slot s name) ≡ past_of ls s
+  pub past_grown : (ls : List (List Entry)) (s : Store) → FitBack ls s → past_of ls (grow s) ≡ past_of ls s
   past_grown [] s h = refl
   past_grown (l ∷ ls) s h =
-      λ i. (ap contents ((rewound_grown (l ∷ ls) s h).1) ∙ (new_slots_are_empty (before l (rewound ls s)) name).0) i ∷ past_grown ls s h.1 i
+      λ i. (ap contents ((rewound_grown (l ∷ ls) s h).1) ∙ is.same (before l (rewound ls s))) i ∷ past_grown ls s h.1 i
 
-  pub later_grown : (ls : List (List Entry)) (s : Store) → FitForward ls s → FitForward ls (with_tree_slot s name) × (later_of ls (with_tree_slot s name) ≡ later_of ls s)
+  pub later_grown : (ls : List (List Entry)) (s : Store) → FitForward ls s → FitForward ls (grow s) × (later_of ls (grow s) ≡ later_of ls s)
   later_grown [] s h = (tt, refl)
   later_grown (l ∷ ls) s h =
-      let here = fits_forward_with_more l s name h.0 in
+      let here = is.fits_forward l s h.0 in
       let rest = later_grown ls (after l s) h.1 in (
         (here.0, subst (FitForward ls) (sym here.1) rest.0),
-        (λ i. (ap contents here.1 ∙ (new_slots_are_empty (after l s) name).0) i ∷ (ap (later_of ls) here.1 ∙ rest.1) i),
+        (λ i. (ap contents here.1 ∙ is.same (after l s)) i ∷ (ap (later_of ls) here.1 ∙ rest.1) i),
       )
 
 -- ---- a change as a step of its own

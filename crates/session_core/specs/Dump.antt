@@ -1,4 +1,4 @@
--- The text that gives trees again.
+-- The text that gives contents again.
 use Rattle.std.specs.Prelude.{◌≡◌, ℕ, List, [], ◌∷◌, ◌++◌, codes, Some, IfSome}
 use Rattle.std.specs.Option.{option_map_or}
 use Rattle.std.specs.List.{flat_map, AllByRecursion}
@@ -13,9 +13,35 @@ use Rattle.change_log.specs.Contents.{Contents}
 abbrev pub tree_line : List ℕ → Tree → List ℕ
 tree_line name tree = codes "tree " ++ name ++ 32 ∷ print tree ++ 10 ∷ []
 
--- A line for each tree, in byte order of the names. Module texts have no line yet.
+-- a line for each tree, in byte order of the names
+abbrev pub dumped_trees : Contents → List ℕ
+dumped_trees c = flat_map (λ name. option_map_or (tree_line name) (finmap.get c.trees name) []) (finmap.keys c.trees)
+
+-- a text behind a name: a space and the text, or nothing where it is empty
+abbrev pub behind_name : List ℕ → List ℕ
+behind_name [] = []
+behind_name (b ∷ text) = 32 ∷ b ∷ text
+
+-- The command that gives a name its module text again. Its text may have line feeds.
+abbrev pub module_line : List ℕ → List ℕ → List ℕ
+module_line name text = codes "module " ++ name ++ behind_name text ++ 10 ∷ []
+
+-- a command for each of these modules
+abbrev pub module_lines : Contents → List (List ℕ) → List ℕ
+module_lines c names = flat_map (λ name. option_map_or (module_line name) (finmap.get c.modules name) []) names
+
+-- Modules that need one another are given in a group. Where there are none, there is no group.
+abbrev pub grouped : Contents → List (List ℕ) → List ℕ
+grouped c [] = []
+grouped c (name ∷ names) =
+    (codes "begin" ++ 10 ∷ []) ++ module_lines c (name ∷ names) ++ (codes "commit" ++ 10 ∷ [])
+
+abbrev pub dumped_modules : Contents → List ℕ
+dumped_modules c = grouped c (finmap.keys c.modules)
+
+-- The dump: the trees, and then the modules.
 abbrev pub dumped : Contents → List ℕ
-dumped c = flat_map (λ name. option_map_or (tree_line name) (finmap.get c.trees name) []) (finmap.keys c.trees)
+dumped c = dumped_trees c ++ dumped_modules c
 
 -- what has a tree is a label, and the tree is a term
 abbrev pub IsNamedTerm : Contents → List ℕ → Type 0
@@ -24,4 +50,6 @@ IsNamedTerm c name =
 
 -- all names are labels, and all trees terms
 abbrev pub AreNamedTerms : Contents → Type 0
-AreNamedTerms c = AllByRecursion (IsNamedTerm c) (finmap.keys c.trees)
+AreNamedTerms c =
+    AllByRecursion (IsNamedTerm c) (finmap.keys c.trees)
+    × AllByRecursion (λ name. label_of name ≡ Some name) (finmap.keys c.modules)

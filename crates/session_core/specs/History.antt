@@ -8,7 +8,10 @@ use Rattle.std.specs.FinMap as finmap
 use Rattle.term_core.specs.Size.{height}
 use Rattle.term_core.specs.declared.TheConstants.{MAX_HEIGHT}
 use Rattle.prim_core.specs.Signature.{Signature}
-use Rattle.change_log.specs.Contents.{Contents, no_contents}
+use Rattle.term_core.specs.Tree.{Tree}
+use Rattle.change_log.specs.Contents.{Contents, Named, no_contents}
+use Rattle.strategy_check.specs.Faults.{Primitives}
+use Rattle.session_core.specs.Modules.{AreReadable, Finds}
 
 -- An open group: the contents where it began, and whether a change was accepted since.
 pub record Group : Type 0 where
@@ -79,14 +82,28 @@ abbrev pub redone : ℕ → History → Option History
 redone zero h = Some h
 redone (suc k) h = option_and_then (redone k) (step_forward h)
 
--- Contents are sound where no tree is higher than 1,000, the greatest height that fits at level 0.
-abbrev pub IsSoundContents : Contents → Type 0
-IsSoundContents c =
-    (name : List ℕ) → IfSome (finmap.get c.trees name) (λ tree. height tree ≤ MAX_HEIGHT)
+-- no tree is higher than 1,000, the greatest height that fits at level 0
+abbrev pub AreLow : Named Tree → Type 0
+AreLow trees =
+    (name : List ℕ) → IfSome (finmap.get trees name) (λ tree. height tree ≤ MAX_HEIGHT)
 
--- All contents of a history are sound: the past, those now, the later ones, and those where an open
--- group began.
+-- Contents are well formed where no tree is higher than 1,000, and each module text has at most 4,000
+-- tokens and gives a module.
+abbrev pub AreFormed : Contents → Type 0
+AreFormed c = AreLow c.trees × AreReadable c.modules
+
+-- They are sound where in all their modules together the checker finds no fault, too.
+abbrev pub AreSound : Primitives → Contents → Type 0
+AreSound primitives c = AreFormed c × Finds primitives c.modules None
+
+-- The contents now are sound outside a group. Inside one they are well formed, and those where it
+-- began are sound.
+abbrev pub IsSoundNow : Primitives → Contents → Option Group → Type 0
+IsSoundNow primitives c None = AreSound primitives c
+IsSoundNow primitives c (Some g) = AreFormed c × AreSound primitives g.begun
+
+-- All contents of a history are sound: the past, those now and the later ones.
 abbrev pub IsSound : History → Type 0
 IsSound h =
-    AllByRecursion IsSoundContents h.past × IsSoundContents h.now
-    × AllByRecursion IsSoundContents h.later × IfSome h.group (λ g. IsSoundContents g.begun)
+    AllByRecursion (AreSound h.primitives) h.past × IsSoundNow h.primitives h.now h.group
+    × AllByRecursion (AreSound h.primitives) h.later

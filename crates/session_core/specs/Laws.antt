@@ -1,19 +1,19 @@
 -- Undo and redo take each other back.
 use Rattle.std.specs.Prelude.{◌≡◌, ℕ, true, [], ◌∷◌, Some, None, Ok}
 use Rattle.session_core.specs.History.{Group, History}
-use Rattle.session_core.specs.Step.{Act, undo, redo, commit, step, IsChange}
+use Rattle.session_core.specs.Step.{undo, redo, step, Commits, Changes}
 
 -- After an accepted change outside a group undo gives the contents and the past from before it, and
 -- redo then all that the change left.
 abbrev pub ChangeIsUndone : Type 0
-ChangeIsUndone = (act : Act) (h g : History) → IsChange act → h.group ≡ None → step act h ≡ Ok g →
+ChangeIsUndone = (h g : History) → Changes h g → h.group ≡ None →
     (step (undo 1) g ≡ Ok (record h { later = g.now ∷ [] }))
     × (step (redo 1) (record h { later = g.now ∷ [] }) ≡ Ok g)
 
 -- And so after a group with a change was committed: undo gives the contents where it began.
 abbrev pub GroupIsUndone : Type 0
 GroupIsUndone = (group : Group) (h g : History) → h.group ≡ Some group → group.changed ≡ true
-    → step commit h ≡ Ok g →
+    → Commits h (Ok g) →
     (step (undo 1) g ≡ Ok (record h { now = group.begun; later = h.now ∷ []; group = None }))
     × (step (redo 1) (record h { now = group.begun; later = h.now ∷ []; group = None }) ≡ Ok g)
 

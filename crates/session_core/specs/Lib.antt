@@ -1,4 +1,5 @@
 pub mod Refusal
+pub mod Modules
 pub mod History
 pub mod Codes
 pub mod Unfolded

@@ -1,17 +1,22 @@
 -- What each act does to a session: the history after it, or the one refusal, which leaves all as it
 -- was.
-use Rattle.std.specs.Prelude.{ℕ, ◌+◌, false, List, length, Some, None, Ok, Err, ok_or, if◌then◌else◌}
+use Rattle.std.specs.Prelude.{◌≡◌, ◌⊎◌, ℕ, ◌+◌, false, List, length, Some, None, Ok, Err, ok_or, if◌then◌else◌}
 use Rattle.std.specs.declared.option.Option.{Option}
 use Rattle.std.specs.declared.result.Result.{Result}
+use Rattle.std.specs.Option.{MatchOption}
+use Rattle.std.specs.Result.{MatchResult}
 use Rattle.std.specs.List.{list_all}
 use Rattle.std.specs.FinMap as finmap
 use Rattle.term_core.specs.Tree.{Tree}
 use Rattle.term_core.specs.Size.{fits}
 use Rattle.term_paths.specs.Paths.{leads, set_at, set_annotations_at}
-use Rattle.change_log.specs.Contents.{with_tree, without_tree}
+use Rattle.strategy_syntax.specs.Modules.{Module}
+use Rattle.strategy_check.specs.Faults.{Fault}
+use Rattle.change_log.specs.Contents.{Contents, with_tree, without_tree, with_module, without_module}
+use Rattle.session_core.specs.Modules.{ReadsModule, Finds, refusal_of}
 use Rattle.session_core.specs.History.{Group, History, stepped, changed, undone, redone}
 use Rattle.session_core.specs.declared.refusal.Refusal.{Refusal}
-use Rattle.session_core.specs.declared.refusal.Refusal.TheVariants.{NoTree, Path, Big, NoUndo, NoRedo, Group as InGroup, NoGroup}
+use Rattle.session_core.specs.declared.refusal.Refusal.TheVariants.{NoTree, NoModule, Path, Big, NoUndo, NoRedo, Group as InGroup, NoGroup}
 
 pub data Act : Type 0 where
   -- gives the label this tree
@@ -28,7 +33,7 @@ pub data Act : Type 0 where
   undo : ℕ → Act
   -- goes so many places forward
   redo : ℕ → Act
-  -- begins a group, makes what it changed one step, or takes that back
+  -- begins a group, makes what it changed one step (see `Commits`), or takes that back
   begin : Act
   commit : Act
   abandon : Act
@@ -85,6 +90,43 @@ step begin h = outside h.group (Ok (record h { group = Some (record { begun = h.
 step commit h = inside h.group (λ g. Ok (committed g h))
 step abandon h = inside h.group (λ g. Ok (record h { now = g.begun; group = None }))
 
+-- ---- modules
+
+-- What comes of it where the checker found this: the refusal that tells it, or what follows.
+abbrev pub unless : Option Fault → Result History Refusal → Result History Refusal
+unless None next = next
+unless (Some fault) next = Err (refusal_of fault)
+
+-- Contents with other modules become those now, by a change. Outside a group the checker has to find
+-- no fault in them.
+abbrev pub Becomes : Contents → History → Option Group → Result History Refusal → Type 0
+Becomes c h None reply =
+    (found : Option Fault) × Finds h.primitives c.modules found
+    × (reply ≡ unless found (Ok (changed c h)))
+Becomes c h (Some g) reply = reply ≡ Ok (changed c h)
+
+-- gives the label this module text
+abbrev pub SetsModule : List ℕ → List ℕ → History → Result History Refusal → Type 0
+SetsModule name text h reply =
+    (read : Result Module Refusal) × ReadsModule text read
+    × MatchResult read (λ _. Becomes (with_module h.now name text) h h.group reply)
+    (λ refusal. reply ≡ Err refusal)
+
+-- takes the module of the label away
+abbrev pub Unloads : List ℕ → History → Result History Refusal → Type 0
+Unloads name h reply =
+    MatchOption (finmap.get h.now.modules name) (reply ≡ Err NoModule)
+    (λ _. Becomes (without_module h.now name) h h.group reply)
+
+-- An open group is committed where the checker finds no fault in the contents now.
+abbrev pub Commits : History → Result History Refusal → Type 0
+Commits h reply =
+    MatchOption h.group (reply ≡ Err NoGroup)
+    (λ g. (found : Option Fault) × Finds h.primitives h.now.modules found
+    × (reply ≡ unless found (step commit h)))
+
+-- ---- changes
+
 -- which acts are a change of the contents
 abbrev pub IsChange : Act → Type 0
 IsChange (set_tree name tree) = Unit {0}
@@ -97,3 +139,10 @@ IsChange (redo k) = ⊥
 IsChange begin = ⊥
 IsChange commit = ⊥
 IsChange abandon = ⊥
+
+-- an accepted change: of a tree, or of the modules
+abbrev pub Changes : History → History → Type 0
+Changes h g =
+    ((act : Act) × IsChange act × (step act h ≡ Ok g))
+    ⊎ (((name : List ℕ) × (text : List ℕ) × SetsModule name text h (Ok g))
+    ⊎ ((name : List ℕ) × Unloads name h (Ok g)))

@@ -4,6 +4,7 @@
 mod acts;
 mod dump;
 pub mod laws;
+mod modules;
 mod refusal;
 mod session;
 mod timeline;

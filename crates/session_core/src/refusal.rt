@@ -3,11 +3,13 @@
 ghost use Rattle.std.specs.Prelude.{◌≡◌};
 ghost use Rattle.session_core.specs.Refusal.{number_of, word_of};
 
-use term_core::{LabelFault, NoMemory};
+use std::fmt;
+use strategy_check::Kind;
+use term_core::{LabelFault, Name, NoMemory};
 use thiserror::Error;
 
 /// Why a command is refused. A refused command leaves the session as it was.
-#[derive(Debug, Drop, Error)]
+#[derive(Drop, Error)]
 pub enum Refusal {
     /// A growth of memory was refused.
     #[error("memory")]
@@ -39,9 +41,9 @@ pub enum Refusal {
     /// The text is no strategy, or no module.
     #[error("syntax")]
     Syntax,
-    /// The checker found a fault.
+    /// The checker found a fault: its kind, the name, and two numbers, mostly of strategies and terms.
     #[error("check")]
-    Check,
+    Check(Kind, Name, u64, u64),
     /// The strategy fails.
     #[error("fails")]
     Fails,
@@ -81,7 +83,7 @@ impl Refusal {
             Refusal::Deep => 8,
             Refusal::Path => 9,
             Refusal::Syntax => 10,
-            Refusal::Check => 11,
+            Refusal::Check(..) => 11,
             Refusal::Fails => 12,
             Refusal::Spent => 13,
             Refusal::Big => 14,
@@ -107,7 +109,7 @@ impl Refusal {
             Refusal::Deep => "deep",
             Refusal::Path => "path",
             Refusal::Syntax => "syntax",
-            Refusal::Check => "check",
+            Refusal::Check(..) => "check",
             Refusal::Fails => "fails",
             Refusal::Spent => "spent",
             Refusal::Big => "big",
@@ -141,5 +143,11 @@ impl From<LabelFault> for Refusal {
             LabelFault::Name => Refusal::Name,
             LabelFault::Memory => Refusal::Memory,
         }
+    }
+}
+
+impl fmt::Debug for Refusal {
+    fn fmt<W: fmt::Write>(&self, f: &mut fmt::Formatter<W>) -> Result<(), fmt::Error> {
+        fmt::Display::fmt(self, f)
     }
 }

@@ -3,7 +3,7 @@
 ghost use Rattle.std.specs.Prelude.{◌≡◌, ◌≤◌, ◌↔◌, ◌⊎◌, ◌++◌, Ok, Err, vec_capacity, OnOk, OnErr, IfOk, IfErr, length, option_copied};
 ghost use Rattle.std.specs.FinMap as finmap;
 ghost use Rattle.session_core.specs.History.{empty_history, IsSound};
-ghost use Rattle.session_core.specs.Step.{step, set_tree, copy_tree, drop_tree, put, annotate, undo, redo, begin, commit, abandon};
+ghost use Rattle.session_core.specs.Step.{step, set_tree, copy_tree, drop_tree, put, annotate, undo, redo, begin, abandon, SetsModule, Unloads, Commits};
 ghost use Rattle.session_core.specs.Dump.{dumped, AreNamedTerms};
 
 use crate::{Refusal, Timeline};
@@ -66,6 +66,22 @@ impl<M: Meaning> Session<M> {
         self.timeline.tree_names()
     }
 
+    /// The text of the module of this name, or `None` where there is none.
+    pub fn module_text(&self, name: &Label) -> Option<&[u8]>
+        ensures value { option_copied result ≡ finmap.get self.now.now.modules name.now }
+        ensures sound { IsSound self.now }
+    {
+        self.timeline.module_text(name)
+    }
+
+    /// The names of the modules, in byte order.
+    pub fn module_names(&self) -> Result<Vec<Label>, NoMemory>
+        ensures names { IfOk result (λ names. names.items ≡ finmap.keys self.now.now.modules) }
+        ensures sound { IsSound self.now }
+    {
+        self.timeline.module_names()
+    }
+
     /// How many steps there are to undo, and how many to redo. In a group these are those from
     /// outside it.
     pub fn counts(&self) -> (u64, u64)
@@ -76,10 +92,9 @@ impl<M: Meaning> Session<M> {
         (self.timeline.past() as u64, self.timeline.later() as u64)
     }
 
-    /// Appends a line for each tree, in byte order of the names: `tree`, the name and the tree. As a
-    /// script these lines give the trees again where each is within 65,536 bytes and each tree within
-    /// 100,000 terms. Where a growth of memory is refused, `out` is as before. Its capacity never
-    /// shrinks.
+    /// Appends a line for each tree, in byte order of the names: `tree`, the name and the tree. Where
+    /// there are modules, a group of commands follows that gives them again: `module`, the name and the
+    /// text. Where a growth of memory is refused, `out` is as before. Its capacity never shrinks.
     pub fn dump(&self, out: &mut Vec<u8>) -> Result<(), NoMemory>
         ensures ok { OnOk result (out.new.items ≡ out.old.items ++ dumped self.now.now) }
         ensures terms { OnOk result (AreNamedTerms self.now.now) }
@@ -163,6 +178,35 @@ impl<M: Meaning> Session<M> {
         self.timeline.annotate(name, path, annotations)
     }
 
+    /// Gives the name this module text, also where it has one. That is a step, as `set_tree` is. The text
+    /// has at most 4,000 tokens, else the refusal is `Deep`; it gives a module, else `Syntax`. Outside a
+    /// group the checker has to find no fault in all modules then, else the refusal is `Check` with the
+    /// first fault; in a group that waits for `commit`.
+    ///
+    /// A refusal leaves the session as it was.
+    pub fn set_module(&mut self, name: &Label, text: &[u8]) -> Result<(), Refusal>
+        ensures ok { OnOk result (SetsModule name.now text.now self.old (Ok self.new)) }
+        ensures refused { IfErr result (λ refusal. (refusal ≡ Refusal.Memory)
+            ⊎ SetsModule name.now text.now self.old (Err refusal)) }
+        ensures err { OnErr result (self.new ≡ self.old) }
+        ensures sound { IsSound self.new }
+    {
+        self.timeline.set_module(&self.primitives, name, text)
+    }
+
+    /// Takes the module of the name away. Where there is none, the refusal is `NoModule`. Outside a group
+    /// the checker has to find no fault in the modules that are left, else the refusal is `Check`. A
+    /// refusal leaves the session as it was.
+    pub fn unload(&mut self, name: &Label) -> Result<(), Refusal>
+        ensures ok { OnOk result (Unloads name.now self.old (Ok self.new)) }
+        ensures refused { IfErr result (λ refusal. (refusal ≡ Refusal.Memory)
+            ⊎ Unloads name.now self.old (Err refusal)) }
+        ensures err { OnErr result (self.new ≡ self.old) }
+        ensures sound { IsSound self.new }
+    {
+        self.timeline.unload(&self.primitives, name)
+    }
+
     /// Goes `n` steps back: the contents are those from before the last `n` steps, and with 0 they stay.
     /// In a group the refusal is `Group`; where there are fewer steps, `NoUndo`. A refusal leaves the
     /// session as it was. It takes no memory.
@@ -200,15 +244,16 @@ impl<M: Meaning> Session<M> {
 
     /// Closes the group. What was changed since it began is one step, and nothing can be redone after
     /// it; a group without a change is no step and leaves what can be redone. Where no group is open, the
-    /// refusal is `NoGroup`. A refusal leaves the session as it was, the group open.
+    /// refusal is `NoGroup`; where the checker finds a fault in the modules, `Check` with the first. A
+    /// refusal leaves the session as it was, the group open.
     pub fn commit(&mut self) -> Result<(), Refusal>
-        ensures ok { OnOk result (step commit self.old ≡ Ok self.new) }
+        ensures ok { OnOk result (Commits self.old (Ok self.new)) }
         ensures refused { IfErr result (λ refusal. (refusal ≡ Refusal.Memory)
-            ⊎ (step commit self.old ≡ Err refusal)) }
+            ⊎ Commits self.old (Err refusal)) }
         ensures err { OnErr result (self.new ≡ self.old) }
         ensures sound { IsSound self.new }
     {
-        self.timeline.commit()
+        self.timeline.commit_checked(&self.primitives)
     }
 
     /// Closes the group and takes back what was changed since it began; what can be undone and redone

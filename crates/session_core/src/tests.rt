@@ -7,7 +7,7 @@ use std::test::Fail;
 use term_core::{Label, LabelFault, NoMemory, Term};
 use term_paths::Path;
 
-// A call. Its first word is the name of a tree.
+// A call. Its first word is the name of a tree, or of a module.
 #[derive(Clone, Copy)]
 enum Call<'a> {
     Set(&'a [u8], i64),
@@ -18,6 +18,9 @@ enum Call<'a> {
     Put(&'a [u8], &'a [usize], i64),
     PutLists(&'a [u8], &'a [usize], u32),
     Annotate(&'a [u8], &'a [usize], i64),
+    // A name and a module text.
+    Module(&'a [u8], &'a [u8]),
+    Unload(&'a [u8]),
     Undo(u32),
     Redo(u32),
     Begin,
@@ -103,6 +106,21 @@ fn drop_tree(alloc: Global, session: &mut Session<NoPrimitives>, name: &[u8]) ->
     Ok(number_of(session.drop_tree(&name)))
 }
 
+fn set_module(
+    alloc: Global,
+    session: &mut Session<NoPrimitives>,
+    name: &[u8],
+    text: &[u8],
+) -> Result<u8, Fail> {
+    let name = Label::read(alloc, name)?;
+    Ok(number_of(session.set_module(&name, text)))
+}
+
+fn unload(alloc: Global, session: &mut Session<NoPrimitives>, name: &[u8]) -> Result<u8, Fail> {
+    let name = Label::read(alloc, name)?;
+    Ok(number_of(session.unload(&name)))
+}
+
 fn answer(alloc: Global, session: &mut Session<NoPrimitives>, call: &Call<'_>) -> Result<u8, Fail> {
     match call {
         Call::Set(name, value) => set(alloc, session, name, Term::integer(alloc, *value)),
@@ -116,6 +134,8 @@ fn answer(alloc: Global, session: &mut Session<NoPrimitives>, call: &Call<'_>) -
             put(alloc, session, name, path, nested_lists(alloc, *height)?)
         }
         Call::Annotate(name, path, value) => annotate(alloc, session, name, path, *value),
+        Call::Module(name, text) => set_module(alloc, session, name, text),
+        Call::Unload(name) => unload(alloc, session, name),
         Call::Undo(n) => Ok(number_of(session.undo(*n))),
         Call::Redo(n) => Ok(number_of(session.redo(*n))),
         Call::Begin => Ok(number_of(session.begin())),
@@ -269,6 +289,51 @@ fn groups_after_undo(rt: HostRuntime) -> Result<(), Fail> {
     Ok(())
 }
 
+#[test]
+fn modules_are_sound(rt: HostRuntime) -> Result<(), Fail> {
+    let calls = [
+        (Call::Module(b"b", b"strategies b = id"), 0),
+        (Call::Module(b"a", b"strategies a = b"), 0),
+        (Call::Module(b"a", b"strategies ="), 10),
+        (Call::Module(b"a", b"strategies a = c"), 11),
+        (Call::Module(b"c", b"strategies b = id"), 11),
+        (Call::Unload(b"b"), 11),
+        (Call::Unload(b"c"), 6),
+        (Call::Undo(1), 0),
+        (Call::Unload(b"b"), 0),
+        (Call::Redo(1), 16),
+        (Call::Undo(1), 0),
+    ];
+    let dump = b"begin\nmodule b strategies b = id\ncommit\n";
+    assert!(rt; is_row(rt.alloc(), &calls, dump, (1, 1))?);
+    Ok(())
+}
+
+// In a group the checker waits for the end, and a refused commit leaves the group open.
+#[test]
+fn modules_in_a_group(rt: HostRuntime) -> Result<(), Fail> {
+    let calls = [
+        (Call::Set(b"t", 1), 0),
+        (Call::Begin, 0),
+        (Call::Module(b"a", b"strategies a = b"), 0),
+        (Call::Module(b"c", b"strategies ="), 10),
+        (Call::Unload(b"c"), 6),
+        (Call::Commit, 11),
+        (Call::Set(b"t", 2), 0),
+        (Call::Module(b"b", b"strategies b = id"), 0),
+        (Call::Commit, 0),
+        (Call::Begin, 0),
+        (Call::Unload(b"b"), 0),
+        (Call::Commit, 11),
+        (Call::Abandon, 0),
+        (Call::Undo(1), 0),
+        (Call::Redo(1), 0),
+    ];
+    let dump = b"tree t 2\nbegin\nmodule a strategies a = b\nmodule b strategies b = id\ncommit\n";
+    assert!(rt; is_row(rt.alloc(), &calls, dump, (2, 0))?);
+    Ok(())
+}
+
 fn is_found_by_name(alloc: Global, session: &mut Session<NoPrimitives>) -> Result<bool, Fail> {
     let name = Label::read(alloc, b"t")?;
     if session.tree(&name).is_some() {
@@ -282,8 +347,29 @@ fn has_one_name(session: &Session<NoPrimitives>) -> Result<bool, Fail> {
     Ok(session.tree_names()?.len() == 1)
 }
 
+fn has_module(alloc: Global, session: &mut Session<NoPrimitives>) -> Result<bool, Fail> {
+    let name = Label::read(alloc, b"m")?;
+    if session.module_text(&name).is_some() {
+        return Ok(false);
+    }
+    session.set_module(&name, b"rules")?;
+    Ok(
+        session
+            .module_text(&name)
+            .is_some_and(|text| text.len() == 5),
+    )
+}
+
+fn has_one_module(session: &Session<NoPrimitives>) -> Result<bool, Fail> {
+    Ok(session.module_names()?.len() == 1)
+}
+
 fn trees_are_found(alloc: Global, session: &mut Session<NoPrimitives>) -> Result<bool, Fail> {
     Ok(is_found_by_name(alloc, session)? && has_one_name(session)?)
+}
+
+fn modules_are_found(alloc: Global, session: &mut Session<NoPrimitives>) -> Result<bool, Fail> {
+    Ok(has_module(alloc, session)? && has_one_module(session)?)
 }
 
 fn new_session_finds_trees(alloc: Global) -> Result<bool, Fail> {
@@ -291,9 +377,15 @@ fn new_session_finds_trees(alloc: Global) -> Result<bool, Fail> {
     trees_are_found(alloc, &mut session)
 }
 
+fn new_session_finds_modules(alloc: Global) -> Result<bool, Fail> {
+    let mut session = Session::new(alloc, Primitives::new(Vec::new(alloc)));
+    modules_are_found(alloc, &mut session)
+}
+
 #[test]
-fn trees_by_name(rt: HostRuntime) -> Result<(), Fail> {
+fn contents_by_name(rt: HostRuntime) -> Result<(), Fail> {
     assert!(rt; new_session_finds_trees(rt.alloc())?);
+    assert!(rt; new_session_finds_modules(rt.alloc())?);
     Ok(())
 }
 

@@ -1,17 +1,21 @@
 //! Steps over one store: the logs that lead back from each, and forward again.
 
-ghost use Rattle.std.specs.Prelude.{◌≡◌, ◌<◌, ◌≤◌, ◌+◌, ◌-◌, ◌++◌, ℕ, List, [], ◌∷◌, length, take, vec_capacity, IfOk, OnOk, OnErr, Some, None, Ok, IsSome, true, false, is_some, option_copied};
+ghost use Rattle.std.specs.Prelude.{◌≡◌, ◌<◌, ◌≤◌, ◌+◌, ◌-◌, ◌++◌, ℕ, List, [], ◌∷◌, length, take, vec_capacity, IfOk, OnOk, OnErr, Some, None, Ok, IsSome, true, false, is_some, option_copied, IfErr};
 ghost use Rattle.std.specs.Option.{option_map_or};
 ghost use Rattle.std.specs.FinMap as finmap;
 ghost use Rattle.std.specs.declared.option.Option.{Option};
 ghost use Rattle.prim_core.specs.Signature.{Signature};
-ghost use Rattle.change_log.specs.Slots.{contents, slot_of};
+ghost use Rattle.change_log.specs.Slots.{contents, slot_of, AreApart};
 ghost use Rattle.change_log.specs.Entries.{HasPlace, put};
 ghost use Rattle.session_core.specs.History.{empty_history, changed, step_back, step_forward, undone, redone};
 ghost use Rattle.session_core.specs.Step.{step, begin, commit, abandon};
+ghost use Rattle.session_core.specs.Modules.{Finds, AreRefused};
 ghost use Rattle.session_core.specs.Unfolded.{unfolded, IsPlaced};
 
+use crate::Refusal;
+use crate::modules::check_modules;
 use change_log::{Entry, Log, Store};
+use prim_core::{Meaning, Primitives};
 use std::alloc::Global;
 use std::mem;
 use term_core::{Label, NoMemory, Term};
@@ -49,6 +53,11 @@ impl Timeline {
             group: None,
             current: Log::new(alloc),
         }
+    }
+
+    /// The allocator of what is kept.
+    pub(crate) fn allocator(&self) -> Global {
+        *self.logs.allocator()
     }
 
     /// How many steps there are to undo.
@@ -94,6 +103,22 @@ impl Timeline {
         self.store.tree_names(*self.logs.allocator())
     }
 
+    /// The module text of this name, or `None` where there is none.
+    pub(crate) fn module_text(&self, name: &Label) -> Option<&[u8]>
+        ensures { option_copied result ≡ finmap.get (contents self.now.store).modules name.now }
+    {
+        let slot = self.store.find_module(name)?;
+        self.store.module(slot)
+    }
+
+    /// The names of the modules, in byte order.
+    pub(crate) fn module_names(&self) -> Result<Vec<Label>, NoMemory>
+        ensures { IfOk result (λ names. names.items
+            ≡ finmap.keys (contents self.now.store).modules) }
+    {
+        self.store.module_names(*self.logs.allocator())
+    }
+
     /// The slot for the tree of this name, which is made where there was none.
     pub(crate) fn tree_slot(&mut self, name: &Label) -> Result<usize, NoMemory>
         requires { IsPlaced self.old }
@@ -103,6 +128,19 @@ impl Timeline {
         ensures within { IfOk result (λ i. i < length self.new.store.trees) }
     {
         self.store.tree_slot(name)
+    }
+
+    /// The slot for the module of this name, which is made where there was none.
+    pub(crate) fn module_slot(&mut self, name: &Label) -> Result<usize, NoMemory>
+        requires { IsPlaced self.old }
+        ensures placed { IsPlaced self.new }
+        ensures same { (ps : List Signature) → unfolded ps self.new ≡ unfolded ps self.old }
+        ensures slot { IfOk result (λ i. slot_of self.new.store.modules name.now ≡ Some i) }
+        ensures within { IfOk result (λ i. i < length self.new.store.modules) }
+        ensures apart { AreApart self.new.store.modules }
+        ensures group { self.new.group ≡ self.old.group }
+    {
+        self.store.module_slot(name)
     }
 
     /// Makes a change, as a step, or as part of the group that is open. Where a growth of memory is
@@ -123,7 +161,7 @@ impl Timeline {
         }
     }
 
-    fn change_in_group(&mut self, entry: Entry<'_>) -> Result<(), NoMemory>
+    pub(crate) fn change_in_group(&mut self, entry: Entry<'_>) -> Result<(), NoMemory>
         requires placed { IsPlaced self.old }
         requires place { HasPlace entry self.old.store }
         requires inside { IsSome self.old.group }
@@ -154,6 +192,43 @@ impl Timeline {
         log.push(&mut self.store, entry)?;
         self.add_step(log);
         Ok(())
+    }
+
+    /// Makes a change as a step, where the checker finds no fault in the modules then. Else all stays as
+    /// it was.
+    pub(crate) fn change_checked<M: Meaning>(
+        &mut self,
+        primitives: &Primitives<M>,
+        entry: Entry<'_>,
+    ) -> Result<(), Refusal>
+        requires placed { IsPlaced self.old }
+        requires place { HasPlace entry self.old.store }
+        requires outside { self.old.group ≡ None }
+        ensures placed { IsPlaced self.new }
+        ensures ok { OnOk result (unfolded primitives.now self.new
+            ≡ changed (contents (put entry.entry self.old.store)) (unfolded primitives.now self.old)) }
+        ensures found { OnOk result
+            (Finds primitives.now (contents (put entry.entry self.old.store)).modules None) }
+        ensures refused { IfErr result (λ refusal. AreRefused primitives.now
+            (contents (put entry.entry self.old.store)).modules refusal) }
+        ensures err { OnErr result (unfolded primitives.now self.new
+            ≡ unfolded primitives.now self.old) }
+    {
+        let Ok(()) = self.logs.reserve(1) else {
+            return Err(Refusal::Memory);
+        };
+        let mut log = Log::new(*self.logs.allocator());
+        log.push(&mut self.store, entry)?;
+        match check_modules(*self.logs.allocator(), &self.store, primitives) {
+            Ok(()) => {
+                self.add_step(log);
+                Ok(())
+            }
+            Err(refusal) => {
+                log.roll_back(0, &mut self.store);
+                Err(refusal)
+            }
+        }
     }
 
     // Adds a step where there is room for it. Those that were undone are dropped.

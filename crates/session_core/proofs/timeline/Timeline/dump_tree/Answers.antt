@@ -3,7 +3,7 @@ use Rattle.term_core.specs.Tree.{Tree}
 use Rattle.term_core.specs.Terms.{IsTerm}
 use Rattle.term_core.specs.Word.{label_of}
 use Rattle.std.proofs.lemmas.Result.{on_ok_weaker}
-use Rattle.session_core.proofs.timeline.Timeline.dump_name.Goals as goal
+use Rattle.session_core.proofs.timeline.Timeline.dump_tree.Goals as goal
 
 pub returns-in-None-clause-term : goal.returns-in-None-clause-term
 returns-in-None-clause-term c =

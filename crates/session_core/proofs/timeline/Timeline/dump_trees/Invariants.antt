@@ -5,7 +5,7 @@ use Rattle.std.specs.FinMap as finmap
 use Rattle.aterm_text.specs.Printing.{Extends}
 use Rattle.change_log.specs.Slots.{contents}
 use Rattle.session_core.specs.Dump.{tree_line, IsNamedTerm}
-use Rattle.session_core.proofs.timeline.Timeline.dump_named.Given as goal
+use Rattle.session_core.proofs.timeline.Timeline.dump_trees.Given as goal
 
 -- the lines that were written and those still to come make the whole
 abbrev pub invariant-loop-name : goal.invariant-loop-name

@@ -1,0 +1,230 @@
+-- What reading and checking the modules of a store says of the history.
+use Rattle.std.proofs.Common.{◌≡◌, ◌<◌, ◌≤◌, ◌⊎◌, ℕ, Bool, true, false, cond, List, [], ◌∷◌, ◌++◌, length, map, Option, Some, None, IsSome, IfSome, Result, Ok, Err, OnOk, IfErr, option_and_then, inl, inr, refl, sym, ap, subst, ◌∙◌, arith}
+use Rattle.std.specs.Prelude.{IsSomeAnd, IfOk}
+use Rattle.std.proofs.Common.{append_assoc}
+use Rattle.std.proofs.lemmas.List.{append-nil}
+use Rattle.std.proofs.lemmas.Bool.{cases_lt}
+use Rattle.std.specs.Prelude.{option_map}
+use Rattle.std.specs.Ordering.{is_eq, nat_cmp, eq_by_cmp}
+use Rattle.std.specs.Cmp.{tied_itself}
+use Rattle.std.specs.Cmp.Lexicographic.{slice_cmp, nat_list_cmp_total}
+use Rattle.std.specs.FinMap as finmap
+use Rattle.std.specs.FinMap.{find, entries, get-entries, get-insert, get-remove}
+use Rattle.strategy_syntax.specs.Modules.{Module}
+use Rattle.strategy_check.specs.Tables.{Modules}
+use Rattle.strategy_check.specs.Faults.{Fault, Primitives}
+use Rattle.std.specs.Option.{MatchOption}
+use Rattle.change_log.specs.Contents.{Contents, with_module, without_module}
+use Rattle.change_log.specs.Slots.{Store, AreApart, contents, content, slot_of}
+use Rattle.change_log.specs.Entries.{Entry, slot_text, put, before}
+use Rattle.change_log.proofs.ContentsLemmas.{module_of_name, module_put, module_taken}
+use Rattle.prim_core.specs.Signature.{Signature}
+use Rattle.session_core.specs.Unfolded.{unfolded}
+use Rattle.session_core.specs.declared.timeline.Timeline.{Timeline}
+use Rattle.session_core.specs.declared.timeline.OpenGroup.{OpenGroup}
+use Rattle.session_core.specs.History.{Group, History, changed}
+use Rattle.session_core.specs.Step.{step, commit, unless, Becomes, SetsModule, Unloads, Commits}
+use Rattle.session_core.specs.Modules.{Texts, ReadsModule, AreReadable, AreRead, AreModules, Finds, IsUnread, AreRefused, refusal_of}
+use Rattle.session_core.specs.declared.refusal.Refusal.{Refusal}
+use Rattle.session_core.specs.declared.refusal.Refusal.TheVariants.{Memory, Deep, Syntax, NoModule, NoGroup}
+use Rattle.session_core.proofs.MapLemmas.{R, same_key}
+use Rattle.session_core.proofs.SoundLemmas.{readable_without}
+
+-- a text that gives a module isn't refused
+pub reads_one : (text : List ℕ) (m : Module) (refusal : Refusal) → ReadsModule text (Ok m) → ReadsModule text (Err refusal) → ⊥
+reads_one text m refusal ok (inl (deep, more)) = omega (arith, ok.0, more)
+reads_one text m refusal ok (inr (syntax, few, none)) = none m ok.1
+
+abbrev Reads : Module → Option (List ℕ) → Type 0
+Reads m o = IsSomeAnd o (λ text. ReadsModule text (Ok m))
+
+-- a text under one of the names that were read gives a module
+read_found : (texts : Texts) (es : List (List ℕ × List ℕ)) (ms : Modules) (q x : List ℕ) → AreRead texts (map (λ e. e.0) es) ms → find R q es ≡ Some x → (m : Module) × Reads m (finmap.get texts q)
+read_found texts [] ms q x h e = absurd (cc)
+read_found texts (d ∷ es) [] q x h e = absurd h
+read_found texts (d ∷ es) (m ∷ ms) q x h e = by (is_eq (R q d.0)) refl (λ f. read_found texts es ms q x h.2 f) e
+  where
+    by : (b : Bool) → is_eq (R q d.0) ≡ b → (find R q es ≡ Some x → (m : Module) × Reads m (finmap.get texts q)) → cond b (Some d.1) (find R q es) ≡ Some x → (m : Module) × Reads m (finmap.get texts q)
+    by true same rest e = (m.1, subst (λ (k : List ℕ). Reads m.1 (finmap.get texts k)) (sym (same_key q d.0 same)) h.1)
+    by false same rest e = rest e
+
+pub module_of : (texts : Texts) (ms : Modules) (name text : List ℕ) → AreModules texts ms → finmap.get texts name ≡ Some text → (m : Module) × ReadsModule text (Ok m)
+module_of texts ms name text are e =
+    let there = read_found texts (entries texts) ms name text are (sym (get-entries texts name) ∙ e) in
+    (there.0, subst (Reads there.0) e there.1)
+
+-- ---- a module more, or less
+
+-- where all texts give modules, the one that doesn't is the new one
+pub unread_new : (texts : Texts) (name text : List ℕ) (refusal : Refusal) → AreReadable texts → IsUnread (finmap.insert texts name text) refusal → ReadsModule text (Err refusal)
+unread_new texts name text refusal readable (q, x, e, unread) = by (eq_by_cmp (slice_cmp nat_cmp) q name) (sym (get-insert nat_list_cmp_total texts name text q) ∙ e)
+  where
+    by : (b : Bool) → cond b (Some text) (finmap.get texts q) ≡ Some x → ReadsModule text (Err refusal)
+    by true e = let same : x ≡ text = cc in subst (λ (t : List ℕ). ReadsModule t (Err refusal)) same unread
+    by false e =
+        let old : (m : Module) × ReadsModule x (Ok m) = subst (λ (o : Option (List ℕ)). IfSome o (λ t. (m : Module) × ReadsModule t (Ok m))) e (readable q) in
+        absurd (reads_one x old.0 refusal old.1 unread)
+
+pub none_unread : (texts : Texts) (refusal : Refusal) → AreReadable texts → IsUnread texts refusal → ⊥
+none_unread texts refusal readable (q, x, e, unread) =
+    let old : (m : Module) × ReadsModule x (Ok m) = subst (λ (o : Option (List ℕ)). IfSome o (λ t. (m : Module) × ReadsModule t (Ok m))) e (readable q) in
+    reads_one x old.0 refusal old.1 unread
+
+pub get_new : (texts : Texts) (name text : List ℕ) → finmap.get (finmap.insert texts name text) name ≡ Some text
+get_new texts name text = get-insert nat_list_cmp_total texts name text name ∙ ap (λ (b : Bool). cond b (Some text) (finmap.get texts name)) (itself name)
+  where
+    itself : (q : List ℕ) → eq_by_cmp (slice_cmp nat_cmp) q q ≡ true
+    itself q = ap is_eq (tied_itself nat_list_cmp_total q)
+
+-- ---- a store's modules
+
+named_text : (s : Store) (name : List ℕ) (o : Option ℕ) → AreApart s.modules → o ≡ slot_of s.modules name → finmap.get (contents s).modules name ≡ option_and_then (content s.modules) o
+named_text s name o apart here = module_of_name s name apart ∙ ap (option_and_then (content s.modules)) (sym here)
+
+not_some : (o : Option (List ℕ)) → IsSome o → o ≡ None → ⊥
+not_some None h e = absurd (cc)
+not_some (Some x) h e = absurd (cc)
+
+module _ (s : Store) (name : List ℕ) (apart : AreApart s.modules) where
+  -- a name with a module has a slot with content
+  pub unnamed : (o : Option ℕ) → IsSome (finmap.get (contents s).modules name) → o ≡ slot_of s.modules name → option_and_then (content s.modules) o ≡ None → ⊥
+  unnamed o there here none = not_some (finmap.get (contents s).modules name) there (named_text s name o apart here ∙ none)
+
+  pub text_there : (i : ℕ) (text : List ℕ) → Some i ≡ slot_of s.modules name → content s.modules i ≡ Some text → finmap.get (contents s).modules name ≡ Some text
+  text_there i text here is = named_text s name (Some i) apart here ∙ is
+
+  pub text_missing : (o : Option ℕ) → o ≡ slot_of s.modules name → option_and_then (content s.modules) o ≡ None → finmap.get (contents s).modules name ≡ None
+  text_missing o here none = named_text s name o apart here ∙ none
+
+module _ (texts : Texts) (name text : List ℕ) (is : finmap.get texts name ≡ Some text) (r : Result Module Refusal) where
+  pub named_ok : IfOk r (λ m. ReadsModule text (Ok m)) → IfOk r (λ m. IsSomeAnd (finmap.get texts name) (λ text. ReadsModule text (Ok m)))
+  named_ok ok = by r ok
+    where
+      by : (r : Result Module Refusal) → IfOk r (λ m. ReadsModule text (Ok m)) → IfOk r (λ m. IsSomeAnd (finmap.get texts name) (λ text. ReadsModule text (Ok m)))
+      by (Ok m) ok = subst (λ (o : Option (List ℕ)). IsSomeAnd o (λ text. ReadsModule text (Ok m))) (sym is) ok
+      by (Err e) ok = tt
+
+  pub named_refused : IfErr r (λ refusal. (refusal ≡ Memory) ⊎ ReadsModule text (Err refusal)) → IfErr r (λ refusal. (refusal ≡ Memory) ⊎ IsUnread texts refusal)
+  named_refused refused = by r refused
+    where
+      by : (r : Result Module Refusal) → IfErr r (λ refusal. (refusal ≡ Memory) ⊎ ReadsModule text (Err refusal)) → IfErr r (λ refusal. (refusal ≡ Memory) ⊎ IsUnread texts refusal)
+      by (Ok m) refused = tt
+      by (Err e) (inl memory) = inl memory
+      by (Err e) (inr unread) = inr (name, text, is, unread)
+
+-- ---- what comes of a text, and of what the checker found
+
+-- a text that gives no module changes nothing
+pub set_unread : (h : History) (name text : List ℕ) (refusal : Refusal) → ReadsModule text (Err refusal) → SetsModule name text h (Err refusal)
+set_unread h name text refusal unread = (Err refusal, unread, refl)
+
+becomes_found : (c : Contents) (h g : History) → h.group ≡ None → Finds h.primitives c.modules None → g ≡ changed c h → Becomes c h h.group (Ok g)
+becomes_found c h g outside finds is = subst (λ (o : Option Group). Becomes c h o (Ok g)) (sym outside) (None, finds, ap Ok is)
+
+becomes_refused : (c : Contents) (h : History) (fault : Fault) (refusal : Refusal) → h.group ≡ None → Finds h.primitives c.modules (Some fault) → refusal ≡ refusal_of fault → Becomes c h h.group (Err refusal)
+becomes_refused c h fault refusal outside finds is = subst (λ (o : Option Group). Becomes c h o (Err refusal)) (sym outside) (Some fault, finds, ap Err is)
+
+becomes_inside : (c : Contents) (h g : History) (group : Group) → h.group ≡ Some group → g ≡ changed c h → Becomes c h h.group (Ok g)
+becomes_inside c h g group inside is = subst (λ (o : Option Group). Becomes c h o (Ok g)) (sym inside) (ap Ok is)
+
+module _ (h : History) (name text : List ℕ) where
+  -- the module that the text gives, where all texts give one
+  given : (ps : Primitives) (found : Option Fault) → Finds ps (finmap.insert h.now.modules name text) found → (m : Module) × ReadsModule text (Ok m)
+  given ps found finds = module_of (finmap.insert h.now.modules name text) finds.modules name text finds.are (get_new h.now.modules name text)
+
+  pub set_found : (g : History) → h.group ≡ None → Finds h.primitives (with_module h.now name text).modules None → g ≡ changed (with_module h.now name text) h → SetsModule name text h (Ok g)
+  set_found g outside finds is = let m = given h.primitives None finds in (Ok m.0, m.1, becomes_found (with_module h.now name text) h g outside finds is)
+
+  pub set_refused : (refusal : Refusal) → h.group ≡ None → AreReadable h.now.modules → AreRefused h.primitives (with_module h.now name text).modules refusal → (refusal ≡ Memory) ⊎ SetsModule name text h (Err refusal)
+  set_refused refusal outside readable (inl (inl memory)) = inl memory
+  set_refused refusal outside readable (inl (inr unread)) = inr (set_unread h name text refusal (unread_new h.now.modules name text refusal readable unread))
+  set_refused refusal outside readable (inr (fault, finds, is)) =
+      let m = given h.primitives (Some fault) finds in
+      inr (Ok m.0, m.1, becomes_refused (with_module h.now name text) h fault refusal outside finds is)
+
+  pub set_inside : (g : History) (group : Group) (m : Module) → h.group ≡ Some group → ReadsModule text (Ok m) → g ≡ changed (with_module h.now name text) h → SetsModule name text h (Ok g)
+  set_inside g group m inside reads is = (Ok m, reads, becomes_inside (with_module h.now name text) h g group inside is)
+
+  module _ (there : finmap.get h.now.modules name ≡ Some text) where
+    unloads_by : (reply : Result History Refusal) → Becomes (without_module h.now name) h h.group reply → Unloads name h reply
+    unloads_by reply becomes =
+        subst (λ (o : Option (List ℕ)). MatchOption o (reply ≡ Err NoModule) (λ _. Becomes (without_module h.now name) h h.group reply)) (sym there) becomes
+
+    pub unload_found : (g : History) → h.group ≡ None → Finds h.primitives (without_module h.now name).modules None → g ≡ changed (without_module h.now name) h → Unloads name h (Ok g)
+    unload_found g outside finds is = unloads_by (Ok g) (becomes_found (without_module h.now name) h g outside finds is)
+
+    pub unload_refused : (refusal : Refusal) → h.group ≡ None → AreReadable h.now.modules → AreRefused h.primitives (without_module h.now name).modules refusal → (refusal ≡ Memory) ⊎ Unloads name h (Err refusal)
+    unload_refused refusal outside readable (inl (inl memory)) = inl memory
+    unload_refused refusal outside readable (inl (inr unread)) =
+        absurd (none_unread (finmap.remove h.now.modules name) refusal (readable_without h.now.modules name readable) unread)
+    unload_refused refusal outside readable (inr (fault, finds, is)) = inr (unloads_by (Err refusal) (becomes_refused (without_module h.now name) h fault refusal outside finds is))
+
+    pub unload_inside : (g : History) (group : Group) → h.group ≡ Some group → g ≡ changed (without_module h.now name) h → Unloads name h (Ok g)
+    unload_inside g group inside is = unloads_by (Ok g) (becomes_inside (without_module h.now name) h g group inside is)
+
+pub unload_none : (h : History) (name : List ℕ) → finmap.get h.now.modules name ≡ None → Unloads name h (Err NoModule)
+unload_none h name none =
+    subst (λ (o : Option (List ℕ)). MatchOption o (◌≡◌ {A = Result History Refusal} (Err NoModule) (Err NoModule)) (λ _. Becomes (without_module h.now name) h h.group (Err NoModule))) (sym none) refl
+
+module _ (h : History) where
+  commits_by : (group : Group) (reply : Result History Refusal) → h.group ≡ Some group → (found : Option Fault) × Finds h.primitives h.now.modules found × (reply ≡ unless found (step commit h)) → Commits h reply
+  commits_by group reply inside found =
+      subst (λ (o : Option Group). MatchOption o (reply ≡ Err NoGroup) (λ g. (found : Option Fault) × Finds h.primitives h.now.modules found × (reply ≡ unless found (step commit h)))) (sym inside) found
+
+  pub commit_found : (group : Group) (reply : Result History Refusal) → h.group ≡ Some group → Finds h.primitives h.now.modules None → step commit h ≡ reply → Commits h reply
+  commit_found group reply inside finds is = commits_by group reply inside (None, finds, sym is)
+
+  pub commit_refused : (group : Group) (refusal : Refusal) → h.group ≡ Some group → AreReadable h.now.modules → AreRefused h.primitives h.now.modules refusal → (refusal ≡ Memory) ⊎ Commits h (Err refusal)
+  commit_refused group refusal inside readable (inl (inl memory)) = inl memory
+  commit_refused group refusal inside readable (inl (inr unread)) = absurd (none_unread h.now.modules refusal readable unread)
+  commit_refused group refusal inside readable (inr (fault, finds, is)) = inr (commits_by group (Err refusal) inside (Some fault, finds, ap Err is))
+
+  pub commit_outside : h.group ≡ None → Commits h (Err NoGroup)
+  commit_outside none =
+      subst (λ (o : Option Group). MatchOption o (◌≡◌ {A = Result History Refusal} (Err NoGroup) (Err NoGroup)) (λ g. (found : Option Fault) × Finds h.primitives h.now.modules found × (Err NoGroup ≡ unless found (step commit h)))) (sym none) refl
+
+-- ---- the modules of names, one after another
+
+pub few_tokens : (n m : ℕ) → (m < n → ⊥) → n ≤ m
+few_tokens n m h = by (cases_lt m n)
+  where
+    by : (m < n) ⊎ (n ≤ m) → n ≤ m
+    by (inl more) = absurd (h more)
+    by (inr few) = few
+
+pub read_more : (texts : Texts) (all next : List (List ℕ)) (ms : Modules) (name : List ℕ) (m : List ℕ × Module) → m.0 ≡ name → IsSomeAnd (finmap.get texts name) (λ text. ReadsModule text (Ok m.1))
+    → ((rest : Modules) → AreRead texts (name ∷ next) rest → AreRead texts all (ms ++ rest)) → (rest : Modules) → AreRead texts next rest → AreRead texts all ((ms ++ m ∷ []) ++ rest)
+read_more texts all next ms name m same reads before rest h = subst (AreRead texts all) (sym (append_assoc ms (m ∷ []) rest)) (before (m ∷ rest) (same, reads, h))
+
+pub read_all : (texts : Texts) (all : List (List ℕ)) (ms : Modules) → ((rest : Modules) → AreRead texts [] rest → AreRead texts all (ms ++ rest)) → AreRead texts all ms
+read_all texts all ms before = subst (AreRead texts all) (append-nil ms) (before [] tt)
+
+-- ---- an open group
+
+pub group_of : (t : Timeline) (ps : List Signature) → IsSome t.group → (g : Group) × ((unfolded ps t).group ≡ Some g)
+group_of t ps h = by t.group h
+  where
+    by : (o : Option OpenGroup) → IsSome o → (g : Group) × (option_map {U = Group} (λ g. record { begun = contents (before t.current t.store); changed = g.changed }) o ≡ Some g)
+    by None h = absurd (cc)
+    by (Some g) h = (record { begun = contents (before t.current t.store); changed = g.changed }, refl)
+
+-- ---- a slot's text
+
+-- the contents with a text that was put in the slot of its name
+pub text_put : (t m : Timeline) (name copy text : List ℕ) (i : ℕ) (e : Entry) (ps : List Signature) → slot_of m.store.modules name ≡ Some i → e ≡ slot_text i (Some copy) → copy ≡ text → unfolded ps m ≡ unfolded ps t
+    → contents (put e m.store) ≡ with_module (contents t.store) name text
+text_put t m name copy text i e ps here is copied same =
+    ap (λ e. contents (put e m.store)) is ∙ module_put m.store name i copy here ∙ (λ j. with_module (now j) name (copied j))
+  where
+    now : contents m.store ≡ contents t.store
+    now = ap (λ h. h.now) same
+
+pub text_told : (t m n : Timeline) (name copy text : List ℕ) (i : ℕ) (e : Entry) (ps : List Signature) → slot_of m.store.modules name ≡ Some i → e ≡ slot_text i (Some copy) → copy ≡ text → unfolded ps m ≡ unfolded ps t
+    → unfolded ps n ≡ changed (contents (put e m.store)) (unfolded ps m) → unfolded ps n ≡ changed (with_module (contents t.store) name text) (unfolded ps t)
+text_told t m n name copy text i e ps here is copied same done =
+    let there = text_put t m name copy text i e ps here is copied same in
+    done ∙ (λ j. changed (there j) (same j))
+
+-- the contents without a text that was taken out of the slot of its name
+pub text_taken : (t : Timeline) (name : List ℕ) (i : ℕ) (e : Entry) → AreApart t.store.modules → slot_of t.store.modules name ≡ Some i → e ≡ slot_text i None → contents (put e t.store) ≡ without_module (contents t.store) name
+text_taken t name i e apart here is = ap (λ e. contents (put e t.store)) is ∙ module_taken t.store name i apart here

@@ -1,0 +1,67 @@
+-- Modules in the contents of a session: what their texts give, and what the checker finds in them.
+use Rattle.std.specs.Prelude.{◌≡◌, ◌<◌, ◌≤◌, ◌⊎◌, ℕ, List, [], ◌∷◌, length, Some, None, Ok, Err, IfSome, IsSomeAnd}
+use Rattle.std.specs.declared.option.Option.{Option}
+use Rattle.std.specs.declared.result.Result.{Result}
+use Rattle.std.specs.FinMap as finmap
+use Rattle.strategy_syntax.specs.Modules.{Module}
+use Rattle.strategy_parse.specs.declared.TheConstants.{MAX_TOKENS}
+use Rattle.strategy_parse.specs.Tokens.{tokens}
+use Rattle.strategy_parse.specs.Gives.{GivesModule}
+use Rattle.strategy_check.specs.Tables.{Modules}
+use Rattle.strategy_check.specs.Faults.{Fault, Primitives, faults, first}
+use Rattle.change_log.specs.Contents.{Named}
+use Rattle.session_core.specs.declared.refusal.Refusal.{Refusal}
+use Rattle.session_core.specs.declared.refusal.Refusal.TheVariants.{Memory, Deep, Syntax, Check}
+
+-- module texts by their names
+abbrev pub Texts : Type 0
+Texts = Named (List ℕ)
+
+-- What a text gives that is to be a module. One of over 4,000 tokens is refused before it is read.
+abbrev pub ReadsModule : List ℕ → Result Module Refusal → Type 0
+ReadsModule text (Ok m) = (length (tokens text) ≤ MAX_TOKENS) × GivesModule (tokens text) m
+ReadsModule text (Err refusal) =
+    ((refusal ≡ Deep) × (MAX_TOKENS < length (tokens text)))
+    ⊎ ((refusal ≡ Syntax) × (length (tokens text) ≤ MAX_TOKENS)
+    × ((m : Module) → GivesModule (tokens text) m → ⊥))
+
+-- each text gives a module
+abbrev pub AreReadable : Texts → Type 0
+AreReadable texts =
+    (name : List ℕ) → IfSome (finmap.get texts name) (λ text. (m : Module) × ReadsModule text (Ok m))
+
+-- These are the modules that the texts of these names give, one after another.
+abbrev pub AreRead : Texts → List (List ℕ) → Modules → Type 0
+AreRead texts [] [] = Unit {0}
+AreRead texts (name ∷ names) (m ∷ ms) =
+    (m.0 ≡ name) × IsSomeAnd (finmap.get texts name) (λ text. ReadsModule text (Ok m.1))
+    × AreRead texts names ms
+AreRead texts [] (m ∷ ms) = ⊥
+AreRead texts (name ∷ names) [] = ⊥
+
+-- These are the modules of all the texts, in byte order of their names.
+abbrev pub AreModules : Texts → Modules → Type 0
+AreModules texts ms = AreRead texts (finmap.keys texts) ms
+
+-- What the checker finds in the modules of these texts, with these primitives: the first fault, or none.
+pub record Finds (primitives : Primitives) (texts : Texts) (found : Option Fault) : Type 0 where
+  pub modules : Modules
+  pub are : AreModules texts modules
+  pub fault : found ≡ first (faults modules primitives)
+
+-- the refusal that tells a fault
+abbrev pub refusal_of : Fault → Refusal
+refusal_of fault = Check fault.kind fault.name fault.first fault.second
+
+-- ---- why modules are refused: for want of memory, for a text that gives none, or for a fault
+
+-- one of the texts gives no module, and this is why
+abbrev pub IsUnread : Texts → Refusal → Type 0
+IsUnread texts refusal =
+    (name : List ℕ) × (text : List ℕ) × (finmap.get texts name ≡ Some text)
+    × ReadsModule text (Err refusal)
+
+abbrev pub AreRefused : Primitives → Texts → Refusal → Type 0
+AreRefused primitives texts refusal =
+    ((refusal ≡ Memory) ⊎ IsUnread texts refusal)
+    ⊎ ((fault : Fault) × Finds primitives texts (Some fault) × (refusal ≡ refusal_of fault))

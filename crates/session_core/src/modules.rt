@@ -1,0 +1,207 @@
+//! The modules of a session: what their texts give, and whether the checker finds a fault in them.
+
+ghost use Rattle.std.specs.Prelude.{◌≡◌, ◌⊎◌, Ok, Err, None, IfOk, IfErr, OnOk, OnErr, IsSome, IsSomeAnd};
+ghost use Rattle.std.specs.FinMap as finmap;
+ghost use Rattle.change_log.specs.Slots.{contents};
+ghost use Rattle.session_core.specs.Step.{SetsModule, Unloads, Commits};
+ghost use Rattle.session_core.specs.Modules.{ReadsModule, AreModules, AreReadable, AreRefused, Finds, IsUnread};
+ghost use Rattle.session_core.specs.Unfolded.{unfolded, IsPlaced};
+
+use crate::{Refusal, Timeline};
+use change_log::{Entry, Store};
+use prim_core::{Meaning, Primitives};
+use std::alloc::Global;
+use strategy_check::{CheckFault, check};
+use strategy_parse::{ParseFault, parse_module};
+use strategy_syntax::Module;
+use term_core::{Label, NoMemory};
+
+impl Timeline {
+    /// Gives the name this module text. Outside a group the checker has to find no fault in the modules
+    /// then.
+    pub(crate) fn set_module<M: Meaning>(
+        &mut self,
+        primitives: &Primitives<M>,
+        name: &Label,
+        text: &[u8],
+    ) -> Result<(), Refusal>
+        requires placed { IsPlaced self.old }
+        requires readable { AreReadable (contents self.old.store).modules }
+        ensures placed { IsPlaced self.new }
+        ensures ok { OnOk result (SetsModule name.now text.now (unfolded primitives.now self.old)
+            (Ok (unfolded primitives.now self.new))) }
+        ensures refused { IfErr result (λ refusal. (refusal ≡ Refusal.Memory)
+            ⊎ SetsModule name.now text.now (unfolded primitives.now self.old) (Err refusal)) }
+        ensures err { OnErr result (unfolded primitives.now self.new
+            ≡ unfolded primitives.now self.old) }
+    {
+        if self.in_group() {
+            return self.set_module_in_group(primitives, name, text);
+        }
+        let copy = copied(self.allocator(), text)?;
+        let slot = self.module_slot(name)?;
+        self.change_checked(primitives, Entry::text(slot, Some(copy)))
+    }
+
+    // In a group the text has to give a module; the checker waits for the end of the group.
+    fn set_module_in_group<M: Meaning>(
+        &mut self,
+        primitives: &Primitives<M>,
+        name: &Label,
+        text: &[u8],
+    ) -> Result<(), Refusal>
+        requires placed { IsPlaced self.old }
+        requires inside { IsSome self.old.group }
+        ensures placed { IsPlaced self.new }
+        ensures ok { OnOk result (SetsModule name.now text.now (unfolded primitives.now self.old)
+            (Ok (unfolded primitives.now self.new))) }
+        ensures refused { IfErr result (λ refusal. (refusal ≡ Refusal.Memory)
+            ⊎ SetsModule name.now text.now (unfolded primitives.now self.old) (Err refusal)) }
+        ensures err { OnErr result (unfolded primitives.now self.new
+            ≡ unfolded primitives.now self.old) }
+    {
+        drop(read_module(self.allocator(), text)?);
+        let copy = copied(self.allocator(), text)?;
+        let slot = self.module_slot(name)?;
+        self.change_in_group(Entry::text(slot, Some(copy)))?;
+        Ok(())
+    }
+
+    /// Takes the module of the name away. Outside a group the checker has to find no fault in the modules
+    /// then.
+    pub(crate) fn unload<M: Meaning>(
+        &mut self,
+        primitives: &Primitives<M>,
+        name: &Label,
+    ) -> Result<(), Refusal>
+        requires placed { IsPlaced self.old }
+        requires readable { AreReadable (contents self.old.store).modules }
+        ensures placed { IsPlaced self.new }
+        ensures ok { OnOk result (Unloads name.now (unfolded primitives.now self.old)
+            (Ok (unfolded primitives.now self.new))) }
+        ensures refused { IfErr result (λ refusal. (refusal ≡ Refusal.Memory)
+            ⊎ Unloads name.now (unfolded primitives.now self.old) (Err refusal)) }
+        ensures err { OnErr result (unfolded primitives.now self.new
+            ≡ unfolded primitives.now self.old) }
+    {
+        let Some(slot) = self.store.find_module(name) else {
+            return Err(Refusal::NoModule);
+        };
+        if self.store.module(slot).is_none() {
+            return Err(Refusal::NoModule);
+        }
+        if self.in_group() {
+            self.change_in_group(Entry::text(slot, None))?;
+            return Ok(());
+        }
+        self.change_checked(primitives, Entry::text(slot, None))
+    }
+
+    /// Makes what the open group changed one step, and closes it, where the checker finds no fault in the
+    /// modules now.
+    pub(crate) fn commit_checked<M: Meaning>(
+        &mut self,
+        primitives: &Primitives<M>,
+    ) -> Result<(), Refusal>
+        requires placed { IsPlaced self.old }
+        requires readable { AreReadable (contents self.old.store).modules }
+        ensures placed { IsPlaced self.new }
+        ensures ok { OnOk result (Commits (unfolded primitives.now self.old)
+            (Ok (unfolded primitives.now self.new))) }
+        ensures refused { IfErr result (λ refusal. (refusal ≡ Refusal.Memory)
+            ⊎ Commits (unfolded primitives.now self.old) (Err refusal)) }
+        ensures err { OnErr result (unfolded primitives.now self.new
+            ≡ unfolded primitives.now self.old) }
+    {
+        if !self.in_group() {
+            return Err(Refusal::NoGroup);
+        }
+        match check_modules(self.allocator(), &self.store, primitives) {
+            Ok(()) => self.commit(),
+            Err(refusal) => Err(refusal),
+        }
+    }
+}
+
+/// Tells whether the checker finds no fault in the modules of the store.
+pub(crate) fn check_modules<M: Meaning>(
+    alloc: Global,
+    store: &Store,
+    primitives: &Primitives<M>,
+) -> Result<(), Refusal>
+    ensures ok { OnOk result (Finds primitives.now (contents store.now).modules None) }
+    ensures refused { IfErr result (λ refusal. AreRefused primitives.now
+        (contents store.now).modules refusal) }
+{
+    let modules = match read_modules(alloc, store) {
+        Ok(modules) => modules,
+        Err(refusal) => return Err(refusal),
+    };
+    match check(alloc, &modules, primitives) {
+        Ok(_) => Ok(()),
+        Err(CheckFault::Memory) => Err(Refusal::Memory),
+        Err(CheckFault::Fault(kind, name, first, second)) => {
+            Err(Refusal::Check(kind, name, first, second))
+        }
+    }
+}
+
+// The modules of the store, in byte order of their names.
+fn read_modules(alloc: Global, store: &Store) -> Result<Vec<(Label, Module)>, Refusal>
+    ensures ok { IfOk result (λ modules. AreModules (contents store.now).modules modules.items) }
+    ensures refused { IfErr result (λ refusal. (refusal ≡ Refusal.Memory)
+        ⊎ IsUnread (contents store.now).modules refusal) }
+{
+    let names = store.module_names(alloc)?;
+    let Ok(mut modules) = Vec::with_capacity(alloc, names.len()) else {
+        return Err(Refusal::Memory);
+    };
+    for name in &names {
+        let module = match read_named(alloc, store, name) {
+            Ok(module) => module,
+            Err(refusal) => return Err(refusal),
+        };
+        let name = name.try_clone()?;
+        let Ok(()) = modules.push((name, module)) else {
+            return Err(Refusal::Memory);
+        };
+    }
+    Ok(modules)
+}
+
+// The module of a name that has one.
+fn read_named(alloc: Global, store: &Store, name: &Label) -> Result<Module, Refusal>
+    requires { IsSome (finmap.get (contents store.now).modules name.now) }
+    ensures ok { IfOk result (λ m. IsSomeAnd (finmap.get (contents store.now).modules name.now)
+        (λ text. ReadsModule text (Ok m))) }
+    ensures refused { IfErr result (λ refusal. (refusal ≡ Refusal.Memory)
+        ⊎ IsUnread (contents store.now).modules refusal) }
+{
+    let Some(slot) = store.find_module(name) else {
+        return Err(Refusal::NoModule);
+    };
+    let Some(text) = store.module(slot) else {
+        return Err(Refusal::NoModule);
+    };
+    read_module(alloc, text)
+}
+
+// The module that a text gives.
+fn read_module(alloc: Global, text: &[u8]) -> Result<Module, Refusal>
+    ensures ok { IfOk result (λ m. ReadsModule text.now (Ok m)) }
+    ensures refused { IfErr result (λ refusal. (refusal ≡ Refusal.Memory)
+        ⊎ ReadsModule text.now (Err refusal)) }
+{
+    match parse_module(alloc, text) {
+        Ok(module) => Ok(module),
+        Err(ParseFault::Deep) => Err(Refusal::Deep),
+        Err(ParseFault::Syntax) => Err(Refusal::Syntax),
+        Err(ParseFault::Memory) => Err(Refusal::Memory),
+    }
+}
+
+fn copied(alloc: Global, text: &[u8]) -> Result<Vec<u8>, NoMemory>
+    ensures { IfOk result (λ copy. copy.items ≡ text.now) }
+{
+    Ok(Vec::from_slice(alloc, text)?)
+}
