@@ -1,59 +1,46 @@
 -- A dump reads back: its commands, their replies, and what they leave.
-use Rattle.std.proofs.Common.{◌≡◌, ◌≤◌, ◌+◌, ℕ, Bool, cond, true, false, ◌&&◌, List, [], ◌∷◌, ◌++◌, length, map, codes, Some, None, Ok, Err, Result, refl, sym, ap, ◌∙◌, subst, inl, inr, arith, append_assoc, if◌then◌else◌}
-use Rattle.std.specs.Prelude.{is_ok, is_err, count_by}
+use Rattle.std.proofs.Common.{◌≡◌, ◌≤◌, ◌+◌, ℕ, Bool, cond, true, false, ◌&&◌, List, [], ◌∷◌, ◌++◌, length, map, codes, Some, None, Ok, Err, Result, refl, sym, ap, ◌∙◌, subst, arith, append_assoc, if◌then◌else◌}
+use Rattle.std.specs.Prelude.{is_ok, is_err, count_by, IfSome}
 use Rattle.std.specs.Result.{MatchResult}
-use Rattle.std.specs.Option.{option_map_or}
+use Rattle.std.specs.Option.{MatchOption, option_map_or}
 use Rattle.std.specs.declared.option.Option.{Option}
 use Rattle.std.specs.List.{AllByRecursion, flat_map, repeat}
 use Rattle.std.specs.Cmp.Derive.{both_true}
-use Rattle.std.specs.FinMap.{entries, len-entries}
+use Rattle.std.specs.FinMap as finmap
+use Rattle.std.specs.FinMap.{entries}
 use Rattle.std.proofs.lemmas.Bool.{le-leb, le-ltb}
 use Rattle.std.proofs.lemmas.List.{length-append}
 use Rattle.std.proofs.lemmas.List.Sums.{sum_by-cons}
 use Rattle.std.specs.Bool.{MatchBool}
-use Rattle.term_core.specs.Tree.{Tree}
-use Rattle.term_core.specs.Terms.{IsTerm}
 use Rattle.term_core.specs.Size.{height, size, fits}
 use Rattle.term_core.specs.declared.TheConstants.{MAX_HEIGHT, MAX_SIZE}
-use Rattle.aterm_text.specs.Grammar.{Spells}
 use Rattle.aterm_text.specs.Printed.{print}
-use Rattle.aterm_text.specs.Laws.{OneTerm, PrintedTextReadsBack, PrintedTextIsOneLine, PrintedTextNests, PrintedTextIsAsLong}
-use Rattle.change_log.specs.Contents.{Contents, with_tree}
+use Rattle.aterm_text.specs.Laws.{PrintedTextReadsBack, PrintedTextIsOneLine, PrintedTextNests, PrintedTextIsAsLong}
+use Rattle.strategy_syntax.specs.Modules.{Module}
+use Rattle.strategy_check.specs.Faults.{Fault, Primitives}
+use Rattle.change_log.specs.Contents.{Contents, with_tree, with_module}
+use Rattle.session_core.specs.Modules.{ReadsModule, Finds}
 use Rattle.session_core.specs.History.{Group, History, changed, stepped}
-use Rattle.session_core.specs.Step.{step, retold, set_tree}
-use Rattle.session_core.specs.Dump.{tree_line, dumped}
+use Rattle.session_core.specs.Step.{step, retold, committed, outside, inside, unless, Becomes, SetsModule, Commits, set_tree, commit as commit_act}
+use Rattle.session_core.specs.Dump.{tree_line, module_line, behind_name, dumped}
 use Rattle.session_core.specs.declared.refusal.Refusal.{Refusal}
-use Rattle.session_core.specs.declared.refusal.Refusal.TheVariants.{Big}
+use Rattle.session_core.specs.declared.refusal.Refusal.TheVariants.{Big, NoGroup}
 use Rattle.script_core.specs.declared.TheConstants.{MAX_COMMAND}
 use Rattle.script_core.specs.Script.{lines, cut, commands}
-use Rattle.script_core.specs.Form.{Form, tree}
+use Rattle.script_core.specs.Form.{Form, tree, set_module, begin, commit, command_of}
 use Rattle.script_core.specs.Handed.{Handed, text, long, handed_as, handed}
-use Rattle.script_core.specs.Machine.{Reply, line, ok_with, done, given_to, ReadAs, Replies, ReplyTo, history_after}
+use Rattle.script_core.specs.Machine.{Reply, line, ok_with, done, Replies, ReplyTo, history_after}
 use Rattle.script_core.specs.Answer.{ReplyInRun}
 use Rattle.script_core.specs.declared.running.Settings.{Settings}
 use Rattle.script_core.specs.Run.{Replied, history_after_all, out}
-use Rattle.script_core.specs.Laws.{CanBeGiven, AreClear, DumpReadsBack, DumpIsAnswered}
-use Rattle.script_core.proofs.DumpText.{tree_command, IsDumped, command-is, lines-dumped, cut-dumped}
-use Rattle.script_core.proofs.DumpContents.{Entry, IsGiven, inserted, inserted-all, all_given, dumped-is}
-
--- the command that gives an entry again
-abbrev command : Entry → List ℕ
-command e = tree_command e.0 (print e.1)
-
-abbrev text_of : List Entry → List ℕ
-text_of es = flat_map (λ e. tree_line e.0 e.1) es
+use Rattle.script_core.specs.Laws.{OneRun, CanBeGiven, IsBare, AreClear, DumpReadsBack, DumpIsAnswered}
+use Rattle.script_core.proofs.DumpText.{tree_command, module_command, IsDumped, IsWhole, script_of, cut-script, command-is, module_command-is, tree_whole, module_whole, begin_whole, commit_whole}
+use Rattle.script_core.proofs.DumpContents.{TreeEntry, TextEntry, IsGiven, IsTold, inserted, inserted-all, trees_given, modules_told, group_text, dumped-is}
 
 abbrev IsShort : List ℕ → Type 0
 IsShort command = length command ≤ MAX_COMMAND
 
--- ---- what the commands leave
-
-abbrev reply_of : History → Entry → Reply
-reply_of h e = Ok (ok_with (retold h e.0 e.1))
-
-abbrev replies_of : History → List Entry → List Reply
-replies_of h [] = []
-replies_of h (e ∷ es) = reply_of h e ∷ replies_of (retold h e.0 e.1) es
+-- ---- histories after changes
 
 now-changed : (c : Contents) (h : History) → (changed c h).now ≡ c
 now-changed c h = at h.group
@@ -62,149 +49,375 @@ now-changed c h = at h.group
     at None = refl
     at (Some g) = refl
 
-now-after : (h : History) (es : List Entry) → (history_after_all h (replies_of h es)).now ≡ record h.now { trees = inserted h.now.trees es }
-now-after h [] = refl
-now-after h (e ∷ es) =
-    now-after (retold h e.0 e.1) es ∙ ap (λ (c : Contents). record c { trees = inserted c.trees es }) (now-changed (with_tree h.now e.0 e.1) h)
+primitives-changed : (c : Contents) (h : History) → (changed c h).primitives ≡ h.primitives
+primitives-changed c h = at h.group
+  where
+    at : (o : Option Group) → (option_map_or (λ g. record h { now = c; group = Some (record g { changed = true }) }) o (record (stepped h.now h) { now = c })).primitives ≡ h.primitives
+    at None = refl
+    at (Some g) = refl
 
-out-is : (h : History) (es : List Entry) → out (replies_of h es) ≡ repeat (length es) (line (codes "ok"))
-out-is h [] = refl
-out-is h (e ∷ es) = ap (λ (xs : List ℕ). line (codes "ok") ++ xs) (out-is (retold h e.0 e.1) es)
+outside-changed : (c : Contents) (h : History) → h.group ≡ None → (changed c h).group ≡ None
+outside-changed c h none =
+    ap (λ (o : Option Group). (option_map_or (λ g. record h { now = c; group = Some (record g { changed = true }) }) o (record (stepped h.now h) { now = c })).group) none ∙ none
 
-accepted-is : (h : History) (es : List Entry) → count_by is_ok (replies_of h es) ≡ length es
-accepted-is h [] = refl
-accepted-is h (e ∷ es) =
-    let rest : List Reply = replies_of (retold h e.0 e.1) es in
-    omega (arith, sum_by-cons (λ (r : Reply). cond (is_ok r) 1 0) (reply_of h e) rest, accepted-is (retold h e.0 e.1) es)
+inside-changed : (c : Contents) (h : History) (g : Group) → h.group ≡ Some g → (changed c h).group ≡ Some (record g { changed = true })
+inside-changed c h g some =
+    ap (λ (o : Option Group). (option_map_or (λ g. record h { now = c; group = Some (record g { changed = true }) }) o (record (stepped h.now h) { now = c })).group) some
 
-refused-is : (h : History) (es : List Entry) → count_by is_err (replies_of h es) ≡ 0
-refused-is h [] = refl
-refused-is h (e ∷ es) =
-    let rest : List Reply = replies_of (retold h e.0 e.1) es in
-    omega (arith, sum_by-cons (λ (r : Reply). cond (is_err r) 1 0) (reply_of h e) rest, refused-is (retold h e.0 e.1) es)
+-- what the trees leave, one after another
+abbrev trees_after : History → List TreeEntry → History
+trees_after h [] = h
+trees_after h (e ∷ es) = trees_after (retold h e.0 e.1) es
 
--- ---- the commands
+record HasTrees (es : List TreeEntry) (h g : History) : Type 0 where
+  now : g.now ≡ record h.now { trees = inserted h.now.trees es }
+  primitives : g.primitives ≡ h.primitives
+  group : g.group ≡ None
 
-line-is : (e : Entry) (y : List ℕ) → tree_line e.0 e.1 ++ y ≡ command e ++ 10 ∷ y
-line-is e y = simp append_assoc
+has_trees : (es : List TreeEntry) (h : History) → h.group ≡ None → HasTrees es h (trees_after h es)
+has_trees [] h none = record { now = refl; primitives = refl; group = none }
+has_trees (e ∷ es) h none =
+    let c : Contents = with_tree h.now e.0 e.1 in
+    let rest = has_trees es (changed c h) (outside-changed c h none) in
+    record {
+      now = rest.now ∙ ap (λ (c : Contents). record c { trees = inserted c.trees es }) (now-changed c h);
+      primitives = rest.primitives ∙ primitives-changed c h;
+      group = rest.group;
+    }
+
+-- what the modules leave
+abbrev modules_after : History → List TextEntry → History
+modules_after h [] = h
+modules_after h (e ∷ es) = modules_after (changed (with_module h.now e.0 e.1) h) es
+
+record HasModules (es : List TextEntry) (h k : History) : Type 0 where
+  now : k.now ≡ record h.now { modules = inserted h.now.modules es }
+  primitives : k.primitives ≡ h.primitives
+  open_group : Group
+  group : k.group ≡ Some open_group
+
+has_modules : (es : List TextEntry) (h : History) (g : Group) → h.group ≡ Some g → HasModules es h (modules_after h es)
+has_modules [] h g some = record { now = refl; primitives = refl; open_group = g; group = some }
+has_modules (e ∷ es) h g some =
+    let c : Contents = with_module h.now e.0 e.1 in
+    let rest = has_modules es (changed c h) (record g { changed = true }) (inside-changed c h g some) in
+    record {
+      now = rest.now ∙ ap (λ (c : Contents). record c { modules = inserted c.modules es }) (now-changed c h);
+      primitives = rest.primitives ∙ primitives-changed c h;
+      open_group = rest.open_group;
+      group = rest.group;
+    }
+
+now-committed : (g : Group) (h : History) → (committed g h).now ≡ h.now
+now-committed g h = at g.changed
+  where
+    at : (b : Bool) → (if b then record (stepped g.begun h) { group = None } else record h { group = None }).now ≡ h.now
+    at true = refl
+    at false = refl
+
+-- ---- commands that are answered `ok`
 
 stays : (stop : Bool) → (stop && false) ≡ false
 stays true = refl
 stays false = refl
 
-module _ (one : OneTerm) (back : PrintedTextReadsBack) (oneline : PrintedTextIsOneLine) (nests : PrintedTextNests) (lengthy : PrintedTextIsAsLong) where
-  is_dumped : (e : Entry) → IsGiven e → IsDumped e.0 (print e.1)
-  is_dumped e g = record { label = g.label; line = oneline e.1 g.term }
+abbrev falses : List (List ℕ) → List Bool
+falses [] = []
+falses (c ∷ cs) = false ∷ falses cs
 
-  lines-are : (es : List Entry) → AllByRecursion IsGiven es → lines (text_of es) ≡ map command es
-  lines-are [] g = refl
-  lines-are (e ∷ es) g =
-      ap lines (line-is e (text_of es)) ∙ lines-dumped e.0 (print e.1) (text_of es) (is_dumped e g.0) ∙ ap (λ (ls : List (List ℕ)). command e ∷ ls) (lines-are es g.1)
+module _ (steps : ℕ) where
+  -- the commands lead from one history to another, and each is answered `ok`
+  abbrev Oks : List (List ℕ) → History → History → Type 0
+  Oks [] h g = h ≡ g
+  Oks (c ∷ cs) h g = (k : History) × ReplyTo steps (text c) h (Ok (ok_with k)) × Oks cs k g
 
-  cut-is : (es : List Entry) → AllByRecursion IsGiven es → cut (map command es) ≡ record { going_on = []; commands = map command es }
-  cut-is [] g = refl
-  cut-is (e ∷ es) g = cut-dumped e.0 (print e.1) (map command es) (map command es) (cut-is es g.1)
+  oks-append : (cs ds : List (List ℕ)) (h k g : History) → Oks cs h k → Oks ds k g → Oks (cs ++ ds) h g
+  oks-append [] ds h k g e p = subst (λ (x : History). Oks ds x g) (sym e) p
+  oks-append (c ∷ cs) ds h k g o p = (o.0, o.1, oks-append cs ds o.0 k g o.2 p)
 
-  commands-are : (es : List Entry) → AllByRecursion IsGiven es → commands (text_of es) ≡ map command es
-  commands-are es g = ap (λ (ls : List (List ℕ)). (cut ls).commands) (lines-are es g) ∙ (λ i. (cut-is es g i).commands)
+  -- a command of this form
+  said : (command : List ℕ) (form : Form) (h : History) (reply : Reply) → command_of steps command ≡ Ok form → Replies form h reply → ReplyTo steps (text command) h reply
+  said command form h reply is replies = subst (λ (form : Result Form Refusal). MatchResult form (λ form. Replies form h reply) (λ refusal. reply ≡ Err refusal)) (sym is) replies
 
-  as_text : (x : List ℕ) → IsShort x → handed_as x ≡ text x
-  as_text x h = ap (λ (b : Bool). if b then long else text x) (le-ltb MAX_COMMAND (length x) h)
+  abbrev replies_of : (cs : List (List ℕ)) (h g : History) → Oks cs h g → List Reply
+  replies_of [] h g o = []
+  replies_of (c ∷ cs) h g o = Ok (ok_with o.0) ∷ replies_of cs o.0 g o.2
 
-  handed-are : (es : List Entry) → AllByRecursion IsShort (map command es) → map handed_as (map command es) ≡ map (λ e. text (command e)) es
-  handed-are [] h = refl
-  handed-are (e ∷ es) h = λ i. as_text (command e) h.0 i ∷ handed-are es h.1 i
+  history-is : (cs : List (List ℕ)) (h g : History) (o : Oks cs h g) → history_after_all h (replies_of cs h g o) ≡ g
+  history-is [] h g o = o
+  history-is (c ∷ cs) h g o = history-is cs o.0 g o.2
 
-  -- ---- one reply
+  out-is : (cs : List (List ℕ)) (h g : History) (o : Oks cs h g) → out (replies_of cs h g o) ≡ repeat (length cs) (line (codes "ok"))
+  out-is [] h g o = refl
+  out-is (c ∷ cs) h g o = ap (λ (xs : List ℕ). line (codes "ok") ++ xs) (out-is cs o.0 g o.2)
 
-  read_as : (t : Tree) → IsTerm t → height t ≤ MAX_HEIGHT → (given : Result Tree Refusal) → ReadAs Spells (print t) given → given ≡ Ok t
-  read_as t h low (Ok u) p = ap Ok (one.term (print t) u t p.1 (back t h))
-  read_as t h low (Err refusal) (inl deep) = absurd (omega (arith, deep.1, nests t h, low))
-  read_as t h low (Err refusal) (inr none) = absurd (none.2 t (back t h))
+  accepted-is : (cs : List (List ℕ)) (h g : History) (o : Oks cs h g) → count_by is_ok (replies_of cs h g o) ≡ length cs
+  accepted-is [] h g o = refl
+  accepted-is (c ∷ cs) h g o =
+      let first : Reply = Ok (ok_with o.0) in
+      omega (arith, sum_by-cons (λ (r : Reply). cond (is_ok r) 1 0) first (replies_of cs o.0 g o.2), accepted-is cs o.0 g o.2)
 
-  fits-given : (e : Entry) → IsGiven e → IsShort (command e) → fits 0 e.1 ≡ true
-  fits-given e g short =
-      let within : size e.1 ≤ length (command e) = omega (arith, lengthy e.1 g.term, length-append (codes "tree ") (e.0 ++ 32 ∷ print e.1), length-append e.0 (32 ∷ print e.1)) in
-      both_true (le-leb (0 + height e.1) MAX_HEIGHT (omega (arith, g.low))) (le-leb (size e.1) MAX_SIZE (omega (arith, within, short)))
+  refused-is : (cs : List (List ℕ)) (h g : History) (o : Oks cs h g) → count_by is_err (replies_of cs h g o) ≡ 0
+  refused-is [] h g o = refl
+  refused-is (c ∷ cs) h g o =
+      let first : Reply = Ok (ok_with o.0) in
+      omega (arith, sum_by-cons (λ (r : Reply). cond (is_err r) 1 0) first (replies_of cs o.0 g o.2), refused-is cs o.0 g o.2)
 
-  stepped-to : (e : Entry) → IsGiven e → IsShort (command e) → (h : History) → done (step (set_tree e.0 e.1) h) ≡ reply_of h e
-  stepped-to e g short h = ap (λ (b : Bool). done (if b then Ok (retold h e.0 e.1) else Err Big)) (fits-given e g short)
+  -- ---- the tree commands
 
-  -- the text that is read, and the step with its tree
-  abbrev replied_by : Entry → History → Result Tree Refusal → Reply
-  replied_by e h given = done (given_to given (λ t. step (set_tree e.0 t) h))
+  module _ (back : PrintedTextReadsBack) (oneline : PrintedTextIsOneLine) (nests : PrintedTextNests) (lengthy : PrintedTextIsAsLong) where
+    is_dumped : (e : TreeEntry) → IsGiven e → IsDumped e.0 (print e.1)
+    is_dumped e g = record { label = g.label; line = oneline e.1 g.term }
 
-  reply-is : (steps : ℕ) (e : Entry) → IsGiven e → IsShort (command e) → (h : History) (reply : Reply) → ReplyTo steps (text (command e)) h reply → reply ≡ reply_of h e
-  reply-is steps e g short h reply p =
-      let read : Replies (tree e.0 (print e.1)) h reply =
-      subst (λ (form : Result Form Refusal). MatchResult form (λ form. Replies form h reply) (λ refusal. reply ≡ Err refusal)) (command-is steps e.0 (print e.1) (is_dumped e g)) p in
-      read.2 ∙ ap (replied_by e h) (read_as e.1 g.term g.low read.0 read.1) ∙ stepped-to e g short h
+    fits-given : (e : TreeEntry) → IsGiven e → IsShort (tree_command e.0 (print e.1)) → fits 0 e.1 ≡ true
+    fits-given e g short =
+        let within : size e.1 ≤ length (tree_command e.0 (print e.1)) = omega (arith, lengthy e.1 g.term, length-append (codes "tree ") (e.0 ++ 32 ∷ print e.1), length-append e.0 (32 ∷ print e.1)) in
+        both_true (le-leb (0 + height e.1) MAX_HEIGHT (omega (arith, g.low))) (le-leb (size e.1) MAX_SIZE (omega (arith, within, short)))
 
-  replies : (steps : ℕ) (e : Entry) → IsGiven e → IsShort (command e) → (h : History) → ReplyTo steps (text (command e)) h (reply_of h e)
-  replies steps e g short h =
-      subst (λ (form : Result Form Refusal). MatchResult form (λ form. Replies form h (reply_of h e)) (λ refusal. reply_of h e ≡ Err refusal)) (sym (command-is steps e.0 (print e.1) (is_dumped e g)))
-      (Ok e.1, (omega (arith, nests e.1 g.term, g.low), back e.1 g.term), sym (stepped-to e g short h))
+    tree_said : (e : TreeEntry) → IsGiven e → IsShort (tree_command e.0 (print e.1)) → (h : History) → ReplyTo steps (text (tree_command e.0 (print e.1))) h (Ok (ok_with (retold h e.0 e.1)))
+    tree_said e g short h =
+        said (tree_command e.0 (print e.1)) (tree e.0 (print e.1)) h (Ok (ok_with (retold h e.0 e.1))) (command-is steps e.0 (print e.1) (is_dumped e g))
+        (Ok e.1, (omega (arith, nests e.1 g.term, g.low), back e.1 g.term), sym (ap (λ (b : Bool). done (if b then Ok (retold h e.0 e.1) else Err Big)) (fits-given e g short)))
 
-  -- ---- all replies
+    -- the commands of the trees
+    abbrev tree_commands : List TreeEntry → List (List ℕ)
+    tree_commands es = map (λ e. tree_command e.0 (print e.1)) es
 
-  all-replies : (settings : Settings) (es : List Entry) → AllByRecursion IsGiven es → AllByRecursion IsShort (map command es) → (flags : List Bool) → AreClear flags → (h : History) (rs : List Reply) →
-      Replied settings (map (λ e. text (command e)) es) flags h rs → rs ≡ replies_of h es
-  all-replies settings [] g short [] clear h [] p = refl
-  all-replies settings (e ∷ es) g short (flag ∷ flags) clear h (r ∷ rs) p =
-      let first : r ≡ reply_of h e = reply-is settings.steps e g.0 short.0 h r (subst (λ (f : Bool). ReplyInRun settings.steps (text (command e)) f h r) clear.0 p.0) in
-      let rest : Replied settings (map (λ e. text (command e)) es) flags (retold h e.0 e.1) rs =
-      subst (λ (b : Bool). MatchBool b ((flags ≡ []) × (rs ≡ [])) (Replied settings (map (λ e. text (command e)) es) flags (retold h e.0 e.1) rs)) (stays settings.stop)
-      (subst (λ (x : Reply). MatchBool (settings.stop && is_err x) ((flags ≡ []) × (rs ≡ [])) (Replied settings (map (λ e. text (command e)) es) flags (history_after h x) rs)) first p.1) in
-      λ i. first i ∷ all-replies settings es g.1 short.1 flags clear.1 (retold h e.0 e.1) rs rest i
-  all-replies settings [] g short [] clear h (r ∷ rs) p = absurd p
-  all-replies settings [] g short (flag ∷ flags) clear h rs p = absurd p
-  all-replies settings (e ∷ es) g short [] clear h rs p = absurd p
-  all-replies settings (e ∷ es) g short (flag ∷ flags) clear h [] p = absurd p
+    trees_said : (es : List TreeEntry) → AllByRecursion IsGiven es → AllByRecursion IsShort (tree_commands es) → (h : History) → Oks (tree_commands es) h (trees_after h es)
+    trees_said [] g short h = refl
+    trees_said (e ∷ es) g short h = (retold h e.0 e.1, tree_said e g.0 short.0 h, trees_said es g.1 short.1 (retold h e.0 e.1))
 
-  all-answered : (settings : Settings) (es : List Entry) → AllByRecursion IsGiven es → AllByRecursion IsShort (map command es) → (h : History) →
-      Replied settings (map (λ e. text (command e)) es) (map (λ _. false) es) h (replies_of h es)
-  all-answered settings [] g short h = tt
-  all-answered settings (e ∷ es) g short h = (
-    replies settings.steps e g.0 short.0 h,
-    subst (λ (b : Bool). MatchBool b ((map (λ _. false) es ≡ []) × (replies_of (retold h e.0 e.1) es ≡ [])) (Replied settings (map (λ e. text (command e)) es) (map (λ _. false) es) (retold h e.0 e.1) (replies_of (retold h e.0 e.1) es)))
-        (sym (stays settings.stop)) (all-answered settings es g.1 short.1 (retold h e.0 e.1)),
-  )
+  -- ---- the module commands, in a group
 
-  all-clear : (es : List Entry) → AreClear (map (λ _. false) es)
-  all-clear [] = tt
-  all-clear (e ∷ es) = (refl, all-clear es)
+  abbrev module_commands : List TextEntry → List (List ℕ)
+  module_commands es = map (λ e. module_command e.0 e.1) es
 
-  -- ---- the dump of contents
+  module_said : (e : TextEntry) → IsTold e → (h : History) (g : Group) → h.group ≡ Some g → ReplyTo steps (text (module_command e.0 e.1)) h (Ok (ok_with (changed (with_module h.now e.0 e.1) h)))
+  module_said e t h g some =
+      let k : History = changed (with_module h.now e.0 e.1) h in
+      said (module_command e.0 e.1) (set_module e.0 e.1) h (Ok (ok_with k)) (module_command-is steps e.0 e.1 t.label t.text)
+      (Ok k, (Ok t.reads.0, t.reads.1, subst (λ (o : Option Group). Becomes (with_module h.now e.0 e.1) h o (Ok k)) (sym some) refl), refl)
 
-  short-entries : (c : Contents) → CanBeGiven c → AllByRecursion IsShort (map command (entries c.trees))
-  short-entries c can =
-      subst (λ (cs : List (List ℕ)). AllByRecursion IsShort cs) (ap commands (dumped-is c) ∙ commands-are (entries c.trees) (all_given c can.named can.sound)) can.short
+  modules_said : (es : List TextEntry) → AllByRecursion IsTold es → (h : History) (g : Group) → h.group ≡ Some g → Oks (module_commands es) h (modules_after h es)
+  modules_said [] t h g some = refl
+  modules_said (e ∷ es) t h g some =
+      let c : Contents = with_module h.now e.0 e.1 in
+      (changed c h, module_said e t.0 h g some, modules_said es t.1 (changed c h) (record g { changed = true }) (inside-changed c h g some))
 
-  handed-dumped : (c : Contents) → CanBeGiven c → handed (dumped c) ≡ map (λ e. text (command e)) (entries c.trees)
-  handed-dumped c can =
-      ap (λ (x : List ℕ). map handed_as (commands x)) (dumped-is c) ∙ ap (map handed_as) (commands-are (entries c.trees) (all_given c can.named can.sound))
-      ∙ handed-are (entries c.trees) (short-entries c can)
+  begin_said : (h : History) → h.group ≡ None → ReplyTo steps (text (codes "begin")) h (Ok (ok_with (record h { group = Some (record { begun = h.now; changed = false }) })))
+  begin_said h none =
+      let k : History = record h { group = Some (record { begun = h.now; changed = false }) } in
+      said (codes "begin") begin h (Ok (ok_with k)) refl (sym (ap (λ (o : Option Group). done (outside o (Ok k))) none))
 
-  pub dump_read_back : DumpReadsBack
-  dump_read_back settings c h g flags replies can empty clear leads =
-      let es : List Entry = entries c.trees in
-      let are : replies ≡ replies_of h es =
-      all-replies settings es (all_given c can.named can.sound) (short-entries c can) flags clear h replies
-      (subst (λ (cs : List Handed). Replied settings cs flags h replies) (handed-dumped c can) leads.replied) in
+  commit_said : (h : History) (g : Group) → h.group ≡ Some g → Finds h.primitives h.now.modules None → ReplyTo steps (text (codes "commit")) h (Ok (ok_with (committed g h)))
+  commit_said h g some finds =
+      let k : History = committed g h in
+      let stepped_to : step commit_act h ≡ Ok k = ap (λ (o : Option Group). inside o (λ g. Ok (committed g h))) some in
+      said (codes "commit") commit h (Ok (ok_with k)) refl (
+        Ok k,
+        subst (λ (o : Option Group). MatchOption o (◌≡◌ {A = Result History Refusal} (Ok k) (Err NoGroup)) (λ g. (found : Option Fault) × Finds h.primitives h.now.modules found × (Ok k ≡ unless found (step commit_act h)))) (sym some)
+            (None, finds, sym stepped_to),
+        refl,
+      )
+
+  -- the group of all modules, where there are some
+  abbrev group_commands : List TextEntry → List (List ℕ)
+  group_commands [] = []
+  group_commands (e ∷ es) = codes "begin" ∷ (module_commands (e ∷ es) ++ codes "commit" ∷ [])
+
+  record IsGrouped (es : List TextEntry) (h : History) : Type 0 where
+    last : History
+    oks : Oks (group_commands es) h last
+    now : last.now ≡ record h.now { modules = inserted h.now.modules es }
+
+  group_said : (es : List TextEntry) → AllByRecursion IsTold es → (h : History) → h.group ≡ None → Finds h.primitives (inserted h.now.modules es) None → IsGrouped es h
+  group_said [] t h none finds = record { last = h; oks = refl; now = refl }
+  group_said (e ∷ es) t h none finds =
+      let g : Group = record { begun = h.now; changed = false } in
+      let begun : History = record h { group = Some g } in
+      let left = has_modules (e ∷ es) begun g refl in
+      let k : History = modules_after begun (e ∷ es) in
+      let found : Finds k.primitives k.now.modules None =
+      subst (λ (ps : Primitives). Finds ps k.now.modules None) (sym left.primitives) (subst (λ (c : Contents). Finds h.primitives c.modules None) (sym left.now) finds) in
       record {
-        contents = ap (λ (x : History). x.now) leads.history ∙ ap (λ (rs : List Reply). (history_after_all h rs).now) are ∙ now-after h es
-            ∙ ap (λ m. record h.now { trees = m }) (ap (λ m. inserted m es) empty ∙ inserted-all c.trees);
-        answers = ap out are ∙ out-is h es ∙ ap (λ (n : ℕ). repeat n (line (codes "ok"))) (sym (len-entries c.trees));
-        accepted = ap (count_by is_ok) are ∙ accepted-is h es ∙ sym (len-entries c.trees);
-        refused = ap (count_by is_err) are ∙ refused-is h es;
+        last = committed left.open_group k;
+        oks = (
+          begun,
+          begin_said h none,
+          oks-append (module_commands (e ∷ es)) (codes "commit" ∷ []) begun k (committed left.open_group k) (modules_said (e ∷ es) t begun g refl)
+              (committed left.open_group k, commit_said k left.open_group left.group found, refl),
+        );
+        now = now-committed left.open_group k ∙ left.now;
+      }
+
+-- ---- runs of such commands
+
+end_of_one : (b : Bool) → MatchBool b ((◌≡◌ {A = List Bool} [] []) × (◌≡◌ {A = List Reply} [] [])) (Unit {0})
+end_of_one true = (refl, refl)
+end_of_one false = tt
+
+first_of_list : List Reply → Reply → Reply
+first_of_list [] r = r
+first_of_list (r ∷ rs) s = r
+
+module _ (one : OneRun) (settings : Settings) where
+  one_reply : (c : List ℕ) (h : History) (r s : Reply) → ReplyInRun settings.steps (text c) false h r → ReplyInRun settings.steps (text c) false h s → r ≡ s
+  one_reply c h r s p q =
+      let singles : r ∷ [] ≡ s ∷ [] =
+      one settings (text c ∷ []) (false ∷ []) h (r ∷ []) (s ∷ []) (p, end_of_one (settings.stop && is_err r)) (q, end_of_one (settings.stop && is_err s)) in
+      cc
+
+  only : (cs : List (List ℕ)) (h g : History) (o : Oks settings.steps cs h g) (flags : List Bool) → AreClear flags → (rs : List Reply) → Replied settings (map (λ c. text c) cs) flags h rs → rs ≡ replies_of settings.steps cs h g o
+  only [] h g o [] clear [] p = refl
+  only (c ∷ cs) h g o (flag ∷ flags) clear (r ∷ rs) p =
+      let first : r ≡ Ok (ok_with o.0) = one_reply c h r (Ok (ok_with o.0)) (subst (λ (f : Bool). ReplyInRun settings.steps (text c) f h r) clear.0 p.0) o.1 in
+      let rest : Replied settings (map (λ c. text c) cs) flags o.0 rs =
+      subst (λ (b : Bool). MatchBool b ((flags ≡ []) × (rs ≡ [])) (Replied settings (map (λ c. text c) cs) flags o.0 rs)) (stays settings.stop)
+      (subst (λ (x : Reply). MatchBool (settings.stop && is_err x) ((flags ≡ []) × (rs ≡ [])) (Replied settings (map (λ c. text c) cs) flags (history_after h x) rs)) first p.1) in
+      λ i. first i ∷ only cs o.0 g o.2 flags clear.1 rs rest i
+  only [] h g o [] clear (r ∷ rs) p = absurd p
+  only [] h g o (flag ∷ flags) clear rs p = absurd p
+  only (c ∷ cs) h g o [] clear rs p = absurd p
+  only (c ∷ cs) h g o (flag ∷ flags) clear [] p = absurd p
+
+answered : (settings : Settings) (cs : List (List ℕ)) (h g : History) (o : Oks settings.steps cs h g) → Replied settings (map (λ c. text c) cs) (falses cs) h (replies_of settings.steps cs h g o)
+answered settings [] h g o = tt
+answered settings (c ∷ cs) h g o = (
+  o.1,
+  subst (λ (b : Bool). MatchBool b ((falses cs ≡ []) × (replies_of settings.steps cs o.0 g o.2 ≡ [])) (Replied settings (map (λ c. text c) cs) (falses cs) o.0 (replies_of settings.steps cs o.0 g o.2)))
+      (sym (stays settings.stop)) (answered settings cs o.0 g o.2),
+)
+
+all-clear : (cs : List (List ℕ)) → AreClear (falses cs)
+all-clear [] = tt
+all-clear (c ∷ cs) = (refl, all-clear cs)
+
+-- ---- the text of a dump
+
+script-append : (cs ds : List (List ℕ)) → script_of (cs ++ ds) ≡ script_of cs ++ script_of ds
+script-append [] ds = refl
+script-append (c ∷ cs) ds = ap (λ (x : List ℕ). (c ++ 10 ∷ []) ++ x) (script-append cs ds) ∙ sym (append_assoc (c ++ 10 ∷ []) (script_of cs) (script_of ds))
+
+tree_line-is : (name x : List ℕ) → codes "tree " ++ name ++ 32 ∷ x ++ 10 ∷ [] ≡ tree_command name x ++ 10 ∷ []
+tree_line-is name x = simp append_assoc
+
+module_line-is : (name x : List ℕ) → module_line name x ≡ module_command name x ++ 10 ∷ []
+module_line-is name x = simp append_assoc
+
+trees_script : (es : List TreeEntry) → flat_map (λ e. tree_line e.0 e.1) es ≡ script_of (map (λ e. tree_command e.0 (print e.1)) es)
+trees_script [] = refl
+trees_script (e ∷ es) = λ i. tree_line-is e.0 (print e.1) i ++ trees_script es i
+
+modules_script : (es : List TextEntry) → flat_map (λ e. module_line e.0 e.1) es ≡ script_of (map (λ e. module_command e.0 e.1) es)
+modules_script [] = refl
+modules_script (e ∷ es) = λ i. module_line-is e.0 e.1 i ++ modules_script es i
+
+group_script : (steps : ℕ) (es : List TextEntry) → group_text es ≡ script_of (group_commands steps es)
+group_script steps [] = refl
+group_script steps (e ∷ es) =
+    ap (λ (x : List ℕ). (codes "begin" ++ 10 ∷ []) ++ x) (ap (λ (x : List ℕ). x ++ (codes "commit" ++ 10 ∷ [])) (modules_script (e ∷ es))
+    ∙ sym (script-append (map (λ e. module_command e.0 e.1) (e ∷ es)) (codes "commit" ∷ [])))
+
+All-append-rec : {X : Type 0} (P : X → Type 0) (xs ys : List X) → AllByRecursion P xs → AllByRecursion P ys → AllByRecursion P (xs ++ ys)
+All-append-rec P [] ys h k = k
+All-append-rec P (x ∷ xs) ys h k = (h.0, All-append-rec P xs ys h.1 k)
+
+All-front : {X : Type 0} (P : X → Type 0) (xs ys : List X) → AllByRecursion P (xs ++ ys) → AllByRecursion P xs
+All-front P [] ys h = tt
+All-front P (x ∷ xs) ys h = (h.0, All-front P xs ys h.1)
+
+modules_whole : (es : List TextEntry) → AllByRecursion IsTold es → AllByRecursion IsWhole (map (λ e. module_command e.0 e.1) es)
+modules_whole [] t = tt
+modules_whole (e ∷ es) t = (module_whole e.0 e.1 t.0.label t.0.text, modules_whole es t.1)
+
+group_whole : (steps : ℕ) (es : List TextEntry) → AllByRecursion IsTold es → AllByRecursion IsWhole (group_commands steps es)
+group_whole steps [] t = tt
+group_whole steps (e ∷ es) t = (begin_whole, All-append-rec IsWhole (map (λ e. module_command e.0 e.1) (e ∷ es)) (codes "commit" ∷ []) (modules_whole (e ∷ es) t) (commit_whole, tt))
+
+as_text : (x : List ℕ) → IsShort x → handed_as x ≡ text x
+as_text x h = ap (λ (b : Bool). if b then long else text x) (le-ltb MAX_COMMAND (length x) h)
+
+as_texts : (cs : List (List ℕ)) → AllByRecursion IsShort cs → map handed_as cs ≡ map (λ c. text c) cs
+as_texts [] h = refl
+as_texts (c ∷ cs) h = λ i. as_text c h.0 i ∷ as_texts cs h.1 i
+
+module _ (back : PrintedTextReadsBack) (oneline : PrintedTextIsOneLine) (nests : PrintedTextNests) (lengthy : PrintedTextIsAsLong) where
+  trees_whole : (es : List TreeEntry) → AllByRecursion IsGiven es → AllByRecursion IsWhole (map (λ e. tree_command e.0 (print e.1)) es)
+  trees_whole [] g = tt
+  trees_whole (e ∷ es) g = (tree_whole e.0 (print e.1) (record { label = g.0.label; line = oneline e.1 g.0.term }), trees_whole es g.1)
+
+  module _ (settings : Settings) (c : Contents) (h : History) (can : CanBeGiven h.primitives c) where
+    abbrev steps : ℕ
+    steps = settings.steps
+
+    abbrev all_commands : List (List ℕ)
+    all_commands = map (λ e. tree_command e.0 (print e.1)) (entries c.trees) ++ group_commands steps (entries c.modules)
+
+    trees : AllByRecursion IsGiven (entries c.trees)
+    trees = trees_given c can.named.0 can.sound.0.0
+
+    modules : AllByRecursion IsTold (entries c.modules)
+    modules = modules_told c can.named.1 can.sound.0.1 can.texts
+
+    text-is : dumped c ≡ script_of all_commands
+    text-is =
+        dumped-is c ∙ (λ i. trees_script (entries c.trees) i ++ group_script steps (entries c.modules) i)
+        ∙ sym (script-append (map (λ e. tree_command e.0 (print e.1)) (entries c.trees)) (group_commands steps (entries c.modules)))
+
+    commands-are : commands (dumped c) ≡ all_commands
+    commands-are =
+        ap commands text-is
+        ∙ (λ i. (cut-script all_commands (All-append-rec IsWhole (map (λ e. tree_command e.0 (print e.1)) (entries c.trees)) (group_commands steps (entries c.modules)) (trees_whole (entries c.trees) trees) (group_whole steps (entries c.modules) modules)) i).commands)
+
+    short : AllByRecursion IsShort all_commands
+    short = subst (λ (cs : List (List ℕ)). AllByRecursion IsShort cs) commands-are can.short
+
+    handed-are : handed (dumped c) ≡ map (λ c. text c) all_commands
+    handed-are = ap (map handed_as) commands-are ∙ as_texts all_commands short
+
+    -- what the commands leave
+    record IsLed : Type 0 where
+      last : History
+      oks : Oks steps all_commands h last
+      now : last.now ≡ c
+
+    led : IsBare h → IsLed
+    led bare =
+        let k : History = trees_after h (entries c.trees) in
+        let left = has_trees (entries c.trees) h bare.group in
+        let bare_now : k.now ≡ record { trees = c.trees; modules = finmap.empty } =
+        left.now ∙ ap (λ (d : Contents). record d { trees = inserted d.trees (entries c.trees) }) bare.contents ∙ ap (λ m. record { trees = m; modules = finmap.empty }) (inserted-all c.trees) in
+        let all : inserted k.now.modules (entries c.modules) ≡ c.modules = ap (λ (d : Contents). inserted d.modules (entries c.modules)) bare_now ∙ inserted-all c.modules in
+        let grouped = group_said steps (entries c.modules) modules k left.group
+        (subst (λ (ps : Primitives). Finds ps (inserted k.now.modules (entries c.modules)) None) (sym left.primitives) (subst (λ m. Finds h.primitives m None) (sym all) can.sound.1)) in
+        record {
+          last = grouped.last;
+          oks = oks-append steps (map (λ e. tree_command e.0 (print e.1)) (entries c.trees)) (group_commands steps (entries c.modules)) h k grouped.last
+              (trees_said steps back oneline nests lengthy (entries c.trees) trees (All-front IsShort (map (λ e. tree_command e.0 (print e.1)) (entries c.trees)) (group_commands steps (entries c.modules)) short) h) grouped.oks;
+          now = grouped.now ∙ (λ i. record { trees = (bare_now i).trees; modules = all i });
+        }
+
+  pub dump_read_back : OneRun → DumpReadsBack
+  dump_read_back one settings c h g flags replies can bare clear leads =
+      let there = led settings c h can bare in
+      let cs : List (List ℕ) = all_commands settings c h can in
+      let count = ap length (commands-are settings c h can) in
+      let are : replies ≡ replies_of settings.steps cs h there.last there.oks =
+      only one settings cs h there.last there.oks flags clear replies (subst (λ (cs : List Handed). Replied settings cs flags h replies) (handed-are settings c h can) leads.replied) in
+      record {
+        contents = ap (λ (x : History). x.now) leads.history ∙ ap (λ (rs : List Reply). (history_after_all h rs).now) are ∙ ap (λ (x : History). x.now) (history-is settings.steps cs h there.last there.oks) ∙ there.now;
+        answers = ap out are ∙ out-is settings.steps cs h there.last there.oks ∙ ap (λ (n : ℕ). repeat n (line (codes "ok"))) (sym count);
+        accepted = ap (count_by is_ok) are ∙ accepted-is settings.steps cs h there.last there.oks ∙ sym count;
+        refused = ap (count_by is_err) are ∙ refused-is settings.steps cs h there.last there.oks;
       }
 
   pub dump_answered : DumpIsAnswered
-  dump_answered settings c h can =
-      let es : List Entry = entries c.trees in (
-        map (λ _. false) es,
-        replies_of h es,
-        all-clear es,
-        subst (λ (cs : List Handed). Replied settings cs (map (λ _. false) es) h (replies_of h es)) (sym (handed-dumped c can))
-            (all-answered settings es (all_given c can.named can.sound) (short-entries c can) h),
+  dump_answered settings c h can bare =
+      let there = led settings c h can bare in
+      let cs : List (List ℕ) = all_commands settings c h can in (
+        falses cs,
+        replies_of settings.steps cs h there.last there.oks,
+        all-clear cs,
+        subst (λ (cs : List Handed). Replied settings cs (falses (all_commands settings c h can)) h (replies_of settings.steps (all_commands settings c h can) h there.last there.oks)) (sym (handed-are settings c h can))
+            (answered settings cs h there.last there.oks),
       )

@@ -1,22 +1,30 @@
 -- Lemmas on the text of a dump: its lines, its commands and their forms.
 use Rattle.std.proofs.Common.{◌≡◌, ◌≤◌, ◌<◌, ◌+◌, ◌-◌, ℕ, zero, suc, Bool, true, false, not, ◌==◌, ◌&&◌, cond, List, [], ◌∷◌, ◌++◌, length, take, drop, reverse, get_or, codes, Some, None, Ok, Err, is_some, refl, sym, ap, ◌∙◌, subst, arith, append_assoc, append-nil, if◌then◌else◌}
-use Rattle.std.specs.List.{AllByRecursion, prefix_len, suffix_len, position_or_len, list_all}
-use Rattle.std.proofs.lemmas.Bool.{ne_eqb, true≢false}
+use Rattle.std.specs.List.{All, AllByRecursion, prefix_len, suffix_len, position_or_len, list_all, slice_split, onto_first, flat_map}
+use Rattle.std.proofs.lemmas.List.Splits.{slice_split-cons_yes, slice_split-cons_no}
+use Rattle.std.proofs.lemmas.List.Elements.{All-append, All-cons}
+use Rattle.std.proofs.lemmas.Bool.{eqb-true, ne_eqb, true≢false}
 use Rattle.std.proofs.lemmas.List.Folds.{prefix_len-append}
 use Rattle.std.proofs.lemmas.List.{length-reverse, reverse-append}
-use Rattle.std.proofs.Math.Seq.{take-length, take-append_seam, drop-append_seam}
+use Rattle.std.proofs.Math.Seq.{take-length, take-append_seam, drop-append_seam, drop-length}
 use Rattle.std.specs.declared.option.Option.{Option}
 use Rattle.session_core.specs.declared.refusal.Refusal.TheVariants.{Name}
 use Rattle.term_core.specs.Word.{begins_word, continues_word, is_word, label_of}
 use Rattle.aterm_text.specs.Tokens.{is_blank, without_blanks}
 use Rattle.aterm_text.specs.Laws.{IsPrinted, IsOneLine}
-use Rattle.script_core.specs.Script.{is_line_feed, is_carriage_return, without_end, lines, Cut, cut}
-use Rattle.script_core.specs.Form.{Form, tree, first_word, behind_word, has_bytes, tree_form, form_with, form_of, checked, command_of}
-use Rattle.script_core.proofs.LineLemmas.{IsCore, lines-line_feed}
+use Rattle.session_core.specs.Dump.{behind_name}
+use Rattle.script_core.specs.Script.{is_line_feed, is_carriage_return, without_end, is_comment, lines, begins_command, Cut, cut}
+use Rattle.script_core.specs.Laws.{IsCommandText}
+use Rattle.script_core.specs.Form.{Form, tree, set_module, first_word, behind_word, has_bytes, form_with, form_of, checked, command_of}
+use Rattle.script_core.proofs.LineLemmas.{IsCore, with_line, first_piece, lines-line_feed, lines-kept}
 
 -- the command that gives a name the tree that a text spells
 abbrev pub tree_command : List ℕ → List ℕ → List ℕ
 tree_command name x = codes "tree " ++ (name ++ 32 ∷ x)
+
+-- the command that gives a name the module that a text spells
+abbrev pub module_command : List ℕ → List ℕ → List ℕ
+module_command name text = codes "module " ++ (name ++ behind_name text)
 
 -- a label, and what is printed of a tree
 pub record IsDumped (name x : List ℕ) : Type 0 where
@@ -98,48 +106,102 @@ behind-is name x h =
     ap (λ (text : List ℕ). drop (position_or_len is_blank text) text) (word_starts name x h)
     ∙ ap (λ (n : ℕ). drop n (name ++ 32 ∷ x)) (word_length name x h.all) ∙ drop-append_seam name (32 ∷ x)
 
+-- a text that begins with a line feed begins with white space
+blank_front : (b : ℕ) (text : List ℕ) → is_line_feed b ≡ true → prefix_len is_blank (b ∷ text) ≡ 0 → ⊥
+blank_front b text e h =
+    let is : b ≡ 10 = eqb-true b 10 e in
+    let one : 1 + prefix_len is_blank text ≡ 0 = subst (λ (k : ℕ). prefix_len is_blank (k ∷ text) ≡ 0) is h in omega (arith, one)
+
 some_bytes : (name : List ℕ) → IsInkWord name → has_bytes name ≡ true
 some_bytes [] h = absurd (omega (arith, h.some))
 some_bytes (b ∷ s) h = refl
 
--- what a form makes of a name and what stands behind it
-abbrev named : List ℕ → List ℕ → Option Form
-named word rest = if has_bytes word then Some (tree word (without_blanks rest)) else None
+-- a name alone
+lone_length : (name : List ℕ) → AllByRecursion IsInk name → position_or_len is_blank name ≡ length name
+lone_length [] h = refl
+lone_length (b ∷ s) h =
+    ap (λ (q : Bool). cond (not q) (1 + position_or_len is_blank s) 0) (not_blank b h.0) ∙ omega (arith, lone_length s h.1)
 
-tree_form-is : (name x : List ℕ) → IsInkWord name → prefix_len is_blank x ≡ 0 → tree_form (32 ∷ (name ++ 32 ∷ x)) ≡ Some (tree name x)
-tree_form-is name x h front =
-    (λ i. named (first-is name x h i) (behind-is name x h i))
-    ∙ ap (λ (q : Bool). if q then Some (tree name (without_blanks (32 ∷ x))) else None) (some_bytes name h)
-    ∙ ap (λ (rest : List ℕ). Some (tree name rest)) (behind_space x front)
+lone_starts : (name : List ℕ) → IsInkWord name → without_blanks (32 ∷ name) ≡ name
+lone_starts [] h = absurd (omega (arith, h.some))
+lone_starts (b ∷ s) h = behind_space (b ∷ s) (no_blanks_in_front b s h.all.0)
+
+lone_first : (name : List ℕ) → IsInkWord name → first_word (32 ∷ name) ≡ name
+lone_first name h =
+    ap (λ (text : List ℕ). take (position_or_len is_blank text) text) (lone_starts name h)
+    ∙ ap (λ (n : ℕ). take n name) (lone_length name h.all) ∙ take-length name
+
+lone_behind : (name : List ℕ) → IsInkWord name → behind_word (32 ∷ name) ≡ []
+lone_behind name h =
+    ap (λ (text : List ℕ). drop (position_or_len is_blank text) text) (lone_starts name h)
+    ∙ ap (λ (n : ℕ). drop n name) (lone_length name h.all) ∙ drop-length name
+
+-- what a form makes of a name and what stands behind it
+abbrev named : (List ℕ → List ℕ → Form) → List ℕ → List ℕ → Option Form
+named form word rest = if has_bytes word then Some (form word (without_blanks rest)) else None
+
+module _ (form : List ℕ → List ℕ → Form) where
+  named-is : (name x : List ℕ) → IsInkWord name → prefix_len is_blank x ≡ 0 → named form (first_word (32 ∷ (name ++ 32 ∷ x))) (behind_word (32 ∷ (name ++ 32 ∷ x))) ≡ Some (form name x)
+  named-is name x h front =
+      (λ i. named form (first-is name x h i) (behind-is name x h i))
+      ∙ ap (λ (q : Bool). if q then Some (form name (without_blanks (32 ∷ x))) else None) (some_bytes name h)
+      ∙ ap (λ (rest : List ℕ). Some (form name rest)) (behind_space x front)
+
+  named-alone : (name : List ℕ) → IsInkWord name → named form (first_word (32 ∷ name)) (behind_word (32 ∷ name)) ≡ Some (form name [])
+  named-alone name h =
+      (λ i. named form (lone_first name h i) (lone_behind name h i)) ∙ ap (λ (q : Bool). if q then Some (form name []) else None) (some_bytes name h)
 
 -- ---- no white space ends the command
 
-front-append : (x y : List ℕ) → 0 < length x → prefix_len is_blank x ≡ 0 → prefix_len is_blank (x ++ y) ≡ 0
-front-append x y some h =
-    prefix_len-append is_blank x y
-    ∙ ap (λ (q : Bool). cond q (length x + prefix_len is_blank y) (prefix_len is_blank x)) (ne_eqb (prefix_len is_blank x) (length x) (λ e. omega (arith, some, h, e))) ∙ h
+module _ (p : ℕ → Bool) where
+  front-append : (x y : List ℕ) → 0 < length x → prefix_len p x ≡ 0 → prefix_len p (x ++ y) ≡ 0
+  front-append x y some h =
+      prefix_len-append p x y
+      ∙ ap (λ (q : Bool). cond q (length x + prefix_len p y) (prefix_len p x)) (ne_eqb (prefix_len p x) (length x) (λ e. omega (arith, some, h, e))) ∙ h
 
-end-append : (x y : List ℕ) → 0 < length y → suffix_len is_blank y ≡ 0 → suffix_len is_blank (x ++ y) ≡ 0
-end-append x y some h =
-    ap (prefix_len is_blank) (reverse-append x y) ∙ front-append (reverse y) (reverse x) (omega (arith, some, length-reverse y)) h
+  end-append : (x y : List ℕ) → 0 < length y → suffix_len p y ≡ 0 → suffix_len p (x ++ y) ≡ 0
+  end-append x y some h =
+      ap (prefix_len p) (reverse-append x y) ∙ front-append (reverse y) (reverse x) (omega (arith, some, length-reverse y)) h
 
-no_end : (x : List ℕ) → suffix_len is_blank x ≡ 0 → without_end is_blank x ≡ x
-no_end x h = ap (λ (n : ℕ). take n x) (omega (arith, h)) ∙ take-length x
+  no_end : (x : List ℕ) → suffix_len p x ≡ 0 → without_end p x ≡ x
+  no_end x h = ap (λ (n : ℕ). take n x) (omega (arith, h)) ∙ take-length x
 
-command_ends : (name x : List ℕ) → IsOneLine x → suffix_len is_blank (tree_command name x) ≡ 0
-command_ends name x h =
-    subst (λ (xs : List ℕ). suffix_len is_blank (codes "tree " ++ xs) ≡ 0) (append_assoc name (32 ∷ []) x)
-    (end-append (codes "tree " ++ (name ++ 32 ∷ [])) x h.some h.end)
+ink_end : (name : List ℕ) → AllByRecursion IsInk name → suffix_len is_blank name ≡ 0
+ink_end [] h = refl
+ink_end (b ∷ []) h = no_blanks_in_front b [] h.0
+ink_end (b ∷ (d ∷ s)) h = end-append is_blank (b ∷ []) (d ∷ s) (omega arith) (ink_end (d ∷ s) h.1)
+
+-- a keyword, a name and a text
+command_ends : (keyword name x : List ℕ) → 0 < length x → suffix_len is_blank x ≡ 0 → suffix_len is_blank (keyword ++ (name ++ 32 ∷ x)) ≡ 0
+command_ends keyword name x some end =
+    subst (λ (xs : List ℕ). suffix_len is_blank (keyword ++ xs) ≡ 0) (append_assoc name (32 ∷ []) x)
+    (subst (λ (xs : List ℕ). suffix_len is_blank xs ≡ 0) (append_assoc keyword (name ++ 32 ∷ []) x) (end-append is_blank (keyword ++ (name ++ 32 ∷ [])) x some end))
 
 form-is : (name x : List ℕ) → IsDumped name x → form_of (tree_command name x) ≡ Some (tree name x)
 form-is name x h =
-    ap (λ (text : List ℕ). form_with (first_word text) (behind_word text)) (no_end (tree_command name x) (command_ends name x h.line))
-    ∙ tree_form-is name x (label_ink name h.label) h.line.front
+    ap (λ (text : List ℕ). form_with (first_word text) (behind_word text)) (no_end is_blank (tree_command name x) (command_ends (codes "tree ") name x h.line.some h.line.end))
+    ∙ named-is tree name x (label_ink name h.label) h.line.front
 
 -- the command is read as what was dumped
 pub command-is : (steps : ℕ) (name x : List ℕ) → IsDumped name x → command_of steps (tree_command name x) ≡ Ok (tree name x)
 command-is steps name x h =
     ap checked (form-is name x h) ∙ ap (λ (label : Option (List ℕ)). if is_some label then Ok (tree name x) else Err Name) h.label
+
+-- ---- commands that give a module
+
+module_form-is : (name text : List ℕ) → label_of name ≡ Some name → IsCommandText text → form_of (module_command name text) ≡ Some (set_module name text)
+module_form-is name [] label h =
+    let word = label_ink name label in
+    ap (λ (rest : List ℕ). form_of (codes "module " ++ rest)) (append-nil name)
+    ∙ ap (λ (text : List ℕ). form_with (first_word text) (behind_word text)) (no_end is_blank (codes "module " ++ name) (end-append is_blank (codes "module ") name word.some (ink_end name word.all)))
+    ∙ named-alone set_module name word
+module_form-is name (b ∷ text) label h =
+    ap (λ (text : List ℕ). form_with (first_word text) (behind_word text)) (no_end is_blank (module_command name (b ∷ text)) (command_ends (codes "module ") name (b ∷ text) (omega arith) h.end))
+    ∙ named-is set_module name (b ∷ text) (label_ink name label) h.front
+
+pub module_command-is : (steps : ℕ) (name text : List ℕ) → label_of name ≡ Some name → IsCommandText text → command_of steps (module_command name text) ≡ Ok (set_module name text)
+module_command-is steps name text label h =
+    ap checked (module_form-is name text label h) ∙ ap (λ (label : Option (List ℕ)). if is_some label then Ok (set_module name text) else Err Name) label
 
 -- ---- lines
 
@@ -174,21 +236,169 @@ inner-core x h = record {
   one_line = λ k d le. (inner-at x h k d le).no_feed;
 }
 
+core-append : (keyword name : List ℕ) → AllByRecursion IsInner keyword → AllByRecursion IsInk name → (x : List ℕ) → AllByRecursion IsInner x → IsCore (keyword ++ (name ++ x))
+core-append keyword name h k x l = inner-core (keyword ++ (name ++ x)) (inner-append keyword (name ++ x) h (inner-append name x (inner-ink name k) l))
+
 keyword : AllByRecursion IsInner (codes "tree ")
 keyword = (inner-high 116 (omega arith), (inner-high 114 (omega arith), (inner-high 101 (omega arith), (inner-high 101 (omega arith), (inner-high 32 (omega arith), tt)))))
 
-command_core : (name x : List ℕ) → IsDumped name x → IsCore (tree_command name x)
-command_core name x h = inner-core (tree_command name x)
-    (inner-append (codes "tree ") (name ++ 32 ∷ x) keyword
-    (inner-append name (32 ∷ x) (inner-ink name (label_ink name h.label).all) (inner-high 32 (omega arith), inner-printed x h.line.bytes)))
+module_keyword : AllByRecursion IsInner (codes "module ")
+module_keyword =
+    (inner-high 109 (omega arith), (inner-high 111 (omega arith), (inner-high 100 (omega arith), (inner-high 117 (omega arith), (inner-high 108 (omega arith), (inner-high 101 (omega arith), (inner-high 32 (omega arith), tt)))))))
 
--- the first line of a dump, which is no comment
-pub lines-dumped : (name x y : List ℕ) → IsDumped name x → lines (tree_command name x ++ 10 ∷ y) ≡ tree_command name x ∷ lines y
-lines-dumped name x y h = lines-line_feed (tree_command name x) y 0 (command_core name x h)
+begin_keyword : AllByRecursion IsInner (codes "begin")
+begin_keyword = (inner-high 98 (omega arith), (inner-high 101 (omega arith), (inner-high 103 (omega arith), (inner-high 105 (omega arith), (inner-high 110 (omega arith), tt)))))
 
--- it is a command, if nothing goes on with it
-pub cut-dumped : (name x : List ℕ) (ls cs : List (List ℕ)) → cut ls ≡ record { going_on = []; commands = cs } →
-    cut (tree_command name x ∷ ls) ≡ record { going_on = []; commands = tree_command name x ∷ cs }
-cut-dumped name x ls cs h =
-    ap (λ (rest : Cut). record { going_on = []; commands = (tree_command name x ++ rest.going_on) ∷ rest.commands }) h
-    ∙ ap (λ (c : List ℕ). record { going_on = []; commands = c ∷ cs }) (append-nil (tree_command name x))
+commit_keyword : AllByRecursion IsInner (codes "commit")
+commit_keyword =
+    (inner-high 99 (omega arith), (inner-high 111 (omega arith), (inner-high 109 (omega arith), (inner-high 109 (omega arith), (inner-high 105 (omega arith), (inner-high 116 (omega arith), tt))))))
+
+-- ---- lines and commands
+
+-- A line that is whole: what a line feed behind it ends is this line.
+abbrev IsLine : List ℕ → Type 0
+IsLine x = (y : List ℕ) → lines (x ++ 10 ∷ y) ≡ with_line x (lines y)
+
+core_line : (x : List ℕ) → IsCore x → IsLine x
+core_line x h y = lines-line_feed x y 0 h
+
+-- without a line feed in it or a carriage return at its end
+kept_line : (x : List ℕ) → All (λ b. is_line_feed b ≡ false) x → suffix_len is_carriage_return x ≡ 0 → IsLine x
+kept_line x inner end y = lines-kept x y inner (no_end is_carriage_return x end)
+
+-- A command that is whole: with a line feed behind it, it is a command of its own where what follows begins
+-- with one, or is nothing.
+abbrev pub IsWhole : List ℕ → Type 0
+IsWhole x = (y : List ℕ) (cs : List (List ℕ)) → cut (lines y) ≡ record { going_on = []; commands = cs } → cut (lines (x ++ 10 ∷ y)) ≡ record { going_on = []; commands = x ∷ cs }
+
+-- a line by whether it begins a command
+abbrev cut_by : Bool → List ℕ → Cut → Cut
+cut_by b line rest =
+    if b then record { going_on = []; commands = (line ++ rest.going_on) ∷ rest.commands } else record { going_on = 10 ∷ line ++ rest.going_on; commands = rest.commands }
+
+no_comment : (line : List ℕ) → begins_command line ≡ false → is_comment line ≡ false
+no_comment [] h = refl
+no_comment (b ∷ line) h = by (b == 35) refl
+  where
+    by : (q : Bool) → (b == 35) ≡ q → q ≡ false
+    by false e = refl
+    by true e = let is : b ≡ 35 = eqb-true b 35 e in let begins : begins_command (b ∷ line) ≡ true = ap (λ (k : ℕ). begins_command (k ∷ line)) is in absurd (true≢false (sym begins ∙ h))
+
+-- the lines behind the first go on with the command
+record IsFurther (line : List ℕ) : Type 0 where
+  whole : IsLine line
+  goes_on : begins_command line ≡ false
+
+abbrev behind_feeds : List (List ℕ) → List ℕ
+behind_feeds others = flat_map (λ line. 10 ∷ line) others
+
+abbrev followed : List (List ℕ) → List ℕ → List ℕ
+followed [] y = y
+followed (line ∷ others) y = line ++ 10 ∷ followed others y
+
+seam : (first : List ℕ) (others : List (List ℕ)) (y : List ℕ) → (first ++ behind_feeds others) ++ 10 ∷ y ≡ first ++ 10 ∷ followed others y
+seam first [] y = ap (λ (x : List ℕ). x ++ 10 ∷ y) (append-nil first)
+seam first (line ∷ others) y = append_assoc first (10 ∷ (line ++ behind_feeds others)) (10 ∷ y) ∙ ap (λ (x : List ℕ). first ++ 10 ∷ x) (seam line others y)
+
+further : (others : List (List ℕ)) (y : List ℕ) (cs : List (List ℕ)) → AllByRecursion IsFurther others → cut (lines y) ≡ record { going_on = []; commands = cs }
+    → cut (lines (followed others y)) ≡ record { going_on = behind_feeds others; commands = cs }
+further [] y cs h e = e
+further (line ∷ others) y cs h e =
+    ap cut (h.0.whole (followed others y))
+    ∙ ap (λ (q : Bool). cut (if not q then line ∷ lines (followed others y) else lines (followed others y))) (no_comment line h.0.goes_on)
+    ∙ (λ i. cut_by (h.0.goes_on i) line (further others y cs h.1 e i))
+
+whole : (first : List ℕ) (others : List (List ℕ)) → IsLine first → is_comment first ≡ false → begins_command first ≡ true → AllByRecursion IsFurther others → IsWhole (first ++ behind_feeds others)
+whole first others line comment begins h y cs e =
+    ap (λ (x : List ℕ). cut (lines x)) (seam first others y)
+    ∙ ap cut (line (followed others y))
+    ∙ ap (λ (q : Bool). cut (if not q then first ∷ lines (followed others y) else lines (followed others y))) comment
+    ∙ (λ i. cut_by (begins i) first (further others y cs h e i))
+
+one_line : (x : List ℕ) → IsCore x → is_comment x ≡ false → begins_command x ≡ true → IsWhole x
+one_line x h comment begins = subst IsWhole (append-nil x) (whole x [] (core_line x h) comment begins tt)
+
+-- commands, each with a line feed behind it
+abbrev pub script_of : List (List ℕ) → List ℕ
+script_of cs = flat_map (λ c. c ++ 10 ∷ []) cs
+
+pub cut-script : (cs : List (List ℕ)) → AllByRecursion IsWhole cs → cut (lines (script_of cs)) ≡ record { going_on = []; commands = cs }
+cut-script [] h = refl
+cut-script (c ∷ cs) h = ap (λ (x : List ℕ). cut (lines x)) (append_assoc c (10 ∷ []) (script_of cs)) ∙ h.0 (script_of cs) cs (cut-script cs h.1)
+
+pub tree_whole : (name x : List ℕ) → IsDumped name x → IsWhole (tree_command name x)
+tree_whole name x h =
+    one_line (tree_command name x) (core-append (codes "tree ") name keyword (label_ink name h.label).all (32 ∷ x) (inner-high 32 (omega arith), inner-printed x h.line.bytes)) refl refl
+
+pub begin_whole : IsWhole (codes "begin")
+begin_whole = one_line (codes "begin") (inner-core (codes "begin") begin_keyword) refl refl
+
+pub commit_whole : IsWhole (codes "commit")
+commit_whole = one_line (codes "commit") (inner-core (codes "commit") commit_keyword) refl refl
+
+-- ---- the lines of a module's text
+
+abbrev joined : List (List ℕ) → List ℕ
+joined [] = []
+joined (line ∷ others) = line ++ behind_feeds others
+
+-- what the line feeds part
+record IsParted (text : List ℕ) : Type 0 where
+  same : joined (slice_split is_line_feed text) ≡ text
+  inner : AllByRecursion (λ line. All (λ b. is_line_feed b ≡ false) line) (slice_split is_line_feed text)
+
+parted : (text : List ℕ) → IsParted text
+parted [] = record { same = refl; inner = (λ k d h. absurd (omega (arith, h)), tt) }
+parted (b ∷ text) = by (is_line_feed b) refl (first_piece text) (parted text)
+  where
+    by : (q : Bool) → is_line_feed b ≡ q → ((p : List ℕ) × ((ps : List (List ℕ)) × (slice_split is_line_feed text ≡ p ∷ ps))) → IsParted text → IsParted (b ∷ text)
+    by true e rest h =
+        let split : slice_split is_line_feed (b ∷ text) ≡ [] ∷ (rest.0 ∷ rest.1.0) = slice_split-cons_yes is_line_feed b text e ∙ ap (λ (ps : List (List ℕ)). [] ∷ ps) rest.1.1 in
+        record {
+          same = ap joined split ∙ ap (λ (x : List ℕ). 10 ∷ x) (sym (ap joined rest.1.1) ∙ h.same) ∙ ap (λ (k : ℕ). k ∷ text) (sym (eqb-true b 10 e));
+          inner = subst (AllByRecursion (λ line. All (λ b. is_line_feed b ≡ false) line)) (sym split)
+              (λ k d h. absurd (omega (arith, h)), subst (AllByRecursion (λ line. All (λ b. is_line_feed b ≡ false) line)) rest.1.1 h.inner);
+        }
+    by false e rest h =
+        let split : slice_split is_line_feed (b ∷ text) ≡ (b ∷ rest.0) ∷ rest.1.0 = slice_split-cons_no is_line_feed b text e ∙ ap (onto_first b) rest.1.1 in
+        let inner : AllByRecursion (λ line. All (λ b. is_line_feed b ≡ false) line) (rest.0 ∷ rest.1.0) = subst (AllByRecursion (λ line. All (λ b. is_line_feed b ≡ false) line)) rest.1.1 h.inner in
+        record {
+          same = ap joined split ∙ ap (λ (x : List ℕ). b ∷ x) (sym (ap joined rest.1.1) ∙ h.same);
+          inner = subst (AllByRecursion (λ line. All (λ b. is_line_feed b ≡ false) line)) (sym split) (All-cons (λ b. is_line_feed b ≡ false) b rest.0 e inner.0, inner.1);
+        }
+
+-- the lines behind the first, as a command keeps them
+further_lines : (others : List (List ℕ)) → AllByRecursion (λ line. All (λ b. is_line_feed b ≡ false) line) others → AllByRecursion (λ line. suffix_len is_carriage_return line ≡ 0) others →
+    AllByRecursion (λ line. begins_command line ≡ false) others → AllByRecursion IsFurther others
+further_lines [] inner end goes_on = tt
+further_lines (line ∷ others) inner end goes_on = (record { whole = kept_line line inner.0 end.0; goes_on = goes_on.0 }, further_lines others inner.1 end.1 goes_on.1)
+
+-- the first line with the keyword and the name before it
+first_line : (name first : List ℕ) → AllByRecursion IsInk name → 0 < length first → All (λ b. is_line_feed b ≡ false) first → suffix_len is_carriage_return first ≡ 0
+    → IsLine (codes "module " ++ (name ++ 32 ∷ first))
+first_line name first ink some inner end =
+    let front : List ℕ = codes "module " ++ (name ++ 32 ∷ []) in
+    let same : codes "module " ++ (name ++ 32 ∷ first) ≡ front ++ first =
+    ap (λ (x : List ℕ). codes "module " ++ x) (sym (append_assoc name (32 ∷ []) first)) ∙ sym (append_assoc (codes "module ") (name ++ 32 ∷ []) first) in
+    subst IsLine (sym same)
+    (kept_line (front ++ first) (All-append (λ b. is_line_feed b ≡ false) front first (core-append (codes "module ") name module_keyword ink (32 ∷ []) (inner-high 32 (omega arith), tt)).one_line inner)
+    (end-append is_carriage_return front first some end))
+
+pub module_whole : (name text : List ℕ) → label_of name ≡ Some name → IsCommandText text → IsWhole (module_command name text)
+module_whole name [] label h = one_line (module_command name []) (core-append (codes "module ") name module_keyword (label_ink name label).all [] tt) refl refl
+module_whole name (b ∷ text) label h = by (is_line_feed b) refl (first_piece text)
+  where
+    by : (q : Bool) → is_line_feed b ≡ q → ((p : List ℕ) × ((ps : List (List ℕ)) × (slice_split is_line_feed text ≡ p ∷ ps))) → IsWhole (module_command name (b ∷ text))
+    by true e rest = absurd (blank_front b text e h.front)
+    by false e rest =
+        let parts = parted (b ∷ text) in
+        let split : slice_split is_line_feed (b ∷ text) ≡ (b ∷ rest.0) ∷ rest.1.0 = slice_split-cons_no is_line_feed b text e ∙ ap (onto_first b) rest.1.1 in
+        let inner : AllByRecursion (λ line. All (λ b. is_line_feed b ≡ false) line) ((b ∷ rest.0) ∷ rest.1.0) = subst (AllByRecursion (λ line. All (λ b. is_line_feed b ≡ false) line)) split parts.inner in
+        let end : AllByRecursion (λ line. suffix_len is_carriage_return line ≡ 0) ((b ∷ rest.0) ∷ rest.1.0) = subst (AllByRecursion (λ line. suffix_len is_carriage_return line ≡ 0)) split h.lines in
+        let goes_on : AllByRecursion (λ line. begins_command line ≡ false) rest.1.0 = subst (λ (ps : List (List ℕ)). AllByRecursion (λ line. begins_command line ≡ false) (drop 1 ps)) split h.goes_on in
+        let first : List ℕ = codes "module " ++ (name ++ 32 ∷ (b ∷ rest.0)) in
+        let same : first ++ behind_feeds rest.1.0 ≡ module_command name (b ∷ text) =
+        append_assoc (codes "module ") (name ++ 32 ∷ (b ∷ rest.0)) (behind_feeds rest.1.0)
+        ∙ ap (λ (x : List ℕ). codes "module " ++ x) (append_assoc name (32 ∷ (b ∷ rest.0)) (behind_feeds rest.1.0) ∙ ap (λ (x : List ℕ). name ++ 32 ∷ x) (sym (ap joined split) ∙ parts.same)) in
+        subst IsWhole same
+        (whole first rest.1.0 (first_line name (b ∷ rest.0) (label_ink name label).all (omega arith) inner.0 end.0) refl refl (further_lines rest.1.0 inner.1 end.1 goes_on))

@@ -83,7 +83,7 @@ not_empty [] x ls = refl
 not_empty (b ∷ p) x ls = refl
 
 -- a list of pieces is never empty
-first_piece : (y : List ℕ) → (p : List ℕ) × ((ps : List (List ℕ)) × (slice_split is_line_feed y ≡ p ∷ ps))
+pub first_piece : (y : List ℕ) → (p : List ℕ) × ((ps : List (List ℕ)) × (slice_split is_line_feed y ≡ p ∷ ps))
 first_piece [] = ([], ([], refl))
 first_piece (b ∷ y) = at (is_line_feed b) refl (first_piece y)
   where
@@ -92,13 +92,11 @@ first_piece (b ∷ y) = at (is_line_feed b) refl (first_piece y)
     at true e rest = ([], (slice_split is_line_feed y, slice_split-cons_yes is_line_feed b y e))
     at false e rest = (b ∷ rest.0, (rest.1.0, slice_split-cons_no is_line_feed b y e ∙ ap (onto_first b) rest.1.1))
 
--- a line that a line feed ends
-pub lines-line_feed : (core y : List ℕ) (n : ℕ) → IsCore core → lines (core ++ (returns n ++ 10 ∷ y)) ≡ with_line core (lines y)
-lines-line_feed core y n h =
-    let split : pieces (core ++ (returns n ++ 10 ∷ y)) ≡ core ∷ pieces y =
-    ap pieces (sym (append_assoc core (returns n) (10 ∷ y)))
-    ∙ ap (map (without_end is_carriage_return)) (slice_split_at is_line_feed (core ++ returns n) 10 y (All-append (λ x. is_line_feed x ≡ false) core _ h.one_line (one_line-returns n)) refl)
-    ∙ ap (λ (p : List ℕ). p ∷ pieces y) (core_of core n h) in
+-- what a line feed ends, without the carriage returns at its end
+lines-ended : (raw core y : List ℕ) → All (λ b. is_line_feed b ≡ false) raw → without_end is_carriage_return raw ≡ core → lines (raw ++ 10 ∷ y) ≡ with_line core (lines y)
+lines-ended raw core y inner kept =
+    let split : pieces (raw ++ 10 ∷ y) ≡ core ∷ pieces y =
+    ap (map (without_end is_carriage_return)) (slice_split_at is_line_feed raw 10 y inner refl) ∙ ap (λ (p : List ℕ). p ∷ pieces y) kept in
     let first = first_piece y in
     let behind : pieces y ≡ without_end is_carriage_return first.0 ∷ map (without_end is_carriage_return) first.1.0 = ap (map (without_end is_carriage_return)) first.1.1 in
     let whole : without_empty_last (core ∷ pieces y) ≡ core ∷ without_empty_last (pieces y) =
@@ -106,6 +104,16 @@ lines-line_feed core y n h =
     ∙ not_empty core _ _ ∙ ap (λ (ps : List (List ℕ)). core ∷ without_empty_last ps) (sym behind) in
     ap (λ (ps : List (List ℕ)). filter (λ line. not (is_comment line)) (without_empty_last ps)) split
     ∙ ap (filter (λ line. not (is_comment line))) whole
+
+-- a line that a line feed ends
+pub lines-line_feed : (core y : List ℕ) (n : ℕ) → IsCore core → lines (core ++ (returns n ++ 10 ∷ y)) ≡ with_line core (lines y)
+lines-line_feed core y n h =
+    ap lines (sym (append_assoc core (returns n) (10 ∷ y)))
+    ∙ lines-ended (core ++ returns n) core y (All-append (λ x. is_line_feed x ≡ false) core _ h.one_line (one_line-returns n)) (core_of core n h)
+
+-- a line without carriage returns at its end
+pub lines-kept : (line y : List ℕ) → All (λ b. is_line_feed b ≡ false) line → without_end is_carriage_return line ≡ line → lines (line ++ 10 ∷ y) ≡ with_line line (lines y)
+lines-kept line y inner kept = lines-ended line line y inner kept
 
 -- the end of the text: what is kept of its last line
 abbrev pub last_line : List ℕ → List (List ℕ)

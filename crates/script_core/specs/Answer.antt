@@ -2,7 +2,7 @@
 use Rattle.std.specs.Prelude.{◌≡◌, ◌⊎◌, ℕ, Bool, true, false, List, ◌++◌, Ok, Err, is_ok}
 use Rattle.session_core.specs.History.{History}
 use Rattle.session_core.specs.declared.refusal.Refusal.{Refusal}
-use Rattle.session_core.specs.declared.refusal.Refusal.TheVariants.{Memory, Deep, Term}
+use Rattle.session_core.specs.declared.refusal.Refusal.TheVariants.{Memory, Line, Long, Name, NoTree, NoModule, Term, Deep, Path, Syntax, Check, Fails, Spent, Big, NoUndo, NoRedo, Group, NoGroup}
 use Rattle.aterm_text.specs.declared.reader.ReadFault.{ReadFault}
 use Rattle.aterm_text.specs.declared.reader.ReadFault.TheVariants.{Deep as DeepText, Term as NoTerm, Memory as NoMemory}
 use Rattle.script_core.specs.Form.{takes_no_memory}
@@ -48,3 +48,25 @@ abbrev pub refusal_of : ReadFault → Refusal
 refusal_of DeepText = Deep
 refusal_of NoTerm = Term
 refusal_of NoMemory = Memory
+
+-- Whether a refusal tells a fault of the checker. The name in it may be so long that memory is wanted to
+-- write it.
+abbrev pub is_fault : Refusal → Bool
+is_fault Memory = false
+is_fault Line = false
+is_fault Long = false
+is_fault Name = false
+is_fault NoTree = false
+is_fault NoModule = false
+is_fault Term = false
+is_fault Deep = false
+is_fault Path = false
+is_fault Syntax = false
+is_fault (Check kind name n m) = true
+is_fault Fails = false
+is_fault Spent = false
+is_fault Big = false
+is_fault NoUndo = false
+is_fault NoRedo = false
+is_fault Group = false
+is_fault NoGroup = false

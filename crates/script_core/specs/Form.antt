@@ -23,6 +23,10 @@ pub data Form : Type 0 where
   put : List ℕ → List ℕ → List ℕ → Form
   -- replaces the annotations there by those that the text spells
   annotate : List ℕ → List ℕ → List ℕ → Form
+  -- gives the name the module that the text spells
+  set_module : List ℕ → List ℕ → Form
+  -- takes the module of the name away
+  unload : List ℕ → Form
   -- goes so many steps back, or forward
   undo : ℕ → Form
   redo : ℕ → Form
@@ -34,9 +38,13 @@ pub data Form : Type 0 where
   show : List ℕ → List ℕ → Form
   -- lists the names of the trees
   trees : Form
+  -- lists the names of the modules
+  modules : Form
+  -- shows the text of the name's module
+  module_text : List ℕ → Form
   -- counts the steps
   history : Form
-  -- gives the text of all trees
+  -- gives a script that makes the contents again
   dump : Form
 
 -- ---- words, which blanks part: spaces, tabs, line feeds and carriage returns
@@ -70,11 +78,19 @@ with_word rest next = if has_word rest then next (first_word rest) (behind_word 
 abbrev pub ended : Form → List ℕ → Option Form
 ended form rest = if has_word rest then None else Some form
 
--- A form goes on with a path, and ends with a text: all from the first byte that isn't a blank on. It
--- may be empty.
+-- A form ends with a text: all from the first byte that isn't a blank on. It may be empty.
+abbrev pub last_text : List ℕ → List ℕ
+last_text rest = without_blanks rest
+
+-- A form goes on with a path, and ends with a text.
 abbrev pub with_path_and_text : (List ℕ → List ℕ → Form) → List ℕ → Option Form
 with_path_and_text form rest =
-    option_map (λ path. form path (without_blanks (behind_word rest))) (path_of (first_word rest))
+    option_map (λ path. form path (last_text (behind_word rest))) (path_of (first_word rest))
+
+-- A form ends with a name.
+abbrev pub last_name : List ℕ → Option (List ℕ)
+last_name rest =
+    if has_word rest && not (has_word (behind_word rest)) then Some (first_word rest) else None
 
 -- a number of steps, from 1 to 1,000,000, written as a part of a path is
 abbrev pub within_steps : ℕ → Option ℕ
@@ -101,20 +117,29 @@ last_place rest =
 -- ---- forms
 
 abbrev pub tree_form : List ℕ → Option Form
-tree_form rest = with_word rest (λ name text. Some (tree name (without_blanks text)))
+tree_form rest = with_word rest (λ name behind. Some (tree name (last_text behind)))
 
 abbrev pub copy_form : List ℕ → Option Form
 copy_form rest =
     with_word rest (λ name behind. with_word behind (λ other end. ended (copy name other) end))
 
 abbrev pub drop_form : List ℕ → Option Form
-drop_form rest = with_word rest (λ name end. ended (drop_tree name) end)
+drop_form rest = option_map drop_tree (last_name rest)
 
 abbrev pub put_form : List ℕ → Option Form
 put_form rest = with_word rest (λ name behind. with_path_and_text (put name) behind)
 
 abbrev pub annotate_form : List ℕ → Option Form
 annotate_form rest = with_word rest (λ name behind. with_path_and_text (annotate name) behind)
+
+abbrev pub module_form : List ℕ → Option Form
+module_form rest = with_word rest (λ name behind. Some (set_module name (last_text behind)))
+
+abbrev pub unload_form : List ℕ → Option Form
+unload_form rest = option_map unload (last_name rest)
+
+abbrev pub text_form : List ℕ → Option Form
+text_form rest = option_map module_text (last_name rest)
 
 abbrev pub show_form : List ℕ → Option Form
 show_form rest = with_word rest (λ name behind. option_map (show name) (last_place behind))
@@ -127,6 +152,8 @@ form_with keyword rest =
     if is_same keyword (codes "drop") then drop_form rest else
     if is_same keyword (codes "put") then put_form rest else
     if is_same keyword (codes "annotate") then annotate_form rest else
+    if is_same keyword (codes "module") then module_form rest else
+    if is_same keyword (codes "unload") then unload_form rest else
     if is_same keyword (codes "undo") then option_map undo (last_steps rest) else
     if is_same keyword (codes "redo") then option_map redo (last_steps rest) else
     if is_same keyword (codes "begin") then ended begin rest else
@@ -134,6 +161,8 @@ form_with keyword rest =
     if is_same keyword (codes "abandon") then ended abandon rest else
     if is_same keyword (codes "show") then show_form rest else
     if is_same keyword (codes "trees") then ended trees rest else
+    if is_same keyword (codes "modules") then ended modules rest else
+    if is_same keyword (codes "text") then text_form rest else
     if is_same keyword (codes "history") then ended history rest else
     if is_same keyword (codes "dump") then ended dump rest else None
 
@@ -149,6 +178,8 @@ has_labels (copy name other) = is_some (label_of name) && is_some (label_of othe
 has_labels (drop_tree name) = is_some (label_of name)
 has_labels (put name path text) = is_some (label_of name)
 has_labels (annotate name path text) = is_some (label_of name)
+has_labels (set_module name text) = is_some (label_of name)
+has_labels (unload name) = is_some (label_of name)
 has_labels (undo n) = true
 has_labels (redo n) = true
 has_labels begin = true
@@ -156,6 +187,8 @@ has_labels commit = true
 has_labels abandon = true
 has_labels (show name path) = is_some (label_of name)
 has_labels trees = true
+has_labels modules = true
+has_labels (module_text name) = is_some (label_of name)
 has_labels history = true
 has_labels dump = true
 
@@ -186,6 +219,8 @@ is_without_memory (copy name other) = false
 is_without_memory (drop_tree name) = false
 is_without_memory (put name path text) = false
 is_without_memory (annotate name path text) = false
+is_without_memory (set_module name text) = false
+is_without_memory (unload name) = false
 is_without_memory (undo n) = true
 is_without_memory (redo n) = true
 is_without_memory begin = true
@@ -193,5 +228,7 @@ is_without_memory commit = false
 is_without_memory abandon = true
 is_without_memory (show name path) = false
 is_without_memory trees = false
+is_without_memory modules = false
+is_without_memory (module_text name) = false
 is_without_memory history = false
 is_without_memory dump = false

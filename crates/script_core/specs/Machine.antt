@@ -9,15 +9,16 @@ use Rattle.term_paths.specs.Paths.{at}
 use Rattle.aterm_text.specs.declared.TheConstants.{MAX_NESTING}
 use Rattle.aterm_text.specs.Nesting.{nesting}
 use Rattle.aterm_text.specs.Grammar.{Spells, SpellsAnnotations}
-use Rattle.aterm_text.specs.Printed.{print}
+use Rattle.aterm_text.specs.Printed.{print, print_name as print_symbol}
+use Rattle.strategy_check.specs.Words.{word_of as kind_word}
 use Rattle.session_core.specs.History.{History}
 use Rattle.session_core.specs.Step as session
 use Rattle.session_core.specs.Dump.{dumped}
 use Rattle.session_core.specs.Refusal.{number_of, word_of}
 use Rattle.session_core.specs.declared.refusal.Refusal.{Refusal}
-use Rattle.session_core.specs.declared.refusal.Refusal.TheVariants.{Long, NoTree, Path, Term, Deep}
+use Rattle.session_core.specs.declared.refusal.Refusal.TheVariants.{Long, NoTree, NoModule, Path, Term, Deep, Check}
 use Rattle.script_core.specs.Handed.{Handed, text as handed_text, long}
-use Rattle.script_core.specs.Form.{Form, tree, copy, drop_tree, put, annotate, undo, redo, begin, commit, abandon, show, trees, history, dump, command_of}
+use Rattle.script_core.specs.Form.{Form, tree, copy, drop_tree, put, annotate, set_module, unload, undo, redo, begin, commit, abandon, show, trees, modules, module_text, history, dump, command_of}
 
 -- an accepted command: what it answers, its line feeds included, and the history after it
 pub record Accepted : Type 0 where
@@ -65,9 +66,14 @@ abbrev pub shown_at : History → List ℕ → Option Tree → Reply
 shown_at h path (Some t) = shown h (at t path)
 shown_at h path None = Err NoTree
 
--- the names of the trees, on one line
-abbrev pub listed : History → List ℕ
-listed h = line (codes "trees" ++ flat_map (λ name. 32 ∷ name) (finmap.keys h.now.trees))
+-- a word, and a space and a name for each of these, on one line
+abbrev pub listed : List ℕ → List (List ℕ) → List ℕ
+listed word names = line (word ++ flat_map (λ name. 32 ∷ name) names)
+
+-- the text of the name's module, if there is one
+abbrev pub shown_text : History → Option (List ℕ) → Reply
+shown_text h (Some text) = Ok (told_of h (line text))
+shown_text h None = Err NoModule
 
 -- the numbers of steps to undo and to redo
 abbrev pub counted : History → List ℕ
@@ -97,13 +103,20 @@ Replies (put name path text) h reply =
 Replies (annotate name path text) h reply =
     AtPlace SpellsAnnotations name path text (λ ts. session.step (session.annotate name path ts) h) h
     reply
+Replies (set_module name text) h reply =
+    (left : Result History Refusal) × session.SetsModule name text h left × (reply ≡ done left)
+Replies (unload name) h reply =
+    (left : Result History Refusal) × session.Unloads name h left × (reply ≡ done left)
 Replies (undo n) h reply = reply ≡ done (session.step (session.undo n) h)
 Replies (redo n) h reply = reply ≡ done (session.step (session.redo n) h)
 Replies begin h reply = reply ≡ done (session.step session.begin h)
-Replies commit h reply = reply ≡ done (session.step session.commit h)
+Replies commit h reply =
+    (left : Result History Refusal) × session.Commits h left × (reply ≡ done left)
 Replies abandon h reply = reply ≡ done (session.step session.abandon h)
 Replies (show name path) h reply = reply ≡ shown_at h path (finmap.get h.now.trees name)
-Replies trees h reply = reply ≡ told h (listed h)
+Replies trees h reply = reply ≡ told h (listed (codes "trees") (finmap.keys h.now.trees))
+Replies modules h reply = reply ≡ told h (listed (codes "modules") (finmap.keys h.now.modules))
+Replies (module_text name) h reply = reply ≡ shown_text h (finmap.get h.now.modules name)
 Replies history h reply = reply ≡ told h (counted h)
 Replies dump h reply = reply ≡ told h (dumped h.now)
 
@@ -124,9 +137,16 @@ history_after h (Err refusal) = h
 
 -- ---- how replies are written
 
--- a refusal's number and word
+-- What is told behind a refusal's number: its word; of a fault the kind, the name as terms are printed, and
+-- the two numbers.
+abbrev pub reason : Refusal → List ℕ
+reason (Check kind name n m) =
+    kind_word kind ++ 32 ∷ print_symbol name ++ 32 ∷ decimal n ++ 32 ∷ decimal m
+reason refusal = word_of refusal
+
+-- a refusal's number and why
 abbrev pub refused : Refusal → List ℕ
-refused refusal = codes "refused " ++ decimal (number_of refusal) ++ 32 ∷ word_of refusal
+refused refusal = codes "refused " ++ decimal (number_of refusal) ++ 32 ∷ reason refusal
 
 abbrev pub written : Reply → List ℕ
 written (Ok accepted) = accepted.answer

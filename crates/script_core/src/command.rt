@@ -1,12 +1,12 @@
 //! The forms of commands.
 
-ghost use Rattle.std.specs.Prelude.{◌≡◌, ◌≤◌, length, ◌⊎◌, ℕ, false, IfOk, IfErr, IfSome, Ok, Err, Some, None};
+ghost use Rattle.std.specs.Prelude.{◌≡◌, ◌≤◌, length, ◌⊎◌, ℕ, List, false, IfOk, IfErr, IfSome, Ok, Err, Some, None};
 ghost use Rattle.std.specs.List.{prefix_len, suffix_len, position_or_len};
 ghost use Rattle.term_core.specs.Word.{label_of};
 ghost use Rattle.aterm_text.specs.Tokens.{is_blank, without_blanks};
 ghost use Rattle.script_core.specs.Script.{without_end};
 ghost use Rattle.script_core.specs.Steps.{AreSteps};
-ghost use Rattle.script_core.specs.Form.{Form, command_of, checked, tree_form, copy_form, drop_form, put_form, annotate_form, show_form, last_steps, last_place, ended, form_with, is_without_memory, takes_no_memory, takes_no_memory_with, first_word, behind_word, has_word};
+ghost use Rattle.script_core.specs.Form.{Form, command_of, checked, tree_form, copy_form, drop_form, put_form, annotate_form, module_form, unload_form, text_form, show_form, last_name, last_steps, last_place, last_text, ended, form_with, is_without_memory, takes_no_memory, takes_no_memory_with, first_word, behind_word, has_word};
 ghost use Rattle.term_paths.specs.PathText.{path_of};
 ghost use Rattle.script_core.specs.CommandView.{form as form_seen};
 
@@ -30,6 +30,10 @@ pub enum Command<'a> {
     Put(Label, Path, &'a [u8]),
     /// Replaces the annotations there by those that the text spells.
     Annotate(Label, Path, &'a [u8]),
+    /// Gives the name the module that the text gives.
+    Module(Label, &'a [u8]),
+    /// Takes the module of the name away.
+    Unload(Label),
     /// Goes so many steps back.
     Undo(u32),
     /// Goes so many steps forward.
@@ -44,9 +48,13 @@ pub enum Command<'a> {
     Show(Label, Path),
     /// Lists the names of the trees.
     Trees,
+    /// Lists the names of the modules.
+    Modules,
+    /// Shows the text of the name's module.
+    Text(Label),
     /// Counts the steps.
     History,
-    /// Gives the text of all trees.
+    /// Gives a script that makes the contents again.
     Dump,
 }
 
@@ -94,17 +102,25 @@ fn read_other<'a>(alloc: Global, keyword: &[u8], rest: &'a [u8]) -> Result<Comma
     } else if keyword == b"copy".as_slice() {
         read_copy(alloc, rest)
     } else if keyword == b"drop".as_slice() {
-        read_drop(alloc, rest)
+        Ok(Command::Drop(read_last_name(alloc, rest)?))
     } else if keyword == b"put".as_slice() {
         read_put(alloc, rest)
     } else if keyword == b"annotate".as_slice() {
         read_annotate(alloc, rest)
+    } else if keyword == b"module".as_slice() {
+        read_module(alloc, rest)
+    } else if keyword == b"unload".as_slice() {
+        Ok(Command::Unload(read_last_name(alloc, rest)?))
+    } else if keyword == b"text".as_slice() {
+        Ok(Command::Text(read_last_name(alloc, rest)?))
     } else if keyword == b"show".as_slice() {
         read_show(alloc, rest)
     } else if keyword == b"commit".as_slice() {
         read_ended(Command::Commit, rest)
     } else if keyword == b"trees".as_slice() {
         read_ended(Command::Trees, rest)
+    } else if keyword == b"modules".as_slice() {
+        read_ended(Command::Modules, rest)
     } else if keyword == b"history".as_slice() {
         read_ended(Command::History, rest)
     } else if keyword == b"dump".as_slice() {
@@ -144,19 +160,6 @@ fn read_copy<'a>(alloc: Global, rest: &[u8]) -> Result<Command<'a>, Refusal>
     Ok(Command::Copy(name, copy))
 }
 
-fn read_drop<'a>(alloc: Global, rest: &[u8]) -> Result<Command<'a>, Refusal>
-    ensures ok { IfOk result (λ read. checked (drop_form rest.now) ≡ Ok (form_seen read)) }
-    ensures may_take_memory { IfOk result (λ read. is_without_memory (form_seen read) ≡ false) }
-    ensures refused { IfErr result (λ refusal. (refusal ≡ Refusal.Memory)
-        ⊎ (checked (drop_form rest.now) ≡ Err refusal)) }
-{
-    let (name, rest) = split_word(rest);
-    if name.is_empty() || has_more(rest) {
-        return Err(Refusal::Line);
-    }
-    Ok(Command::Drop(read_label(alloc, name)?))
-}
-
 fn read_put(alloc: Global, rest: &[u8]) -> Result<Command<'_>, Refusal>
     ensures ok { IfOk result (λ read. checked (put_form rest.now) ≡ Ok (form_seen read)) }
     ensures may_take_memory { IfOk result (λ read. is_without_memory (form_seen read) ≡ false) }
@@ -189,6 +192,20 @@ fn read_annotate(alloc: Global, rest: &[u8]) -> Result<Command<'_>, Refusal>
     Ok(Command::Annotate(name, path, after_blanks(rest)))
 }
 
+fn read_module(alloc: Global, rest: &[u8]) -> Result<Command<'_>, Refusal>
+    ensures ok { IfOk result (λ read. checked (module_form rest.now) ≡ Ok (form_seen read)) }
+    ensures may_take_memory { IfOk result (λ read. is_without_memory (form_seen read) ≡ false) }
+    ensures refused { IfErr result (λ refusal. (refusal ≡ Refusal.Memory)
+        ⊎ (checked (module_form rest.now) ≡ Err refusal)) }
+{
+    let (name, rest) = split_word(rest);
+    if name.is_empty() {
+        return Err(Refusal::Line);
+    }
+    let name = read_label(alloc, name)?;
+    Ok(Command::Module(name, after_blanks(rest)))
+}
+
 fn read_show<'a>(alloc: Global, rest: &[u8]) -> Result<Command<'a>, Refusal>
     ensures ok { IfOk result (λ read. checked (show_form rest.now) ≡ Ok (form_seen read)) }
     ensures may_take_memory { IfOk result (λ read. is_without_memory (form_seen read) ≡ false) }
@@ -202,6 +219,22 @@ fn read_show<'a>(alloc: Global, rest: &[u8]) -> Result<Command<'a>, Refusal>
     let path = read_place(alloc, rest)?;
     let name = read_label(alloc, name)?;
     Ok(Command::Show(name, path))
+}
+
+// A name at the end of a form.
+fn read_last_name(alloc: Global, rest: &[u8]) -> Result<Label, Refusal>
+    ensures ok { IfOk result (λ label. last_name rest.now ≡ Some label) }
+    ensures label { IfOk result (λ label. label_of label ≡ Some label) }
+    ensures refused { IfErr result (λ refusal. (refusal ≡ Refusal.Memory)
+        ⊎ (((refusal ≡ Refusal.Line) × (last_name rest.now ≡ None))
+        ⊎ ((refusal ≡ Refusal.Name) × (name : List ℕ) × (last_name rest.now ≡ Some name)
+        × (label_of name ≡ None)))) }
+{
+    let (name, rest) = split_word(rest);
+    if name.is_empty() || has_more(rest) {
+        return Err(Refusal::Line);
+    }
+    read_label(alloc, name)
 }
 
 // `at` and a path at the end of a form, or nothing, which is the root.

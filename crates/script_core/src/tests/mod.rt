@@ -1,5 +1,6 @@
 //! Tests of runs.
 
+mod modules;
 mod pieces;
 mod rows;
 mod streams;
