@@ -1,7 +1,10 @@
 //! The command line.
 
-ghost use Rattle.std.specs.Prelude.{◌≡◌, ◌≤◌, IfOk};
+ghost use Rattle.std.specs.Prelude.{◌≡◌, ◌≤◌, ℕ, List, IfOk, Some, codes, map, option_map};
+ghost use Rattle.clap.specs.Words.{FailsBy, app_of, fault_of, first_of, found_of, one_of, one_text};
+ghost use Rattle.clap.specs.Takes.{is_given};
 ghost use Rattle.script_core.specs.Steps.{AreSteps};
+ghost use Rattle.stratbench.specs.Line.{IsNumberIfSteps, given, line};
 
 use clap::{Arg, ArgAction, ArgMatches, Command, Error, value_parser};
 use script_core::MAX_STEPS;
@@ -27,6 +30,19 @@ pub struct CommandLine<'a> {
 /// Errors: those of `clap`, among them the text of help that was asked for, and want of memory.
 pub fn arguments<'a, S: AsStr>(alloc: Global, words: &'a [S]) -> Result<CommandLine<'a>, Error>
     ensures steps { IfOk result (λ arguments. AreSteps arguments.steps) }
+
+    // What `clap` finds for this command line in the words, by the names of its arguments.
+    ensures number { IfOk result (λ arguments. (text : List ℕ)
+        → one_of (codes "steps") (given (map S.text words.now)) ≡ Some text
+        → IsNumberIfSteps text arguments.steps) }
+    ensures file { IfOk result (λ arguments. option_map (λ name. name.now) arguments.file
+        ≡ first_of (codes "file") (given (map S.text words.now))) }
+    ensures stop { IfOk result (λ arguments. arguments.stop
+        ≡ is_given (codes "stop") (given (map S.text words.now))) }
+
+    // Words are refused for what `clap` finds wrong with them, or for want of memory, and taken only
+    // where it finds nothing.
+    ensures refused { FailsBy (fault_of line (map S.text words.now)) result }
 {
     let matches = command(alloc)?.try_get_matches_from(words)?;
     Ok(CommandLine {
@@ -36,7 +52,9 @@ pub fn arguments<'a, S: AsStr>(alloc: Global, words: &'a [S]) -> Result<CommandL
     })
 }
 
-fn command<'a>(alloc: Global) -> Result<Command<'a>, AllocError> {
+fn command<'a>(alloc: Global) -> Result<Command<'a>, AllocError>
+    ensures { IfOk result (λ command. app_of command ≡ line) }
+{
     let steps = Arg::new(alloc, "steps")
         .long("steps")
         .value_name("N")
@@ -61,7 +79,9 @@ fn command<'a>(alloc: Global) -> Result<Command<'a>, AllocError> {
 
 // The number of steps, which the parser holds in its range.
 fn steps(matches: &ArgMatches<'_>) -> u32
-    ensures { AreSteps result }
+    ensures within { AreSteps result }
+    ensures number { (text : List ℕ) → one_text (found_of matches.now) (codes "steps") ≡ Some text
+        → IsNumberIfSteps text result }
 {
     match matches.get_one::<u32>("steps") {
         Some(steps) if steps >= 1 && steps <= MAX_STEPS => steps,

@@ -1,0 +1,36 @@
+-- The command line, in the words of `clap`: `--steps N`, `--stop` and the name of a file.
+use Rattle.std.specs.Prelude.{◌≡◌, ℕ, List, [], ◌∷◌, codes, pos, Some}
+use Rattle.std.specs.Str.Parse.{IsNumeral, digits_value, without_leading_plus}
+use Rattle.script_core.specs.Steps.{AreSteps}
+use Rattle.clap.specs.Words.{App, Row, Rule, Text, matches_of, new_app, new_rule, with_rule}
+use Rattle.clap.specs.declared.builder.action.ArgAction.TheVariants.{SetTrue}
+use Rattle.clap.specs.declared.builder.value_parser.ValueParser.TheVariants.{Signed}
+
+-- a number from 1 to 1,000,000, and 100,000 where none is given
+abbrev pub steps_option : Rule
+steps_option = record (new_rule (codes "steps")) {
+  long = Some (codes "steps");
+  value_names = 1;
+  defaults = codes "100000" ∷ [];
+  parser = Some (Signed (pos 1) (pos 1000000));
+}
+
+abbrev pub stop_flag : Rule
+stop_flag = record (new_rule (codes "stop")) { long = Some (codes "stop"); action = Some SetTrue }
+
+abbrev pub file_name : Rule
+file_name = record (new_rule (codes "file")) { value_names = 1 }
+
+abbrev pub line : App
+line =
+    with_rule (with_rule (with_rule (new_app (codes "stratbench")) steps_option) stop_flag) file_name
+
+-- what the words give for each of them, the program's name first
+abbrev pub given : List Text → List Row
+given words = matches_of line words
+
+-- n is the number that a text spells, where that is a number of steps
+abbrev pub IsNumberIfSteps : List ℕ → ℕ → Type 0
+IsNumberIfSteps text n =
+    let digits = without_leading_plus text in
+    IsNumeral 10 digits → AreSteps (digits_value 10 digits) → n ≡ digits_value 10 digits
