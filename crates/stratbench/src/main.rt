@@ -1,6 +1,7 @@
 //! Reads a script from a file or standard input and answers each of its commands on standard output.
 #![tactic(auto)]
 
+ghost use Rattle.prim_core.specs.StandardTable.{ComputeStandard};
 ghost use Rattle.script_core.specs.Steps.{AreSteps};
 
 mod arguments;
@@ -11,11 +12,14 @@ mod tests;
 use arguments::{CommandLine, arguments};
 use clap::Error;
 use clap::error::ErrorKind;
-use prim_core::{NoPrimitives, Primitives};
+use prim_core::{
+    BoxedOperation, Meaning, Primitives, Standard, StandardOperations, addi, divi, gti,
+    int_to_string, muli, standard_primitives, strcat, string_to_int, strlen, subti,
+};
 use script_core::{Counted, RunFault, Settings, Summary, run};
 use session_core::Session;
 use status::status;
-use std::alloc::Global;
+use std::alloc::{AllocError, Global};
 use std::env;
 use std::fs::File;
 use std::io::{self, BufWriter, Read, Write};
@@ -71,40 +75,88 @@ fn report(rt: &HostRuntime, outcome: Result<Summary, RunFault>) -> u8 {
     status(&outcome)
 }
 
-// Runs a new session over the file, or over standard input where none is named.
+// Runs a new session, which has the standard primitives, over the script.
 fn run_script(rt: &HostRuntime, line: &CommandLine<'_>) -> Result<Summary, RunFault>
+    requires { AreSteps line.now.steps }
+{
+    match run_standard(rt, line) {
+        Ok(outcome) => outcome,
+        Err(AllocError) => Err(RunFault::Memory),
+    }
+}
+
+// Makes a box for each of the standard primitives.
+fn run_standard(
+    rt: &HostRuntime,
+    line: &CommandLine<'_>,
+) -> Result<Result<Summary, RunFault>, AllocError>
+    requires { AreSteps line.now.steps }
+{
+    let alloc = rt.alloc();
+    let operations: StandardOperations<BoxedOperation> = StandardOperations {
+        addi: Box::new(alloc, addi)?,
+        subti: Box::new(alloc, subti)?,
+        muli: Box::new(alloc, muli)?,
+        divi: Box::new(alloc, divi)?,
+        gti: Box::new(alloc, gti)?,
+        strcat: Box::new(alloc, strcat)?,
+        strlen: Box::new(alloc, strlen)?,
+        int_to_string: Box::new(alloc, int_to_string)?,
+        string_to_int: Box::new(alloc, string_to_int)?,
+    };
+    Ok(run_with::<Standard>(rt, line, operations))
+}
+
+// Whatever the operations are, as long as they compute what their names mean.
+fn run_with<M: Meaning>(
+    rt: &HostRuntime,
+    line: &CommandLine<'_>,
+    operations: StandardOperations<M::Operation>,
+) -> Result<Summary, RunFault>
+    requires steps { AreSteps line.now.steps }
+    requires standard { ComputeStandard M.Operation.may_run M.Operation.answers M.meaning operations }
+{
+    let Ok(primitives) = standard_primitives::<M>(rt.alloc(), operations) else {
+        return Err(RunFault::Memory);
+    };
+    let mut session = Session::new(rt.alloc(), Primitives::new(primitives));
+    run_session(rt, line, &mut session)
+}
+
+// Runs the session over the file, or over standard input where none is named.
+fn run_session<M: Meaning>(
+    rt: &HostRuntime,
+    line: &CommandLine<'_>,
+    session: &mut Session<M>,
+) -> Result<Summary, RunFault>
     requires { AreSteps line.now.steps }
 {
     let Ok(writer) = BufWriter::new(rt.alloc(), rt.stdout()) else {
         return Err(RunFault::Memory);
     };
     match line.file {
-        None => run_between(rt.alloc(), line, rt.stdin(), writer),
+        None => run_between(rt.alloc(), session, line, rt.stdin(), writer),
         Some(path) => match File::open(rt, path) {
-            Ok(file) => run_between(rt.alloc(), line, file, writer),
+            Ok(file) => run_between(rt.alloc(), session, line, file, writer),
             Err(_) => Err(RunFault::Read),
         },
     }
 }
 
-fn run_between<R: Read + Drop, W: Write + Drop>(
+fn run_between<M: Meaning, R: Read + Drop, W: Write + Drop>(
     alloc: Global,
+    session: &mut Session<M>,
     line: &CommandLine<'_>,
     reader: R,
     writer: W,
 ) -> Result<Summary, RunFault>
     requires { AreSteps line.now.steps }
 {
-    let mut session = Session::new(alloc, no_primitives(alloc));
     let settings = Settings {
         steps: line.steps,
         stop: line.stop,
     };
     let mut source = Counted::new(reader);
     let mut sink = Counted::new(writer);
-    run(alloc, &mut session, &mut source, &mut sink, settings)
-}
-
-fn no_primitives(alloc: Global) -> Primitives<NoPrimitives> {
-    Primitives::new(Vec::new(alloc))
+    run(alloc, session, &mut source, &mut sink, settings)
 }
