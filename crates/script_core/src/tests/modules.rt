@@ -1,6 +1,6 @@
 //! Rows with modules, in pieces of 1, 2 and 4,096 bytes.
 
-use super::pieces::{ends, is_row};
+use super::pieces::{ends, expect_rows, is_row};
 use std::alloc::Global;
 use std::test::Fail;
 
@@ -81,14 +81,7 @@ fn answers_rows_with_modules(rt: HostRuntime) -> Result<(), Fail> {
             1,
         ),
     ];
-    for (script, answers, accepted, refused) in table {
-        let outcome = ends(accepted, refused);
-        assert!(rt;
-            is_row(rt.alloc(), script, false, answers, outcome)?,
-            "{script:?}"
-        );
-    }
-    Ok(())
+    expect_rows(&rt, rt.alloc(), &table)
 }
 
 // Declares `A` and `D` of one argument, and defines `h` with a strategy and a term.
@@ -291,14 +284,7 @@ fn looks_at_modules_in_order(rt: HostRuntime) -> Result<(), Fail> {
             0,
         ),
     ];
-    for (script, answers, accepted, refused) in table {
-        let outcome = ends(accepted, refused);
-        assert!(rt;
-            is_row(rt.alloc(), script, false, answers, outcome)?,
-            "{script:?}"
-        );
-    }
-    Ok(())
+    expect_rows(&rt, rt.alloc(), &table)
 }
 
 // 4,000 tokens are the most of a text, before it is parsed; a name that a fault tells may be long.

@@ -7,6 +7,7 @@ use prim_core::{NoPrimitives, Primitives};
 use session_core::Session;
 use std::alloc::Global;
 use std::io::{self, Error, ErrorKind, Read};
+use std::process::Abort;
 use std::test::Fail;
 
 /// Gives at most so many bytes at a time, and at its end fails where that is wanted.
@@ -84,4 +85,20 @@ pub fn is_row(
         }
     }
     Ok(true)
+}
+
+/// Each script of the table gives these answers, with so many commands accepted and refused.
+pub fn expect_rows(
+    rt: &impl Abort,
+    alloc: Global,
+    table: &[(&[u8], &[u8], u64, u64)],
+) -> Result<(), Fail> {
+    for (script, answers, accepted, refused) in table {
+        let outcome = ends(*accepted, *refused);
+        assert!(rt;
+            is_row(alloc, script, false, answers, outcome)?,
+            "{script:?}"
+        );
+    }
+    Ok(())
 }

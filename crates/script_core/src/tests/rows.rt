@@ -1,6 +1,6 @@
 //! Worked rows, in pieces of 1, 2 and 4,096 bytes.
 
-use super::pieces::{ends, is_row};
+use super::pieces::{ends, expect_rows, is_row};
 use std::alloc::Global;
 use std::test::Fail;
 
@@ -84,14 +84,7 @@ fn answers_worked_rows(rt: HostRuntime) -> Result<(), Fail> {
             5,
         ),
     ];
-    for (script, answers, accepted, refused) in table {
-        let outcome = ends(accepted, refused);
-        assert!(rt;
-            is_row(rt.alloc(), script, false, answers, outcome)?,
-            "{script:?}"
-        );
-    }
-    Ok(())
+    expect_rows(&rt, rt.alloc(), &table)
 }
 
 #[test]
@@ -179,14 +172,7 @@ fn answers_more_rows(rt: HostRuntime) -> Result<(), Fail> {
             5,
         ),
     ];
-    for (script, answers, accepted, refused) in table {
-        let outcome = ends(accepted, refused);
-        assert!(rt;
-            is_row(rt.alloc(), script, false, answers, outcome)?,
-            "{script:?}"
-        );
-    }
-    Ok(())
+    expect_rows(&rt, rt.alloc(), &table)
 }
 
 // With `stop` nothing is answered behind the first refusal.
