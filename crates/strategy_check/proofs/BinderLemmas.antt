@@ -4,12 +4,11 @@ use Rattle.std.specs.Prelude.{option_to_list, if◌then◌else◌}
 use Rattle.std.specs.Option.{option_flatten}
 use Rattle.std.specs.HashMap.{get}
 use Rattle.std.proofs.lemmas.List.{reverse-append}
-use Rattle.term_core.specs.Tree.{Symbol}
-use Rattle.strategy_syntax.specs.Variables.{same_name}
+use Rattle.term_core.specs.Tree.{Symbol, same_name}
+use Rattle.term_core.proofs.SameName.{same_name-true}
 use Rattle.strategy_check.specs.declared.binders.Entry.{Entry}
 use Rattle.strategy_check.specs.Binders.{Binder, number_of, bound_from}
 use Rattle.strategy_check.specs.BinderView.{Numbers, number_in, binder_of, binders_of, Hides, IsKept}
-use Rattle.strategy_check.proofs.NameLemmas.{same_name-true}
 
 -- the innermost stands first
 pub binders_of-last : (es : List Entry) (e : Entry) → binders_of (es ++ e ∷ []) ≡ binder_of e ∷ binders_of es

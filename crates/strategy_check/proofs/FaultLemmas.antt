@@ -5,11 +5,10 @@ use Rattle.std.proofs.Math.Seq.{take-suc}
 use Rattle.std.specs.Prelude.{if◌then◌else◌}
 use Rattle.std.specs.Option.{option_or}
 use Rattle.std.specs.Result.{IsErr, IsErrAnd, IfErr}
-use Rattle.term_core.specs.Tree.{Symbol}
+use Rattle.term_core.specs.Tree.{Symbol, same_name}
 use Rattle.strategy_syntax.specs.Syntax.{Pattern, pattern_list, patterns_of, Strategy, strategy_list, strategies_of}
 use Rattle.strategy_syntax.proofs.PatternLemmas.{pattern_list-patterns_of, patterns_depth-item}
 use Rattle.strategy_syntax.proofs.StrategyLemmas.{strategy_list-strategies_of, depths-item}
-use Rattle.strategy_syntax.specs.Variables.{same_name}
 use Rattle.strategy_check.specs.declared.fault.Kind.TheVariants.{Parameter}
 use Rattle.strategy_check.specs.declared.fault.CheckFault.{CheckFault}
 use Rattle.strategy_check.specs.declared.fault.CheckFault.TheVariants.{Memory, Fault as Told}

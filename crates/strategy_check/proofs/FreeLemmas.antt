@@ -1,16 +1,16 @@
 -- The variables that are met are the free ones.
 use Rattle.std.proofs.Common.{◌≡◌, ℕ, ◌+◌, Bool, true, false, ◌||◌, List, [], ◌∷◌, ◌++◌, length, Option, Some, is_some, refl, sym, ap, ◌∙◌, arith, append_assoc, append-nil}
 use Rattle.std.specs.Prelude.{if◌then◌else◌}
-use Rattle.term_core.specs.Tree.{Symbol}
+use Rattle.term_core.specs.Tree.{Symbol, same_name}
+use Rattle.term_core.proofs.SameName.{same_name-sym}
 use Rattle.strategy_syntax.specs.Syntax.{Pattern, wildcard, variable, at, number, compound, with_tail, annotated, Patterns, no_patterns, and_pattern, Strategy, id, fail, matches, builds, seq, guard, test, scope, uses, congruence, tail_congruence, all, one, some, child, rec, prim, Strategies, no_strategies, and_strategy}
-use Rattle.strategy_syntax.specs.Variables.{same_name, variables, variables_of_all}
+use Rattle.strategy_syntax.specs.Variables.{variables, variables_of_all}
 use Rattle.strategy_syntax.proofs.PatternLemmas.{patterns_depth-item}
 use Rattle.strategy_syntax.proofs.StrategyLemmas.{depths-item}
 use Rattle.strategy_check.specs.Lists.{is_among, first_ones, without}
 use Rattle.strategy_check.specs.Binders.{Binder, number_of, bound_from}
 use Rattle.strategy_check.specs.Free.{free, free_in_all, free_variables}
 use Rattle.strategy_check.specs.Met.{met, met_names, met_in_pattern, met_in_patterns, met_in_strategy, met_in_strategies}
-use Rattle.strategy_check.proofs.NameLemmas.{same_name-sym}
 use Rattle.strategy_check.proofs.BinderLemmas.{drop-bound_from, length-bound_from}
 
 pub ruleset free_rules = (patterns_depth-item, depths-item, drop-bound_from)

@@ -1,4 +1,3 @@
-pub mod NameLemmas
 pub mod BinderLemmas
 pub mod FaultLemmas
 pub mod FirstLemmas

@@ -2,11 +2,11 @@
 use Rattle.std.proofs.Common.{◌≡◌, ℕ, zero, suc, ◌+◌, ◌≤◌, ◌||◌, Bool, true, false, List, [], ◌∷◌, ◌++◌, length, map, slice_get, Option, Some, None, is_some, refl, sym, ap, ◌∙◌, subst, arith}
 use Rattle.std.specs.Prelude.{if◌then◌else◌, IsSomeAnd, flat_map, ⊤}
 use Rattle.std.proofs.lemmas.Bool.Decides.{Decides-eqb}
-use Rattle.term_core.specs.Tree.{Symbol}
+use Rattle.term_core.specs.Tree.{Symbol, same_name}
+use Rattle.term_core.proofs.SameName.{same_name-self}
 use Rattle.strategy_syntax.specs.Modules.{Definition}
 use Rattle.strategy_syntax.specs.Syntax.{Strategy}
 use Rattle.strategy_syntax.specs.Resolved.{ResolvedStrategy}
-use Rattle.strategy_syntax.specs.Variables.{same_name}
 use Rattle.strategy_syntax.specs.declared.resolved.Resolved.{Resolved}
 use Rattle.strategy_check.specs.Lists.{is_among, first_ones, with_new}
 use Rattle.strategy_check.specs.Binders.{Binder, number_of, bound_from}
@@ -16,7 +16,6 @@ use Rattle.strategy_check.specs.Free.{free, free_variables}
 use Rattle.strategy_check.specs.Resolving.{resolved_strategy}
 use Rattle.strategy_check.specs.Programs.{Program, free_of, scope_of, variable_count, resolved_bodies, joined, term_count, joined_definition, is_number, of_number, groups_from, program, faults_of, resolved}
 use Rattle.strategy_check.specs.Ranges.{InRange, IsInRange, IsSound}
-use Rattle.strategy_check.proofs.NameLemmas.{same_name-self}
 use Rattle.strategy_check.proofs.BinderLemmas.{bound_count}
 use Rattle.strategy_check.proofs.FreeLemmas.{bound_number, among-append, or-false}
 use Rattle.strategy_check.proofs.RangeLemmas.{AreBelow, AreBound, below-bound, left-none, right-none, numbered, strategy_range}

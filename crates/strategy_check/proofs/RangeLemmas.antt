@@ -6,12 +6,12 @@ use Rattle.std.proofs.lemmas.Option.{slice_get_read}
 use Rattle.std.proofs.lemmas.Bool.Decides.{Decides-eqb}
 use Rattle.strategy_check.specs.declared.fault.Kind.{Kind}
 use Rattle.strategy_check.specs.declared.fault.Kind.TheVariants.{Primitive}
-use Rattle.term_core.specs.Tree.{Symbol}
+use Rattle.term_core.specs.Tree.{Symbol, same_name}
 use Rattle.prim_core.specs.Signature as primitive
 use Rattle.prim_core.proofs.SignatureLemmas.{index_of-there}
 use Rattle.strategy_syntax.specs.Syntax.{Pattern, wildcard, variable, at, number, compound, with_tail, annotated, Patterns, no_patterns, and_pattern, pattern_list, Strategy, id, fail, matches, builds, seq, guard, test, scope, uses, congruence, tail_congruence, all, one, some, child, rec, prim, Strategies, no_strategies, and_strategy, strategy_list}
 use Rattle.strategy_syntax.specs.Resolved.{Places, ResolvedStrategies, resolved_list, place_list}
-use Rattle.strategy_syntax.specs.Variables.{same_name, variables, variables_of_all}
+use Rattle.strategy_syntax.specs.Variables.{variables, variables_of_all}
 use Rattle.strategy_check.specs.Lists.{is_among, without}
 use Rattle.strategy_check.specs.Binders.{Binder, number_of, bound_from}
 use Rattle.strategy_check.specs.Tables.{Signature, same_signature, Table, definition_number}

@@ -5,8 +5,7 @@ use Rattle.std.specs.Option.{option_flatten}
 use Rattle.std.specs.declared.hash.FoldHasher.{FoldHasher}
 use Rattle.std.specs.declared.hash.BuildHasherDefault.{BuildHasherDefault}
 use Rattle.std.specs.HashMap.{get, HashMap}
-use Rattle.term_core.specs.Tree.{Symbol}
-use Rattle.strategy_syntax.specs.Variables.{same_name}
+use Rattle.term_core.specs.Tree.{Symbol, same_name}
 use Rattle.strategy_check.specs.Binders.{Binder, number_of}
 use Rattle.strategy_check.specs.declared.binders.Entry.{Entry}
 

@@ -2,8 +2,7 @@
 -- and `rec`.
 use Rattle.std.specs.Prelude.{ℕ, ◌+◌, List, [], ◌∷◌, Some, None, if◌then◌else◌}
 use Rattle.std.specs.declared.option.Option.{Option}
-use Rattle.term_core.specs.Tree.{Symbol}
-use Rattle.strategy_syntax.specs.Variables.{same_name}
+use Rattle.term_core.specs.Tree.{Symbol, same_name}
 
 -- a name with the number of its binder
 pub record Binder : Type 0 where

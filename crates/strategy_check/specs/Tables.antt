@@ -1,9 +1,8 @@
 -- What the modules define and declare, all together.
 use Rattle.std.specs.Prelude.{ℕ, Bool, ◌&&◌, ◌==◌, List, [], length, map, flat_map, position, is_some}
 use Rattle.std.specs.declared.option.Option.{Option}
-use Rattle.term_core.specs.Tree.{Symbol}
+use Rattle.term_core.specs.Tree.{Symbol, same_name}
 use Rattle.strategy_syntax.specs.Modules.{Constructor, Definition, Module}
-use Rattle.strategy_syntax.specs.Variables.{same_name}
 use Rattle.strategy_check.specs.Lists.{is_among, first_ones}
 
 -- A definition is known by its name and by how many strategies and terms it takes.

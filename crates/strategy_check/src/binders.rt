@@ -4,7 +4,6 @@
 ghost use Rattle.std.specs.Prelude.{◌≡◌, ◌+◌, ◌∷◌, [], drop, length, IfOk, OnOk};
 ghost use Rattle.strategy_check.specs.Binders.{number_of, bound_from};
 
-use crate::key::Key;
 use std::alloc::Global;
 use std::collections::HashMap;
 use std::marker::Model;
@@ -16,7 +15,7 @@ use term_core::{Name, NoMemory};
 pub struct Binders {
     entries: Vec<Entry>,
     // what each name stands for now, or None where its binders are closed
-    numbers: HashMap<Key, Option<usize>>,
+    numbers: HashMap<Name, Option<usize>>,
 }
 
 #[derive(Drop)]
@@ -58,11 +57,10 @@ impl Binders {
     }
 
     /// The number that the name stands for, or `None` where it has no binder.
-    pub fn number(&self, name: &Name) -> Result<Option<usize>, NoMemory>
-        ensures { IfOk result (λ found. found ≡ number_of name.now self.now) }
+    pub fn number(&self, name: &Name) -> Option<usize>
+        ensures { result ≡ number_of name.now self.now }
     {
-        let key = Key::new(name)?;
-        Ok(self.numbers.get(&key).copied().flatten())
+        self.numbers.get(name).copied().flatten()
     }
 
     /// One more inside, of this name and number.
@@ -70,7 +68,7 @@ impl Binders {
         ensures { OnOk result (self.new
             ≡ record { name = name.now; number = number } ∷ self.old) }
     {
-        let key = Key::new(name)?;
+        let key = name.try_clone()?;
         let name = name.try_clone()?;
         self.entries.reserve(1)?;
         let hidden = self.numbers.insert(key, Some(number))?.flatten();
@@ -103,7 +101,7 @@ impl Binders {
         let Some(last) = self.entries.last() else {
             return Ok(());
         };
-        let key = Key::new(&last.name)?;
+        let key = last.name.try_clone()?;
         self.numbers.insert(key, last.hidden)?;
         self.entries.pop();
         Ok(())

@@ -244,7 +244,7 @@ fn resolve_use(
         (definition_number table.now name.now (length parts.items) (length terms.items))
         (resolveds_of parts.items) (places_of terms.items))) }
 {
-    if let Some(number) = scope.strategy(name)? {
+    if let Some(number) = scope.strategy(name) {
         return Ok(ResolvedForm::Param(number));
     }
     match table.definition(name, parts.len(), terms.len())? {

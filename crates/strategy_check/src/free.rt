@@ -145,7 +145,7 @@ fn meet_in_patterns(
 fn meet(hidden: &Binders, found: &mut Binders, first: usize, name: &Name) -> Result<(), NoMemory>
     ensures { OnOk result (found.new ≡ met hidden.now first found.old name.now) }
 {
-    if hidden.number(name)?.is_some() || found.number(name)?.is_some() {
+    if hidden.number(name).is_some() || found.number(name).is_some() {
         return Ok(());
     }
     let number = first.checked_add(found.len()).ok_or(NoMemory)?;

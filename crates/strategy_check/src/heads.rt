@@ -3,11 +3,11 @@
 
 ghost use Rattle.std.specs.Prelude.{◌≡◌, ◌∷◌, ◌++◌, [], OnOk};
 ghost use Rattle.indexmap.specs.IndexSet.{insert_key};
-ghost use Rattle.strategy_syntax.specs.Variables.{same_name};
+ghost use Rattle.term_core.specs.Tree.{same_name};
 ghost use Rattle.strategy_check.specs.FirstFault.{Tells, first_repeated, first_in_definition_head};
 
 use crate::fault::fault;
-use crate::key::{Key, Signature};
+use crate::key::Signature;
 use crate::table::Table;
 use crate::{CheckFault, Kind};
 use indexmap::IndexSet;
@@ -25,7 +25,7 @@ pub fn check_names(alloc: Global, names: &[Name], further: &[Name]) -> Result<()
 }
 
 // The fault of the first name that was seen before.
-fn check_distinct(seen: &mut IndexSet<Key>, names: &[Name]) -> Result<(), CheckFault>
+fn check_distinct(seen: &mut IndexSet<Name>, names: &[Name]) -> Result<(), CheckFault>
     ensures told { Tells result (first_repeated seen.old.keys names.now) }
     ensures seen { OnOk result (seen.new.keys ≡ seen.old.keys ++ names.now) }
 {
@@ -35,22 +35,21 @@ fn check_distinct(seen: &mut IndexSet<Key>, names: &[Name]) -> Result<(), CheckF
     Ok(())
 }
 
-fn check_new(seen: &mut IndexSet<Key>, name: &Name) -> Result<(), CheckFault>
+fn check_new(seen: &mut IndexSet<Name>, name: &Name) -> Result<(), CheckFault>
     ensures told { Tells result (first_repeated seen.old.keys (name.now ∷ [])) }
     ensures seen { OnOk result (seen.new.keys ≡ seen.old.keys ++ name.now ∷ []) }
 {
-    let key = Key::new(name)?;
-    if seen.contains(&key) {
+    if seen.contains(name) {
         return Err(fault(Kind::Parameter, name, 0, 0));
     }
-    add_name(seen, key)?;
+    add_name(seen, name.try_clone()?)?;
     Ok(())
 }
 
-fn add_name(seen: &mut IndexSet<Key>, key: Key) -> Result<bool, NoMemory>
-    ensures { OnOk result (seen.new.keys ≡ insert_key same_name seen.old.keys key) }
+fn add_name(seen: &mut IndexSet<Name>, name: Name) -> Result<bool, NoMemory>
+    ensures { OnOk result (seen.new.keys ≡ insert_key same_name seen.old.keys name) }
 {
-    Ok(seen.insert(key)?)
+    Ok(seen.insert(name)?)
 }
 
 /// The first fault in the head of a definition, where these are defined in modules before.

@@ -19,9 +19,9 @@ pub fn resolve_pattern(alloc: Global, scope: &Scope, pattern: &Pattern) -> Resul
     let form = match pattern.form() {
         PatternForm::Wildcard => PlaceForm::Wildcard,
         PatternForm::Integer(number) => PlaceForm::Integer(*number),
-        PatternForm::Variable(name) => PlaceForm::Variable(scope.variable(name)?),
+        PatternForm::Variable(name) => PlaceForm::Variable(scope.variable(name)),
         PatternForm::At(name, inner) => {
-            let number = scope.variable(name)?;
+            let number = scope.variable(name);
             let inner = resolve_pattern(alloc, scope, inner)?;
             PlaceForm::At(number, Box::new(alloc, inner)?)
         }

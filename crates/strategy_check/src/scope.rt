@@ -1,7 +1,7 @@
 //! What stands round a part of a strategy while it is resolved.
 #![tactic(auto)]
 
-ghost use Rattle.std.specs.Prelude.{◌≡◌, IfOk, OnOk};
+ghost use Rattle.std.specs.Prelude.{◌≡◌, OnOk};
 ghost use Rattle.strategy_check.specs.Binders.{number_of};
 ghost use Rattle.strategy_check.specs.Resolving.{variable_number, with_variables, with_name, without_variables, without_name};
 
@@ -39,15 +39,15 @@ impl Scope {
     }
 
     /// The number of a variable; 0 where it has no binder.
-    pub fn variable(&self, name: &Name) -> Result<usize, NoMemory>
-        ensures { IfOk result (λ number. number ≡ variable_number self.now.variables name.now) }
+    pub fn variable(&self, name: &Name) -> usize
+        ensures { result ≡ variable_number self.now.variables name.now }
     {
-        Ok(self.variables.number(name)?.unwrap_or(0))
+        self.variables.number(name).unwrap_or(0)
     }
 
     /// The number of a strategy name, or `None` where it has no binder.
-    pub fn strategy(&self, name: &Name) -> Result<Option<usize>, NoMemory>
-        ensures { IfOk result (λ found. found ≡ number_of name.now self.now.names) }
+    pub fn strategy(&self, name: &Name) -> Option<usize>
+        ensures { result ≡ number_of name.now self.now.names }
     {
         self.names.number(name)
     }

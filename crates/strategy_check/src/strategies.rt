@@ -106,7 +106,7 @@ fn check_name(
 ) -> Result<(), CheckFault>
     ensures { Tells result (first_in_name table.now names.now name.now strategies terms) }
 {
-    if names.number(name)?.is_some() {
+    if names.number(name).is_some() {
         if strategies > 0 || terms > 0 {
             return Err(fault(Kind::Parameter, name, strategies, terms));
         }

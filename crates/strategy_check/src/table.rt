@@ -5,7 +5,7 @@ ghost use Rattle.std.specs.Prelude.{◌≡◌, IfOk, OnOk};
 ghost use Rattle.strategy_check.specs.Lists.{with_new};
 ghost use Rattle.strategy_check.specs.Tables.{definition_number, is_declared, same_signature, same_constructor, signatures_of, table_of};
 
-use crate::key::{Declared, Signature};
+use crate::key::Signature;
 use indexmap::IndexSet;
 use std::alloc::Global;
 use std::marker::Model;
@@ -16,7 +16,7 @@ use term_core::{Label, Name, NoMemory};
 #[derive(Drop)]
 pub struct Table {
     pub definitions: IndexSet<Signature>,
-    pub constructors: IndexSet<Declared>,
+    pub constructors: IndexSet<Constructor>,
 }
 
 impl Model for Table {
@@ -65,7 +65,7 @@ impl Table {
     pub fn declares(&self, name: &Name, arity: usize) -> Result<bool, NoMemory>
         ensures { IfOk result (λ found. found ≡ is_declared self.now name.now arity) }
     {
-        let constructor = Declared::new(name, arity)?;
+        let constructor = constructor_of(name, arity)?;
         Ok(self.constructors.contains(&constructor))
     }
 }
@@ -87,14 +87,21 @@ pub fn add_definitions(
 }
 
 fn add_constructors(
-    declared: &mut IndexSet<Declared>,
+    declared: &mut IndexSet<Constructor>,
     constructors: &[Constructor],
 ) -> Result<(), NoMemory>
     ensures { OnOk result (declared.new.keys
         ≡ with_new same_constructor declared.old.keys constructors.now) }
 {
     for constructor in constructors {
-        declared.insert(Declared::new(constructor.name(), constructor.arity())?)?;
+        declared.insert(constructor_of(constructor.name(), constructor.arity())?)?;
     }
     Ok(())
+}
+
+fn constructor_of(name: &Name, arity: usize) -> Result<Constructor, NoMemory>
+    ensures { IfOk result (λ constructor. constructor
+        ≡ record { name = name.now; arity = arity }) }
+{
+    Ok(Constructor::new(name.try_clone()?, arity))
 }

@@ -2,15 +2,16 @@
 use Rattle.std.proofs.Common.{◌≡◌, ℕ, zero, suc, ◌+◌, ◌<◌, ◌||◌, Bool, true, false, List, [], ◌∷◌, ◌++◌, length, take, get_or, refl, sym, ap, ◌∙◌, arith, add-one}
 use Rattle.std.specs.Prelude.{cond, reverse}
 use Rattle.std.proofs.Math.Seq.{take-suc}
-use Rattle.term_core.specs.Tree.{Symbol}
+use Rattle.term_core.specs.Tree.{Symbol, same_name}
+use Rattle.term_core.proofs.SameName.{same_name-sym}
 use Rattle.strategy_parse.specs.declared.parser.state.Frame.{Frame}
 use Rattle.strategy_parse.specs.declared.parser.state.Frame.TheVariants.{Operand, At, Strategy as ForStrategy, Pattern as ForPattern}
 use Rattle.strategy_parse.specs.declared.parser.state.StrategyFrame.TheVariants.{Operator as Operated, Rec, Child, Scope, Application, If, Then, Else, Where, List as Strategies, Tail as SquareTail}
 use Rattle.strategy_parse.specs.declared.parser.state.PatternFrame.TheVariants.{Match, Build, Applied, Matched, Left as ClosureLeft, Right as ClosureRight, List as Patterns, Tail as PatternTail}
-use Rattle.strategy_parse.specs.Core.{same_name, is_among, variables}
+use Rattle.strategy_syntax.specs.Variables.{variables}
+use Rattle.strategy_parse.specs.Core.{is_among}
 use Rattle.strategy_parse.specs.FreeNames.{hides, is_hidden}
 use Rattle.strategy_parse.specs.Counts.{Counts, count, occurrences, Raised, named, lefts_of, occurrences_in, lefts_in, IsCounted}
-use Rattle.strategy_parse.proofs.NameLemmas.{same_name-sym}
 use Rattle.strategy_parse.proofs.HiddenLemmas.{hidden-reverse}
 
 occurrences-append : (f : Symbol) (xs ys : List Symbol) → occurrences f (xs ++ ys) ≡ occurrences f xs + occurrences f ys

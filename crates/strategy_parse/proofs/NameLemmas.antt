@@ -1,66 +1,15 @@
 -- Tests of names.
-use Rattle.std.proofs.Common.{rules, ◌≡◌, ℕ, suc, ◌+◌, ◌<◌, ◌==◌, ◌&&◌, ◌||◌, Bool, true, false, List, [], ◌∷◌, ◌++◌, length, get_or, take, drop, refl, sym, ap, ◌∙◌, subst, arith, add-one, drop-cons, append_assoc, append-nil}
+use Rattle.std.proofs.Common.{◌≡◌, ℕ, suc, ◌+◌, ◌<◌, ◌||◌, Bool, true, false, List, [], ◌∷◌, ◌++◌, length, get_or, take, drop, refl, sym, ap, ◌∙◌, subst, arith, add-one, drop-cons, append_assoc, append-nil}
 use Rattle.std.proofs.Math.Seq.{take-suc}
 use Rattle.std.proofs.lemmas.List.{drop_all}
-use Rattle.std.proofs.lemmas.Bool.{eqb-true}
 use Rattle.std.specs.Prelude.{cond, not}
-use Rattle.std.specs.Bool.{beq}
 use Rattle.std.specs.Borrow.{Bor}
-use Rattle.std.specs.Str.{bytes_eq}
-use Rattle.term_core.specs.Tree.{Symbol}
-use Rattle.strategy_parse.specs.Tokens.{same_bytes}
-use Rattle.strategy_parse.specs.Core.{same_name, is_among, without, once}
-
-and-left : (a b : Bool) → a && b ≡ true → a ≡ true
-and-left true b e = refl
-and-left false b e = e
-
-and-right : (a b : Bool) → a && b ≡ true → b ≡ true
-and-right true b e = e
-and-right false b e = absurd (cc)
-
-eqb-self : (n : ℕ) → (n == n) ≡ true
-eqb-self n = search rules
-
-same_bytes-self : (x : List ℕ) → same_bytes x x ≡ true
-same_bytes-self [] = refl
-same_bytes-self (b ∷ bs) = rw (eqb-self b) (same_bytes-self bs)
-
-same_bytes-true : (x y : List ℕ) → same_bytes x y ≡ true → x ≡ y
-same_bytes-true [] [] e = refl
-same_bytes-true [] (c ∷ cs) e = absurd (cc)
-same_bytes-true (b ∷ bs) [] e = absurd (cc)
-same_bytes-true (b ∷ bs) (c ∷ cs) e =
-    λ i. eqb-true b c (and-left (b == c) (same_bytes bs cs) e) i ∷ same_bytes-true bs cs (and-right (b == c) (same_bytes bs cs) e) i
-
-same_flag-self : (b : Bool) → beq b b ≡ true
-same_flag-self true = refl
-same_flag-self false = refl
-
-same_flag-true : (a b : Bool) → beq a b ≡ true → a ≡ b
-same_flag-true true true e = refl
-same_flag-true true false e = absurd (cc)
-same_flag-true false true e = absurd (cc)
-same_flag-true false false e = refl
-
-pub same_name-self : (f : Symbol) → same_name f f ≡ true
-same_name-self f = rw (same_flag-self f.is_quoted) (same_bytes-self f.text)
-
-pub same_name-true : (f g : Symbol) → same_name f g ≡ true → f ≡ g
-same_name-true f g e = λ i. record {
-  text = same_bytes-true f.text g.text (and-right (beq f.is_quoted g.is_quoted) (same_bytes f.text g.text) e) i;
-  is_quoted = same_flag-true f.is_quoted g.is_quoted (and-left (beq f.is_quoted g.is_quoted) (same_bytes f.text g.text) e) i;
-}
+use Rattle.term_core.specs.Tree.{Symbol, same_name}
+use Rattle.term_core.proofs.SameName.{same_name-true, same_name-sym}
+use Rattle.strategy_parse.specs.Core.{is_among, without, once}
 
 true-false : ◌≡◌ {A = Bool} true false → ⊥
 true-false e = cc
-
-by_flag : (f g : Symbol) (b : Bool) → same_name f g ≡ b → (g ≡ f → ⊥) → b ≡ false
-by_flag f g true e no_more = absurd (no_more (sym (same_name-true f g e)))
-by_flag f g false e no_more = refl
-
-pub same_name-false : (f g : Symbol) → (g ≡ f → ⊥) → same_name f g ≡ false
-same_name-false f g h = by_flag f g (same_name f g) refl h
 
 -- ---- among names
 
@@ -86,12 +35,6 @@ or-right-false false b e = e
 or-true-right : (a b : Bool) → b ≡ true → (a || b) ≡ true
 or-true-right true b e = refl
 or-true-right false b e = e
-
-pub same_name-sym : (f g : Symbol) → same_name f g ≡ same_name g f
-same_name-sym f g = by (same_name f g) refl where
-  by : (b : Bool) → same_name f g ≡ b → same_name f g ≡ same_name g f
-  by true e = let same : f ≡ g = same_name-true f g e in ap (λ h. same_name h g) same ∙ sym (ap (λ h. same_name g h) same)
-  by false e = e ∙ sym (same_name-false g f (λ same. true-false (sym (same_name-self f) ∙ ap (λ h. same_name f h) same ∙ e)))
 
 among-insert : (f x : Symbol) (fs : List Symbol) → is_among f (fs ++ x ∷ []) ≡ cond (same_name x f) true (is_among f fs)
 among-insert f x fs = among-append f fs (x ∷ []) ∙ ap (λ b. is_among f fs || (b || false)) (same_name-sym f x) ∙ by (same_name x f) (is_among f fs) where
@@ -205,30 +148,21 @@ module _ (others kept names : List Symbol) (i : ℕ) (x : Symbol) (h : Kept othe
 pub kept-end : (others kept names : List Symbol) → Kept others kept names (length names) → kept ≡ once (without others names)
 kept-end others kept names h = sym (append-nil kept) ∙ ap (λ l. kept ++ without (others ++ kept) (once l)) (sym (drop_all (length names) names (omega arith))) ∙ h
 
--- ---- names seen, by a set of their keys
+-- ---- names seen, by a set of references to them
 
-abbrev pub Key : Type 0
-Key = Bool × Bor (List ℕ)
-
-abbrev pub same_key : Key → Key → Bool
-same_key x y = beq x.0 y.0 && bytes_eq x.1.now y.1.now
-
-abbrev pub key_name : Key → Symbol
-key_name q = record { text = q.1.now; is_quoted = q.0 }
+abbrev pub same_referred : Bor Symbol → Bor Symbol → Bool
+same_referred q r = same_name q.now r.now
 
 -- what is there is these names
-abbrev pub Saw : (Key → Bool) → List Symbol → Type 0
-Saw has fs = (q : Key) → has q ≡ is_among (key_name q) fs
+abbrev pub Saw : (Bor Symbol → Bool) → List Symbol → Type 0
+Saw has fs = (q : Bor Symbol) → has q ≡ is_among q.now fs
 
-module _ (has more : Key → Bool) (fs : List Symbol) (k : Key) (x : Symbol) (saw : Saw has fs) (updates : (q : Key) → more q ≡ cond (same_key k q) true (has q)) (named : key_name k ≡ x) where
+module _ (has more : Bor Symbol → Bool) (fs : List Symbol) (x : Symbol) (saw : Saw has fs) (updates : (q : Bor Symbol) → more q ≡ cond (same_name x q.now) true (has q)) where
   pub saw-more : Saw more (fs ++ x ∷ [])
-  saw-more q =
-      updates q ∙ ap (λ b. cond (same_key k q) true b) (saw q)
-      ∙ ap (λ y. cond (same_name y (key_name q)) true (is_among (key_name q) fs)) named
-      ∙ sym (among-insert (key_name q) x fs)
+  saw-more q = updates q ∙ ap (λ b. cond (same_name x q.now) true b) (saw q) ∙ sym (among-insert q.now x fs)
 
   pub saw-again : is_among x fs ≡ true → Saw more fs
-  saw-again h q = saw-more q ∙ among-again (key_name q) x fs h
+  saw-again h q = saw-more q ∙ among-again q.now x fs h
 
 -- ---- a step over one name
 
@@ -244,21 +178,18 @@ not-false : (a b : Bool) → a ≡ not b → a ≡ false → b ≡ true
 not-false a true e h = refl
 not-false a false e h = let no : ◌≡◌ {A = Bool} true false = sym e ∙ h in absurd (true-false no)
 
-module _ (has more : Key → Bool) (others kept names : List Symbol) (i : ℕ) (k : Key) (x : Symbol) (saw : Saw has (others ++ kept)) (h : Kept others kept names i) (updates : (q : Key) → more q ≡ cond (same_key k q) true (has q)) (named : key_name k ≡ x) (lt : i < length names) (at : x ≡ get_or names i x) (added : Bool) (told : added ≡ not (has k)) where
-  among : has k ≡ is_among x (others ++ kept)
-  among = saw k ∙ ap (λ y. is_among y (others ++ kept)) named
-
+module _ (has more : Bor Symbol → Bool) (others kept names : List Symbol) (i : ℕ) (x : Symbol) (saw : Saw has (others ++ kept)) (h : Kept others kept names i) (updates : (q : Bor Symbol) → more q ≡ cond (same_name x q.now) true (has q)) (lt : i < length names) (at : x ≡ get_or names i x) (added : Bool) (told : added ≡ not (is_among x (others ++ kept))) where
   pub step-kept : (kept' : List Symbol) → added ≡ true → kept' ≡ kept ++ x ∷ [] → Saw more (others ++ kept') × Kept others kept' names (i + 1)
   step-kept kept' e same =
       subst (λ l. Saw more (others ++ l) × Kept others l names (i + 1)) (sym same) (
-        subst (λ l. Saw more l) (append_assoc others kept (x ∷ [])) (saw-more has more (others ++ kept) k x saw updates named),
-        kept-more others kept names i x h lt at (sym among ∙ not-true added (has k) told e),
+        subst (λ l. Saw more l) (append_assoc others kept (x ∷ [])) (saw-more has more (others ++ kept) x saw updates),
+        kept-more others kept names i x h lt at (not-true added (is_among x (others ++ kept)) told e),
       )
 
   pub step-skipped : (kept' : List Symbol) → added ≡ false → kept' ≡ kept → Saw more (others ++ kept') × Kept others kept' names (i + 1)
   step-skipped kept' e same =
-      let there : is_among x (others ++ kept) ≡ true = sym among ∙ not-false added (has k) told e in
+      let there : is_among x (others ++ kept) ≡ true = not-false added (is_among x (others ++ kept)) told e in
       subst (λ l. Saw more (others ++ l) × Kept others l names (i + 1)) (sym same) (
-        saw-again has more (others ++ kept) k x saw updates named there,
+        saw-again has more (others ++ kept) x saw updates there,
         kept-skip others kept names i x h lt at there,
       )

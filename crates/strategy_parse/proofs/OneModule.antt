@@ -15,7 +15,8 @@ use Rattle.strategy_parse.specs.declared.modules.sections.Part.TheVariants.{Outs
 use Rattle.strategy_parse.specs.Written.{Defined, definition, rule, rule_where}
 use Rattle.strategy_parse.specs.Grammar.{ReadsPattern}
 use Rattle.strategy_parse.specs.GrammarModules.{ReadsDefined}
-use Rattle.strategy_parse.specs.Core.{core, core_definition, defined, declared, rewrite, rewrite_where, once, without, variables}
+use Rattle.strategy_syntax.specs.Variables.{variables}
+use Rattle.strategy_parse.specs.Core.{core, core_definition, defined, declared, rewrite, rewrite_where, once, without}
 use Rattle.strategy_parse.specs.Fronts.{Stops}
 use Rattle.strategy_parse.specs.FreeNames.{names_seen}
 use Rattle.strategy_parse.specs.Machine.{begin}

@@ -13,7 +13,8 @@ use Rattle.strategy_parse.specs.Marks.{is_mark, is_word}
 use Rattle.strategy_parse.specs.Written.{Choice, Head, Defined, definition, rule, rule_where}
 use Rattle.strategy_parse.specs.Grammar.{ReadsPattern, ReadsChoice}
 use Rattle.strategy_parse.specs.GrammarModules.{ReadsHead, ReadsDefined}
-use Rattle.strategy_parse.specs.Core.{core, core_definition, defined, rewrite, rewrite_where, once, without, variables, free_in_choice}
+use Rattle.strategy_syntax.specs.Variables.{variables}
+use Rattle.strategy_parse.specs.Core.{core, core_definition, defined, rewrite, rewrite_where, once, without, free_in_choice}
 use Rattle.strategy_parse.specs.Fronts.{FrontGives, Stops}
 use Rattle.strategy_parse.specs.FreeNames.{next_token, names_seen}
 use Rattle.strategy_parse.specs.Machine.{begin, front}

@@ -20,7 +20,8 @@ use Rattle.strategy_parse.specs.Machine.{Next, goes, begin_pattern, behind_patte
 use Rattle.strategy_parse.specs.Grammar.{IsBase, ReadsPattern, ReadsPatterns, ReadsSomePatterns, ReadsMorePatterns}
 use Rattle.strategy_parse.proofs.Marks.{mark_self}
 use Rattle.strategy_parse.specs.FreeNames.{is_hidden, shown, seen, next_token, names_seen}
-use Rattle.strategy_parse.specs.Core.{is_among, without, variables, variables_of_all}
+use Rattle.strategy_syntax.specs.Variables.{variables, variables_of_all}
+use Rattle.strategy_parse.specs.Core.{is_among, without}
 use Rattle.strategy_parse.proofs.CompletePatterns.{patterns_of-list}
 unfoldable use Rattle.strategy_parse.proofs.CompletePatterns.{behind_read}
 

@@ -27,7 +27,8 @@ use Rattle.strategy_parse.specs.Grammar.{ReadsPattern, ReadsMorePatterns, ReadsA
 use Rattle.strategy_parse.proofs.Marks.{mark_self}
 use Rattle.strategy_parse.specs.FreeNames.{is_hidden, seen, next_token, seen_behind, names_seen}
 use Rattle.strategy_parse.specs.Written.{Choice, sequence, left_choice, guarded_choice, Seq, last, before, Arrow, arrow, Prefix, question, exclamation, application, identity, failure, operator, if_then, if_then_else, recursion, primitive, local, closure, closure_where, round, square, square_with_tail, name, call, call_with_terms, child, Choices, no_choices, and_choice}
-use Rattle.strategy_parse.specs.Core.{without, variables, variables_of_all, then_matched, in_brackets, core, core_seq, core_arrow, core_prefix, core_all, free_in_choice, free_in_seq, free_in_arrow, free_in_prefix, free_in_choices}
+use Rattle.strategy_syntax.specs.Variables.{variables, variables_of_all}
+use Rattle.strategy_parse.specs.Core.{without, then_matched, in_brackets, core, core_seq, core_arrow, core_prefix, core_all, free_in_choice, free_in_seq, free_in_arrow, free_in_prefix, free_in_choices}
 use Rattle.strategy_parse.proofs.CompletePatterns.{patterns_of-list}
 use Rattle.strategy_parse.proofs.CompleteStrategies.{strategies_of-list, Bare}
 use Rattle.strategy_parse.proofs.SeenPatterns.{free, keep-none, keep-all, keep-without, chain, NoMark, no_mark, no_mark_word, names_pass, NameEnds, name_ends, Begins, begins_with, pattern_seen, list_seen, rest_seen}

@@ -25,7 +25,8 @@ use Rattle.strategy_parse.specs.Marks.{is_mark, is_word}
 use Rattle.strategy_parse.specs.Machine.{goes, stuck, begin, begin_sign, begin_word, begin_child, begin_pattern, behind, behind_choice, first_pattern, rec_name, prim_name, step}
 use Rattle.strategy_parse.specs.Grammar.{word_of, ReadsChoice, ReadsChoices}
 use Rattle.strategy_parse.specs.Written.{Choice, question, exclamation, application, identity, failure, operator, if_then, if_then_else, recursion, primitive, local, closure, closure_where, round, square, square_with_tail, name, call, call_with_terms, child, Choices, no_choices, and_choice}
-use Rattle.strategy_parse.specs.Core.{operated, in_brackets, rewrite, rewrite_where, core, core_all, once, variables}
+use Rattle.strategy_syntax.specs.Variables.{variables}
+use Rattle.strategy_parse.specs.Core.{operated, in_brackets, rewrite, rewrite_where, core, core_all, once}
 use Rattle.strategy_parse.proofs.Runs.{Accepts, Goes, at_mark, only_mark, at_word, only_word}
 use Rattle.strategy_parse.proofs.CompletePatterns.{patterns_of-list}
 use Rattle.strategy_parse.proofs.CompleteStrategies.{strategies_of-list, Bare}

@@ -1,19 +1,15 @@
 -- The translation of what is written into core forms.
-use Rattle.std.specs.Prelude.{ℕ, suc, Bool, false, ◌||◌, ◌&&◌, cond, List, [], ◌∷◌, ◌++◌, Some, None}
-use Rattle.std.specs.Bool.{beq}
+use Rattle.std.specs.Prelude.{ℕ, suc, Bool, false, ◌||◌, cond, List, [], ◌∷◌, ◌++◌, Some, None}
 use Rattle.std.specs.List.{flat_map}
-use Rattle.term_core.specs.Tree.{Symbol, list, tuple}
-use Rattle.strategy_syntax.specs.Syntax.{Pattern, wildcard, variable, at, number, compound, with_tail, annotated, Patterns, no_patterns, and_pattern, Strategy, id, fail, matches, builds, seq, guard, test, scope, uses, congruence, tail_congruence, all, one, some, child as nth_child, rec, prim, Strategies, no_strategies, and_strategy}
+use Rattle.term_core.specs.Tree.{Symbol, same_name, list, tuple}
+use Rattle.strategy_syntax.specs.Syntax.{Pattern, Patterns, no_patterns, and_pattern, Strategy, id, fail, matches, builds, seq, guard, test, scope, uses, congruence, tail_congruence, all, one, some, child as nth_child, rec, prim, Strategies, no_strategies, and_strategy}
 use Rattle.strategy_syntax.specs.Modules as syntax
-use Rattle.strategy_parse.specs.Tokens.{same_bytes}
+use Rattle.strategy_syntax.specs.Variables.{variables, variables_of_all}
 use Rattle.strategy_parse.specs.declared.parser.state.Operator.{Operator}
 use Rattle.strategy_parse.specs.declared.parser.state.Operator.TheVariants.{All, One, Some as SomeChild, Not, Where, Test}
 use Rattle.strategy_parse.specs.Written.{Choice, sequence, left_choice, guarded_choice, Seq, last, before, Arrow, arrow, Prefix, question, exclamation, application, identity, failure, operator, if_then, if_then_else, recursion, primitive, local, closure, closure_where, round, square, square_with_tail, name, call, call_with_terms, child, Choices, no_choices, and_choice, Sorts, no_sorts, and_sort, Declaration, constant, function, Head, Defined, definition, rule, rule_where, Signature, sorts, constructors, Section, signature, definitions}
 
 -- ---- variables
-
-abbrev pub same_name : Symbol → Symbol → Bool
-same_name f g = beq f.is_quoted g.is_quoted && same_bytes f.text g.text
 
 abbrev pub is_among : Symbol → List Symbol → Bool
 is_among f [] = false
@@ -28,21 +24,6 @@ without others (f ∷ fs) = cond (is_among f others) (without others fs) (f ∷ 
 abbrev pub once : List Symbol → List Symbol
 once [] = []
 once (f ∷ fs) = f ∷ without (f ∷ []) (once fs)
-
--- the variables of a pattern, in the order of the text
-abbrev mutual
-  pub variables : Pattern → List Symbol
-  variables wildcard = []
-  variables (variable x) = x ∷ []
-  variables (at x p) = x ∷ variables p
-  variables (number z) = []
-  variables (compound h ps) = variables_of_all ps
-  variables (with_tail ps p) = variables_of_all ps ++ variables p
-  variables (annotated p ps) = variables p ++ variables_of_all ps
-
-  pub variables_of_all : Patterns → List Symbol
-  variables_of_all no_patterns = []
-  variables_of_all (and_pattern p ps) = variables p ++ variables_of_all ps
 
 -- The variables that stand free in a strategy, in the order of the text: in a pattern, where no
 -- scope round it names them. A closure is a scope of the variables of its left side.

@@ -3,12 +3,12 @@ use Rattle.std.specs.Prelude.{◌≡◌, ℕ, ◌+◌, List, [], ◌∷◌, cond
 use Rattle.std.specs.declared.hash.FoldHasher.{FoldHasher}
 use Rattle.std.specs.declared.hash.BuildHasherDefault.{BuildHasherDefault}
 use Rattle.std.specs.HashMap.{get, HashMap}
-use Rattle.term_core.specs.Tree.{Symbol}
+use Rattle.term_core.specs.Tree.{Symbol, same_name}
 use Rattle.strategy_parse.specs.declared.parser.state.Frame.{Frame}
 use Rattle.strategy_parse.specs.declared.parser.state.Frame.TheVariants.{Strategy as ForStrategy, Pattern as ForPattern}
 use Rattle.strategy_parse.specs.declared.parser.state.StrategyFrame.TheVariants.{Scope, Where}
 use Rattle.strategy_parse.specs.declared.parser.state.PatternFrame.TheVariants.{Left as ClosureLeft, Right as ClosureRight}
-use Rattle.strategy_parse.specs.Core.{same_name, variables}
+use Rattle.strategy_syntax.specs.Variables.{variables}
 
 -- a map from names to numbers
 abbrev pub Counts : Type 0

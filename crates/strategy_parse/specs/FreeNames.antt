@@ -11,7 +11,8 @@ use Rattle.strategy_parse.specs.declared.parser.state.Frame.{Frame}
 use Rattle.strategy_parse.specs.declared.parser.state.Frame.TheVariants.{Strategy as ForStrategy, Pattern as ForPattern}
 use Rattle.strategy_parse.specs.declared.parser.state.StrategyFrame.TheVariants.{Scope, Where}
 use Rattle.strategy_parse.specs.declared.parser.state.PatternFrame.TheVariants.{Left as ClosureLeft, Right as ClosureRight}
-use Rattle.strategy_parse.specs.Core.{is_among, variables}
+use Rattle.strategy_syntax.specs.Variables.{variables}
+use Rattle.strategy_parse.specs.Core.{is_among}
 use Rattle.strategy_parse.specs.Marks.{is_mark}
 use Rattle.strategy_parse.specs.Machine.{Next, goes, step}
 

@@ -30,7 +30,8 @@ use Rattle.strategy_parse.specs.declared.parser.state.PatternGroup.TheVariants.{
 use Rattle.strategy_parse.specs.declared.parser.state.Outcome.{Outcome}
 use Rattle.strategy_parse.specs.declared.parser.state.Outcome.TheVariants.{Goes, Ends}
 use Rattle.strategy_parse.specs.Marks.{is_mark, is_word}
-use Rattle.strategy_parse.specs.Core.{operated, in_brackets, rewrite, rewrite_where, once, variables}
+use Rattle.strategy_syntax.specs.Variables.{variables}
+use Rattle.strategy_parse.specs.Core.{operated, in_brackets, rewrite, rewrite_where, once}
 
 -- Where a token leads to: it is taken, or a whole strategy ended before it, or nothing goes on with
 -- it.

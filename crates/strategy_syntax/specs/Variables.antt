@@ -1,12 +1,7 @@
--- The variables of patterns, and when two names are the same.
-use Rattle.std.specs.Prelude.{Bool, ◌&&◌, List, [], ◌∷◌, ◌++◌}
-use Rattle.std.specs.Bool.{beq}
-use Rattle.std.specs.Str.{bytes_eq}
+-- The variables of patterns.
+use Rattle.std.specs.Prelude.{List, [], ◌∷◌, ◌++◌}
 use Rattle.term_core.specs.Tree.{Symbol}
 use Rattle.strategy_syntax.specs.Syntax.{Pattern, wildcard, variable, at, number, compound, with_tail, annotated, Patterns, no_patterns, and_pattern}
-
-abbrev pub same_name : Symbol → Symbol → Bool
-same_name f g = beq f.is_quoted g.is_quoted && bytes_eq f.text g.text
 
 -- the variables of a pattern: the outer one first, then its parts from left to right, then its
 -- annotations

@@ -8,7 +8,7 @@ use std::marker::Model;
 use term_core::Name;
 
 /// A constructor that a signature declares, with the number of its arguments.
-#[derive(Drop)]
+#[derive(Drop, PartialEq, Eq, Hash)]
 pub struct Constructor {
     name: Name,
     arity: usize,
@@ -22,6 +22,8 @@ impl Model for Constructor {
     ghost coded = { constructor_code };
 
     ghost view = { λ c. record { name = c.name; arity = c.arity } };
+
+    ghost inverse = { λ c. record { name = c.name; arity = c.arity } };
 }
 
 /// A definition `f(s1,..,sn|x1,..,xm) = s`. A rule is one too, with its body in core forms.

@@ -1,4 +1,5 @@
 pub mod NameLemmas
+pub mod SameName
 pub mod TreeLemmas
 pub mod TermLemmas
 pub mod Limits

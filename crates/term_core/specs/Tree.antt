@@ -1,12 +1,17 @@
 -- Terms as contracts see them, as plain data. `IsTerm` says which of these are terms of the ATerm
 -- format.
-use Rattle.std.specs.Prelude.{ℕ, ℤ, Bool, List, [], ◌∷◌, slice_set}
+use Rattle.std.specs.Prelude.{ℕ, ℤ, Bool, ◌&&◌, List, [], ◌∷◌, slice_set}
+use Rattle.std.specs.Bool.{beq}
+use Rattle.std.specs.Str.{bytes_eq}
 
 -- A name: its bytes, and whether it is quoted. The word `f` and the quoted name `"f"` are two
 -- names.
 pub record Symbol : Type 0 where
   pub text : List ℕ
   pub is_quoted : Bool
+
+abbrev pub same_name : Symbol → Symbol → Bool
+same_name f g = beq f.is_quoted g.is_quoted && bytes_eq f.text g.text
 
 -- what stands above the children of a term that is no integer
 pub data Head : Type 0 where

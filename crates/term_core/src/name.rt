@@ -7,6 +7,7 @@ ghost use Rattle.term_core.specs.NameView.{text_of, IsText};
 
 use crate::NoMemory;
 use std::alloc::Global;
+use std::hash::{Hash, Hasher};
 use std::marker::Model;
 use std::rc::Rc;
 
@@ -47,6 +48,41 @@ impl Model for Name {
     ghost view = { name_of };
 
     ghost invariant = { IsName };
+}
+
+impl PartialEq for Name {
+    ghost use Rattle.std.proofs.Common.{rules};
+    ghost use Rattle.std.specs.Cmp.Rules.{comparing};
+    ghost use Rattle.term_core.specs.Tree.{same_name};
+
+    ghost eq = { same_name };
+
+    ghost laws = { Prim.search (comparing, rules) };
+
+    fn eq(&self, other: &Name) -> bool {
+        self.is_quoted() == other.is_quoted() && self.bytes() == other.bytes()
+    }
+}
+
+impl Eq for Name {
+    ghost use Rattle.std.proofs.Common.{rules};
+    ghost use Rattle.std.specs.Cmp.Rules.{comparing};
+
+    ghost laws = { Prim.search (comparing, rules) };
+}
+
+impl Hash for Name {
+    ghost use Rattle.std.proofs.Common.{rules};
+    ghost use Rattle.std.specs.Hash as fed;
+    ghost use Rattle.std.specs.Cmp.Rules.{hashing};
+
+    ghost hash_input = { λ n. fed.slice fed.u8 n.text };
+
+    ghost respects_eq = { Prim.search (hashing, rules) };
+
+    fn hash<H: Hasher>(&self, state: &mut H) {
+        self.bytes().hash(state);
+    }
 }
 
 /// Whether a word may begin with this byte: an ASCII letter or `_`.
@@ -183,7 +219,7 @@ impl Name {
     pub fn equals(&self, other: &Name) -> bool
         ensures { IsTrue result ↔ (self.now ≡ other.now) }
     {
-        self.is_quoted() == other.is_quoted() && self.bytes() == other.bytes()
+        self == other
     }
 
     /// An equal name. It takes no memory: a short name is copied in place, and a long one shared.

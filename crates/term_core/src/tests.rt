@@ -3,6 +3,7 @@
 use crate::{Kind, Label, LabelFault, Name, Term};
 use std::alloc::Global;
 use std::cmp::Ordering;
+use std::collections::HashSet;
 use std::mem::size_of;
 use std::test::Fail;
 
@@ -36,7 +37,11 @@ fn names(rt: HostRuntime) -> Result<(), Fail> {
     assert_eq!(rt; plain.bytes(), b"f-1.'".as_slice());
     assert!(rt; !plain.is_quoted() && quoted.is_quoted());
     assert!(rt; !plain.equals(&quoted));
-    assert!(rt; plain.equals(&plain.try_clone()?));
+    let copy = plain.try_clone()?;
+    assert!(rt; plain.equals(&copy));
+    let mut set = HashSet::new(alloc);
+    assert!(rt; set.insert(plain)?);
+    assert!(rt; set.contains(&copy) && !set.contains(&quoted));
     for text in [
         b"".as_slice(),
         b"1".as_slice(),

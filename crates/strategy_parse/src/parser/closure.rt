@@ -2,7 +2,8 @@
 #![tactic(auto, using(crate::proofs::VariableLemmas::variable_rules))]
 
 ghost use Rattle.std.specs.Prelude.{◌≡◌, ◌++◌, [], IfOk};
-ghost use Rattle.strategy_parse.specs.Core.{once, variables, variables_of_all};
+ghost use Rattle.strategy_syntax.specs.Variables.{variables, variables_of_all};
+ghost use Rattle.strategy_parse.specs.Core.{once};
 ghost use Rattle.strategy_syntax.specs.Syntax.{patterns_of};
 
 use crate::parser::lists::NameList;

@@ -10,89 +10,17 @@ use crate::parser::lists::NameList;
 use crate::parser::state::{Frame, PatternFrame, StrategyFrame};
 use std::alloc::Global;
 use std::collections::HashMap;
-use std::hash::{Hash, Hasher};
-use std::marker::Model;
 use term_core::{Name, NoMemory};
 
-/// A name as a key.
-#[derive(Drop)]
-pub struct Key {
-    name: Name,
-}
-
-impl Model for Key {
-    ghost use Rattle.term_core.specs.Tree.{Symbol};
-    ghost use Rattle.term_core.specs.TreeCode.{symbol_code};
-
-    ghost Value = { Symbol };
-
-    ghost coded = { symbol_code };
-
-    ghost view = { λ k. k.name };
-}
-
-impl PartialEq for Key {
-    ghost use Rattle.std.proofs.Common.{rules};
-    ghost use Rattle.std.specs.Cmp.Rules.{comparing};
-    ghost use Rattle.strategy_parse.specs.Core.{same_name};
-
-    ghost eq = { same_name };
-
-    ghost laws = { Prim.search (comparing, rules) };
-
-    fn eq(&self, other: &Key) -> bool {
-        self.name.is_quoted() == other.name.is_quoted() && self.name.bytes() == other.name.bytes()
-    }
-}
-
-impl Eq for Key {
-    ghost use Rattle.std.proofs.Common.{rules};
-    ghost use Rattle.std.specs.Cmp.Rules.{comparing};
-
-    ghost laws = { Prim.search (comparing, rules) };
-}
-
-impl Hash for Key {
-    ghost use Rattle.std.specs.Prelude.{◌++◌};
-    ghost use Rattle.std.proofs.Common.{rules};
-    ghost use Rattle.std.specs.Hash as fed;
-    ghost use Rattle.std.specs.Cmp.Rules.{hashing};
-
-    ghost hash_input = { λ k. fed.slice fed.u8 k.text };
-
-    ghost respects_eq = { Prim.search (hashing, rules) };
-
-    fn hash<H: Hasher>(&self, state: &mut H) {
-        self.name.bytes().hash(state);
-    }
-}
-
-impl Key {
-    // The key that is this name.
-    fn new(name: &Name) -> Result<Key, NoMemory>
-        ensures { IfOk result (λ key. key ≡ name.now) }
-    {
-        let name = name.try_clone()?;
-        Ok(Key { name })
-    }
-}
-
 /// How often the name is counted.
-pub fn count(counts: &HashMap<Key, usize>, name: &Name) -> Result<usize, NoMemory>
-    ensures { IfOk result (λ often. often ≡ count counts.now name.now) }
+pub fn count(counts: &HashMap<Name, usize>, name: &Name) -> usize
+    ensures { result ≡ count counts.now name.now }
 {
-    let key = Key::new(name)?;
-    Ok(count_key(counts, &key))
-}
-
-fn count_key(counts: &HashMap<Key, usize>, key: &Key) -> usize
-    ensures { result ≡ count counts.now key.now }
-{
-    counts.get(key).copied().unwrap_or(0)
+    counts.get(name).copied().unwrap_or(0)
 }
 
 /// Counts each of the names once more.
-pub fn raise(counts: &mut HashMap<Key, usize>, names: &[Name]) -> Result<(), NoMemory>
+pub fn raise(counts: &mut HashMap<Name, usize>, names: &[Name]) -> Result<(), NoMemory>
     ensures { OnOk result (Raised counts.old counts.new names.now) }
 {
     for name in names {
@@ -101,19 +29,18 @@ pub fn raise(counts: &mut HashMap<Key, usize>, names: &[Name]) -> Result<(), NoM
     Ok(())
 }
 
-fn raise_one(counts: &mut HashMap<Key, usize>, name: &Name) -> Result<(), NoMemory>
+fn raise_one(counts: &mut HashMap<Name, usize>, name: &Name) -> Result<(), NoMemory>
     ensures { OnOk result (Raised counts.old counts.new (name.now ∷ [])) }
 {
-    let key = Key::new(name)?;
-    let Some(more) = count_key(counts, &key).checked_add(1) else {
+    let Some(more) = count(counts, name).checked_add(1) else {
         return Err(NoMemory);
     };
-    counts.insert(key, more)?;
+    counts.insert(name.try_clone()?, more)?;
     Ok(())
 }
 
 /// Counts each of the names once less.
-pub fn lower(counts: &mut HashMap<Key, usize>, names: &[Name]) -> Result<(), NoMemory>
+pub fn lower(counts: &mut HashMap<Name, usize>, names: &[Name]) -> Result<(), NoMemory>
     ensures { OnOk result (Raised counts.new counts.old names.now) }
 {
     for name in names {
@@ -122,21 +49,20 @@ pub fn lower(counts: &mut HashMap<Key, usize>, names: &[Name]) -> Result<(), NoM
     Ok(())
 }
 
-fn lower_one(counts: &mut HashMap<Key, usize>, name: &Name) -> Result<(), NoMemory>
+fn lower_one(counts: &mut HashMap<Name, usize>, name: &Name) -> Result<(), NoMemory>
     ensures { OnOk result (Raised counts.new counts.old (name.now ∷ [])) }
 {
-    let key = Key::new(name)?;
-    let Some(fewer) = count_key(counts, &key).checked_sub(1) else {
+    let Some(fewer) = count(counts, name).checked_sub(1) else {
         return Err(NoMemory);
     };
-    counts.insert(key, fewer)?;
+    counts.insert(name.try_clone()?, fewer)?;
     Ok(())
 }
 
 /// Counts each of the names by which the form hides once more.
 pub fn raise_named(
     alloc: Global,
-    counts: &mut HashMap<Key, usize>,
+    counts: &mut HashMap<Name, usize>,
     frame: &Frame,
 ) -> Result<(), NoMemory>
     ensures { OnOk result (Raised counts.old counts.new (named frame.now)) }
@@ -155,7 +81,7 @@ pub fn raise_named(
 /// Counts each of the names by which the form hides once less.
 pub fn lower_named(
     alloc: Global,
-    counts: &mut HashMap<Key, usize>,
+    counts: &mut HashMap<Name, usize>,
     frame: &Frame,
 ) -> Result<(), NoMemory>
     ensures { OnOk result (Raised counts.new counts.old (named frame.now)) }
@@ -186,7 +112,7 @@ pub fn lefts_of(frame: &Frame) -> usize
 pub fn raise_form(
     counting: bool,
     alloc: Global,
-    counts: &mut HashMap<Key, usize>,
+    counts: &mut HashMap<Name, usize>,
     lefts: usize,
     frame: &Frame,
 ) -> Option<usize>
@@ -207,7 +133,7 @@ pub fn raise_form(
 /// open then.
 pub fn lower_form(
     alloc: Global,
-    counts: &mut HashMap<Key, usize>,
+    counts: &mut HashMap<Name, usize>,
     lefts: usize,
     frame: &Frame,
 ) -> Result<usize, NoMemory>

@@ -2,7 +2,8 @@
 
 ghost use Rattle.std.specs.Prelude.{◌≡◌, IfOk};
 ghost use Rattle.strategy_syntax.specs.Syntax as syntax;
-ghost use Rattle.strategy_parse.specs.Core.{operated, rewrite, rewrite_where, once, variables};
+ghost use Rattle.strategy_syntax.specs.Variables.{variables};
+ghost use Rattle.strategy_parse.specs.Core.{operated, rewrite, rewrite_where, once};
 
 use crate::parser::closure::scope_of;
 use crate::parser::lists::{NameList, StrategyList};

@@ -1,12 +1,8 @@
 //! Names without those that stood before.
 #![tactic(auto)]
 
-ghost use Rattle.std.specs.Prelude.{◌≡◌, ◌≢◌, ◌++◌, ◌&&◌, ◌||◌, not, ℕ, Bool, List, IfOk, OnOk};
-ghost use Rattle.std.specs.Bool.{beq};
-ghost use Rattle.std.specs.Borrow.{Bor};
-ghost use Rattle.std.specs.HashSet.{contains};
-ghost use Rattle.strategy_parse.specs.Core.{is_among, without, once};
-ghost use Rattle.strategy_parse.specs.Tokens.{same_bytes};
+ghost use Rattle.std.specs.Prelude.{◌≡◌, IfOk};
+ghost use Rattle.strategy_parse.specs.Core.{without, once};
 
 use crate::parser::lists::NameList;
 use std::alloc::Global;
@@ -19,11 +15,11 @@ pub fn once_without(alloc: Global, names: &[Name], others: &[Name]) -> Result<Na
 {
     let mut seen = HashSet::new(alloc);
     for other in others {
-        seen.insert((other.is_quoted(), other.bytes()))?;
+        seen.insert(other)?;
     }
     let mut kept = NameList::new(alloc);
     for name in names {
-        if seen.insert((name.is_quoted(), name.bytes()))? {
+        if seen.insert(name)? {
             kept = kept.with(name.try_clone()?)?;
         }
     }

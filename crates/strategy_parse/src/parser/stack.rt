@@ -4,7 +4,7 @@
 ghost use Rattle.std.specs.Prelude.{◌≡◌, true};
 ghost use Rattle.strategy_parse.specs.Counts.{IsCounted};
 
-use crate::parser::counts::{Key, count, lower_form, raise_form};
+use crate::parser::counts::{count, lower_form, raise_form};
 use crate::parser::state::{Frame, Infix};
 use std::alloc::Global;
 use std::collections::HashMap;
@@ -17,7 +17,7 @@ pub struct Stack {
     frames: Vec<Frame>,
     // Whether the two fields behind it say what the open forms hide.
     counting: bool,
-    counts: HashMap<Key, usize>,
+    counts: HashMap<Name, usize>,
     lefts: usize,
     ghost counted: { counting ≡ true → IsCounted counts lefts frames.items },
 }
@@ -100,7 +100,7 @@ impl Stack {
         if self.lefts > 0 {
             return Ok(true);
         }
-        let often = count(&self.counts, name)?;
+        let often = count(&self.counts, name);
         if often == 0 {
             return Ok(false);
         }

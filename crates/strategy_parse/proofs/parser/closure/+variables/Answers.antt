@@ -1,5 +1,5 @@
 use Rattle.std.proofs.Common.{◌++◌, ◌∙◌, ap, sym, take, append_assoc, arith}
-use Rattle.strategy_parse.specs.Core.{variables, variables_of_all}
+use Rattle.strategy_syntax.specs.Variables.{variables, variables_of_all}
 use Rattle.strategy_syntax.specs.Syntax.{patterns_of}
 use Rattle.strategy_parse.proofs.VariableLemmas.{item-depth, variables-next}
 use Rattle.strategy_parse.proofs.parser.closure.+variables.Goals as goal

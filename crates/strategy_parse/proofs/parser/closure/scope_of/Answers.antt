@@ -1,6 +1,7 @@
 use Rattle.std.proofs.Common.{◌∙◌, ap}
 use Rattle.std.proofs.Common.{◌++◌}
-use Rattle.strategy_parse.specs.Core.{once, variables}
+use Rattle.strategy_syntax.specs.Variables.{variables}
+use Rattle.strategy_parse.specs.Core.{once}
 use Rattle.strategy_parse.proofs.NameLemmas.{without-none}
 use Rattle.strategy_parse.proofs.parser.closure.scope_of.Goals as goal
 

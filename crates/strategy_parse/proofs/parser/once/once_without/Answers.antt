@@ -1,8 +1,9 @@
 use Rattle.std.proofs.Common.{◌≡◌, ◌++◌, [], ◌∷◌, take, refl, sym, ap, ◌∙◌, subst, append-nil, arith}
 use Rattle.std.proofs.lemmas.List.{take_all}
 use Rattle.std.specs.HashSet.{contains}
+use Rattle.std.specs.Prelude.{not}
 use Rattle.strategy_parse.specs.Core.{is_among}
-use Rattle.strategy_parse.proofs.NameLemmas.{Key, key_name, same_key, Kept, saw-more, seen-next, kept-start, kept-end, step-kept, step-skipped}
+use Rattle.strategy_parse.proofs.NameLemmas.{same_referred, Kept, saw-more, seen-next, kept-start, kept-end, step-kept, step-skipped}
 use Rattle.strategy_parse.proofs.parser.once.once_without.Goals as goal
 use Rattle.strategy_parse.proofs.parser.once.once_without.Goals.{then-branch+in_ok-try_clone+in_ok-kept, else-branch}
 
@@ -10,35 +11,31 @@ pub loop-other-init : goal.loop-other-init
 loop-other-init c = λ q. rw c.new-seen.ensures.empty refl
 
 pub loop-other-preserved : goal.loop-other-preserved
-loop-other-preserved c =
-    let k : Key = (c.is_quoted.result, c.bytes.result) in
-    let named : key_name k ≡ c.other-item.result =
-    λ i. record { text = c.bytes.ensures.value i; is_quoted = c.is_quoted.ensures i } in
-    λ q. saw-more (contains same_key c.loop-other.seen) (contains same_key c.insert.new.self) (take c.loop-other.other-index c.args.others.now) k c.other-item.result
-    c.loop-other.invariant c.in_ok-insert.ensures.updates.0 named q
-    ∙ seen-next (key_name q) c.other-item.result c.args.others.now c.loop-other.other-index c.loop-other-test.true c.other-item.is
+loop-other-preserved c = λ q.
+    saw-more (contains same_referred c.loop-other.seen) (contains same_referred c.insert.new.self) (take c.loop-other.other-index c.args.others.now) c.other-item.result
+    c.loop-other.invariant c.in_ok-insert.ensures.updates.0 q
+    ∙ seen-next q.now c.other-item.result c.args.others.now c.loop-other.other-index c.loop-other-test.true c.other-item.is
 
 pub loop-name-init : goal.loop-name-init
 loop-name-init c =
     let all : take c.loop-other.other-index c.args.others.now ≡ c.args.others.now ++ c.new-kept.result =
     take_all c.loop-other.other-index c.args.others.now c.loop-other-test.false ∙ sym (ap (λ l. c.args.others.now ++ l) c.new-kept.ensures ∙ append-nil c.args.others.now) in (
-      λ q. c.loop-other.invariant q ∙ ap (is_among (key_name q)) all,
+      λ q. c.loop-other.invariant q ∙ ap (is_among q.now) all,
       subst (λ l. Kept c.args.others.now l c.args.names.now 0) (sym c.new-kept.ensures) (kept-start c.args.others.now c.args.names.now),
     )
 
 pub loop-name-preserved : goal.loop-name-preserved
 loop-name-preserved c =
-    let k : Key = (c.is_quoted-in-loop-name.result, c.bytes-in-loop-name.result) in
-    let named : key_name k ≡ c.name-item.result =
-    λ i. record { text = c.bytes-in-loop-name.ensures.value i; is_quoted = c.is_quoted-in-loop-name.ensures i } in
+    let told : c.in_ok-insert-2.field-0 ≡ not (is_among c.name-item.result (c.args.others.now ++ c.loop-name.kept)) =
+    c.in_ok-insert-2.ensures.added ∙ ap not (c.loop-name.invariant.0 (record { ref_ptr = c.args.names.ref_ptr; now = c.name-item.result })) in
     elim c.if-branch.branch [
       | then-branch+in_ok-try_clone+in_ok-kept w ↦
-          step-kept (contains same_key c.loop-name.seen) (contains same_key c.insert-in-loop-name.new.self) c.args.others.now c.loop-name.kept c.args.names.now c.loop-name.name-index k c.name-item.result
-          c.loop-name.invariant.0 c.loop-name.invariant.1 c.in_ok-insert-2.ensures.updates.0 named c.loop-name-test.true c.name-item.is c.in_ok-insert-2.field-0 c.in_ok-insert-2.ensures.added
+          step-kept (contains same_referred c.loop-name.seen) (contains same_referred c.insert-in-loop-name.new.self) c.args.others.now c.loop-name.kept c.args.names.now c.loop-name.name-index c.name-item.result
+          c.loop-name.invariant.0 c.loop-name.invariant.1 c.in_ok-insert-2.ensures.updates.0 c.loop-name-test.true c.name-item.is c.in_ok-insert-2.field-0 told
           c.if-branch.kept w.if-branch.true (w.kept-is ∙ w.in_ok-kept.ensures ∙ ap (λ l. l ++ w.in_ok-try_clone.field-0 ∷ []) c.kept.view_is ∙ ap (λ x. c.loop-name.kept ++ x ∷ []) w.in_ok-try_clone.ensures)
       | else-branch w ↦
-          step-skipped (contains same_key c.loop-name.seen) (contains same_key c.insert-in-loop-name.new.self) c.args.others.now c.loop-name.kept c.args.names.now c.loop-name.name-index k c.name-item.result
-          c.loop-name.invariant.0 c.loop-name.invariant.1 c.in_ok-insert-2.ensures.updates.0 named c.loop-name-test.true c.name-item.is c.in_ok-insert-2.field-0 c.in_ok-insert-2.ensures.added
+          step-skipped (contains same_referred c.loop-name.seen) (contains same_referred c.insert-in-loop-name.new.self) c.args.others.now c.loop-name.kept c.args.names.now c.loop-name.name-index c.name-item.result
+          c.loop-name.invariant.0 c.loop-name.invariant.1 c.in_ok-insert-2.ensures.updates.0 c.loop-name-test.true c.name-item.is c.in_ok-insert-2.field-0 told
           c.if-branch.kept w.if-branch.false w.kept-is
     ]
 

@@ -9,10 +9,10 @@ returns-then-self-gt0 c = sym (hidden-yes c.args.name.now c.args.self.now.counts
 
 pub returns-then-often-eq0 : goal.returns-then-often-eq0
 unfolding forms
-returns-then-often-eq0 c = sym (hidden-no c.args.name.now c.args.self.now.counts c.args.self.now.lefts c.args.self.now.frames.items (c.args.self.now.counted c.if-not-self.false) (omega arith) (sym c.in_ok-often.ensures ∙ c.if-often-eq0.true))
+returns-then-often-eq0 c = sym (hidden-no c.args.name.now c.args.self.now.counts c.args.self.now.lefts c.args.self.now.frames.items (c.args.self.now.counted c.if-not-self.false) (omega arith) (sym c.count-often.ensures ∙ c.if-often-eq0.true))
 
 pub returns : goal.returns
 unfolding forms
 returns c =
-    let often = c.in_ok-often.ensures in
+    let often = c.count-often.ensures in
     sym (hidden-yes c.args.name.now c.args.self.now.counts c.args.self.now.lefts c.args.self.now.frames.items (c.args.self.now.counted c.if-not-self.false) (omega arith))

@@ -1,20 +1,10 @@
 -- When two names are the same.
 use Rattle.std.proofs.Common.{◌≡◌, Bool, true, false, ◌&&◌, refl, sym, ap, ◌∙◌}
 use Rattle.std.specs.Bool.{beq}
+use Rattle.std.specs.Cmp.{booleans_Decides}
 use Rattle.std.specs.Str.{bytes_eq}
 use Rattle.std.proofs.lemmas.Slice.Eq.{bytes_eq-Decides}
-use Rattle.term_core.specs.Tree.{Symbol}
-use Rattle.strategy_syntax.specs.Variables.{same_name}
-
-beq-true : (a b : Bool) → beq a b ≡ true → a ≡ b
-beq-true true true e = refl
-beq-true true false e = absurd (cc)
-beq-true false true e = absurd (cc)
-beq-true false false e = refl
-
-beq-self : (a : Bool) → beq a a ≡ true
-beq-self true = refl
-beq-self false = refl
+use Rattle.term_core.specs.Tree.{Symbol, same_name}
 
 and-left : (a b : Bool) → a && b ≡ true → a ≡ true
 and-left true b e = refl
@@ -27,11 +17,12 @@ and-right false b e = absurd (cc)
 pub same_name-true : (f g : Symbol) → same_name f g ≡ true → f ≡ g
 same_name-true f g e = λ i. record {
   text = (bytes_eq-Decides f.text g.text).0 (and-right (beq f.is_quoted g.is_quoted) (bytes_eq f.text g.text) e) i;
-  is_quoted = beq-true f.is_quoted g.is_quoted (and-left (beq f.is_quoted g.is_quoted) (bytes_eq f.text g.text) e) i;
+  is_quoted = (booleans_Decides f.is_quoted g.is_quoted).0 (and-left (beq f.is_quoted g.is_quoted) (bytes_eq f.text g.text) e) i;
 }
 
 pub same_name-self : (f : Symbol) → same_name f f ≡ true
-same_name-self f = rw (beq-self f.is_quoted) ((bytes_eq-Decides f.text f.text).1 refl)
+same_name-self f =
+    rw ((booleans_Decides f.is_quoted f.is_quoted).1 refl) ((bytes_eq-Decides f.text f.text).1 refl)
 
 pub same_name-sym : (f g : Symbol) → same_name f g ≡ same_name g f
 same_name-sym f g = by (same_name f g) (same_name g f) refl refl where
