@@ -13,8 +13,8 @@ use Rattle.strategy_check.specs.declared.fault.Kind.TheVariants.{Parameter}
 use Rattle.strategy_check.specs.declared.fault.CheckFault.{CheckFault}
 use Rattle.strategy_check.specs.declared.fault.CheckFault.TheVariants.{Memory, Fault as Told}
 use Rattle.strategy_check.specs.Lists.{is_among}
-use Rattle.strategy_check.specs.Faults.{Fault}
-use Rattle.strategy_check.specs.FirstFault.{IsTold, Tells, first_repeated}
+use Rattle.strategy_check.specs.Faults.{Fault, IsTold}
+use Rattle.strategy_check.specs.FirstFault.{Tells, first_repeated}
 
 -- the fault of a part is that of the whole, where it is the first with one
 pub told_first : (e : CheckFault) (o p : Option Fault) → IsTold e o → IsTold e (option_or o p)

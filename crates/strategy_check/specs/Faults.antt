@@ -1,5 +1,5 @@
 -- The faults of modules and of strategies, all of them, in the order in which they count.
-use Rattle.std.specs.Prelude.{ℕ, ◌+◌, Bool, true, false, not, ◌&&◌, ◌==◌, List, [], ◌∷◌, ◌++◌, length, map, flat_map, if◌then◌else◌, codes, is_some, Some, None}
+use Rattle.std.specs.Prelude.{◌≡◌, ℕ, ◌+◌, Bool, true, false, not, ◌&&◌, ◌==◌, List, [], ◌∷◌, ◌++◌, length, map, flat_map, if◌then◌else◌, codes, is_some, Some, None, ⊤}
 use Rattle.std.specs.declared.option.Option.{Option}
 use Rattle.term_core.specs.Tree.{Symbol, Head, application, list, tuple, same_name}
 use Rattle.prim_core.specs.Signature as primitive
@@ -7,6 +7,8 @@ use Rattle.strategy_syntax.specs.Syntax.{Pattern, wildcard, variable, at, number
 use Rattle.strategy_syntax.specs.Modules.{Definition, Module}
 use Rattle.strategy_check.specs.declared.fault.Kind.{Kind}
 use Rattle.strategy_check.specs.declared.fault.Kind.TheVariants.{Parameter, Twice, Clash, Unknown, Undeclared, Wild, Primitive}
+use Rattle.strategy_check.specs.declared.fault.CheckFault.{CheckFault}
+use Rattle.strategy_check.specs.declared.fault.CheckFault.TheVariants.{Memory, Fault as Told}
 use Rattle.strategy_check.specs.Lists.{is_among, with_new, repeated}
 use Rattle.strategy_check.specs.Binders.{Binder, number_of, bound_from}
 use Rattle.strategy_check.specs.Tables.{Signature, same_signature, Table, is_defined, is_declared, Modules, signature_of, signatures_of, table_of}
@@ -143,3 +145,8 @@ faults ms P = faults_from (table_of ms) P [] ms
 abbrev pub first : List Fault → Option Fault
 first [] = None
 first (f ∷ fs) = Some f
+
+-- The error tells this fault; where memory was wanted it tells nothing.
+abbrev pub IsTold : CheckFault → Option Fault → Type 0
+IsTold Memory o = ⊤
+IsTold (Told kind f n m) o = o ≡ Some (record { kind = kind; name = f; first = n; second = m })

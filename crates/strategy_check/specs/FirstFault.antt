@@ -1,5 +1,5 @@
 -- The first fault, by the same cases as the lists of all faults.
-use Rattle.std.specs.Prelude.{◌≡◌, ℕ, ◌+◌, Bool, true, false, not, ◌&&◌, ◌==◌, List, [], ◌∷◌, ◌++◌, length, if◌then◌else◌, is_some, Some, None, Ok, Err, ⊤}
+use Rattle.std.specs.Prelude.{◌≡◌, ℕ, ◌+◌, Bool, true, false, not, ◌&&◌, ◌==◌, List, [], ◌∷◌, ◌++◌, length, if◌then◌else◌, is_some, Some, None, Ok, Err}
 use Rattle.std.specs.declared.option.Option.{Option}
 use Rattle.std.specs.declared.result.Result.{Result}
 use Rattle.std.specs.Option.{option_or}
@@ -9,17 +9,12 @@ use Rattle.strategy_syntax.specs.Modules.{Definition}
 use Rattle.strategy_check.specs.declared.fault.Kind.{Kind}
 use Rattle.strategy_check.specs.declared.fault.Kind.TheVariants.{Parameter, Twice, Clash, Unknown, Undeclared, Wild, Primitive}
 use Rattle.strategy_check.specs.declared.fault.CheckFault.{CheckFault}
-use Rattle.strategy_check.specs.declared.fault.CheckFault.TheVariants.{Memory, Fault as Told}
 use Rattle.strategy_check.specs.Lists.{is_among, with_new}
 use Rattle.strategy_check.specs.Binders.{Binder, number_of}
 use Rattle.strategy_check.specs.Tables.{Signature, same_signature, Table, is_defined, is_declared, Modules, signature_of, signatures_of}
-use Rattle.strategy_check.specs.Faults.{Fault, Primitives, is_primitive, underscore, parameter_names}
+use Rattle.strategy_check.specs.Faults.{Fault, IsTold, Primitives, is_primitive, underscore, parameter_names}
 
--- What a call tells of the first fault: none, or this one. Where memory was wanted it tells nothing.
-abbrev pub IsTold : CheckFault → Option Fault → Type 0
-IsTold Memory o = ⊤
-IsTold (Told kind f n m) o = o ≡ Some (record { kind = kind; name = f; first = n; second = m })
-
+-- What a call tells of the first fault: that there is none, or which it is.
 abbrev pub Tells : {X : Type 0} → Result X CheckFault → Option Fault → Type 0
 Tells (Ok x) o = o ≡ None
 Tells (Err e) o = IsTold e o

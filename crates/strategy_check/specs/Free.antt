@@ -5,8 +5,9 @@ use Rattle.strategy_syntax.specs.Syntax.{Strategy, id, fail, matches, builds, se
 use Rattle.strategy_syntax.specs.Variables.{variables, variables_of_all}
 use Rattle.strategy_check.specs.Lists.{first_ones, without}
 
--- Each time that a variable stands in a pattern and no scope round it names it, from left to right.
--- Strategy arguments belong to the strategy in which they are written.
+-- Each time that a variable stands in a pattern and no scope round it names it, from left to right
+-- in the core form: that of `<?x> y` is `!y; ?x`, in which y comes first. Strategy arguments belong
+-- to the strategy in which they are written.
 abbrev mutual
   pub free : Strategy → List Symbol
   free id = []

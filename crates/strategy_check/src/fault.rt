@@ -1,7 +1,8 @@
 //! The faults that the checker finds.
 
 ghost use Rattle.std.specs.Prelude.{◌≡◌, true};
-ghost use Rattle.strategy_check.specs.FirstFault.{IsTold, fault_when};
+ghost use Rattle.strategy_check.specs.Faults.{IsTold};
+ghost use Rattle.strategy_check.specs.FirstFault.{fault_when};
 ghost use Rattle.strategy_check.specs.Words.{word_of};
 
 use std::fmt;
@@ -50,8 +51,8 @@ pub enum CheckFault {
     /// A growth of memory was refused.
     #[error("memory")]
     Memory,
-    /// The first fault: its kind, the name, and two numbers, mostly of strategies and of terms. The
-    /// name is quoted for `Primitive`, else a word.
+    /// The first fault: its kind, the name, and two numbers, mostly of strategies and of terms. Of a
+    /// text's module or strategy, the name is quoted for `Primitive`, else a word.
     #[error("{}", .0.word())]
     Fault(Kind, Name, u64, u64),
 }

@@ -2,8 +2,7 @@
 #![tactic(auto)]
 
 ghost use Rattle.std.specs.Prelude.{◌≡◌, [], IfOk, IfErr};
-ghost use Rattle.strategy_check.specs.Faults.{faults, first};
-ghost use Rattle.strategy_check.specs.FirstFault.{IsTold};
+ghost use Rattle.strategy_check.specs.Faults.{faults, first, IsTold};
 ghost use Rattle.strategy_check.specs.Programs.{program, faults_of, resolved};
 ghost use Rattle.strategy_check.specs.Ranges.{IsInRange, IsSound};
 

@@ -1,6 +1,6 @@
 use Rattle.std.proofs.Common.{sym, ap, subst, ◌∙◌, inr, refl}
 use Rattle.strategy_check.specs.Faults.{faults, first}
-use Rattle.strategy_check.specs.FirstFault.{IsTold}
+use Rattle.strategy_check.specs.Faults.{IsTold}
 use Rattle.session_core.proofs.modules.check_modules.Goals as goal
 
 pub returns-clause-refused : goal.returns-clause-refused
