@@ -1,6 +1,6 @@
 -- A dump reads back: its commands, their replies, and what they leave.
 use Rattle.std.proofs.Common.{◌≡◌, ◌≤◌, ◌+◌, ℕ, Bool, cond, true, false, ◌&&◌, List, [], ◌∷◌, ◌++◌, length, map, codes, Some, None, Ok, Err, Result, refl, sym, ap, ◌∙◌, subst, arith, append_assoc, if◌then◌else◌}
-use Rattle.std.specs.Prelude.{is_ok, is_err, count_by, IfSome}
+use Rattle.std.specs.Prelude.{is_ok, is_err, count_by}
 use Rattle.std.specs.Result.{MatchResult}
 use Rattle.std.specs.Option.{MatchOption, option_map_or}
 use Rattle.std.specs.declared.option.Option.{Option}
@@ -16,17 +16,16 @@ use Rattle.term_core.specs.Size.{height, size, fits}
 use Rattle.term_core.specs.declared.TheConstants.{MAX_HEIGHT, MAX_SIZE}
 use Rattle.aterm_text.specs.Printed.{print}
 use Rattle.aterm_text.specs.Laws.{PrintedTextReadsBack, PrintedTextIsOneLine, PrintedTextNests, PrintedTextIsAsLong}
-use Rattle.strategy_syntax.specs.Modules.{Module}
 use Rattle.strategy_check.specs.Faults.{Fault, Primitives}
 use Rattle.change_log.specs.Contents.{Contents, with_tree, with_module}
-use Rattle.session_core.specs.Modules.{ReadsModule, Finds}
+use Rattle.session_core.specs.Modules.{Finds}
 use Rattle.session_core.specs.History.{Group, History, changed, stepped}
-use Rattle.session_core.specs.Step.{step, retold, committed, outside, inside, unless, Becomes, SetsModule, Commits, set_tree, commit as commit_act}
-use Rattle.session_core.specs.Dump.{tree_line, module_line, behind_name, dumped}
+use Rattle.session_core.specs.Step.{retold, committed, outside, unless, Becomes}
+use Rattle.session_core.specs.Dump.{tree_line, module_line, dumped}
 use Rattle.session_core.specs.declared.refusal.Refusal.{Refusal}
 use Rattle.session_core.specs.declared.refusal.Refusal.TheVariants.{Big, NoGroup}
 use Rattle.script_core.specs.declared.TheConstants.{MAX_COMMAND}
-use Rattle.script_core.specs.Script.{lines, cut, commands}
+use Rattle.script_core.specs.Script.{commands}
 use Rattle.script_core.specs.Form.{Form, tree, set_module, begin, commit, command_of}
 use Rattle.script_core.specs.Handed.{Handed, text, long, handed_as, handed}
 use Rattle.script_core.specs.Machine.{Reply, line, ok_with, done, Replies, ReplyTo, history_after}
@@ -212,11 +211,10 @@ module _ (steps : ℕ) where
   commit_said : (h : History) (g : Group) → h.group ≡ Some g → Finds h.primitives h.now.modules None → ReplyTo steps (text (codes "commit")) h (Ok (ok_with (committed g h)))
   commit_said h g some finds =
       let k : History = committed g h in
-      let stepped_to : step commit_act h ≡ Ok k = ap (λ (o : Option Group). inside o (λ g. Ok (committed g h))) some in
       said (codes "commit") commit h (Ok (ok_with k)) refl (
         Ok k,
-        subst (λ (o : Option Group). MatchOption o (◌≡◌ {A = Result History Refusal} (Ok k) (Err NoGroup)) (λ g. (found : Option Fault) × Finds h.primitives h.now.modules found × (Ok k ≡ unless found (step commit_act h)))) (sym some)
-            (None, finds, sym stepped_to),
+        subst (λ (o : Option Group). MatchOption o (◌≡◌ {A = Result History Refusal} (Ok k) (Err NoGroup)) (λ g. (found : Option Fault) × Finds h.primitives h.now.modules found × (Ok k ≡ unless found (Ok (committed g h))))) (sym some)
+            (None, finds, refl),
         refl,
       )
 

@@ -21,7 +21,7 @@ use Rattle.aterm_text.specs.declared.TheConstants.{MAX_NESTING}
 use Rattle.change_log.specs.Contents.{Contents, with_module, without_module}
 use Rattle.session_core.specs.Modules.{Texts, ReadsModule, AreRead, Finds}
 use Rattle.session_core.specs.History.{Group, History, changed}
-use Rattle.session_core.specs.Step.{step, with_place, set_tree as set_tree_act, put as put_act, annotate as annotate_act, commit as commit_act, unless, Becomes, SetsModule, Unloads, Commits}
+use Rattle.session_core.specs.Step.{step, with_place, set_tree as set_tree_act, put as put_act, annotate as annotate_act, committed, unless, Becomes, SetsModule, Unloads, Commits}
 use Rattle.session_core.specs.declared.refusal.Refusal.{Refusal}
 use Rattle.session_core.specs.declared.refusal.Refusal.TheVariants.{Deep, Term, Syntax, NoModule, NoGroup}
 use Rattle.script_core.specs.Form.{Form, tree, copy, drop_tree, put, annotate, set_module, unload, undo, redo, begin, commit, abandon, show, trees, modules, module_text, history, dump, command_of}
@@ -121,7 +121,7 @@ module _ (one : OneModule) where
 
   abbrev WhereOpen : History → Result History Refusal → Option Group → Type 0
   WhereOpen h reply group =
-      MatchOption group (reply ≡ Err NoGroup) (λ g. (found : Option Fault) × Finds h.primitives h.now.modules found × (reply ≡ unless found (step commit_act h)))
+      MatchOption group (reply ≡ Err NoGroup) (λ g. (found : Option Fault) × Finds h.primitives h.now.modules found × (reply ≡ unless found (Ok (committed g h))))
 
   Commits-one : (h : History) (r s : Result History Refusal) → Commits h r → Commits h s → r ≡ s
   Commits-one h r s = by h.group
@@ -129,7 +129,7 @@ module _ (one : OneModule) where
       by : (group : Option Group) → WhereOpen h r group → WhereOpen h s group → r ≡ s
       by None a b = a ∙ sym b
       by (Some g) a b =
-          a.2 ∙ ap (λ (found : Option Fault). unless found (step commit_act h)) (Finds-one h.primitives h.now.modules a.0 b.0 a.1 b.1) ∙ sym b.2
+          a.2 ∙ ap (λ (found : Option Fault). unless found (Ok (committed g h))) (Finds-one h.primitives h.now.modules a.0 b.0 a.1 b.1) ∙ sym b.2
 
 -- ---- replies
 

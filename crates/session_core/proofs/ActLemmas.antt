@@ -2,18 +2,20 @@
 use Rattle.std.proofs.Common.{◌≡◌, ◌⊎◌, ℕ, List, Option, Some, None, Bool, true, false, is_some, IsSome, option_map, option_and_then, if◌then◌else◌, option_copied, Bor, Result, Ok, Err, IfErr, OnOk, OnErr, inl, inr, refl, sym, ap, subst, ◌∙◌}
 use Rattle.prim_core.specs.Signature.{Signature}
 use Rattle.term_core.specs.Tree.{Tree}
+use Rattle.strategy_check.specs.Programs.{Program}
 use Rattle.term_paths.specs.Paths.{at, leads, set_at, set_annotations_at}
-use Rattle.change_log.specs.Contents.{with_tree, without_tree}
+use Rattle.change_log.specs.Contents.{Contents, with_tree, without_tree}
 use Rattle.change_log.specs.Slots.{AreApart, contents, content, slot_of}
 use Rattle.change_log.specs.Entries.{Entry, slot_tree, subterm, subterm_annotations, subterm_in, before, put}
 use Rattle.change_log.proofs.ContentsLemmas.{tree_put, tree_taken, tree_of_name, subterm_put, annotations_put}
 use Rattle.session_core.specs.History.{Group, History, changed, IsSound}
-use Rattle.session_core.specs.Step.{Act, step, retold, with_some, with_tree_of, with_place, outside, inside}
+use Rattle.session_core.specs.Step.{Act, step, retold, with_some, with_tree_of, with_place, outside, inside, committed}
+use Rattle.session_core.specs.Modules.{Texts, IsKept}
 use Rattle.session_core.specs.Unfolded.{unfolded, IsPlaceOf}
 use Rattle.session_core.specs.declared.timeline.Timeline.{Timeline}
 use Rattle.session_core.specs.declared.refusal.Refusal.{Refusal}
 use Rattle.session_core.specs.declared.refusal.Refusal.TheVariants.{Memory, NoTree, Path, Group as InGroup, NoGroup}
-use Rattle.session_core.proofs.SoundLemmas.{Asks, act_sound}
+use Rattle.session_core.proofs.SoundLemmas.{act_sound, step_sound, same_Ok, LeavesModules, step_leaves, committed_leaves}
 
 pub on_err : {A E : Type 0} {P : Type 0} (r : Result A E) → P → OnErr r P
 on_err (Ok x) p = tt
@@ -78,9 +80,33 @@ module _ {A : Type 0} (act : Act) (r : Result A Refusal) (ps : List Signature) (
       by (Ok x) err = tt
       by (Err e) err = err ps ∙ seen
 
-  pub sound_seen : Asks act h → OnOk r ((ps : List Signature) → step act (unfolded ps old) ≡ Ok (unfolded ps new)) → OnErr r ((ps : List Signature) → unfolded ps new ≡ unfolded ps old)
+  pub sound_seen : OnOk r ((ps : List Signature) → step act (unfolded ps old) ≡ Ok (unfolded ps new)) → OnErr r ((ps : List Signature) → unfolded ps new ≡ unfolded ps old)
       → IsSound (unfolded ps old) → IsSound (unfolded ps new)
-  sound_seen asks ok err sound = act_sound act r h (unfolded ps new) asks (ok_seen ok) (err_seen err) (subst IsSound seen sound)
+  sound_seen ok err sound = act_sound act r h (unfolded ps new) (ok_seen ok) (err_seen err) (subst IsSound seen sound)
+
+  -- the same where it is known what came of the call
+  pub stepped_sound : ((ps : List Signature) → step act (unfolded ps old) ≡ Ok (unfolded ps new)) → IsSound (unfolded ps old) → IsSound (unfolded ps new)
+  stepped_sound ok sound = step_sound act (unfolded ps old) (unfolded ps new) sound (ok ps)
+
+-- ---- the program that a session keeps
+
+module _ (ps : List Signature) (old new : Timeline) (kept : Option Program) where
+  pub kept_same : unfolded ps new ≡ unfolded ps old → IsKept ps (contents old.store).modules kept → IsKept ps (contents new.store).modules kept
+  kept_same same k = subst (λ (texts : Texts). IsKept ps texts kept) (sym (ap (λ (h : History). h.now.modules) same)) k
+
+  -- it stays where the modules do
+  pub kept_seen : {A : Type 0} (act : Act) (r : Result A Refusal) → LeavesModules act → OnOk r ((ps : List Signature) → step act (unfolded ps old) ≡ Ok (unfolded ps new))
+      → OnErr r ((ps : List Signature) → unfolded ps new ≡ unfolded ps old) → IsKept ps (contents old.store).modules kept → IsKept ps (contents new.store).modules kept
+  kept_seen act (Ok x) leaves ok err k = subst (λ (texts : Texts). IsKept ps texts kept) (sym (step_leaves act (unfolded ps old) (unfolded ps new) leaves (ok ps))) k
+  kept_seen act (Err e) leaves ok err k = kept_same (err ps) k
+
+  -- and where a group was closed
+  pub kept_closed : (group : Group) → (unfolded ps old).group ≡ Some group → inside (unfolded ps old).group (λ g. Ok (committed g (unfolded ps old))) ≡ Ok (unfolded ps new)
+      → IsKept ps (contents old.store).modules kept → IsKept ps (contents new.store).modules kept
+  kept_closed group there is k =
+      let done : Ok (committed group (unfolded ps old)) ≡ Ok (unfolded ps new) = ap (λ (o : Option Group). inside o (λ g. Ok (committed g (unfolded ps old)))) (sym there) ∙ is in
+      let same : (unfolded ps new).now ≡ (unfolded ps old).now = ap (λ (h : History). h.now) (sym (same_Ok (unfolded ps new) (committed group (unfolded ps old)) done)) ∙ committed_leaves group (unfolded ps old) in
+      subst (λ (c : Contents). IsKept ps c.modules kept) (sym same) k
 
 -- ---- what a session says of a call that its timeline relates to two histories
 

@@ -1,5 +1,5 @@
 -- What reading and checking the modules of a store says of the history.
-use Rattle.std.proofs.Common.{◌≡◌, ◌<◌, ◌≤◌, ◌⊎◌, ℕ, Bool, true, false, cond, List, [], ◌∷◌, ◌++◌, length, map, Option, Some, None, IsSome, IfSome, Result, Ok, Err, OnOk, IfErr, option_and_then, inl, inr, refl, sym, ap, subst, ◌∙◌, arith}
+use Rattle.std.proofs.Common.{◌≡◌, ◌<◌, ◌≤◌, ◌⊎◌, ℕ, Bool, true, false, cond, List, [], ◌∷◌, ◌++◌, map, Option, Some, None, IsSome, is_some, IfSome, Result, Ok, Err, IfErr, option_and_then, inl, inr, refl, sym, ap, subst, ◌∙◌, arith}
 use Rattle.std.specs.Prelude.{IsSomeAnd, IfOk}
 use Rattle.std.proofs.Common.{append_assoc}
 use Rattle.std.proofs.lemmas.List.{append-nil}
@@ -9,10 +9,11 @@ use Rattle.std.specs.Ordering.{is_eq, nat_cmp, eq_by_cmp}
 use Rattle.std.specs.Cmp.{tied_itself}
 use Rattle.std.specs.Cmp.Lexicographic.{slice_cmp, nat_list_cmp_total}
 use Rattle.std.specs.FinMap as finmap
-use Rattle.std.specs.FinMap.{find, entries, get-entries, get-insert, get-remove}
+use Rattle.std.specs.FinMap.{find, entries, get-entries, get-insert}
 use Rattle.strategy_syntax.specs.Modules.{Module}
 use Rattle.strategy_check.specs.Tables.{Modules}
-use Rattle.strategy_check.specs.Faults.{Fault, Primitives}
+use Rattle.strategy_check.specs.Faults.{Fault, Primitives, first}
+use Rattle.strategy_check.specs.Programs.{Program}
 use Rattle.std.specs.Option.{MatchOption}
 use Rattle.change_log.specs.Contents.{Contents, with_module, without_module}
 use Rattle.change_log.specs.Slots.{Store, AreApart, contents, content, slot_of}
@@ -23,12 +24,12 @@ use Rattle.session_core.specs.Unfolded.{unfolded}
 use Rattle.session_core.specs.declared.timeline.Timeline.{Timeline}
 use Rattle.session_core.specs.declared.timeline.OpenGroup.{OpenGroup}
 use Rattle.session_core.specs.History.{Group, History, changed}
-use Rattle.session_core.specs.Step.{step, commit, unless, Becomes, SetsModule, Unloads, Commits}
-use Rattle.session_core.specs.Modules.{Texts, ReadsModule, AreReadable, AreRead, AreModules, Finds, IsUnread, AreRefused, refusal_of}
+use Rattle.session_core.specs.Step.{committed, inside, unless, Becomes, SetsModule, Unloads, Commits}
+use Rattle.session_core.specs.Modules.{Texts, ReadsModule, AreReadable, AreRead, AreModules, Finds, IsProgram, IsKept, IsUnread, AreRefused, refusal_of}
 use Rattle.session_core.specs.declared.refusal.Refusal.{Refusal}
-use Rattle.session_core.specs.declared.refusal.Refusal.TheVariants.{Memory, Deep, Syntax, NoModule, NoGroup}
+use Rattle.session_core.specs.declared.refusal.Refusal.TheVariants.{Memory, NoModule, NoGroup}
 use Rattle.session_core.proofs.MapLemmas.{R, same_key}
-use Rattle.session_core.proofs.SoundLemmas.{readable_without}
+use Rattle.session_core.proofs.SoundLemmas.{readable_without, now_changed}
 
 -- a text that gives a module isn't refused
 pub reads_one : (text : List ℕ) (m : Module) (refusal : Refusal) → ReadsModule text (Ok m) → ReadsModule text (Err refusal) → ⊥
@@ -167,12 +168,14 @@ unload_none h name none =
     subst (λ (o : Option (List ℕ)). MatchOption o (◌≡◌ {A = Result History Refusal} (Err NoModule) (Err NoModule)) (λ _. Becomes (without_module h.now name) h h.group (Err NoModule))) (sym none) refl
 
 module _ (h : History) where
-  commits_by : (group : Group) (reply : Result History Refusal) → h.group ≡ Some group → (found : Option Fault) × Finds h.primitives h.now.modules found × (reply ≡ unless found (step commit h)) → Commits h reply
+  commits_by : (group : Group) (reply : Result History Refusal) → h.group ≡ Some group → (found : Option Fault) × Finds h.primitives h.now.modules found × (reply ≡ unless found (Ok (committed group h))) → Commits h reply
   commits_by group reply inside found =
-      subst (λ (o : Option Group). MatchOption o (reply ≡ Err NoGroup) (λ g. (found : Option Fault) × Finds h.primitives h.now.modules found × (reply ≡ unless found (step commit h)))) (sym inside) found
+      subst (λ (o : Option Group). MatchOption o (reply ≡ Err NoGroup) (λ g. (found : Option Fault) × Finds h.primitives h.now.modules found × (reply ≡ unless found (Ok (committed g h))))) (sym inside) found
 
-  pub commit_found : (group : Group) (reply : Result History Refusal) → h.group ≡ Some group → Finds h.primitives h.now.modules None → step commit h ≡ reply → Commits h reply
-  commit_found group reply inside finds is = commits_by group reply inside (None, finds, sym is)
+  pub commit_found : (group : Group) (reply : Result History Refusal) → h.group ≡ Some group → Finds h.primitives h.now.modules None → inside h.group (λ g. Ok (committed g h)) ≡ reply → Commits h reply
+  commit_found group reply there finds is =
+      let done : Ok (committed group h) ≡ reply = ap (λ (o : Option Group). inside o (λ g. Ok (committed g h))) (sym there) ∙ is in
+      commits_by group reply there (None, finds, sym done)
 
   pub commit_refused : (group : Group) (refusal : Refusal) → h.group ≡ Some group → AreReadable h.now.modules → AreRefused h.primitives h.now.modules refusal → (refusal ≡ Memory) ⊎ Commits h (Err refusal)
   commit_refused group refusal inside readable (inl (inl memory)) = inl memory
@@ -181,7 +184,7 @@ module _ (h : History) where
 
   pub commit_outside : h.group ≡ None → Commits h (Err NoGroup)
   commit_outside none =
-      subst (λ (o : Option Group). MatchOption o (◌≡◌ {A = Result History Refusal} (Err NoGroup) (Err NoGroup)) (λ g. (found : Option Fault) × Finds h.primitives h.now.modules found × (Err NoGroup ≡ unless found (step commit h)))) (sym none) refl
+      subst (λ (o : Option Group). MatchOption o (◌≡◌ {A = Result History Refusal} (Err NoGroup) (Err NoGroup)) (λ g. (found : Option Fault) × Finds h.primitives h.now.modules found × (Err NoGroup ≡ unless found (Ok (committed g h))))) (sym none) refl
 
 -- ---- the modules of names, one after another
 
@@ -228,3 +231,17 @@ text_told t m n name copy text i e ps here is copied same done =
 -- the contents without a text that was taken out of the slot of its name
 pub text_taken : (t : Timeline) (name : List ℕ) (i : ℕ) (e : Entry) → AreApart t.store.modules → slot_of t.store.modules name ≡ Some i → e ≡ slot_text i None → contents (put e t.store) ≡ without_module (contents t.store) name
 text_taken t name i e apart here is = ap (λ e. contents (put e t.store)) is ∙ module_taken t.store name i apart here
+
+-- ---- the program of the modules
+
+-- where there is one, the checker finds no fault
+pub program_found : (ps : Primitives) (texts : Texts) (p : Program) → IsProgram ps texts p → Finds ps texts None
+program_found ps texts p is = record { modules = is.modules; are = is.are; fault = sym (ap first is.faultless) }
+
+pub kept_found : (ps : Primitives) (texts : Texts) (kept : Option Program) → is_some kept ≡ true → IsKept ps texts kept → Finds ps texts None
+kept_found ps texts None there is = absurd (cc)
+kept_found ps texts (Some p) there is = program_found ps texts p is
+
+-- the program of the modules that a change left
+pub program_then : (n : Timeline) (c : Contents) (h : History) (p : Program) (ps : List Signature) → unfolded ps n ≡ changed c h → IsProgram ps c.modules p → IsProgram ps (contents n.store).modules p
+program_then n c h p ps done is = subst (λ (x : Contents). IsProgram ps x.modules p) (sym (ap (λ h. h.now) done ∙ now_changed c h)) is

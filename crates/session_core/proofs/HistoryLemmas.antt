@@ -8,7 +8,7 @@ use Rattle.term_core.specs.Size.{fits}
 use Rattle.term_paths.specs.Paths.{leads, set_at, set_annotations_at}
 use Rattle.change_log.specs.Contents.{Contents, with_tree, without_tree, with_module, without_module}
 use Rattle.session_core.specs.History.{Group, History, stepped, changed, newest, older, back_to, forward_to, step_back, step_forward, undone, redone}
-use Rattle.session_core.specs.Step.{Act, IsChange, set_tree, copy_tree, drop_tree, put, annotate, undo, redo, begin, commit, abandon, step, with_some, with_place, outside, inside, committed, retold}
+use Rattle.session_core.specs.Step.{Act, IsChange, set_tree, copy_tree, drop_tree, put, annotate, undo, redo, begin, abandon, step, with_some, with_place, outside, retold}
 use Rattle.session_core.specs.Laws.{ChangeIsUndone, GroupIsUndone, RedoTakesUndoBack, UndoTakesRedoBack}
 use Rattle.session_core.specs.declared.refusal.Refusal.{Refusal}
 use Rattle.session_core.specs.declared.refusal.Refusal.TheVariants.{Path, Big, NoUndo, NoRedo}
@@ -219,7 +219,6 @@ act_is_undone (annotate name path annotations) h g change none e =
 act_is_undone (undo k) h g change none e = absurd change
 act_is_undone (redo k) h g change none e = absurd change
 act_is_undone begin h g change none e = absurd change
-act_is_undone commit h g change none e = absurd change
 act_is_undone abandon h g change none e = absurd change
 
 pub change_is_undone : ChangeIsUndone
@@ -231,8 +230,7 @@ change_is_undone h g (inr (inr (name, unloads))) none =
 
 pub group_is_undone : GroupIsUndone
 group_is_undone group h g is was commits =
-    let e = (commits_ok h g commits).0 in
-    let done : committed group h ≡ g = same_Ok g _ (ap (λ o. inside o (λ g. Ok (committed g h))) (sym is) ∙ e) in
+    let done = (commits_ok h g group is commits).0 in
     let stepped_from : record (stepped group.begun (record h { group = None })) { now = h.now } ≡ g =
     ap (λ b. cond b (record (stepped group.begun h) { group = None }) (record h { group = None })) (sym was) ∙ done in
     let undone = step_is_undone group.begun h.now (record h { group = None }) refl g stepped_from in

@@ -3,7 +3,6 @@ use Rattle.std.proofs.Common.{◌≡◌, ℕ, suc, ◌+◌, ◌-◌, ◌<◌, �
 use Rattle.std.specs.Bool.{OnFalse}
 use Rattle.std.specs.Global.{Vec}
 use Rattle.std.proofs.lemmas.List.{length-drop, length-set}
-use Rattle.term_core.specs.Tree.{Tree}
 use Rattle.std.specs.Option.{option_map_or}
 use Rattle.std.specs.Prelude.{nat_eq, if◌then◌else◌}
 use Rattle.std.specs.Cmp.Lexicographic.{pointwise}
@@ -12,8 +11,9 @@ use Rattle.change_log.specs.Contents.{Contents}
 use Rattle.change_log.specs.Slots.{Slots, Store, contents, slot_of}
 use Rattle.change_log.specs.Entries.{Entry, HasPlace, put, found, before, after, flipped_back, flipped_forward, Fits}
 use Rattle.change_log.proofs.EntryLemmas.{pushed_fits, pushed_leads_back}
-use Rattle.session_core.specs.History.{Group, stepped, changed, back_to, forward_to, step_back, step_forward}
-use Rattle.session_core.specs.Step.{step, commit, committed, inside}
+use Rattle.session_core.specs.History.{Group, History, stepped, changed, back_to, forward_to, step_back, step_forward}
+use Rattle.session_core.specs.Step.{committed, inside}
+use Rattle.session_core.specs.declared.refusal.Refusal.{Refusal}
 use Rattle.session_core.specs.Unfolded.{past_of, later_of, FitBack, FitForward, unfolded, IsCurrent, IsPlaced}
 use Rattle.session_core.specs.declared.timeline.Timeline.{Timeline}
 use Rattle.session_core.specs.declared.timeline.OpenGroup.{OpenGroup}
@@ -299,8 +299,11 @@ module _ (t : Timeline) (changed : Bool) (there : IsSome t.group) (flag : change
   flagged : opened.changed ≡ changed
   flagged = flag_of t.group opened changed is_open flag
 
-  -- what is committed, by the flag
-  committing : (ps : List Signature) → step commit (unfolded ps t) ≡ Ok (cond changed (record (stepped (contents (before t.current t.store)) (unfolded ps t)) { group = None }) (record (unfolded ps t) { group = None }))
+  -- what closing the group leaves, by the flag
+  abbrev closing : List Signature → Result History Refusal
+  closing ps = inside (unfolded ps t).group (λ g. Ok (committed g (unfolded ps t)))
+
+  committing : (ps : List Signature) → closing ps ≡ Ok (cond changed (record (stepped (contents (before t.current t.store)) (unfolded ps t)) { group = None }) (record (unfolded ps t) { group = None }))
   committing ps =
       ap (λ o. inside o (λ g. Ok (committed g (unfolded ps t)))) (group_seen t.group opened (contents (before t.current t.store)) is_open)
       ∙ ap (λ b. Ok (cond b (record (stepped (contents (before t.current t.store)) (unfolded ps t)) { group = None }) (record (unfolded ps t) { group = None }))) flagged
@@ -314,7 +317,7 @@ module _ (t : Timeline) (changed : Bool) (there : IsSome t.group) (flag : change
     current = subst (λ b. OnFalse b (t.current ≡ [])) (flagged ∙ none) (subst (λ g. IsCurrent g t.current) is_open h.current);
   }
 
-  pub kept_unfolded : changed ≡ false → (ps : List Signature) → step commit (unfolded ps t) ≡ Ok (unfolded ps (record t { group = None }))
+  pub kept_unfolded : changed ≡ false → (ps : List Signature) → closing ps ≡ Ok (unfolded ps (record t { group = None }))
   kept_unfolded none ps =
       committing ps ∙ ap (λ b. Ok (cond b (record (stepped (contents (before t.current t.store)) (unfolded ps t)) { group = None }) (record (unfolded ps t) { group = None }))) none
 
@@ -334,7 +337,7 @@ module _ (t : Timeline) (changed : Bool) (there : IsSome t.group) (flag : change
       current = empty;
     }
 
-    pub committed_unfolded : changed ≡ true → (ps : List Signature) → step commit (unfolded ps t) ≡ Ok (unfolded ps (record t { logs = logs; position = t.position + 1; group = None; current = new }))
+    pub committed_unfolded : changed ≡ true → (ps : List Signature) → closing ps ≡ Ok (unfolded ps (record t { logs = logs; position = t.position + 1; group = None; current = new }))
     committed_unfolded some ps =
         let past : past_of (take t.position t.logs.items) (before t.current t.store) ++ contents (before t.current t.store) ∷ [] ≡ past_of (take (t.position + 1) logs.items) (before new t.store) =
         sym (grouped_past t.logs.items t.position t.store t.current h.within) ∙ (λ i. past_of (take (t.position + 1) (sym whole i)) (sym begins i)) in

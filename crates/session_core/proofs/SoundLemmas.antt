@@ -1,5 +1,5 @@
 -- What a step leaves is sound.
-use Rattle.std.proofs.Common.{◌≡◌, ◌≤◌, ◌+◌, ◌-◌, ℕ, zero, suc, Bool, true, false, ◌&&◌, cond, List, [], ◌∷◌, ◌++◌, length, set, slice_get, Option, Some, None, IfSome, Result, Ok, Err, OnOk, OnErr, ok_or, option_and_then, refl, sym, ap, subst, arith}
+use Rattle.std.proofs.Common.{◌≡◌, ◌≤◌, ◌+◌, ◌-◌, ℕ, zero, suc, Bool, true, false, ◌&&◌, cond, List, [], ◌∷◌, ◌++◌, length, set, slice_get, Option, Some, None, IfSome, Result, Ok, Err, OnOk, OnErr, ok_or, option_and_then, refl, sym, ap, subst, ◌∙◌, arith}
 use Rattle.std.specs.Option.{option_map_or}
 use Rattle.std.specs.List.{AllByRecursion, list_all}
 use Rattle.std.specs.Ordering.{nat_cmp, eq_by_cmp}
@@ -18,7 +18,7 @@ use Rattle.strategy_check.specs.Faults.{Primitives}
 use Rattle.change_log.specs.Contents.{Contents, Named, no_contents, without_tree}
 use Rattle.session_core.specs.Modules.{Texts, ReadsModule, AreReadable, AreRead, Finds}
 use Rattle.session_core.specs.History.{Group, History, stepped, changed, newest, older, back_to, forward_to, step_back, step_forward, undone, redone, AreLow, AreFormed, AreSound, IsSoundNow, IsSound}
-use Rattle.session_core.specs.Step.{Act, set_tree, copy_tree, drop_tree, put, annotate, undo, redo, begin, commit, abandon, step, with_some, outside, inside, committed, retold}
+use Rattle.session_core.specs.Step.{Act, set_tree, copy_tree, drop_tree, put, annotate, undo, redo, begin, abandon, step, with_some, outside, inside, committed, retold}
 use Rattle.session_core.specs.declared.refusal.Refusal.{Refusal}
 use Rattle.session_core.specs.declared.refusal.Refusal.TheVariants.{Path, Big, NoUndo, NoRedo}
 use Rattle.session_core.proofs.MapLemmas.{no_keys}
@@ -167,7 +167,7 @@ sound_changed c h s k f = by h.group refl s.1
     by : (o : Option Group) → h.group ≡ o → IsSoundNow h.primitives h.now o
         → IsSound (option_map_or (λ g. record h { now = c; group = Some (record g { changed = true }) }) o (record (stepped h.now h) { now = c }))
     by None e n = (All-push (AreSound h.primitives) h.past h.now s.0 n, subst (IsSoundNow h.primitives c) (sym e) (k, f e), tt)
-    by (Some group) e n = (s.0, (k, n.1), s.2)
+    by (Some group) e n = (s.0, (k, n.1, tt), s.2)
 
 -- a change of the trees leaves the modules as they are
 sound_trees : (trees : Named Tree) (h : History) → IsSound h → AreLow trees → IsSound (changed (record h.now { trees = trees }) h)
@@ -248,66 +248,107 @@ the_group (Some group) next g e = (group, refl, e)
 low_now : (h : History) → IsSound h → AreLow h.now.trees
 low_now h s = (formed_now h.primitives h.now h.group s.1).0
 
--- what an act asks of a sound history: a group is committed where the checker finds no fault
-abbrev pub Asks : Act → History → Type 0
-Asks (set_tree name tree) h = Unit {0}
-Asks (copy_tree name copy) h = Unit {0}
-Asks (drop_tree name) h = Unit {0}
-Asks (put name path part) h = Unit {0}
-Asks (annotate name path us) h = Unit {0}
-Asks (undo k) h = Unit {0}
-Asks (redo k) h = Unit {0}
-Asks begin h = Unit {0}
-Asks commit h = Finds h.primitives h.now.modules None
-Asks abandon h = Unit {0}
+pub sound_committed : (group : Group) (h : History) → IsSound h → h.group ≡ Some group → Finds h.primitives h.now.modules None → IsSound (committed group h)
+sound_committed group h s inside found = by group.changed
+  where
+    now : AreSound h.primitives h.now
+    now = (formed_now h.primitives h.now h.group s.1, found)
 
-pub step_sound : (act : Act) (h g : History) → IsSound h → Asks act h → step act h ≡ Ok g → IsSound g
-step_sound (set_tree name tree) h g s _ e =
+    by : (b : Bool) → IsSound (cond b (record (stepped group.begun h) { group = None }) (record h { group = None }))
+    by true = (All-push (AreSound h.primitives) h.past group.begun s.0 (sound_begun h group s inside), now, tt)
+    by false = (s.0, now, s.2)
+
+pub step_sound : (act : Act) (h g : History) → IsSound h → step act h ≡ Ok g → IsSound g
+step_sound (set_tree name tree) h g s e =
     let done = chosen (fits 0 tree) (retold h name tree) g Big e in
     let low = height_of_fit 0 tree done.0 in
     subst IsSound done.1 (sound_trees (finmap.insert h.now.trees name tree) h s (low_with_tree h.now.trees name tree (low_now h s) (omega (arith, low))))
-step_sound (copy_tree name copy) h g s _ e =
+step_sound (copy_tree name copy) h g s e =
     let found = the_tree (get h.now.trees name) (λ t. Ok (retold h copy t)) g e in
     subst IsSound (same_Ok g (retold h copy found.0) found.2) (sound_trees (finmap.insert h.now.trees copy found.0) h s (low_with_tree h.now.trees copy found.0 (low_now h s) (low_tree h name found.0 s found.1)))
-step_sound (drop_tree name) h g s _ e =
+step_sound (drop_tree name) h g s e =
     let found = the_tree (get h.now.trees name) (λ t. Ok (changed (without_tree h.now name) h)) g e in
     subst IsSound (same_Ok g (changed (without_tree h.now name) h) found.2) (sound_trees (finmap.remove h.now.trees name) h s (low_without_tree h.now.trees name (low_now h s)))
-step_sound (put name path part) h g s _ e =
+step_sound (put name path part) h g s e =
     let found = the_tree (get h.now.trees name) (λ t. cond (leads t path) (cond (fits (length path) part) (Ok (retold h name (set_at t path part))) (Err Big)) (Err Path)) g e in
     let tree = set_at found.0 path part in
     let done = chosen (fits (length path) part) (retold h name tree) g Big (led (leads found.0 path) _ g found.2) in
     subst IsSound done.1 (sound_trees (finmap.insert h.now.trees name tree) h s (low_with_tree h.now.trees name tree (low_now h s) (height_of_set found.0 part path (low_tree h name found.0 s found.1) done.0)))
-step_sound (annotate name path us) h g s _ e =
+step_sound (annotate name path us) h g s e =
     let fit = list_all (fits (length path + 1)) us in
     let found = the_tree (get h.now.trees name) (λ t. cond (leads t path) (cond fit (Ok (retold h name (set_annotations_at t path us))) (Err Big)) (Err Path)) g e in
     let tree = set_annotations_at found.0 path us in
     let done = chosen fit (retold h name tree) g Big (led (leads found.0 path) _ g found.2) in
     subst IsSound done.1 (sound_trees (finmap.insert h.now.trees name tree) h s (low_with_tree h.now.trees name tree (low_now h s) (height_of_annotated found.0 us path (low_tree h name found.0 s found.1) done.0)))
-step_sound (undo k) h g s _ e =
+step_sound (undo k) h g s e =
     let there = when_outside h.group _ g e in
     sound_whole g (whole_undone k h g (whole h s there.0) (ok_or-Ok (undone k h) NoUndo g there.1))
-step_sound (redo k) h g s _ e =
+step_sound (redo k) h g s e =
     let there = when_outside h.group _ g e in
     sound_whole g (whole_redone k h g (whole h s there.0) (ok_or-Ok (redone k h) NoRedo g there.1))
-step_sound begin h g s _ e =
+step_sound begin h g s e =
     let there = when_outside h.group _ g e in
     let now = sound_outside h s there.0 in
-    subst IsSound (same_Ok g _ there.1) (s.0, (now.0, now), s.2)
-step_sound commit h g s found e =
-    let there = the_group h.group (λ group. Ok (committed group h)) g e in
-    subst IsSound (same_Ok g (committed there.0 h) there.2) (by there.0 (sound_begun h there.0 s there.1) there.0.changed)
-  where
-    now : AreSound h.primitives h.now
-    now = (formed_now h.primitives h.now h.group s.1, found)
-
-    by : (group : Group) → AreSound h.primitives group.begun → (b : Bool) → IsSound (cond b (record (stepped group.begun h) { group = None }) (record h { group = None }))
-    by group k true = (All-push (AreSound h.primitives) h.past group.begun s.0 k, now, tt)
-    by group k false = (s.0, now, s.2)
-step_sound abandon h g s _ e =
+    subst IsSound (same_Ok g _ there.1) (s.0, (now.0, now, refl), s.2)
+step_sound abandon h g s e =
     let there = the_group h.group (λ group. Ok (record h { now = group.begun; group = None })) g e in
     subst IsSound (same_Ok g (record h { now = there.0.begun; group = None }) there.2) (s.0, sound_begun h there.0 s there.1, s.2)
 
 -- an act that is accepted leaves what the machine does, and a refused one leaves all
-pub act_sound : {A E : Type 0} (act : Act) (r : Result A E) (old new : History) → Asks act old → OnOk r (step act old ≡ Ok new) → OnErr r (new ≡ old) → IsSound old → IsSound new
-act_sound act (Ok x) old new asks ok err s = step_sound act old new s asks ok
-act_sound act (Err e) old new asks ok err s = subst IsSound (sym err) s
+pub act_sound : {A E : Type 0} (act : Act) (r : Result A E) (old new : History) → OnOk r (step act old ≡ Ok new) → OnErr r (new ≡ old) → IsSound old → IsSound new
+act_sound act (Ok x) old new ok err s = step_sound act old new s ok
+act_sound act (Err e) old new ok err s = subst IsSound (sym err) s
+
+-- ---- steps that leave the modules
+
+pub now_changed : (c : Contents) (h : History) → (changed c h).now ≡ c
+now_changed c h = by h.group
+  where
+    by : (o : Option Group) → (option_map_or (λ g. record h { now = c; group = Some (record g { changed = true }) }) o (record (stepped h.now h) { now = c })).now ≡ c
+    by None = refl
+    by (Some g) = refl
+
+-- which acts leave the modules as they are
+abbrev pub LeavesModules : Act → Type 0
+LeavesModules (set_tree name tree) = Unit {0}
+LeavesModules (copy_tree name copy) = Unit {0}
+LeavesModules (drop_tree name) = Unit {0}
+LeavesModules (put name path part) = Unit {0}
+LeavesModules (annotate name path us) = Unit {0}
+LeavesModules (undo k) = ⊥
+LeavesModules (redo k) = ⊥
+LeavesModules begin = Unit {0}
+LeavesModules abandon = ⊥
+
+trees_changed : (trees : Named Tree) (h g : History) → changed (record h.now { trees = trees }) h ≡ g → g.now.modules ≡ h.now.modules
+trees_changed trees h g e = ap (λ (x : History). x.now.modules) (sym e) ∙ ap (λ (c : Contents). c.modules) (now_changed (record h.now { trees = trees }) h)
+
+pub step_leaves : (act : Act) (h g : History) → LeavesModules act → step act h ≡ Ok g → g.now.modules ≡ h.now.modules
+step_leaves (set_tree name tree) h g _ e = trees_changed (finmap.insert h.now.trees name tree) h g (chosen (fits 0 tree) (retold h name tree) g Big e).1
+step_leaves (copy_tree name copy) h g _ e =
+    let found = the_tree (get h.now.trees name) (λ t. Ok (retold h copy t)) g e in
+    trees_changed (finmap.insert h.now.trees copy found.0) h g (same_Ok g (retold h copy found.0) found.2)
+step_leaves (drop_tree name) h g _ e =
+    let found = the_tree (get h.now.trees name) (λ t. Ok (changed (without_tree h.now name) h)) g e in
+    trees_changed (finmap.remove h.now.trees name) h g (same_Ok g (changed (without_tree h.now name) h) found.2)
+step_leaves (put name path part) h g _ e =
+    let found = the_tree (get h.now.trees name) (λ t. cond (leads t path) (cond (fits (length path) part) (Ok (retold h name (set_at t path part))) (Err Big)) (Err Path)) g e in
+    let tree = set_at found.0 path part in
+    trees_changed (finmap.insert h.now.trees name tree) h g (chosen (fits (length path) part) (retold h name tree) g Big (led (leads found.0 path) _ g found.2)).1
+step_leaves (annotate name path us) h g _ e =
+    let fit = list_all (fits (length path + 1)) us in
+    let found = the_tree (get h.now.trees name) (λ t. cond (leads t path) (cond fit (Ok (retold h name (set_annotations_at t path us))) (Err Big)) (Err Path)) g e in
+    let tree = set_annotations_at found.0 path us in
+    trees_changed (finmap.insert h.now.trees name tree) h g (chosen fit (retold h name tree) g Big (led (leads found.0 path) _ g found.2)).1
+step_leaves (undo k) h g leaves e = absurd leaves
+step_leaves (redo k) h g leaves e = absurd leaves
+step_leaves begin h g _ e = ap (λ (x : History). x.now.modules) (sym (same_Ok g _ (when_outside h.group _ g e).1))
+step_leaves abandon h g leaves e = absurd leaves
+
+-- and so does the end of a group
+pub committed_leaves : (group : Group) (h : History) → (committed group h).now ≡ h.now
+committed_leaves group h = by group.changed
+  where
+    by : (b : Bool) → (cond b (record (stepped group.begun h) { group = None }) (record h { group = None })).now ≡ h.now
+    by true = refl
+    by false = refl

@@ -1,8 +1,9 @@
 -- What a session holds: the contents now, those from before each step, those that were undone, and
 -- the group that is open.
-use Rattle.std.specs.Prelude.{◌≤◌, ℕ, zero, suc, Bool, true, List, [], ◌∷◌, ◌++◌, Some, None, IfSome, option_and_then}
+use Rattle.std.specs.Prelude.{◌≡◌, ◌≤◌, ℕ, zero, suc, Bool, true, List, [], ◌∷◌, ◌++◌, Some, None, IfSome, option_and_then}
 use Rattle.std.specs.declared.option.Option.{Option}
 use Rattle.std.specs.Option.{option_map_or}
+use Rattle.std.specs.Bool.{OnFalse}
 use Rattle.std.specs.List.{AllByRecursion}
 use Rattle.std.specs.FinMap as finmap
 use Rattle.term_core.specs.Size.{height}
@@ -97,10 +98,11 @@ abbrev pub AreSound : Primitives → Contents → Type 0
 AreSound primitives c = AreFormed c × Finds primitives c.modules None
 
 -- The contents now are sound outside a group. Inside one they are well formed, and those where it
--- began are sound.
+-- began are sound; these are still those now where nothing was changed.
 abbrev pub IsSoundNow : Primitives → Contents → Option Group → Type 0
 IsSoundNow primitives c None = AreSound primitives c
-IsSoundNow primitives c (Some g) = AreFormed c × AreSound primitives g.begun
+IsSoundNow primitives c (Some g) =
+    AreFormed c × AreSound primitives g.begun × OnFalse g.changed (c ≡ g.begun)
 
 -- All contents of a history are sound: the past, those now and the later ones.
 abbrev pub IsSound : History → Type 0

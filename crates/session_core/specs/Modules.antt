@@ -1,5 +1,5 @@
 -- Modules in the contents of a session: what their texts give, and what the checker finds in them.
-use Rattle.std.specs.Prelude.{◌≡◌, ◌<◌, ◌≤◌, ◌⊎◌, ℕ, List, [], ◌∷◌, length, Some, None, Ok, Err, IfSome, IsSomeAnd}
+use Rattle.std.specs.Prelude.{◌≡◌, ◌<◌, ◌≤◌, ◌⊎◌, ℕ, List, [], ◌∷◌, length, Some, Ok, Err, IfSome, IsSomeAnd}
 use Rattle.std.specs.declared.option.Option.{Option}
 use Rattle.std.specs.declared.result.Result.{Result}
 use Rattle.std.specs.FinMap as finmap
@@ -9,6 +9,8 @@ use Rattle.strategy_parse.specs.Tokens.{tokens}
 use Rattle.strategy_parse.specs.Gives.{GivesModule}
 use Rattle.strategy_check.specs.Tables.{Modules}
 use Rattle.strategy_check.specs.Faults.{Fault, Primitives, faults, first}
+use Rattle.strategy_check.specs.Programs.{Program, program}
+use Rattle.strategy_check.specs.Ranges.{IsSound}
 use Rattle.change_log.specs.Contents.{Named}
 use Rattle.session_core.specs.declared.refusal.Refusal.{Refusal}
 use Rattle.session_core.specs.declared.refusal.Refusal.TheVariants.{Memory, Deep, Syntax, Check}
@@ -48,6 +50,18 @@ pub record Finds (primitives : Primitives) (texts : Texts) (found : Option Fault
   pub modules : Modules
   pub are : AreModules texts modules
   pub fault : found ≡ first (faults modules primitives)
+
+-- The program that these texts give with these primitives. The checker finds no fault in their modules.
+pub record IsProgram (primitives : Primitives) (texts : Texts) (checked : Program) : Type 0 where
+  pub modules : Modules
+  pub are : AreModules texts modules
+  pub faultless : faults modules primitives ≡ []
+  pub given : checked ≡ program modules primitives
+  pub in_range : IsSound checked primitives
+
+-- A program that is kept is that of these texts.
+abbrev pub IsKept : Primitives → Texts → Option Program → Type 0
+IsKept primitives texts kept = IfSome kept (IsProgram primitives texts)
 
 -- the refusal that tells a fault
 abbrev pub refusal_of : Fault → Refusal

@@ -33,9 +33,8 @@ pub data Act : Type 0 where
   undo : ℕ → Act
   -- goes so many places forward
   redo : ℕ → Act
-  -- begins a group, makes what it changed one step (see `Commits`), or takes that back
+  -- begins a group, or takes back what it changed
   begin : Act
-  commit : Act
   abandon : Act
 
 -- what is done with a tree, if there is one
@@ -56,7 +55,7 @@ with_place h name path next =
 abbrev pub retold : History → List ℕ → Tree → History
 retold h name tree = changed (with_tree h.now name tree) h
 
--- An open group is committed: as one step where something was changed in it.
+-- What an open group changed becomes one step, where something was changed in it.
 abbrev pub committed : Group → History → History
 committed g h =
     if g.changed then record (stepped g.begun h) { group = None } else record h { group = None }
@@ -87,7 +86,6 @@ step (annotate name path annotations) h =
 step (undo k) h = outside h.group (ok_or (undone k h) NoUndo)
 step (redo k) h = outside h.group (ok_or (redone k h) NoRedo)
 step begin h = outside h.group (Ok (record h { group = Some (record { begun = h.now; changed = false }) }))
-step commit h = inside h.group (λ g. Ok (committed g h))
 step abandon h = inside h.group (λ g. Ok (record h { now = g.begun; group = None }))
 
 -- ---- modules
@@ -123,7 +121,7 @@ abbrev pub Commits : History → Result History Refusal → Type 0
 Commits h reply =
     MatchOption h.group (reply ≡ Err NoGroup)
     (λ g. (found : Option Fault) × Finds h.primitives h.now.modules found
-    × (reply ≡ unless found (step commit h)))
+    × (reply ≡ unless found (Ok (committed g h))))
 
 -- ---- changes
 
@@ -137,7 +135,6 @@ IsChange (annotate name path annotations) = Unit {0}
 IsChange (undo k) = ⊥
 IsChange (redo k) = ⊥
 IsChange begin = ⊥
-IsChange commit = ⊥
 IsChange abandon = ⊥
 
 -- an accepted change: of a tree, or of the modules

@@ -8,7 +8,7 @@ ghost use Rattle.term_core.specs.Tree.{Tree};
 ghost use Rattle.term_core.specs.Size.{fits};
 ghost use Rattle.prim_core.specs.Signature.{Signature};
 ghost use Rattle.session_core.specs.History.{History};
-ghost use Rattle.session_core.specs.Step.{step, set_tree, copy_tree, drop_tree, put, annotate, undo, redo, begin, commit, abandon, with_place};
+ghost use Rattle.session_core.specs.Step.{step, set_tree, copy_tree, drop_tree, put, annotate, undo, redo, begin, abandon, with_place};
 ghost use Rattle.session_core.specs.Unfolded.{unfolded, IsPlaced, IsPlaceOf};
 
 use crate::{Refusal, Timeline};
@@ -211,25 +211,6 @@ impl Timeline {
             return Err(Refusal::Group);
         }
         self.open_group();
-        Ok(())
-    }
-
-    /// Makes what the open group changed one step, and closes it.
-    pub(crate) fn commit(&mut self) -> Result<(), Refusal>
-        requires { IsPlaced self.old }
-        ensures placed { IsPlaced self.new }
-        ensures ok { OnOk result ((ps : List Signature) → step commit
-            (unfolded ps self.old) ≡ Ok (unfolded ps self.new)) }
-        ensures refused { IfErr result (λ refusal. (refusal ≡ Refusal.Memory)
-            ⊎ ((ps : List Signature) → step commit (unfolded ps self.old)
-            ≡ Err refusal)) }
-        ensures err { OnErr result ((ps : List Signature) → unfolded ps self.new
-            ≡ unfolded ps self.old) }
-    {
-        if !self.in_group() {
-            return Err(Refusal::NoGroup);
-        }
-        self.close_group()?;
         Ok(())
     }
 

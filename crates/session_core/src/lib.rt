@@ -1,4 +1,5 @@
-//! Sessions: named trees, with every accepted change kept so that it can be undone and redone.
+//! Sessions: named trees and modules, with every accepted change kept so that it can be undone and
+//! redone.
 #![tactic(auto)]
 
 mod acts;

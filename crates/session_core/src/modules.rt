@@ -4,27 +4,27 @@ ghost use Rattle.std.specs.Prelude.{◌≡◌, ◌⊎◌, Ok, Err, None, IfOk, I
 ghost use Rattle.std.specs.FinMap as finmap;
 ghost use Rattle.change_log.specs.Slots.{contents};
 ghost use Rattle.session_core.specs.Step.{SetsModule, Unloads, Commits};
-ghost use Rattle.session_core.specs.Modules.{ReadsModule, AreModules, AreReadable, AreRefused, Finds, IsUnread};
+ghost use Rattle.session_core.specs.Modules.{ReadsModule, AreModules, AreReadable, AreRefused, Finds, IsProgram, IsKept, IsUnread};
 ghost use Rattle.session_core.specs.Unfolded.{unfolded, IsPlaced};
 
 use crate::{Refusal, Timeline};
 use change_log::{Entry, Store};
 use prim_core::{Meaning, Primitives};
 use std::alloc::Global;
-use strategy_check::{CheckFault, check};
+use strategy_check::{CheckFault, Program, check};
 use strategy_parse::{ParseFault, parse_module};
 use strategy_syntax::Module;
 use term_core::{Label, NoMemory};
 
 impl Timeline {
     /// Gives the name this module text. Outside a group the checker has to find no fault in the modules
-    /// then.
+    /// then, and their program is given.
     pub(crate) fn set_module<M: Meaning>(
         &mut self,
         primitives: &Primitives<M>,
         name: &Label,
         text: &[u8],
-    ) -> Result<(), Refusal>
+    ) -> Result<Option<Program>, Refusal>
         requires placed { IsPlaced self.old }
         requires readable { AreReadable (contents self.old.store).modules }
         ensures placed { IsPlaced self.new }
@@ -34,13 +34,19 @@ impl Timeline {
             ⊎ SetsModule name.now text.now (unfolded primitives.now self.old) (Err refusal)) }
         ensures err { OnErr result (unfolded primitives.now self.new
             ≡ unfolded primitives.now self.old) }
+        ensures program { IfOk result (λ program. IsKept primitives.now
+            (contents self.new.store).modules program) }
     {
         if self.in_group() {
-            return self.set_module_in_group(primitives, name, text);
+            self.set_module_in_group(primitives, name, text)?;
+            return Ok(None);
         }
         let copy = copied(self.allocator(), text)?;
         let slot = self.module_slot(name)?;
-        self.change_checked(primitives, Entry::text(slot, Some(copy)))
+        match self.change_checked(primitives, Entry::text(slot, Some(copy))) {
+            Ok(program) => Ok(Some(program)),
+            Err(refusal) => Err(refusal),
+        }
     }
 
     // In a group the text has to give a module; the checker waits for the end of the group.
@@ -68,12 +74,12 @@ impl Timeline {
     }
 
     /// Takes the module of the name away. Outside a group the checker has to find no fault in the modules
-    /// then.
+    /// then, and their program is given.
     pub(crate) fn unload<M: Meaning>(
         &mut self,
         primitives: &Primitives<M>,
         name: &Label,
-    ) -> Result<(), Refusal>
+    ) -> Result<Option<Program>, Refusal>
         requires placed { IsPlaced self.old }
         requires readable { AreReadable (contents self.old.store).modules }
         ensures placed { IsPlaced self.new }
@@ -83,6 +89,8 @@ impl Timeline {
             ⊎ Unloads name.now (unfolded primitives.now self.old) (Err refusal)) }
         ensures err { OnErr result (unfolded primitives.now self.new
             ≡ unfolded primitives.now self.old) }
+        ensures program { IfOk result (λ program. IsKept primitives.now
+            (contents self.new.store).modules program) }
     {
         let Some(slot) = self.store.find_module(name) else {
             return Err(Refusal::NoModule);
@@ -92,19 +100,24 @@ impl Timeline {
         }
         if self.in_group() {
             self.change_in_group(Entry::text(slot, None))?;
-            return Ok(());
+            return Ok(None);
         }
-        self.change_checked(primitives, Entry::text(slot, None))
+        match self.change_checked(primitives, Entry::text(slot, None)) {
+            Ok(left) => Ok(Some(left)),
+            Err(refusal) => Err(refusal),
+        }
     }
 
     /// Makes what the open group changed one step, and closes it, where the checker finds no fault in the
-    /// modules now.
-    pub(crate) fn commit_checked<M: Meaning>(
+    /// modules now. It isn't asked where their program is known.
+    pub(crate) fn commit<M: Meaning>(
         &mut self,
         primitives: &Primitives<M>,
+        program: &mut Option<Program>,
     ) -> Result<(), Refusal>
         requires placed { IsPlaced self.old }
         requires readable { AreReadable (contents self.old.store).modules }
+        requires program { IsKept primitives.now (contents self.old.store).modules program.old }
         ensures placed { IsPlaced self.new }
         ensures ok { OnOk result (Commits (unfolded primitives.now self.old)
             (Ok (unfolded primitives.now self.new))) }
@@ -112,24 +125,47 @@ impl Timeline {
             ⊎ Commits (unfolded primitives.now self.old) (Err refusal)) }
         ensures err { OnErr result (unfolded primitives.now self.new
             ≡ unfolded primitives.now self.old) }
+        ensures program { IsKept primitives.now (contents self.new.store).modules program.new }
     {
         if !self.in_group() {
             return Err(Refusal::NoGroup);
         }
-        match check_modules(self.allocator(), &self.store, primitives) {
-            Ok(()) => self.commit(),
+        match keep_program(self.allocator(), &self.store, primitives, program) {
+            Ok(()) => Ok(self.close_group()?),
             Err(refusal) => Err(refusal),
         }
     }
 }
 
-/// Tells whether the checker finds no fault in the modules of the store.
+// Keeps the program of the modules of the store, where the checker finds no fault in them. A program
+// that is kept already is theirs.
+fn keep_program<M: Meaning>(
+    alloc: Global,
+    store: &Store,
+    primitives: &Primitives<M>,
+    program: &mut Option<Program>,
+) -> Result<(), Refusal>
+    requires { IsKept primitives.now (contents store.now).modules program.old }
+    ensures ok { OnOk result (Finds primitives.now (contents store.now).modules None) }
+    ensures refused { IfErr result (λ refusal. AreRefused primitives.now
+        (contents store.now).modules refusal) }
+    ensures program { IsKept primitives.now (contents store.now).modules program.new }
+{
+    if program.is_some() {
+        return Ok(());
+    }
+    *program = Some(check_modules(alloc, store, primitives)?);
+    Ok(())
+}
+
+/// The program of the modules of the store, where the checker finds no fault in them.
 pub(crate) fn check_modules<M: Meaning>(
     alloc: Global,
     store: &Store,
     primitives: &Primitives<M>,
-) -> Result<(), Refusal>
-    ensures ok { OnOk result (Finds primitives.now (contents store.now).modules None) }
+) -> Result<Program, Refusal>
+    ensures ok { IfOk result (λ program. IsProgram primitives.now
+        (contents store.now).modules program) }
     ensures refused { IfErr result (λ refusal. AreRefused primitives.now
         (contents store.now).modules refusal) }
 {
@@ -138,7 +174,7 @@ pub(crate) fn check_modules<M: Meaning>(
         Err(refusal) => return Err(refusal),
     };
     match check(alloc, &modules, primitives) {
-        Ok(_) => Ok(()),
+        Ok(program) => Ok(program),
         Err(CheckFault::Memory) => Err(Refusal::Memory),
         Err(CheckFault::Fault(kind, name, first, second)) => {
             Err(Refusal::Check(kind, name, first, second))

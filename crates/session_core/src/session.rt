@@ -10,15 +10,18 @@ use crate::{Refusal, Timeline};
 use prim_core::{Meaning, Primitives};
 use std::alloc::Global;
 use std::marker::Model;
+use strategy_check::Program;
 use term_core::{Label, NoMemory, Term};
 use term_paths::Path;
 
-/// Named trees, with the contents from before each step and those that were undone. A step is an
-/// accepted change, or a group of them. What is kept of a change is what it replaced.
+/// Named trees and modules, with the contents from before each step and those that were undone. A step
+/// is an accepted change, or a group of them. What is kept of a change is what it replaced.
 #[derive(Drop)]
 pub struct Session<M: Meaning> {
     primitives: Primitives<M>,
     timeline: Timeline,
+    // The program of the modules now, where the checker made it since they changed.
+    program: Option<Program>,
 }
 
 impl<M: Meaning> Model for Session<M> {
@@ -29,17 +32,20 @@ impl<M: Meaning> Model for Session<M> {
 
     ghost coded = { history_code };
 
+    ghost use Rattle.change_log.specs.Slots.{contents};
     ghost use Rattle.session_core.specs.History.{IsSound};
+    ghost use Rattle.session_core.specs.Modules.{IsKept};
     ghost use Rattle.session_core.specs.Unfolded.{unfolded, IsPlaced};
 
     ghost view = { λ a. unfolded a.primitives a.timeline };
 
-    ghost invariant = { λ a. IsPlaced a.timeline × IsSound (unfolded a.primitives a.timeline) };
+    ghost invariant = { λ a. IsPlaced a.timeline × IsSound (unfolded a.primitives a.timeline)
+        × IsKept a.primitives (contents a.timeline.store).modules a.program };
 }
 
 impl<M: Meaning> Session<M> {
-    /// A session with these primitives and without trees, in which nothing can be undone or redone. It
-    /// takes no memory.
+    /// A session with these primitives and without trees and modules, in which nothing can be undone or
+    /// redone. It takes no memory.
     pub fn new(alloc: Global, primitives: Primitives<M>) -> Session<M>
         ensures value { result ≡ empty_history primitives }
         ensures sound { IsSound result }
@@ -47,6 +53,7 @@ impl<M: Meaning> Session<M> {
         Session {
             primitives,
             timeline: Timeline::new(alloc),
+            program: None,
         }
     }
 
@@ -191,7 +198,8 @@ impl<M: Meaning> Session<M> {
         ensures err { OnErr result (self.new ≡ self.old) }
         ensures sound { IsSound self.new }
     {
-        self.timeline.set_module(&self.primitives, name, text)
+        self.program = self.timeline.set_module(&self.primitives, name, text)?;
+        Ok(())
     }
 
     /// Takes the module of the name away. Where there is none, the refusal is `NoModule`. Outside a group
@@ -204,7 +212,8 @@ impl<M: Meaning> Session<M> {
         ensures err { OnErr result (self.new ≡ self.old) }
         ensures sound { IsSound self.new }
     {
-        self.timeline.unload(&self.primitives, name)
+        self.program = self.timeline.unload(&self.primitives, name)?;
+        Ok(())
     }
 
     /// Goes `n` steps back: the contents are those from before the last `n` steps, and with 0 they stay.
@@ -216,7 +225,9 @@ impl<M: Meaning> Session<M> {
         ensures err { OnErr result (self.new ≡ self.old) }
         ensures sound { IsSound self.new }
     {
-        self.timeline.undo(n)
+        self.timeline.undo(n)?;
+        self.program = None;
+        Ok(())
     }
 
     /// Goes `n` steps forward again after `undo`. In a group the refusal is `Group`; where fewer steps
@@ -228,7 +239,9 @@ impl<M: Meaning> Session<M> {
         ensures err { OnErr result (self.new ≡ self.old) }
         ensures sound { IsSound self.new }
     {
-        self.timeline.redo(n)
+        self.timeline.redo(n)?;
+        self.program = None;
+        Ok(())
     }
 
     /// Opens a group: all changes until `commit` are one step. Where a group is open, the refusal is
@@ -253,7 +266,7 @@ impl<M: Meaning> Session<M> {
         ensures err { OnErr result (self.new ≡ self.old) }
         ensures sound { IsSound self.new }
     {
-        self.timeline.commit_checked(&self.primitives)
+        self.timeline.commit(&self.primitives, &mut self.program)
     }
 
     /// Closes the group and takes back what was changed since it began; what can be undone and redone
@@ -265,6 +278,8 @@ impl<M: Meaning> Session<M> {
         ensures err { OnErr result (self.new ≡ self.old) }
         ensures sound { IsSound self.new }
     {
-        self.timeline.abandon()
+        self.timeline.abandon()?;
+        self.program = None;
+        Ok(())
     }
 }

@@ -8,8 +8,8 @@ ghost use Rattle.prim_core.specs.Signature.{Signature};
 ghost use Rattle.change_log.specs.Slots.{contents, slot_of, AreApart};
 ghost use Rattle.change_log.specs.Entries.{HasPlace, put};
 ghost use Rattle.session_core.specs.History.{empty_history, changed, step_back, step_forward, undone, redone};
-ghost use Rattle.session_core.specs.Step.{step, begin, commit, abandon};
-ghost use Rattle.session_core.specs.Modules.{Finds, AreRefused};
+ghost use Rattle.session_core.specs.Step.{step, begin, abandon, inside, committed};
+ghost use Rattle.session_core.specs.Modules.{IsProgram, AreRefused};
 ghost use Rattle.session_core.specs.Unfolded.{unfolded, IsPlaced};
 
 use crate::Refusal;
@@ -18,6 +18,7 @@ use change_log::{Entry, Log, Store};
 use prim_core::{Meaning, Primitives};
 use std::alloc::Global;
 use std::mem;
+use strategy_check::Program;
 use term_core::{Label, NoMemory, Term};
 
 /// The contents now, and the steps from and to other contents.
@@ -194,21 +195,21 @@ impl Timeline {
         Ok(())
     }
 
-    /// Makes a change as a step, where the checker finds no fault in the modules then. Else all stays as
-    /// it was.
+    /// Makes a change as a step, where the checker finds no fault in the modules then, and gives their
+    /// program. Else all stays as it was.
     pub(crate) fn change_checked<M: Meaning>(
         &mut self,
         primitives: &Primitives<M>,
         entry: Entry<'_>,
-    ) -> Result<(), Refusal>
+    ) -> Result<Program, Refusal>
         requires placed { IsPlaced self.old }
         requires place { HasPlace entry self.old.store }
         requires outside { self.old.group ≡ None }
         ensures placed { IsPlaced self.new }
         ensures ok { OnOk result (unfolded primitives.now self.new
             ≡ changed (contents (put entry.entry self.old.store)) (unfolded primitives.now self.old)) }
-        ensures found { OnOk result
-            (Finds primitives.now (contents (put entry.entry self.old.store)).modules None) }
+        ensures program { IfOk result (λ program. IsProgram primitives.now
+            (contents (put entry.entry self.old.store)).modules program) }
         ensures refused { IfErr result (λ refusal. AreRefused primitives.now
             (contents (put entry.entry self.old.store)).modules refusal) }
         ensures err { OnErr result (unfolded primitives.now self.new
@@ -220,9 +221,9 @@ impl Timeline {
         let mut log = Log::new(*self.logs.allocator());
         log.push(&mut self.store, entry)?;
         match check_modules(*self.logs.allocator(), &self.store, primitives) {
-            Ok(()) => {
+            Ok(program) => {
                 self.add_step(log);
-                Ok(())
+                Ok(program)
             }
             Err(refusal) => {
                 log.roll_back(0, &mut self.store);
@@ -326,7 +327,8 @@ impl Timeline {
         requires placed { IsPlaced self.old }
         requires inside { IsSome self.old.group }
         ensures placed { IsPlaced self.new }
-        ensures ok { OnOk result ((ps : List Signature) → step commit (unfolded ps self.old)
+        ensures ok { OnOk result ((ps : List Signature)
+            → inside (unfolded ps self.old).group (λ g. Ok (committed g (unfolded ps self.old)))
             ≡ Ok (unfolded ps self.new)) }
         ensures err { OnErr result ((ps : List Signature) → unfolded ps self.new
             ≡ unfolded ps self.old) }

@@ -1,4 +1,4 @@
-use Rattle.std.proofs.Common.{◌≡◌, ◌<◌, length, inr, refl, sym, ◌∙◌, Err}
+use Rattle.std.proofs.Common.{◌<◌, length, inr, refl, Err}
 use Rattle.strategy_parse.specs.declared.TheConstants.{MAX_TOKENS}
 use Rattle.strategy_parse.specs.Tokens.{tokens}
 use Rattle.session_core.proofs.CheckLemmas.{few_tokens}

@@ -1,4 +1,4 @@
-use Rattle.std.proofs.Common.{◌≡◌, ◌++◌, IsSome, drop}
+use Rattle.std.proofs.Common.{◌++◌, IsSome, drop}
 use Rattle.std.specs.List.{AllByRecursion}
 use Rattle.std.specs.FinMap as finmap
 use Rattle.strategy_check.specs.Tables.{Modules}

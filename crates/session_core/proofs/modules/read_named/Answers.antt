@@ -1,4 +1,4 @@
-use Rattle.std.proofs.Common.{refl, sym, inr}
+use Rattle.std.proofs.Common.{refl, sym}
 use Rattle.change_log.specs.Slots.{contents}
 use Rattle.session_core.proofs.CheckLemmas.{unnamed, text_there, named_ok, named_refused}
 use Rattle.session_core.proofs.modules.read_named.Goals as goal

@@ -1,18 +1,28 @@
+use Rattle.std.proofs.Common.{sym, subst, ◌∙◌}
+use Rattle.session_core.specs.History.{IsSound}
 use Rattle.session_core.specs.Step.{abandon}
-use Rattle.session_core.proofs.ActLemmas.{ok_seen, surely_refused_seen, err_seen, sound_seen}
+use Rattle.session_core.proofs.ActLemmas.{on_err, stepped_sound, kept_same}
 use Rattle.session_core.proofs.session.Session.abandon.Goals as goal
 
 pub invariant_of-self : goal.invariant_of-self
-invariant_of-self g c = (c.abandon.ensures.placed, sound_seen abandon c.abandon.result c.self.inside.primitives c.self.inside.timeline c.abandon.new.self c.args.self.now c.self.view_is tt c.abandon.ensures.ok c.abandon.ensures.err c.self.invariant.1)
+invariant_of-self g c = (
+  c.abandon.ensures.placed,
+  subst IsSound (sym (c.in_err-abandon.ensures.err c.self.inside.primitives)) c.self.invariant.1,
+  kept_same c.self.inside.primitives c.self.inside.timeline c.abandon.new.self c.self.inside.program (c.in_err-abandon.ensures.err c.self.inside.primitives) c.self.invariant.2,
+)
 
-pub returns-clause-ok : goal.returns-clause-ok
-returns-clause-ok g c = ok_seen abandon c.abandon.result c.self.inside.primitives c.self.inside.timeline c.abandon.new.self c.args.self.now c.self.view_is c.abandon.ensures.ok
+pub returns-in_err-abandon-clause-err : goal.returns-in_err-abandon-clause-err
+returns-in_err-abandon-clause-err g c = on_err c.from_residual.result (c.in_err-abandon.ensures.err c.self.inside.primitives ∙ c.self.view_is)
 
-pub returns-clause-refused : goal.returns-clause-refused
-returns-clause-refused g c = surely_refused_seen abandon c.abandon.result c.self.inside.primitives c.self.inside.timeline c.abandon.new.self c.args.self.now c.self.view_is c.abandon.ensures.refused
+pub returns-in_err-abandon-clause-sound : goal.returns-in_err-abandon-clause-sound
+returns-in_err-abandon-clause-sound g c = subst IsSound (sym (c.in_err-abandon.ensures.err c.self.inside.primitives)) c.self.invariant.1
 
-pub returns-clause-err : goal.returns-clause-err
-returns-clause-err g c = err_seen abandon c.abandon.result c.self.inside.primitives c.self.inside.timeline c.abandon.new.self c.args.self.now c.self.view_is c.abandon.ensures.err
+pub invariant_of-self-2 : goal.invariant_of-self-2
+invariant_of-self-2 g c = (
+  c.abandon.ensures.placed,
+  stepped_sound abandon c.abandon.result c.self.inside.primitives c.self.inside.timeline c.abandon.new.self c.args.self.now c.self.view_is c.in_ok-abandon.ensures.ok c.self.invariant.1,
+  tt,
+)
 
 pub returns-clause-sound : goal.returns-clause-sound
-returns-clause-sound g c = sound_seen abandon c.abandon.result c.self.inside.primitives c.self.inside.timeline c.abandon.new.self c.args.self.now c.self.view_is tt c.abandon.ensures.ok c.abandon.ensures.err c.self.invariant.1
+returns-clause-sound g c = stepped_sound abandon c.abandon.result c.self.inside.primitives c.self.inside.timeline c.abandon.new.self c.args.self.now c.self.view_is c.in_ok-abandon.ensures.ok c.self.invariant.1

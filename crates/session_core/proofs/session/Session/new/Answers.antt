@@ -4,7 +4,7 @@ use Rattle.session_core.proofs.SoundLemmas.{sound_no_contents}
 use Rattle.session_core.proofs.session.Session.new.Goals as goal
 
 pub invariant_of-result : goal.invariant_of-result
-invariant_of-result g c = (c.new.ensures.placed, subst IsSound (sym (c.new.ensures.value c.args.primitives)) (tt, sound_no_contents c.args.primitives, tt))
+invariant_of-result g c = (c.new.ensures.placed, subst IsSound (sym (c.new.ensures.value c.args.primitives)) (tt, sound_no_contents c.args.primitives, tt), tt)
 
 pub returns-clause-value : goal.returns-clause-value
 returns-clause-value g c = c.new.ensures.value c.args.primitives

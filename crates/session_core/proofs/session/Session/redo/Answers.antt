@@ -1,18 +1,28 @@
+use Rattle.std.proofs.Common.{sym, subst, ◌∙◌}
+use Rattle.session_core.specs.History.{IsSound}
 use Rattle.session_core.specs.Step.{redo}
-use Rattle.session_core.proofs.ActLemmas.{ok_seen, surely_refused_seen, err_seen, sound_seen}
+use Rattle.session_core.proofs.ActLemmas.{on_err, stepped_sound, kept_same}
 use Rattle.session_core.proofs.session.Session.redo.Goals as goal
 
 pub invariant_of-self : goal.invariant_of-self
-invariant_of-self g c = (c.redo.ensures.placed, sound_seen (redo c.args.n) c.redo.result c.self.inside.primitives c.self.inside.timeline c.redo.new.self c.args.self.now c.self.view_is tt c.redo.ensures.ok c.redo.ensures.err c.self.invariant.1)
+invariant_of-self g c = (
+  c.redo.ensures.placed,
+  subst IsSound (sym (c.in_err-redo.ensures.err c.self.inside.primitives)) c.self.invariant.1,
+  kept_same c.self.inside.primitives c.self.inside.timeline c.redo.new.self c.self.inside.program (c.in_err-redo.ensures.err c.self.inside.primitives) c.self.invariant.2,
+)
 
-pub returns-clause-ok : goal.returns-clause-ok
-returns-clause-ok g c = ok_seen (redo c.args.n) c.redo.result c.self.inside.primitives c.self.inside.timeline c.redo.new.self c.args.self.now c.self.view_is c.redo.ensures.ok
+pub returns-in_err-redo-clause-err : goal.returns-in_err-redo-clause-err
+returns-in_err-redo-clause-err g c = on_err c.from_residual.result (c.in_err-redo.ensures.err c.self.inside.primitives ∙ c.self.view_is)
 
-pub returns-clause-refused : goal.returns-clause-refused
-returns-clause-refused g c = surely_refused_seen (redo c.args.n) c.redo.result c.self.inside.primitives c.self.inside.timeline c.redo.new.self c.args.self.now c.self.view_is c.redo.ensures.refused
+pub returns-in_err-redo-clause-sound : goal.returns-in_err-redo-clause-sound
+returns-in_err-redo-clause-sound g c = subst IsSound (sym (c.in_err-redo.ensures.err c.self.inside.primitives)) c.self.invariant.1
 
-pub returns-clause-err : goal.returns-clause-err
-returns-clause-err g c = err_seen (redo c.args.n) c.redo.result c.self.inside.primitives c.self.inside.timeline c.redo.new.self c.args.self.now c.self.view_is c.redo.ensures.err
+pub invariant_of-self-2 : goal.invariant_of-self-2
+invariant_of-self-2 g c = (
+  c.redo.ensures.placed,
+  stepped_sound (redo c.args.n) c.redo.result c.self.inside.primitives c.self.inside.timeline c.redo.new.self c.args.self.now c.self.view_is c.in_ok-redo.ensures.ok c.self.invariant.1,
+  tt,
+)
 
 pub returns-clause-sound : goal.returns-clause-sound
-returns-clause-sound g c = sound_seen (redo c.args.n) c.redo.result c.self.inside.primitives c.self.inside.timeline c.redo.new.self c.args.self.now c.self.view_is tt c.redo.ensures.ok c.redo.ensures.err c.self.invariant.1
+returns-clause-sound g c = stepped_sound (redo c.args.n) c.redo.result c.self.inside.primitives c.self.inside.timeline c.redo.new.self c.args.self.now c.self.view_is c.in_ok-redo.ensures.ok c.self.invariant.1

@@ -1,23 +1,13 @@
-use Rattle.session_core.specs.Step.{SetsModule}
 use Rattle.session_core.specs.Unfolded.{unfolded}
 use Rattle.session_core.proofs.ModuleLemmas.{sets_sound}
-use Rattle.session_core.proofs.ActLemmas.{said_ok, said_refused, said_err, said_sound}
 use Rattle.session_core.proofs.session.Session.set_module.Goals as goal
 
-pub invariant_of-self : goal.invariant_of-self
-invariant_of-self g c = (
+pub invariant_of-self-2 : goal.invariant_of-self-2
+invariant_of-self-2 g c = (
   c.set_module.ensures.placed,
-  said_sound (SetsModule c.args.name.now c.args.text.now) c.set_module.result _ _ c.args.self.now c.self.view_is (λ g d s. sets_sound c.args.name.now c.args.text.now _ g d s) c.set_module.ensures.ok c.set_module.ensures.err c.self.invariant.1,
+  sets_sound c.args.name.now c.args.text.now (unfolded c.self.inside.primitives c.self.inside.timeline) (unfolded c.self.inside.primitives c.set_module.new.self) c.in_ok-self-inside.ensures.ok c.self.invariant.1,
+  c.in_ok-self-inside.ensures.program,
 )
 
-pub returns-clause-ok : goal.returns-clause-ok
-returns-clause-ok g c = said_ok (SetsModule c.args.name.now c.args.text.now) c.set_module.result _ _ c.args.self.now c.self.view_is c.set_module.ensures.ok
-
-pub returns-clause-refused : goal.returns-clause-refused
-returns-clause-refused g c = said_refused (SetsModule c.args.name.now c.args.text.now) c.set_module.result _ (unfolded c.self.inside.primitives c.set_module.new.self) c.args.self.now c.self.view_is c.set_module.ensures.refused
-
-pub returns-clause-err : goal.returns-clause-err
-returns-clause-err g c = said_err (SetsModule c.args.name.now c.args.text.now) c.set_module.result _ _ c.args.self.now c.self.view_is c.set_module.ensures.err
-
 pub returns-clause-sound : goal.returns-clause-sound
-returns-clause-sound g c = said_sound (SetsModule c.args.name.now c.args.text.now) c.set_module.result _ _ c.args.self.now c.self.view_is (λ g d s. sets_sound c.args.name.now c.args.text.now _ g d s) c.set_module.ensures.ok c.set_module.ensures.err c.self.invariant.1
+returns-clause-sound g c = sets_sound c.args.name.now c.args.text.now (unfolded c.self.inside.primitives c.self.inside.timeline) (unfolded c.self.inside.primitives c.set_module.new.self) c.in_ok-self-inside.ensures.ok c.self.invariant.1

@@ -1,7 +1,4 @@
-use Rattle.std.proofs.Common.{sym, ap, ◌∙◌}
-use Rattle.change_log.specs.Contents.{with_module}
-use Rattle.change_log.specs.Slots.{contents}
-use Rattle.session_core.specs.History.{changed}
+use Rattle.std.proofs.Common.{◌∙◌}
 use Rattle.session_core.specs.Unfolded.{unfolded}
 use Rattle.session_core.proofs.ActLemmas.{on_err}
 use Rattle.session_core.proofs.CheckLemmas.{group_of, set_inside, text_told}

@@ -1,11 +1,13 @@
-use Rattle.std.proofs.Common.{refl, sym, ap, subst, ◌∙◌, inr, None}
-use Rattle.change_log.specs.Entries.{HasPlace}
+use Rattle.std.proofs.Common.{refl, sym, ap, subst, ◌∙◌, inr}
+use Rattle.change_log.specs.Contents.{Contents, without_module}
+use Rattle.change_log.specs.Slots.{contents}
+use Rattle.change_log.specs.Entries.{HasPlace, put}
 use Rattle.session_core.specs.History.{changed}
-use Rattle.session_core.specs.Modules.{Finds, AreRefused}
+use Rattle.session_core.specs.Modules.{IsProgram, AreRefused}
 use Rattle.session_core.specs.Unfolded.{unfolded}
 use Rattle.session_core.proofs.PlaceLemmas.{slot_within}
-use Rattle.session_core.proofs.ActLemmas.{on_err, both_ok, each_refusal, seen_none, seen_some, closed_group}
-use Rattle.session_core.proofs.CheckLemmas.{text_missing, text_there, text_taken, unload_none, unload_found, unload_refused, unload_inside, group_of}
+use Rattle.session_core.proofs.ActLemmas.{on_err, seen_none, seen_some, closed_group}
+use Rattle.session_core.proofs.CheckLemmas.{text_missing, text_there, text_taken, unload_none, unload_found, unload_refused, unload_inside, group_of, program_found, program_then}
 use Rattle.session_core.proofs.timeline.Timeline.unload.Goals as goal
 
 pub returns-in_default-clause-refused : goal.returns-in_default-clause-refused
@@ -37,28 +39,29 @@ pub change_checked-requires-clause-place : goal.change_checked-requires-clause-p
 change_checked-requires-clause-place g c =
     subst (λ e. HasPlace e c.args.self.now.store) (sym c.text-2.ensures) (slot_within c.args.self.now.store.modules c.args.name.now c.in-Some.slot (sym c.in-Some.ensures.slot))
 
-pub returns-clause-ok : goal.returns-clause-ok
-returns-clause-ok g c =
+pub returns-in-Ok-clause-ok : goal.returns-in-Ok-clause-ok
+returns-in-Ok-clause-ok g c =
     let ps = c.args.primitives.now in
     let t = c.args.self.now in
     let name = c.args.name.now in
     let there = seen_some c.«module».result _ c.«module».ensures c.if-is_none.ensures in
     let taken = text_taken t name c.in-Some.slot c.text-2.result c.find_module.ensures.apart (sym c.in-Some.ensures.slot) c.text-2.ensures in
-    both_ok c.change_checked.result
-    (λ done finds.
-    unload_found (unfolded ps t) name there.0 (text_there t.store name c.find_module.ensures.apart c.in-Some.slot there.0 c.in-Some.ensures.slot there.1) (unfolded ps c.change_checked.new.self) (closed_group t ps (c.in_group.ensures.closed c.if-in_group.false))
-    (subst (λ now. Finds ps now.modules None) taken finds) (done ∙ ap (λ now. changed now (unfolded ps t)) taken))
-    c.change_checked.ensures.ok c.change_checked.ensures.found
+    let found = text_there t.store name c.find_module.ensures.apart c.in-Some.slot there.0 c.in-Some.ensures.slot there.1 in
+    unload_found (unfolded ps t) name there.0 found (unfolded ps c.change_checked.new.self) (closed_group t ps (c.in_group.ensures.closed c.if-in_group.false))
+    (program_found ps (without_module (contents t.store) name).modules c.in-Ok.left (subst (λ (now : Contents). IsProgram ps now.modules c.in-Ok.left) taken c.in-Ok.ensures.program)) (c.in-Ok.ensures.ok ∙ ap (λ now. changed now (unfolded ps t)) taken)
 
-pub returns-clause-refused : goal.returns-clause-refused
-returns-clause-refused g c =
+pub returns-in-Ok-clause-program : goal.returns-in-Ok-clause-program
+returns-in-Ok-clause-program g c =
+    let ps = c.args.primitives.now in
+    program_then c.change_checked.new.self (contents (put c.text-2.result c.args.self.now.store)) (unfolded ps c.args.self.now) c.in-Ok.left ps c.in-Ok.ensures.ok c.in-Ok.ensures.program
+
+pub returns-in-Err-clause-refused : goal.returns-in-Err-clause-refused
+returns-in-Err-clause-refused g c =
     let ps = c.args.primitives.now in
     let t = c.args.self.now in
     let name = c.args.name.now in
     let there = seen_some c.«module».result _ c.«module».ensures c.if-is_none.ensures in
     let taken = text_taken t name c.in-Some.slot c.text-2.result c.find_module.ensures.apart (sym c.in-Some.ensures.slot) c.text-2.ensures in
-    each_refusal c.change_checked.result
-    (λ refusal refused.
-    unload_refused (unfolded ps t) name there.0 (text_there t.store name c.find_module.ensures.apart c.in-Some.slot there.0 c.in-Some.ensures.slot there.1) refusal (closed_group t ps (c.in_group.ensures.closed c.if-in_group.false)) c.requires.readable
-    (subst (λ now. AreRefused ps now.modules refusal) taken refused))
-    c.change_checked.ensures.refused
+    let found = text_there t.store name c.find_module.ensures.apart c.in-Some.slot there.0 c.in-Some.ensures.slot there.1 in
+    unload_refused (unfolded ps t) name there.0 found c.in-Err.refusal (closed_group t ps (c.in_group.ensures.closed c.if-in_group.false)) c.requires.readable
+    (subst (λ (now : Contents). AreRefused ps now.modules c.in-Err.refusal) taken c.in-Err.ensures.refused)
