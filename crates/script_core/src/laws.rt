@@ -1,5 +1,12 @@
 //! Laws over the definitions of runs alone.
 
+ghost use Rattle.std.specs.Prelude.{◌≡◌, ◌&&◌, ℕ, List, length, Some, None, nat_le, if◌then◌else◌};
+ghost use Rattle.term_core.specs.Word.{is_word, label_of};
+ghost use Rattle.term_core.specs.declared.TheConstants.{MAX_HEIGHT, MAX_SIZE};
+ghost use Rattle.aterm_text.specs.declared.TheConstants.{MAX_NESTING};
+ghost use Rattle.strategy_parse.specs.declared.TheConstants.{MAX_TOKENS};
+ghost use Rattle.script_core.specs.declared.TheConstants.{MAX_COMMAND, MAX_STEPS};
+ghost use Rattle.script_core.specs.declared.running.TheConstants.{MAX_READS};
 ghost use Rattle.script_core.specs.Laws.{OneRun, DumpReadsBack, DumpIsAnswered};
 
 use aterm_text::laws::{
@@ -33,3 +40,18 @@ pub fn dump_reads_back()
     printed_text_nests();
     printed_text_is_as_long();
 }
+
+/// The bounds that definitions name are these numbers: of the height and the size of terms, the bytes of
+/// names, the brackets open in a term's text, the tokens of a strategy's or module's, the bytes of
+/// commands, the steps of `undo` and `redo`, and the reads of a run.
+pub fn bounds()
+    ensures height { MAX_HEIGHT ≡ 1000 }
+    ensures size { MAX_SIZE ≡ 100000 }
+    ensures label { (name : List ℕ) → label_of name
+        ≡ (if is_word name && nat_le (length name) 64 then Some name else None) }
+    ensures nesting { MAX_NESTING ≡ 1000 }
+    ensures tokens { MAX_TOKENS ≡ 4000 }
+    ensures command { MAX_COMMAND ≡ 65536 }
+    ensures steps { MAX_STEPS ≡ 1000000 }
+    ensures reads { MAX_READS ≡ 1000000000 }
+{}
