@@ -1,4 +1,4 @@
-//! Laws over the definitions of runs alone.
+//! Laws over definitions alone: of runs, and of the bounds that definitions name.
 
 ghost use Rattle.std.specs.Prelude.{◌≡◌, ◌&&◌, ℕ, List, length, Some, None, nat_le, if◌then◌else◌};
 ghost use Rattle.term_core.specs.Word.{is_word, label_of};
@@ -6,6 +6,7 @@ ghost use Rattle.term_core.specs.declared.TheConstants.{MAX_HEIGHT, MAX_SIZE};
 ghost use Rattle.aterm_text.specs.declared.TheConstants.{MAX_NESTING};
 ghost use Rattle.strategy_parse.specs.declared.TheConstants.{MAX_TOKENS};
 ghost use Rattle.script_core.specs.declared.TheConstants.{MAX_COMMAND, MAX_STEPS};
+ghost use Rattle.script_core.specs.declared.answer.TheConstants.{ANSWER_ROOM};
 ghost use Rattle.script_core.specs.declared.running.TheConstants.{MAX_READS};
 ghost use Rattle.script_core.specs.Laws.{OneRun, DumpReadsBack, DumpIsAnswered};
 
@@ -43,7 +44,8 @@ pub fn dump_reads_back()
 
 /// The bounds that definitions name are these numbers: of the height and the size of terms, the bytes of
 /// names, the brackets open in a term's text, the tokens of a strategy's or module's, the bytes of
-/// commands, the steps of `undo` and `redo`, and the reads of a run.
+/// commands, the steps of `undo` and `redo`, the reads of a run, and the bytes that an answer's buffer has
+/// to spare.
 pub fn bounds()
     ensures height { MAX_HEIGHT ≡ 1000 }
     ensures size { MAX_SIZE ≡ 100000 }
@@ -54,4 +56,5 @@ pub fn bounds()
     ensures command { MAX_COMMAND ≡ 65536 }
     ensures steps { MAX_STEPS ≡ 1000000 }
     ensures reads { MAX_READS ≡ 1000000000 }
+    ensures room { ANSWER_ROOM ≡ 128 }
 {}

@@ -21,23 +21,6 @@ pub on_err : {A E : Type 0} {P : Type 0} (r : Result A E) → P → OnErr r P
 on_err (Ok x) p = tt
 on_err (Err e) p = p
 
-module _ {A E : Type 0} {P Q : Type 0} where
-  pub each_ok : (r : Result A E) → (P → Q) → OnOk r P → OnOk r Q
-  each_ok (Ok x) f p = f p
-  each_ok (Err e) f p = tt
-
-  pub each_err : (r : Result A E) → (P → Q) → OnErr r P → OnErr r Q
-  each_err (Ok x) f p = tt
-  each_err (Err e) f p = f p
-
-pub both_ok : {A E : Type 0} {P Q S : Type 0} (r : Result A E) → (P → Q → S) → OnOk r P → OnOk r Q → OnOk r S
-both_ok (Ok x) f p q = f p q
-both_ok (Err e) f p q = tt
-
-pub each_refusal : {A E : Type 0} {P Q : E → Type 0} (r : Result A E) → ((e : E) → P e → Q e) → IfErr r P → IfErr r Q
-each_refusal (Ok x) f p = tt
-each_refusal (Err e) f p = f e p
-
 -- a tree that was put in the slot of its name
 pub tree_told : (t m n : Timeline) (name : List ℕ) (tree : Tree) (i : ℕ) (e : Entry) (ps : List Signature) → slot_of m.store.trees name ≡ Some i → e ≡ slot_tree i (Some tree)
     → unfolded ps m ≡ unfolded ps t → unfolded ps n ≡ changed (contents (put e m.store)) (unfolded ps m) → unfolded ps n ≡ retold (unfolded ps t) name tree

@@ -51,7 +51,8 @@ pub record Finds (primitives : Primitives) (texts : Texts) (found : Option Fault
   pub are : AreModules texts modules
   pub fault : found ≡ first (faults modules primitives)
 
--- The program that these texts give with these primitives. The checker finds no fault in their modules.
+-- The program that these texts give with these primitives: the checker finds no fault in their modules,
+-- and all its numbers are in range.
 pub record IsProgram (primitives : Primitives) (texts : Texts) (checked : Program) : Type 0 where
   pub modules : Modules
   pub are : AreModules texts modules

@@ -33,7 +33,7 @@ pub data Act : Type 0 where
   undo : ℕ → Act
   -- goes so many places forward
   redo : ℕ → Act
-  -- begins a group, or takes back what it changed
+  -- begins a group, or takes back what it changed (how it ends else: `Commits`)
   begin : Act
   abandon : Act
 

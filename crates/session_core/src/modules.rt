@@ -109,7 +109,8 @@ impl Timeline {
     }
 
     /// Makes what the open group changed one step, and closes it, where the checker finds no fault in the
-    /// modules now. It isn't asked where their program is known.
+    /// modules now. The checker isn't asked where their program is known; one that it gives is known from
+    /// then on, also where the step wants memory that isn't there.
     pub(crate) fn commit<M: Meaning>(
         &mut self,
         primitives: &Primitives<M>,

@@ -20,7 +20,7 @@ use term_paths::Path;
 pub struct Session<M: Meaning> {
     primitives: Primitives<M>,
     timeline: Timeline,
-    // The program of the modules now, where the checker made it since they changed.
+    // The program of the modules now, where it is known; undo, redo and abandon forget it.
     program: Option<Program>,
 }
 
