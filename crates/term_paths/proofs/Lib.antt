@@ -2,4 +2,6 @@ pub mod PathLemmas
 pub mod ApartLemmas
 pub mod StepLemmas
 pub mod LawLemmas
+pub mod EditLemmas
+mod OutermostLemmas
 pub mod TextLemmas

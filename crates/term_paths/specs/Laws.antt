@@ -1,7 +1,8 @@
 -- Laws of what paths set.
-use Rattle.std.specs.Prelude.{◌≡◌, ℕ, List, ◌++◌, Some, unwrap_or, option_and_then}
+use Rattle.std.specs.Prelude.{◌≡◌, ℕ, List, ◌++◌, reverse, Some, unwrap_or, option_and_then}
 use Rattle.term_core.specs.Tree.{Tree}
 use Rattle.term_paths.specs.Paths.{at, annotations_at, set_at, set_annotations_at, LiesWithin}
+use Rattle.term_paths.specs.Edits.{Edits, paths, behind, edited, Replaces, with_outermost}
 
 -- Where a path leads to a subterm, putting it back after anything was set there gives the tree from
 -- before.
@@ -96,3 +97,26 @@ ApartAnnotationsCommute = (t : Tree) (us vs : List Tree) (p q : List ℕ) → Ar
 abbrev pub ApartMixedCommute : Type 0
 ApartMixedCommute = (t u : Tree) (vs : List Tree) (p q : List ℕ) → AreApart p q
     → set_annotations_at (set_at t p u) q vs ≡ set_at (set_annotations_at t q vs) p u
+
+-- ---- edits
+
+abbrev pub EditsMakeTheTree : Type 0
+EditsMakeTheTree = (e : Edits) (t u : Tree) → Replaces e t u → edited t e ≡ u
+
+-- Edits one after the other, and those of a subterm, are edits of the tree.
+abbrev pub EditsAfterEdits : Type 0
+EditsAfterEdits = (e f : Edits) (t u v : Tree) → Replaces e t u → Replaces f u v
+    → Replaces (e ++ f) t v
+
+abbrev pub EditsOfASubterm : Type 0
+EditsOfASubterm = (e : Edits) (whole t u : Tree) (p : List ℕ) → at whole p ≡ Some t
+    → Replaces e t u → Replaces (behind p e) whole (set_at whole p u)
+
+-- At the same places, the last one first, there are edits that lead back.
+abbrev pub EditsLeadBack : Type 0
+EditsLeadBack = (e : Edits) (t u : Tree) → Replaces e t u
+    → (back : Edits) × (paths back ≡ reverse (paths e)) × Replaces back u t
+
+-- What edits lead to has nothing new but at the outermost of their places.
+abbrev pub OutermostAreEnough : Type 0
+OutermostAreEnough = (e : Edits) (t u : Tree) → Replaces e t u → with_outermost (paths e) t u ≡ u

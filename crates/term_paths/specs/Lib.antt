@@ -1,3 +1,4 @@
 pub mod Paths
 pub mod PathText
+pub mod Edits
 pub mod Laws

@@ -1,6 +1,6 @@
-//! Laws over the definitions of paths alone. Each is the contract of a function that does nothing.
+//! Laws over the definitions of paths and edits alone. Each is the contract of a function that does nothing.
 
-ghost use Rattle.term_paths.specs.Laws.{PuttingBack, PuttingAnnotationsBack, SetIsThere, SetAnnotationsAreThere, LastSetStays, LastAnnotationsStay, SubtermAfterAnnotations, SwappingTwiceIsNothing, SwappingAnnotationsTwiceIsNothing, AtBehind, SetBehind, SetAnnotationsBehind, ApartIsLeft, ApartIsLeftByAnnotations, ApartCommute, ApartAnnotationsCommute, ApartMixedCommute};
+ghost use Rattle.term_paths.specs.Laws.{PuttingBack, PuttingAnnotationsBack, SetIsThere, SetAnnotationsAreThere, LastSetStays, LastAnnotationsStay, SubtermAfterAnnotations, SwappingTwiceIsNothing, SwappingAnnotationsTwiceIsNothing, AtBehind, SetBehind, SetAnnotationsBehind, ApartIsLeft, ApartIsLeftByAnnotations, ApartCommute, ApartAnnotationsCommute, ApartMixedCommute, EditsMakeTheTree, EditsAfterEdits, EditsOfASubterm, EditsLeadBack, OutermostAreEnough};
 
 /// Putting back what was there gives the tree from before.
 pub fn putting_back()
@@ -42,4 +42,21 @@ pub fn paths_apart_are_independent()
     ensures order { ApartCommute }
     ensures order_of_annotations { ApartAnnotationsCommute }
     ensures order_of_both { ApartMixedCommute }
+{}
+
+/// Edits one after the other, and the edits of a subterm, are edits of the tree.
+pub fn edits_replace()
+    ensures tree { EditsMakeTheTree }
+    ensures more { EditsAfterEdits }
+    ensures inside { EditsOfASubterm }
+{}
+
+/// Edits can be taken back at the same places, the last one first.
+pub fn edits_lead_back()
+    ensures { EditsLeadBack }
+{}
+
+/// Of edits the outermost alone, with what is there in the end, make the same tree.
+pub fn outermost_edits_are_enough()
+    ensures { OutermostAreEnough }
 {}
