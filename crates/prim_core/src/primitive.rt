@@ -51,6 +51,13 @@ impl<M: Meaning> Primitive<M> {
         self.arity == arity && self.name.as_slice() == name
     }
 
+    /// The number of its arguments.
+    pub(crate) fn arity(&self) -> usize
+        ensures { result ≡ self.now.arity }
+    {
+        self.arity
+    }
+
     /// What its name means on these terms, as many as it takes.
     pub(crate) fn call(&self, alloc: Global, arguments: &[Term]) -> Result<Option<Term>, NoMemory>
         requires { length arguments.now ≡ self.now.arity }

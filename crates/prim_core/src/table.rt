@@ -1,6 +1,6 @@
 //! The primitives of a host, by position.
 
-ghost use Rattle.std.specs.Prelude.{◌≡◌, length, IfOk, IfSome, Some, IsSomeAnd, slice_get};
+ghost use Rattle.std.specs.Prelude.{◌≡◌, length, IfOk, IfSome, Some, IsSomeAnd, slice_get, option_map};
 ghost use Rattle.prim_core.specs.Signature.{index_of};
 
 use crate::{Meaning, Primitive};
@@ -39,6 +39,14 @@ impl<M: Meaning> Primitives<M> {
             slice_get self.now index ≡ Some (record { name = name.now; arity = arity })) }
     {
         first_index(&self.items, name, arity)
+    }
+
+    /// How many terms the primitive at `index` takes, or `None` where there is no such primitive.
+    pub fn arity(&self, index: usize) -> Option<usize>
+        ensures { result ≡ option_map (λ primitive. primitive.arity) (slice_get self.now index) }
+    {
+        let primitive = self.items.get(index)?;
+        Some(primitive.arity())
     }
 
     /// What the name of the primitive at `index` means on these terms, as many as it takes.

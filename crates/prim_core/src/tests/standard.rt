@@ -181,6 +181,8 @@ fn table<M: Meaning>(
     assert_eq!(rt; primitives.find(b"strlen", 1), Some(6));
     assert!(rt; primitives.find(b"strlen", 2).is_none());
     assert!(rt; primitives.find(b"length", 1).is_none());
+    assert_eq!(rt; primitives.arity(6), Some(1));
+    assert!(rt; primitives.arity(9).is_none());
     integers(rt, alloc, &primitives)?;
     texts(rt, alloc, &primitives)
 }
