@@ -1,0 +1,10 @@
+pub mod SameLemmas
+pub mod Related
+pub mod StepLemmas
+pub mod Composes
+pub mod HeightLemmas
+pub mod EditLemmas
+mod AppliedLemmas
+mod UsualLemmas
+pub mod MeaningRows
+pub mod LongRows

@@ -1,0 +1,111 @@
+-- Laws of what strategies do.
+use Rattle.std.specs.Prelude.{◌≡◌, ◌≢◌, ◌≤◌, ◌↔◌, ℕ, suc, ◌+◌, [], IsTrue}
+use Rattle.term_core.specs.Tree.{Head, Tree, annotations}
+use Rattle.term_core.specs.Size.{height}
+use Rattle.term_core.specs.declared.TheConstants.{MAX_HEIGHT}
+use Rattle.term_paths.specs.Edits.{Edits, Replaces}
+use Rattle.std.specs.Prelude.{List}
+use Rattle.strategy_syntax.specs.Resolved.{ResolvedStrategy, ResolvedStrategies, id, fail, seq, guard, test, congruence, tail_congruence, all, one, some, child}
+use Rattle.strategy_syntax.specs.declared.resolved.Resolved.{Resolved}
+use Rattle.strategy_meaning.specs.Same.{same_tree}
+use Rattle.strategy_meaning.specs.Scopes.{Scope}
+use Rattle.strategy_meaning.specs.Matching.{Bindings}
+use Rattle.strategy_meaning.specs.Answer.{Answer, done, failed, stopped, spent, IfDone}
+use Rattle.strategy_meaning.specs.Meaning.{World, run, form}
+use Rattle.strategy_meaning.specs.Applied.{stops, IfGiven, applied}
+
+-- Terms are the same exactly where they are equal.
+abbrev pub SameIsEqual : Type 0
+SameIsEqual = (t u : Tree) → IsTrue (same_tree t u) ↔ (t ≡ u)
+
+-- ---- steps
+
+-- With a step left, the answer is the line of the form in the table, over the answers of its parts.
+abbrev pub OneStepIsOneForm : Type 0
+OneStepIsOneForm = (W : World) (E : Scope) (l : ℕ) (s : ResolvedStrategy) (c : ℕ) (B : Bindings) (t : Tree)
+    → run W E l s (suc c) B t ≡ form W (run W) E l s c B t
+
+-- the answer with k more steps left
+abbrev pub later : ℕ → Answer → Answer
+later k (done t B b e) = done t B (b + k) e
+later k (failed b) = failed (b + k)
+later k (stopped why) = stopped why
+
+-- A run that isn't spent gives the same answer from more steps, with that many more left.
+abbrev pub MoreStepsGiveTheSame : Type 0
+MoreStepsGiveTheSame = (W : World) (E : Scope) (l : ℕ) (s : ResolvedStrategy) (b : ℕ) (B : Bindings) (t : Tree) (k : ℕ)
+    → run W E l s b B t ≢ stopped spent → run W E l s (b + k) B t ≡ later k (run W E l s b B t)
+
+abbrev pub MoreStepsApplyTheSame : Type 0
+MoreStepsApplyTheSame = (W : World) (p : List ℕ) (r : Resolved) (b : ℕ) (t : Tree) (k : ℕ)
+    → applied W p r b t ≢ stops spent → applied W p r (b + k) t ≡ applied W p r b t
+
+-- ---- heights
+
+-- A term that isn't too high at its level gives one that isn't too high there.
+abbrev pub HeightsAreKept : Type 0
+HeightsAreKept = (W : World) (E : Scope) (l : ℕ) (s : ResolvedStrategy) (b : ℕ) (B : Bindings) (t : Tree)
+    → l + height t ≤ MAX_HEIGHT → IfDone (run W E l s b B t) (λ u B1 c e. l + height u ≤ MAX_HEIGHT)
+
+-- So a tree in which a strategy is applied at a path doesn't get too high.
+abbrev pub AppliedKeepsHeights : Type 0
+AppliedKeepsHeights = (W : World) (p : List ℕ) (r : Resolved) (b : ℕ) (t : Tree)
+    → height t ≤ MAX_HEIGHT → IfGiven (applied W p r b t) (λ u e. height u ≤ MAX_HEIGHT)
+
+-- ---- edits
+
+-- The edits of an answer lead from the term to the one that is given. So without edits that is the
+-- term itself.
+abbrev pub EditsReplace : Type 0
+EditsReplace = (W : World) (E : Scope) (l : ℕ) (s : ResolvedStrategy) (b : ℕ) (B : Bindings) (t : Tree)
+    → IfDone (run W E l s b B t) (λ u B1 c e. Replaces e t u)
+
+abbrev pub AppliedEditsReplace : Type 0
+AppliedEditsReplace = (W : World) (p : List ℕ) (r : Resolved) (b : ℕ) (t : Tree)
+    → IfGiven (applied W p r b t) (λ u e. Replaces e t u)
+
+abbrev pub NoEditsNoChange : Type 0
+NoEditsNoChange = (W : World) (p : List ℕ) (r : Resolved) (b : ℕ) (t : Tree)
+    → IfGiven (applied W p r b t) (λ u e. e ≡ [] → u ≡ t)
+
+-- ---- what strategies are reasoned with
+
+-- `id; s` takes two steps more than s.
+abbrev pub IdFirst : Type 0
+IdFirst = (W : World) (E : Scope) (l : ℕ) (s : ResolvedStrategy) (b : ℕ) (B : Bindings) (t : Tree)
+    → run W E l (seq id s) (suc (suc b)) B t ≡ run W E l s b B t
+
+-- `s; id` takes two steps more where s gives a term, and one where it fails.
+abbrev pub IdLast : Type 0
+IdLast = (W : World) (E : Scope) (l : ℕ) (s : ResolvedStrategy) (b : ℕ) (B : Bindings) (t : Tree)
+    → ((u : Tree) (B1 : Bindings) (c : ℕ) (e : Edits) → run W E l s b B t ≡ done u B1 (suc c) e
+    → run W E l (seq s id) (suc b) B t ≡ done u B1 c e)
+    × ((c : ℕ) → run W E l s b B t ≡ failed c → run W E l (seq s id) (suc b) B t ≡ failed c)
+
+-- `fail; s` fails.
+abbrev pub FailFirst : Type 0
+FailFirst = (W : World) (E : Scope) (l : ℕ) (s : ResolvedStrategy) (b : ℕ) (B : Bindings) (t : Tree)
+    → run W E l (seq fail s) (suc (suc b)) B t ≡ failed b
+
+-- Where its left side fails, a choice is its right side on the original term and bindings, from the
+-- steps that are left then.
+abbrev pub ChoiceGoesOn : Type 0
+ChoiceGoesOn = (W : World) (E : Scope) (l : ℕ) (s1 s2 s3 : ResolvedStrategy) (b c : ℕ) (B : Bindings) (t : Tree)
+    → run W E l s1 b B t ≡ failed c → run W E l (guard s1 s2 s3) (suc b) B t ≡ run W E l s3 c B t
+
+-- `where(s)` leaves the term, without an edit.
+abbrev pub WhereLeaves : Type 0
+WhereLeaves = (W : World) (E : Scope) (l : ℕ) (s : ResolvedStrategy) (b : ℕ) (B : Bindings) (t : Tree)
+    → IfDone (run W E l (test s) b B t) (λ u B1 c e. (u ≡ t) × (e ≡ []))
+
+-- A strategy whose answers keep the annotations at the root of the term.
+abbrev pub KeepsAnnotations : World → ResolvedStrategy → Type 0
+KeepsAnnotations W s = (E : Scope) (l : ℕ) (b : ℕ) (B : Bindings) (t : Tree)
+    → IfDone (run W E l s b B t) (λ u B1 c e. annotations u ≡ annotations t)
+
+-- Congruences and what goes over children do.
+abbrev pub TraversalsKeepAnnotations : Type 0
+TraversalsKeepAnnotations = (W : World) (h : Head) (ss : ResolvedStrategies) (s : ResolvedStrategy) (n : ℕ)
+    → KeepsAnnotations W (congruence h ss) × KeepsAnnotations W (tail_congruence ss s)
+    × KeepsAnnotations W (all s) × KeepsAnnotations W (one s) × KeepsAnnotations W (some s)
+    × KeepsAnnotations W (child n s)

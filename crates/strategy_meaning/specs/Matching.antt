@@ -1,0 +1,98 @@
+-- Matching a pattern with a term, and building its instance. Bindings are a list of places, each
+-- empty or with a term; a scope maps the number of a variable to a place, and here it is the list of
+-- these places. Match and build are those of "A Core Language for Rewriting" by Visser and Benaissa;
+-- lists with a tail are the Stratego manual's, and what patterns say of annotations is our own.
+use Rattle.std.specs.Prelude.{ℕ, ℤ, Bool, false, cond, List, [], ◌∷◌, ◌++◌, length, take, drop, slice_get, slice_set, Some, None, option_map, option_and_then}
+use Rattle.std.specs.declared.option.Option.{Option}
+use Rattle.std.specs.Ordering.{int_eq}
+use Rattle.term_core.specs.Tree.{Head, application, list, tuple, Tree, integer, branch, none, to_list, of_list, children, annotations, with_annotations, bare, integer_term, list_term}
+use Rattle.strategy_syntax.specs.Resolved.{Place, wildcard, variable, at, number, compound, with_tail, annotated, Places, no_places, and_place, place_list}
+use Rattle.strategy_meaning.specs.Same.{same_head, same_tree}
+
+-- the term at each place, if there is one
+abbrev pub Bindings : Type 0
+Bindings = List (Option Tree)
+
+-- ---- parts of a term
+
+abbrev pub is_integer : ℤ → Tree → Bool
+is_integer y (integer z notes) = int_eq y z
+is_integer y (branch h kids notes) = false
+
+abbrev pub is_headed : Head → Tree → Bool
+is_headed h (integer z notes) = false
+is_headed h (branch k kids notes) = same_head h k
+
+-- the elements, where the term is a list
+abbrev pub elements : Tree → Option (List Tree)
+elements (integer z notes) = None
+elements (branch (application f) kids notes) = None
+elements (branch list kids notes) = Some (to_list kids)
+elements (branch tuple kids notes) = None
+
+-- ---- matching
+
+-- An empty place takes the term, annotations and all; one that holds a term has to hold an equal
+-- one.
+abbrev pub put_or_same : Bindings → ℕ → Tree → Option (Option Tree) → Option Bindings
+put_or_same B i t None = None
+put_or_same B i t (Some None) = Some (slice_set B i (Some t))
+put_or_same B i t (Some (Some u)) = cond (same_tree u t) (Some B) None
+
+-- variable x with a term
+abbrev pub bind : List ℕ → ℕ → Tree → Bindings → Option Bindings
+bind E x t B = option_and_then (λ i. put_or_same B i t (slice_get B i)) (slice_get E x)
+
+-- The bindings after a match, or nothing. Only a pattern with an annotation part looks at
+-- annotations: the rest of it matches the term without them. A tail matches the list of the rest,
+-- which has none.
+abbrev mutual
+  pub match_place : Place → Tree → List ℕ → Bindings → Option Bindings
+  match_place wildcard t E B = Some B
+  match_place (variable x) t E B = bind E x t B
+  match_place (at x p) t E B = option_and_then (λ B1. match_place p t E B1) (bind E x t B)
+  match_place (number z) t E B = cond (is_integer z t) (Some B) None
+  match_place (compound h ps) t E B =
+      cond (is_headed h t) (match_places ps (children t) E B) None
+  match_place (with_tail ps p) t E B =
+      option_and_then (λ us. option_and_then
+      (λ B1. match_place p (list_term (drop (length (place_list ps)) us)) E B1)
+      (match_places ps (take (length (place_list ps)) us) E B)) (elements t)
+  match_place (annotated p ps) t E B =
+      option_and_then (λ B1. match_places ps (annotations t) E B1) (match_place p (bare t) E B)
+
+  -- as many patterns as terms, from left to right
+  pub match_places : Places → List Tree → List ℕ → Bindings → Option Bindings
+  match_places no_places [] E B = Some B
+  match_places no_places (t ∷ ts) E B = None
+  match_places (and_place p ps) [] E B = None
+  match_places (and_place p ps) (t ∷ ts) E B =
+      option_and_then (λ B1. match_places ps ts E B1) (match_place p t E B)
+
+-- ---- building
+
+-- what variable x is bound to
+abbrev pub bound_to : List ℕ → ℕ → Bindings → Option Tree
+bound_to E x B = option_and_then (λ i. option_and_then (λ o. o) (slice_get B i)) (slice_get E x)
+
+-- The instance of a pattern, or nothing where a variable has no binding, a tail is no list, or the
+-- pattern holds `_` or `x@p`. Annotations are those that the pattern says, and those of bindings.
+abbrev mutual
+  pub build_place : Place → List ℕ → Bindings → Option Tree
+  build_place wildcard E B = None
+  build_place (variable x) E B = bound_to E x B
+  build_place (at x p) E B = None
+  build_place (number z) E B = Some (integer_term z)
+  build_place (compound h ps) E B =
+      option_map (λ us. branch h (of_list us) none) (build_places ps E B)
+  build_place (with_tail ps p) E B =
+      option_and_then (λ us. option_map (λ vs. list_term (us ++ vs))
+      (option_and_then elements (build_place p E B))) (build_places ps E B)
+  build_place (annotated p ps) E B =
+      option_and_then (λ u. option_map (with_annotations u) (build_places ps E B))
+      (build_place p E B)
+
+  pub build_places : Places → List ℕ → Bindings → Option (List Tree)
+  build_places no_places E B = Some []
+  build_places (and_place p ps) E B =
+      option_and_then (λ u. option_map (λ us. u ∷ us) (build_places ps E B)) (build_place p E B)

@@ -1,0 +1,54 @@
+//! Laws of what strategies do. Each is the contract of a function that does nothing.
+
+ghost use Rattle.strategy_meaning.specs.Laws.{SameIsEqual, OneStepIsOneForm, MoreStepsGiveTheSame, MoreStepsApplyTheSame, HeightsAreKept, AppliedKeepsHeights, EditsReplace, AppliedEditsReplace, NoEditsNoChange, IdFirst, IdLast, FailFirst, ChoiceGoesOn, WhereLeaves, TraversalsKeepAnnotations};
+
+/// Terms are the same exactly where they are equal.
+pub fn same_is_equal()
+    ensures { SameIsEqual }
+{}
+
+/// With a step left, an answer is that of one form of the table.
+pub fn one_step_is_one_form()
+    ensures { OneStepIsOneForm }
+{}
+
+/// Where the steps aren't spent, more steps give the same answer.
+pub fn more_steps_give_the_same()
+    ensures run { MoreStepsGiveTheSame }
+    ensures applied { MoreStepsApplyTheSame }
+{}
+
+/// A term that isn't too high at its level gives one that isn't too high there.
+pub fn heights_are_kept()
+    ensures run { HeightsAreKept }
+    ensures applied { AppliedKeepsHeights }
+{}
+
+/// The edits of an answer, made one after the other, lead from the old term to the new one.
+pub fn edits_replace()
+    ensures run { EditsReplace }
+    ensures applied { AppliedEditsReplace }
+    ensures none { NoEditsNoChange }
+{}
+
+/// `id` is neutral in a sequence, and `fail` ends it.
+pub fn sequences()
+    ensures id_first { IdFirst }
+    ensures id_last { IdLast }
+    ensures fail_first { FailFirst }
+{}
+
+/// A choice whose left side fails goes on with the original term and bindings.
+pub fn choices()
+    ensures { ChoiceGoesOn }
+{}
+
+/// `where(s)` leaves the term.
+pub fn tests()
+    ensures { WhereLeaves }
+{}
+
+/// Congruences, `all`, `one`, `some` and the selection of a child keep the annotations at the root.
+pub fn traversals_keep_annotations()
+    ensures { TraversalsKeepAnnotations }
+{}
