@@ -1,3 +1,4 @@
+pub mod RunLemmas
 pub mod ScanLemmas
 pub mod TokenLemmas
 pub mod StackLemmas

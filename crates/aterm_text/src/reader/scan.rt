@@ -6,6 +6,7 @@ ghost use Rattle.std.specs.Char.{is_ascii_digit};
 ghost use Rattle.aterm_text.specs.Tokens.{is_blank, without_blanks, integer_len, IsInteger, escape_at, octal_at, octal_value, is_octal_digit, is_plain, ReadsItems};
 
 use crate::reader::ReadFault;
+use memchr::memchr2;
 use std::alloc::Global;
 use std::str;
 use term_core::Name;
@@ -177,13 +178,10 @@ fn run_length(text: &[u8]) -> usize
     ensures value { result ≡ prefix_len is_plain text.now }
     ensures bound { result ≤ length text.now }
 {
-    text.iter().take_while(|b| is_plain(**b)).count()
-}
-
-fn is_plain(b: u8) -> bool
-    ensures { result ≡ is_plain b }
-{
-    b != b'"' && b != b'\\'
+    match memchr2(b'"', b'\\', text) {
+        Some(place) => place,
+        None => text.len(),
+    }
 }
 
 /// The quoted name whose opening quote was read, and the text behind its closing quote.
