@@ -230,6 +230,22 @@ at_level_998 = refl
 at_level_999 : run_whole library 999 (body (all to_A)) 100 (G B) ≡ stopped big
 at_level_999 = refl
 
+one_at_level_999 : run_whole library 999 (body (one to_A)) 100 (G B) ≡ stopped big
+one_at_level_999 = refl
+
+some_at_level_999 : run_whole library 999 (body (some to_A)) 100 (G B) ≡ stopped big
+some_at_level_999 = refl
+
+child_at_level_999 : run_whole library 999 (body (child 1 to_A)) 100 (G B) ≡ stopped big
+child_at_level_999 = refl
+
+congruence_at_level_999 : run_whole library 999 (body (cong 71 (to_A ∷ []))) 100 (G B) ≡ stopped big
+congruence_at_level_999 = refl
+
+elements_at_level_999 : run_whole library 999 (body (tail_congruence (resolveds_of (to_B ∷ [])) id)) 100 (both A)
+    ≡ stopped big
+elements_at_level_999 = refl
+
 tail_at_its_level : run_whole library 998 (body (tail_congruence (resolveds_of (id ∷ [])) (all to_B))) 100 (both A)
     ≡ done (both_with A B) [] 96 (edit [] (both_with A B) ∷ [])
 tail_at_its_level = refl
@@ -258,13 +274,53 @@ no_answer = refl
 scope_is_left : applied 1 (seq (scope 1 (matches (variable 1))) (matches (variable 0))) 100 A ≡ done A (Some A ∷ []) 96 []
 scope_is_left = refl
 
+-- `{y: ?y}; !B(); ?x`: what y was bound to says nothing of x
+scope_is_new : applied 1 (seq (scope 1 (matches (variable 1))) (seq to_B (matches (variable 0)))) 100 A
+    ≡ done B (Some B ∷ []) 94 (edit [] B ∷ [])
+scope_is_new = refl
+
 -- a congruence looks at the head and the number of children, words and quoted names apart
 other_number_of_children : applied 0 (cong 70 (id ∷ [])) 100 (F A A) ≡ failed 99
 other_number_of_children = refl
 
+other_head : applied 0 (congruence list (resolveds_of (id ∷ (id ∷ [])))) 100 (F A A) ≡ failed 99
+other_head = refl
+
 quoted_name : applied 0 (matches (compound (application (record { text = 65 ∷ []; is_quoted = true })) (places_of []))) 100 A ≡ failed 99
 quoted_name = refl
+
+-- `[id|?x]` binds x to the list of the rest, which has no annotations
+rest_has_no_annotations : applied 1 (tail_congruence (resolveds_of (id ∷ [])) (matches (variable 0))) 100 (both A)
+    ≡ done (both A) (Some (list_term (A ∷ [])) ∷ []) 97 (edit [] (both A) ∷ [])
+rest_has_no_annotations = refl
 
 -- `child` counts from 1 and keeps the root's annotations
 child_1 : applied 0 (child 1 to_B) 100 (both A) ≡ done (both_with B A) [] 98 (edit (0 ∷ []) B ∷ [])
 child_1 = refl
+
+-- the term parameter of a definition is not its caller's variable
+own_parameter : applied 1 (seq (matches (variable 0)) (call 3 (resolveds_of []) (places_of (pattern 66 [] ∷ [])))) 100 A
+    ≡ done (G B) (Some A ∷ []) 96 (edit [] (G B) ∷ [])
+own_parameter = refl
+
+-- `rec x((?A(); !B()) <+ rec y(G(x)))`: names count from the outermost
+outer_name : applied 0 (rec (or_else A_to_B (rec (cong 71 (param 0 ∷ []))))) 100 (G A)
+    ≡ done (G B) [] 87 (edit (0 ∷ []) B ∷ [])
+outer_name = refl
+
+-- where a definition does nothing, and a primitive answers whatever it is asked
+abbrev idle : World
+idle = record {
+  bodies = body id ∷ [];
+  primitives = standard_signatures;
+  meaning = λ name us. Some A;
+}
+
+-- an argument is tested, though nothing is built of it
+idle_argument_too_big : run_whole idle 1000 (body (call 0 (resolveds_of []) (places_of (pattern 65 [] ∷ [])))) 100 B
+    ≡ stopped big
+idle_argument_too_big = refl
+
+-- a primitive takes as many terms as it says
+other_number_of_terms : run_whole idle 0 (body (prim 0 (places_of (number (pos 1) ∷ [])))) 100 B ≡ failed 99
+other_number_of_terms = refl
