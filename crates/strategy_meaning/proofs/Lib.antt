@@ -7,4 +7,5 @@ pub mod EditLemmas
 mod AppliedLemmas
 mod UsualLemmas
 pub mod MeaningRows
+pub mod AppliedRows
 pub mod LongRows

@@ -118,6 +118,13 @@ nothing_fits_there = refl
 abbrev A1 : Tree
 A1 = with_annotations A (integer_term (pos 1) ∷ [])
 
+more_annotations : applied 0 (matches (annotated (pattern 65 []) (places_of (number (pos 1) ∷ [])))) 100
+    (with_annotations A (integer_term (pos 1) ∷ (integer_term (pos 2) ∷ []))) ≡ failed 99
+more_annotations = refl
+
+more_children : applied 0 (matches (pattern 70 (wildcard ∷ []))) 100 (F A A) ≡ failed 99
+more_children = refl
+
 annotations_not_looked_at : applied 0 (matches (pattern 65 [])) 100 A1 ≡ done A1 [] 99 []
 annotations_not_looked_at = refl
 
