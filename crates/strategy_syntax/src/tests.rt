@@ -165,11 +165,15 @@ fn definition(alloc: Global, name: &[u8]) -> Result<Definition, Fail> {
     Ok(Definition::new(name, s, x, id()))
 }
 
+fn is_id(strategy: &Strategy) -> bool {
+    matches!(strategy.form(), StrategyForm::Id)
+}
+
 fn is_as_made(f: &Definition) -> bool {
     f.name().bytes() == b"f".as_slice()
         && f.strategy_parameters().len() == 1
         && f.term_parameters().len() == 1
-        && matches!(f.body().form(), StrategyForm::Id)
+        && is_id(f.body())
 }
 
 fn definitions_are_as_made(alloc: Global) -> Result<bool, Fail> {
