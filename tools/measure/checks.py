@@ -15,7 +15,7 @@ import tempfile
 from measure import build
 from texts import names, nested, row, table
 
-CRATES = ["term_core", "aterm_text", "prim_core", "strategy_syntax", "strategy_parse", "strategy_check"]
+CRATES = ["term_core", "aterm_text", "prim_core", "strategy_syntax", "strategy_tokens", "strategy_parse", "strategy_check"]
 USES = "term_core prim_core strategy_syntax strategy_parse strategy_check anyhow"
 
 

@@ -14,7 +14,7 @@ import tempfile
 
 from measure import build, instructions
 
-CRATES = ["term_core", "aterm_text", "strategy_syntax", "strategy_parse"]
+CRATES = ["term_core", "aterm_text", "strategy_syntax", "strategy_tokens", "strategy_parse"]
 USES = "strategy_parse anyhow"
 TOKENS = [500, 1000, 2000, 4000]
 

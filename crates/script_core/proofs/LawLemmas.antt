@@ -11,9 +11,9 @@ use Rattle.aterm_text.specs.Laws.{OneTerm}
 use Rattle.aterm_text.specs.Grammar.{Spells, SpellsAnnotations}
 use Rattle.strategy_syntax.specs.Modules.{Module}
 use Rattle.strategy_parse.specs.Laws.{OneModule}
-use Rattle.strategy_parse.specs.Tokens.{tokens}
+use Rattle.strategy_tokens.specs.Tokens.{tokens}
 use Rattle.strategy_parse.specs.Gives.{GivesModule}
-use Rattle.strategy_parse.specs.declared.TheConstants.{MAX_TOKENS}
+use Rattle.strategy_tokens.specs.declared.TheConstants.{MAX_TOKENS}
 use Rattle.strategy_check.specs.Tables.{Modules}
 use Rattle.strategy_check.specs.Faults.{Fault, Primitives, faults, first}
 use Rattle.aterm_text.specs.Nesting.{nesting}

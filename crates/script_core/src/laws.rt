@@ -4,7 +4,7 @@ ghost use Rattle.std.specs.Prelude.{◌≡◌, ◌&&◌, ℕ, List, length, Some
 ghost use Rattle.term_core.specs.Word.{is_word, label_of};
 ghost use Rattle.term_core.specs.declared.TheConstants.{MAX_HEIGHT, MAX_SIZE};
 ghost use Rattle.aterm_text.specs.declared.TheConstants.{MAX_NESTING};
-ghost use Rattle.strategy_parse.specs.declared.TheConstants.{MAX_TOKENS};
+ghost use Rattle.strategy_tokens.specs.declared.TheConstants.{MAX_TOKENS};
 ghost use Rattle.script_core.specs.declared.TheConstants.{MAX_COMMAND, MAX_STEPS};
 ghost use Rattle.script_core.specs.declared.answer.TheConstants.{ANSWER_ROOM};
 ghost use Rattle.script_core.specs.declared.running.TheConstants.{MAX_READS};

@@ -4,8 +4,8 @@ use Rattle.std.specs.declared.option.Option.{Option}
 use Rattle.std.specs.declared.result.Result.{Result}
 use Rattle.std.specs.FinMap as finmap
 use Rattle.strategy_syntax.specs.Modules.{Module}
-use Rattle.strategy_parse.specs.declared.TheConstants.{MAX_TOKENS}
-use Rattle.strategy_parse.specs.Tokens.{tokens}
+use Rattle.strategy_tokens.specs.declared.TheConstants.{MAX_TOKENS}
+use Rattle.strategy_tokens.specs.Tokens.{tokens}
 use Rattle.strategy_parse.specs.Gives.{GivesModule}
 use Rattle.strategy_check.specs.Tables.{Modules}
 use Rattle.strategy_check.specs.Faults.{Fault, Primitives, faults, first}

@@ -4,19 +4,19 @@ use Rattle.std.specs.Prelude.{if◌then◌else◌}
 use Rattle.term_core.specs.Tree.{Symbol, application as applied, list, tuple}
 use Rattle.strategy_syntax.specs.Syntax as syntax
 use Rattle.strategy_syntax.specs.Syntax.{Pattern, wildcard, variable, at, number, compound, with_tail, annotated, no_patterns, and_pattern, pattern_list, patterns_of, Strategy, strategy_list, strategies_of}
-use Rattle.strategy_parse.specs.declared.tokens.token.Token.{Token}
-use Rattle.strategy_parse.specs.declared.tokens.token.Token.TheVariants.{Sign as ASign}
-use Rattle.strategy_parse.specs.declared.tokens.token.Sign.TheVariants.{OpenRound, OpenCurly, Comma, Bar, At as AtSign}
+use Rattle.strategy_tokens.specs.declared.token.Token.{Token}
+use Rattle.strategy_tokens.specs.declared.token.Token.TheVariants.{Sign as ASign}
+use Rattle.strategy_tokens.specs.declared.token.Sign.TheVariants.{OpenRound, OpenCurly, Comma, Bar, At as AtSign}
 use Rattle.strategy_parse.specs.declared.parser.state.State.TheVariants.{Pattern as ToPattern, FirstPattern, Named}
 use Rattle.strategy_parse.specs.declared.parser.state.Frame.{Frame}
 use Rattle.strategy_parse.specs.declared.parser.state.Frame.TheVariants.{At, Pattern as ForPattern}
 use Rattle.strategy_parse.specs.declared.parser.state.PatternFrame.TheVariants.{List as Patterns, Tail as PatternTail}
 use Rattle.strategy_parse.specs.declared.parser.state.PatternGroup.{PatternGroup}
 use Rattle.strategy_parse.specs.declared.parser.state.PatternGroup.TheVariants.{Application as PApplication, List as PList, Tuple as PTuple, Annotations, Terms, Prim}
-use Rattle.strategy_parse.specs.Marks.{is_mark}
+use Rattle.strategy_tokens.specs.Marks.{is_mark}
 use Rattle.strategy_parse.specs.Machine.{Next, goes, begin_pattern, behind_pattern, behind_base, behind_one, closing_sign, close_patterns, first_pattern, step}
 use Rattle.strategy_parse.specs.Grammar.{IsBase, ReadsPattern, ReadsPatterns, ReadsSomePatterns, ReadsMorePatterns}
-use Rattle.strategy_parse.proofs.Marks.{mark_self}
+use Rattle.strategy_tokens.proofs.MarkLemmas.{mark_self}
 use Rattle.strategy_parse.proofs.Runs.{Accepts, Refuses, open_round, open_curly, at_sign, pattern-stuck, passes}
 
 pub patterns_of-list : (ps : syntax.Patterns) → patterns_of (pattern_list ps) ≡ ps

@@ -5,9 +5,9 @@ use Rattle.std.specs.declared.option.Option.{Option}
 use Rattle.term_core.specs.Tree.{Symbol, list}
 use Rattle.strategy_syntax.specs.Syntax as syntax
 use Rattle.strategy_syntax.specs.Syntax.{Pattern, wildcard, variable, at, number, compound, with_tail, annotated, no_patterns, and_pattern, pattern_list, patterns_of, Strategy, strategy_list, strategies_of}
-use Rattle.strategy_parse.specs.declared.tokens.token.Token.{Token}
-use Rattle.strategy_parse.specs.declared.tokens.token.Token.TheVariants.{Reserved, Integer, Sign as ASign, Bad}
-use Rattle.strategy_parse.specs.declared.tokens.token.Sign.TheVariants.{OpenRound, CloseRound, Comma, Semicolon, Colon, Bar, FatArrow, Less, LeftChoice}
+use Rattle.strategy_tokens.specs.declared.token.Token.{Token}
+use Rattle.strategy_tokens.specs.declared.token.Token.TheVariants.{Reserved, Integer, Sign as ASign, Bad}
+use Rattle.strategy_tokens.specs.declared.token.Sign.TheVariants.{OpenRound, CloseRound, Comma, Semicolon, Colon, Bar, FatArrow, Less, LeftChoice}
 use Rattle.strategy_parse.specs.declared.parser.state.State.TheVariants.{Strategy as ToStrategy, FirstStrategy, Read, Used, PrimNamed, ScopeOpen, ScopeNamed, Pattern as ToPattern}
 use Rattle.strategy_parse.specs.declared.parser.state.Frame.{Frame}
 use Rattle.strategy_parse.specs.declared.parser.state.Frame.TheVariants.{Operand, At, Strategy as ForStrategy, Pattern as ForPattern}
@@ -19,10 +19,10 @@ use Rattle.strategy_parse.specs.declared.parser.state.Operator.TheVariants.{All,
 use Rattle.strategy_parse.specs.declared.parser.state.Group.{Group}
 use Rattle.strategy_parse.specs.declared.parser.state.Group.TheVariants.{Round, Square, Arguments}
 use Rattle.strategy_parse.specs.declared.parser.state.PatternGroup.TheVariants.{Terms, Prim}
-use Rattle.strategy_parse.specs.Marks.{is_mark}
+use Rattle.strategy_tokens.specs.Marks.{is_mark}
 use Rattle.strategy_parse.specs.Machine.{Next, goes, stuck, begin, behind, behind_arrow, behind_seq, behind_choice, behind_element, closing, grouped, first_strategy, first_pattern, empty_bar, step, resume, at_end, go_on}
 use Rattle.strategy_parse.specs.Grammar.{ReadsMorePatterns, ReadsArrows, ReadsMoreNames, ReadsNames, word_of, ReadsChoice, ReadsSeq, ReadsArrow, ReadsPrefix, ReadsChoices, ReadsSomeChoices, ReadsMoreChoices}
-use Rattle.strategy_parse.proofs.Marks.{mark_self}
+use Rattle.strategy_tokens.proofs.MarkLemmas.{mark_self}
 use Rattle.strategy_parse.specs.Written.{Choice, sequence, left_choice, guarded_choice, Seq, last, before, Arrow, arrow, Prefix, question, exclamation, application, identity, failure, operator, if_then, if_then_else, recursion, primitive, local, closure, closure_where, round, square, square_with_tail, name, call, call_with_terms, child, Choices, no_choices, and_choice}
 use Rattle.strategy_parse.specs.Core.{then_matched, in_brackets, core, core_seq, core_arrow, core_prefix, core_all}
 use Rattle.strategy_parse.proofs.Runs.{Accepts, Refuses, open_round, fat_arrow, semicolon, left_choice_sign, less, choice-stuck, arrow-stuck, behind-stuck, passes}

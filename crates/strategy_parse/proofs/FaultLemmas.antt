@@ -2,7 +2,7 @@
 use Rattle.std.proofs.Common.{◌≡◌, refl}
 use Rattle.strategy_parse.specs.declared.parser.fault.Fault.{Fault}
 use Rattle.strategy_parse.specs.declared.parser.fault.Fault.TheVariants.{Syntax, Memory}
-use Rattle.strategy_parse.specs.declared.tokens.fault.ParseFault.TheVariants as of_text
+use Rattle.strategy_parse.specs.declared.fault.ParseFault.TheVariants as of_text
 use Rattle.strategy_parse.specs.Faults.{text_fault}
 
 pub syntax_back : (f : Fault) → of_text.Syntax ≡ text_fault f → f ≡ Syntax

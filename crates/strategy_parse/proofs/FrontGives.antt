@@ -6,9 +6,9 @@ use Rattle.strategy_syntax.specs.Syntax.{Pattern, Strategy, Patterns, no_pattern
 use Rattle.strategy_syntax.specs.StrategyView.{strategy_of}
 use Rattle.strategy_syntax.specs.declared.strategy.StrategyForm.{StrategyForm}
 use Rattle.strategy_syntax.specs.declared.strategy.StrategyForm.TheVariants as form
-use Rattle.strategy_parse.specs.declared.tokens.token.Token.{Token}
-use Rattle.strategy_parse.specs.declared.tokens.token.Token.TheVariants.{Sign as ASign}
-use Rattle.strategy_parse.specs.declared.tokens.token.Sign.TheVariants.{Question}
+use Rattle.strategy_tokens.specs.declared.token.Token.{Token}
+use Rattle.strategy_tokens.specs.declared.token.Token.TheVariants.{Sign as ASign}
+use Rattle.strategy_tokens.specs.declared.token.Sign.TheVariants.{Question}
 use Rattle.strategy_parse.specs.declared.parser.state.State.TheVariants.{Strategy as ToStrategy, Pattern as ToPattern}
 use Rattle.strategy_parse.specs.declared.parser.state.Frame.{Frame}
 use Rattle.strategy_parse.specs.declared.parser.state.Frame.TheVariants.{Pattern as ForPattern}

@@ -5,12 +5,12 @@ use Rattle.std.specs.declared.option.Option.{Option}
 use Rattle.term_core.specs.Tree.{Symbol}
 use Rattle.strategy_syntax.specs.Syntax as syntax
 use Rattle.strategy_syntax.specs.Syntax.{Pattern, Strategy}
-use Rattle.strategy_parse.specs.declared.tokens.token.Token.{Token}
-use Rattle.strategy_parse.specs.declared.tokens.token.Token.TheVariants.{Ident, Reserved, Integer, Text, Sign as ASign, Bad}
-use Rattle.strategy_parse.specs.declared.tokens.token.Keyword.{Keyword}
-use Rattle.strategy_parse.specs.declared.tokens.token.Keyword.TheVariants.{Id as KId, Fail as KFail, All as KAll, One as KOne, Some as KSome, Not as KNot, Where as KWhere, Test as KTest, If as KIf, Then as KThen, Else as KElse, End as KEnd, Rec as KRec, Prim as KPrim}
-use Rattle.strategy_parse.specs.declared.tokens.token.Sign.{Sign}
-use Rattle.strategy_parse.specs.declared.tokens.token.Sign.TheVariants.{OpenRound, CloseRound, OpenSquare, CloseSquare, OpenCurly, CloseCurly, Comma, Semicolon, Colon, Bar, FatArrow, Arrow as RightArrow, Less, Greater, LeftChoice, Plus, Question, Exclamation, At as AtSign, Backslash}
+use Rattle.strategy_tokens.specs.declared.token.Token.{Token}
+use Rattle.strategy_tokens.specs.declared.token.Token.TheVariants.{Ident, Reserved, Integer, Text, Sign as ASign, Bad}
+use Rattle.strategy_tokens.specs.declared.token.Keyword.{Keyword}
+use Rattle.strategy_tokens.specs.declared.token.Keyword.TheVariants.{Id as KId, Fail as KFail, All as KAll, One as KOne, Some as KSome, Not as KNot, Where as KWhere, Test as KTest, If as KIf, Then as KThen, Else as KElse, End as KEnd, Rec as KRec, Prim as KPrim}
+use Rattle.strategy_tokens.specs.declared.token.Sign.{Sign}
+use Rattle.strategy_tokens.specs.declared.token.Sign.TheVariants.{OpenRound, CloseRound, OpenSquare, CloseSquare, OpenCurly, CloseCurly, Comma, Semicolon, Colon, Bar, FatArrow, Arrow as RightArrow, Less, Greater, LeftChoice, Plus, Question, Exclamation, At as AtSign, Backslash}
 use Rattle.strategy_parse.specs.declared.parser.state.State.{State}
 use Rattle.strategy_parse.specs.declared.parser.state.State.TheVariants.{Strategy as ToStrategy, FirstStrategy, Read, Used, Opening, Rec as BehindRec, Prim as BehindPrim, PrimOpen, PrimNamed, ScopeOpen, ScopeComma, ScopeNamed, Pattern as ToPattern, FirstPattern, Named, Base, Whole}
 use Rattle.strategy_parse.specs.declared.parser.state.Frame.{Frame}
@@ -24,7 +24,7 @@ use Rattle.strategy_parse.specs.declared.parser.state.Group.{Group}
 use Rattle.strategy_parse.specs.declared.parser.state.Group.TheVariants.{Round, Square, Arguments}
 use Rattle.strategy_parse.specs.declared.parser.state.PatternGroup.{PatternGroup}
 use Rattle.strategy_parse.specs.declared.parser.state.PatternGroup.TheVariants.{Application as PApplication, List as PList, Tuple as PTuple, Annotations, Terms, Prim}
-use Rattle.strategy_parse.specs.Marks.{is_mark, is_word}
+use Rattle.strategy_tokens.specs.Marks.{is_mark, is_word}
 use Rattle.strategy_parse.specs.Machine.{Next, goes, ends, stuck, begin, begin_sign, begin_word, begin_child, begin_pattern, open_pattern, behind, behind_arrow, behind_seq, behind_choice, in_frame, behind_element, behind_bar, close_strategies, closing, grouped, behind_pattern, behind_base, pattern_in_frame, behind_one, pattern_bar, closing_sign, close_patterns, first_strategy, empty_bar, rec_name, prim_name, scope_name, begin_scope, step, resume, at_end, go_on, front, front_of}
 use Rattle.strategy_parse.specs.Fronts.{goes_on, Stops}
 

@@ -2,7 +2,7 @@
 use Rattle.std.proofs.Common.{◌≡◌, List, [], Some, sym, ◌∙◌, ap}
 use Rattle.std.specs.declared.option.Option.{Option}
 use Rattle.strategy_syntax.specs.Syntax.{Strategy}
-use Rattle.strategy_parse.specs.declared.tokens.token.Token.{Token}
+use Rattle.strategy_tokens.specs.declared.token.Token.{Token}
 use Rattle.strategy_parse.specs.Gives.{GivesStrategy}
 use Rattle.strategy_parse.specs.Machine.{begin, resume}
 use Rattle.strategy_parse.proofs.CompleteStrategies.{reads_all}

@@ -1,7 +1,3 @@
-mod TokenRows
-pub mod ScanLemmas
-pub mod StringLemmas
-pub mod Marks
 pub mod Runs
 pub mod CompletePatterns
 pub mod CompleteStrategies

@@ -3,10 +3,10 @@ use Rattle.std.proofs.Common.{◌≡◌, suc, ◌+◌, ◌<◌, refl, sym, ap, �
 use Rattle.std.specs.Prelude.{◌⊎◌}
 use Rattle.std.specs.declared.option.Option.{Option}
 use Rattle.term_core.specs.Tree.{Symbol}
-use Rattle.strategy_parse.specs.declared.tokens.token.Token.{Token}
-use Rattle.strategy_parse.specs.declared.tokens.token.Token.TheVariants.{Ident, Sign as ASign}
-use Rattle.strategy_parse.specs.declared.tokens.token.Keyword.TheVariants.{Where}
-use Rattle.strategy_parse.specs.declared.tokens.token.Sign.TheVariants.{OpenRound, CloseRound, Comma, Colon, Bar, Equals, Arrow as RightArrow, Star}
+use Rattle.strategy_tokens.specs.declared.token.Token.{Token}
+use Rattle.strategy_tokens.specs.declared.token.Token.TheVariants.{Ident, Sign as ASign}
+use Rattle.strategy_tokens.specs.declared.token.Keyword.TheVariants.{Where}
+use Rattle.strategy_tokens.specs.declared.token.Sign.TheVariants.{OpenRound, CloseRound, Comma, Colon, Bar, Equals, Arrow as RightArrow, Star}
 use Rattle.strategy_parse.specs.Written.{Sort, sort, Sorts, no_sorts, and_sort, Declaration, constant, function, Head, Defined, definition, rule, rule_where}
 use Rattle.strategy_parse.specs.Grammar.{Reading, ◌▸◌, Mark, ReadsNames}
 use Rattle.strategy_parse.specs.GrammarModules.{ReadsSort, ReadsMoreSorts, ReadsOptionalName, ReadsDeclaration, ReadsParameters, ReadsHead, ReadsDefined}

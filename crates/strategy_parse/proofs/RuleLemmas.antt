@@ -4,12 +4,12 @@ use Rattle.std.specs.declared.option.Option.{Option}
 use Rattle.term_core.specs.Tree.{Symbol}
 use Rattle.strategy_syntax.specs.Syntax.{Pattern, Strategy, scope}
 use Rattle.strategy_syntax.specs.Modules.{Definition}
-use Rattle.strategy_parse.specs.declared.tokens.token.Token.{Token}
-use Rattle.strategy_parse.specs.declared.tokens.token.Token.TheVariants.{Reserved, Sign as ASign}
-use Rattle.strategy_parse.specs.declared.tokens.token.Keyword.TheVariants.{Where}
-use Rattle.strategy_parse.specs.declared.tokens.token.Sign.{Sign}
-use Rattle.strategy_parse.specs.declared.tokens.token.Sign.TheVariants.{OpenRound, Colon, Equals, Arrow as RightArrow}
-use Rattle.strategy_parse.specs.Marks.{is_mark, is_word}
+use Rattle.strategy_tokens.specs.declared.token.Token.{Token}
+use Rattle.strategy_tokens.specs.declared.token.Token.TheVariants.{Reserved, Sign as ASign}
+use Rattle.strategy_tokens.specs.declared.token.Keyword.TheVariants.{Where}
+use Rattle.strategy_tokens.specs.declared.token.Sign.{Sign}
+use Rattle.strategy_tokens.specs.declared.token.Sign.TheVariants.{OpenRound, Colon, Equals, Arrow as RightArrow}
+use Rattle.strategy_tokens.specs.Marks.{is_mark, is_word}
 use Rattle.strategy_parse.specs.Written.{Choice, Head, Defined, definition, rule, rule_where}
 use Rattle.strategy_parse.specs.Grammar.{ReadsPattern, ReadsChoice}
 use Rattle.strategy_parse.specs.GrammarModules.{ReadsHead, ReadsDefined}

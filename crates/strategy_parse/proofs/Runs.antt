@@ -4,12 +4,12 @@ use Rattle.std.specs.Prelude.{if◌then◌else◌, ◌⊎◌}
 use Rattle.std.specs.declared.option.Option.{Option}
 use Rattle.strategy_syntax.specs.Syntax as syntax
 use Rattle.strategy_syntax.specs.Syntax.{Pattern, wildcard, variable, at, number, compound, with_tail, annotated, no_patterns, and_pattern, pattern_list, patterns_of, Strategy, strategy_list, strategies_of}
-use Rattle.strategy_parse.specs.declared.tokens.token.Token.{Token}
-use Rattle.strategy_parse.specs.declared.tokens.token.Token.TheVariants.{Reserved, Sign as ASign}
-use Rattle.strategy_parse.specs.declared.tokens.token.Keyword.{Keyword}
-use Rattle.strategy_parse.specs.declared.tokens.token.Keyword.TheVariants.{Where as KWhere, Then as KThen, Else as KElse, End as KEnd}
-use Rattle.strategy_parse.specs.declared.tokens.token.Sign.{Sign}
-use Rattle.strategy_parse.specs.declared.tokens.token.Sign.TheVariants.{OpenRound, CloseRound, CloseSquare, OpenCurly, CloseCurly, Comma, Semicolon, Bar, FatArrow, Arrow as RightArrow, Less, Greater, LeftChoice, Plus, At as AtSign, Backslash}
+use Rattle.strategy_tokens.specs.declared.token.Token.{Token}
+use Rattle.strategy_tokens.specs.declared.token.Token.TheVariants.{Reserved, Sign as ASign}
+use Rattle.strategy_tokens.specs.declared.token.Keyword.{Keyword}
+use Rattle.strategy_tokens.specs.declared.token.Keyword.TheVariants.{Where as KWhere, Then as KThen, Else as KElse, End as KEnd}
+use Rattle.strategy_tokens.specs.declared.token.Sign.{Sign}
+use Rattle.strategy_tokens.specs.declared.token.Sign.TheVariants.{OpenRound, CloseRound, CloseSquare, OpenCurly, CloseCurly, Comma, Semicolon, Bar, FatArrow, Arrow as RightArrow, Less, Greater, LeftChoice, Plus, At as AtSign, Backslash}
 use Rattle.strategy_parse.specs.declared.parser.state.State.{State}
 use Rattle.strategy_parse.specs.declared.parser.state.Frame.{Frame}
 use Rattle.strategy_parse.specs.declared.parser.state.Frame.TheVariants.{Operand, At, Strategy as ForStrategy, Pattern as ForPattern}
@@ -22,9 +22,9 @@ use Rattle.strategy_parse.specs.declared.parser.state.Group.{Group}
 use Rattle.strategy_parse.specs.declared.parser.state.Group.TheVariants.{Round, Square, Arguments}
 use Rattle.strategy_parse.specs.declared.parser.state.PatternGroup.{PatternGroup}
 use Rattle.strategy_parse.specs.declared.parser.state.PatternGroup.TheVariants.{Application as PApplication, List as PList, Tuple as PTuple, Annotations, Terms, Prim}
-use Rattle.strategy_parse.specs.Marks.{is_mark, is_word}
+use Rattle.strategy_tokens.specs.Marks.{is_mark, is_word}
 use Rattle.strategy_parse.specs.Machine.{Next, stuck, behind, behind_arrow, behind_choice, in_frame, behind_element, behind_pattern, pattern_in_frame, behind_one, step, resume, go_on}
-use Rattle.strategy_parse.proofs.Marks.{mark_is, word_is}
+use Rattle.strategy_tokens.proofs.MarkLemmas.{mark_is, word_is}
 
 -- from where f says where the first token leads to, the tokens give the strategy
 abbrev pub Accepts : (Token → Next) → List Token → Strategy → Type 0

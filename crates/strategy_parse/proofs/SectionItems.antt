@@ -3,14 +3,14 @@ use Rattle.std.proofs.Common.{◌≡◌, false, refl, sym, ap, ◌∙◌, subst,
 use Rattle.std.specs.Prelude.{◌⊎◌}
 use Rattle.std.specs.List.{flat_map}
 use Rattle.strategy_syntax.specs.Modules.{Module}
-use Rattle.strategy_parse.specs.declared.tokens.token.Token.{Token}
-use Rattle.strategy_parse.specs.declared.tokens.token.Token.TheVariants.{Reserved}
-use Rattle.strategy_parse.specs.declared.tokens.token.Keyword.{Keyword}
-use Rattle.strategy_parse.specs.declared.tokens.token.Keyword.TheVariants.{Signature as KSignature, Sorts as KSorts, Constructors as KConstructors, Rules, Strategies, Where}
+use Rattle.strategy_tokens.specs.declared.token.Token.{Token}
+use Rattle.strategy_tokens.specs.declared.token.Token.TheVariants.{Reserved}
+use Rattle.strategy_tokens.specs.declared.token.Keyword.{Keyword}
+use Rattle.strategy_tokens.specs.declared.token.Keyword.TheVariants.{Signature as KSignature, Sorts as KSorts, Constructors as KConstructors, Rules, Strategies, Where}
 use Rattle.strategy_parse.specs.Written.{Sort, Declaration, Defined, Signature, sorts, constructors, Section, signature, definitions}
 use Rattle.strategy_parse.specs.GrammarModules.{ReadsSort, ReadsDeclaration, ReadsDefined, ReadsSorts, ReadsDeclarations, ReadsDefinitions, ReadsSignatures, ReadsSections}
 use Rattle.strategy_parse.specs.Core.{declared, core_definition, core_definitions}
-use Rattle.strategy_parse.specs.Marks.{is_word}
+use Rattle.strategy_tokens.specs.Marks.{is_word}
 use Rattle.strategy_parse.specs.Definitions.{DefinitionEnds}
 use Rattle.strategy_parse.specs.Sections.{IsItem, joined, SectionsLeft, SignatureLeft, SortsLeft, DeclarationsLeft, DefinitionsLeft}
 use Rattle.strategy_parse.proofs.DeclarationLemmas.{DeclarationEnds}

@@ -4,9 +4,9 @@ use Rattle.std.specs.declared.option.Option.{Option}
 use Rattle.std.specs.declared.result.Result.{Result}
 use Rattle.strategy_parse.specs.declared.parser.fault.Fault.{Fault}
 use Rattle.strategy_syntax.specs.Modules.{Module, Constructor, Definition}
-use Rattle.strategy_parse.specs.declared.tokens.token.Token.{Token}
-use Rattle.strategy_parse.specs.declared.tokens.token.Token.TheVariants.{Reserved}
-use Rattle.strategy_parse.specs.declared.tokens.token.Keyword.{Keyword}
+use Rattle.strategy_tokens.specs.declared.token.Token.{Token}
+use Rattle.strategy_tokens.specs.declared.token.Token.TheVariants.{Reserved}
+use Rattle.strategy_tokens.specs.declared.token.Keyword.{Keyword}
 use Rattle.strategy_parse.specs.declared.modules.sections.Part.{Part}
 use Rattle.strategy_parse.specs.declared.modules.sections.Part.TheVariants.{Outside, Signature as InSignature, Sorts, Constructors, Definitions}
 use Rattle.strategy_parse.specs.Written.{Declaration, Defined}

@@ -2,20 +2,20 @@
 use Rattle.std.proofs.Common.{◌≡◌, ℕ, zero, suc, ◌+◌, Bool, true, false, refl, sym, ap, ◌∙◌, subst, List, [], ◌∷◌, Some, None, ◌≤◌, arith}
 use Rattle.std.specs.Prelude.{if◌then◌else◌}
 use Rattle.term_core.specs.Tree.{Symbol}
-use Rattle.strategy_parse.specs.declared.tokens.token.Token.{Token}
-use Rattle.strategy_parse.specs.declared.tokens.token.Token.TheVariants.{Ident, Wildcard, Reserved, Integer, Text, Sign as ASign, Bad}
-use Rattle.strategy_parse.specs.declared.tokens.token.Sign.TheVariants.{OpenRound, CloseRound, Comma, Arrow as RightArrow, Star}
+use Rattle.strategy_tokens.specs.declared.token.Token.{Token}
+use Rattle.strategy_tokens.specs.declared.token.Token.TheVariants.{Ident, Wildcard, Reserved, Integer, Text, Sign as ASign, Bad}
+use Rattle.strategy_tokens.specs.declared.token.Sign.TheVariants.{OpenRound, CloseRound, Comma, Arrow as RightArrow, Star}
 use Rattle.strategy_parse.specs.declared.modules.sorts.Place.{Place}
 use Rattle.strategy_parse.specs.declared.modules.sorts.Place.TheVariants.{Begins, Named, Closed}
 use Rattle.strategy_parse.specs.declared.modules.sorts.Turn.{Turn}
 use Rattle.strategy_parse.specs.declared.modules.sorts.Turn.TheVariants.{Reads, Ends, Stuck}
-use Rattle.strategy_parse.specs.Marks.{is_mark}
+use Rattle.strategy_tokens.specs.Marks.{is_mark}
 use Rattle.strategy_parse.specs.Written.{Sort, sort, Sorts, no_sorts, and_sort}
 use Rattle.strategy_parse.specs.Grammar.{Reading, Mark}
 use Rattle.strategy_parse.specs.GrammarModules.{ReadsSort, ReadsMoreSorts}
 use Rattle.strategy_parse.specs.Core.{sort_count}
 use Rattle.strategy_parse.specs.ModuleFronts.{SortsLeft, behind_sort, begin_sort, sort_step, sort_goes, sorts_from, sorts_at, sort_at, one_sort}
-use Rattle.strategy_parse.proofs.Marks.{mark_is}
+use Rattle.strategy_tokens.proofs.MarkLemmas.{mark_is}
 use Rattle.strategy_parse.proofs.SeenPatterns.{NoMark, no_mark}
 
 -- sorts are left as they are

@@ -3,9 +3,9 @@ use Rattle.std.proofs.Common.{◌≡◌, ℕ, zero, suc, refl, sym, ap, subst, i
 use Rattle.std.specs.Prelude.{if◌then◌else◌}
 use Rattle.strategy_syntax.specs.Syntax as syntax
 use Rattle.strategy_syntax.specs.Syntax.{Pattern, wildcard, variable, at, number, compound, with_tail, annotated, no_patterns, and_pattern, pattern_list, patterns_of, Strategy, strategy_list, strategies_of}
-use Rattle.strategy_parse.specs.declared.tokens.token.Token.{Token}
-use Rattle.strategy_parse.specs.declared.tokens.token.Token.TheVariants.{Sign as ASign}
-use Rattle.strategy_parse.specs.declared.tokens.token.Sign.TheVariants.{Comma, Semicolon, Bar, Less, LeftChoice, Plus}
+use Rattle.strategy_tokens.specs.declared.token.Token.{Token}
+use Rattle.strategy_tokens.specs.declared.token.Token.TheVariants.{Sign as ASign}
+use Rattle.strategy_tokens.specs.declared.token.Sign.TheVariants.{Comma, Semicolon, Bar, Less, LeftChoice, Plus}
 use Rattle.strategy_parse.specs.declared.parser.state.State.TheVariants.{Strategy as ToStrategy, Read}
 use Rattle.strategy_parse.specs.declared.parser.state.Frame.{Frame}
 use Rattle.strategy_parse.specs.declared.parser.state.Frame.TheVariants.{Operand, Strategy as ForStrategy}
@@ -14,7 +14,7 @@ use Rattle.strategy_parse.specs.declared.parser.state.StrategyFrame.{StrategyFra
 use Rattle.strategy_parse.specs.declared.parser.state.StrategyFrame.TheVariants.{List as Strategies}
 use Rattle.strategy_parse.specs.declared.parser.state.Group.{Group}
 use Rattle.strategy_parse.specs.declared.parser.state.PatternGroup.TheVariants.{Prim}
-use Rattle.strategy_parse.specs.Marks.{is_mark}
+use Rattle.strategy_tokens.specs.Marks.{is_mark}
 use Rattle.strategy_parse.specs.Machine.{goes, begin, behind, behind_arrow, behind_seq, behind_choice, behind_element, behind_bar, close_strategies, closing, grouped, first_strategy, empty_bar}
 use Rattle.strategy_parse.specs.Written.{sequence, left_choice, guarded_choice, last, before, arrow, no_choices, and_choice}
 use Rattle.strategy_parse.specs.Core.{then_matched, core, core_seq, core_prefix, core_all}

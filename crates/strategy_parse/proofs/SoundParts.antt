@@ -4,9 +4,9 @@ use Rattle.std.specs.Prelude.{if◌then◌else◌, ◌⊎◌}
 use Rattle.term_core.specs.Tree.{Symbol}
 use Rattle.strategy_syntax.specs.Syntax as syntax
 use Rattle.strategy_syntax.specs.Syntax.{Pattern, wildcard, variable, at, number, compound, with_tail, annotated, no_patterns, and_pattern, pattern_list, patterns_of, Strategy, strategy_list, strategies_of}
-use Rattle.strategy_parse.specs.declared.tokens.token.Token.{Token}
-use Rattle.strategy_parse.specs.declared.tokens.token.Token.TheVariants.{Ident, Wildcard, Reserved, Integer, Text, Sign as ASign, Bad}
-use Rattle.strategy_parse.specs.declared.tokens.token.Sign.TheVariants.{OpenRound, Comma, Semicolon, Colon, Bar, FatArrow}
+use Rattle.strategy_tokens.specs.declared.token.Token.{Token}
+use Rattle.strategy_tokens.specs.declared.token.Token.TheVariants.{Ident, Wildcard, Reserved, Integer, Text, Sign as ASign, Bad}
+use Rattle.strategy_tokens.specs.declared.token.Sign.TheVariants.{OpenRound, Comma, Semicolon, Colon, Bar, FatArrow}
 use Rattle.strategy_parse.specs.declared.parser.state.State.TheVariants.{Strategy as ToStrategy, ScopeOpen, ScopeComma, ScopeNamed, Pattern as ToPattern}
 use Rattle.strategy_parse.specs.declared.parser.state.Frame.{Frame}
 use Rattle.strategy_parse.specs.declared.parser.state.Frame.TheVariants.{Operand, Strategy as ForStrategy, Pattern as ForPattern}
@@ -16,7 +16,7 @@ use Rattle.strategy_parse.specs.declared.parser.state.StrategyFrame.TheVariants.
 use Rattle.strategy_parse.specs.declared.parser.state.PatternFrame.TheVariants.{Matched}
 use Rattle.strategy_parse.specs.declared.parser.state.Group.{Group}
 use Rattle.strategy_parse.specs.declared.parser.state.PatternGroup.TheVariants.{Prim}
-use Rattle.strategy_parse.specs.Marks.{is_mark}
+use Rattle.strategy_tokens.specs.Marks.{is_mark}
 use Rattle.strategy_parse.specs.Machine.{Next, goes, stuck, begin, begin_pattern, behind, behind_arrow, behind_choice, in_frame, behind_bar, closing, grouped, empty_bar, scope_name, step}
 use Rattle.strategy_parse.specs.Grammar.{ReadsArrows, ReadsMoreNames, ReadsNames, ReadsChoice, ReadsSeq, ReadsPrefix, ReadsChoices, ReadsSomeChoices, ReadsMoreChoices}
 use Rattle.strategy_parse.specs.Written.{Choice, Seq, Prefix, Choices, and_choice}

@@ -4,12 +4,12 @@ use Rattle.std.specs.Prelude.{if◌then◌else◌}
 use Rattle.term_core.specs.Tree.{Symbol, list}
 use Rattle.strategy_syntax.specs.Syntax as syntax
 use Rattle.strategy_syntax.specs.Syntax.{Pattern, wildcard, variable, at, number, compound, with_tail, annotated, no_patterns, and_pattern, pattern_list, patterns_of, Strategy, strategy_list, strategies_of}
-use Rattle.strategy_parse.specs.declared.tokens.token.Token.{Token}
-use Rattle.strategy_parse.specs.declared.tokens.token.Token.TheVariants.{Ident, Wildcard, Reserved, Integer, Text, Sign as ASign, Bad}
-use Rattle.strategy_parse.specs.declared.tokens.token.Keyword.{Keyword}
-use Rattle.strategy_parse.specs.declared.tokens.token.Keyword.TheVariants.{Id as KId, Fail as KFail, All as KAll, One as KOne, Some as KSome, Not as KNot, Where as KWhere, Test as KTest, If as KIf, Then as KThen, Else as KElse, End as KEnd, Rec as KRec, Prim as KPrim}
-use Rattle.strategy_parse.specs.declared.tokens.token.Sign.{Sign}
-use Rattle.strategy_parse.specs.declared.tokens.token.Sign.TheVariants.{OpenRound, CloseRound, OpenSquare, CloseSquare, OpenCurly, CloseCurly, Comma, Bar, Arrow as RightArrow, Less, Greater, Question, Exclamation, Backslash}
+use Rattle.strategy_tokens.specs.declared.token.Token.{Token}
+use Rattle.strategy_tokens.specs.declared.token.Token.TheVariants.{Ident, Wildcard, Reserved, Integer, Text, Sign as ASign, Bad}
+use Rattle.strategy_tokens.specs.declared.token.Keyword.{Keyword}
+use Rattle.strategy_tokens.specs.declared.token.Keyword.TheVariants.{Id as KId, Fail as KFail, All as KAll, One as KOne, Some as KSome, Not as KNot, Where as KWhere, Test as KTest, If as KIf, Then as KThen, Else as KElse, End as KEnd, Rec as KRec, Prim as KPrim}
+use Rattle.strategy_tokens.specs.declared.token.Sign.{Sign}
+use Rattle.strategy_tokens.specs.declared.token.Sign.TheVariants.{OpenRound, CloseRound, OpenSquare, CloseSquare, OpenCurly, CloseCurly, Comma, Bar, Arrow as RightArrow, Less, Greater, Question, Exclamation, Backslash}
 use Rattle.strategy_parse.specs.declared.parser.state.State.TheVariants.{Strategy as ToStrategy, FirstStrategy, Read, Used, Opening, Prim as BehindPrim, PrimOpen, PrimNamed, ScopeOpen, Pattern as ToPattern}
 use Rattle.strategy_parse.specs.declared.parser.state.Frame.{Frame}
 use Rattle.strategy_parse.specs.declared.parser.state.Frame.TheVariants.{Strategy as ForStrategy, Pattern as ForPattern}
@@ -21,7 +21,7 @@ use Rattle.strategy_parse.specs.declared.parser.state.Operator.TheVariants.{All,
 use Rattle.strategy_parse.specs.declared.parser.state.Group.TheVariants.{Round, Square, Arguments}
 use Rattle.strategy_parse.specs.declared.parser.state.PatternGroup.{PatternGroup}
 use Rattle.strategy_parse.specs.declared.parser.state.PatternGroup.TheVariants.{Terms, Prim}
-use Rattle.strategy_parse.specs.Marks.{is_mark, is_word}
+use Rattle.strategy_tokens.specs.Marks.{is_mark, is_word}
 use Rattle.strategy_parse.specs.Machine.{goes, stuck, begin, begin_sign, begin_word, begin_child, begin_pattern, behind, behind_choice, first_pattern, rec_name, prim_name, step}
 use Rattle.strategy_parse.specs.Grammar.{word_of, ReadsChoice, ReadsChoices}
 use Rattle.strategy_parse.specs.Written.{Choice, question, exclamation, application, identity, failure, operator, if_then, if_then_else, recursion, primitive, local, closure, closure_where, round, square, square_with_tail, name, call, call_with_terms, child, Choices, no_choices, and_choice}

@@ -3,13 +3,13 @@ use Rattle.std.proofs.Common.{◌≡◌, true, false, refl, sym, ap, ◌∙◌, 
 use Rattle.std.specs.declared.option.Option.{Option}
 use Rattle.term_core.specs.Tree.{Symbol}
 use Rattle.strategy_syntax.specs.Modules.{Module}
-use Rattle.strategy_parse.specs.declared.tokens.token.Token.{Token}
-use Rattle.strategy_parse.specs.declared.tokens.token.Token.TheVariants.{Ident, Wildcard, Reserved, Integer, Text, Sign as ASign, Bad}
-use Rattle.strategy_parse.specs.declared.tokens.token.Keyword.TheVariants.{Module as KModule, Signature as KSignature, Rules, Strategies}
+use Rattle.strategy_tokens.specs.declared.token.Token.{Token}
+use Rattle.strategy_tokens.specs.declared.token.Token.TheVariants.{Ident, Wildcard, Reserved, Integer, Text, Sign as ASign, Bad}
+use Rattle.strategy_tokens.specs.declared.token.Keyword.TheVariants.{Module as KModule, Signature as KSignature, Rules, Strategies}
 use Rattle.strategy_parse.specs.declared.modules.sections.Part.TheVariants.{Outside}
 use Rattle.strategy_parse.specs.Written.{Section, signature, definitions}
 use Rattle.strategy_parse.specs.GrammarModules.{ReadsSections}
-use Rattle.strategy_parse.specs.Marks.{is_word}
+use Rattle.strategy_tokens.specs.Marks.{is_word}
 use Rattle.strategy_parse.specs.ModuleFronts.{behind_ident}
 use Rattle.strategy_parse.specs.FreeNames.{next_token}
 use Rattle.strategy_parse.specs.Gives.{GivesModule}

@@ -1,11 +1,11 @@
 -- A reserved word that comes first.
 use Rattle.std.proofs.Common.{◌≡◌, true, false, ap, ◌∙◌, List, [], ◌∷◌}
-use Rattle.strategy_parse.specs.declared.tokens.token.Token.{Token}
-use Rattle.strategy_parse.specs.declared.tokens.token.Token.TheVariants.{Reserved}
-use Rattle.strategy_parse.specs.declared.tokens.token.Keyword.{Keyword}
-use Rattle.strategy_parse.specs.Marks.{is_word}
+use Rattle.strategy_tokens.specs.declared.token.Token.{Token}
+use Rattle.strategy_tokens.specs.declared.token.Token.TheVariants.{Reserved}
+use Rattle.strategy_tokens.specs.declared.token.Keyword.{Keyword}
+use Rattle.strategy_tokens.specs.Marks.{is_word}
 use Rattle.strategy_parse.specs.FreeNames.{next_token}
-use Rattle.strategy_parse.proofs.Marks.{word_is}
+use Rattle.strategy_tokens.proofs.MarkLemmas.{word_is}
 
 pub word_first : (w : Keyword) (x : List Token) (t : Token) (ts : List Token) → x ≡ t ∷ ts → is_word w t ≡ true → x ≡ Reserved w ∷ ts
 word_first w x t ts h e = h ∙ ap (λ u. u ∷ ts) (word_is w t e)

@@ -1,16 +1,16 @@
 -- What the front of a list of tokens gives as a definition.
 use Rattle.std.specs.Prelude.{◌≡◌, false, List}
 use Rattle.strategy_syntax.specs.Modules.{Definition}
-use Rattle.strategy_parse.specs.declared.tokens.token.Token.{Token}
-use Rattle.strategy_parse.specs.declared.tokens.token.Keyword.TheVariants.{Where}
-use Rattle.strategy_parse.specs.declared.tokens.token.Sign.TheVariants.{Arrow as RightArrow}
+use Rattle.strategy_tokens.specs.declared.token.Token.{Token}
+use Rattle.strategy_tokens.specs.declared.token.Keyword.TheVariants.{Where}
+use Rattle.strategy_tokens.specs.declared.token.Sign.TheVariants.{Arrow as RightArrow}
 use Rattle.strategy_parse.specs.Written.{Head, Defined, definition, rule, rule_where}
 use Rattle.strategy_parse.specs.Grammar.{Reading, ◌▸◌, Word, Mark, ReadsPattern, ReadsChoice}
 use Rattle.strategy_parse.specs.GrammarModules.{ReadsDefined}
 use Rattle.strategy_parse.specs.Core.{core_definition}
 use Rattle.strategy_parse.specs.Fronts.{Stops}
 use Rattle.strategy_parse.specs.FreeNames.{next_token}
-use Rattle.strategy_parse.specs.Marks.{is_word}
+use Rattle.strategy_tokens.specs.Marks.{is_word}
 
 -- nothing comes next that goes on with a definition
 pub record DefinitionEnds (y : List Token) : Type 0 where

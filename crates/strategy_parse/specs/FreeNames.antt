@@ -2,9 +2,9 @@
 -- each is seen where a variable of a pattern is read, unless an open scope names it.
 use Rattle.std.specs.Prelude.{Bool, true, false, ◌||◌, List, [], ◌∷◌, ◌++◌, if◌then◌else◌}
 use Rattle.term_core.specs.Tree.{Symbol}
-use Rattle.strategy_parse.specs.declared.tokens.token.Token.{Token}
-use Rattle.strategy_parse.specs.declared.tokens.token.Token.TheVariants.{Bad}
-use Rattle.strategy_parse.specs.declared.tokens.token.Sign.TheVariants.{OpenRound}
+use Rattle.strategy_tokens.specs.declared.token.Token.{Token}
+use Rattle.strategy_tokens.specs.declared.token.Token.TheVariants.{Bad}
+use Rattle.strategy_tokens.specs.declared.token.Sign.TheVariants.{OpenRound}
 use Rattle.strategy_parse.specs.declared.parser.state.State.{State}
 use Rattle.strategy_parse.specs.declared.parser.state.State.TheVariants.{Named}
 use Rattle.strategy_parse.specs.declared.parser.state.Frame.{Frame}
@@ -13,7 +13,7 @@ use Rattle.strategy_parse.specs.declared.parser.state.StrategyFrame.TheVariants.
 use Rattle.strategy_parse.specs.declared.parser.state.PatternFrame.TheVariants.{Left as ClosureLeft, Right as ClosureRight}
 use Rattle.strategy_syntax.specs.Variables.{variables}
 use Rattle.strategy_parse.specs.Core.{is_among}
-use Rattle.strategy_parse.specs.Marks.{is_mark}
+use Rattle.strategy_tokens.specs.Marks.{is_mark}
 use Rattle.strategy_parse.specs.Machine.{Next, goes, step}
 
 -- Whether the form names it: a scope, or a closure by its left side. What stands in the left side

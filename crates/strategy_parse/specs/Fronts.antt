@@ -1,12 +1,12 @@
 -- What the front of a list of tokens gives, where what is left can't go on with it.
 use Rattle.std.specs.Prelude.{◌≡◌, ◌||◌, Bool, false, List, [], ◌∷◌}
 use Rattle.strategy_syntax.specs.Syntax.{Strategy}
-use Rattle.strategy_parse.specs.declared.tokens.token.Token.{Token}
-use Rattle.strategy_parse.specs.declared.tokens.token.Sign.TheVariants.{OpenRound, OpenCurly, Semicolon, FatArrow, Less, LeftChoice, At}
+use Rattle.strategy_tokens.specs.declared.token.Token.{Token}
+use Rattle.strategy_tokens.specs.declared.token.Sign.TheVariants.{OpenRound, OpenCurly, Semicolon, FatArrow, Less, LeftChoice, At}
 use Rattle.strategy_parse.specs.Written.{Choice}
 use Rattle.strategy_parse.specs.Grammar.{ReadsChoice}
 use Rattle.strategy_parse.specs.Core.{core}
-use Rattle.strategy_parse.specs.Marks.{is_mark}
+use Rattle.strategy_tokens.specs.Marks.{is_mark}
 
 -- a sign with which a whole strategy or pattern could go on
 abbrev pub goes_on : Token → Bool

@@ -2,7 +2,7 @@
 use Rattle.std.specs.Prelude.{◌≡◌, List, []}
 use Rattle.strategy_syntax.specs.Syntax.{Strategy}
 use Rattle.strategy_syntax.specs.Modules as syntax
-use Rattle.strategy_parse.specs.declared.tokens.token.Token.{Token}
+use Rattle.strategy_tokens.specs.declared.token.Token.{Token}
 use Rattle.strategy_parse.specs.Written.{Choice, Section}
 use Rattle.strategy_parse.specs.Grammar.{ReadsChoice}
 use Rattle.strategy_parse.specs.GrammarModules.{ReadsModule}

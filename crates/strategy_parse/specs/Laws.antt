@@ -1,7 +1,7 @@
 -- Laws of the texts of strategies and modules.
 use Rattle.std.specs.Prelude.{◌≡◌, ℕ, List}
 use Rattle.strategy_syntax.specs.Syntax.{Strategy}
-use Rattle.strategy_parse.specs.Tokens.{tokens}
+use Rattle.strategy_tokens.specs.Tokens.{tokens}
 use Rattle.strategy_syntax.specs.Modules as syntax
 use Rattle.strategy_parse.specs.Gives.{GivesStrategy, GivesModule}
 

@@ -1,11 +1,8 @@
-pub mod Tokens
-pub mod Pieces
 pub mod Written
 pub mod Grammar
 pub mod GrammarModules
 pub mod Core
 pub mod Gives
-pub mod Marks
 pub mod Machine
 pub mod Fronts
 pub mod Faults

@@ -5,12 +5,12 @@ use Rattle.std.specs.declared.option.Option.{Option}
 use Rattle.term_core.specs.Tree.{Symbol, application as applied, list, tuple}
 use Rattle.strategy_syntax.specs.Syntax as syntax
 use Rattle.strategy_syntax.specs.Syntax.{Pattern, patterns_of, Strategy, strategies_of}
-use Rattle.strategy_parse.specs.declared.tokens.token.Token.{Token}
-use Rattle.strategy_parse.specs.declared.tokens.token.Token.TheVariants.{Ident, Wildcard, Reserved, Integer, Text, Sign as ASign, Bad}
-use Rattle.strategy_parse.specs.declared.tokens.token.Keyword.{Keyword}
-use Rattle.strategy_parse.specs.declared.tokens.token.Keyword.TheVariants.{Id as KId, Fail as KFail, All as KAll, One as KOne, Some as KSome, Not as KNot, Where as KWhere, Test as KTest, If as KIf, Then as KThen, Else as KElse, End as KEnd, Rec as KRec, Prim as KPrim}
-use Rattle.strategy_parse.specs.declared.tokens.token.Sign.{Sign}
-use Rattle.strategy_parse.specs.declared.tokens.token.Sign.TheVariants.{OpenRound, CloseRound, OpenSquare, CloseSquare, OpenCurly, CloseCurly, Comma, Semicolon, Colon, Bar, FatArrow, Arrow as RightArrow, Less, Greater, LeftChoice, Plus, Question, Exclamation, At as AtSign, Backslash}
+use Rattle.strategy_tokens.specs.declared.token.Token.{Token}
+use Rattle.strategy_tokens.specs.declared.token.Token.TheVariants.{Ident, Wildcard, Reserved, Integer, Text, Sign as ASign, Bad}
+use Rattle.strategy_tokens.specs.declared.token.Keyword.{Keyword}
+use Rattle.strategy_tokens.specs.declared.token.Keyword.TheVariants.{Id as KId, Fail as KFail, All as KAll, One as KOne, Some as KSome, Not as KNot, Where as KWhere, Test as KTest, If as KIf, Then as KThen, Else as KElse, End as KEnd, Rec as KRec, Prim as KPrim}
+use Rattle.strategy_tokens.specs.declared.token.Sign.{Sign}
+use Rattle.strategy_tokens.specs.declared.token.Sign.TheVariants.{OpenRound, CloseRound, OpenSquare, CloseSquare, OpenCurly, CloseCurly, Comma, Semicolon, Colon, Bar, FatArrow, Arrow as RightArrow, Less, Greater, LeftChoice, Plus, Question, Exclamation, At as AtSign, Backslash}
 use Rattle.strategy_parse.specs.declared.parser.state.State.{State}
 use Rattle.strategy_parse.specs.declared.parser.state.State.TheVariants.{Strategy as ToStrategy, FirstStrategy, Read, Used, Opening, Rec as BehindRec, Prim as BehindPrim, PrimOpen, PrimNamed, ScopeOpen, ScopeComma, ScopeNamed, Pattern as ToPattern, FirstPattern, Named, Base, Whole}
 use Rattle.strategy_parse.specs.declared.parser.state.Frame.{Frame}
@@ -29,7 +29,7 @@ use Rattle.strategy_parse.specs.declared.parser.state.PatternGroup.{PatternGroup
 use Rattle.strategy_parse.specs.declared.parser.state.PatternGroup.TheVariants.{Application as PApplication, List as PList, Tuple as PTuple, Annotations, Terms, Prim}
 use Rattle.strategy_parse.specs.declared.parser.state.Outcome.{Outcome}
 use Rattle.strategy_parse.specs.declared.parser.state.Outcome.TheVariants.{Goes, Ends}
-use Rattle.strategy_parse.specs.Marks.{is_mark, is_word}
+use Rattle.strategy_tokens.specs.Marks.{is_mark, is_word}
 use Rattle.strategy_syntax.specs.Variables.{variables}
 use Rattle.strategy_parse.specs.Core.{operated, in_brackets, rewrite, rewrite_where, once}
 

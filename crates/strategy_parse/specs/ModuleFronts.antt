@@ -4,15 +4,15 @@ use Rattle.std.specs.Prelude.{ℕ, zero, suc, List, [], ◌∷◌, ◌++◌, if�
 use Rattle.std.specs.declared.option.Option.{Option}
 use Rattle.term_core.specs.Tree.{Symbol}
 use Rattle.strategy_syntax.specs.Modules as syntax
-use Rattle.strategy_parse.specs.declared.tokens.token.Token.{Token}
-use Rattle.strategy_parse.specs.declared.tokens.token.Token.TheVariants.{Ident, Bad}
-use Rattle.strategy_parse.specs.declared.tokens.token.Sign.{Sign}
-use Rattle.strategy_parse.specs.declared.tokens.token.Sign.TheVariants.{OpenRound, CloseRound, Comma, Colon, Bar, Arrow as RightArrow, Star}
+use Rattle.strategy_tokens.specs.declared.token.Token.{Token}
+use Rattle.strategy_tokens.specs.declared.token.Token.TheVariants.{Ident, Bad}
+use Rattle.strategy_tokens.specs.declared.token.Sign.{Sign}
+use Rattle.strategy_tokens.specs.declared.token.Sign.TheVariants.{OpenRound, CloseRound, Comma, Colon, Bar, Arrow as RightArrow, Star}
 use Rattle.strategy_parse.specs.declared.modules.sorts.Place.{Place}
 use Rattle.strategy_parse.specs.declared.modules.sorts.Place.TheVariants.{Begins, Named, Closed}
 use Rattle.strategy_parse.specs.declared.modules.sorts.Turn.{Turn}
 use Rattle.strategy_parse.specs.declared.modules.sorts.Turn.TheVariants.{Reads, Ends, Stuck}
-use Rattle.strategy_parse.specs.Marks.{is_mark}
+use Rattle.strategy_tokens.specs.Marks.{is_mark}
 use Rattle.strategy_parse.specs.Written.{Head}
 
 -- what is behind a sign, where it comes first

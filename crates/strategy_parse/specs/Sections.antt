@@ -3,10 +3,10 @@ use Rattle.std.specs.Prelude.{◌≡◌, List, [], ◌∷◌, ◌++◌, Some, No
 use Rattle.std.specs.declared.option.Option.{Option}
 use Rattle.std.specs.List.{flat_map}
 use Rattle.strategy_syntax.specs.Modules.{Module, Constructor, Definition}
-use Rattle.strategy_parse.specs.declared.tokens.token.Token.{Token}
-use Rattle.strategy_parse.specs.declared.tokens.token.Token.TheVariants.{Reserved}
-use Rattle.strategy_parse.specs.declared.tokens.token.Keyword.{Keyword}
-use Rattle.strategy_parse.specs.declared.tokens.token.Keyword.TheVariants.{Signature as KSignature, Sorts as KSorts, Constructors as KConstructors, Rules, Strategies}
+use Rattle.strategy_tokens.specs.declared.token.Token.{Token}
+use Rattle.strategy_tokens.specs.declared.token.Token.TheVariants.{Reserved}
+use Rattle.strategy_tokens.specs.declared.token.Keyword.{Keyword}
+use Rattle.strategy_tokens.specs.declared.token.Keyword.TheVariants.{Signature as KSignature, Sorts as KSorts, Constructors as KConstructors, Rules, Strategies}
 use Rattle.strategy_parse.specs.declared.modules.sections.Part.{Part}
 use Rattle.strategy_parse.specs.declared.modules.sections.Part.TheVariants.{Outside, Signature as InSignature, Sorts, Constructors, Definitions}
 use Rattle.strategy_parse.specs.Written.{Sort, Declaration, Defined, Signature, Section}

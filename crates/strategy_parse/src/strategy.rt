@@ -3,13 +3,13 @@
 ghost use Rattle.std.specs.Prelude.{◌≡◌, ◌↔◌, ◌<◌, length, IfOk, Err};
 ghost use Rattle.strategy_syntax.specs.Syntax as syntax;
 ghost use Rattle.strategy_parse.specs.Gives.{GivesStrategy};
-ghost use Rattle.strategy_parse.specs.Tokens.{tokens};
+ghost use Rattle.strategy_tokens.specs.Tokens.{tokens};
 
-use crate::MAX_TOKENS;
+use crate::ParseFault;
 use crate::parser::read_strategy;
-use crate::tokens::{ParseFault, read_tokens};
 use std::alloc::Global;
 use strategy_syntax::Strategy;
+use strategy_tokens::{MAX_TOKENS, read_tokens};
 
 /// The strategy that a text gives, in its core form.
 ///

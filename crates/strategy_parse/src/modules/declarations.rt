@@ -7,8 +7,8 @@ ghost use Rattle.strategy_parse.specs.ModuleFronts.{behind_arguments, declaratio
 use crate::modules::sorts::{skip_sort, skip_sorts};
 use crate::modules::tokens::{behind_mark, expect_mark};
 use crate::parser::Fault;
-use crate::tokens::{Sign, Token};
 use strategy_syntax::Constructor;
+use strategy_tokens::{Sign, Token};
 use term_core::Name;
 
 /// The constructor that the declaration at the front of the tokens declares, where it has a name,

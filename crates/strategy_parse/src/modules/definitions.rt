@@ -5,15 +5,15 @@ ghost use Rattle.strategy_parse.specs.Core.{core_definition};
 ghost use Rattle.strategy_parse.specs.Definitions.{DefinitionEnds, DefinitionGives};
 ghost use Rattle.strategy_parse.specs.GrammarModules.{ReadsDefined};
 ghost use Rattle.strategy_parse.specs.Written.{Defined};
-ghost use Rattle.strategy_parse.specs.declared.tokens.token.Token.{Token};
+ghost use Rattle.strategy_tokens.specs.declared.token.Token.{Token};
 
 use crate::modules::heads::{Head, read_head};
 use crate::modules::rules::{make_definition, read_rule};
 use crate::modules::tokens::{behind_mark, expect_mark};
 use crate::parser::{Fault, read_strategy};
-use crate::tokens::{Sign, Token};
 use std::alloc::Global;
 use strategy_syntax::Definition;
+use strategy_tokens::{Sign, Token};
 
 /// The definition at the front of the tokens, and those behind it.
 pub fn read_definition<'a>(

@@ -6,9 +6,9 @@ ghost use Rattle.strategy_parse.specs.ModuleFronts.{names_at, more_names};
 ghost use Rattle.strategy_parse.specs.ModuleFronts.{make_head, parameters_at, head_at};
 
 use crate::modules::tokens::{behind_mark, expect_mark};
-use crate::parser::{Fault, NameList, is_mark};
-use crate::tokens::{Sign, Token};
+use crate::parser::{Fault, NameList};
 use std::alloc::Global;
+use strategy_tokens::{Sign, Token, is_mark};
 use term_core::Name;
 
 /// The name of a definition, and its parameters: strategies, and terms.

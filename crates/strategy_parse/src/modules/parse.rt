@@ -4,15 +4,15 @@ ghost use Rattle.std.specs.Prelude.{◌≡◌, ◌↔◌, ◌<◌, length, IfOk,
 ghost use Rattle.strategy_syntax.specs.Modules as syntax;
 ghost use Rattle.strategy_parse.specs.Gives.{GivesModule};
 ghost use Rattle.strategy_parse.specs.Sections.{Left};
-ghost use Rattle.strategy_parse.specs.Tokens.{tokens};
+ghost use Rattle.strategy_tokens.specs.Tokens.{tokens};
 
-use crate::MAX_TOKENS;
+use crate::ParseFault;
 use crate::modules::sections::{Part, read_sections};
 use crate::modules::tokens::{behind_ident, behind_word};
 use crate::parser::Fault;
-use crate::tokens::{Keyword, ParseFault, Token, read_tokens};
 use std::alloc::Global;
 use strategy_syntax::Module;
+use strategy_tokens::{Keyword, MAX_TOKENS, Token, read_tokens};
 
 /// The module that a text gives, with its rules and strategies in their core forms. The name behind
 /// `module` isn't used. The empty text is a module without anything in it.

@@ -6,7 +6,7 @@ ghost use Rattle.strategy_parse.specs.Core.{core_definition, defined, once, with
 ghost use Rattle.strategy_parse.specs.Definitions.{DefinitionEnds, head_of, ReadsRule, RuleGives};
 ghost use Rattle.strategy_parse.specs.ModuleFronts.{make_head};
 ghost use Rattle.strategy_parse.specs.Written.{Defined};
-ghost use Rattle.strategy_parse.specs.declared.tokens.token.Token.{Token};
+ghost use Rattle.strategy_tokens.specs.declared.token.Token.{Token};
 
 use crate::modules::heads::Head;
 use crate::modules::tokens::{behind_word, expect_mark};
@@ -14,9 +14,9 @@ use crate::parser::{
     Condition, Fault, NameList, add_variables, make_rewrite, make_rewrite_where, make_scope,
     once_without, read_condition, read_pattern,
 };
-use crate::tokens::{Keyword, Sign, Token};
 use std::alloc::Global;
 use strategy_syntax::{Definition, Pattern, Strategy};
+use strategy_tokens::{Keyword, Sign, Token};
 use term_core::NoMemory;
 
 /// The rule with this head, whose patterns stand at the front of the tokens, and those behind it.

@@ -8,9 +8,9 @@ use crate::modules::declarations::read_declaration;
 use crate::modules::definitions::read_definition;
 use crate::modules::sorts::skip_sort;
 use crate::parser::Fault;
-use crate::tokens::{Keyword, Token};
 use std::alloc::Global;
 use strategy_syntax::{Constructor, Definition, Module};
+use strategy_tokens::{Keyword, Token};
 
 /// What may come next in a module, besides another section.
 #[derive(Clone, Copy)]

@@ -4,8 +4,8 @@
 ghost use Rattle.std.specs.Prelude.{◌≡◌, ◌<◌, ◌^◌, length, IfOk, Err, Some, None};
 ghost use Rattle.strategy_parse.specs.ModuleFronts.{sort_step, behind_sort, sorts_at, sort_at};
 
-use crate::parser::{Fault, is_mark};
-use crate::tokens::{Sign, Token};
+use crate::parser::Fault;
+use strategy_tokens::{Sign, Token, is_mark};
 
 /// What was read last of a sort.
 #[derive(Clone, Copy)]

@@ -3,11 +3,11 @@
 
 ghost use Rattle.std.specs.Prelude.{◌≡◌, ◌∷◌, IfOk, IfSome, IfNone, Err, Some, None, false};
 ghost use Rattle.strategy_parse.specs.FreeNames.{next_token};
-ghost use Rattle.strategy_parse.specs.Marks.{is_word};
+ghost use Rattle.strategy_tokens.specs.Marks.{is_word};
 ghost use Rattle.strategy_parse.specs.ModuleFronts.{behind_ident, behind_mark};
 
-use crate::parser::{Fault, is_mark, is_word};
-use crate::tokens::{Keyword, Sign, Token};
+use crate::parser::Fault;
+use strategy_tokens::{Keyword, Sign, Token, is_mark, is_word};
 
 /// The tokens behind the sign, where it comes first.
 pub fn behind_mark<'a>(tokens: &'a [Token], sign: Sign) -> Option<&'a [Token]>

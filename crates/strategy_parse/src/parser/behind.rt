@@ -7,6 +7,7 @@ ghost use Rattle.strategy_parse.specs.Forms.{forms};
 ghost use Rattle.strategy_parse.specs.Machine as machine;
 ghost use Rattle.strategy_parse.specs.Machine.{no_operand};
 
+use crate::parser::expect::{expect, expect_word};
 use crate::parser::fault::Fault;
 use crate::parser::group::{closing_of, make_group};
 use crate::parser::lists::StrategyList;
@@ -14,14 +15,13 @@ use crate::parser::make::{
     make_child, make_closure_where, make_guard, make_id, make_if, make_operated, make_rec,
     make_scope, make_seq, make_square_tail,
 };
-use crate::parser::marks::{expect, expect_word, is_mark, is_word};
 use crate::parser::stack::Stack;
 use crate::parser::state::{
     Frame, Group, Infix, Outcome, PatternFrame, PatternGroup, State, StrategyFrame,
 };
-use crate::tokens::{Keyword, Sign, Token};
 use std::alloc::Global;
 use strategy_syntax::Strategy;
+use strategy_tokens::{Keyword, Sign, Token, is_mark, is_word};
 
 /// A strategy is read, which may go on.
 pub fn behind(

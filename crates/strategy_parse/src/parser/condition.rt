@@ -8,13 +8,12 @@ ghost use Rattle.strategy_parse.specs.Machine.{front, begin};
 
 use crate::parser::fault::Fault;
 use crate::parser::lists::NameList;
-use crate::parser::marks::is_mark;
 use crate::parser::stack::Stack;
 use crate::parser::state::{Outcome, State};
 use crate::parser::step::step;
-use crate::tokens::{Sign, Token};
 use std::alloc::Global;
 use strategy_syntax::Strategy;
+use strategy_tokens::{Sign, Token, is_mark};
 use term_core::NoMemory;
 
 /// A condition, as it was read.

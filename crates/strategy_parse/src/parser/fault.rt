@@ -1,6 +1,6 @@
 //! Why a token was not taken.
 
-use crate::tokens::ParseFault;
+use crate::ParseFault;
 use std::alloc::{AllocError, AllocFailed};
 use term_core::NoMemory;
 

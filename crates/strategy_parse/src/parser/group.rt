@@ -8,9 +8,9 @@ ghost use Rattle.strategy_parse.specs.Machine as machine;
 
 use crate::parser::lists::{PatternList, StrategyList};
 use crate::parser::state::{Group, PatternGroup, State};
-use crate::tokens::Sign;
 use std::alloc::Global;
 use strategy_syntax::{Head, Pattern, PatternForm, Strategy, StrategyForm};
+use strategy_tokens::Sign;
 use term_core::{Name, NoMemory};
 
 /// The sign that closes a list of strategies.

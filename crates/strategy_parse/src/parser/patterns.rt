@@ -9,16 +9,16 @@ ghost use Rattle.strategy_parse.specs.Machine.{no_at};
 ghost use Rattle.strategy_parse.specs.declared.parser.state.Frame.{Frame};
 
 use crate::parser::behind::behind;
+use crate::parser::expect::{expect, expect_word};
 use crate::parser::fault::Fault;
 use crate::parser::group::{close_patterns, closing_sign_of};
 use crate::parser::lists::PatternList;
 use crate::parser::make::{make_build, make_closure, make_match, make_seq};
-use crate::parser::marks::{expect, expect_word, is_mark};
 use crate::parser::stack::Stack;
 use crate::parser::state::{Frame, Outcome, PatternFrame, PatternGroup, State, StrategyFrame};
-use crate::tokens::{Keyword, Sign, Token};
 use std::alloc::Global;
 use strategy_syntax::{Head, Pattern, PatternForm};
+use strategy_tokens::{Keyword, Sign, Token, is_mark};
 use term_core::{Name, NoMemory};
 
 /// A pattern has to begin.

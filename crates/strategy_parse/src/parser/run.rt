@@ -8,15 +8,15 @@ ghost use Rattle.strategy_parse.specs.Fronts.{FrontGives, Stops};
 ghost use Rattle.strategy_parse.specs.Grammar.{ReadsChoice, ReadsPattern};
 ghost use Rattle.strategy_parse.specs.Machine.{front, step as step_of};
 ghost use Rattle.strategy_parse.specs.Written.{Choice};
-ghost use Rattle.strategy_parse.specs.declared.tokens.token.Token.{Token};
+ghost use Rattle.strategy_tokens.specs.declared.token.Token.{Token};
 
 use crate::parser::fault::Fault;
 use crate::parser::stack::Stack;
 use crate::parser::state::{Frame, Outcome, PatternFrame, State};
 use crate::parser::step::step;
-use crate::tokens::Token;
 use std::alloc::Global;
 use strategy_syntax::{Pattern, Strategy, StrategyForm};
+use strategy_tokens::Token;
 
 /// The strategy at the front of the tokens, and those behind it. It goes on as long as it can.
 pub fn read_strategy<'a>(

@@ -7,18 +7,18 @@ ghost use Rattle.strategy_parse.specs.declared.parser.state.Frame.{Frame};
 ghost use Rattle.strategy_syntax.specs.Syntax as syntax;
 
 use crate::parser::behind::behind;
+use crate::parser::expect::expect;
 use crate::parser::fault::Fault;
 use crate::parser::lists::{NameList, PatternList};
-use crate::parser::marks::{expect, is_mark};
 use crate::parser::patterns::{begin_pattern, behind_base, behind_pattern, first_pattern};
 use crate::parser::stack::Stack;
 use crate::parser::state::{
     Frame, Group, Outcome, PatternFrame, PatternGroup, State, StrategyFrame,
 };
 use crate::parser::strategies::{begin, first_strategy};
-use crate::tokens::{Sign, Token};
 use std::alloc::Global;
 use strategy_syntax::{Pattern, PatternForm, Strategy, StrategyForm};
+use strategy_tokens::{Sign, Token, is_mark};
 use term_core::Name;
 
 /// Takes one token.

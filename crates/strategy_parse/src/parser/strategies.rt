@@ -10,13 +10,12 @@ use crate::parser::fault::Fault;
 use crate::parser::group::{closing_of, make_group};
 use crate::parser::lists::StrategyList;
 use crate::parser::make::{make_fail, make_id};
-use crate::parser::marks::is_mark;
 use crate::parser::stack::Stack;
 use crate::parser::state::{
     Frame, Group, Operator, Outcome, PatternFrame, PatternGroup, State, StrategyFrame,
 };
-use crate::tokens::{Keyword, Sign, Token};
 use std::alloc::Global;
+use strategy_tokens::{Keyword, Sign, Token, is_mark};
 
 /// A strategy has to begin.
 pub fn begin(stack: &mut Stack, token: &Token) -> Result<Outcome, Fault>

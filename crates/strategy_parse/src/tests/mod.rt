@@ -3,4 +3,3 @@
 mod modules;
 mod show;
 mod strategies;
-mod tokens;

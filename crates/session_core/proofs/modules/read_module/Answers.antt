@@ -1,6 +1,6 @@
 use Rattle.std.proofs.Common.{◌<◌, length, inr, refl, Err}
-use Rattle.strategy_parse.specs.declared.TheConstants.{MAX_TOKENS}
-use Rattle.strategy_parse.specs.Tokens.{tokens}
+use Rattle.strategy_tokens.specs.declared.TheConstants.{MAX_TOKENS}
+use Rattle.strategy_tokens.specs.Tokens.{tokens}
 use Rattle.session_core.proofs.CheckLemmas.{few_tokens}
 use Rattle.session_core.proofs.modules.read_module.Goals as goal
 

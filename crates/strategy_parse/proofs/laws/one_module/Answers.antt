@@ -1,4 +1,4 @@
-use Rattle.strategy_parse.specs.Tokens.{tokens}
+use Rattle.strategy_tokens.specs.Tokens.{tokens}
 use Rattle.strategy_parse.proofs.OneModule.{one_module}
 use Rattle.strategy_parse.proofs.laws.one_module.Goals as goal
 

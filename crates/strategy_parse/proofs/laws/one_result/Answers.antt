@@ -1,4 +1,4 @@
-use Rattle.strategy_parse.specs.Tokens.{tokens}
+use Rattle.strategy_tokens.specs.Tokens.{tokens}
 use Rattle.strategy_parse.proofs.Gives.{one_given}
 use Rattle.strategy_parse.proofs.laws.one_result.Goals as goal
 

@@ -1,6 +1,6 @@
 use Rattle.std.proofs.Common.{◌≡◌, ◌∙◌, ap, sym, subst, Err}
 use Rattle.strategy_parse.specs.Gives.{GivesModule}
-use Rattle.strategy_parse.specs.Tokens.{tokens}
+use Rattle.strategy_tokens.specs.Tokens.{tokens}
 use Rattle.strategy_parse.proofs.FaultLemmas.{syntax_back}
 use Rattle.strategy_parse.proofs.modules.parse.parse_module.Goals as goal
 

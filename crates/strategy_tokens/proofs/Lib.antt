@@ -1,0 +1,4 @@
+mod TokenRows
+pub mod ScanLemmas
+pub mod StringLemmas
+pub mod MarkLemmas

@@ -1,0 +1,24 @@
+//! The tokens of strategy and module texts.
+#![tactic(auto)]
+
+mod count;
+mod fault;
+mod keyword;
+mod make;
+mod marks;
+mod read;
+mod scan;
+mod string;
+mod token;
+
+pub use count::token_count;
+pub use fault::TokensFault;
+pub use marks::{is_mark, is_word};
+pub use read::read_tokens;
+pub use token::{Keyword, Sign, Token};
+
+/// The greatest number of tokens of a text that is read.
+pub const MAX_TOKENS: u64 = 4000;
+
+#[cfg(test)]
+mod tests;

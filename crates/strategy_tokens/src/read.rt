@@ -1,0 +1,59 @@
+//! Reading the tokens of a text.
+
+ghost use Rattle.std.specs.Prelude.{◌≡◌, ◌↔◌, ◌<◌, ◌≤◌, ◌+◌, ◌++◌, [], length, IfOk, Err};
+ghost use Rattle.strategy_tokens.specs.Tokens.{tokens, and_token};
+ghost use Rattle.strategy_tokens.specs.Pieces.{piece_token, HoldsWord};
+
+use crate::make::make_token;
+use crate::scan::{Piece, first_piece};
+use crate::{MAX_TOKENS, Token, TokensFault, token_count};
+use std::alloc::Global;
+use term_core::NoMemory;
+
+/// The tokens of the text, bad ones included. Its bytes are gone over once.
+///
+/// Errors: `Deep` where there are more than 4,000 tokens; `Memory` where a growth of memory is
+/// refused and there are no more.
+pub fn read_tokens(alloc: Global, text: &[u8]) -> Result<Vec<Token>, TokensFault>
+    ensures deep { (result ≡ Err TokensFault.Deep) ↔ (MAX_TOKENS < length (tokens text.now)) }
+    ensures tokens { IfOk result (λ found. found.items ≡ tokens text.now) }
+{
+    let mut found = Vec::new(alloc);
+    let mut left = text;
+    while let Some((first, rest)) = left.split_first() {
+        let (piece, more) = first_piece(left, *first, rest);
+        let count = found.len() as u64;
+        if let Err(NoMemory) = add_token(alloc, &mut found, piece) {
+            return Err(refused(count, left));
+        }
+        if found.len() as u64 > MAX_TOKENS {
+            return Err(TokensFault::Deep);
+        }
+        left = &rest[more..];
+    }
+    Ok(found)
+}
+
+// Puts the token of the piece behind the others, where it is no white space.
+fn add_token(alloc: Global, found: &mut Vec<Token>, piece: Piece<'_>) -> Result<(), NoMemory>
+    requires { HoldsWord piece }
+    ensures { IfOk result (λ _. found.new.items
+        ≡ found.old.items ++ and_token (piece_token piece.entry) []) }
+{
+    if let Some(token) = make_token(alloc, piece)? {
+        found.push(token)?;
+    }
+    Ok(())
+}
+
+// The fault where memory was refused behind so many tokens: `Deep` comes first.
+fn refused(count: u64, left: &[u8]) -> TokensFault
+    requires { count ≤ MAX_TOKENS }
+    ensures deep { (result ≡ TokensFault.Deep) ↔ (MAX_TOKENS < count + length (tokens left.now)) }
+{
+    if token_count(left) > MAX_TOKENS - count {
+        TokensFault::Deep
+    } else {
+        TokensFault::Memory
+    }
+}

@@ -1,0 +1,95 @@
+//! What stands between the quotes of a string.
+
+ghost use Rattle.std.specs.Prelude.{◌≡◌, ◌<◌, ◌≤◌, length, take, drop, IfOk, IfSome, IfNone, MatchOption, Some, None};
+ghost use Rattle.std.specs.List.{prefix_len};
+ghost use Rattle.aterm_text.specs.Tokens.{is_octal_digit};
+ghost use Rattle.strategy_tokens.specs.Tokens.{unescaped, behind_backslash, behind_octal, octal_byte, and_byte};
+ghost use Rattle.strategy_tokens.specs.Pieces.{is_no_backslash};
+
+use std::alloc::Global;
+use term_core::NoMemory;
+
+/// The bytes that these items stand for, or `None` where another escape is among them.
+pub fn unescape(alloc: Global, items: &[u8]) -> Result<Option<Vec<u8>>, NoMemory>
+    ensures { IfOk result (λ found. MatchOption found (unescaped items.now ≡ None)
+        (λ bytes. unescaped items.now ≡ Some bytes.items)) }
+{
+    let (run, mut rest) = first_run(items);
+    let mut bytes = Vec::from_slice(alloc, run)?;
+    while let Some((_, behind)) = rest.split_first() {
+        let Some((byte, behind)) = escape(behind) else {
+            return Ok(None);
+        };
+        let (run, left) = first_run(behind);
+        bytes.push(byte)?;
+        bytes.extend_from_slice(run)?;
+        rest = left;
+    }
+    Ok(Some(bytes))
+}
+
+// The bytes at the front up to a backslash, and what follows them.
+fn first_run(items: &[u8]) -> (&[u8], &[u8])
+    ensures run { result.0.now ≡ take (prefix_len is_no_backslash items.now) items.now }
+    ensures rest { result.1.now ≡ drop (prefix_len is_no_backslash items.now) items.now }
+{
+    items.split_at(run_length(items))
+}
+
+/// How many bytes stand before a backslash. They stand for themselves.
+pub fn run_length(items: &[u8]) -> usize
+    ensures value { result ≡ prefix_len is_no_backslash items.now }
+    ensures bound { result ≤ length items.now }
+{
+    items.iter().take_while(|b| **b != b'\\').count()
+}
+
+// The byte that what follows a backslash stands for, and the items behind it.
+fn escape(items: &[u8]) -> Option<(u8, &[u8])>
+    ensures some { IfSome result (λ found.
+        behind_backslash items.now ≡ and_byte found.0 (unescaped found.1.now)) }
+    ensures none { IfNone result (behind_backslash items.now ≡ None) }
+    ensures shorter { IfSome result (λ found. length found.1.now < length items.now) }
+{
+    let (first, rest) = items.split_first()?;
+    match *first {
+        b'"' => Some((b'"', rest)),
+        b'\\' => Some((b'\\', rest)),
+        b'n' => Some((b'\n', rest)),
+        b't' => Some((b'\t', rest)),
+        b'r' => Some((b'\r', rest)),
+        _ => octal(*first, rest),
+    }
+}
+
+// The byte that three octal digits stand for, and the items behind them.
+fn octal(first: u8, rest: &[u8]) -> Option<(u8, &[u8])>
+    ensures some { IfSome result (λ found.
+        behind_octal first rest.now ≡ and_byte found.0 (unescaped found.1.now)) }
+    ensures none { IfNone result (behind_octal first rest.now ≡ None) }
+    ensures shorter { IfSome result (λ found. length found.1.now < length rest.now) }
+{
+    let (second, rest) = rest.split_first()?;
+    let (third, behind) = rest.split_first()?;
+    let byte = octal_byte(first, *second, *third)?;
+    Some((byte, behind))
+}
+
+fn octal_byte(a: u8, b: u8, c: u8) -> Option<u8>
+    ensures { result ≡ octal_byte a b c }
+{
+    if !(is_octal(a) && is_octal(b) && is_octal(c)) {
+        return None;
+    }
+    let value = 64 * u32::from(a - b'0') + 8 * u32::from(b - b'0') + u32::from(c - b'0');
+    match u8::try_from(value) {
+        Ok(byte) => Some(byte),
+        Err(_) => None,
+    }
+}
+
+fn is_octal(b: u8) -> bool
+    ensures { result ≡ is_octal_digit b }
+{
+    matches!(b, b'0'..=b'7')
+}
