@@ -48,4 +48,10 @@ brackets-one ss (r ∷ rest) s e h =
     let l : length ss ≡ length (r ∷ rest) + length (s ∷ []) = ap length e ∙ length-append (r ∷ rest) (s ∷ []) in
     absurd (omega arith)
 
-pub ruleset machine_rules = (arrow-before, arrow-guarded, arrow-bare, choice-guard, pattern-at, brackets-many, brackets-one)
+pub ruleset arrow_rules = (arrow-before, arrow-guarded, arrow-bare)
+
+pub ruleset choice_rules = (choice-guard)
+
+pub ruleset at_rules = (pattern-at)
+
+pub ruleset bracket_rules = (brackets-many, brackets-one)

@@ -1,5 +1,4 @@
 //! What may come behind a strategy.
-#![tactic(auto, using(crate::proofs::MachineLemmas::machine_rules))]
 
 ghost use Rattle.std.specs.Prelude.{◌≡◌, IfOk, Err};
 ghost use Rattle.strategy_syntax.specs.Syntax as syntax;
@@ -48,6 +47,7 @@ pub fn behind(
 
 // No `;` follows: the strategies of a sequence are joined, from the right. Behind `s < r` a `+` has
 // to come.
+#[tactic(auto, using(crate::proofs::MachineLemmas::arrow_rules))]
 fn behind_arrow(
     alloc: Global,
     last: Strategy,
@@ -97,6 +97,7 @@ fn behind_seq(
 }
 
 // A choice ends before the token: choices are joined, from the right.
+#[tactic(auto, using(crate::proofs::MachineLemmas::choice_rules))]
 fn behind_choice(
     alloc: Global,
     last: Strategy,

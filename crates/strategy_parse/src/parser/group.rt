@@ -1,5 +1,5 @@
 //! Lists of strategies and of patterns: what closes them, and what they make.
-#![tactic(auto, using(crate::proofs::MachineLemmas::machine_rules))]
+#![tactic(auto, using(crate::proofs::MachineLemmas::bracket_rules))]
 
 ghost use Rattle.std.specs.Prelude.{◌≡◌, IfOk};
 ghost use Rattle.strategy_syntax.specs.Syntax as syntax;

@@ -1,5 +1,4 @@
 //! Patterns: what may begin one, and what may come behind one.
-#![tactic(auto, using(crate::proofs::MachineLemmas::machine_rules))]
 
 ghost use Rattle.std.specs.Prelude.{◌≡◌, ◌∷◌, [], IfOk, Err, List};
 ghost use Rattle.strategy_syntax.specs.Syntax as syntax;
@@ -99,6 +98,7 @@ pub fn behind_base(
 }
 
 /// A whole pattern is read: it belongs to the `x@` before it.
+#[tactic(auto, using(crate::proofs::MachineLemmas::at_rules))]
 pub fn behind_pattern(
     alloc: Global,
     last: Pattern,
