@@ -171,7 +171,7 @@ noted_list : applied 2 (seq (matches (with_tail (places_of (variable 0 ∷ [])) 
     ≡ done (list_term (A ∷ [])) (Some A ∷ (Some (list_term (A ∷ [])) ∷ [])) 97 (edit [] (list_term (A ∷ [])) ∷ [])
 noted_list = refl
 
--- a tail that is no list, and one longer than the list
+-- a tail that is no list, and a pattern with more elements than the list
 tail_is_no_list : applied 1 (seq (matches (variable 0)) (builds (with_tail (places_of []) (variable 0)))) 100 A ≡ failed 97
 tail_is_no_list = refl
 
@@ -185,7 +185,7 @@ named = refl
 bare_binding : applied 1 (matches (annotated (variable 0) (places_of (number (pos 1) ∷ [])))) 100 A1 ≡ done A1 (Some A ∷ []) 99 []
 bare_binding = refl
 
--- `!A(){2}` on any term, `?x; !x{}`
+-- `!A(){1}` on any term, `?x; !x{}`
 built_with_annotations : applied 0 (builds (annotated (pattern 65 []) (places_of (number (pos 1) ∷ [])))) 100 B ≡ done A1 [] 99 (edit [] A1 ∷ [])
 built_with_annotations = refl
 
@@ -203,11 +203,11 @@ wild_builds_nothing = refl
 named_builds_nothing : applied 1 (seq (matches (variable 0)) (builds (at 0 (pattern 65 [])))) 100 A ≡ failed 97
 named_builds_nothing = refl
 
--- `test(?x; !B()); !G(x)`: the bindings stay, the term is the original one
+-- `test(?x; !B())`: the bindings stay, the term is the original one
 test_keeps_bindings : applied 1 (test (seq (matches (variable 0)) to_B)) 100 A ≡ done A (Some A ∷ []) 96 []
 test_keeps_bindings = refl
 
--- `some(?A(); !B())` on F(A,Z) and on F(A,A), `one` on F(A,A)
+-- `some(?A(); !B())` on F(B,A) and F(A,A), `one` on F(A,A) and F(B,A), `all` on F(A,B)
 abbrev A_to_B : ResolvedStrategy
 A_to_B = seq (matches (pattern 65 [])) to_B
 
