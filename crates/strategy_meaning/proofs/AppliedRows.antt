@@ -1,38 +1,19 @@
 -- Strategies applied at paths, computed.
-use Rattle.std.specs.Prelude.{◌≡◌, refl, ℕ, zero, suc, List, [], ◌∷◌, false, replicate}
-use Rattle.term_core.specs.Tree.{Symbol, application, Tree, application_term}
-use Rattle.term_paths.specs.Edits.{Edit}
+use Rattle.std.specs.Prelude.{◌≡◌, refl, ℕ, zero, suc, [], ◌∷◌, replicate}
+use Rattle.term_core.specs.Tree.{Tree}
+use Rattle.strategy_meaning.proofs.RowTerms.{edit, A, G, pattern, body}
 use Rattle.prim_core.specs.StandardTable.{standard_signatures}
 use Rattle.prim_core.specs.Standard.{standard}
-use Rattle.strategy_syntax.specs.Resolved.{Place, compound, places_of, ResolvedStrategy, id, fail, builds}
-use Rattle.strategy_syntax.specs.declared.resolved.Resolved.{Resolved}
+use Rattle.strategy_syntax.specs.Resolved.{ResolvedStrategy, id, fail, builds}
 use Rattle.strategy_meaning.specs.Answer.{spent, big}
 use Rattle.strategy_meaning.specs.Meaning.{World}
 use Rattle.strategy_meaning.specs.Applied.{gives, fails, stops, applied}
 
-abbrev word : ℕ → Symbol
-word n = record { text = n ∷ []; is_quoted = false }
-
-abbrev A : Tree
-A = application_term (word 65) []
-
-abbrev G : Tree → Tree
-G t = application_term (word 71) (t ∷ [])
-
-abbrev pattern : ℕ → List Place → Place
-pattern n ps = compound (application (word n)) (places_of ps)
-
 abbrev to_GA : ResolvedStrategy
 to_GA = builds (pattern 71 (pattern 65 [] ∷ []))
 
-abbrev body : ResolvedStrategy → Resolved
-body s = record { variables = 0; strategy = s }
-
 abbrev no_program : World
 no_program = record { bodies = []; primitives = standard_signatures; meaning = standard }
-
-abbrev edit : List ℕ → Tree → Edit
-edit p u = record { path = p; new = u }
 
 in_its_place : applied no_program (0 ∷ []) (body to_GA) 9 (G A) ≡ gives (G (G A)) (edit (0 ∷ []) (G A) ∷ [])
 in_its_place = refl

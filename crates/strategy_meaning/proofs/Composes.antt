@@ -6,9 +6,9 @@ use Rattle.term_core.specs.Size.{fits}
 use Rattle.term_paths.specs.Edits.{Edits, behind}
 use Rattle.strategy_syntax.specs.Resolved.{Places, no_places, and_place, ResolvedStrategy, id, fail, matches, builds, seq, guard, test, scope, param, call, congruence, tail_congruence, all, one, some, child, rec, prim, resolved_list}
 use Rattle.strategy_meaning.specs.Matching.{Bindings, match_place, build_place, elements}
-use Rattle.strategy_meaning.specs.Scopes.{Scope, places_in, stands_for, with_variables, with_name}
+use Rattle.strategy_meaning.specs.Scopes.{Scope, cells_in, stands_for, with_variables, with_name}
 use Rattle.strategy_meaning.specs.Answer.{Answer, done, failed, stopped, big, IfDone, Act, either, with_edits, and_then, at_root}
-use Rattle.strategy_meaning.specs.Meaning.{World, primitive_answer, Evaluation, with_some, at_one, each, leftmost, those_done, at_number, is_over, is_list_from, rest_of, with_rest, on_rest, built, built_all, opened, form, go}
+use Rattle.strategy_meaning.specs.Meaning.{World, primitive_answer, Evaluation, with_some, on_child, each, leftmost, those_done, on_child_number, is_over, is_list_from, rest_of, with_rest, on_rest, built, built_all, opened, form, run_bounded}
 
 -- A relation at a level of a term, the one that is given and its edits, that each way in which a
 -- strategy comes to a term has: it is left, one is given after the other, one is built, a child is
@@ -59,7 +59,7 @@ module _ (K : ℕ → Tree → Tree → Edits → Type 0) (k : Composes K) where
   some-gives l t None c go h = tt
   some-gives l t (Some x) c go h = h x refl
 
-  one-gives : (f : Act) (i l : ℕ) → ActGives (l + 1) f → ActGives l (at_one f i)
+  one-gives : (f : Act) (i l : ℕ) → ActGives (l + 1) f → ActGives l (on_child f i)
   one-gives f i l h c B t =
       some-gives l t (slice_get (children t) i) c _
       (λ u is. either-gives (K (l + 1) u) l t (f c B u) _ _ (h c B u) (λ v B1 b e r. k.below l t u v i e is r) (λ b. tt))
@@ -67,23 +67,23 @@ module _ (K : ℕ → Tree → Tree → Edits → Type 0) (k : Composes K) where
   each-gives : (f : ResolvedStrategy → Act) (ss : List ResolvedStrategy) (i l : ℕ) → ((s : ResolvedStrategy) → ActGives (l + 1) (f s)) → ActGives l (each f ss i)
   each-gives f [] i l h c B t = k.left l t
   each-gives f (x ∷ ss) i l h c B t =
-      and_then-gives l t (at_one (f x) i c B t) _ (one-gives (f x) i l (h x) c B t) (each-gives f ss (i + 1) l h)
+      and_then-gives l t (on_child (f x) i c B t) _ (one-gives (f x) i l (h x) c B t) (each-gives f ss (i + 1) l h)
 
   leftmost-gives : (f : Act) (n i l : ℕ) → ActGives (l + 1) f → ActGives l (leftmost f n i)
   leftmost-gives f zero i l h c B t = tt
   leftmost-gives f (suc n) i l h c B t =
-      either-gives (K l t) l t (at_one f i c B t) _ _ (one-gives f i l h c B t) (λ u B1 b e r. r)
+      either-gives (K l t) l t (on_child f i c B t) _ _ (one-gives f i l h c B t) (λ u B1 b e r. r)
       (λ b. leftmost-gives f n (i + 1) l h b B t)
 
   those-give : (f : Act) (n : ℕ) (any : Bool) (i l : ℕ) → ActGives (l + 1) f → ActGives l (those_done f n any i)
   those-give f zero true i l h c B t = k.left l t
   those-give f zero false i l h c B t = tt
   those-give f (suc n) any i l h c B t =
-      either-gives (K l t) l t (at_one f i c B t) _ _ (one-gives f i l h c B t)
+      either-gives (K l t) l t (on_child f i c B t) _ _ (one-gives f i l h c B t)
       (λ u B1 b e r. edits-give l t u e _ r (those-give f n true (i + 1) l h b B1 u))
       (λ b. those-give f n any (i + 1) l h b B t)
 
-  number-gives : (f : Act) (n l : ℕ) → ActGives (l + 1) f → ActGives l (at_number f n)
+  number-gives : (f : Act) (n l : ℕ) → ActGives (l + 1) f → ActGives l (on_child_number f n)
   number-gives f zero l h c B t = tt
   number-gives f (suc i) l h c B t = one-gives f i l h c B t
 
@@ -116,9 +116,9 @@ module _ (K : ℕ → Tree → Tree → Edits → Type 0) (k : Composes K) where
   form-gives W part h E l id c B t = k.left l t
   form-gives W part h E l fail c B t = tt
   form-gives W part h E l (matches p) c B t =
-      some-gives l t (match_place p t (places_in E) B) c _ (λ B1 is. k.left l t)
+      some-gives l t (match_place p t (cells_in E) B) c _ (λ B1 is. k.left l t)
   form-gives W part h E l (builds p) c B t =
-      built-gives l t (build_place p (places_in E) B) c _ (λ u fit. k.built l t u fit)
+      built-gives l t (build_place p (cells_in E) B) c _ (λ u fit. k.built l t u fit)
   form-gives W part h E l (seq s1 s2) c B t = and_then-gives l t _ _ (h E l s1 c B t) (h E l s2)
   form-gives W part h E l (guard s1 s2 s3) c B t =
       either-gives (K l t) l t (part E l s1 c B t) _ _ (h E l s1 c B t)
@@ -130,7 +130,7 @@ module _ (K : ℕ → Tree → Tree → Edits → Type 0) (k : Composes K) where
   form-gives W part h E l (param x) c B t =
       some-gives l t (stands_for E x) c _ (λ z is. h z.written_in l z.strategy c B t)
   form-gives W part h E l (call f ss ps) c B t =
-      built_all-gives l t ps (places_in E) B c _ (λ us. some-gives l t (slice_get W.bodies f) c _
+      built_all-gives l t ps (cells_in E) B c _ (λ us. some-gives l t (slice_get W.bodies f) c _
       (λ d is. opened-gives part _ (map Some us ++ replicate d.variables None) l d.strategy h c B t))
   form-gives W part h E l (congruence x ss) c B t =
       if-gives l t (is_over x (length (resolved_list ss)) t) _ c (each-gives _ (resolved_list ss) 0 l (h E (l + 1)) c B t)
@@ -145,10 +145,10 @@ module _ (K : ℕ → Tree → Tree → Edits → Type 0) (k : Composes K) where
   form-gives W part h E l (child n s1) c B t = number-gives _ n l (h E (l + 1) s1) c B t
   form-gives W part h E l (rec s1) c B t = h (with_name E (rec s1) E) l s1 c B t
   form-gives W part h E l (prim n ps) c B t =
-      built_all-gives l t ps (places_in E) B c _
+      built_all-gives l t ps (cells_in E) B c _
       (λ us. built-gives l t (primitive_answer W n us) c _ (λ u fit. k.built l t u fit))
 
-  pub go-gives : (W : World) (n : ℕ) → PartGives (go W n)
-  go-gives W zero E l s b B t = tt
-  go-gives W (suc n) E l s zero B t = tt
-  go-gives W (suc n) E l s (suc c) B t = form-gives W (go W n) (go-gives W n) E l s c B t
+  pub bounded-gives : (W : World) (n : ℕ) → PartGives (run_bounded W n)
+  bounded-gives W zero E l s b B t = tt
+  bounded-gives W (suc n) E l s zero B t = tt
+  bounded-gives W (suc n) E l s (suc c) B t = form-gives W (run_bounded W n) (bounded-gives W n) E l s c B t

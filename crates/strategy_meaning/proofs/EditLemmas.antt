@@ -4,7 +4,7 @@ use Rattle.term_core.specs.Tree.{Tree}
 use Rattle.term_paths.specs.Edits.{Edits, Replaces}
 use Rattle.term_paths.proofs.EditLemmas.{edits_after_edits, replaces-child}
 use Rattle.strategy_meaning.specs.Laws.{EditsReplace}
-use Rattle.strategy_meaning.proofs.Composes.{Composes, go-gives}
+use Rattle.strategy_meaning.proofs.Composes.{Composes, bounded-gives}
 
 abbrev Replaced : ℕ → Tree → Tree → Edits → Type 0
 Replaced l t u e = Replaces e t u
@@ -19,4 +19,4 @@ replaced = record {
 }
 
 pub edits_replace : EditsReplace
-edits_replace W E l s b B t = go-gives Replaced replaced W b E l s b B t
+edits_replace W E l s b B t = bounded-gives Replaced replaced W b E l s b B t

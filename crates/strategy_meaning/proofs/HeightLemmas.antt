@@ -9,7 +9,7 @@ use Rattle.strategy_meaning.specs.Matching.{elements}
 use Rattle.term_paths.specs.Edits.{Edits}
 use Rattle.strategy_meaning.specs.Meaning.{rest_of, with_rest, run}
 use Rattle.strategy_meaning.specs.Laws.{HeightsAreKept}
-use Rattle.strategy_meaning.proofs.Composes.{Composes, if_done-map, go-gives}
+use Rattle.strategy_meaning.proofs.Composes.{Composes, if_done-map, bounded-gives}
 
 -- ---- heights of lists
 
@@ -93,4 +93,4 @@ kept = record {
 
 pub heights_are_kept : HeightsAreKept
 heights_are_kept W E l s b B t low =
-    if_done-map (run W E l s b B t) _ _ (λ u B1 c e h. h low) (go-gives Kept kept W b E l s b B t)
+    if_done-map (run W E l s b B t) _ _ (λ u B1 c e h. h low) (bounded-gives Kept kept W b E l s b B t)

@@ -6,6 +6,8 @@ pub mod HeightLemmas
 pub mod EditLemmas
 mod AppliedLemmas
 mod UsualLemmas
+pub mod RowTerms
 pub mod MeaningRows
+pub mod CallRows
 pub mod AppliedRows
 pub mod LongRows

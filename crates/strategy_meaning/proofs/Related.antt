@@ -6,9 +6,9 @@ use Rattle.term_core.specs.Size.{fits}
 use Rattle.term_paths.specs.Edits.{Edits}
 use Rattle.strategy_syntax.specs.Resolved.{Places, no_places, and_place, ResolvedStrategy, id, fail, matches, builds, seq, guard, test, scope, param, call, congruence, tail_congruence, all, one, some, child, rec, prim, resolved_list}
 use Rattle.strategy_meaning.specs.Matching.{Bindings, match_place, build_place, elements}
-use Rattle.strategy_meaning.specs.Scopes.{Scope, places_in, stands_for, with_variables, with_name}
+use Rattle.strategy_meaning.specs.Scopes.{Scope, cells_in, stands_for, with_variables, with_name}
 use Rattle.strategy_meaning.specs.Answer.{Answer, done, failed, stopped, spent, big, Act, either, if_done, with_edits, and_then}
-use Rattle.strategy_meaning.specs.Meaning.{World, primitive_answer, Evaluation, with_some, at_one, each, leftmost, those_done, at_number, is_over, is_list_from, rest_of, on_rest, built, built_all, opened, form}
+use Rattle.strategy_meaning.specs.Meaning.{World, primitive_answer, Evaluation, with_some, on_child, each, leftmost, those_done, on_child_number, is_over, is_list_from, rest_of, on_rest, built, built_all, opened, form}
 
 -- The same answer, with steps left that S relates; where the first is spent, Q holds of the second.
 abbrev pub Related : (ℕ → ℕ → Type 0) → (Answer → Type 0) → Answer → Answer → Type 0
@@ -59,31 +59,31 @@ module _ (S : ℕ → ℕ → Type 0) (Q : Answer → Type 0) (keeps : Keeps Q) 
   some-related None b c go go' s h = (c, refl, s)
   some-related (Some x) b c go go' s h = h x
 
-  one-related : (f g : Act) (i : ℕ) → ActsAlike f g → ActsAlike (at_one f i) (at_one g i)
+  one-related : (f g : Act) (i : ℕ) → ActsAlike f g → ActsAlike (on_child f i) (on_child g i)
   one-related f g i h b c B t s =
       some-related (slice_get (children t) i) b c _ _ s (λ u. if_done-related (f b B u) (g c B u) _ _ (h b c B u s) (λ v B1 b1 c1 e s1. (c1, refl, s1)))
 
   each-related : (f g : ResolvedStrategy → Act) (ss : List ResolvedStrategy) (i : ℕ) → ((s : ResolvedStrategy) → ActsAlike (f s) (g s)) → ActsAlike (each f ss i) (each g ss i)
   each-related f g [] i h b c B t s = (c, refl, s)
   each-related f g (x ∷ ss) i h b c B t s =
-      and_then-related (at_one (f x) i b B t) (at_one (g x) i c B t) _ _ (one-related (f x) (g x) i (h x) b c B t s)
+      and_then-related (on_child (f x) i b B t) (on_child (g x) i c B t) _ _ (one-related (f x) (g x) i (h x) b c B t s)
       (λ b1 c1 B1 t1 s1. each-related f g ss (i + 1) h b1 c1 B1 t1 s1)
 
   leftmost-related : (f g : Act) (n i : ℕ) → ActsAlike f g → ActsAlike (leftmost f n i) (leftmost g n i)
   leftmost-related f g zero i h b c B t s = (c, refl, s)
   leftmost-related f g (suc n) i h b c B t s =
-      either-related (at_one f i b B t) (at_one g i c B t) _ _ _ _ (one-related f g i h b c B t s) done-related
+      either-related (on_child f i b B t) (on_child g i c B t) _ _ _ _ (one-related f g i h b c B t s) done-related
       (λ b1 c1 s1. leftmost-related f g n (i + 1) h b1 c1 B t s1)
 
   those-related : (f g : Act) (n : ℕ) (any : Bool) (i : ℕ) → ActsAlike f g → ActsAlike (those_done f n any i) (those_done g n any i)
   those-related f g zero true i h b c B t s = (c, refl, s)
   those-related f g zero false i h b c B t s = (c, refl, s)
   those-related f g (suc n) any i h b c B t s =
-      either-related (at_one f i b B t) (at_one g i c B t) _ _ _ _ (one-related f g i h b c B t s)
+      either-related (on_child f i b B t) (on_child g i c B t) _ _ _ _ (one-related f g i h b c B t s)
       (λ t1 B1 b1 c1 e s1. edits-related e _ _ (those-related f g n true (i + 1) h b1 c1 B1 t1 s1))
       (λ b1 c1 s1. those-related f g n any (i + 1) h b1 c1 B t s1)
 
-  number-related : (f g : Act) (n : ℕ) → ActsAlike f g → ActsAlike (at_number f n) (at_number g n)
+  number-related : (f g : Act) (n : ℕ) → ActsAlike f g → ActsAlike (on_child_number f n) (on_child_number g n)
   number-related f g zero h b c B t s = (c, refl, s)
   number-related f g (suc i) h b c B t s = one-related f g i h b c B t s
 
@@ -117,9 +117,9 @@ module _ (S : ℕ → ℕ → Type 0) (Q : Answer → Type 0) (keeps : Keeps Q) 
   form-related W part other h E l id b c B t s = (c, refl, s)
   form-related W part other h E l fail b c B t s = (c, refl, s)
   form-related W part other h E l (matches p) b c B t s =
-      some-related (match_place p t (places_in E) B) b c _ _ s (λ B1. (c, refl, s))
+      some-related (match_place p t (cells_in E) B) b c _ _ s (λ B1. (c, refl, s))
   form-related W part other h E l (builds p) b c B t s =
-      built-related (build_place p (places_in E) B) l b c _ _ s (λ u. (c, refl, s))
+      built-related (build_place p (cells_in E) B) l b c _ _ s (λ u. (c, refl, s))
   form-related W part other h E l (seq s1 s2) b c B t s =
       and_then-related _ _ _ _ (h E l s1 b c B t s) (h E l s2)
   form-related W part other h E l (guard s1 s2 s3) b c B t s =
@@ -132,7 +132,7 @@ module _ (S : ℕ → ℕ → Type 0) (Q : Answer → Type 0) (keeps : Keeps Q) 
   form-related W part other h E l (param x) b c B t s =
       some-related (stands_for E x) b c _ _ s (λ k. h k.written_in l k.strategy b c B t s)
   form-related W part other h E l (call f ss ps) b c B t s =
-      built_all-related ps (places_in E) B l b c _ _ s (λ us. some-related (slice_get W.bodies f) b c _ _ s
+      built_all-related ps (cells_in E) B l b c _ _ s (λ us. some-related (slice_get W.bodies f) b c _ _ s
       (λ d. opened-related part other _ (map Some us ++ replicate d.variables None) l d.strategy h b c B t s))
   form-related W part other h E l (congruence k ss) b c B t s =
       if-related (is_over k (length (resolved_list ss)) t) _ _ b c (each-related _ _ (resolved_list ss) 0 (h E (l + 1)) b c B t s) s
@@ -149,5 +149,5 @@ module _ (S : ℕ → ℕ → Type 0) (Q : Answer → Type 0) (keeps : Keeps Q) 
   form-related W part other h E l (child n s1) b c B t s = number-related _ _ n (h E (l + 1) s1) b c B t s
   form-related W part other h E l (rec s1) b c B t s = h (with_name E (rec s1) E) l s1 b c B t s
   form-related W part other h E l (prim n ps) b c B t s =
-      built_all-related ps (places_in E) B l b c _ _ s
+      built_all-related ps (cells_in E) B l b c _ _ s
       (λ us. built-related (primitive_answer W n us) l b c _ _ s (λ u. (c, refl, s)))

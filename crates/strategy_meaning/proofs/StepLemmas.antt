@@ -6,7 +6,7 @@ use Rattle.strategy_syntax.specs.Resolved.{ResolvedStrategy}
 use Rattle.strategy_meaning.specs.Scopes.{Scope}
 use Rattle.strategy_meaning.specs.Matching.{Bindings}
 use Rattle.strategy_meaning.specs.Answer.{Answer, done, failed, stopped, spent, big, either}
-use Rattle.strategy_meaning.specs.Meaning.{World, run, go, form}
+use Rattle.strategy_meaning.specs.Meaning.{World, run, run_bounded, form}
 use Rattle.strategy_meaning.specs.Laws.{later, MoreStepsGiveTheSame, OneStepIsOneForm}
 use Rattle.strategy_meaning.proofs.Related.{Related, Alike, form-related}
 
@@ -18,13 +18,13 @@ Anything a = Unit {0}
 abbrev Behind : ℕ → ℕ → ℕ → Type 0
 Behind k b c = c ≡ b + k
 
-go-more : (W : World) (k n m : ℕ) → n ≤ m → Alike (Behind k) Anything (λ a g h q. tt) (go W n) (go W m)
-go-more W k zero m h E l s b c B t e = tt
-go-more W k (suc n) zero h E l s b c B t e = absurd (omega (arith, h))
-go-more W k (suc n) (suc m) h E l s zero c B t e = tt
-go-more W k (suc n) (suc m) h E l s (suc b) zero B t e = absurd (omega (arith, e))
-go-more W k (suc n) (suc m) h E l s (suc b) (suc c) B t e =
-    form-related (Behind k) Anything (λ a g h q. tt) W (go W n) (go W m) (go-more W k n m (omega (arith, h))) E l s b c B t (omega (arith, e))
+bounded-more : (W : World) (k n m : ℕ) → n ≤ m → Alike (Behind k) Anything (λ a g h q. tt) (run_bounded W n) (run_bounded W m)
+bounded-more W k zero m h E l s b c B t e = tt
+bounded-more W k (suc n) zero h E l s b c B t e = absurd (omega (arith, h))
+bounded-more W k (suc n) (suc m) h E l s zero c B t e = tt
+bounded-more W k (suc n) (suc m) h E l s (suc b) zero B t e = absurd (omega (arith, e))
+bounded-more W k (suc n) (suc m) h E l s (suc b) (suc c) B t e =
+    form-related (Behind k) Anything (λ a g h q. tt) W (run_bounded W n) (run_bounded W m) (bounded-more W k n m (omega (arith, h))) E l s b c B t (omega (arith, e))
 
 later_related : (k : ℕ) (a a' : Answer) → Related (Behind k) Anything a a' → a ≢ stopped spent → a' ≡ later k a
 later_related k (done t B b e) a' h n = h.1 ∙ ap (λ x. done t B x e) h.2
@@ -34,7 +34,7 @@ later_related k (stopped big) a' h n = h
 
 pub more_steps_give_the_same : MoreStepsGiveTheSame
 more_steps_give_the_same W E l s b B t k n =
-    later_related k (run W E l s b B t) (run W E l s (b + k) B t) (go-more W k b (b + k) (omega arith) E l s b (b + k) B t refl) n
+    later_related k (run W E l s b B t) (run W E l s (b + k) B t) (bounded-more W k b (b + k) (omega arith) E l s b (b + k) B t refl) n
 
 -- ---- enough steps
 
@@ -54,18 +54,18 @@ weaker d e (failed b) a' le h = (h.0, h.1, (h.2.0, omega (arith, le, h.2.1)))
 weaker d e (stopped spent) a' le h = h
 weaker d e (stopped big) a' le h = h
 
-go-enough : (W : World) (n m : ℕ) (E : Scope) (l : ℕ) (s : ResolvedStrategy) (b c : ℕ) (B : Bindings) (t : Tree) → b ≤ n → b ≤ m → c ≡ b
-    → Related (Same b) Spent (go W n E l s b B t) (go W m E l s c B t)
-go-enough W zero m E l s (suc b) c B t h k e = absurd (omega (arith, h))
-go-enough W (suc n) zero E l s (suc b) c B t h k e = absurd (omega (arith, k))
-go-enough W zero zero E l s zero c B t h k e = refl
-go-enough W zero (suc m) E l s zero c B t h k e = rw e refl
-go-enough W (suc n) zero E l s zero c B t h k e = refl
-go-enough W (suc n) (suc m) E l s zero c B t h k e = rw e refl
-go-enough W (suc n) (suc m) E l s (suc b) zero B t h k e = absurd (omega (arith, e))
-go-enough W (suc n) (suc m) E l s (suc b) (suc c) B t h k e =
-    weaker b (suc b) _ _ (omega arith) (form-related (Same b) Spent spent-kept W (go W n) (go W m)
-    (λ F r q x y C u s'. weaker x b _ _ s'.1 (go-enough W n m F r q x y C u (omega (arith, h, s'.1)) (omega (arith, k, s'.1)) s'.0))
+bounded-enough : (W : World) (n m : ℕ) (E : Scope) (l : ℕ) (s : ResolvedStrategy) (b c : ℕ) (B : Bindings) (t : Tree) → b ≤ n → b ≤ m → c ≡ b
+    → Related (Same b) Spent (run_bounded W n E l s b B t) (run_bounded W m E l s c B t)
+bounded-enough W zero m E l s (suc b) c B t h k e = absurd (omega (arith, h))
+bounded-enough W (suc n) zero E l s (suc b) c B t h k e = absurd (omega (arith, k))
+bounded-enough W zero zero E l s zero c B t h k e = refl
+bounded-enough W zero (suc m) E l s zero c B t h k e = rw e refl
+bounded-enough W (suc n) zero E l s zero c B t h k e = refl
+bounded-enough W (suc n) (suc m) E l s zero c B t h k e = rw e refl
+bounded-enough W (suc n) (suc m) E l s (suc b) zero B t h k e = absurd (omega (arith, e))
+bounded-enough W (suc n) (suc m) E l s (suc b) (suc c) B t h k e =
+    weaker b (suc b) _ _ (omega arith) (form-related (Same b) Spent spent-kept W (run_bounded W n) (run_bounded W m)
+    (λ F r q x y C u s'. weaker x b _ _ s'.1 (bounded-enough W n m F r q x y C u (omega (arith, h, s'.1)) (omega (arith, k, s'.1)) s'.0))
     E l s b c B t (omega (arith, e), omega arith))
 
 same_related : (d : ℕ) (a a' : Answer) → Related (Same d) Spent a a' → a ≡ a'
@@ -76,7 +76,7 @@ same_related d (stopped big) a' h = sym h
 
 pub one_step_is_one_form : OneStepIsOneForm
 one_step_is_one_form W E l s c B t =
-    same_related c (form W (go W c) E l s c B t) (form W (run W) E l s c B t)
-    (form-related (Same c) Spent spent-kept W (go W c) (run W)
-    (λ F r q x y C u s'. rw s'.0 (weaker x c _ _ s'.1 (go-enough W c x F r q x x C u s'.1 (omega arith) refl)))
+    same_related c (form W (run_bounded W c) E l s c B t) (form W (run W) E l s c B t)
+    (form-related (Same c) Spent spent-kept W (run_bounded W c) (run W)
+    (λ F r q x y C u s'. rw s'.0 (weaker x c _ _ s'.1 (bounded-enough W c x F r q x x C u s'.1 (omega arith) refl)))
     E l s c c B t (refl, omega arith))

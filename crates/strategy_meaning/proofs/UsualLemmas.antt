@@ -8,7 +8,7 @@ use Rattle.strategy_syntax.specs.Resolved.{ResolvedStrategy, id, fail, seq, guar
 use Rattle.strategy_meaning.specs.Matching.{Bindings, elements}
 use Rattle.strategy_meaning.specs.Scopes.{Scope}
 use Rattle.strategy_meaning.specs.Answer.{Answer, done, failed, stopped, IfDone, Act, either, if_done, with_edits, and_then, at_root}
-use Rattle.strategy_meaning.specs.Meaning.{World, run, form, with_some, at_one, each, leftmost, those_done, at_number, rest_of, with_rest, on_rest}
+use Rattle.strategy_meaning.specs.Meaning.{World, run, form, with_some, on_child, each, leftmost, those_done, on_child_number, rest_of, with_rest, on_rest}
 use Rattle.strategy_meaning.specs.Laws.{IdFirst, IdLast, FailFirst, ChoiceGoesOn, WhereLeaves, TraversalsKeepAnnotations}
 use Rattle.strategy_meaning.proofs.StepLemmas.{one_step_is_one_form}
 
@@ -93,7 +93,7 @@ child-kept t i (done v B b e) f = with_children-annotations t _
 child-kept t i (failed b) f = tt
 child-kept t i (stopped why) f = tt
 
-one-kept : (act : Act) (i c : ℕ) (B : Bindings) (t : Tree) → Kept t (at_one act i c B t)
+one-kept : (act : Act) (i c : ℕ) (B : Bindings) (t : Tree) → Kept t (on_child act i c B t)
 one-kept act i c B t =
     elim (slice_get (children t) i) as (λ o. Kept t (with_some o c (λ u. if_done (act c B u) (λ v B1 b e. done (with_child t i v) B1 b (behind (i ∷ []) e))))) [
       | None ↦ tt
@@ -103,24 +103,24 @@ one-kept act i c B t =
 each-kept : (act : ResolvedStrategy → Act) (ss : List ResolvedStrategy) (i c : ℕ) (B : Bindings) (t : Tree) → Kept t (each act ss i c B t)
 each-kept act [] i c B t = refl
 each-kept act (s ∷ ss) i c B t =
-    either-kept t (at_one (act s) i c B t) _ _ (one-kept (act s) i c B t)
+    either-kept t (on_child (act s) i c B t) _ _ (one-kept (act s) i c B t)
     (λ u B1 b e is. edits-kept t e _ (other-kept t u _ is (each-kept act ss (i + 1) b B1 u))) (λ b. tt)
 
 leftmost-kept : (act : Act) (n i c : ℕ) (B : Bindings) (t : Tree) → Kept t (leftmost act n i c B t)
 leftmost-kept act zero i c B t = tt
 leftmost-kept act (suc n) i c B t =
-    either-kept t (at_one act i c B t) _ _ (one-kept act i c B t) (λ u B1 b e is. is)
+    either-kept t (on_child act i c B t) _ _ (one-kept act i c B t) (λ u B1 b e is. is)
     (λ b. leftmost-kept act n (i + 1) b B t)
 
 those-kept : (act : Act) (n : ℕ) (any : Bool) (i c : ℕ) (B : Bindings) (t : Tree) → Kept t (those_done act n any i c B t)
 those-kept act zero true i c B t = refl
 those-kept act zero false i c B t = tt
 those-kept act (suc n) any i c B t =
-    either-kept t (at_one act i c B t) _ _ (one-kept act i c B t)
+    either-kept t (on_child act i c B t) _ _ (one-kept act i c B t)
     (λ u B1 b e is. edits-kept t e _ (other-kept t u _ is (those-kept act n true (i + 1) b B1 u)))
     (λ b. those-kept act n any (i + 1) b B t)
 
-number-kept : (act : Act) (n c : ℕ) (B : Bindings) (t : Tree) → Kept t (at_number act n c B t)
+number-kept : (act : Act) (n c : ℕ) (B : Bindings) (t : Tree) → Kept t (on_child_number act n c B t)
 number-kept act zero c B t = tt
 number-kept act (suc i) c B t = one-kept act i c B t
 

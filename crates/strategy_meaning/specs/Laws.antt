@@ -36,6 +36,7 @@ abbrev pub MoreStepsGiveTheSame : Type 0
 MoreStepsGiveTheSame = (W : World) (E : Scope) (l : ℕ) (s : ResolvedStrategy) (b : ℕ) (B : Bindings) (t : Tree) (k : ℕ)
     → run W E l s b B t ≢ stopped spent → run W E l s (b + k) B t ≡ later k (run W E l s b B t)
 
+-- The same of a strategy applied at a path.
 abbrev pub MoreStepsApplyTheSame : Type 0
 MoreStepsApplyTheSame = (W : World) (p : List ℕ) (r : Resolved) (b : ℕ) (t : Tree) (k : ℕ)
     → applied W p r b t ≢ stops spent → applied W p r (b + k) t ≡ applied W p r b t
@@ -87,8 +88,8 @@ abbrev pub FailFirst : Type 0
 FailFirst = (W : World) (E : Scope) (l : ℕ) (s : ResolvedStrategy) (b : ℕ) (B : Bindings) (t : Tree)
     → run W E l (seq fail s) (suc (suc b)) B t ≡ failed b
 
--- Where its left side fails, a choice is its right side on the original term and bindings, from the
--- steps that are left then.
+-- Where its first part fails, a guard, and so a choice, is its last part on the original term and
+-- bindings, from the steps that are left then.
 abbrev pub ChoiceGoesOn : Type 0
 ChoiceGoesOn = (W : World) (E : Scope) (l : ℕ) (s1 s2 s3 : ResolvedStrategy) (b c : ℕ) (B : Bindings) (t : Tree)
     → run W E l s1 b B t ≡ failed c → run W E l (guard s1 s2 s3) (suc b) B t ≡ run W E l s3 c B t

@@ -1,6 +1,6 @@
--- Matching a pattern with a term, and building its instance. Bindings are a list of places, each
--- empty or with a term; a scope maps the number of a variable to a place, and here it is the list of
--- these places. Match and build are those of "A Core Language for Rewriting" by Visser and Benaissa;
+-- Matching a pattern with a term, and building its instance. Bindings are a list of cells, each empty
+-- or with a term; a scope maps the number of a variable to a cell, and here it is the list of these
+-- cells, by their numbers. Match and build are those of "A Core Language for Rewriting" by Visser and Benaissa;
 -- lists with a tail are the Stratego manual's, and what patterns say of annotations is our own.
 use Rattle.std.specs.Prelude.{ℕ, ℤ, Bool, false, cond, List, [], ◌∷◌, ◌++◌, length, take, drop, slice_get, slice_set, Some, None, option_map, option_and_then}
 use Rattle.std.specs.declared.option.Option.{Option}
@@ -9,7 +9,7 @@ use Rattle.term_core.specs.Tree.{Head, application, list, tuple, Tree, integer, 
 use Rattle.strategy_syntax.specs.Resolved.{Place, wildcard, variable, at, number, compound, with_tail, annotated, Places, no_places, and_place, place_list}
 use Rattle.strategy_meaning.specs.Same.{same_head, same_tree}
 
--- the term at each place, if there is one
+-- the term in each cell, if there is one
 abbrev pub Bindings : Type 0
 Bindings = List (Option Tree)
 
@@ -32,8 +32,7 @@ elements (branch tuple kids notes) = None
 
 -- ---- matching
 
--- An empty place takes the term, annotations and all; one that holds a term has to hold an equal
--- one.
+-- An empty cell takes the term, annotations and all; one that holds a term has to hold an equal one.
 abbrev pub put_or_same : Bindings → ℕ → Tree → Option (Option Tree) → Option Bindings
 put_or_same B i t None = None
 put_or_same B i t (Some None) = Some (slice_set B i (Some t))

@@ -1,10 +1,11 @@
--- What a strategy does, from so many steps: `form` is the table, one form a line or two.
+-- What a strategy does, from so many steps: `form` is the table, with one clause for each form.
 --
 -- The forms of Visser and Benaissa, "A Core Language for Rewriting", with the meaning that they have
 -- there: id, fail, seq, left choice (the guard `s1 < id + s2`), rec, congruences, child, all, one,
--- match, build, where (test) and scope. The Stratego manual's, written out here: guards, some, lists
--- with a tail, calls of definitions with strategies and terms, primitives. Our own are the steps that
--- each form costs, the levels at which what is built has to fit, annotations, and the edits.
+-- match, build, where (test) and scope; but `one` takes the leftmost child, where there it may take
+-- any. The Stratego manual's, written out here: guards, some, lists with a tail, calls of definitions
+-- with strategies and terms, primitives. Our own are the steps that each form costs, the levels at
+-- which what is built has to fit, annotations, and the edits.
 --
 -- A form is evaluated in a scope E, at a level l (how many terms stand above the current one), with c
 -- steps left besides its own, bindings B and the current term t. What a part used of the steps stays
@@ -19,7 +20,7 @@ use Rattle.prim_core.specs.Signature.{Signature}
 use Rattle.strategy_syntax.specs.Resolved.{Places, no_places, and_place, ResolvedStrategy, id, fail, matches, builds, seq, guard, test, scope, param, call, congruence, tail_congruence, all, one, some, child, rec, prim, ResolvedStrategies, resolved_list}
 use Rattle.strategy_syntax.specs.declared.resolved.Resolved.{Resolved}
 use Rattle.strategy_meaning.specs.Matching.{Bindings, match_place, build_place, is_headed, elements}
-use Rattle.strategy_meaning.specs.Scopes.{Scope, inside, no_closures, places_in, stands_for, with_variables, with_name, numbers_from, arguments}
+use Rattle.strategy_meaning.specs.Scopes.{Scope, inside, no_closures, cells_in, stands_for, with_variables, with_name, numbers_from, arguments}
 use Rattle.strategy_meaning.specs.Answer.{Answer, done, failed, stopped, spent, big, Act, either, if_done, with_edits, and_then, at_root}
 
 -- What the numbers of definitions and primitives stand for: the bodies of a program, and the
@@ -41,8 +42,8 @@ with_some (Some x) c go = go x
 -- ---- children, counted from 0
 
 -- on child i of the term, whose other children, head and annotations stay
-abbrev pub at_one : Act → ℕ → Act
-at_one act i c B t =
+abbrev pub on_child : Act → ℕ → Act
+on_child act i c B t =
     with_some (slice_get (children t) i) c (λ u. if_done (act c B u)
     (λ v B1 b e. done (with_child t i v) B1 b (behind (i ∷ []) e)))
 
@@ -50,27 +51,27 @@ at_one act i c B t =
 abbrev pub each : (ResolvedStrategy → Act) → List ResolvedStrategy → ℕ → Act
 each act [] i c B t = done t B c []
 each act (s ∷ ss) i c B t =
-    and_then (at_one (act s) i c B t) (λ b B1 t1. each act ss (i + 1) b B1 t1)
+    and_then (on_child (act s) i c B t) (λ b B1 t1. each act ss (i + 1) b B1 t1)
 
--- on the leftmost of so many children from child i on that it is done on
+-- on the leftmost of so many children from child i on where it gives a term
 abbrev pub leftmost : Act → ℕ → ℕ → Act
 leftmost act zero i c B t = failed c
 leftmost act (suc n) i c B t =
-    either (at_one act i c B t) done (λ b. leftmost act n (i + 1) b B t)
+    either (on_child act i c B t) done (λ b. leftmost act n (i + 1) b B t)
 
--- on all of so many children from child i on that it is done on; any tells whether there was one
--- before them, and in the end there has to be one
+-- on each of so many children from child i on where it gives a term; `any` tells whether it gave one
+-- before them, and in the end it has to have given one
 abbrev pub those_done : Act → ℕ → Bool → ℕ → Act
 those_done act zero any i c B t = cond any (done t B c []) (failed c)
 those_done act (suc n) any i c B t =
-    either (at_one act i c B t)
+    either (on_child act i c B t)
     (λ t1 B1 b e. with_edits e (those_done act n true (i + 1) b B1 t1))
     (λ b. those_done act n any (i + 1) b B t)
 
 -- on child n, counted from 1
-abbrev pub at_number : Act → ℕ → Act
-at_number act zero c B t = failed c
-at_number act (suc i) c B t = at_one act i c B t
+abbrev pub on_child_number : Act → ℕ → Act
+on_child_number act zero c B t = failed c
+on_child_number act (suc i) c B t = on_child act i c B t
 
 -- ---- congruences
 
@@ -115,18 +116,18 @@ primitive_answer W n us =
     option_and_then (λ p. cond (length us == p.arity) (W.meaning p.name us) None)
     (slice_get W.primitives n)
 
--- ---- new places
+-- ---- new cells
 
 -- the bindings cut to this length
 abbrev pub cut : ℕ → Answer → Answer
 cut n a = if_done a (λ t B b e. done t (take n B) b e)
 
--- in a scope with these new places behind the others, which are gone afterwards
+-- in a scope E, with these new cells behind the others; afterwards they are gone
 abbrev pub opened : Evaluation → Scope → Bindings → ℕ → ResolvedStrategy → Act
 opened part E new l s c B t = cut (length B) (part E l s c (B ++ new) t)
 
 -- The body of a definition, with these strategies, written in E, and these terms: the terms have new
--- places, and so do its free variables, which are empty.
+-- cells, and so do its free variables, whose cells are empty.
 abbrev pub enter : Evaluation → ResolvedStrategies → Scope → List Tree → Resolved → ℕ → Act
 enter part ss E us d l c B t =
     opened part (inside (numbers_from (length B) (length us + d.variables)) (arguments E ss))
@@ -138,9 +139,9 @@ abbrev pub form : World → Evaluation → Evaluation
 form W part E l id c B t = done t B c []
 form W part E l fail c B t = failed c
 form W part E l (matches p) c B t =
-    with_some (match_place p t (places_in E) B) c (λ B1. done t B1 c [])
+    with_some (match_place p t (cells_in E) B) c (λ B1. done t B1 c [])
 form W part E l (builds p) c B t =
-    built (build_place p (places_in E) B) l c (λ u. done u B c (at_root u))
+    built (build_place p (cells_in E) B) l c (λ u. done u B c (at_root u))
 form W part E l (seq s1 s2) c B t = and_then (part E l s1 c B t) (part E l s2)
 form W part E l (guard s1 s2 s3) c B t =
     either (part E l s1 c B t) (λ t1 B1 b e. with_edits e (part E l s2 b B1 t1))
@@ -151,7 +152,7 @@ form W part E l (scope n s) c B t =
 form W part E l (param x) c B t =
     with_some (stands_for E x) c (λ k. part k.written_in l k.strategy c B t)
 form W part E l (call f ss ps) c B t =
-    built_all ps (places_in E) B l c
+    built_all ps (cells_in E) B l c
     (λ us. with_some (slice_get W.bodies f) c (λ d. enter part ss E us d l c B t))
 form W part E l (congruence h ss) c B t =
     cond (is_over h (length (resolved_list ss)) t)
@@ -164,25 +165,25 @@ form W part E l (all s) c B t =
     each (part E (l + 1)) (replicate (length (children t)) s) 0 c B t
 form W part E l (one s) c B t = leftmost (part E (l + 1) s) (length (children t)) 0 c B t
 form W part E l (some s) c B t = those_done (part E (l + 1) s) (length (children t)) false 0 c B t
-form W part E l (child n s) c B t = at_number (part E (l + 1) s) n c B t
+form W part E l (child n s) c B t = on_child_number (part E (l + 1) s) n c B t
 form W part E l (rec s) c B t = part (with_name E (rec s) E) l s c B t
 form W part E l (prim n ps) c B t =
-    built_all ps (places_in E) B l c
+    built_all ps (cells_in E) B l c
     (λ us. built (primitive_answer W n us) l c (λ u. done u B c (at_root u)))
 
 -- ---- the whole
 
 -- The first number only bounds the recursion: a part has fewer steps than the whole.
-abbrev pub go : World → ℕ → Evaluation
-go W zero E l s b B t = stopped spent
-go W (suc n) E l s zero B t = stopped spent
-go W (suc n) E l s (suc c) B t = form W (go W n) E l s c B t
+abbrev pub run_bounded : World → ℕ → Evaluation
+run_bounded W zero E l s b B t = stopped spent
+run_bounded W (suc n) E l s zero B t = stopped spent
+run_bounded W (suc n) E l s (suc c) B t = form W (run_bounded W n) E l s c B t
 
 -- the answer from b steps
 abbrev pub run : World → Evaluation
-run W E l s b B t = go W b E l s b B t
+run W E l s b B t = run_bounded W b E l s b B t
 
--- a whole strategy, with an empty place for each of its free variables
+-- a whole strategy, with an empty cell for each of its free variables
 abbrev pub run_whole : World → ℕ → Resolved → ℕ → Tree → Answer
 run_whole W l r b t =
     run W (inside (numbers_from 0 r.variables) no_closures) l r.strategy b

@@ -38,7 +38,8 @@ pub fn sequences()
     ensures fail_first { FailFirst }
 {}
 
-/// A choice whose left side fails goes on with the original term and bindings.
+/// A guard whose first part fails, and so a choice whose left side does, goes on with the original
+/// term and bindings.
 pub fn choices()
     ensures { ChoiceGoesOn }
 {}
