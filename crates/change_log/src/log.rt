@@ -1,6 +1,6 @@
 //! Logs: what changes of a store replaced, so that they can be taken back.
 
-ghost use Rattle.std.specs.Prelude.{◌≡◌, ◌<◌, ◌-◌, ◌++◌, [], ◌∷◌, length, take, drop, OnOk, OnErr};
+ghost use Rattle.std.specs.Prelude.{◌≡◌, ◌<◌, ◌-◌, ◌++◌, [], ◌∷◌, length, take, drop, OnOk, OnErr, vec_len, vec_capacity};
 ghost use Rattle.change_log.specs.Entries.{put, found, before, after, flipped_back, flipped_forward};
 ghost use Rattle.change_log.specs.LogView.{entry_of, entries, depths};
 
@@ -84,7 +84,7 @@ impl Log {
             path,
             mut kept,
         } = change;
-        self.replaced.reserve(1)?;
+        reserve_one(&mut self.replaced)?;
         self.paths.extend_from_slice(path)?;
         store.exchange(slot, path, &mut kept);
         self.replaced.push_reserved(Replaced {
@@ -135,6 +135,19 @@ impl Log {
     {
         flip_forward(&mut self.replaced, &self.paths, store);
     }
+}
+
+// Makes room for one more: for the first alone, since most logs are of one change.
+fn reserve_one(replaced: &mut Vec<Replaced>) -> Result<(), NoMemory>
+    ensures items { replaced.new.items ≡ replaced.old.items }
+    ensures room { OnOk result (vec_len replaced.new < vec_capacity replaced.new) }
+{
+    if replaced.is_empty() {
+        replaced.reserve_exact(1)?;
+    } else {
+        replaced.reserve(1)?;
+    }
+    Ok(())
 }
 
 // Puts what was replaced at the path back, and drops what takes its place now.

@@ -6,11 +6,11 @@ use Rattle.change_log.proofs.log.Log.push.Goals as goal
 
 pub invariant_of-self-2 : goal.invariant_of-self-2
 invariant_of-self-2 c =
-    pushed_depths c.reserve.new.self.items c.push_reserved.new.self.items _ c.self.inside.paths.items c.change.inside.path.now c.extend_from_slice.new.self.items
-    (ap depths c.in_ok-reserve.ensures.items ∙ c.self.invariant) refl c.push_reserved.ensures.items c.in_ok-extend_from_slice.ensures.items
+    pushed_depths c.reserve_one.new.replaced.items c.push_reserved.new.self.items _ c.self.inside.paths.items c.change.inside.path.now c.extend_from_slice.new.self.items
+    (ap depths c.in_ok-reserve_one.ensures.items ∙ c.self.invariant) refl c.push_reserved.ensures.items c.in_ok-extend_from_slice.ensures.items
 
 pub returns-clause-log : goal.returns-clause-log
 returns-clause-log c =
-    pushed_entries c.reserve.new.self.items c.push_reserved.new.self.items _ c.self.inside.paths.items c.change.inside.path.now c.extend_from_slice.new.self.items
-    (ap depths c.in_ok-reserve.ensures.items ∙ c.self.invariant) refl c.push_reserved.ensures.items c.in_ok-extend_from_slice.ensures.items
-    ∙ (λ i. (ap (λ rs. entries rs c.self.inside.paths.items) c.in_ok-reserve.ensures.items ∙ c.self.view_is) i ++ (c.exchange.ensures.kept ∙ ap (λ e. found e c.args.store.now) c.change.view_is) i ∷ [])
+    pushed_entries c.reserve_one.new.replaced.items c.push_reserved.new.self.items _ c.self.inside.paths.items c.change.inside.path.now c.extend_from_slice.new.self.items
+    (ap depths c.in_ok-reserve_one.ensures.items ∙ c.self.invariant) refl c.push_reserved.ensures.items c.in_ok-extend_from_slice.ensures.items
+    ∙ (λ i. (ap (λ rs. entries rs c.self.inside.paths.items) c.in_ok-reserve_one.ensures.items ∙ c.self.view_is) i ++ (c.exchange.ensures.kept ∙ ap (λ e. found e c.args.store.now) c.change.view_is) i ∷ [])
