@@ -1,6 +1,6 @@
 -- A script that is cut while its bytes come: what is under way, and what is handed out at a byte. The
 -- code equals this machine, which gives the commands of the script: see `StandsBehind`.
-use Rattle.std.specs.Prelude.{◌≡◌, ℕ, suc, ◌==◌, ◌&&◌, ◌||◌, nat_le, List, [], ◌∷◌, ◌++◌, Some, None, option_map, if◌then◌else◌}
+use Rattle.std.specs.Prelude.{◌≡◌, ℕ, suc, Bool, ◌==◌, ◌&&◌, ◌||◌, nat_le, List, [], ◌∷◌, ◌++◌, Some, None, option_map, if◌then◌else◌}
 use Rattle.std.specs.declared.option.Option.{Option}
 use Rattle.std.specs.List.{repeat}
 use Rattle.std.specs.Option.{option_to_list}
@@ -85,6 +85,10 @@ taken_at Skipped s b = in_dropped s b
 abbrev pub taken : Unfinished → ℕ → Taken
 taken s b = taken_at s.place s b
 
+-- whether a byte in a line of the command may change more than the command
+abbrev pub ends_run : ℕ → Bool
+ends_run b = b == 10 || b == 13
+
 -- what is handed out of what is under way and the bytes behind it, up to the end
 abbrev pub rest_of : Unfinished → List ℕ → List Handed
 rest_of s [] = option_to_list s.command
@@ -94,6 +98,11 @@ rest_of s (b ∷ bytes) = option_to_list (taken s b).out ++ rest_of (taken s b).
 abbrev pub out_of : Unfinished → List ℕ → List Handed
 out_of s [] = []
 out_of s (b ∷ bytes) = option_to_list (taken s b).out ++ out_of (taken s b).left bytes
+
+-- what is under way behind these bytes
+abbrev pub passed : Unfinished → List ℕ → Unfinished
+passed s [] = s
+passed s (b ∷ bytes) = passed (taken s b).left bytes
 
 -- What is under way stands behind the text x, of which these were handed out: those that are
 -- complete; and whatever comes behind x, the others are its rest.

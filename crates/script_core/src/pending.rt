@@ -102,4 +102,17 @@ impl Pending {
         }
         self.bytes.push_reserved(byte);
     }
+
+    /// Adds bytes to the command that is there.
+    pub fn add_all(&mut self, bytes: &[u8])
+        ensures { self.new ≡ option_map (with_more bytes.now) self.old }
+    {
+        if bytes.len() > MAX_COMMAND - self.bytes.len() {
+            self.is_long = true;
+            return;
+        }
+        if self.bytes.extend_from_slice(bytes).is_err() {
+            unreachable!();
+        }
+    }
 }

@@ -4,15 +4,18 @@
 //! begins with `#` is a comment. A line that is empty or begins with a space or a tab goes on with the
 //! command before it, any other begins a command.
 
-ghost use Rattle.std.specs.Prelude.{◌≡◌, ◌++◌, [], List, ℕ, IfOk, IfSome, IfNone, Some, None, is_some, option_map, true};
+ghost use Rattle.std.specs.Prelude.{◌≡◌, ◌≤◌, ◌++◌, [], List, length, take, ℕ, IfOk, IfSome, IfNone, Some, None, is_some, option_map, true};
 ghost use Rattle.script_core.specs.Handed.{Handed, handed};
+ghost use Rattle.std.specs.List.{position_or_len};
 ghost use Rattle.std.specs.Option.{option_to_list};
-ghost use Rattle.script_core.specs.Splitting.{StandsBehind, taken, going, begun, hold_return, at_start, in_line, gone_on, with_more};
+ghost use Rattle.script_core.specs.Script.{is_line_feed};
+ghost use Rattle.script_core.specs.Splitting.{StandsBehind, taken, passed, out_of, ends_run, going, begun, hold_return, at_start, in_line, gone_on, with_more};
 ghost use Rattle.script_core.specs.Split.{left_behind};
 ghost use Rattle.script_core.specs.FedRight.{FedRight, handed_out};
 
 use crate::MAX_COMMAND;
 use crate::pending::Pending;
+use memchr::{memchr, memchr2};
 use std::alloc::Global;
 use std::marker::Model;
 use term_core::NoMemory;
@@ -105,10 +108,17 @@ impl Splitter {
     {
         self.open.go_on_behind(self.begun);
         self.begun = None;
-        for (i, byte) in bytes.iter().enumerate() {
-            if let Some(begun) = self.open.take(*byte) {
+        let mut at = 0;
+        while at < bytes.len() {
+            at += self.open.take_run(&bytes[at..]);
+            if at == bytes.len() {
+                break;
+            }
+            let byte = bytes[at];
+            at += 1;
+            if let Some(begun) = self.open.take(byte) {
                 self.begun = Some(begun);
-                return Fed::Command(i + 1);
+                return Fed::Command(at);
             }
         }
         Fed::Need
@@ -151,6 +161,26 @@ impl Unfinished {
         self.command.begin(line.returns, line.byte);
         self.place = Place::Kept;
         self.returns = 0;
+    }
+
+    // Takes the bytes up to the next that can change more than the command, and answers how many.
+    fn take_run(&mut self, bytes: &[u8]) -> usize
+        ensures within { result ≤ length bytes.now }
+        ensures none { out_of self.old (take result bytes.now) ≡ [] }
+        ensures left { self.new ≡ passed self.old (take result bytes.now) }
+    {
+        match self.place {
+            Place::Start => 0,
+            Place::Kept => {
+                if self.returns > 0 {
+                    return 0;
+                }
+                let len = kept_len(bytes);
+                self.command.add_all(&bytes[..len]);
+                len
+            }
+            Place::Comment | Place::Skipped => dropped_len(bytes),
+        }
     }
 
     // Takes a byte. Where it completes the command that is there, it answers what begins behind it, and
@@ -255,5 +285,27 @@ impl Unfinished {
                 self.returns = 0;
             }
         }
+    }
+}
+
+// How many bytes of a line of the command stand before the next line feed or carriage return.
+fn kept_len(bytes: &[u8]) -> usize
+    ensures value { result ≡ position_or_len ends_run bytes.now }
+    ensures within { result ≤ length bytes.now }
+{
+    match memchr2(b'\n', b'\r', bytes) {
+        Some(place) => place,
+        None => bytes.len(),
+    }
+}
+
+// How many bytes of a line that is dropped stand before its line feed.
+fn dropped_len(bytes: &[u8]) -> usize
+    ensures value { result ≡ position_or_len is_line_feed bytes.now }
+    ensures within { result ≤ length bytes.now }
+{
+    match memchr(b'\n', bytes) {
+        Some(place) => place,
+        None => bytes.len(),
     }
 }
