@@ -1,0 +1,9 @@
+//! The scopes of a running strategy, as a flat table in which each widens an older one.
+#![tactic(auto)]
+
+mod scopes;
+
+pub use scopes::{Known, Scopes};
+
+#[cfg(test)]
+mod tests;
