@@ -1,0 +1,9 @@
+pub mod NodeLemmas
+pub mod StandingLemmas
+pub mod ApartLemmas
+pub mod PlacesMade
+pub mod PlacesThere
+pub mod FollowLemmas
+pub mod EditLemmas
+pub mod LogLemmas
+pub mod StoreLemmas

@@ -1,0 +1,105 @@
+-- A tree and what was replaced in it.
+use Rattle.std.specs.Prelude.{◌≡◌, ℕ, ◌==◌, cond, List, [], ◌∷◌, map, refl}
+use Rattle.std.specs.Coded.{Coded, code_by, coded×, coded_ℕ}
+use Rattle.term_core.specs.Tree.{Tree, children, with_children}
+use Rattle.term_core.specs.TreeCode.{tree_code}
+use Rattle.term_changes.specs.Change.{Change, same, inside, replaced, Changes, no_more, and_then, changed}
+use Rattle.term_changes.specs.ChangeCode.{changes_code}
+
+-- a tree, and the changes of its children
+pub record Altered : Type 0 where
+  pub before : Tree
+  pub changes : Changes
+
+-- the tree with the changes made
+abbrev pub after : Altered → Tree
+after a = changed (inside a.changes) a.before
+
+-- What stands in the place of a subterm: that subterm itself, that subterm with places in it replaced,
+-- or another tree.
+pub data Standing : Type 0 where
+  unchanged : Tree → Standing
+  altered : Altered → Standing
+  fresh : Tree → Standing
+
+abbrev pub standing_tree : Standing → Tree
+standing_tree (unchanged t) = t
+standing_tree (altered a) = after a
+standing_tree (fresh t) = t
+
+abbrev pub standing_change : Standing → Change
+standing_change (unchanged t) = same
+standing_change (altered a) = inside a.changes
+standing_change (fresh t) = replaced t
+
+-- whether it can stand in the place of u: what was kept is u
+abbrev pub Suits : Tree → Standing → Type 0
+Suits u (unchanged t) = t ≡ u
+Suits u (altered a) = a.before ≡ u
+Suits u (fresh t) = Unit {0}
+
+abbrev pub SuitAll : List Tree → List Standing → Type 0
+SuitAll [] [] = Unit {0}
+SuitAll [] (p ∷ ps) = ⊥
+SuitAll (u ∷ us) [] = ⊥
+SuitAll (u ∷ us) (p ∷ ps) = Suits u p × SuitAll us ps
+
+abbrev pub standing_changes : List Standing → Changes
+standing_changes [] = no_more
+standing_changes (p ∷ ps) = and_then (standing_change p) (standing_changes ps)
+
+-- ---- down to the children, and up again
+
+-- what stands in the place of u after a change
+abbrev pub stand : Tree → Change → Standing
+stand u same = unchanged u
+stand u (inside cs) = altered (record { before = u; changes = cs })
+stand u (replaced t) = fresh t
+
+abbrev pub stand_all : List Tree → Changes → List Standing
+stand_all us no_more = map unchanged us
+stand_all [] (and_then c cs) = []
+stand_all (u ∷ us) (and_then c cs) = stand u c ∷ stand_all us cs
+
+-- what stands in the places of the children
+abbrev pub standing_children : Standing → List Standing
+standing_children (unchanged t) = map unchanged (children t)
+standing_children (altered a) = stand_all (children a.before) a.changes
+standing_children (fresh t) = map fresh (children t)
+
+-- whether these can stand in the places of the children
+abbrev pub CanHold : Standing → List Standing → Type 0
+CanHold (unchanged t) ps = SuitAll (children t) ps
+CanHold (altered a) ps = SuitAll (children a.before) ps
+CanHold (fresh t) ps = Unit {0}
+
+-- the same root over these children
+abbrev pub with_standing : Standing → List Standing → Standing
+with_standing (unchanged t) ps = altered (record { before = t; changes = standing_changes ps })
+with_standing (altered a) ps = altered (record { before = a.before; changes = standing_changes ps })
+with_standing (fresh t) ps = fresh (with_children t (map standing_tree ps))
+
+-- ---- how the logic stores them
+
+abbrev pub altered_code : Coded Altered
+altered_code =
+    code_by (Tree × Changes) (coded× tree_code changes_code) (λ a. (a.before, a.changes))
+    (λ p. record { before = p.0; changes = p.1 }) (λ _. refl)
+
+abbrev standing_parts : Standing → ℕ × Altered
+standing_parts (unchanged t) = (0, record { before = t; changes = no_more })
+standing_parts (altered a) = (1, a)
+standing_parts (fresh t) = (2, record { before = t; changes = no_more })
+
+abbrev parts_standing : ℕ × Altered → Standing
+parts_standing p = cond (p.0 == 0) (unchanged p.1.before) (cond (p.0 == 1) (altered p.1) (fresh p.1.before))
+
+pub parts_standing-standing_parts : (s : Standing) → parts_standing (standing_parts s) ≡ s
+parts_standing-standing_parts (unchanged t) = refl
+parts_standing-standing_parts (altered a) = refl
+parts_standing-standing_parts (fresh t) = refl
+
+abbrev pub standing_code : Coded Standing
+standing_code =
+    code_by (ℕ × Altered) (coded× coded_ℕ altered_code) standing_parts parts_standing
+    parts_standing-standing_parts

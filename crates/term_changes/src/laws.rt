@@ -1,0 +1,36 @@
+//! Laws of changes. Each is the contract of a function that does nothing.
+
+ghost use Rattle.term_changes.specs.Edits.{EditsComeTo};
+ghost use Rattle.term_changes.specs.Follows.{FollowsItself, FollowsOn, FollowersCanStand, SameRootFollows, TreesOfChildren, FollowersAreTheChange, TreeOverChildren};
+ghost use Rattle.term_changes.specs.Putting.{PlacesLieApart, PlacesMakeTheChange, PlacesPutTheChange, PlacesAreThere, AllLeadBack, AllFit};
+
+/// The places of a change lie apart, and setting them makes the change, in a tree and in a store that
+/// has the places.
+pub fn places_of_changes()
+    ensures apart { PlacesLieApart }
+    ensures make { PlacesMakeTheChange }
+    ensures put { PlacesPutTheChange }
+    ensures there { PlacesAreThere }
+{}
+
+/// Changes that are made one after the other are taken back by their log.
+pub fn logs_of_changes()
+    ensures back { AllLeadBack }
+    ensures fit { AllFit }
+{}
+
+/// What may stand in the place of a subterm after a run.
+pub fn followers()
+    ensures itself { FollowsItself }
+    ensures on { FollowsOn }
+    ensures stand { FollowersCanStand }
+    ensures root { SameRootFollows }
+    ensures trees { TreesOfChildren }
+    ensures change { FollowersAreTheChange }
+    ensures over { TreeOverChildren }
+{}
+
+/// Edits, made one after the other, come to one change.
+pub fn edits()
+    ensures { EditsComeTo }
+{}

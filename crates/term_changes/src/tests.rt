@@ -1,0 +1,51 @@
+//! Replaced places in a store, and back.
+
+use crate::{Replacement, laws, put_in_place};
+use change_log::{Entry, Log, Store};
+use std::alloc::Global;
+use std::test::Fail;
+use term_core::{Label, Term};
+
+fn pair(alloc: Global, first: i64, second: i64) -> Result<Term, Fail> {
+    Ok(Term::tuple(
+        alloc,
+        vec![in alloc; Term::integer(alloc, first), Term::integer(alloc, second)]?,
+    ))
+}
+
+#[test]
+fn places_are_put_and_taken_back(rt: HostRuntime) -> Result<(), Fail> {
+    let alloc = rt.alloc();
+    let mut store = Store::new(alloc);
+    let mut log = Log::new(alloc);
+    let slot = store.tree_slot(&Label::read(alloc, b"t").map_err(|_| "no label")?)?;
+    log.push(&mut store, Entry::tree(slot, Some(pair(alloc, 1, 2)?)))?;
+    let mark = log.mark();
+    let mut all = Vec::new(alloc);
+    all.push(Replacement::new(vec![in alloc; 0usize]?, Term::integer(alloc, 3)))?;
+    all.push(Replacement::new(vec![in alloc; 1usize]?, Term::integer(alloc, 4)))?;
+    put_in_place(all, slot, &mut store, &mut log)?;
+    assert_eq!(rt; log.count(), 3);
+    assert!(rt;
+        store
+            .tree(slot)
+            .ok_or("no tree")?
+            .equals(&pair(alloc, 3, 4)?)
+    );
+    log.roll_back(mark, &mut store);
+    assert!(rt;
+        store
+            .tree(slot)
+            .ok_or("no tree")?
+            .equals(&pair(alloc, 1, 2)?)
+    );
+    Ok(())
+}
+
+#[test]
+fn laws_are_there() {
+    laws::places_of_changes();
+    laws::logs_of_changes();
+    laws::followers();
+    laws::edits();
+}
