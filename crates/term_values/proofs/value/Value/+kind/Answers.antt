@@ -1,0 +1,37 @@
+use Rattle.std.proofs.Common.{[], ◌++◌, drop, ap, sym, ◌∙◌, subst}
+use Rattle.term_core.specs.Tree.{children}
+use Rattle.term_core.specs.declared.kind.Kind.{Kind}
+use Rattle.term_core.specs.declared.kind.Kind.TheVariants.{List as AList}
+use Rattle.term_values.specs.declared.value.Made.{Made}
+use Rattle.term_values.specs.declared.value.Noted.{Noted}
+use Rattle.term_values.specs.ValueView.{form_tree, items_list, notes_list}
+use Rattle.term_values.proofs.KindLemmas.{IsOfKind, kind-made_of, kind-with_annotations, kind_along}
+use Rattle.term_values.proofs.value.Value.+kind.Goals as goal
+
+pub returns-in-Built : goal.returns-in-Built
+returns-in-Built t c =
+    let m = c.in-Built.made.value in
+    let whole = ap form_tree (sym c.in-Built.is) ∙ c.self.view_is in
+    let kind = sym (ap (λ (x : Made). x.kind) c.deref.ensures) in
+    subst (λ (k : Kind). IsOfKind k c.args.self.now) kind
+    (kind_along m.kind _ c.args.self.now whole (kind-made_of m.kind (items_list m.items) []))
+
+pub returns-in-Noted : goal.returns-in-Noted
+returns-in-Noted t c =
+    let n = c.in-Noted.noted.value in
+    let k = c.kind-in-Noted.result in
+    let whole = ap form_tree (sym c.in-Noted.is) ∙ c.self.view_is in
+    let same = ap (λ (x : Noted). x.node) c.deref-in-Noted.ensures in
+    kind_along k _ c.args.self.now whole
+    (kind-with_annotations k n.node (notes_list n.notes) (kind_along k _ n.node same c.kind-in-Noted.ensures))
+
+pub returns-in-Rest : goal.returns-in-Rest
+returns-in-Rest t c =
+    kind_along AList _ c.args.self.now (ap form_tree (sym c.in-Rest.is) ∙ c.self.view_is)
+    (kind-made_of AList (drop c.in-Rest.field-1 (children c.in-Rest.field-0.now)) [])
+
+pub returns-in-Joined : goal.returns-in-Joined
+returns-in-Joined t c =
+    let j = c.in-Joined.field-0.value in
+    kind_along AList _ c.args.self.now (ap form_tree (sym c.in-Joined.is) ∙ c.self.view_is)
+    (kind-made_of AList (items_list j.front ++ children j.behind) [])

@@ -1,0 +1,19 @@
+-- Upper bounds of size and height.
+use Rattle.std.specs.Prelude.{◌≡◌, ℕ, ◌≤◌, ◌^◌, ◌-◌, min, true, List}
+use Rattle.term_core.specs.Tree.{Tree, of_list}
+use Rattle.term_core.specs.Size.{height, heights, size, sizes}
+use Rattle.term_values.specs.declared.bounds.Bounds.{Bounds}
+
+-- The size s and the height h are at most the bounds, of which the greatest numbers bound nothing;
+-- where the bounds are exact, they are s and h, or the greatest numbers.
+pub record Covers (s h : ℕ) (b : Bounds) : Type 0 where
+  pub size : min s (2 ^ 32 - 1) ≤ b.size
+  pub height : min h (2 ^ 16 - 1) ≤ b.height
+  pub exact : b.exact ≡ true → (min s (2 ^ 32 - 1) ≡ b.size) × (min h (2 ^ 16 - 1) ≡ b.height)
+
+abbrev pub Bounded : Tree → Bounds → Type 0
+Bounded t b = Covers (size t) (height t) b
+
+-- of a list of trees, all sizes together and the greatest height
+abbrev pub AllBounded : List Tree → Bounds → Type 0
+AllBounded us b = Covers (sizes (of_list us)) (heights (of_list us)) b

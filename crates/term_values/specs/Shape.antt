@@ -1,0 +1,23 @@
+-- What is true of a node's fields.
+use Rattle.std.specs.Prelude.{◌≡◌, ℕ, ◌<◌, List, [], ◌++◌, length}
+use Rattle.term_core.specs.Tree.{Tree, children, annotations}
+use Rattle.term_core.specs.declared.kind.Kind.{Kind}
+use Rattle.term_core.specs.declared.kind.Kind.TheVariants.{Integer, Application, List as AList, Tuple}
+
+-- an integer has no children
+abbrev pub kind_shape : Kind → List Tree → Type 0
+kind_shape (Integer z) us = us ≡ []
+kind_shape (Application name) us = Unit {0}
+kind_shape AList us = Unit {0}
+kind_shape Tuple us = Unit {0}
+
+-- Elements in front of a list that has no annotations; they are counted.
+pub record JoinedShape (front : List Tree) (behind : Tree) (count : ℕ) : Type 0 where
+  pub some : 0 < length front
+  pub bare : annotations behind ≡ []
+  pub counted : count ≡ length (front ++ children behind)
+
+-- A node without annotations that is given some.
+pub record NotedShape (node : Tree) (notes : List Tree) : Type 0 where
+  pub bare : annotations node ≡ []
+  pub some : 0 < length notes

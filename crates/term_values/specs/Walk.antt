@@ -1,0 +1,33 @@
+-- What is walked over.
+use Rattle.std.specs.Prelude.{◌≡◌, List, [], ◌++◌, map, Some, None}
+use Rattle.std.specs.declared.option.Option.{Option}
+use denote.Ref.{Bor}
+use Rattle.term_core.specs.Tree.{Tree, children}
+use Rattle.term_changes.specs.Standing.{standing_tree}
+use Rattle.term_values.specs.declared.elements.Seen.{Seen}
+use Rattle.term_values.specs.declared.elements.Seen.TheVariants as seen
+use Rattle.term_values.specs.declared.elements.Run.{Run}
+use Rattle.term_values.specs.declared.elements.Run.TheVariants as run
+use Rattle.term_values.specs.declared.elements.Elements.TheInside.{Inside as ElementsFields}
+
+abbrev pub seen_tree : Seen → Tree
+seen_tree (seen.Term t) = t.now
+seen_tree (seen.Value v) = v.now
+seen_tree (seen.Part p) = standing_tree p.now
+
+abbrev pub run_list : Run → List Tree
+run_list run.Empty = []
+run_list (run.Terms ts) = ts.now
+run_list (run.Values vs) = vs.now
+run_list (run.Parts ps) = map standing_tree ps.now
+
+abbrev pub behind_list : Option (Bor Tree) → List Tree
+behind_list None = []
+behind_list (Some v) = children v.now
+
+abbrev pub elements_list : ElementsFields → List Tree
+elements_list a = run_list a.run ++ behind_list a.behind
+
+-- an empty run has nothing behind it
+abbrev pub NoGap : ElementsFields → Type 0
+NoGap a = run_list a.run ≡ [] → a.behind ≡ None

@@ -1,0 +1,119 @@
+//! Upper bounds of size and height, kept with each reference so that few tests of fitting need a walk.
+
+ghost use Rattle.std.specs.Prelude.{◌≡◌, ℕ, ◌+◌, ◌≤◌, ◌↔◌, IsTrue, max};
+ghost use Rattle.term_values.specs.Bounded.{Covers};
+
+/// A size and a height that a tree, or a list of trees, doesn't exceed. The greatest numbers stand
+/// for no bound.
+#[derive(Clone, Copy)]
+pub struct Bounds {
+    pub(crate) size: u32,
+    pub(crate) height: u16,
+    /// Whether they are the size and the height themselves, as far as these numbers go.
+    pub(crate) exact: bool,
+}
+
+impl Bounds {
+    /// Nothing is known.
+    pub(crate) fn unknown() -> Bounds
+        ensures { (s h : ℕ) → Covers s h result }
+    {
+        Bounds {
+            size: u32::MAX,
+            height: u16::MAX,
+            exact: false,
+        }
+    }
+
+    /// Those of a term without children and annotations.
+    pub(crate) fn of_leaf() -> Bounds
+        ensures { Covers 1 1 result }
+    {
+        Bounds {
+            size: 1,
+            height: 1,
+            exact: true,
+        }
+    }
+
+    /// Those of no trees.
+    pub(crate) fn of_none() -> Bounds
+        ensures { Covers 0 0 result }
+    {
+        Bounds {
+            size: 0,
+            height: 0,
+            exact: true,
+        }
+    }
+
+    /// Those of trees and more trees.
+    pub(crate) fn and(self, more: Bounds) -> Bounds
+        ensures { (s h r k : ℕ) → Covers s h self → Covers r k more → Covers (s + r) (max h k) result }
+    {
+        Bounds {
+            size: self.size.saturating_add(more.size),
+            height: self.height.max(more.height),
+            exact: self.exact && more.exact,
+        }
+    }
+
+    /// Those of a node over trees.
+    pub(crate) fn over(self) -> Bounds
+        ensures { (s h : ℕ) → Covers s h self → Covers (s + 1) (h + 1) result }
+    {
+        Bounds {
+            size: self.size.saturating_add(1),
+            height: self.height.saturating_add(1),
+            exact: self.exact,
+        }
+    }
+
+    /// Those of a list with these trees in front of the elements of another one.
+    pub(crate) fn before(self, list: Bounds) -> Bounds
+        ensures { (s h r k : ℕ) → Covers s h self → Covers r k list → Covers (s + r) (max (h + 1) k) result }
+    {
+        Bounds {
+            size: self.size.saturating_add(list.size),
+            height: self.height.saturating_add(1).max(list.height),
+            exact: self.exact && list.exact,
+        }
+    }
+
+    /// Those of a part, beside which there are at least so many other terms, that many levels lower.
+    pub(crate) fn less(self, terms: usize, levels: u16) -> Bounds
+        ensures { (s h r k : ℕ) → Covers s h self → r + terms ≤ s → k + levels ≤ h → Covers r k result }
+    {
+        let size = if self.size == u32::MAX {
+            u32::MAX
+        } else {
+            (u64::from(self.size).saturating_sub(terms as u64)) as u32
+        };
+        let height = if self.height == u16::MAX {
+            u16::MAX
+        } else {
+            self.height.saturating_sub(levels)
+        };
+        Bounds {
+            size,
+            height,
+            exact: false,
+        }
+    }
+
+    /// Those of one tree whose height is at most this.
+    pub(crate) fn of_height(height: u64) -> Bounds
+        ensures { (s h : ℕ) → h ≤ height → Covers s h result }
+    {
+        let height = if height >= u64::from(u16::MAX) {
+            u16::MAX
+        } else {
+            height as u16
+        };
+        Bounds {
+            size: u32::MAX,
+            height,
+            exact: false,
+        }
+    }
+}

@@ -1,0 +1,330 @@
+//! Walks over children and annotations, which take no memory and no holder.
+#![tactic(auto, using(crate::proofs::KindLemmas::node_parts))]
+
+ghost use Rattle.std.specs.Prelude.{◌≡◌, [], ◌∷◌, ◌++◌, ◌≤◌, ◌<◌, ◌↔◌, IsTrue, length, drop, map, IfOk, MatchOption};
+ghost use Rattle.term_core.specs.Tree.{children, annotations};
+ghost use Rattle.term_core.specs.Kind.{made_of};
+ghost use Rattle.term_changes.specs.Standing.{after, standing_tree};
+ghost use Rattle.term_values.specs.ValueView.{items_list, notes_list, parts_list};
+ghost use Rattle.term_values.specs.Bounded.{Bounded};
+ghost use Rattle.term_values.specs.Walk.{seen_tree, run_list};
+
+use crate::bounds::Bounds;
+use crate::part::{Changed, Part, PartForm, Parts};
+use crate::value::{Form, Items, Joined, Notes, Value};
+use std::marker::Model;
+use term_core::{Kind, NoMemory, Term};
+
+/// A tree that is looked at.
+#[derive(Clone, Copy)]
+pub(crate) enum Seen<'a, 't> {
+    Term(&'t Term),
+    Value(&'a Value<'t>),
+    Part(&'a Part<'t>),
+}
+
+/// Trees that lie side by side.
+#[derive(Clone, Copy)]
+pub(crate) enum Run<'a, 't> {
+    Empty,
+    Terms(&'t [Term]),
+    Values(&'a [Value<'t>]),
+    Parts(&'a [Part<'t>]),
+}
+
+/// The trees of a run and the children of the value behind it, from left to right. An empty run has
+/// nothing behind it.
+#[derive(Drop)]
+pub(crate) struct Elements<'a, 't> {
+    run: Run<'a, 't>,
+    behind: Option<&'a Value<'t>>,
+}
+
+impl<'a, 't> Model for Elements<'a, 't> {
+    ghost use Rattle.std.specs.Prelude.{List};
+    ghost use Rattle.std.specs.Coded.{coded_list};
+    ghost use Rattle.term_core.specs.Tree.{Tree};
+    ghost use Rattle.term_core.specs.TreeCode.{tree_code};
+
+    ghost Value = { List Tree };
+
+    ghost coded = { coded_list tree_code };
+
+    ghost use Rattle.term_values.specs.Walk.{elements_list, NoGap};
+
+    ghost view = { elements_list };
+
+    ghost invariant = { NoGap };
+}
+
+impl<'a, 't> Seen<'a, 't> {
+    pub(crate) fn kind(self) -> Kind<'t>
+        ensures { seen_tree self.entry
+            ≡ made_of result (children (seen_tree self.entry)) (annotations (seen_tree self.entry)) }
+    {
+        match self {
+            Seen::Term(term) => term.kind(),
+            Seen::Value(value) => value.kind(),
+            Seen::Part(part) => part.kind(),
+        }
+    }
+
+    pub(crate) fn elements(self) -> Elements<'a, 't>
+        ensures { result ≡ children (seen_tree self.entry) }
+    {
+        let terms = match self {
+            Seen::Term(term) => terms_of(term),
+            Seen::Value(value) => return value.elements(),
+            Seen::Part(part) => return part.elements(),
+        };
+        Elements::alone(terms)
+    }
+
+    pub(crate) fn notes(self) -> Elements<'a, 't>
+        ensures { result ≡ annotations (seen_tree self.entry) }
+    {
+        let run = match self {
+            Seen::Term(term) => Run::Terms(term.annotations()),
+            Seen::Value(value) => value.notes(),
+            Seen::Part(part) => part.notes(),
+        };
+        Elements::alone(run)
+    }
+
+    /// The bounds that are kept with the reference.
+    pub(crate) fn bounds(self) -> Bounds
+        ensures { Bounded (seen_tree self.entry) result }
+    {
+        match self {
+            Seen::Term(_) => Bounds::unknown(),
+            Seen::Value(value) => value.bounds,
+            Seen::Part(part) => part.bounds(),
+        }
+    }
+
+    /// A holder of the tree, of which these bounds are known.
+    pub(crate) fn value(self, within: Bounds) -> Result<Value<'t>, NoMemory>
+        requires { Bounded (seen_tree self) within }
+        ensures { IfOk result (λ value. value ≡ seen_tree self.entry) }
+    {
+        match self {
+            Seen::Term(term) => Ok(Value {
+                form: Form::Original(term),
+                bounds: within,
+            }),
+            Seen::Value(value) => value.try_clone(),
+            Seen::Part(part) => part.value(),
+        }
+    }
+}
+
+impl<'t> Part<'t> {
+    fn elements(&self) -> Elements<'_, 't>
+        ensures { result ≡ children (standing_tree self.now) }
+    {
+        let run = match &self.form {
+            PartForm::Same(term, _) => terms_of(*term),
+            PartForm::Inside(changed, _) => changed.run(),
+            PartForm::New(value) => return value.elements(),
+        };
+        Elements::alone(run)
+    }
+
+    fn notes(&self) -> Run<'_, 't>
+        ensures { run_list result ≡ annotations (standing_tree self.now) }
+    {
+        match &self.form {
+            PartForm::Same(term, _) => {
+                let term: &'t Term = *term;
+                Run::Terms(term.annotations())
+            }
+            PartForm::Inside(changed, _) => Run::Terms(changed.annotations()),
+            PartForm::New(value) => value.notes(),
+        }
+    }
+
+    /// Bounds of the tree that stands there.
+    pub(crate) fn bounds(&self) -> Bounds
+        ensures { Bounded (standing_tree self.now) result }
+    {
+        match &self.form {
+            PartForm::Same(_, bounds) => *bounds,
+            PartForm::Inside(_, bounds) => *bounds,
+            PartForm::New(value) => value.bounds,
+        }
+    }
+}
+
+impl<'a, 't> Run<'a, 't> {
+    /// The first tree and the others.
+    fn split_first(self) -> Option<(Seen<'a, 't>, Run<'a, 't>)>
+        ensures { MatchOption result (run_list self.entry ≡ [])
+            (λ p. run_list self.entry ≡ seen_tree p.0 ∷ run_list p.1) }
+    {
+        match self {
+            Run::Empty => None,
+            Run::Terms(terms) => {
+                let (first, others) = terms.split_first()?;
+                Some((Seen::Term(first), Run::Terms(others)))
+            }
+            Run::Values(values) => {
+                let (first, others) = values.split_first()?;
+                Some((Seen::Value(first), Run::Values(others)))
+            }
+            Run::Parts(parts) => {
+                let (first, others) = parts.split_first()?;
+                Some((Seen::Part(first), Run::Parts(others)))
+            }
+        }
+    }
+
+    fn is_empty(self) -> bool
+        ensures { IsTrue result ↔ (run_list self.entry ≡ []) }
+    {
+        match self {
+            Run::Empty => true,
+            Run::Terms(terms) => terms.is_empty(),
+            Run::Values(values) => values.is_empty(),
+            Run::Parts(parts) => parts.is_empty(),
+        }
+    }
+}
+
+impl<'a, 't> Elements<'a, 't> {
+    fn alone(run: Run<'a, 't>) -> Elements<'a, 't>
+        ensures { result ≡ run_list run.entry }
+    {
+        Elements { run, behind: None }
+    }
+
+    /// The next tree.
+    pub(crate) fn next(&mut self) -> Option<Seen<'a, 't>>
+        ensures { MatchOption result ((self.old ≡ []) × (self.new ≡ []))
+            (λ seen. self.old ≡ seen_tree seen ∷ self.new) }
+    {
+        let (first, others) = self.run.split_first()?;
+        if !others.is_empty() {
+            self.run = others;
+            return Some(first);
+        }
+        match self.behind {
+            None => self.run = others,
+            Some(behind) => *self = behind.elements(),
+        }
+        Some(first)
+    }
+}
+
+impl<'t> Items<'t> {
+    pub(crate) fn as_slice(&self) -> &[Value<'t>]
+        ensures { result.now ≡ items_list self.now }
+    {
+        match self {
+            Items::One(single) => &single.items,
+            Items::Two(pair) => &pair.items,
+            Items::Many(all) => all,
+        }
+    }
+}
+
+impl<'t> Parts<'t> {
+    pub(crate) fn as_slice(&self) -> &[Part<'t>]
+        ensures { result.now ≡ parts_list self.now }
+    {
+        match self {
+            Parts::One(single) => &single.items,
+            Parts::Two(pair) => &pair.items,
+            Parts::Many(all) => all,
+        }
+    }
+}
+
+impl<'t> Notes<'t> {
+    fn run(&self) -> Run<'_, 't>
+        ensures { run_list result ≡ notes_list self.now }
+    {
+        match self {
+            Notes::Of(term) => {
+                let term: &'t Term = *term;
+                Run::Terms(term.annotations())
+            }
+            Notes::Own(all) => Run::Values(all),
+        }
+    }
+}
+
+impl<'t> Changed<'t> {
+    /// The parts in the places of the children.
+    pub(crate) fn run(&self) -> Run<'_, 't>
+        ensures { run_list result ≡ children (after self.now) }
+    {
+        Run::Parts(self.parts.as_slice())
+    }
+
+    pub(crate) fn annotations(&self) -> &'t [Term]
+        ensures { result.now ≡ annotations (after self.now) }
+    {
+        let of: &'t Term = self.of;
+        of.annotations()
+    }
+}
+
+impl<'t> Value<'t> {
+    /// The children.
+    pub(crate) fn elements(&self) -> Elements<'_, 't>
+        ensures { result ≡ children self.now }
+    {
+        let run = match &self.form {
+            Form::Leaf(_) => Run::Empty,
+            Form::Original(term) => terms_of(*term),
+            Form::Bare(term) => terms_of(*term),
+            Form::Rest(term, skipped) => Run::Terms(terms_behind(*term, *skipped)),
+            Form::Built(made) => Run::Values(made.items.as_slice()),
+            Form::Kept(changed) => changed.run(),
+            Form::BareKept(changed) => changed.run(),
+            Form::Joined(joined) => return joined_elements(joined),
+            Form::Noted(noted) => return noted.node.elements(),
+        };
+        Elements::alone(run)
+    }
+
+    /// The annotations.
+    pub(crate) fn notes(&self) -> Run<'_, 't>
+        ensures { run_list result ≡ annotations self.now }
+    {
+        match &self.form {
+            Form::Original(term) => {
+                let term: &'t Term = *term;
+                Run::Terms(term.annotations())
+            }
+            Form::Kept(changed) => Run::Terms(changed.annotations()),
+            Form::Noted(noted) => noted.notes.run(),
+            _ => Run::Empty,
+        }
+    }
+}
+
+fn joined_elements<'a, 't>(joined: &'a Joined<'t>) -> Elements<'a, 't>
+    requires { 0 < length (items_list joined.now.front) }
+    ensures { result ≡ items_list joined.now.front ++ children joined.now.behind }
+{
+    Elements {
+        run: Run::Values(joined.front.as_slice()),
+        behind: Some(&joined.behind),
+    }
+}
+
+fn terms_of<'a, 't>(term: &'t Term) -> Run<'a, 't>
+    ensures { run_list result ≡ children term.now }
+{
+    Run::Terms(term.children())
+}
+
+/// The children behind the first `skipped`.
+pub(crate) fn terms_behind<'t>(term: &'t Term, skipped: usize) -> &'t [Term]
+    requires { skipped ≤ length (children term.now) }
+    ensures { result.now ≡ drop skipped (children term.now) }
+{
+    let all = term.children();
+    &all[skipped..]
+}

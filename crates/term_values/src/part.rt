@@ -1,0 +1,189 @@
+//! What stands in the place of a subterm of the borrowed term.
+
+ghost use Rattle.std.specs.Prelude.{◌≡◌, ◌≤◌, length, IfOk};
+ghost use Rattle.term_core.specs.Tree.{children, annotations};
+ghost use Rattle.term_core.specs.Kind.{made_of};
+ghost use Rattle.term_core.specs.Size.{height as height_of};
+ghost use Rattle.term_changes.specs.Standing.{after, standing_tree, unchanged, fresh};
+
+use crate::bounds::Bounds;
+use crate::value::{Form, Pair, Single, Value};
+use std::marker::Model;
+use std::rc::Rc;
+use term_core::{Kind, NoMemory, Term};
+
+/// What stands in the place of a subterm of the borrowed term: the subterm itself, the subterm with
+/// places in it replaced, or another value.
+#[derive(Drop)]
+#[cycle(value)]
+pub struct Part<'t> {
+    pub(crate) form: PartForm<'t>,
+}
+
+#[derive(Drop)]
+#[cycle(value)]
+pub(crate) enum PartForm<'t> {
+    Same(&'t Term, Bounds),
+    Inside(Rc<Changed<'t>>, Bounds),
+    New(Value<'t>),
+}
+
+/// A subterm of the borrowed term, and what stands in the places of its children.
+#[derive(Drop)]
+#[cycle(value)]
+pub(crate) struct Changed<'t> {
+    pub(crate) of: &'t Term,
+    pub(crate) parts: Parts<'t>,
+}
+
+/// Parts, of which one or two lie in the node itself.
+#[derive(Drop)]
+#[cycle(value)]
+pub(crate) enum Parts<'t> {
+    One(Single<Part<'t>>),
+    Two(Pair<Part<'t>>),
+    Many(Vec<Part<'t>>),
+}
+
+impl<'t> Model for Changed<'t> {
+    ghost use Rattle.term_changes.specs.Standing.{Altered, altered_code};
+
+    ghost Value = { Altered };
+
+    ghost coded = { altered_code };
+
+    ghost use Rattle.term_values.specs.ValueView.{altered_of, PartsSuit, altered_size};
+
+    ghost view = { altered_of };
+
+    ghost invariant = { PartsSuit };
+
+    ghost size = { altered_size };
+
+    ghost use Rattle.term_values.specs.ValueFalls.{above_parts};
+
+    ghost size_decreases = { λ a h. above_parts a h };
+}
+
+impl<'t> Model for Part<'t> {
+    ghost use Rattle.term_changes.specs.Standing.{Standing, standing_code};
+
+    ghost Value = { Standing };
+
+    ghost coded = { standing_code };
+
+    ghost use Rattle.term_values.specs.ValueView.{standing_of, PartHasShape, standing_size};
+
+    ghost view = { standing_of };
+
+    ghost invariant = { PartHasShape };
+
+    ghost size = { standing_size };
+
+    ghost use Rattle.term_values.specs.ValueFalls.{above_part};
+
+    ghost size_decreases = { λ a h. above_part a.form };
+}
+
+impl<'t> Changed<'t> {
+    pub(crate) fn kind(&self) -> Kind<'t>
+        ensures { after self.now ≡ made_of result (children (after self.now)) (annotations (after self.now)) }
+    {
+        let of: &'t Term = self.of;
+        of.kind()
+    }
+
+    pub(crate) fn child_count(&self) -> usize
+        ensures { result ≡ length (children (after self.now)) }
+    {
+        self.parts.as_slice().len()
+    }
+}
+
+impl<'t> Part<'t> {
+    /// The subterm itself.
+    pub fn original(term: &'t Term) -> Part<'t>
+        ensures { result ≡ unchanged term.now }
+    {
+        Part {
+            form: PartForm::Same(term, Bounds::unknown()),
+        }
+    }
+
+    /// The subterm itself, which is known to be at most so high.
+    pub fn original_within(term: &'t Term, height: u64) -> Part<'t>
+        requires { height_of term.now ≤ height }
+        ensures { result ≡ unchanged term.now }
+    {
+        Part {
+            form: PartForm::Same(term, Bounds::of_height(height)),
+        }
+    }
+
+    /// Another value.
+    pub fn new(value: Value<'t>) -> Part<'t>
+        ensures { result ≡ fresh value.entry }
+    {
+        Part {
+            form: PartForm::New(value),
+        }
+    }
+
+    /// Another holder of the same. It takes no memory.
+    pub fn try_clone(&self) -> Result<Part<'t>, NoMemory>
+        ensures { IfOk result (λ part. part ≡ self.now) }
+    {
+        match &self.form {
+            PartForm::Same(term, bounds) => Ok(Part {
+                form: PartForm::Same(*term, *bounds),
+            }),
+            PartForm::Inside(changed, bounds) => Ok(Part {
+                form: PartForm::Inside(changed.clone()?, *bounds),
+            }),
+            PartForm::New(value) => Ok(Part::new(value.try_clone()?)),
+        }
+    }
+
+    /// What stands at the root.
+    pub fn kind(&self) -> Kind<'t>
+        ensures { standing_tree self.now
+            ≡ made_of result (children (standing_tree self.now)) (annotations (standing_tree self.now)) }
+    {
+        match &self.form {
+            PartForm::Same(term, _) => {
+                let term: &'t Term = *term;
+                term.kind()
+            }
+            PartForm::Inside(changed, _) => changed.kind(),
+            PartForm::New(value) => value.kind(),
+        }
+    }
+
+    /// How many children the tree has that stands there.
+    pub fn child_count(&self) -> usize
+        ensures { result ≡ length (children (standing_tree self.now)) }
+    {
+        match &self.form {
+            PartForm::Same(term, _) => term.child_count(),
+            PartForm::Inside(changed, _) => changed.child_count(),
+            PartForm::New(value) => value.child_count(),
+        }
+    }
+
+    /// The tree that stands there. Nothing is copied, and it takes no memory.
+    pub fn value(&self) -> Result<Value<'t>, NoMemory>
+        ensures { IfOk result (λ value. value ≡ standing_tree self.now) }
+    {
+        match &self.form {
+            PartForm::Same(term, bounds) => Ok(Value {
+                form: Form::Original(*term),
+                bounds: *bounds,
+            }),
+            PartForm::Inside(changed, bounds) => Ok(Value {
+                form: Form::Kept(changed.clone()?),
+                bounds: *bounds,
+            }),
+            PartForm::New(value) => value.try_clone(),
+        }
+    }
+}

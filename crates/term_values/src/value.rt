@@ -1,0 +1,222 @@
+//! Trees made of subterms of a borrowed term and of new shared nodes.
+
+#![tactic(auto, using(crate::proofs::KindLemmas::node_parts))]
+
+ghost use Rattle.std.specs.Prelude.{◌≡◌, ◌≤◌, [], length, IfOk};
+ghost use Rattle.term_core.specs.Tree.{children, annotations};
+ghost use Rattle.term_core.specs.Kind.{made_of};
+ghost use Rattle.term_core.specs.Size.{height as height_of};
+ghost use Rattle.term_values.specs.ValueView.{form_tree, form_shape};
+
+use crate::bounds::Bounds;
+use crate::elements::terms_behind;
+use crate::part::Changed;
+use std::marker::Model;
+use std::rc::Rc;
+use term_core::{Kind, NoMemory, Term};
+
+/// A tree: a subterm of the borrowed term, one in which places were replaced, or a node made since.
+#[derive(Drop)]
+#[cycle(value)]
+pub struct Value<'t> {
+    pub(crate) form: Form<'t>,
+    pub(crate) bounds: Bounds,
+}
+
+#[derive(Drop)]
+#[cycle(value)]
+pub(crate) enum Form<'t> {
+    // a node without children and annotations
+    Leaf(Kind<'t>),
+    Original(&'t Term),
+    // a term without its annotations
+    Bare(&'t Term),
+    // the list of the children of a term, without so many in front
+    Rest(&'t Term, usize),
+    // a node without annotations
+    Built(Rc<Made<'t>>),
+    Kept(Rc<Changed<'t>>),
+    // a changed subterm without its annotations
+    BareKept(Rc<Changed<'t>>),
+    // a list without annotations: elements in front of those of another one
+    Joined(Rc<Joined<'t>>),
+    // a node without annotations that is given some
+    Noted(Rc<Noted<'t>>),
+}
+
+#[derive(Drop)]
+#[cycle(value)]
+pub(crate) struct Made<'t> {
+    pub(crate) kind: Kind<'t>,
+    pub(crate) items: Items<'t>,
+}
+
+#[derive(Drop)]
+#[cycle(value)]
+pub(crate) struct Noted<'t> {
+    pub(crate) node: Value<'t>,
+    pub(crate) notes: Notes<'t>,
+}
+
+#[derive(Drop)]
+#[cycle(value)]
+pub(crate) enum Notes<'t> {
+    // those of a term
+    Of(&'t Term),
+    Own(Vec<Value<'t>>),
+}
+
+/// One value, as an array: a type may not lead back to itself through an array of its own.
+#[derive(Drop)]
+pub(crate) struct Single<T> {
+    pub(crate) items: [T; 1],
+}
+
+/// Two values, as an array.
+#[derive(Drop)]
+pub(crate) struct Pair<T> {
+    pub(crate) items: [T; 2],
+}
+
+/// Values, of which one or two lie in the node itself.
+#[derive(Drop)]
+#[cycle(value)]
+pub(crate) enum Items<'t> {
+    One(Single<Value<'t>>),
+    Two(Pair<Value<'t>>),
+    Many(Vec<Value<'t>>),
+}
+
+#[derive(Drop)]
+#[cycle(value)]
+pub(crate) struct Joined<'t> {
+    pub(crate) front: Items<'t>,
+    pub(crate) behind: Value<'t>,
+    // how many elements there are in all
+    pub(crate) count: usize,
+    // how many single elements follow one another from here on
+    pub(crate) run: usize,
+}
+
+impl<'t> Model for Value<'t> {
+    ghost use Rattle.term_core.specs.Tree.{Tree};
+    ghost use Rattle.term_core.specs.TreeCode.{tree_code};
+
+    ghost Value = { Tree };
+
+    ghost coded = { tree_code };
+
+    ghost use Rattle.term_values.specs.ValueView.{view_of, HasShape, value_size};
+
+    ghost view = { view_of };
+
+    ghost invariant = { HasShape };
+
+    ghost size = { value_size };
+
+    ghost use Rattle.term_values.specs.ValueFalls.{above_form};
+
+    ghost size_decreases = { λ a h. above_form a.form h.shape };
+}
+
+impl<'t> Value<'t> {
+    /// A subterm of the borrowed term.
+    pub fn original(term: &'t Term) -> Value<'t>
+        ensures { result ≡ term.now }
+    {
+        Value {
+            form: Form::Original(term),
+            bounds: Bounds::unknown(),
+        }
+    }
+
+    /// A subterm that is known to be at most so high.
+    pub fn original_within(term: &'t Term, height: u64) -> Value<'t>
+        requires { height_of term.now ≤ height }
+        ensures { result ≡ term.now }
+    {
+        Value {
+            form: Form::Original(term),
+            bounds: Bounds::of_height(height),
+        }
+    }
+
+    /// A node without children and annotations. It takes no memory.
+    pub fn leaf(kind: Kind<'t>) -> Value<'t>
+        ensures { result ≡ made_of kind.entry [] [] }
+    {
+        Value {
+            form: Form::Leaf(kind),
+            bounds: Bounds::of_leaf(),
+        }
+    }
+
+    /// Another holder of the same tree. It takes no memory.
+    pub fn try_clone(&self) -> Result<Value<'t>, NoMemory>
+        ensures { IfOk result (λ value. value ≡ self.now) }
+    {
+        Ok(Value {
+            form: self.form.try_clone()?,
+            bounds: self.bounds,
+        })
+    }
+
+    /// What stands at the root.
+    pub fn kind(&self) -> Kind<'t>
+        ensures { self.now ≡ made_of result (children self.now) (annotations self.now) }
+    {
+        match &self.form {
+            Form::Leaf(kind) => *kind,
+            Form::Original(term) => {
+                let term: &'t Term = *term;
+                term.kind()
+            }
+            Form::Bare(term) => {
+                let term: &'t Term = *term;
+                term.kind()
+            }
+            Form::Rest(_, _) => Kind::List,
+            Form::Built(made) => made.kind,
+            Form::Kept(changed) => changed.kind(),
+            Form::BareKept(changed) => changed.kind(),
+            Form::Joined(_) => Kind::List,
+            Form::Noted(noted) => noted.node.kind(),
+        }
+    }
+
+    /// How many children there are.
+    pub fn child_count(&self) -> usize
+        ensures { result ≡ length (children self.now) }
+    {
+        match &self.form {
+            Form::Leaf(_) => 0,
+            Form::Original(term) => term.child_count(),
+            Form::Bare(term) => term.child_count(),
+            Form::Rest(term, skipped) => terms_behind(*term, *skipped).len(),
+            Form::Built(made) => made.items.as_slice().len(),
+            Form::Kept(changed) => changed.child_count(),
+            Form::BareKept(changed) => changed.child_count(),
+            Form::Joined(joined) => joined.count,
+            Form::Noted(noted) => noted.node.child_count(),
+        }
+    }
+}
+
+impl<'t> Form<'t> {
+    fn try_clone(&self) -> Result<Form<'t>, NoMemory>
+        ensures tree { IfOk result (λ form. form_tree form ≡ form_tree self.now) }
+        ensures shape { IfOk result (λ form. form_shape self.now → form_shape form) }
+    {
+        match self {
+            Form::Leaf(kind) => Ok(Form::Leaf(*kind)),
+            Form::Original(term) => Ok(Form::Original(*term)),
+            Form::Bare(term) => Ok(Form::Bare(*term)),
+            Form::Rest(term, skipped) => Ok(Form::Rest(*term, *skipped)),
+            Form::Built(made) => Ok(Form::Built(made.clone()?)),
+            Form::Kept(changed) => Ok(Form::Kept(changed.clone()?)),
+            Form::BareKept(changed) => Ok(Form::BareKept(changed.clone()?)),
+            Form::Joined(joined) => Ok(Form::Joined(joined.clone()?)),
+            Form::Noted(noted) => Ok(Form::Noted(noted.clone()?)),
+        }
+    }
+}
