@@ -8,6 +8,9 @@ use Rattle.term_core.proofs.TreeLemmas.{to_list-of_list, of_list-to_list}
 use Rattle.term_changes.specs.Change.{changed_all}
 use Rattle.term_changes.specs.Standing.{Altered, after}
 use Rattle.term_values.specs.Shape.{kind_shape}
+use Rattle.term_values.specs.declared.value.Top.{Top}
+use Rattle.term_values.specs.declared.value.Top.TheVariants.{Borrowed, Owned}
+use Rattle.term_values.specs.ValueView.{top_tree, top_shape}
 
 pub children-made_of : (k : Kind) (us notes : List Tree) → kind_shape k us → children (made_of k us notes) ≡ us
 children-made_of (Integer z) us notes h = sym h
@@ -15,11 +18,19 @@ children-made_of (Application name) us notes h = to_list-of_list us
 children-made_of AList us notes h = to_list-of_list us
 children-made_of Tuple us notes h = to_list-of_list us
 
+pub children-top_tree : (n : Top) (us notes : List Tree) → top_shape n us → children (top_tree n us notes) ≡ us
+children-top_tree (Borrowed k) us notes h = children-made_of k us notes h
+children-top_tree (Owned name) us notes h = to_list-of_list us
+
 pub annotations-made_of : (k : Kind) (us notes : List Tree) → annotations (made_of k us notes) ≡ notes
 annotations-made_of (Integer z) us notes = to_list-of_list notes
 annotations-made_of (Application name) us notes = to_list-of_list notes
 annotations-made_of AList us notes = to_list-of_list notes
 annotations-made_of Tuple us notes = to_list-of_list notes
+
+pub annotations-top_tree : (n : Top) (us notes : List Tree) → annotations (top_tree n us notes) ≡ notes
+annotations-top_tree (Borrowed k) us notes = annotations-made_of k us notes
+annotations-top_tree (Owned name) us notes = to_list-of_list notes
 
 with_children-made_of : (k : Kind) (us notes vs : List Tree) → with_children (made_of k us notes) vs ≡ made_of k vs notes
 with_children-made_of (Integer z) us notes vs = refl
@@ -81,4 +92,4 @@ kind-after k t x e h =
 pub kind_along : (k : Kind) (t u : Tree) → t ≡ u → IsOfKind k t → IsOfKind k u
 kind_along k t u e h = subst (λ (x : Tree). IsOfKind k x) e h
 
-pub ruleset node_parts = (to_list-of_list, of_list-to_list, children-made_of, annotations-made_of, children-with_annotations, annotations-with_annotations)
+pub ruleset node_parts = (to_list-of_list, of_list-to_list, children-made_of, annotations-made_of, children-top_tree, annotations-top_tree, children-with_annotations, annotations-with_annotations)

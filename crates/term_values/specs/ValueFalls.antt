@@ -13,6 +13,8 @@ use Rattle.term_changes.specs.Change.{inside, changed, changed_all}
 use Rattle.term_changes.specs.Standing.{after, Standing, unchanged, altered, fresh, Suits, SuitAll, standing_change, standing_changes}
 use Rattle.term_values.specs.declared.value.Form.{Form}
 use Rattle.term_values.specs.declared.value.Form.TheVariants.{Leaf, Original, Bare, Rest, Built, Kept, BareKept, Joined, Noted}
+use Rattle.term_values.specs.declared.value.Top.{Top}
+use Rattle.term_values.specs.declared.value.Top.TheVariants.{Borrowed, Owned}
 use Rattle.term_values.specs.declared.value.Notes.{Notes}
 use Rattle.term_values.specs.declared.value.Notes.TheVariants as notes
 use Rattle.term_values.specs.declared.value.Items.{Items}
@@ -23,7 +25,7 @@ use Rattle.term_values.specs.declared.part.Parts.{Parts}
 use Rattle.term_values.specs.declared.part.Parts.TheVariants as parts
 use Rattle.term_values.specs.declared.part.Changed.TheInside.{Inside as ChangedFields}
 use Rattle.term_values.specs.declared.part.Changed.TheDeep.{deep-Form, deep-Items, deep-Notes, deep-Parts, deep-PartForm}
-use Rattle.term_values.specs.ValueView.{items_list, notes_list, parts_list, form_tree, form_shape, value_size, altered_size, standing_size, altered_of, part_standing, PartsSuit}
+use Rattle.term_values.specs.ValueView.{items_list, top_tree, top_shape, notes_list, parts_list, form_tree, form_shape, value_size, altered_size, standing_size, altered_of, part_standing, PartsSuit}
 
 most_le : (ts : List Tree) → most (λ t. value_size t + 1) ts ≤ 4 * sizes (of_list ts) + 2
 most_le [] = omega arith
@@ -66,12 +68,16 @@ made_size (Application name) us h = omega arith
 made_size AList us h = omega arith
 made_size Tuple us h = omega arith
 
+top_size : (n : Top) (us : List Tree) → top_shape n us → size (top_tree n us []) ≡ sizes (of_list us) + 1
+top_size (Borrowed k) us h = made_size k us h
+top_size (Owned name) us h = omega arith
+
 pub above_form : (f : Form) → form_shape f → max (deep-Form f) 0 ≤ value_size (form_tree f)
 above_form (Leaf k) h = omega arith
 above_form (Original t) h = omega arith
 above_form (Bare t) h = omega arith
 above_form (Rest t k) h = omega arith
-above_form (Built m) h = omega (arith, above_items m.value.items, made_size m.value.kind (items_list m.value.items) h)
+above_form (Built m) h = omega (arith, above_items m.value.items, top_size m.value.top (items_list m.value.items) h)
 above_form (Kept c) h = omega (arith, size_parts (after c.value))
 above_form (BareKept c) h = omega (arith, size_noted (after c.value) [])
 above_form (Joined j) h =

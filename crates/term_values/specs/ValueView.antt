@@ -1,6 +1,6 @@
 -- What the fields of a `Value`, of a `Changed` and of a `Part` stand for.
 use Rattle.std.specs.Prelude.{◌+◌, ◌*◌, ◌≤◌, ℕ, List, [], ◌++◌, drop, length}
-use Rattle.term_core.specs.Tree.{Tree, children, annotations, with_annotations, bare, list_term, of_list}
+use Rattle.term_core.specs.Tree.{Tree, branch, application, children, annotations, with_annotations, bare, list_term, of_list}
 use Rattle.term_core.specs.Size.{size, sizes}
 use Rattle.term_core.specs.Kind.{made_of}
 use Rattle.term_changes.specs.Standing.{Altered, after, Standing, unchanged, altered, fresh, SuitAll, standing_changes, standing_tree}
@@ -8,6 +8,8 @@ use Rattle.term_values.specs.Shape.{kind_shape, JoinedShape, NotedShape}
 use Rattle.term_values.specs.Bounded.{Bounded}
 use Rattle.term_values.specs.declared.value.Form.{Form}
 use Rattle.term_values.specs.declared.value.Form.TheVariants.{Leaf, Original, Bare, Rest, Built, Kept, BareKept, Joined, Noted}
+use Rattle.term_values.specs.declared.value.Top.{Top}
+use Rattle.term_values.specs.declared.value.Top.TheVariants.{Borrowed, Owned}
 use Rattle.term_values.specs.declared.value.Notes.{Notes}
 use Rattle.term_values.specs.declared.value.Notes.TheVariants as notes
 use Rattle.term_values.specs.declared.value.Items.{Items}
@@ -27,6 +29,15 @@ items_list (One us) = us.items
 items_list (Two us) = us.items
 items_list (Many us) = us.items
 
+-- a node with this at its root and these children and annotations; an integer has no children
+abbrev pub top_tree : Top → List Tree → List Tree → Tree
+top_tree (Borrowed k) us ns = made_of k us ns
+top_tree (Owned name) us ns = branch (application name.value) (of_list us) (of_list ns)
+
+abbrev pub top_shape : Top → List Tree → Type 0
+top_shape (Borrowed k) us = kind_shape k us
+top_shape (Owned name) us = Unit {0}
+
 abbrev pub notes_list : Notes → List Tree
 notes_list (notes.Of t) = annotations t.now
 notes_list (notes.Own us) = us.items
@@ -36,7 +47,7 @@ form_tree (Leaf k) = made_of k [] []
 form_tree (Original t) = t.now
 form_tree (Bare t) = bare t.now
 form_tree (Rest t k) = list_term (drop k (children t.now))
-form_tree (Built m) = made_of m.value.kind (items_list m.value.items) []
+form_tree (Built m) = top_tree m.value.top (items_list m.value.items) []
 form_tree (Kept c) = after c.value
 form_tree (BareKept c) = bare (after c.value)
 form_tree (Joined j) = list_term (items_list j.value.front ++ children j.value.behind)
@@ -47,7 +58,7 @@ form_shape (Leaf k) = Unit {0}
 form_shape (Original t) = Unit {0}
 form_shape (Bare t) = Unit {0}
 form_shape (Rest t k) = k ≤ length (children t.now)
-form_shape (Built m) = kind_shape m.value.kind (items_list m.value.items)
+form_shape (Built m) = top_shape m.value.top (items_list m.value.items)
 form_shape (Kept c) = Unit {0}
 form_shape (BareKept c) = Unit {0}
 form_shape (Joined j) = JoinedShape (items_list j.value.front) j.value.behind j.value.count

@@ -58,7 +58,7 @@ impl<'a, 't> Model for Elements<'a, 't> {
 }
 
 impl<'a, 't> Seen<'a, 't> {
-    pub(crate) fn kind(self) -> Kind<'t>
+    pub(crate) fn kind(self) -> Kind<'a>
         ensures { seen_tree self.entry
             ≡ made_of result (children (seen_tree self.entry)) (annotations (seen_tree self.entry)) }
     {

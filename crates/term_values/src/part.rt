@@ -145,7 +145,7 @@ impl<'t> Part<'t> {
     }
 
     /// What stands at the root.
-    pub fn kind(&self) -> Kind<'t>
+    pub fn kind(&self) -> Kind<'_>
         ensures { standing_tree self.now
             ≡ made_of result (children (standing_tree self.now)) (annotations (standing_tree self.now)) }
     {

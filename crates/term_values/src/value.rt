@@ -2,18 +2,18 @@
 
 #![tactic(auto, using(crate::proofs::KindLemmas::node_parts))]
 
-ghost use Rattle.std.specs.Prelude.{◌≡◌, ◌≤◌, [], length, IfOk};
-ghost use Rattle.term_core.specs.Tree.{children, annotations};
+ghost use Rattle.std.specs.Prelude.{◌≡◌, ◌≤◌, List, [], length, IfOk};
+ghost use Rattle.term_core.specs.Tree.{Tree, children, annotations};
 ghost use Rattle.term_core.specs.Kind.{made_of};
 ghost use Rattle.term_core.specs.Size.{height as height_of};
-ghost use Rattle.term_values.specs.ValueView.{form_tree, form_shape};
+ghost use Rattle.term_values.specs.ValueView.{top_tree, form_tree, form_shape};
 
 use crate::bounds::Bounds;
 use crate::elements::terms_behind;
 use crate::part::Changed;
 use std::marker::Model;
 use std::rc::Rc;
-use term_core::{Kind, NoMemory, Term};
+use term_core::{Kind, Name, NoMemory, Term};
 
 /// A tree: a subterm of the borrowed term, one in which places were replaced, or a node made since.
 #[derive(Drop)]
@@ -47,8 +47,16 @@ pub(crate) enum Form<'t> {
 #[derive(Drop)]
 #[cycle(value)]
 pub(crate) struct Made<'t> {
-    pub(crate) kind: Kind<'t>,
+    pub(crate) top: Top<'t>,
     pub(crate) items: Items<'t>,
+}
+
+/// What stands at the root of a node.
+#[derive(Drop)]
+pub(crate) enum Top<'t> {
+    Borrowed(Kind<'t>),
+    // a name that isn't in the borrowed term, applied to the children
+    Owned(Rc<Name>),
 }
 
 #[derive(Drop)]
@@ -162,7 +170,7 @@ impl<'t> Value<'t> {
     }
 
     /// What stands at the root.
-    pub fn kind(&self) -> Kind<'t>
+    pub fn kind(&self) -> Kind<'_>
         ensures { self.now ≡ made_of result (children self.now) (annotations self.now) }
     {
         match &self.form {
@@ -176,7 +184,7 @@ impl<'t> Value<'t> {
                 term.kind()
             }
             Form::Rest(_, _) => Kind::List,
-            Form::Built(made) => made.kind,
+            Form::Built(made) => made.top.kind(),
             Form::Kept(changed) => changed.kind(),
             Form::BareKept(changed) => changed.kind(),
             Form::Joined(_) => Kind::List,
@@ -198,6 +206,27 @@ impl<'t> Value<'t> {
             Form::BareKept(changed) => changed.child_count(),
             Form::Joined(joined) => joined.count,
             Form::Noted(noted) => noted.node.child_count(),
+        }
+    }
+}
+
+impl<'t> Top<'t> {
+    fn kind(&self) -> Kind<'_>
+        ensures { (us ns : List Tree) → top_tree self.now us ns ≡ made_of result us ns }
+    {
+        match self {
+            Top::Borrowed(kind) => *kind,
+            Top::Owned(name) => Kind::Application(name),
+        }
+    }
+
+    /// Another holder of the same. It takes no memory.
+    pub(crate) fn try_clone(&self) -> Result<Top<'t>, NoMemory>
+        ensures { IfOk result (λ top. (us ns : List Tree) → top_tree top us ns ≡ top_tree self.now us ns) }
+    {
+        match self {
+            Top::Borrowed(kind) => Ok(Top::Borrowed(*kind)),
+            Top::Owned(name) => Ok(Top::Owned(name.clone()?)),
         }
     }
 }

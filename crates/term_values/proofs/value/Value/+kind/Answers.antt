@@ -1,20 +1,20 @@
-use Rattle.std.proofs.Common.{[], ◌++◌, drop, ap, sym, ◌∙◌, subst}
+use Rattle.std.proofs.Common.{[], ◌++◌, drop, ap, sym, ◌∙◌}
 use Rattle.term_core.specs.Tree.{children}
-use Rattle.term_core.specs.declared.kind.Kind.{Kind}
 use Rattle.term_core.specs.declared.kind.Kind.TheVariants.{List as AList}
 use Rattle.term_values.specs.declared.value.Made.{Made}
 use Rattle.term_values.specs.declared.value.Noted.{Noted}
-use Rattle.term_values.specs.ValueView.{form_tree, items_list, notes_list}
-use Rattle.term_values.proofs.KindLemmas.{IsOfKind, kind-made_of, kind-with_annotations, kind_along}
+use Rattle.term_values.specs.ValueView.{form_tree, top_tree, items_list, notes_list}
+use Rattle.term_values.proofs.KindLemmas.{kind-made_of, kind-with_annotations, kind_along}
 use Rattle.term_values.proofs.value.Value.+kind.Goals as goal
 
 pub returns-in-Built : goal.returns-in-Built
 returns-in-Built t c =
     let m = c.in-Built.made.value in
+    let us = items_list m.items in
     let whole = ap form_tree (sym c.in-Built.is) ∙ c.self.view_is in
-    let kind = sym (ap (λ (x : Made). x.kind) c.deref.ensures) in
-    subst (λ (k : Kind). IsOfKind k c.args.self.now) kind
-    (kind_along m.kind _ c.args.self.now whole (kind-made_of m.kind (items_list m.items) []))
+    let top = ap (λ (x : Made). top_tree x.top us []) c.deref.ensures in
+    let kind = sym (c.kind-in-Built.ensures us []) ∙ top ∙ whole in
+    kind_along c.kind-in-Built.result _ c.args.self.now kind (kind-made_of c.kind-in-Built.result us [])
 
 pub returns-in-Noted : goal.returns-in-Noted
 returns-in-Noted t c =
