@@ -1,5 +1,5 @@
 -- Upper bounds of size and height.
-use Rattle.std.specs.Prelude.{◌≡◌, ℕ, ◌≤◌, ◌^◌, ◌-◌, min, true, List}
+use Rattle.std.specs.Prelude.{◌≡◌, ℕ, ◌≤◌, ◌^◌, ◌-◌, min, true, List, [], ◌∷◌}
 use Rattle.term_core.specs.Tree.{Tree, of_list}
 use Rattle.term_core.specs.Size.{height, heights, size, sizes}
 use Rattle.term_values.specs.declared.bounds.Bounds.{Bounds}
@@ -17,3 +17,15 @@ Bounded t b = Covers (size t) (height t) b
 -- of a list of trees, all sizes together and the greatest height
 abbrev pub AllBounded : List Tree → Bounds → Type 0
 AllBounded us b = Covers (sizes (of_list us)) (heights (of_list us)) b
+
+-- each of the trees alone
+abbrev pub AllWithin : List Tree → Bounds → Type 0
+AllWithin [] b = Unit {0}
+AllWithin (u ∷ us) b = Bounded u b × AllWithin us b
+
+-- size and height themselves, as far as the numbers go
+abbrev pub Measures : Tree → Bounds → Type 0
+Measures t b = Bounded t b × (b.exact ≡ true)
+
+abbrev pub MeasuresAll : List Tree → Bounds → Type 0
+MeasuresAll us b = AllBounded us b × (b.exact ≡ true)

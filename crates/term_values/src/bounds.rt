@@ -1,7 +1,11 @@
 //! Upper bounds of size and height, kept with each reference so that few tests of fitting need a walk.
 
-ghost use Rattle.std.specs.Prelude.{◌≡◌, ℕ, ◌+◌, ◌≤◌, ◌↔◌, IsTrue, max};
-ghost use Rattle.term_values.specs.Bounded.{Covers};
+ghost use Rattle.std.specs.Prelude.{◌≡◌, ℕ, ◌+◌, ◌≤◌, ◌↔◌, IsTrue, max, true};
+ghost use Rattle.term_core.specs.Tree.{Tree};
+ghost use Rattle.term_core.specs.Size.{fits};
+ghost use Rattle.term_values.specs.Bounded.{Covers, Bounded};
+
+use term_core::{MAX_HEIGHT, MAX_SIZE};
 
 /// A size and a height that a tree, or a list of trees, doesn't exceed. The greatest numbers stand
 /// for no bound.
@@ -38,7 +42,8 @@ impl Bounds {
 
     /// Those of no trees.
     pub(crate) fn of_none() -> Bounds
-        ensures { Covers 0 0 result }
+        ensures covers { Covers 0 0 result }
+        ensures exact { result.exact ≡ true }
     {
         Bounds {
             size: 0,
@@ -49,7 +54,8 @@ impl Bounds {
 
     /// Those of trees and more trees.
     pub(crate) fn and(self, more: Bounds) -> Bounds
-        ensures { (s h r k : ℕ) → Covers s h self → Covers r k more → Covers (s + r) (max h k) result }
+        ensures covers { (s h r k : ℕ) → Covers s h self → Covers r k more → Covers (s + r) (max h k) result }
+        ensures exact { self.exact ≡ true → more.exact ≡ true → result.exact ≡ true }
     {
         Bounds {
             size: self.size.saturating_add(more.size),
@@ -60,7 +66,8 @@ impl Bounds {
 
     /// Those of a node over trees.
     pub(crate) fn over(self) -> Bounds
-        ensures { (s h : ℕ) → Covers s h self → Covers (s + 1) (h + 1) result }
+        ensures covers { (s h : ℕ) → Covers s h self → Covers (s + 1) (h + 1) result }
+        ensures exact { self.exact ≡ true → result.exact ≡ true }
     {
         Bounds {
             size: self.size.saturating_add(1),
@@ -115,5 +122,21 @@ impl Bounds {
             height,
             exact: false,
         }
+    }
+
+    /// Whether trees with these bounds can't be the same, as far as they tell.
+    pub(crate) fn excludes(self, other: Bounds) -> bool
+        ensures { IsTrue result → (s h : ℕ) → Covers s h self → Covers s h other → ⊥ }
+    {
+        self.exact && other.exact && (self.size != other.size || self.height != other.height)
+    }
+
+    /// Whether a tree with these bounds fits at the level, as far as they tell.
+    pub(crate) fn fit(self, level: u64) -> bool
+        ensures sure { IsTrue result → (t : Tree) → Bounded t self → IsTrue (fits level t) }
+        ensures exact { self.exact ≡ true → (t : Tree) → Bounded t self → result ≡ fits level t }
+    {
+        level.saturating_add(u64::from(self.height)) <= MAX_HEIGHT
+            && u64::from(self.size) <= MAX_SIZE
     }
 }

@@ -1,7 +1,7 @@
 //! Walks over children and annotations, which take no memory and no holder.
 #![tactic(auto, using(crate::proofs::KindLemmas::node_parts))]
 
-ghost use Rattle.std.specs.Prelude.{◌≡◌, [], ◌∷◌, ◌++◌, ◌≤◌, ◌<◌, ◌↔◌, IsTrue, length, drop, map, IfOk, MatchOption};
+ghost use Rattle.std.specs.Prelude.{◌≡◌, [], ◌∷◌, ◌++◌, ◌≤◌, ◌<◌, ◌↔◌, IsTrue, length, drop, map, IfOk, MatchOption, slice_get, Some, None};
 ghost use Rattle.term_core.specs.Tree.{children, annotations};
 ghost use Rattle.term_core.specs.Kind.{made_of};
 ghost use Rattle.term_changes.specs.Standing.{after, standing_tree};
@@ -178,6 +178,31 @@ impl<'a, 't> Run<'a, 't> {
         }
     }
 
+    /// How many trees there are.
+    pub(crate) fn len(self) -> usize
+        ensures { result ≡ length (run_list self.entry) }
+    {
+        match self {
+            Run::Empty => 0,
+            Run::Terms(terms) => terms.len(),
+            Run::Values(values) => values.len(),
+            Run::Parts(parts) => parts.len(),
+        }
+    }
+
+    /// Tree `i`, counted from 0.
+    fn get(self, i: usize) -> Option<Seen<'a, 't>>
+        ensures { MatchOption result (slice_get (run_list self.entry) i ≡ None)
+            (λ seen. slice_get (run_list self.entry) i ≡ Some (seen_tree seen)) }
+    {
+        match self {
+            Run::Empty => None,
+            Run::Terms(terms) => Some(Seen::Term(terms.get(i)?)),
+            Run::Values(values) => Some(Seen::Value(values.get(i)?)),
+            Run::Parts(parts) => Some(Seen::Part(parts.get(i)?)),
+        }
+    }
+
     fn is_empty(self) -> bool
         ensures { IsTrue result ↔ (run_list self.entry ≡ []) }
     {
@@ -191,10 +216,37 @@ impl<'a, 't> Run<'a, 't> {
 }
 
 impl<'a, 't> Elements<'a, 't> {
-    fn alone(run: Run<'a, 't>) -> Elements<'a, 't>
+    pub(crate) fn alone(run: Run<'a, 't>) -> Elements<'a, 't>
         ensures { result ≡ run_list run.entry }
     {
         Elements { run, behind: None }
+    }
+
+    /// How many trees lie side by side here.
+    pub(crate) fn room(&self) -> usize {
+        self.run.len()
+    }
+
+    /// Tree `i`, counted from 0.
+    pub(crate) fn nth(self, i: usize) -> Option<Seen<'a, 't>>
+        ensures { MatchOption result (slice_get self.entry i ≡ None)
+            (λ seen. slice_get self.entry i ≡ Some (seen_tree seen)) }
+    {
+        let mut left = self;
+        let mut at = i;
+        loop {
+            let count = left.run.len();
+            if at < count {
+                return left.run.get(at);
+            }
+            match left.behind {
+                None => return None,
+                Some(behind) => {
+                    at -= count;
+                    left = behind.elements();
+                }
+            }
+        }
     }
 
     /// The next tree.

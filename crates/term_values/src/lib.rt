@@ -3,7 +3,11 @@
 #![tactic(auto)]
 
 mod bounds;
+mod children;
 mod elements;
+mod equality;
+mod measure;
+mod owned;
 mod part;
 mod value;
 

@@ -1,0 +1,77 @@
+//! Children and annotations as values.
+#![tactic(auto, using(crate::proofs::KindLemmas::node_parts))]
+
+ghost use Rattle.std.specs.Prelude.{◌≡◌, IfOk, length, slice_get};
+ghost use Rattle.term_core.specs.Tree.{children, annotations};
+ghost use Rattle.term_values.specs.Bounded.{AllWithin};
+
+use crate::bounds::Bounds;
+use crate::elements::Elements;
+use crate::value::Value;
+use std::alloc::Global;
+use term_core::NoMemory;
+
+impl<'t> Value<'t> {
+    /// Child `i`, counted from 0, or `None` where there are no more than `i`. It takes no memory.
+    pub fn child(&self, i: usize) -> Result<Option<Value<'t>>, NoMemory>
+        ensures { IfOk result (λ child. child ≡ slice_get (children self.now) i) }
+    {
+        let within = self.child_bounds();
+        self.elements().value_at(i, within)
+    }
+
+    /// The children, each held once more.
+    pub fn share_children(&self, alloc: Global) -> Result<Vec<Value<'t>>, NoMemory>
+        ensures { IfOk result (λ all. all.items ≡ children self.now) }
+    {
+        let within = self.child_bounds();
+        self.elements().values(alloc, within)
+    }
+
+    /// How many annotations there are.
+    pub fn annotation_count(&self) -> usize
+        ensures { result ≡ length (annotations self.now) }
+    {
+        self.notes().len()
+    }
+
+    /// The annotations, each held once more.
+    pub fn share_annotations(&self, alloc: Global) -> Result<Vec<Value<'t>>, NoMemory>
+        ensures { IfOk result (λ all. all.items ≡ annotations self.now) }
+    {
+        let within = self.bounds.less(self.annotation_count(), 1);
+        Elements::alone(self.notes()).values(alloc, within)
+    }
+
+    // Bounds that each child keeps.
+    fn child_bounds(&self) -> Bounds
+        ensures { AllWithin (children self.now) result }
+    {
+        self.bounds.less(self.child_count(), 1)
+    }
+}
+
+impl<'a, 't> Elements<'a, 't> {
+    fn value_at(self, i: usize, within: Bounds) -> Result<Option<Value<'t>>, NoMemory>
+        requires { AllWithin self within }
+        ensures { IfOk result (λ value. value ≡ slice_get self.entry i) }
+    {
+        match self.nth(i) {
+            None => Ok(None),
+            Some(seen) => Ok(Some(seen.value(within)?)),
+        }
+    }
+
+    /// Holders of the trees, of which these bounds are known.
+    pub(crate) fn values(self, alloc: Global, within: Bounds) -> Result<Vec<Value<'t>>, NoMemory>
+        requires { AllWithin self within }
+        ensures { IfOk result (λ all. all.items ≡ self.entry) }
+    {
+        let mut left = self;
+        let mut all = Vec::with_capacity(alloc, left.room())?;
+        while let Some(seen) = left.next() {
+            all.push(seen.value(within)?)?;
+        }
+        Ok(all)
+    }
+}

@@ -1,0 +1,108 @@
+//! Whether values fit. Bounds that are kept with each reference decide it mostly without a walk.
+#![tactic(auto, using(crate::proofs::KindLemmas::node_parts))]
+
+ghost use Rattle.std.specs.Prelude.{◌≡◌, ◌≤◌, ◌<◌, ◌+◌, ◌↔◌, IsTrue, IfSome, IfNone};
+ghost use Rattle.term_core.specs.Tree.{of_list};
+ghost use Rattle.term_core.specs.Size.{size as size_of, sizes, fits};
+ghost use Rattle.term_values.specs.Bounded.{Measures, MeasuresAll};
+ghost use Rattle.term_values.specs.Walk.{seen_tree};
+
+use crate::bounds::Bounds;
+use crate::elements::{Elements, Seen};
+use crate::value::Value;
+use term_core::MAX_SIZE;
+
+/// The greatest size of a value that fits, in nodes.
+const LARGEST: u32 = MAX_SIZE as u32;
+
+impl<'t> Value<'t> {
+    /// Whether the bounds that are known tell that the value fits at the level. It looks at nothing
+    /// but them, so a value that fits may get a false.
+    pub fn surely_fits(&self, level: u64) -> bool
+        ensures { IsTrue result → IsTrue (fits level self.now) }
+    {
+        self.bounds.fit(level)
+    }
+
+    /// Whether the size is at most `limit`. Then size and height are kept with this reference. It looks
+    /// at no more than `limit` nodes, and at none below a reference that knows its size.
+    pub fn measure(&mut self, limit: u32) -> bool
+        ensures value { self.new ≡ self.old }
+        ensures answer { IsTrue result ↔ (size_of self.old ≤ limit) }
+    {
+        match self.measured(limit) {
+            None => false,
+            Some(bounds) => {
+                self.bounds = bounds;
+                true
+            }
+        }
+    }
+
+    /// Whether the value fits at the level. It looks at its nodes only where the bounds don't tell.
+    pub fn fits(&mut self, level: u64) -> bool
+        ensures value { self.new ≡ self.old }
+        ensures answer { result ≡ fits level self.old }
+    {
+        if self.surely_fits(level) {
+            return true;
+        }
+        match self.measured(LARGEST) {
+            None => false,
+            Some(bounds) => {
+                self.bounds = bounds;
+                bounds.fit(level)
+            }
+        }
+    }
+
+    // Size and height, where the size is at most `limit`.
+    fn measured(&self, limit: u32) -> Option<Bounds>
+        ensures some { IfSome result (λ bounds. Measures self.now bounds × (size_of self.now ≤ limit)) }
+        ensures none { IfNone result (limit < size_of self.now) }
+    {
+        let mut left = limit;
+        measured_within(Seen::Value(self), &mut left)
+    }
+}
+
+// Size and height of a tree whose size is at most `left`, from which it is taken; `None` for any other.
+#[cycle(measured)]
+fn measured_within(seen: Seen<'_, '_>, left: &mut u32) -> Option<Bounds>
+    ensures some { IfSome result (λ bounds. Measures (seen_tree seen.entry) bounds
+        × (left.new + size_of (seen_tree seen.entry) ≡ left.old)) }
+    ensures none { IfNone result (left.old < size_of (seen_tree seen.entry)) }
+{
+    let known = seen.bounds();
+    if known.exact && known.size < u32::MAX {
+        if known.size > *left {
+            return None;
+        }
+        *left -= known.size;
+        return Some(known);
+    }
+    if *left == 0 {
+        return None;
+    }
+    *left -= 1;
+    let children = all_measured(seen.elements(), left)?;
+    let notes = all_measured(seen.notes(), left)?;
+    Some(children.and(notes).over())
+}
+
+#[cycle(measured)]
+fn all_measured(elements: Elements<'_, '_>, left: &mut u32) -> Option<Bounds>
+    ensures some { IfSome result (λ bounds. MeasuresAll elements.entry bounds
+        × (left.new + sizes (of_list elements.entry) ≡ left.old)) }
+    ensures none { IfNone result (left.old < sizes (of_list elements.entry)) }
+{
+    let mut rest = elements;
+    let mut all = Bounds::of_none();
+    while let Some(seen) = rest.next() {
+        let Some(bounds) = measured_within(seen, left) else {
+            return None;
+        };
+        all = all.and(bounds);
+    }
+    Some(all)
+}
