@@ -1,11 +1,18 @@
 -- Sizes and heights of parts.
-use Rattle.std.proofs.Common.{◌≡◌, ℕ, ◌+◌, ◌≤◌, max, List, [], ◌∷◌, ◌++◌, length, slice_get, Some, zero, suc, ap, subst, arith}
-use Rattle.term_core.specs.Tree.{Tree, integer, branch, of_list, children, annotations}
+use Rattle.std.proofs.Common.{◌≡◌, ℕ, ◌+◌, ◌<◌, ◌≤◌, max, List, [], ◌∷◌, ◌++◌, length, drop, slice_get, Some, zero, suc, ap, subst, arith}
+use Rattle.term_core.specs.Tree.{Tree, integer, branch, of_list, children, annotations, with_annotations, bare, list_term}
 use Rattle.term_core.specs.Size.{height, heights, size, sizes}
 use Rattle.term_core.proofs.TreeLemmas.{of_list-to_list, size_pos}
 use Rattle.term_values.specs.declared.bounds.Bounds.{Bounds}
 use Rattle.term_values.specs.Bounded.{Covers, Bounded, AllBounded, AllWithin}
-use Rattle.term_values.specs.ValueFalls.{size_parts, sizes-append}
+use Rattle.term_values.specs.ValueFalls.{size_parts, sizes-append, some_size, size_noted}
+use Rattle.term_core.specs.Kind.{made_of}
+use Rattle.term_core.specs.declared.kind.Kind.{Kind}
+use Rattle.term_core.specs.declared.kind.Kind.TheVariants.{Integer, Application, List as AList, Tuple}
+use Rattle.term_values.specs.Shape.{kind_shape}
+use Rattle.term_values.specs.declared.value.Top.{Top}
+use Rattle.term_values.specs.declared.value.Top.TheVariants.{Borrowed, Owned}
+use Rattle.term_values.specs.ValueView.{top_tree, top_shape}
 
 pub height_parts : (t : Tree) → height t ≡ max (heights (of_list (children t))) (heights (of_list (annotations t))) + 1
 height_parts (integer z notes) = omega (arith, ap heights (of_list-to_list notes))
@@ -63,3 +70,73 @@ node_bounded t us ns b e f h =
     let k : max (heights (of_list us)) (heights (of_list ns)) + 1 ≡ height t =
     omega (arith, height_parts t, ap (λ l. heights (of_list l)) e, ap (λ l. heights (of_list l)) f) in
     covers_along _ _ _ _ b s k h
+
+-- ---- the nodes that are made
+
+kind_bounded : (k : Kind) (us : List Tree) (b : Bounds) → kind_shape k us
+    → Covers (sizes (of_list us) + 1) (heights (of_list us) + 1) b → Bounded (made_of k us []) b
+kind_bounded (Integer z) us b e h =
+    let s : sizes (of_list us) + 1 ≡ 1 = omega (arith, ap (λ l. sizes (of_list l)) e) in
+    let k : heights (of_list us) + 1 ≡ 1 = omega (arith, ap (λ l. heights (of_list l)) e) in
+    covers_along _ _ _ _ b s k h
+kind_bounded (Application name) us b e h = covers_along _ _ _ _ b (omega arith) (omega arith) h
+kind_bounded AList us b e h = covers_along _ _ _ _ b (omega arith) (omega arith) h
+kind_bounded Tuple us b e h = covers_along _ _ _ _ b (omega arith) (omega arith) h
+
+pub top_bounded : (n : Top) (us : List Tree) (b : Bounds) → top_shape n us
+    → Covers (sizes (of_list us) + 1) (heights (of_list us) + 1) b → Bounded (top_tree n us []) b
+top_bounded (Borrowed k) us b e h = kind_bounded k us b e h
+top_bounded (Owned name) us b e h = covers_along _ _ _ _ b (omega arith) (omega arith) h
+
+pub joined_bounded : (us : List Tree) (t : Tree) (b : Bounds) → t ≡ list_term (children t)
+    → Covers (sizes (of_list us) + size t) (max (heights (of_list us) + 1) (height t)) b
+    → Bounded (list_term (us ++ children t)) b
+joined_bounded us t b e h =
+    let s : sizes (of_list us) + size t ≡ size (list_term (us ++ children t)) =
+    omega (arith, ap size e, sizes-append us (children t)) in
+    let k : max (heights (of_list us) + 1) (height t) ≡ height (list_term (us ++ children t)) =
+    omega (arith, ap height e, heights-append us (children t)) in
+    covers_along _ _ _ _ b s k h
+
+height_noted : (t : Tree) (ns : List Tree) → height (with_annotations t ns) ≡ max (heights (of_list (children t))) (heights (of_list ns)) + 1
+height_noted (integer z notes) ns = omega arith
+height_noted (branch head kids notes) ns = omega (arith, ap heights (of_list-to_list kids))
+
+pub noted_bounded : (t : Tree) (ns : List Tree) (b : Bounds) → annotations t ≡ []
+    → Covers (sizes (of_list ns) + size t) (max (heights (of_list ns) + 1) (height t)) b → Bounded (with_annotations t ns) b
+noted_bounded t ns b e h =
+    let s : sizes (of_list ns) + size t ≡ size (with_annotations t ns) =
+    omega (arith, size_noted t ns, size_parts t, ap (λ l. sizes (of_list l)) e) in
+    let k : max (heights (of_list ns) + 1) (height t) ≡ height (with_annotations t ns) =
+    omega (arith, height_noted t ns, height_parts t, ap (λ l. heights (of_list l)) e) in
+    covers_along _ _ _ _ b s k h
+
+-- ---- parts of a term
+
+sizes_drop : (us : List Tree) (k : ℕ) → k ≤ length us → sizes (of_list (drop k us)) + k ≤ sizes (of_list us)
+sizes_drop us zero h = omega arith
+sizes_drop [] (suc k) h = absurd (omega (arith, h))
+sizes_drop (u ∷ us) (suc k) h = omega (arith, sizes_drop us k (omega (arith, h)), size_pos u)
+
+heights_drop : (us : List Tree) (k : ℕ) → heights (of_list (drop k us)) ≤ heights (of_list us)
+heights_drop us zero = omega arith
+heights_drop [] (suc k) = omega arith
+heights_drop (u ∷ us) (suc k) = omega (arith, heights_drop us k)
+
+pub rest_size : (t : Tree) (k : ℕ) → k ≤ length (children t) → size (list_term (drop k (children t))) + k ≤ size t
+rest_size t k h = omega (arith, sizes_drop (children t) k h, size_parts t)
+
+pub rest_height : (t : Tree) (k : ℕ) → height (list_term (drop k (children t))) + 0 ≤ height t
+rest_height t k = omega (arith, heights_drop (children t) k, height_parts t)
+
+pub bare_less : (t : Tree) → 0 < length (annotations t) → size (bare t) + 1 ≤ size t
+bare_less t h = omega (arith, size_noted t [], size_parts t, some_size (annotations t) h)
+
+pub bare_height : (t : Tree) → height (bare t) + 0 ≤ height t
+bare_height t = omega (arith, height_noted t [], height_parts t)
+
+pub notes_size : (t : Tree) → sizes (of_list (annotations t)) + 1 ≤ size t
+notes_size t = omega (arith, size_parts t)
+
+pub notes_height : (t : Tree) → heights (of_list (annotations t)) + 1 ≤ height t
+notes_height t = omega (arith, height_parts t)

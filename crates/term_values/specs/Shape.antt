@@ -1,6 +1,6 @@
 -- What is true of a node's fields.
 use Rattle.std.specs.Prelude.{◌≡◌, ℕ, ◌<◌, List, [], ◌++◌, length}
-use Rattle.term_core.specs.Tree.{Tree, children, annotations}
+use Rattle.term_core.specs.Tree.{Tree, children, annotations, list_term}
 use Rattle.term_core.specs.declared.kind.Kind.{Kind}
 use Rattle.term_core.specs.declared.kind.Kind.TheVariants.{Integer, Application, List as AList, Tuple}
 
@@ -11,10 +11,10 @@ kind_shape (Application name) us = Unit {0}
 kind_shape AList us = Unit {0}
 kind_shape Tuple us = Unit {0}
 
--- Elements in front of a list that has no annotations; they are counted.
+-- Elements in front of a list without annotations; all are counted.
 pub record JoinedShape (front : List Tree) (behind : Tree) (count : ℕ) : Type 0 where
   pub some : 0 < length front
-  pub bare : annotations behind ≡ []
+  pub list : behind ≡ list_term (children behind)
   pub counted : count ≡ length (front ++ children behind)
 
 -- A node without annotations that is given some.

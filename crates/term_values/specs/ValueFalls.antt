@@ -87,7 +87,7 @@ above_form (Joined j) h =
       above_items j.value.front,
       sizes-append us (children j.value.behind),
       some_size us h.some,
-      bare_size j.value.behind h.bare,
+      bare_size j.value.behind (ap annotations h.list),
     )
 above_form (Noted n) h =
     let ns = notes_list n.value.notes in

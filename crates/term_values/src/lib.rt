@@ -2,10 +2,13 @@
 //! places of the borrowed term.
 #![tactic(auto)]
 
+mod annotate;
 mod bounds;
+mod build;
 mod children;
 mod elements;
 mod equality;
+mod list;
 mod measure;
 mod owned;
 mod part;

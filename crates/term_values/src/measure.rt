@@ -12,9 +12,6 @@ use crate::elements::{Elements, Seen};
 use crate::value::Value;
 use term_core::MAX_SIZE;
 
-/// The greatest size of a value that fits, in nodes.
-const LARGEST: u32 = MAX_SIZE as u32;
-
 impl<'t> Value<'t> {
     /// Whether the bounds that are known tell that the value fits at the level. It looks at nothing
     /// but them, so a value that fits may get a false.
@@ -26,9 +23,9 @@ impl<'t> Value<'t> {
 
     /// Whether the size is at most `limit`. Then size and height are kept with this reference. It looks
     /// at no more than `limit` nodes, and at none below a reference that knows its size.
-    pub fn measure(&mut self, limit: u32) -> bool
-        ensures value { self.new ≡ self.old }
-        ensures answer { IsTrue result ↔ (size_of self.old ≤ limit) }
+    pub fn measure(&mut self, limit: u64) -> bool
+        ensures stays { self.new ≡ self.old }
+        ensures result { IsTrue result ↔ (size_of self.old ≤ limit) }
     {
         match self.measured(limit) {
             None => false,
@@ -41,13 +38,13 @@ impl<'t> Value<'t> {
 
     /// Whether the value fits at the level. It looks at its nodes only where the bounds don't tell.
     pub fn fits(&mut self, level: u64) -> bool
-        ensures value { self.new ≡ self.old }
-        ensures answer { result ≡ fits level self.old }
+        ensures stays { self.new ≡ self.old }
+        ensures result { result ≡ fits level self.old }
     {
         if self.surely_fits(level) {
             return true;
         }
-        match self.measured(LARGEST) {
+        match self.measured(MAX_SIZE) {
             None => false,
             Some(bounds) => {
                 self.bounds = bounds;
@@ -57,7 +54,7 @@ impl<'t> Value<'t> {
     }
 
     // Size and height, where the size is at most `limit`.
-    fn measured(&self, limit: u32) -> Option<Bounds>
+    fn measured(&self, limit: u64) -> Option<Bounds>
         ensures some { IfSome result (λ bounds. Measures self.now bounds × (size_of self.now ≤ limit)) }
         ensures none { IfNone result (limit < size_of self.now) }
     {
@@ -68,17 +65,18 @@ impl<'t> Value<'t> {
 
 // Size and height of a tree whose size is at most `left`, from which it is taken; `None` for any other.
 #[cycle(measured)]
-fn measured_within(seen: Seen<'_, '_>, left: &mut u32) -> Option<Bounds>
+fn measured_within(seen: Seen<'_, '_>, left: &mut u64) -> Option<Bounds>
     ensures some { IfSome result (λ bounds. Measures (seen_tree seen.entry) bounds
         × (left.new + size_of (seen_tree seen.entry) ≡ left.old)) }
     ensures none { IfNone result (left.old < size_of (seen_tree seen.entry)) }
 {
     let known = seen.bounds();
     if known.exact && known.size < u32::MAX {
-        if known.size > *left {
+        let size = u64::from(known.size);
+        if size > *left {
             return None;
         }
-        *left -= known.size;
+        *left -= size;
         return Some(known);
     }
     if *left == 0 {
@@ -91,7 +89,7 @@ fn measured_within(seen: Seen<'_, '_>, left: &mut u32) -> Option<Bounds>
 }
 
 #[cycle(measured)]
-fn all_measured(elements: Elements<'_, '_>, left: &mut u32) -> Option<Bounds>
+fn all_measured(elements: Elements<'_, '_>, left: &mut u64) -> Option<Bounds>
     ensures some { IfSome result (λ bounds. MeasuresAll elements.entry bounds
         × (left.new + sizes (of_list elements.entry) ≡ left.old)) }
     ensures none { IfNone result (left.old < sizes (of_list elements.entry)) }

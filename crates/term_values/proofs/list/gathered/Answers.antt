@@ -1,0 +1,37 @@
+use Rattle.std.proofs.Common.{◌≡◌, ◌++◌, length, arith, ap, sym, subst, append_assoc, ◌∙◌}
+use Rattle.std.proofs.lemmas.List.{length-append}
+use Rattle.term_core.specs.Tree.{Tree, children, list_term}
+use Rattle.term_values.specs.declared.value.Form.{Form}
+use Rattle.term_values.specs.declared.value.Joined.{Joined}
+use Rattle.term_values.specs.ValueView.{form_tree, form_shape, items_list}
+use Rattle.term_values.proofs.ListLemmas.{list_children}
+use Rattle.term_values.proofs.list.gathered.Goals as goal
+
+pub chunks-preserved : goal.chunks-preserved
+chunks-preserved c =
+    let done = c.chunks.invariant in
+    let all = c.chunks.all.items in
+    let m = c.in-Joined.next.value in
+    let e = c.as_ref-next.ensures in
+    let shape = subst (λ (f : Form). form_shape f) c.in-Joined.is c.behind.invariant.shape in
+    let whole = ap form_tree (sym c.in-Joined.is) ∙ c.behind.view_is in
+    let kids = list_children (items_list m.front ++ children m.behind) c.chunks.behind.now (sym whole) in
+    let mine = c.as_slice-chunk.ensures ∙ ap (λ (x : Joined). items_list x.front) e in
+    let more = c.in_ok-add_all.ensures ∙ ap (λ l. all ++ l) mine in
+    let behind = ap (λ (x : Joined). children x.behind) e in (
+      omega (arith, ap length more, length-append all (items_list m.front), done.0),
+      subst (λ (x : Joined). x.behind ≡ list_term (children x.behind)) (sym e) shape.list,
+      (λ i. more i ++ behind i) ∙ append_assoc all (items_list m.front) (children m.behind) ∙ ap (λ l. all ++ l) (sym kids) ∙ done.2,
+    )
+
+pub joined-requires-clause-room : goal.joined-requires-clause-room
+joined-requires-clause-room c =
+    let done = c.chunks.invariant in
+    omega (
+      arith,
+      ap length done.2,
+      length-append c.chunks.all.items (children c.chunks.behind.now),
+      length-append c.args.front.items (children c.args.list.now),
+      ap (λ (t : Tree). length (children t)) c.in_ok-try_clone.ensures,
+      c.requires.room,
+    )

@@ -1,0 +1,8 @@
+use Rattle.std.proofs.Common.{◌≡◌, ◌<◌, ◌++◌, length}
+use Rattle.term_core.specs.Tree.{children, list_term}
+use Rattle.term_values.proofs.list.gathered.Given as goal
+
+abbrev pub invariant-chunks : goal.invariant-chunks
+invariant-chunks l =
+    (0 < length l.all.items) × (l.behind ≡ list_term (children l.behind))
+    × (l.all.items ++ children l.behind ≡ l.initial.all.items ++ children l.initial.behind)

@@ -1,0 +1,30 @@
+use Rattle.std.proofs.Common.{◌≡◌, ◌++◌, ◌-◌, IfOk, ap, sym, ◌∙◌, arith, subst, length, drop}
+use Rattle.term_core.specs.Tree.{Tree, children, list_term}
+use Rattle.term_core.specs.Size.{size}
+use Rattle.term_values.specs.declared.value.Form.{Form}
+use Rattle.term_values.specs.declared.value.Joined.{Joined}
+use Rattle.term_values.specs.ValueView.{form_tree, form_shape, items_list}
+use Rattle.term_values.proofs.ListLemmas.{joined_falls, behind_within, rest_of_behind}
+use Rattle.term_values.proofs.value.Value.+rest.Goals as goal
+
+pub rest-requires : goal.rest-requires
+rest-requires t c =
+    let m = c.in-Joined.joined.value in
+    let e = c.as_ref-list.ensures in
+    let shape = subst (λ (f : Form). form_shape f) c.in-Joined.is c.self.invariant.shape in
+    let whole = ap form_tree (sym c.in-Joined.is) ∙ c.self.view_is in
+    let falls = joined_falls (items_list m.front) m.behind c.args.self.now shape.some shape.list whole in
+    let same = ap (λ (x : Joined). x.behind) e in
+    let count = ap length (c.as_slice-count.ensures ∙ ap (λ (x : Joined). items_list x.front) e) in
+    let within = behind_within (items_list m.front) (children m.behind) c.args.self.now c.args.skipped whole c.requires in
+    (omega (arith, falls, ap size same, c.decreases), omega (arith, within, count, ap (λ (x : Tree). length (children x)) same))
+
+pub returns-else-skipped-count : goal.returns-else-skipped-count
+returns-else-skipped-count t c =
+    let j = c.as_ref-list.result.now in
+    let e = c.as_ref-list.ensures in
+    let whole = ap (λ (x : Joined). list_term (items_list x.front ++ children x.behind)) e ∙ ap form_tree (sym c.in-Joined.is) ∙ c.self.view_is in
+    let count = ap length c.as_slice-count.ensures in
+    let tail = ap (λ n. list_term (drop (c.args.skipped - n) (children j.behind))) count
+    ∙ rest_of_behind (items_list j.front) (children j.behind) c.args.self.now c.args.skipped whole (omega (arith, count, c.if-skipped-count.false)) in
+    subst (λ (x : Tree). IfOk c.rest.result (λ value. value ≡ x)) tail c.rest.ensures

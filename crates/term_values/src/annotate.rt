@@ -1,0 +1,116 @@
+//! Values without annotations, and with others.
+#![tactic(auto, using(crate::proofs::KindLemmas::node_parts))]
+
+ghost use Rattle.std.specs.Prelude.{◌≡◌, IfOk};
+ghost use Rattle.term_core.specs.Tree.{annotations, with_annotations};
+ghost use Rattle.term_core.specs.Tree.{bare as bare_of};
+ghost use Rattle.term_changes.specs.Standing.{after};
+ghost use Rattle.term_values.specs.Bounded.{AllBounded};
+ghost use Rattle.term_values.specs.Shape.{NotedShape};
+ghost use Rattle.term_values.specs.ValueView.{notes_list};
+
+use crate::bounds::Bounds;
+use crate::build::all_bounds;
+use crate::part::Changed;
+use crate::value::{Form, Noted, Notes, Value};
+use std::alloc::Global;
+use std::rc::Rc;
+use term_core::{NoMemory, Term};
+
+impl<'t> Value<'t> {
+    /// The same without annotations. It takes no memory.
+    pub fn bare(&self) -> Result<Value<'t>, NoMemory>
+        ensures { IfOk result (λ value. value ≡ bare_of self.now) }
+    {
+        if self.annotation_count() == 0 {
+            return self.try_clone();
+        }
+        match &self.form {
+            Form::Original(term) => Ok(Value {
+                form: Form::Bare(*term),
+                bounds: self.bounds.less(1, 0),
+            }),
+            Form::Kept(changed) => Ok(Value {
+                form: Form::BareKept(changed.clone()?),
+                bounds: self.bounds.less(1, 0),
+            }),
+            Form::Noted(noted) => noted.node.try_clone(),
+            _ => self.try_clone(),
+        }
+    }
+
+    /// The same with these annotations in place of its own.
+    pub fn with_annotations(
+        &self,
+        alloc: Global,
+        all: Vec<Value<'t>>,
+    ) -> Result<Value<'t>, NoMemory>
+        ensures { IfOk result (λ value. value ≡ with_annotations self.now all.entry.items) }
+    {
+        let node = self.bare()?;
+        if all.is_empty() {
+            return Ok(node);
+        }
+        let within = all_bounds(&all);
+        noted(alloc, node, Notes::Own(all), within)
+    }
+
+    /// The same with the annotations of another value in place of its own. Those of a part of the
+    /// borrowed term aren't copied.
+    pub fn with_annotations_of(&self, alloc: Global, of: &Value<'t>) -> Result<Value<'t>, NoMemory>
+        ensures { IfOk result (λ value. value ≡ with_annotations self.now (annotations of.now)) }
+    {
+        let node = self.bare()?;
+        if of.annotation_count() == 0 {
+            return Ok(node);
+        }
+        let notes = of.share_notes(alloc)?;
+        noted(alloc, node, notes, of.notes_bounds())
+    }
+
+    // The annotations, held once more.
+    fn share_notes(&self, alloc: Global) -> Result<Notes<'t>, NoMemory>
+        ensures { IfOk result (λ notes. notes_list notes ≡ annotations self.now) }
+    {
+        match &self.form {
+            Form::Original(term) => Ok(Notes::Of(*term)),
+            Form::Kept(changed) => Ok(Notes::Of(changed.subterm())),
+            _ => Ok(Notes::Own(self.share_annotations(alloc)?)),
+        }
+    }
+
+    // Bounds of the annotations together.
+    fn notes_bounds(&self) -> Bounds
+        ensures { AllBounded (annotations self.now) result }
+    {
+        self.bounds.less(1, 1)
+    }
+}
+
+impl<'t> Changed<'t> {
+    // The subterm, which has the annotations.
+    fn subterm(&self) -> &'t Term
+        ensures { annotations result.now ≡ annotations (after self.now) }
+    {
+        self.of
+    }
+}
+
+// A node without annotations that is given some.
+fn noted<'t>(
+    alloc: Global,
+    node: Value<'t>,
+    notes: Notes<'t>,
+    within: Bounds,
+) -> Result<Value<'t>, NoMemory>
+    requires shape { NotedShape node (notes_list notes) }
+    requires bounds { AllBounded (notes_list notes) within }
+    ensures { IfOk result (λ value. value ≡ with_annotations node.entry (notes_list notes.entry)) }
+{
+    let bounds = within.before(node.bounds);
+    let noted = Rc::new(alloc, Noted { node, notes })?;
+    Ok(Value {
+        form: Form::Noted(noted),
+        bounds,
+    })
+}

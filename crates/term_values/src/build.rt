@@ -1,0 +1,102 @@
+//! New nodes.
+#![tactic(auto, using(crate::proofs::KindLemmas::node_parts))]
+
+ghost use Rattle.std.specs.Prelude.{◌≡◌, [], ◌∷◌, IfOk};
+ghost use Rattle.term_core.specs.Kind.{made_of};
+ghost use Rattle.term_core.specs.Tree.{list_term};
+ghost use Rattle.term_values.specs.Bounded.{AllBounded};
+ghost use Rattle.term_values.specs.ValueView.{items_list, top_tree, top_shape};
+
+use crate::bounds::Bounds;
+use crate::list::{CHUNK, chunked};
+use crate::value::{Form, Items, Made, Pair, Single, Top, Value};
+use std::alloc::Global;
+use std::rc::Rc;
+use term_core::{Kind, NoMemory};
+
+impl<'t> Value<'t> {
+    /// A node with one child. An integer has none.
+    pub fn one(alloc: Global, kind: Kind<'t>, child: Value<'t>) -> Result<Value<'t>, NoMemory>
+        ensures { IfOk result (λ value. value ≡ made_of kind.entry (child.entry ∷ []) []) }
+    {
+        match kind {
+            Kind::Integer(_) => Ok(Value::leaf(kind)),
+            _ => Value::made(
+                alloc,
+                Top::Borrowed(kind),
+                Items::One(Single { items: [child] }),
+            ),
+        }
+    }
+
+    /// A node with two children. An integer has none.
+    pub fn two(
+        alloc: Global,
+        kind: Kind<'t>,
+        first: Value<'t>,
+        second: Value<'t>,
+    ) -> Result<Value<'t>, NoMemory>
+        ensures { IfOk result (λ value. value ≡ made_of kind.entry (first.entry ∷ second.entry ∷ []) []) }
+    {
+        match kind {
+            Kind::Integer(_) => Ok(Value::leaf(kind)),
+            _ => Value::made(
+                alloc,
+                Top::Borrowed(kind),
+                Items::Two(Pair {
+                    items: [first, second],
+                }),
+            ),
+        }
+    }
+
+    /// A node with these children. An integer has none. A long list is cut into chunks, so that its
+    /// rests needn't be copied.
+    pub fn build(
+        alloc: Global,
+        kind: Kind<'t>,
+        children: Vec<Value<'t>>,
+    ) -> Result<Value<'t>, NoMemory>
+        ensures { IfOk result (λ value. value ≡ made_of kind.entry children.entry.items []) }
+    {
+        match kind {
+            Kind::Integer(_) => Ok(Value::leaf(kind)),
+            Kind::List => Value::list(alloc, children),
+            _ => Value::made(alloc, Top::Borrowed(kind), Items::Many(children)),
+        }
+    }
+
+    fn list(alloc: Global, elements: Vec<Value<'t>>) -> Result<Value<'t>, NoMemory>
+        ensures { IfOk result (λ value. value ≡ list_term elements.entry.items) }
+    {
+        if elements.len() > CHUNK {
+            return chunked(alloc, elements, 0, Value::leaf(Kind::List));
+        }
+        Value::made(alloc, Top::Borrowed(Kind::List), Items::Many(elements))
+    }
+
+    /// A node with this at its root and these children.
+    pub(crate) fn made(alloc: Global, top: Top<'t>, items: Items<'t>) -> Result<Value<'t>, NoMemory>
+        requires { top_shape top (items_list items) }
+        ensures { IfOk result (λ value. value ≡ top_tree top.entry (items_list items.entry) []) }
+    {
+        let bounds = all_bounds(items.as_slice()).over();
+        let made = Rc::new(alloc, Made { top, items })?;
+        Ok(Value {
+            form: Form::Built(made),
+            bounds,
+        })
+    }
+}
+
+/// Bounds of these values together.
+pub(crate) fn all_bounds(values: &[Value<'_>]) -> Bounds
+    ensures { AllBounded values.now result }
+{
+    let mut all = Bounds::of_none();
+    for value in values {
+        let value: &Value<'_> = value;
+        all = all.and(value.bounds);
+    }
+    all
+}

@@ -1,0 +1,244 @@
+//! Rests of lists, and elements in front of lists.
+//!
+//! A long list that is built lies in chunks that are shared. A rest or elements in front copy no more
+//! than one of them.
+#![tactic(auto, using(crate::proofs::KindLemmas::node_parts))]
+
+ghost use Rattle.std.specs.Prelude.{◌≡◌, ◌≤◌, ◌<◌, ◌+◌, ◌^◌, ◌++◌, ◌∷◌, drop, length, IfOk, OnOk, IsTrue};
+ghost use Rattle.term_core.specs.Tree.{bare, children, annotations, list_term};
+ghost use Rattle.term_values.specs.Shape.{JoinedShape};
+ghost use Rattle.term_values.specs.ValueView.{items_list};
+
+use crate::build::all_bounds;
+use crate::value::{Form, Items, Joined, Single, Value};
+use std::alloc::Global;
+use std::rc::Rc;
+use term_core::{Kind, NoMemory, Term};
+
+/// How many elements a chunk has at most.
+pub(crate) const CHUNK: usize = 64;
+
+/// How many single elements follow one another before they are gathered into a chunk.
+const RUN: usize = 8;
+
+impl<'t> Value<'t> {
+    /// The list of the children without the first `skipped`, and without annotations.
+    pub fn rest(&self, alloc: Global, skipped: usize) -> Result<Value<'t>, NoMemory>
+        requires { skipped ≤ length (children self.now) }
+        ensures { IfOk result (λ value. value ≡ list_term (drop skipped (children self.now))) }
+    {
+        if skipped == 0 && self.is_list() {
+            return self.bare();
+        }
+        match &self.form {
+            Form::Original(term) => Ok(self.rest_of(*term, skipped)),
+            Form::Bare(term) => Ok(self.rest_of(*term, skipped)),
+            Form::Rest(term, before) => Ok(self.rest_behind(*term, *before, skipped)),
+            Form::Joined(joined) => {
+                let list: &Joined<'t> = joined.as_ref();
+                let count = list.front.as_slice().len();
+                if skipped < count {
+                    joined_rest(alloc, list, skipped)
+                } else {
+                    list.behind.rest(alloc, skipped - count)
+                }
+            }
+            Form::Noted(noted) => noted.node.rest(alloc, skipped),
+            _ => {
+                let all = self.share_children(alloc)?;
+                chunked(alloc, all, skipped, Value::leaf(Kind::List))
+            }
+        }
+    }
+
+    /// The list of an element in front of the children of another value.
+    pub fn cons(alloc: Global, first: Value<'t>, behind: &Value<'t>) -> Result<Value<'t>, NoMemory>
+        requires { length (children behind.now) + 1 < 2 ^ 64 }
+        ensures { IfOk result (λ value. value ≡ list_term (first.entry ∷ children behind.now)) }
+    {
+        let list = behind.rest(alloc, 0)?;
+        if list.run() < RUN {
+            return link(alloc, first, list);
+        }
+        let mut front = Vec::with_capacity(alloc, RUN + 1)?;
+        front.push(first)?;
+        gathered(alloc, front, &list)
+    }
+
+    /// The list of these elements in front of the children of another value.
+    pub fn join(
+        alloc: Global,
+        front: Vec<Value<'t>>,
+        behind: &Value<'t>,
+    ) -> Result<Value<'t>, NoMemory>
+        requires { length front.items + length (children behind.now) < 2 ^ 64 }
+        ensures { IfOk result (λ value. value ≡ list_term (front.entry.items ++ children behind.now)) }
+    {
+        let list = behind.rest(alloc, 0)?;
+        if front.is_empty() {
+            return Ok(list);
+        }
+        if front.len() > CHUNK {
+            return chunked(alloc, front, 0, list);
+        }
+        gathered(alloc, front, &list)
+    }
+
+    fn is_list(&self) -> bool
+        ensures { IsTrue result → bare self.now ≡ list_term (children self.now) }
+    {
+        match self.kind() {
+            Kind::List => true,
+            _ => false,
+        }
+    }
+
+    // How many single elements follow one another at the front.
+    fn run(&self) -> usize {
+        match &self.form {
+            Form::Joined(joined) => joined.run,
+            _ => 0,
+        }
+    }
+
+    // The children of the term, which are those of this value, behind the first `skipped`.
+    fn rest_of(&self, term: &'t Term, skipped: usize) -> Value<'t>
+        requires same { children term.now ≡ children self.now }
+        requires within { skipped ≤ length (children self.now) }
+        ensures { result ≡ list_term (drop skipped (children self.now)) }
+    {
+        Value {
+            form: Form::Rest(term, skipped),
+            bounds: self.bounds.less(skipped, 0),
+        }
+    }
+
+    // The same where this value is a rest already.
+    fn rest_behind(&self, term: &'t Term, before: usize, skipped: usize) -> Value<'t>
+        requires rest { self.now ≡ list_term (drop before (children term.now)) }
+        requires before { before ≤ length (children term.now) }
+        requires within { skipped ≤ length (children self.now) }
+        ensures { result ≡ list_term (drop skipped (children self.now)) }
+    {
+        let _count = term.child_count();
+        Value {
+            form: Form::Rest(term, before + skipped),
+            bounds: self.bounds.less(skipped, 0),
+        }
+    }
+}
+
+// The elements of a joined list behind the first `skipped`, one by one, so that their rests are at
+// hand.
+fn joined_rest<'t>(alloc: Global, list: &Joined<'t>, skipped: usize) -> Result<Value<'t>, NoMemory>
+    requires within { skipped < length (items_list list.now.front) }
+    requires shape { JoinedShape (items_list list.now.front) list.now.behind list.now.count }
+    ensures { IfOk result (λ value.
+        value ≡ list_term (drop skipped (items_list list.now.front ++ children list.now.behind))) }
+{
+    let _count = list.count;
+    let front = list.front.as_slice();
+    let mut at = front.len();
+    let mut rest = list.behind.try_clone()?;
+    while at > skipped {
+        at -= 1;
+        rest = link(alloc, front[at].try_clone()?, rest)?;
+    }
+    Ok(rest)
+}
+
+// The list of the values behind the first `skipped` in front of another list, in chunks.
+pub(crate) fn chunked<'t>(
+    alloc: Global,
+    values: Vec<Value<'t>>,
+    skipped: usize,
+    behind: Value<'t>,
+) -> Result<Value<'t>, NoMemory>
+    requires within { skipped ≤ length values.items }
+    requires list { behind ≡ list_term (children behind) }
+    requires room { length values.items + length (children behind) < 2 ^ 64 }
+    ensures { IfOk result (λ value. value ≡ list_term (drop skipped values.entry.items ++ children behind.entry)) }
+{
+    let mut left = values;
+    let mut list = behind;
+    while left.len() > skipped {
+        let from = left.len().saturating_sub(CHUNK).max(skipped);
+        let front = left.split_off(from)?;
+        list = joined(alloc, Items::Many(front), list, 0)?;
+    }
+    Ok(list)
+}
+
+// The elements and the short chunks that follow, as one chunk.
+fn gathered<'t>(
+    alloc: Global,
+    front: Vec<Value<'t>>,
+    list: &Value<'t>,
+) -> Result<Value<'t>, NoMemory>
+    requires some { 0 < length front.items }
+    requires list { list.now ≡ list_term (children list.now) }
+    requires room { length front.items + length (children list.now) < 2 ^ 64 }
+    ensures { IfOk result (λ value. value ≡ list_term (front.entry.items ++ children list.now)) }
+{
+    let mut all = front;
+    let mut behind = list;
+    'chunks: while let Form::Joined(next) = &behind.form {
+        let next: &Joined<'t> = next.as_ref();
+        let chunk = next.front.as_slice();
+        if all.len() + chunk.len() > CHUNK {
+            break;
+        }
+        add_all(&mut all, chunk)?;
+        behind = &next.behind;
+    }
+    joined(alloc, Items::Many(all), behind.try_clone()?, 0)
+}
+
+// Adds holders of the values behind those that are there.
+fn add_all<'t>(all: &mut Vec<Value<'t>>, values: &[Value<'t>]) -> Result<(), NoMemory>
+    ensures { OnOk result (all.new.items ≡ all.old.items ++ values.now) }
+{
+    for value in values {
+        all.push(value.try_clone()?)?;
+    }
+    Ok(())
+}
+
+// The list of one element in front of another list.
+fn link<'t>(alloc: Global, first: Value<'t>, list: Value<'t>) -> Result<Value<'t>, NoMemory>
+    requires list { list ≡ list_term (children list) }
+    requires room { length (children list) + 1 < 2 ^ 64 }
+    ensures { IfOk result (λ value. value ≡ list_term (first.entry ∷ children list.entry)) }
+{
+    let run = list.run().saturating_add(1);
+    joined(alloc, Items::One(Single { items: [first] }), list, run)
+}
+
+// The list of these elements in front of those of another list.
+fn joined<'t>(
+    alloc: Global,
+    front: Items<'t>,
+    behind: Value<'t>,
+    run: usize,
+) -> Result<Value<'t>, NoMemory>
+    requires some { 0 < length (items_list front) }
+    requires list { behind ≡ list_term (children behind) }
+    requires room { length (items_list front) + length (children behind) < 2 ^ 64 }
+    ensures { IfOk result (λ value. value ≡ list_term (items_list front.entry ++ children behind.entry)) }
+{
+    let bounds = all_bounds(front.as_slice()).before(behind.bounds);
+    let count = front.as_slice().len() + behind.child_count();
+    let joined = Rc::new(
+        alloc,
+        Joined {
+            front,
+            behind,
+            count,
+            run,
+        },
+    )?;
+    Ok(Value {
+        form: Form::Joined(joined),
+        bounds,
+    })
+}
