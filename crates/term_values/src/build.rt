@@ -3,7 +3,7 @@
 
 ghost use Rattle.std.specs.Prelude.{◌≡◌, [], ◌∷◌, IfOk};
 ghost use Rattle.term_core.specs.Kind.{made_of};
-ghost use Rattle.term_core.specs.Tree.{list_term};
+ghost use Rattle.term_core.specs.Tree.{list_term, children, annotations, with_children};
 ghost use Rattle.term_values.specs.Bounded.{AllBounded};
 ghost use Rattle.term_values.specs.ValueView.{items_list, top_tree, top_shape};
 
@@ -12,7 +12,7 @@ use crate::list::{CHUNK, chunked};
 use crate::value::{Form, Items, Made, Pair, Single, Top, Value};
 use std::alloc::Global;
 use std::rc::Rc;
-use term_core::{Kind, NoMemory};
+use term_core::{Kind, NoMemory, Term};
 
 impl<'t> Value<'t> {
     /// A node with one child. An integer has none.
@@ -59,6 +59,9 @@ impl<'t> Value<'t> {
     ) -> Result<Value<'t>, NoMemory>
         ensures { IfOk result (λ value. value ≡ made_of kind.entry children.entry.items []) }
     {
+        if children.is_empty() {
+            return Ok(Value::leaf(kind));
+        }
         match kind {
             Kind::Integer(_) => Ok(Value::leaf(kind)),
             Kind::List => Value::list(alloc, children),
@@ -75,8 +78,52 @@ impl<'t> Value<'t> {
         Value::made(alloc, Top::Borrowed(Kind::List), Items::Many(elements))
     }
 
-    /// A node with this at its root and these children.
-    pub(crate) fn made(alloc: Global, top: Top<'t>, items: Items<'t>) -> Result<Value<'t>, NoMemory>
+    /// The same with these children in place of its own. An integer has none.
+    pub(crate) fn with_children(
+        &self,
+        alloc: Global,
+        children: Vec<Value<'t>>,
+    ) -> Result<Value<'t>, NoMemory>
+        ensures { IfOk result (λ value. value ≡ with_children self.now children.entry.items) }
+    {
+        let top = self.top()?;
+        let node = Value::topped(alloc, top, children)?;
+        node.with_annotations_of(alloc, self)
+    }
+
+    /// What stands at the root, held once more.
+    fn top(&self) -> Result<Top<'t>, NoMemory>
+        ensures { IfOk result (λ top. self.now ≡ top_tree top (children self.now) (annotations self.now)) }
+    {
+        match &self.form {
+            Form::Leaf(kind) => Ok(Top::Borrowed(*kind)),
+            Form::Original(term) => Ok(top_of(*term)),
+            Form::Bare(term) => Ok(top_of(*term)),
+            Form::Rest(_, _) => Ok(Top::Borrowed(Kind::List)),
+            Form::Built(made) => made.top.try_clone(),
+            Form::Kept(changed) => Ok(Top::Borrowed(changed.kind())),
+            Form::BareKept(changed) => Ok(Top::Borrowed(changed.kind())),
+            Form::Joined(_) => Ok(Top::Borrowed(Kind::List)),
+            Form::Noted(noted) => noted.node.top(),
+        }
+    }
+
+    /// A node with this at its root and these children. An integer has none.
+    pub(crate) fn topped(
+        alloc: Global,
+        top: Top<'t>,
+        children: Vec<Value<'t>>,
+    ) -> Result<Value<'t>, NoMemory>
+        ensures { IfOk result (λ value. value ≡ top_tree top.entry children.entry.items []) }
+    {
+        match top {
+            Top::Borrowed(kind) => Value::build(alloc, kind, children),
+            Top::Owned(name) => Value::made(alloc, Top::Owned(name), Items::Many(children)),
+        }
+    }
+
+    // A node of a kind that can have children, or that has none.
+    fn made(alloc: Global, top: Top<'t>, items: Items<'t>) -> Result<Value<'t>, NoMemory>
         requires { top_shape top (items_list items) }
         ensures { IfOk result (λ value. value ≡ top_tree top.entry (items_list items.entry) []) }
     {
@@ -87,6 +134,12 @@ impl<'t> Value<'t> {
             bounds,
         })
     }
+}
+
+fn top_of<'t>(term: &'t Term) -> Top<'t>
+    ensures { term.now ≡ top_tree result (children term.now) (annotations term.now) }
+{
+    Top::Borrowed(term.kind())
 }
 
 /// Bounds of these values together.

@@ -1,13 +1,16 @@
-//! Values made into terms of their own.
+//! Values made into terms of their own, and of other terms.
 #![tactic(auto, using(crate::proofs::KindLemmas::node_parts))]
 
-ghost use Rattle.std.specs.Prelude.{◌≡◌, IfOk};
+ghost use Rattle.std.specs.Prelude.{◌≡◌, List, IfOk};
+ghost use Rattle.term_core.specs.Tree.{Tree};
 ghost use Rattle.term_core.specs.Kind.{made_of};
+ghost use Rattle.term_values.specs.ValueView.{top_tree};
 ghost use Rattle.term_values.specs.Walk.{seen_tree};
 
 use crate::elements::{Elements, Seen};
-use crate::value::Value;
+use crate::value::{Top, Value};
 use std::alloc::Global;
+use std::rc::Rc;
 use term_core::{Kind, NoMemory, Term};
 
 impl<'t> Value<'t> {
@@ -16,6 +19,48 @@ impl<'t> Value<'t> {
         ensures { IfOk result (λ term. term ≡ self.now) }
     {
         owned(alloc, Seen::Value(self))
+    }
+}
+
+impl<'t> Value<'t> {
+    /// A value with the tree of a term that isn't borrowed for as long. Names are copied once.
+    pub fn from_term(alloc: Global, term: &Term) -> Result<Value<'t>, NoMemory>
+        ensures { IfOk result (λ value. value ≡ term.now) }
+    {
+        copied(alloc, term)
+    }
+}
+
+#[cycle(copied)]
+fn copied<'t>(alloc: Global, term: &Term) -> Result<Value<'t>, NoMemory>
+    ensures { IfOk result (λ value. value ≡ term.now) }
+{
+    let top = own_top(alloc, term.kind())?;
+    let children = all_copied(alloc, term.children())?;
+    let notes = all_copied(alloc, term.annotations())?;
+    Value::topped(alloc, top, children)?.with_annotations(alloc, notes)
+}
+
+#[cycle(copied)]
+fn all_copied<'t>(alloc: Global, terms: &[Term]) -> Result<Vec<Value<'t>>, NoMemory>
+    ensures { IfOk result (λ all. all.items ≡ terms.now) }
+{
+    let mut all = Vec::with_capacity(alloc, terms.len())?;
+    for term in terms {
+        all.push(copied(alloc, term)?)?;
+    }
+    Ok(all)
+}
+
+/// What stands at the root, with a name of its own.
+fn own_top<'t>(alloc: Global, kind: Kind<'_>) -> Result<Top<'t>, NoMemory>
+    ensures { IfOk result (λ top. (us ns : List Tree) → top_tree top us ns ≡ made_of kind.entry us ns) }
+{
+    match kind {
+        Kind::Integer(value) => Ok(Top::Borrowed(Kind::Integer(value))),
+        Kind::Application(name) => Ok(Top::Owned(Rc::new(alloc, name.try_clone()?)?)),
+        Kind::List => Ok(Top::Borrowed(Kind::List)),
+        Kind::Tuple => Ok(Top::Borrowed(Kind::Tuple)),
     }
 }
 
