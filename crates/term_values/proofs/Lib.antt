@@ -1,3 +1,4 @@
 pub mod KindLemmas
 pub mod SizeLemmas
 pub mod ListLemmas
+pub mod PlaceLemmas

@@ -12,7 +12,10 @@ mod list;
 mod measure;
 mod owned;
 mod part;
+mod places;
+mod replacements;
 mod value;
 
 pub use part::Part;
 pub use value::Value;
+

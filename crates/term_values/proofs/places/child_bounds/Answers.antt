@@ -1,0 +1,13 @@
+use Rattle.std.proofs.Common.{arith, length}
+use Rattle.term_core.specs.Tree.{children}
+use Rattle.term_core.specs.Size.{height, size}
+use Rattle.term_values.specs.ValueFalls.{size_parts}
+use Rattle.term_values.proofs.SizeLemmas.{height_parts, within_all}
+use Rattle.term_values.proofs.places.child_bounds.Goals as goal
+
+pub returns : goal.returns
+returns c =
+    let t = c.args.term.now in
+    within_all (children t) c.less.result (length (children t)) (size t) (height t)
+    (λ u p q. c.less.ensures (size t) (height t) (size u) (height u) c.requires (omega (arith, p, c.child_count.ensures)) q)
+    (omega (arith, size_parts t)) (omega (arith, height_parts t))

@@ -1,0 +1,283 @@
+//! What stands in the places of children, and other parts put there.
+#![tactic(auto, using(crate::proofs::KindLemmas::node_parts))]
+
+ghost use Rattle.std.specs.Prelude.{◌≡◌, ◌∷◌, [], IfOk, map, slice_get, slice_set};
+ghost use Rattle.term_core.specs.Tree.{children, annotations, with_children};
+ghost use Rattle.term_changes.specs.Standing.{standing_tree, standing_children, standing_changes, unchanged, altered, fresh, SuitAll, CanHold, with_standing};
+ghost use Rattle.term_values.specs.Bounded.{Bounded, AllBounded, AllWithin};
+ghost use Rattle.term_values.specs.ValueView.{parts_list};
+
+use crate::bounds::Bounds;
+use crate::part::{Changed, Part, PartForm, Parts};
+use crate::value::{Items, Pair, Single, Value};
+use std::alloc::Global;
+use std::rc::Rc;
+use term_core::{NoMemory, Term};
+
+impl<'t> Part<'t> {
+    /// What stands in the place of child `i`, counted from 0, or `None` where there are no more than
+    /// `i`. It takes no memory.
+    pub fn child(&self, i: usize) -> Result<Option<Part<'t>>, NoMemory>
+        ensures { IfOk result (λ child. child ≡ slice_get (standing_children self.now) i) }
+    {
+        match &self.form {
+            PartForm::Same(term, bounds) => {
+                let term: &'t Term = *term;
+                Ok(same_at(term.children(), i, child_bounds(term, *bounds)))
+            }
+            PartForm::Inside(changed, _) => changed.part(i),
+            PartForm::New(value) => match value.child(i)? {
+                Some(child) => Ok(Some(Part::new(child))),
+                None => Ok(None),
+            },
+        }
+    }
+
+    /// What stands in the places of the children, the first child first.
+    pub fn parts(&self, alloc: Global) -> Result<Vec<Part<'t>>, NoMemory>
+        ensures { IfOk result (λ all. all.items ≡ standing_children self.now) }
+    {
+        match &self.form {
+            PartForm::Same(term, bounds) => {
+                let term: &'t Term = *term;
+                same_parts(alloc, term.children(), child_bounds(term, *bounds))
+            }
+            PartForm::Inside(changed, _) => changed.all_parts(alloc),
+            PartForm::New(value) => {
+                let children = value.share_children(alloc)?;
+                new_parts(alloc, &children)
+            }
+        }
+    }
+
+    /// The same root with another part in the place of child `i`.
+    pub fn with_part(&self, alloc: Global, i: usize, part: Part<'t>) -> Result<Part<'t>, NoMemory>
+        requires { CanHold self.now (slice_set (standing_children self.now) i part) }
+        ensures { IfOk result (λ whole.
+            whole ≡ with_standing self.now (slice_set (standing_children self.now) i part.entry)) }
+    {
+        let mut all = self.parts(alloc)?;
+        if i < all.len() {
+            all[i] = part;
+        }
+        self.with_parts(alloc, all)
+    }
+
+    /// The same root over one part.
+    pub fn with_one(&self, alloc: Global, part: Part<'t>) -> Result<Part<'t>, NoMemory>
+        requires { CanHold self.now (part ∷ []) }
+        ensures { IfOk result (λ whole. whole ≡ with_standing self.now (part.entry ∷ [])) }
+    {
+        match &self.form {
+            PartForm::New(value) => Ok(Part::new(one_over(alloc, value, &part)?)),
+            _ => self.over(alloc, Parts::One(Single { items: [part] })),
+        }
+    }
+
+    /// The same root over two parts.
+    pub fn with_two(
+        &self,
+        alloc: Global,
+        first: Part<'t>,
+        second: Part<'t>,
+    ) -> Result<Part<'t>, NoMemory>
+        requires { CanHold self.now (first ∷ second ∷ []) }
+        ensures { IfOk result (λ whole. whole ≡ with_standing self.now (first.entry ∷ second.entry ∷ [])) }
+    {
+        match &self.form {
+            PartForm::New(value) => Ok(Part::new(two_over(alloc, value, &first, &second)?)),
+            _ => self.over(
+                alloc,
+                Parts::Two(Pair {
+                    items: [first, second],
+                }),
+            ),
+        }
+    }
+
+    /// The same root over these parts.
+    pub fn with_parts(&self, alloc: Global, parts: Vec<Part<'t>>) -> Result<Part<'t>, NoMemory>
+        requires { CanHold self.now parts.items }
+        ensures { IfOk result (λ whole. whole ≡ with_standing self.now parts.entry.items) }
+    {
+        self.over(alloc, Parts::Many(parts))
+    }
+
+    fn over(&self, alloc: Global, parts: Parts<'t>) -> Result<Part<'t>, NoMemory>
+        requires { CanHold self.now (parts_list parts) }
+        ensures { IfOk result (λ whole. whole ≡ with_standing self.now (parts_list parts.entry)) }
+    {
+        match &self.form {
+            PartForm::Same(term, _) => changed_part(alloc, *term, parts),
+            PartForm::Inside(changed, _) => changed_part(alloc, changed.before(), parts),
+            PartForm::New(value) => {
+                let children = part_values(alloc, parts.as_slice())?;
+                Ok(Part::new(value.with_children(alloc, children)?))
+            }
+        }
+    }
+}
+
+// A subterm that is itself in its place, if there are more than `i`.
+fn same_at<'t>(terms: &'t [Term], i: usize, within: Bounds) -> Option<Part<'t>>
+    requires { AllWithin terms.now within }
+    ensures { result ≡ slice_get (map (λ t. unchanged t) terms.now) i }
+{
+    if i >= terms.len() {
+        return None;
+    }
+    Some(same(&terms[i], within))
+}
+
+fn same_parts<'t>(
+    alloc: Global,
+    terms: &'t [Term],
+    within: Bounds,
+) -> Result<Vec<Part<'t>>, NoMemory>
+    requires { AllWithin terms.now within }
+    ensures { IfOk result (λ all. all.items ≡ map (λ t. unchanged t) terms.now) }
+{
+    let mut all = Vec::with_capacity(alloc, terms.len())?;
+    for term in terms {
+        all.push(same(term, within))?;
+    }
+    Ok(all)
+}
+
+fn same<'t>(term: &'t Term, within: Bounds) -> Part<'t>
+    requires { Bounded term.now within }
+    ensures { result ≡ unchanged term.now }
+{
+    Part {
+        form: PartForm::Same(term, within),
+    }
+}
+
+impl<'t> Changed<'t> {
+    fn before(&self) -> &'t Term
+        ensures { result.now ≡ self.now.before }
+    {
+        self.of
+    }
+
+    fn part(&self, i: usize) -> Result<Option<Part<'t>>, NoMemory>
+        ensures { IfOk result (λ part. part ≡ slice_get (standing_children (altered self.now)) i) }
+    {
+        part_at(self.parts.as_slice(), i)
+    }
+
+    fn all_parts(&self, alloc: Global) -> Result<Vec<Part<'t>>, NoMemory>
+        ensures { IfOk result (λ all. all.items ≡ standing_children (altered self.now)) }
+    {
+        share_parts(alloc, self.parts.as_slice())
+    }
+}
+
+// A subterm with these in the places of its children.
+fn changed_part<'t>(alloc: Global, of: &'t Term, parts: Parts<'t>) -> Result<Part<'t>, NoMemory>
+    requires { SuitAll (children of.now) (parts_list parts) }
+    ensures { IfOk result (λ part. part ≡ with_standing (unchanged of.now) (parts_list parts.entry)) }
+{
+    let bounds = parts_bounds(parts.as_slice()).and(notes_bounds(of)).over();
+    let changed = Rc::new(alloc, Changed { of, parts })?;
+    Ok(Part {
+        form: PartForm::Inside(changed, bounds),
+    })
+}
+
+// A value with the tree of one part as its child.
+fn one_over<'t>(alloc: Global, value: &Value<'t>, part: &Part<'t>) -> Result<Value<'t>, NoMemory>
+    ensures { IfOk result (λ new. new ≡ with_children value.now (standing_tree part.now ∷ [])) }
+{
+    let child = part.value()?;
+    value.with_items(alloc, Items::One(Single { items: [child] }))
+}
+
+// And of two.
+fn two_over<'t>(
+    alloc: Global,
+    value: &Value<'t>,
+    first: &Part<'t>,
+    second: &Part<'t>,
+) -> Result<Value<'t>, NoMemory>
+    ensures { IfOk result (λ new. new
+        ≡ with_children value.now (standing_tree first.now ∷ standing_tree second.now ∷ [])) }
+{
+    let left = first.value()?;
+    let right = second.value()?;
+    value.with_items(
+        alloc,
+        Items::Two(Pair {
+            items: [left, right],
+        }),
+    )
+}
+
+// Bounds that each child of a subterm keeps.
+fn child_bounds(term: &Term, bounds: Bounds) -> Bounds
+    requires { Bounded term.now bounds }
+    ensures { AllWithin (children term.now) result }
+{
+    bounds.less(term.child_count(), 1)
+}
+
+// Bounds of the trees of these together.
+fn parts_bounds(parts: &[Part<'_>]) -> Bounds
+    ensures { AllBounded (map standing_tree parts.now) result }
+{
+    let mut all = Bounds::of_none();
+    for part in parts {
+        all = all.and(part.bounds());
+    }
+    all
+}
+
+// Bounds of the annotations of a subterm: where it has some, nothing is known.
+fn notes_bounds(of: &Term) -> Bounds
+    ensures { AllBounded (annotations of.now) result }
+{
+    if of.annotations().is_empty() {
+        Bounds::of_none()
+    } else {
+        Bounds::unknown()
+    }
+}
+
+fn part_at<'t>(parts: &[Part<'t>], i: usize) -> Result<Option<Part<'t>>, NoMemory>
+    ensures { IfOk result (λ part. part ≡ slice_get parts.now i) }
+{
+    if i >= parts.len() {
+        return Ok(None);
+    }
+    Ok(Some(parts[i].try_clone()?))
+}
+
+fn share_parts<'t>(alloc: Global, parts: &[Part<'t>]) -> Result<Vec<Part<'t>>, NoMemory>
+    ensures { IfOk result (λ all. all.items ≡ parts.now) }
+{
+    let mut all = Vec::with_capacity(alloc, parts.len())?;
+    for part in parts {
+        all.push(part.try_clone()?)?;
+    }
+    Ok(all)
+}
+
+fn new_parts<'t>(alloc: Global, values: &[Value<'t>]) -> Result<Vec<Part<'t>>, NoMemory>
+    ensures { IfOk result (λ all. all.items ≡ map (λ t. fresh t) values.now) }
+{
+    let mut all = Vec::with_capacity(alloc, values.len())?;
+    for value in values {
+        all.push(Part::new(value.try_clone()?))?;
+    }
+    Ok(all)
+}
+
+fn part_values<'t>(alloc: Global, parts: &[Part<'t>]) -> Result<Vec<Value<'t>>, NoMemory>
+    ensures { IfOk result (λ all. all.items ≡ map standing_tree parts.now) }
+{
+    let mut all = Vec::with_capacity(alloc, parts.len())?;
+    for part in parts {
+        all.push(part.value()?)?;
+    }
+    Ok(all)
+}
