@@ -18,4 +18,3 @@ mod value;
 
 pub use part::Part;
 pub use value::Value;
-
