@@ -1,18 +1,18 @@
 -- Parts in the places of children, and places of changes gathered one child after the other.
 use Rattle.std.proofs.Common.{◌≡◌, ℕ, ◌+◌, ◌-◌, ◌<◌, ◌≤◌, List, [], ◌∷◌, ◌++◌, length, map, take, drop, get_or, Some, refl, sym, ap, ◌∙◌, subst, arith, zero, suc, append_assoc, length-append}
 use Rattle.std.specs.List.{slice_get}
-use Rattle.std.proofs.lemmas.List.{map-append, take_more}
+use Rattle.std.proofs.lemmas.List.{map-append, take_more, drop_more}
 use Rattle.std.proofs.Math.Seq.{take-append_seam}
-use Rattle.term_core.specs.Tree.{Tree, of_list, children, annotations, with_children}
-use Rattle.term_core.specs.Size.{height, heights, size, sizes}
+use Rattle.term_core.specs.Tree.{Tree, of_list, children, annotations}
+use Rattle.term_core.specs.Size.{height, heights}
 use Rattle.term_paths.specs.Edits.{Edits, behind}
-use Rattle.term_changes.specs.Change.{Change, Changes, no_more, and_then, below, places, places_from, changed_all}
-use Rattle.term_changes.specs.Standing.{Altered, after, Standing, unchanged, SuitAll, stand_all, standing_tree, standing_change, standing_changes}
+use Rattle.term_changes.specs.Change.{below, places, places_from, changed_all}
+use Rattle.term_changes.specs.Standing.{Altered, after, Standing, unchanged, Suits, SuitAll, stand_all, standing_tree, standing_change, standing_changes}
+use Rattle.term_changes.specs.Putting.{HasPlaces, HaveAllPlaces}
 use Rattle.term_changes.proofs.NodeLemmas.{annotations-with_children}
 use Rattle.term_changes.proofs.StandingLemmas.{suits_stand_all, altered_children}
 use Rattle.term_values.specs.declared.bounds.Bounds.{Bounds}
 use Rattle.term_values.specs.Bounded.{Bounded, AllWithin}
-use Rattle.term_values.specs.ValueFalls.{size_parts}
 use Rattle.term_values.proofs.SizeLemmas.{height_parts, bounded_along}
 
 pub nth_within : (us : List Tree) (b : Bounds) (i : ℕ) (v : Tree) → i < length us → v ≡ get_or us i v → AllWithin us b → Bounded v b
@@ -103,3 +103,20 @@ popped xs old new i n e k h =
   where
     count : length (xs ++ i ∷ []) - 1 ≡ length xs
     count = omega (arith, length-append xs (i ∷ []))
+
+-- ---- that the places are there
+
+-- Whether subterms in whose places these can stand have the places of their changes.
+abbrev pub AllThere : List Standing → Type 0
+AllThere ps = (us : List Tree) → SuitAll us ps → HaveAllPlaces us (standing_changes ps)
+
+with_first : (p : Standing) (ps : List Standing) → ((t : Tree) → Suits t p → HasPlaces t (standing_change p))
+    → AllThere ps → AllThere (p ∷ ps)
+with_first p ps there more [] h = absurd h
+with_first p ps there more (u ∷ us) h = (there u h.0, more us h.1)
+
+pub all_there_next : (ps : List Standing) (i : ℕ) (p : Standing) → i < length ps → p ≡ get_or ps i p
+    → ((t : Tree) → Suits t p → HasPlaces t (standing_change p))
+    → (AllThere (drop i ps) → AllThere ps) → AllThere (drop (i + 1) ps) → AllThere ps
+all_there_next ps i p h e there whole more =
+    whole (subst AllThere (ap (λ (q : Standing). q ∷ drop (i + 1) ps) e ∙ sym (drop_more ps i p h)) (with_first p (drop (i + 1) ps) there more))

@@ -79,7 +79,7 @@ impl<'t> Value<'t> {
     }
 
     /// The same with these children in place of its own. An integer has none.
-    pub(crate) fn with_children(
+    pub fn with_children(
         &self,
         alloc: Global,
         children: Vec<Value<'t>>,

@@ -1,9 +1,9 @@
-use Rattle.std.proofs.Common.{◌≡◌, arith, ◌+◌, [], ◌∷◌, ◌++◌, map, sym, ap, ◌∙◌}
+use Rattle.std.proofs.Common.{arith, [], ◌∷◌, ◌++◌, map, ap, ◌∙◌}
 use Rattle.term_core.specs.Tree.{of_list}
 use Rattle.term_core.specs.Size.{heights}
 use Rattle.term_changes.specs.Standing.{standing_tree}
 use Rattle.term_values.specs.ValueView.{parts_list}
-use Rattle.term_values.proofs.PlaceLemmas.{altered_heights, part_height, gathered, popped}
+use Rattle.term_values.proofs.PlaceLemmas.{altered_heights, part_height, gathered, popped, all_there_next}
 use Rattle.term_values.proofs.+add_places.Goals as goal
 
 pub part::Changed::add_places-add_all_places-requires : goal.part::Changed::add_places-add_all_places-requires
@@ -23,4 +23,5 @@ replacements::add_all_places-loop-i-preserved t c =
       popped c.args.path.now.items c.add_places.new.path.items _ c.loop-i.i _ (c.in_ok-add_places.ensures.path ∙ here) c.add_places.new.path.ok.0 c.pop-last.ensures.rest,
       gathered c.args.path.now.items c.push.new.self.items c.loop-i.i c.args.parts.now c.index-parts-i.result c.loop-i.all.items _ _
           c.loop-i-test.true c.index-parts-i.is here c.in_ok-add_places.ensures.all c.loop-i.invariant.1,
+      all_there_next c.args.parts.now c.loop-i.i c.index-parts-i.result c.loop-i-test.true c.index-parts-i.is c.in_ok-add_places.ensures.there c.loop-i.invariant.2,
     )

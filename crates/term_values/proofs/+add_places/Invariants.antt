@@ -4,6 +4,7 @@ use Rattle.term_core.specs.Size.{height, heights}
 use Rattle.term_paths.specs.Edits.{behind}
 use Rattle.term_changes.specs.Change.{places_from}
 use Rattle.term_changes.specs.Standing.{after, standing_tree, standing_changes}
+use Rattle.term_values.proofs.PlaceLemmas.{AllThere}
 use Rattle.term_values.proofs.+add_places.Given as goal
 
 abbrev pub decreases-part::Changed::add_places : goal.decreases-part::Changed::add_places
@@ -21,3 +22,4 @@ invariant-replacements::add_all_places-loop-i l =
     (l.path.items ≡ l.initial.path.items)
     × (l.all.items ++ behind l.initial.path.items (places_from l.i (standing_changes (drop l.i l.parts)))
     ≡ l.initial.all.items ++ behind l.initial.path.items (places_from 0 (standing_changes l.parts)))
+    × (AllThere (drop l.i l.parts) → AllThere l.parts)
