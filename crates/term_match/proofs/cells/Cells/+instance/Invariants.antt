@@ -1,0 +1,23 @@
+use Rattle.std.proofs.Common.{◌≡◌, ◌+◌, ◌*◌, ◌++◌, drop, option_map}
+use Rattle.strategy_syntax.specs.Resolved.{places_of}
+use Rattle.strategy_syntax.specs.PlaceView.{place_depth, places_depth}
+use Rattle.strategy_meaning.specs.Matching.{build_places}
+use Rattle.term_match.proofs.cells.Cells.+instance.Given as goal
+
+abbrev pub decreases-instance : goal.decreases-instance
+decreases-instance g l = 3 * place_depth l.pattern.now
+
+abbrev pub decreases-compound : goal.decreases-compound
+decreases-compound g l = 3 * places_depth (places_of l.parts.now) + 2
+
+abbrev pub decreases-in_front : goal.decreases-in_front
+decreases-in_front g l = 3 * places_depth (places_of l.parts.now) + 2
+
+abbrev pub decreases-instances : goal.decreases-instances
+decreases-instances g l = 3 * places_depth (places_of l.parts.now) + 1
+
+abbrev pub invariant-instances-loop-part : goal.invariant-instances-loop-part
+invariant-instances-loop-part g l =
+    option_map (λ us. l.all.items ++ us)
+    (build_places (places_of (drop l.part-index l.parts)) (g.P.Places.places l.places) l.self.bindings)
+    ≡ build_places (places_of l.parts) (g.P.Places.places l.places) l.self.bindings

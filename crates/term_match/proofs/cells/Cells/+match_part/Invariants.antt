@@ -1,0 +1,34 @@
+use Rattle.std.proofs.Common.{◌≡◌, ◌+◌, ◌*◌, length, take}
+use Rattle.term_core.specs.Tree.{children}
+use Rattle.strategy_syntax.specs.Resolved.{places_of}
+use Rattle.strategy_syntax.specs.PlaceView.{place_depth, places_depth}
+use Rattle.strategy_meaning.specs.Matching.{match_places}
+use Rattle.term_match.specs.Marks.{Grows}
+use Rattle.term_match.proofs.MatchLemmas.{matched_from}
+use Rattle.term_match.proofs.cells.Cells.+match_part.Given as goal
+
+abbrev pub decreases-match_part : goal.decreases-match_part
+decreases-match_part g l = 2 * place_depth l.pattern.now
+
+abbrev pub decreases-match_rest : goal.decreases-match_rest
+decreases-match_rest g l = 2 * place_depth l.pattern.now + 1
+
+abbrev pub decreases-match_children : goal.decreases-match_children
+decreases-match_children g l = 2 * places_depth (places_of l.patterns.now) + 1
+
+abbrev pub decreases-match_notes : goal.decreases-match_notes
+decreases-match_notes g l = 2 * places_depth (places_of l.patterns.now) + 1
+
+abbrev pub invariant-match_children-loop-i : goal.invariant-match_children-loop-i
+invariant-match_children-loop-i g l = record {
+  matched : matched_from l.patterns (take (length l.patterns) (children l.value)) (g.P.Places.places l.places) l.i l.self.bindings
+      ≡ match_places (places_of l.patterns) (take (length l.patterns) (children l.value)) (g.P.Places.places l.places) l.initial.self.bindings;
+  grows : Grows l.initial.self l.self;
+}
+
+abbrev pub invariant-match_notes-loop-i : goal.invariant-match_notes-loop-i
+invariant-match_notes-loop-i g l = record {
+  matched : matched_from l.patterns l.notes.items (g.P.Places.places l.places) l.i l.self.bindings
+      ≡ match_places (places_of l.patterns) l.notes.items (g.P.Places.places l.places) l.initial.self.bindings;
+  grows : Grows l.initial.self l.self;
+}

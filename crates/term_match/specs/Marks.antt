@@ -1,0 +1,32 @@
+-- What cells keep for a mark that was made before.
+use Rattle.std.specs.Prelude.{◌≡◌, ◌≤◌, ℕ, List, [], ◌∷◌, ◌++◌, length, take, drop, slice_set, None}
+use Rattle.strategy_meaning.specs.Matching.{Bindings}
+use Rattle.term_match.specs.Contents.{Contents}
+use Rattle.term_match.specs.declared.cells.Mark.{Mark}
+
+-- these cells emptied
+abbrev pub emptied : List ℕ → Bindings → Bindings
+emptied [] B = B
+emptied (i ∷ is) B = emptied is (slice_set B i None)
+
+-- the first cells up to the mark's count, empty where they were filled since
+abbrev pub kept : Contents → Mark → Bindings
+kept c m = emptied (drop m.filled c.filled) (take m.count c.bindings)
+
+abbrev pub mark_of : Contents → Mark
+mark_of c = record { count = length c.bindings; filled = length c.filled }
+
+-- a mark that was made before another, or is it
+abbrev pub Before : Mark → Mark → Type 0
+Before m n = (m.count ≤ n.count) × (m.filled ≤ n.filled)
+
+-- what is kept for the marks up to this one stays
+abbrev pub Stays : Mark → Contents → Contents → Type 0
+Stays top old new = (m : Mark) → Before m top → kept new m ≡ kept old m
+
+-- Some empty cells are filled, of those that there are.
+pub record Grows (old new : Contents) : Type 0 where
+  pub count : length new.bindings ≡ length old.bindings
+  pub more : List ℕ
+  pub filled : new.filled ≡ old.filled ++ more
+  pub stays : Stays (mark_of old) old new

@@ -1,0 +1,319 @@
+//! Building the instance of a pattern.
+//!
+//! Bounds of sizes are kept with the terms in the cells. Only where they don't tell that the instance
+//! fits, its variables are measured, small terms first, and what is found stays in the cells.
+
+ghost use Rattle.std.specs.Prelude.{◌≡◌, List, [], ◌++◌, IfOk, is_some, option_map, option_and_then};
+ghost use Rattle.std.specs.Option.{option_copied};
+ghost use Rattle.term_core.specs.Kind.{made_of};
+ghost use Rattle.term_core.specs.Tree.{Tree, branch, of_list, none, children, list_term};
+ghost use Rattle.strategy_syntax.specs.Resolved.{places_of};
+ghost use Rattle.strategy_syntax.specs.Heads.{head_of};
+ghost use Rattle.strategy_meaning.specs.Matching.{build_place, build_places, bound_to, elements};
+ghost use Rattle.term_match.specs.Building.{Builds};
+
+use crate::cells::Cells;
+use crate::matching::is_list;
+use crate::variables::Places;
+use std::alloc::Global;
+use strategy_syntax::{Head, Place, PlaceForm};
+use term_core::{Kind, MAX_SIZE, NoMemory};
+use term_values::Value;
+
+/// The answer of a build.
+#[derive(Drop)]
+pub enum Built<'t> {
+    /// The instance.
+    Value(Value<'t>),
+    /// There is no instance: a variable has no term, a tail is no list, or the pattern is one that only
+    /// matches.
+    Nothing,
+    /// The instance doesn't fit.
+    Big,
+}
+
+// Up to how many nodes the term of a variable is measured at first, and then.
+const LIMITS: [u64; 5] = [32, 256, 2048, 16384, MAX_SIZE];
+
+impl<'t> Cells<'t> {
+    /// The instance of the pattern, where it fits below `level` terms. It shares the terms in the cells,
+    /// and names with the pattern. No memory is taken where there is no instance.
+    pub fn build<P: Places>(
+        &mut self,
+        alloc: Global,
+        places: &P,
+        pattern: &'t Place,
+        level: u64,
+    ) -> Result<Built<'t>, NoMemory>
+        ensures same { self.new ≡ self.old }
+        ensures ok { IfOk result (λ built. Builds (build_place pattern.now (P.places places.now) self.old.bindings) level built) }
+    {
+        if !self.has_instance(places, pattern) {
+            return Ok(Built::Nothing);
+        }
+        'measure: for limit in LIMITS {
+            let Some(value) = self.instance(alloc, places, pattern)? else {
+                return Ok(Built::Nothing);
+            };
+            if value.surely_fits(level) {
+                return Ok(Built::Value(value));
+            }
+            self.measure(places, pattern, limit);
+        }
+        let Some(mut value) = self.instance(alloc, places, pattern)? else {
+            return Ok(Built::Nothing);
+        };
+        if value.fits(level) {
+            Ok(Built::Value(value))
+        } else {
+            Ok(Built::Big)
+        }
+    }
+
+    // The instance, if there is one.
+    #[cycle(instance)]
+    fn instance<P: Places>(
+        &self,
+        alloc: Global,
+        places: &P,
+        pattern: &'t Place,
+    ) -> Result<Option<Value<'t>>, NoMemory>
+        ensures { IfOk result (λ value. value ≡ build_place pattern.now (P.places places.now) self.now.bindings) }
+    {
+        match pattern.form() {
+            PlaceForm::Wildcard => Ok(None),
+            PlaceForm::Variable(x) => match self.bound(places, *x) {
+                None => Ok(None),
+                Some(value) => Ok(Some(value.try_clone()?)),
+            },
+            PlaceForm::At(_, _) => Ok(None),
+            PlaceForm::Integer(number) => Ok(Some(Value::leaf(Kind::Integer(*number)))),
+            PlaceForm::Compound(head, parts) => self.compound(alloc, places, kind_of(head), parts),
+            PlaceForm::WithTail(parts, tail) => {
+                let Some(behind) = self.instance(alloc, places, tail)? else {
+                    return Ok(None);
+                };
+                if !is_list(&behind) {
+                    return Ok(None);
+                }
+                self.in_front(alloc, places, parts, &behind)
+            }
+            PlaceForm::Annotated(inner, notes) => {
+                let Some(value) = self.instance(alloc, places, inner)? else {
+                    return Ok(None);
+                };
+                match self.instances(alloc, places, notes)? {
+                    None => Ok(None),
+                    Some(notes) => Ok(Some(value.with_annotations(alloc, notes)?)),
+                }
+            }
+        }
+    }
+
+    // A node over the instances of these patterns.
+    #[cycle(instance)]
+    fn compound<P: Places>(
+        &self,
+        alloc: Global,
+        places: &P,
+        kind: Kind<'t>,
+        parts: &'t [Place],
+    ) -> Result<Option<Value<'t>>, NoMemory>
+        ensures { IfOk result (λ value. value
+            ≡ option_map (λ us. made_of kind.entry us []) (build_places (places_of parts.now) (P.places places.now) self.now.bindings)) }
+    {
+        if parts.len() == 1 {
+            return match self.instance(alloc, places, &parts[0])? {
+                None => Ok(None),
+                Some(child) => Ok(Some(Value::one(alloc, kind, child)?)),
+            };
+        }
+        if parts.len() == 2 {
+            let Some(first) = self.instance(alloc, places, &parts[0])? else {
+                return Ok(None);
+            };
+            return match self.instance(alloc, places, &parts[1])? {
+                None => Ok(None),
+                Some(second) => Ok(Some(Value::two(alloc, kind, first, second)?)),
+            };
+        }
+        match self.instances(alloc, places, parts)? {
+            None => Ok(None),
+            Some(children) => Ok(Some(Value::build(alloc, kind, children)?)),
+        }
+    }
+
+    // The list of the instances of these patterns in front of the elements of a list.
+    #[cycle(instance)]
+    fn in_front<P: Places>(
+        &self,
+        alloc: Global,
+        places: &P,
+        parts: &'t [Place],
+        behind: &Value<'t>,
+    ) -> Result<Option<Value<'t>>, NoMemory>
+        ensures { IfOk result (λ value. value
+            ≡ option_map (λ us. list_term (us ++ children behind.now)) (build_places (places_of parts.now) (P.places places.now) self.now.bindings)) }
+    {
+        // more elements than a machine's number tells find no memory
+        let _count = behind
+            .child_count()
+            .checked_add(parts.len())
+            .ok_or(NoMemory)?;
+        if parts.len() == 1 {
+            return match self.instance(alloc, places, &parts[0])? {
+                None => Ok(None),
+                Some(first) => Ok(Some(Value::cons(alloc, first, behind)?)),
+            };
+        }
+        match self.instances(alloc, places, parts)? {
+            None => Ok(None),
+            Some(front) => Ok(Some(Value::join(alloc, front, behind)?)),
+        }
+    }
+
+    // The instances of these patterns, if each has one.
+    #[cycle(instance)]
+    fn instances<P: Places>(
+        &self,
+        alloc: Global,
+        places: &P,
+        parts: &'t [Place],
+    ) -> Result<Option<Vec<Value<'t>>>, NoMemory>
+        ensures { IfOk result (λ all. option_map (λ v. v.items) all
+            ≡ build_places (places_of parts.now) (P.places places.now) self.now.bindings) }
+    {
+        let mut all = Vec::with_capacity(alloc, parts.len())?;
+        for part in parts {
+            match self.instance(alloc, places, part)? {
+                None => return Ok(None),
+                Some(value) => all.push(value)?,
+            }
+        }
+        Ok(Some(all))
+    }
+
+    // Whether there is an instance.
+    #[cycle(has_instance)]
+    fn has_instance<P: Places>(&self, places: &P, pattern: &Place) -> bool
+        ensures { result ≡ is_some (build_place pattern.now (P.places places.now) self.now.bindings) }
+    {
+        match pattern.form() {
+            PlaceForm::Wildcard => false,
+            PlaceForm::Variable(x) => self.bound(places, *x).is_some(),
+            PlaceForm::At(_, _) => false,
+            PlaceForm::Integer(_) => true,
+            PlaceForm::Compound(_, parts) => self.have_instances(places, parts),
+            PlaceForm::WithTail(parts, tail) => {
+                self.have_instances(places, parts) && self.has_list(places, tail)
+            }
+            PlaceForm::Annotated(inner, notes) => {
+                self.has_instance(places, inner) && self.have_instances(places, notes)
+            }
+        }
+    }
+
+    // Whether there is an instance that is a list.
+    #[cycle(has_instance)]
+    fn has_list<P: Places>(&self, places: &P, pattern: &Place) -> bool
+        ensures { result ≡ is_some (option_and_then elements (build_place pattern.now (P.places places.now) self.now.bindings)) }
+    {
+        match pattern.form() {
+            PlaceForm::Wildcard => false,
+            PlaceForm::Variable(x) => match self.bound(places, *x) {
+                None => false,
+                Some(value) => is_list(value),
+            },
+            PlaceForm::At(_, _) => false,
+            PlaceForm::Integer(_) => false,
+            PlaceForm::Compound(head, parts) => {
+                matches!(head, Head::List) && self.have_instances(places, parts)
+            }
+            PlaceForm::WithTail(parts, tail) => {
+                self.have_instances(places, parts) && self.has_list(places, tail)
+            }
+            PlaceForm::Annotated(inner, notes) => {
+                self.has_list(places, inner) && self.have_instances(places, notes)
+            }
+        }
+    }
+
+    // Whether each of these patterns has an instance.
+    #[cycle(has_instance)]
+    fn have_instances<P: Places>(&self, places: &P, parts: &[Place]) -> bool
+        ensures { result ≡ is_some (build_places (places_of parts.now) (P.places places.now) self.now.bindings) }
+    {
+        for part in parts {
+            if !self.has_instance(places, part) {
+                return false;
+            }
+        }
+        true
+    }
+
+    // What a variable is bound to.
+    fn bound<P: Places>(&self, places: &P, variable: usize) -> Option<&Value<'t>>
+        ensures { option_copied result ≡ bound_to (P.places places.now) variable self.now.bindings }
+    {
+        match places.cell(variable) {
+            None => None,
+            Some(i) => self.get(i),
+        }
+    }
+
+    // Measures the terms of the pattern's variables that have at most `limit` nodes.
+    #[cycle(measure)]
+    fn measure<P: Places>(&mut self, places: &P, pattern: &Place, limit: u64)
+        ensures { self.new ≡ self.old }
+    {
+        match pattern.form() {
+            PlaceForm::Wildcard => {}
+            PlaceForm::Variable(x) => self.measure_variable(places, *x, limit),
+            PlaceForm::At(_, _) => {}
+            PlaceForm::Integer(_) => {}
+            PlaceForm::Compound(_, parts) => self.measure_all(places, parts, limit),
+            PlaceForm::WithTail(parts, tail) => {
+                self.measure_all(places, parts, limit);
+                self.measure(places, tail, limit);
+            }
+            PlaceForm::Annotated(inner, notes) => {
+                self.measure(places, inner, limit);
+                self.measure_all(places, notes, limit);
+            }
+        }
+    }
+
+    #[cycle(measure)]
+    fn measure_all<P: Places>(&mut self, places: &P, parts: &[Place], limit: u64)
+        ensures { self.new ≡ self.old }
+    {
+        for part in parts {
+            self.measure(places, part, limit);
+        }
+    }
+
+    fn measure_variable<P: Places>(&mut self, places: &P, variable: usize, limit: u64)
+        ensures { self.new ≡ self.old }
+    {
+        let Some(i) = places.cell(variable) else {
+            return;
+        };
+        if i >= self.cells.len() {
+            return;
+        }
+        if let Some(value) = &mut self.cells[i] {
+            let _small = value.measure(limit);
+        }
+    }
+}
+
+// What stands at the root of a node with this head.
+fn kind_of<'t>(head: &'t Head) -> Kind<'t>
+    ensures { (us : List Tree) → made_of result us [] ≡ branch (head_of head.now) (of_list us) none }
+{
+    match head {
+        Head::Application(name) => Kind::Application(name),
+        Head::List => Kind::List,
+        Head::Tuple => Kind::Tuple,
+    }
+}

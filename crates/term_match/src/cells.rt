@@ -1,0 +1,173 @@
+//! Cells for trees, which can go back to a mark.
+//!
+//! A trail names the cells that were filled, the oldest first. A mark is two numbers, and going back to
+//! it costs what was done since.
+
+ghost use Rattle.std.specs.Prelude.{◌≡◌, ◌≤◌, ◌<◌, ◌+◌, ◌-◌, [], ◌∷◌, ◌++◌, length, replicate, take, slice_get, slice_set, option_and_then, vec_len, vec_capacity, OnOk, OnErr, Some, None};
+ghost use Rattle.std.specs.Option.{option_copied};
+ghost use Rattle.term_match.specs.Marks.{emptied, kept, mark_of, Before, Stays, Grows};
+
+use std::alloc::Global;
+use std::marker::Model;
+use term_core::NoMemory;
+use term_values::Value;
+
+/// How many cells there are, and how many were filled.
+#[derive(Clone, Copy)]
+pub struct Mark {
+    pub count: usize,
+    pub filled: usize,
+}
+
+/// Cells, each empty or with a tree, and which of them were filled.
+#[derive(Drop)]
+pub struct Cells<'t> {
+    pub(crate) cells: Vec<Option<Value<'t>>>,
+    filled: Vec<usize>,
+}
+
+impl<'t> Model for Cells<'t> {
+    ghost use Rattle.term_match.specs.Contents.{Contents, contents_code};
+
+    ghost Value = { Contents };
+
+    ghost coded = { contents_code };
+
+    ghost view = { λ a. record { bindings = a.cells.items; filled = a.filled.items } };
+}
+
+impl<'t> Cells<'t> {
+    /// No cells. It takes no memory.
+    pub fn new(alloc: Global) -> Cells<'t>
+        ensures bindings { result.bindings ≡ [] }
+        ensures filled { result.filled ≡ [] }
+    {
+        Cells {
+            cells: Vec::new(alloc),
+            filled: Vec::new(alloc),
+        }
+    }
+
+    /// How many cells there are.
+    pub fn count(&self) -> usize
+        ensures { result ≡ length self.now.bindings }
+    {
+        self.cells.len()
+    }
+
+    /// What is in cell `i`, if there is such a cell and it isn't empty.
+    pub fn get(&self, i: usize) -> Option<&Value<'t>>
+        ensures { option_copied result ≡ option_and_then (λ o. o) (slice_get self.now.bindings i) }
+    {
+        if i >= self.cells.len() {
+            return None;
+        }
+        self.cells[i].as_ref()
+    }
+
+    /// The mark to go back to what there is now.
+    pub fn mark(&self) -> Mark
+        ensures result { result ≡ mark_of self.now }
+        ensures kept { kept self.now result ≡ self.now.bindings }
+    {
+        Mark {
+            count: self.cells.len(),
+            filled: self.filled.len(),
+        }
+    }
+
+    /// So many empty cells more.
+    pub fn open_cells(&mut self, count: usize) -> Result<(), NoMemory>
+        ensures ok { OnOk result (self.new.bindings ≡ self.old.bindings ++ replicate count None) }
+        ensures filled { self.new.filled ≡ self.old.filled }
+        ensures err { OnErr result (self.new ≡ self.old) }
+        ensures later { Before (mark_of self.old) (mark_of self.new) }
+        ensures stays { Stays (mark_of self.old) self.old self.new }
+    {
+        self.cells.reserve(count)?;
+        add_empty(&mut self.cells, count);
+        Ok(())
+    }
+
+    /// One cell more, which holds the value. It doesn't count as one that was filled.
+    pub fn open_with(&mut self, value: Value<'t>) -> Result<(), NoMemory>
+        ensures ok { OnOk result (self.new.bindings ≡ self.old.bindings ++ Some value.entry ∷ []) }
+        ensures filled { self.new.filled ≡ self.old.filled }
+        ensures err { OnErr result (self.new ≡ self.old) }
+        ensures later { Before (mark_of self.old) (mark_of self.new) }
+        ensures stays { Stays (mark_of self.old) self.old self.new }
+    {
+        self.cells.push(Some(value))?;
+        Ok(())
+    }
+
+    /// Takes the last `count` cells away.
+    pub fn close_cells(&mut self, count: usize)
+        requires { count ≤ length self.old.bindings }
+        ensures cells { self.new.bindings ≡ take (length self.old.bindings - count) self.old.bindings }
+        ensures filled { self.new.filled ≡ self.old.filled }
+        ensures later { Before (record { count = length self.old.bindings - count; filled = length self.old.filled }) (mark_of self.new) }
+        ensures stays { Stays (record { count = length self.old.bindings - count; filled = length self.old.filled }) self.old self.new }
+    {
+        let left = self.cells.len() - count;
+        self.close_to(left);
+    }
+
+    /// Keeps the first `count` cells.
+    pub fn close_to(&mut self, count: usize)
+        requires { count ≤ length self.old.bindings }
+        ensures cells { self.new.bindings ≡ take count self.old.bindings }
+        ensures filled { self.new.filled ≡ self.old.filled }
+        ensures later { Before (record { count = count; filled = length self.old.filled }) (mark_of self.new) }
+        ensures stays { Stays (record { count = count; filled = length self.old.filled }) self.old self.new }
+    {
+        self.cells.truncate(count);
+    }
+
+    /// Goes back to a mark: cells that were opened since are taken away, and those that were filled
+    /// since are emptied.
+    pub fn back_to(&mut self, mark: Mark)
+        requires { Before mark (mark_of self.old) }
+        ensures cells { self.new.bindings ≡ kept self.old mark }
+        ensures filled { self.new.filled ≡ take mark.filled self.old.filled }
+        ensures mark { mark_of self.new ≡ mark }
+        ensures stays { Stays mark self.old self.new }
+    {
+        self.cells.truncate(mark.count);
+        let since = &self.filled[mark.filled..];
+        empty_all(&mut self.cells, since);
+        self.filled.truncate(mark.filled);
+    }
+
+    /// Fills an empty cell.
+    pub(crate) fn fill(&mut self, i: usize, value: Value<'t>) -> Result<(), NoMemory>
+        requires { slice_get self.old.bindings i ≡ Some None }
+        ensures ok { OnOk result (self.new.bindings ≡ slice_set self.old.bindings i (Some value.entry)) }
+        ensures grows { Grows self.old self.new }
+    {
+        self.filled.push(i)?;
+        self.cells[i] = Some(value);
+        Ok(())
+    }
+}
+
+// Adds so many empty cells, for which there is room.
+fn add_empty(cells: &mut Vec<Option<Value<'_>>>, count: usize)
+    requires { vec_len cells.old + count ≤ vec_capacity cells.old }
+    ensures { cells.new.items ≡ cells.old.items ++ replicate count None }
+{
+    for _ in 0..count {
+        cells.push_reserved(None);
+    }
+}
+
+// Empties the cells with these numbers.
+fn empty_all(cells: &mut [Option<Value<'_>>], numbers: &[usize])
+    ensures { cells.new ≡ emptied numbers.now cells.old }
+{
+    for i in numbers {
+        if *i < cells.len() {
+            cells[*i] = None;
+        }
+    }
+}

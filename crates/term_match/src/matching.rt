@@ -1,0 +1,212 @@
+//! Matching a pattern with a tree.
+
+ghost use Rattle.std.specs.Prelude.{◌≡◌, ◌≤◌, length, take, drop, cond, true, false, IfOk, OnErr, Some, None};
+ghost use Rattle.term_core.specs.Tree.{children, annotations, list_term};
+ghost use Rattle.strategy_syntax.specs.Resolved.{places_of};
+ghost use Rattle.strategy_meaning.specs.Matching.{match_place, match_places, bind, elements, is_integer, is_headed};
+ghost use Rattle.term_match.specs.Marks.{mark_of, Before, Stays, Grows};
+
+use crate::cells::Cells;
+use crate::variables::Places;
+use std::alloc::Global;
+use strategy_syntax::{Head, Place, PlaceForm};
+use term_core::{Kind, NoMemory};
+use term_values::Value;
+
+impl<'t> Cells<'t> {
+    /// Whether the pattern matches the value. Where it does, variables that had none have their terms;
+    /// where it doesn't, or memory is refused, the cells are as before. Terms are bound without a copy.
+    pub fn matches<P: Places>(
+        &mut self,
+        alloc: Global,
+        places: &P,
+        pattern: &Place,
+        value: &Value<'t>,
+    ) -> Result<bool, NoMemory>
+        ensures ok { IfOk result (λ yes. match_place pattern.now value.now (P.places places.now) self.old.bindings
+            ≡ cond yes (Some self.new.bindings) None) }
+        ensures no { IfOk result (λ yes. yes ≡ false → self.new ≡ self.old) }
+        ensures err { OnErr result (self.new ≡ self.old) }
+        ensures later { Before (mark_of self.old) (mark_of self.new) }
+        ensures stays { Stays (mark_of self.old) self.old self.new }
+    {
+        let mark = self.mark();
+        match self.match_part(alloc, places, pattern, value) {
+            Ok(true) => Ok(true),
+            Ok(false) => {
+                self.back_to(mark);
+                Ok(false)
+            }
+            Err(refused) => {
+                self.back_to(mark);
+                Err(refused)
+            }
+        }
+    }
+
+    // The same, but where it doesn't match, some variables may have got terms.
+    #[cycle(match_part)]
+    fn match_part<P: Places>(
+        &mut self,
+        alloc: Global,
+        places: &P,
+        pattern: &Place,
+        value: &Value<'t>,
+    ) -> Result<bool, NoMemory>
+        ensures ok { IfOk result (λ yes. match_place pattern.now value.now (P.places places.now) self.old.bindings
+            ≡ cond yes (Some self.new.bindings) None) }
+        ensures grows { Grows self.old self.new }
+    {
+        match pattern.form() {
+            PlaceForm::Wildcard => Ok(true),
+            PlaceForm::Variable(x) => self.bind(places, *x, value),
+            PlaceForm::At(x, inner) => {
+                if !self.bind(places, *x, value)? {
+                    return Ok(false);
+                }
+                self.match_part(alloc, places, inner, value)
+            }
+            PlaceForm::Integer(number) => Ok(is_integer(*number, value)),
+            PlaceForm::Compound(head, parts) => {
+                if !head.is_head_of(value.kind()) {
+                    return Ok(false);
+                }
+                if value.child_count() != parts.len() {
+                    return Ok(false);
+                }
+                self.match_children(alloc, places, parts, value)
+            }
+            PlaceForm::WithTail(parts, tail) => {
+                if !is_list(value) {
+                    return Ok(false);
+                }
+                if value.child_count() < parts.len() {
+                    return Ok(false);
+                }
+                if !self.match_children(alloc, places, parts, value)? {
+                    return Ok(false);
+                }
+                self.match_rest(alloc, places, tail, value, parts.len())
+            }
+            PlaceForm::Annotated(inner, notes) => {
+                let bare = value.bare()?;
+                if !self.match_part(alloc, places, inner, &bare)? {
+                    return Ok(false);
+                }
+                self.match_notes(alloc, places, notes, value)
+            }
+        }
+    }
+
+    // Matches the list of the children behind the first ones, without annotations.
+    #[cycle(match_part)]
+    fn match_rest<P: Places>(
+        &mut self,
+        alloc: Global,
+        places: &P,
+        pattern: &Place,
+        value: &Value<'t>,
+        skipped: usize,
+    ) -> Result<bool, NoMemory>
+        requires { skipped ≤ length (children value.now) }
+        ensures ok { IfOk result (λ yes. match_place pattern.now (list_term (drop skipped (children value.now)))
+            (P.places places.now) self.old.bindings ≡ cond yes (Some self.new.bindings) None) }
+        ensures grows { Grows self.old self.new }
+    {
+        let rest = value.rest(alloc, skipped)?;
+        self.match_part(alloc, places, pattern, &rest)
+    }
+
+    // Matches the first children, one with each pattern.
+    #[cycle(match_part)]
+    fn match_children<P: Places>(
+        &mut self,
+        alloc: Global,
+        places: &P,
+        patterns: &[Place],
+        value: &Value<'t>,
+    ) -> Result<bool, NoMemory>
+        ensures ok { IfOk result (λ yes. match_places (places_of patterns.now) (take (length patterns.now) (children value.now))
+            (P.places places.now) self.old.bindings ≡ cond yes (Some self.new.bindings) None) }
+        ensures grows { Grows self.old self.new }
+    {
+        for i in 0..patterns.len() {
+            let Some(child) = value.child(i)? else {
+                return Ok(false);
+            };
+            if !self.match_part(alloc, places, &patterns[i], &child)? {
+                return Ok(false);
+            }
+        }
+        Ok(true)
+    }
+
+    // Matches all annotations, one with each pattern.
+    #[cycle(match_part)]
+    fn match_notes<P: Places>(
+        &mut self,
+        alloc: Global,
+        places: &P,
+        patterns: &[Place],
+        value: &Value<'t>,
+    ) -> Result<bool, NoMemory>
+        ensures ok { IfOk result (λ yes. match_places (places_of patterns.now) (annotations value.now)
+            (P.places places.now) self.old.bindings ≡ cond yes (Some self.new.bindings) None) }
+        ensures grows { Grows self.old self.new }
+    {
+        if value.annotation_count() != patterns.len() {
+            return Ok(false);
+        }
+        let notes = value.share_annotations(alloc)?;
+        for i in 0..patterns.len() {
+            if !self.match_part(alloc, places, &patterns[i], &notes[i])? {
+                return Ok(false);
+            }
+        }
+        Ok(true)
+    }
+
+    // Gives a variable the term, or finds the same with it.
+    fn bind<P: Places>(
+        &mut self,
+        places: &P,
+        variable: usize,
+        value: &Value<'t>,
+    ) -> Result<bool, NoMemory>
+        ensures ok { IfOk result (λ yes. bind (P.places places.now) variable value.now self.old.bindings
+            ≡ cond yes (Some self.new.bindings) None) }
+        ensures grows { Grows self.old self.new }
+    {
+        let Some(i) = places.cell(variable) else {
+            return Ok(false);
+        };
+        if i >= self.cells.len() {
+            return Ok(false);
+        }
+        if let Some(bound) = self.get(i) {
+            return Ok(bound.equals(value));
+        }
+        self.fill(i, value.try_clone()?)?;
+        Ok(true)
+    }
+}
+
+// Whether the value is this integer, with whatever annotations.
+fn is_integer(number: i64, value: &Value<'_>) -> bool
+    ensures { result ≡ is_integer number value.now }
+{
+    match value.kind() {
+        Kind::Integer(same) => same == number,
+        _ => false,
+    }
+}
+
+/// Whether the value is a list, with whatever annotations.
+pub(crate) fn is_list(value: &Value<'_>) -> bool
+    ensures { elements value.now ≡ cond result (Some (children value.now)) None }
+{
+    match value.kind() {
+        Kind::List => true,
+        _ => false,
+    }
+}

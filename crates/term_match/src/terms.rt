@@ -1,0 +1,64 @@
+//! Matching and building over terms.
+
+ghost use Rattle.std.specs.Prelude.{◌≡◌, cond, false, IfOk, OnErr, Some, None};
+ghost use Rattle.strategy_meaning.specs.Matching.{match_place, build_place};
+ghost use Rattle.term_match.specs.Marks.{mark_of, Before, Stays};
+ghost use Rattle.term_match.specs.Building.{BuildsTerm};
+
+use crate::building::Built;
+use crate::cells::Cells;
+use crate::variables::Places;
+use std::alloc::Global;
+use strategy_syntax::Place;
+use term_core::{NoMemory, Term};
+use term_values::Value;
+
+/// The answer of a build, with a term of its own.
+#[derive(Drop)]
+pub enum BuiltTerm {
+    /// The instance.
+    Term(Term),
+    /// There is no instance.
+    Nothing,
+    /// The instance doesn't fit.
+    Big,
+}
+
+impl<'t> Cells<'t> {
+    /// `matches` for a term.
+    pub fn matches_term<P: Places>(
+        &mut self,
+        alloc: Global,
+        places: &P,
+        pattern: &Place,
+        term: &'t Term,
+    ) -> Result<bool, NoMemory>
+        ensures ok { IfOk result (λ yes. match_place pattern.now term.now (P.places places.now) self.old.bindings
+            ≡ cond yes (Some self.new.bindings) None) }
+        ensures no { IfOk result (λ yes. yes ≡ false → self.new ≡ self.old) }
+        ensures err { OnErr result (self.new ≡ self.old) }
+        ensures later { Before (mark_of self.old) (mark_of self.new) }
+        ensures stays { Stays (mark_of self.old) self.old self.new }
+    {
+        let value = Value::original(term);
+        self.matches(alloc, places, pattern, &value)
+    }
+
+    /// `build` with a term of its own.
+    pub fn build_term<P: Places>(
+        &mut self,
+        alloc: Global,
+        places: &P,
+        pattern: &'t Place,
+        level: u64,
+    ) -> Result<BuiltTerm, NoMemory>
+        ensures same { self.new ≡ self.old }
+        ensures ok { IfOk result (λ built. BuildsTerm (build_place pattern.now (P.places places.now) self.old.bindings) level built) }
+    {
+        match self.build(alloc, places, pattern, level)? {
+            Built::Value(value) => Ok(BuiltTerm::Term(value.to_term(alloc)?)),
+            Built::Nothing => Ok(BuiltTerm::Nothing),
+            Built::Big => Ok(BuiltTerm::Big),
+        }
+    }
+}
