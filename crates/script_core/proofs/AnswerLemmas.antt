@@ -1,5 +1,5 @@
 -- Lemmas on how one command is answered.
-use Rattle.std.proofs.Common.{◌≡◌, ◌≤◌, ◌<◌, ℕ, Bool, false, true, ◌||◌, List, ◌++◌, codes, Some, None, Ok, Err, IfErr, Result, ok_or, option_map, ◌⊎◌, inl, inr, refl, sym, ap, ◌∙◌, subst, arith, if◌then◌else◌}
+use Rattle.std.proofs.Common.{◌≡◌, ◌≤◌, ◌<◌, ℕ, Bool, false, true, ◌||◌, List, ◌++◌, codes, Some, None, Ok, Err, IfErr, OnOk, is_none, Result, ok_or, option_map, ◌⊎◌, inl, inr, refl, sym, ap, ◌∙◌, subst, arith, if◌then◌else◌}
 use Rattle.std.specs.declared.option.Option.{Option}
 use Rattle.std.specs.Cmp.Lexicographic.{same_text}
 use Rattle.std.specs.Result.{MatchResult}
@@ -8,21 +8,23 @@ use Rattle.aterm_text.specs.declared.reader.ReadFault.{ReadFault}
 use Rattle.aterm_text.specs.declared.reader.ReadFault.TheVariants.{Deep as DeepText, Term as NoTerm, Memory as NoMemory}
 use Rattle.aterm_text.specs.Nesting.{nesting}
 use Rattle.session_core.specs.History.{Group, History, undone, redone}
-use Rattle.session_core.specs.Step.{with_place, outside, inside, Commits}
+use Rattle.session_core.specs.Step.{Outcome, Passing, Holding, Given, Leaves, Place}
 use Rattle.session_core.specs.declared.refusal.Refusal.{Refusal}
-use Rattle.session_core.specs.declared.refusal.Refusal.TheVariants.{Memory, NoUndo, NoRedo}
-use Rattle.script_core.specs.Machine.{Reply, ReadAs, AtPlace, done, given_to, ok_with}
+use Rattle.session_core.specs.declared.refusal.Refusal.TheVariants.{Memory, NoUndo, NoRedo, Group as InGroup, NoGroup}
+use Rattle.script_core.specs.Machine.{Reply, ReadAs, Told, done, ok_with}
 use Rattle.script_core.specs.Handed.{Handed, text as handed_text, long}
-use Rattle.script_core.specs.Form.{Form, undo, redo, begin, commit, abandon, checked, form_with, is_same, last_steps, has_word, first_word, behind_word, takes_no_memory, takes_no_memory_with}
+use Rattle.script_core.specs.Form.{Form, is_without_memory, undo, redo, begin, abandon, checked, form_with, is_same, last_steps, has_word, front_word, behind_word, takes_no_memory, takes_no_memory_with}
+use Rattle.script_core.specs.declared.command.Command.{Command}
+use Rattle.script_core.specs.CommandView.{form}
 use Rattle.script_core.specs.Script.{without_end}
 use Rattle.aterm_text.specs.Tokens.{is_blank}
 use Rattle.script_core.specs.Machine.{Replies, ReplyTo, refused, line}
-use Rattle.script_core.specs.Answer.{Refuses, Answered, takes_none, refusal_of, is_fault}
+use Rattle.script_core.specs.Answer.{Accepts, Refuses, Answered, ReplyInRun, takes_none, reading_refusal, is_fault}
 
 -- ---- texts that are read
 
 pub read_refused : {X : Type 0} (Spelled : List ℕ → X → Type 0) (text : List ℕ) (fault : ReadFault) → (fault ≡ DeepText → MAX_NESTING < nesting text) →
-    (MAX_NESTING < nesting text → fault ≡ DeepText) → (fault ≡ NoTerm → (x : X) → Spelled text x → ⊥) → (refusal_of fault ≡ Memory) ⊎ ReadAs Spelled text (Err (refusal_of fault))
+    (MAX_NESTING < nesting text → fault ≡ DeepText) → (fault ≡ NoTerm → (x : X) → Spelled text x → ⊥) → (reading_refusal fault ≡ Memory) ⊎ ReadAs Spelled text (Err (reading_refusal fault))
 read_refused Spelled text DeepText deep only none = inr (inl (refl, deep refl))
 read_refused Spelled text NoTerm deep only none = inr (inr (refl, shallow, none refl))
   where
@@ -33,29 +35,80 @@ read_refused Spelled text NoTerm deep only none = inr (inr (refl, shallow, none 
     shallow = omega (arith, not_deep)
 read_refused Spelled text NoMemory deep only none = inl refl
 
--- ---- a place that has to be there
+-- ---- acts that are answered `ok`
 
-module _ {X : Type 0} (Spelled : List ℕ → X → Type 0) (name path text : List ℕ) (next : X → Result History Refusal) (h : History) (there : with_place h name path (λ _. Ok h) ≡ Ok h) where
-  at_place : (given : Result X Refusal) (reply : Reply) → ReadAs Spelled text given → reply ≡ done (given_to given next) → AtPlace Spelled name path text next h reply
-  at_place given reply r e =
-      subst (λ (place : Result History Refusal). MatchResult place (λ _. (g : Result X Refusal) × ReadAs Spelled text g × (reply ≡ done (given_to g next))) (λ refusal. reply ≡ Err refusal)) (sym there)
-      (given, r, e)
+-- an act's outcome that is told
+pub told_ok : {T : Type 0} (Comes : Outcome → Type 0) (r : Result T Refusal) (new : History) → OnOk r (Comes (Ok new)) → OnOk r (Told Comes (Ok (ok_with new)))
+told_ok Comes (Ok x) new p = (Ok new, p, refl)
+told_ok Comes (Err refusal) new p = tt
 
-  pub placed_ok : (x : X) (new : History) → ReadAs Spelled text (Ok x) → next x ≡ Ok new → AtPlace Spelled name path text next h (Ok (ok_with new))
-  placed_ok x new r e = at_place (Ok x) _ r (ap done (sym e))
+pub told_refused : {T : Type 0} (Comes : Outcome → Type 0) (none : Bool) (r : Result T Refusal) → none ≡ false → IfErr r (λ refusal. (refusal ≡ Memory) ⊎ Comes (Err refusal)) → IfErr r (Refuses (Told Comes) none)
+told_refused Comes none (Ok x) may p = tt
+told_refused Comes none (Err refusal) may (inl memory) = inl (memory, may)
+told_refused Comes none (Err refusal) may (inr comes) = inr (Err refusal, comes, refl)
 
-  pub placed_unread : (refusal : Refusal) → (refusal ≡ Memory) ⊎ ReadAs Spelled text (Err refusal) → Refuses (AtPlace Spelled name path text next h) false refusal
-  placed_unread refusal (inl memory) = inl (memory, refl)
-  placed_unread refusal (inr unread) = inr (at_place (Err refusal) _ unread refl)
+pub told_surely_refused : {T : Type 0} (Comes : Outcome → Type 0) (none : Bool) (r : Result T Refusal) → IfErr r (λ refusal. Comes (Err refusal)) → IfErr r (Refuses (Told Comes) none)
+told_surely_refused Comes none (Ok x) p = tt
+told_surely_refused Comes none (Err refusal) comes = inr (Err refusal, comes, refl)
 
-  pub placed_refused : (x : X) (refusal : Refusal) → ReadAs Spelled text (Ok x) → (refusal ≡ Memory) ⊎ (next x ≡ Err refusal) → Refuses (AtPlace Spelled name path text next h) false refusal
-  placed_refused x refusal r (inl memory) = inl (memory, refl)
-  placed_refused x refusal r (inr e) = inr (at_place (Ok x) _ r (ap done (sym e)))
+-- one with what a text gives
+module _ {X : Type 0} (Gives : Result X Refusal → Type 0) (next : X → Outcome → Type 0) where
+  pub unread : (refusal : Refusal) → (refusal ≡ Memory) ⊎ Gives (Err refusal) → Refuses (Told (Given Gives next)) false refusal
+  unread refusal (inl memory) = inl (memory, refl)
+  unread refusal (inr gives) = inr (Err refusal, (Err refusal, gives, refl), refl)
 
-pub commit_refused : {T : Type 0} (h : History) (outcome : Result T Refusal) → IfErr outcome (λ refusal. (refusal ≡ Memory) ⊎ Commits h (Err refusal)) → IfErr outcome (Refuses (Replies commit h) false)
-commit_refused h (Ok done) p = p
-commit_refused h (Err refusal) (inl memory) = inl (memory, refl)
-commit_refused h (Err refusal) (inr commits) = inr (Err refusal, commits, refl)
+  pub read_ok : {T : Type 0} (r : Result T Refusal) (x : X) (new : History) → Gives (Ok x) → OnOk r (next x (Ok new)) → OnOk r (Told (Given Gives next) (Ok (ok_with new)))
+  read_ok (Ok y) x new gives p = (Ok new, (Ok x, gives, p), refl)
+  read_ok (Err refusal) x new gives p = tt
+
+  pub read_then_refused : {T : Type 0} (r : Result T Refusal) (x : X) → Gives (Ok x) → IfErr r (λ refusal. (refusal ≡ Memory) ⊎ next x (Err refusal)) → IfErr r (Refuses (Told (Given Gives next)) false)
+  read_then_refused (Ok y) x gives p = tt
+  read_then_refused (Err refusal) x gives (inl memory) = inl (memory, refl)
+  read_then_refused (Err refusal) x gives (inr p) = inr (Err refusal, (Ok x, gives, p), refl)
+
+-- one at a place with what a text gives
+module _ {X : Type 0} (test : Result Place Refusal) (Gives : Result X Refusal → Type 0) (next : Place → X → Outcome → Type 0) where
+  abbrev AtPlace : Outcome → Type 0
+  AtPlace = Passing test (λ place. Given Gives (next place))
+
+  pub nowhere : (refusal : Refusal) → test ≡ Err refusal → Refuses (Told AtPlace) false refusal
+  nowhere refusal none = inr (Err refusal, subst (λ (t : Result Place Refusal). Passing t (λ place. Given Gives (next place)) (Err refusal)) (sym none) refl, refl)
+
+  module _ (place : Place) (there : test ≡ Ok place) where
+    at_place : (given : Result X Refusal) (outcome : Outcome) → Gives given → Passing given (next place) outcome → AtPlace outcome
+    at_place given outcome gives p = subst (λ (t : Result Place Refusal). Passing t (λ place. Given Gives (next place)) outcome) (sym there) (given, gives, p)
+
+    found : (x : X) (outcome : Outcome) → Passing test (λ place. next place x) outcome → next place x outcome
+    found x outcome p = subst (λ (t : Result Place Refusal). Passing t (λ place. next place x) outcome) there p
+
+    pub placed_ok : {T : Type 0} (r : Result T Refusal) (x : X) (new : History) → Gives (Ok x) → OnOk r (Passing test (λ place. next place x) (Ok new)) → OnOk r (Told AtPlace (Ok (ok_with new)))
+    placed_ok (Ok y) x new gives p = (Ok new, at_place (Ok x) (Ok new) gives (found x (Ok new) p), refl)
+    placed_ok (Err refusal) x new gives p = tt
+
+    pub placed_unread : (refusal : Refusal) → (refusal ≡ Memory) ⊎ Gives (Err refusal) → Refuses (Told AtPlace) false refusal
+    placed_unread refusal (inl memory) = inl (memory, refl)
+    placed_unread refusal (inr gives) = inr (Err refusal, at_place (Err refusal) (Err refusal) gives refl, refl)
+
+    pub placed_refused : {T : Type 0} (r : Result T Refusal) (x : X) → Gives (Ok x) → IfErr r (λ refusal. (refusal ≡ Memory) ⊎ Passing test (λ place. next place x) (Err refusal)) → IfErr r (Refuses (Told AtPlace) false)
+    placed_refused (Ok y) x gives p = tt
+    placed_refused (Err refusal) x gives (inl memory) = inl (memory, refl)
+    placed_refused (Err refusal) x gives (inr p) = inr (Err refusal, at_place (Ok x) (Err refusal) gives (found x (Err refusal) p), refl)
+
+-- a command whose outcome is told
+module _ (command known : Command) (h : History) (r outcome : Result (Unit {0}) Refusal) (is : command ≡ known) (same : r ≡ outcome) where
+  pub performed_ok : (new : History) (before after : List ℕ) → OnOk outcome (Replies (form known) h (Ok (ok_with new))) → OnOk r (after ≡ before ++ line (codes "ok")) → OnOk r (Accepts (Replies (form command) h) new before after)
+  performed_ok new before after ok text =
+      subst (λ (c : Command). OnOk r (Accepts (Replies (form c) h) new before after)) (sym is)
+      (by r (subst (λ (x : Result (Unit {0}) Refusal). OnOk x (Replies (form known) h (Ok (ok_with new)))) (sym same) ok) text)
+    where
+      by : (r : Result (Unit {0}) Refusal) → OnOk r (Replies (form known) h (Ok (ok_with new))) → OnOk r (after ≡ before ++ line (codes "ok")) → OnOk r (Accepts (Replies (form known) h) new before after)
+      by (Ok x) ok text = record { text = line (codes "ok"); reply = ok; answer = text }
+      by (Err refusal) ok text = tt
+
+  pub performed_refused : IfErr outcome (Refuses (Replies (form known) h) (is_without_memory (form known))) → IfErr r (Refuses (Replies (form command) h) (is_without_memory (form command)))
+  performed_refused refused =
+      subst (λ (c : Command). IfErr r (Refuses (Replies (form c) h) (is_without_memory (form c)))) (sym is)
+      (subst (λ (x : Result (Unit {0}) Refusal). IfErr x (Refuses (Replies (form known) h) (is_without_memory (form known)))) (sym same) refused)
 
 pub if_err_weaker : {T E : Type 0} {P Q : E → Type 0} (r : Result T E) → ((d : E) → P d → Q d) → IfErr r P → IfErr r Q
 if_err_weaker (Ok x) f p = p
@@ -65,7 +118,7 @@ if_err_weaker (Err d) f p = f d p
 
 -- a command that is refused
 pub answered_refused : (steps : ℕ) (command : Handed) (h g : History) (before after : List ℕ) (refusal : Refusal) → Refuses (ReplyTo steps command h) (takes_none command) refusal →
-    g ≡ h → after ≡ before ++ line (refused refusal) → Answered steps command h g before after false
+    g ≡ h → after ≡ before ++ line (refused refusal) → Answered (ReplyInRun steps) command h g before after false
 answered_refused steps command h g before after refusal (inl memory) same text = record {
   flag = true;
   reply = Err refusal;
@@ -89,42 +142,45 @@ abbrev tells_fault : Reply → Bool
 tells_fault (Ok accepted) = false
 tells_fault (Err refusal) = is_fault refusal
 
-going : (group : Option Group) (o : Option History) (miss : Refusal) → is_fault miss ≡ false → tells_fault (done (outside group (ok_or o miss))) ≡ false
-going None None miss e = e
-going None (Some g) miss e = refl
-going (Some g) o miss e = refl
+same_told : (outcome known : Outcome) → outcome ≡ known → tells_fault (done known) ≡ false → tells_fault (done outcome) ≡ false
+same_told outcome known is e = ap (λ (o : Outcome). tells_fault (done o)) is ∙ e
 
-beginning : (group : Option Group) (h : History) → tells_fault (done (outside group (Ok h))) ≡ false
-beginning None h = refl
-beginning (Some g) h = refl
+going : (group : Option Group) (o : Option History) (miss : Refusal) → is_fault miss ≡ false → (outcome : Outcome) → Holding (is_none group) InGroup (Passing (ok_or o miss) Leaves) outcome → tells_fault (done outcome) ≡ false
+going None None miss e outcome p = same_told outcome (Err miss) p e
+going None (Some g) miss e outcome p = same_told outcome (Ok g) p refl
+going (Some g) o miss e outcome p = same_told outcome (Err InGroup) p refl
 
-leaving : (group : Option Group) (next : Group → History) → tells_fault (done (inside group (λ g. Ok (next g)))) ≡ false
-leaving None next = refl
-leaving (Some g) next = refl
+beginning : (group : Option Group) (h : History) (outcome : Outcome) → Holding (is_none group) InGroup (Leaves h) outcome → tells_fault (done outcome) ≡ false
+beginning None h outcome p = same_told outcome (Ok h) p refl
+beginning (Some g) h outcome p = same_told outcome (Err InGroup) p refl
 
-module _ (h : History) (reply : Reply) where
+leaving : (group : Option Group) (next : Group → History) (outcome : Outcome) → Passing (ok_or group NoGroup) (λ g. Leaves (next g)) outcome → tells_fault (done outcome) ≡ false
+leaving None next outcome p = same_told outcome (Err NoGroup) p refl
+leaving (Some g) next outcome p = same_told outcome (Ok (next g)) p refl
+
+module _ (steps : ℕ) (h : History) (reply : Reply) where
   abbrev Says : Option Form → Type 0
   Says form = MatchResult (checked form) (λ f. Replies f h reply) (λ refusal. reply ≡ Err refusal)
 
   undo_said : (o : Option ℕ) → Says (option_map undo o) → tells_fault reply ≡ false
   undo_said None m = ap tells_fault m
-  undo_said (Some n) m = ap tells_fault m ∙ going h.group (undone n h) NoUndo refl
+  undo_said (Some n) m = ap tells_fault m.2 ∙ going h.group (undone n h) NoUndo refl m.0 m.1
 
   redo_said : (o : Option ℕ) → Says (option_map redo o) → tells_fault reply ≡ false
   redo_said None m = ap tells_fault m
-  redo_said (Some n) m = ap tells_fault m ∙ going h.group (redone n h) NoRedo refl
+  redo_said (Some n) m = ap tells_fault m.2 ∙ going h.group (redone n h) NoRedo refl m.0 m.1
 
   begin_said : (b : Bool) → Says (if b then None else Some begin) → tells_fault reply ≡ false
   begin_said true m = ap tells_fault m
-  begin_said false m = ap tells_fault m ∙ beginning h.group _
+  begin_said false m = ap tells_fault m.2 ∙ beginning h.group (record h { group = Some (record { begun = h.now; changed = false }) }) m.0 m.1
 
   abandon_said : (b : Bool) → Says (if b then None else Some abandon) → tells_fault reply ≡ false
   abandon_said true m = ap tells_fault m
-  abandon_said false m = ap tells_fault m ∙ leaving h.group (λ g. record h { now = g.begun; group = None })
+  abandon_said false m = ap tells_fault m.2 ∙ leaving h.group (λ g. record h { now = g.begun; group = None }) m.0 m.1
 
-  module _ (keyword rest : List ℕ) (m : Says (form_with keyword rest)) where
-    said_as : (word : List ℕ) → true ≡ is_same keyword word → Says (form_with word rest)
-    said_as word e = let P : List ℕ → Type 0 = λ w. Says (form_with w rest) in subst P (same_text keyword word e) m
+  module _ (keyword rest : List ℕ) (m : Says (form_with steps keyword rest)) where
+    said_as : (word : List ℕ) → true ≡ is_same keyword word → Says (form_with steps word rest)
+    said_as word e = let P : List ℕ → Type 0 = λ w. Says (form_with steps w rest) in subst P (same_text keyword word e) m
 
     by_word : (a b c d : Bool) → a ≡ is_same keyword (codes "undo") → b ≡ is_same keyword (codes "redo") → c ≡ is_same keyword (codes "begin") → d ≡ is_same keyword (codes "abandon") →
         (a || b || c || d) ≡ true → tells_fault reply ≡ false
@@ -143,13 +199,13 @@ told_shortly steps (handed_text c) h refusal fault reply = at (takes_no_memory c
     at : (b : Bool) → takes_no_memory c ≡ b → takes_no_memory c ≡ false
     at false e = e
     at true e =
-        let short : is_fault refusal ≡ false = said_shortly h (Err refusal) (first_word (without_end is_blank c)) (behind_word (without_end is_blank c)) reply e in
+        let short : is_fault refusal ≡ false = said_shortly steps h (Err refusal) (front_word (without_end is_blank c)) (behind_word (without_end is_blank c)) reply e in
         absurd (cc)
 told_shortly steps long h refusal fault reply = let short : is_fault refusal ≡ false = ap tells_fault reply in absurd (cc)
 
 -- a fault for whose name there is no memory
 pub answered_wanting : (steps : ℕ) (command : Handed) (h g : History) (before after : List ℕ) (refusal : Refusal) → Refuses (ReplyTo steps command h) (takes_none command) refusal →
-    is_fault refusal ≡ true → g ≡ h → after ≡ before ++ line (refused Memory) → Answered steps command h g before after false
+    is_fault refusal ≡ true → g ≡ h → after ≡ before ++ line (refused Memory) → Answered (ReplyInRun steps) command h g before after false
 answered_wanting steps command h g before after refusal refuses fault same text = record {
   flag = true;
   reply = Err Memory;

@@ -5,6 +5,7 @@ use Rattle.session_core.specs.declared.refusal.Refusal.TheVariants.{Line, Name, 
 use Rattle.script_core.specs.Script.{commands, complete}
 use Rattle.script_core.specs.Handed.{handed}
 use Rattle.script_core.specs.Form.{tree, show, put, undo, command_of, takes_no_memory}
+use Rattle.script_core.specs.Answer.{ReplyInRun}
 use Rattle.script_core.specs.Run.{Replied}
 
 -- `a CR LF CR LF SPACE b CR` is one command of three lines; a last piece of CRs only is none
@@ -68,9 +69,9 @@ commit_may_not = refl
 -- ---- runs
 
 -- behind a refusal at which the run stops, nothing is replied
-stops_at_a_refusal : Replied (record { steps = 1; stop = true }) (handed (codes "undo 0" ++ 10 ∷ codes "trees")) (false ∷ []) (empty_history []) (Err Line ∷ [])
+stops_at_a_refusal : Replied true (ReplyInRun 1) (handed (codes "undo 0" ++ 10 ∷ codes "trees")) (false ∷ []) (empty_history []) (Err Line ∷ [])
 stops_at_a_refusal = (refl, (refl, refl))
 
 -- else the next command is replied to, at the same history; or memory was refused in it
-goes_on_without_memory : Replied (record { steps = 1; stop = false }) (handed (codes "undo 0" ++ 10 ∷ codes "trees")) (false ∷ (true ∷ [])) (empty_history []) (Err Line ∷ (Err Memory ∷ []))
+goes_on_without_memory : Replied false (ReplyInRun 1) (handed (codes "undo 0" ++ 10 ∷ codes "trees")) (false ∷ (true ∷ [])) (empty_history []) (Err Line ∷ (Err Memory ∷ []))
 goes_on_without_memory = (refl, ((refl, refl), tt))

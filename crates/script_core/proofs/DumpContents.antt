@@ -18,7 +18,7 @@ use Rattle.term_core.specs.Word.{label_of}
 use Rattle.term_core.specs.declared.TheConstants.{MAX_HEIGHT}
 use Rattle.strategy_syntax.specs.Modules.{Module}
 use Rattle.change_log.specs.Contents.{Named, Contents}
-use Rattle.session_core.specs.Modules.{ReadsModule, AreReadable}
+use Rattle.session_core.specs.Modules.{ReadsAsModule, AreReadable}
 use Rattle.session_core.specs.History.{AreLow}
 use Rattle.session_core.specs.Dump.{tree_line, module_line, module_lines, grouped, dumped, IsNamedTerm}
 use Rattle.session_core.proofs.MapLemmas.{R, later, earlier, tied, find_below, all_there}
@@ -76,7 +76,7 @@ pub record IsGiven (e : TreeEntry) : Type 0 where
 pub record IsTold (e : TextEntry) : Type 0 where
   pub label : label_of e.0 ≡ Some e.0
   pub text : IsCommandText e.1
-  pub reads : (m : Module) × ReadsModule e.1 (Ok m)
+  pub reads : (m : Module) × ReadsAsModule e.1 (Ok m)
 
 -- the modules by their entries, in a group where there are some
 abbrev pub group_text : List TextEntry → List ℕ
@@ -107,7 +107,7 @@ module _ (c : Contents) where
     record {
       label = n.0;
       text = subst (λ (o : Option (List ℕ)). IfSome o IsCommandText) h.0 (t e.0);
-      reads = subst (λ (o : Option (List ℕ)). IfSome o (λ text. (m : Module) × ReadsModule text (Ok m))) h.0 (s e.0);
+      reads = subst (λ (o : Option (List ℕ)). IfSome o (λ text. (m : Module) × ReadsAsModule text (Ok m))) h.0 (s e.0);
     },
     told es h.1 n.1 s t,
   )

@@ -1,8 +1,8 @@
 -- A dump reads back: its commands, their replies, and what they leave.
-use Rattle.std.proofs.Common.{◌≡◌, ◌≤◌, ◌+◌, ℕ, Bool, cond, true, false, ◌&&◌, List, [], ◌∷◌, ◌++◌, length, map, codes, Some, None, Ok, Err, Result, refl, sym, ap, ◌∙◌, subst, arith, append_assoc, if◌then◌else◌}
+use Rattle.std.proofs.Common.{◌≡◌, ◌≤◌, ◌+◌, ℕ, Bool, cond, true, false, ◌&&◌, List, [], ◌∷◌, ◌++◌, length, map, codes, Some, None, Ok, Err, Result, is_none, ok_or, refl, sym, ap, ◌∙◌, subst, arith, append_assoc, if◌then◌else◌}
 use Rattle.std.specs.Prelude.{is_ok, is_err, count_by}
 use Rattle.std.specs.Result.{MatchResult}
-use Rattle.std.specs.Option.{MatchOption, option_map_or}
+use Rattle.std.specs.Option.{option_map_or}
 use Rattle.std.specs.declared.option.Option.{Option}
 use Rattle.std.specs.List.{AllByRecursion, flat_map, repeat}
 use Rattle.std.specs.Cmp.Derive.{both_true}
@@ -16,21 +16,21 @@ use Rattle.term_core.specs.Size.{height, size, fits}
 use Rattle.term_core.specs.declared.TheConstants.{MAX_HEIGHT, MAX_SIZE}
 use Rattle.aterm_text.specs.Printed.{print}
 use Rattle.aterm_text.specs.Laws.{PrintedTextReadsBack, PrintedTextIsOneLine, PrintedTextNests, PrintedTextIsAsLong}
-use Rattle.strategy_check.specs.Faults.{Fault, Primitives}
+use Rattle.strategy_check.specs.Faults.{Fault, Primitives, faults, first}
+use Rattle.strategy_check.specs.Programs.{Program, program}
 use Rattle.change_log.specs.Contents.{Contents, with_tree, with_module}
-use Rattle.session_core.specs.Modules.{Finds}
+use Rattle.session_core.specs.Modules.{Texts, Finds, GivesProgram, Checks}
 use Rattle.session_core.specs.History.{Group, History, changed, stepped}
-use Rattle.session_core.specs.Step.{retold, committed, outside, unless, Becomes}
+use Rattle.session_core.specs.Step.{Passing, Holding, Given, Leaves, ChangesTo, ChangesModules, committed}
 use Rattle.session_core.specs.Dump.{tree_line, module_line, dumped}
 use Rattle.session_core.specs.declared.refusal.Refusal.{Refusal}
-use Rattle.session_core.specs.declared.refusal.Refusal.TheVariants.{Big, NoGroup}
+use Rattle.session_core.specs.declared.refusal.Refusal.TheVariants.{Big, Group as InGroup, NoGroup}
 use Rattle.script_core.specs.declared.TheConstants.{MAX_COMMAND}
 use Rattle.script_core.specs.Script.{commands}
 use Rattle.script_core.specs.Form.{Form, tree, set_module, begin, commit, command_of}
 use Rattle.script_core.specs.Handed.{Handed, text, long, handed_as, handed}
-use Rattle.script_core.specs.Machine.{Reply, line, ok_with, done, Replies, ReplyTo, history_after}
+use Rattle.script_core.specs.Machine.{Reply, line, ok_with, Replies, ReplyTo, history_after}
 use Rattle.script_core.specs.Answer.{ReplyInRun}
-use Rattle.script_core.specs.declared.running.Settings.{Settings}
 use Rattle.script_core.specs.Run.{Replied, history_after_all, out}
 use Rattle.script_core.specs.Laws.{OneRun, CanBeGiven, IsBare, AreClear, DumpReadsBack, DumpIsAnswered}
 use Rattle.script_core.proofs.DumpText.{tree_command, module_command, IsDumped, IsWhole, script_of, cut-script, command-is, module_command-is, tree_whole, module_whole, begin_whole, commit_whole}
@@ -66,7 +66,7 @@ inside-changed c h g some =
 -- what the trees leave, one after another
 abbrev trees_after : History → List TreeEntry → History
 trees_after h [] = h
-trees_after h (e ∷ es) = trees_after (retold h e.0 e.1) es
+trees_after h (e ∷ es) = trees_after (changed (with_tree h.now e.0 e.1) h) es
 
 record HasTrees (es : List TreeEntry) (h g : History) : Type 0 where
   now : g.now ≡ record h.now { trees = inserted h.now.trees es }
@@ -113,6 +113,14 @@ now-committed g h = at g.changed
     at : (b : Bool) → (if b then record (stepped g.begun h) { group = None } else record h { group = None }).now ≡ h.now
     at true = refl
     at false = refl
+
+-- where the checker finds no fault, there is a program
+gives : (primitives : Primitives) (texts : Texts) → Finds primitives texts None → (p : Program) × GivesProgram primitives texts p
+gives primitives texts finds = (program finds.modules primitives, record { modules = finds.modules; are = finds.are; faultless = no_fault (faults finds.modules primitives) finds.fault; given = refl })
+  where
+    no_fault : (fs : List Fault) → None ≡ first fs → fs ≡ []
+    no_fault [] e = refl
+    no_fault (f ∷ fs) e = absurd (cc)
 
 -- ---- commands that are answered `ok`
 
@@ -173,10 +181,17 @@ module _ (steps : ℕ) where
         let within : size e.1 ≤ length (tree_command e.0 (print e.1)) = omega (arith, lengthy e.1 g.term, length-append (codes "tree ") (e.0 ++ 32 ∷ print e.1), length-append e.0 (32 ∷ print e.1)) in
         both_true (le-leb (0 + height e.1) MAX_HEIGHT (omega (arith, g.low))) (le-leb (size e.1) MAX_SIZE (omega (arith, within, short)))
 
-    tree_said : (e : TreeEntry) → IsGiven e → IsShort (tree_command e.0 (print e.1)) → (h : History) → ReplyTo steps (text (tree_command e.0 (print e.1))) h (Ok (ok_with (retold h e.0 e.1)))
+    tree_said : (e : TreeEntry) → IsGiven e → IsShort (tree_command e.0 (print e.1)) → (h : History) → ReplyTo steps (text (tree_command e.0 (print e.1))) h (Ok (ok_with (changed (with_tree h.now e.0 e.1) h)))
     tree_said e g short h =
-        said (tree_command e.0 (print e.1)) (tree e.0 (print e.1)) h (Ok (ok_with (retold h e.0 e.1))) (command-is steps e.0 (print e.1) (is_dumped e g))
-        (Ok e.1, (omega (arith, nests e.1 g.term, g.low), back e.1 g.term), sym (ap (λ (b : Bool). done (if b then Ok (retold h e.0 e.1) else Err Big)) (fits-given e g short)))
+        said (tree_command e.0 (print e.1)) (tree e.0 (print e.1)) h (Ok (ok_with (changed (with_tree h.now e.0 e.1) h))) (command-is steps e.0 (print e.1) (is_dumped e g)) (
+          Ok (changed (with_tree h.now e.0 e.1) h),
+          (
+            Ok e.1,
+            (omega (arith, nests e.1 g.term, g.low), back e.1 g.term),
+            subst (λ (b : Bool). Holding b Big (ChangesTo (with_tree h.now e.0 e.1) h) (Ok (changed (with_tree h.now e.0 e.1) h))) (sym (fits-given e g short)) refl,
+          ),
+          refl,
+        )
 
     -- the commands of the trees
     abbrev tree_commands : List TreeEntry → List (List ℕ)
@@ -184,7 +199,7 @@ module _ (steps : ℕ) where
 
     trees_said : (es : List TreeEntry) → AllByRecursion IsGiven es → AllByRecursion IsShort (tree_commands es) → (h : History) → Oks (tree_commands es) h (trees_after h es)
     trees_said [] g short h = refl
-    trees_said (e ∷ es) g short h = (retold h e.0 e.1, tree_said e g.0 short.0 h, trees_said es g.1 short.1 (retold h e.0 e.1))
+    trees_said (e ∷ es) g short h = (changed (with_tree h.now e.0 e.1) h, tree_said e g.0 short.0 h, trees_said es g.1 short.1 (changed (with_tree h.now e.0 e.1) h))
 
   -- ---- the module commands, in a group
 
@@ -195,7 +210,7 @@ module _ (steps : ℕ) where
   module_said e t h g some =
       let k : History = changed (with_module h.now e.0 e.1) h in
       said (module_command e.0 e.1) (set_module e.0 e.1) h (Ok (ok_with k)) (module_command-is steps e.0 e.1 t.label t.text)
-      (Ok k, (Ok t.reads.0, t.reads.1, subst (λ (o : Option Group). Becomes (with_module h.now e.0 e.1) h o (Ok k)) (sym some) refl), refl)
+      (Ok k, (Ok t.reads.0, t.reads.1, subst (λ (o : Option Group). ChangesModules o (with_module h.now e.0 e.1) h (Ok k)) (sym some) refl), refl)
 
   modules_said : (es : List TextEntry) → AllByRecursion IsTold es → (h : History) (g : Group) → h.group ≡ Some g → Oks (module_commands es) h (modules_after h es)
   modules_said [] t h g some = refl
@@ -206,15 +221,15 @@ module _ (steps : ℕ) where
   begin_said : (h : History) → h.group ≡ None → ReplyTo steps (text (codes "begin")) h (Ok (ok_with (record h { group = Some (record { begun = h.now; changed = false }) })))
   begin_said h none =
       let k : History = record h { group = Some (record { begun = h.now; changed = false }) } in
-      said (codes "begin") begin h (Ok (ok_with k)) refl (sym (ap (λ (o : Option Group). done (outside o (Ok k))) none))
+      said (codes "begin") begin h (Ok (ok_with k)) refl (Ok k, subst (λ (o : Option Group). Holding (is_none o) InGroup (Leaves k) (Ok k)) (sym none) refl, refl)
 
   commit_said : (h : History) (g : Group) → h.group ≡ Some g → Finds h.primitives h.now.modules None → ReplyTo steps (text (codes "commit")) h (Ok (ok_with (committed g h)))
   commit_said h g some finds =
       let k : History = committed g h in
+      let checked = gives h.primitives h.now.modules finds in
       said (codes "commit") commit h (Ok (ok_with k)) refl (
         Ok k,
-        subst (λ (o : Option Group). MatchOption o (◌≡◌ {A = Result History Refusal} (Ok k) (Err NoGroup)) (λ g. (found : Option Fault) × Finds h.primitives h.now.modules found × (Ok k ≡ unless found (Ok (committed g h))))) (sym some)
-            (None, finds, refl),
+        subst (λ (o : Option Group). Passing (ok_or o NoGroup) (λ g. Given (Checks h.primitives h.now.modules) (λ p. Leaves (committed g h))) (Ok k)) (sym some) (Ok checked.0, checked.1, refl),
         refl,
       )
 
@@ -258,32 +273,32 @@ first_of_list : List Reply → Reply → Reply
 first_of_list [] r = r
 first_of_list (r ∷ rs) s = r
 
-module _ (one : OneRun) (settings : Settings) where
-  one_reply : (c : List ℕ) (h : History) (r s : Reply) → ReplyInRun settings.steps (text c) false h r → ReplyInRun settings.steps (text c) false h s → r ≡ s
+module _ (one : OneRun) (stop : Bool) (steps : ℕ) where
+  one_reply : (c : List ℕ) (h : History) (r s : Reply) → ReplyInRun steps (text c) false h r → ReplyInRun steps (text c) false h s → r ≡ s
   one_reply c h r s p q =
       let singles : r ∷ [] ≡ s ∷ [] =
-      one settings (text c ∷ []) (false ∷ []) h (r ∷ []) (s ∷ []) (p, end_of_one (settings.stop && is_err r)) (q, end_of_one (settings.stop && is_err s)) in
+      one stop steps (text c ∷ []) (false ∷ []) h (r ∷ []) (s ∷ []) (p, end_of_one (stop && is_err r)) (q, end_of_one (stop && is_err s)) in
       cc
 
-  only : (cs : List (List ℕ)) (h g : History) (o : Oks settings.steps cs h g) (flags : List Bool) → AreClear flags → (rs : List Reply) → Replied settings (map (λ c. text c) cs) flags h rs → rs ≡ replies_of settings.steps cs h g o
+  only : (cs : List (List ℕ)) (h g : History) (o : Oks steps cs h g) (flags : List Bool) → AreClear flags → (rs : List Reply) → Replied stop (ReplyInRun steps) (map (λ c. text c) cs) flags h rs → rs ≡ replies_of steps cs h g o
   only [] h g o [] clear [] p = refl
   only (c ∷ cs) h g o (flag ∷ flags) clear (r ∷ rs) p =
-      let first : r ≡ Ok (ok_with o.0) = one_reply c h r (Ok (ok_with o.0)) (subst (λ (f : Bool). ReplyInRun settings.steps (text c) f h r) clear.0 p.0) o.1 in
-      let rest : Replied settings (map (λ c. text c) cs) flags o.0 rs =
-      subst (λ (b : Bool). MatchBool b ((flags ≡ []) × (rs ≡ [])) (Replied settings (map (λ c. text c) cs) flags o.0 rs)) (stays settings.stop)
-      (subst (λ (x : Reply). MatchBool (settings.stop && is_err x) ((flags ≡ []) × (rs ≡ [])) (Replied settings (map (λ c. text c) cs) flags (history_after h x) rs)) first p.1) in
+      let first : r ≡ Ok (ok_with o.0) = one_reply c h r (Ok (ok_with o.0)) (subst (λ (f : Bool). ReplyInRun steps (text c) f h r) clear.0 p.0) o.1 in
+      let rest : Replied stop (ReplyInRun steps) (map (λ c. text c) cs) flags o.0 rs =
+      subst (λ (b : Bool). MatchBool b ((flags ≡ []) × (rs ≡ [])) (Replied stop (ReplyInRun steps) (map (λ c. text c) cs) flags o.0 rs)) (stays stop)
+      (subst (λ (x : Reply). MatchBool (stop && is_err x) ((flags ≡ []) × (rs ≡ [])) (Replied stop (ReplyInRun steps) (map (λ c. text c) cs) flags (history_after h x) rs)) first p.1) in
       λ i. first i ∷ only cs o.0 g o.2 flags clear.1 rs rest i
   only [] h g o [] clear (r ∷ rs) p = absurd p
   only [] h g o (flag ∷ flags) clear rs p = absurd p
   only (c ∷ cs) h g o [] clear rs p = absurd p
   only (c ∷ cs) h g o (flag ∷ flags) clear [] p = absurd p
 
-answered : (settings : Settings) (cs : List (List ℕ)) (h g : History) (o : Oks settings.steps cs h g) → Replied settings (map (λ c. text c) cs) (falses cs) h (replies_of settings.steps cs h g o)
-answered settings [] h g o = tt
-answered settings (c ∷ cs) h g o = (
+answered : (stop : Bool) (steps : ℕ) (cs : List (List ℕ)) (h g : History) (o : Oks steps cs h g) → Replied stop (ReplyInRun steps) (map (λ c. text c) cs) (falses cs) h (replies_of steps cs h g o)
+answered stop steps [] h g o = tt
+answered stop steps (c ∷ cs) h g o = (
   o.1,
-  subst (λ (b : Bool). MatchBool b ((falses cs ≡ []) × (replies_of settings.steps cs o.0 g o.2 ≡ [])) (Replied settings (map (λ c. text c) cs) (falses cs) o.0 (replies_of settings.steps cs o.0 g o.2)))
-      (sym (stays settings.stop)) (answered settings cs o.0 g o.2),
+  subst (λ (b : Bool). MatchBool b ((falses cs ≡ []) × (replies_of steps cs o.0 g o.2 ≡ [])) (Replied stop (ReplyInRun steps) (map (λ c. text c) cs) (falses cs) o.0 (replies_of steps cs o.0 g o.2)))
+      (sym (stays stop)) (answered stop steps cs o.0 g o.2),
 )
 
 all-clear : (cs : List (List ℕ)) → AreClear (falses cs)
@@ -344,10 +359,7 @@ module _ (back : PrintedTextReadsBack) (oneline : PrintedTextIsOneLine) (nests :
   trees_whole [] g = tt
   trees_whole (e ∷ es) g = (tree_whole e.0 (print e.1) (record { label = g.0.label; line = oneline e.1 g.0.term }), trees_whole es g.1)
 
-  module _ (settings : Settings) (c : Contents) (h : History) (can : CanBeGiven h.primitives c) where
-    abbrev steps : ℕ
-    steps = settings.steps
-
+  module _ (steps : ℕ) (c : Contents) (h : History) (can : CanBeGiven h.primitives c) where
     abbrev all_commands : List (List ℕ)
     all_commands = map (λ e. tree_command e.0 (print e.1)) (entries c.trees) ++ group_commands steps (entries c.modules)
 
@@ -396,26 +408,26 @@ module _ (back : PrintedTextReadsBack) (oneline : PrintedTextIsOneLine) (nests :
         }
 
   pub dump_read_back : OneRun → DumpReadsBack
-  dump_read_back one settings c h g flags replies can bare clear leads =
-      let there = led settings c h can bare in
-      let cs : List (List ℕ) = all_commands settings c h can in
-      let count = ap length (commands-are settings c h can) in
-      let are : replies ≡ replies_of settings.steps cs h there.last there.oks =
-      only one settings cs h there.last there.oks flags clear replies (subst (λ (cs : List Handed). Replied settings cs flags h replies) (handed-are settings c h can) leads.replied) in
+  dump_read_back one stop steps c h g flags replies can bare clear leads =
+      let there = led steps c h can bare in
+      let cs : List (List ℕ) = all_commands steps c h can in
+      let count = ap length (commands-are steps c h can) in
+      let are : replies ≡ replies_of steps cs h there.last there.oks =
+      only one stop steps cs h there.last there.oks flags clear replies (subst (λ (cs : List Handed). Replied stop (ReplyInRun steps) cs flags h replies) (handed-are steps c h can) leads.replied) in
       record {
-        contents = ap (λ (x : History). x.now) leads.history ∙ ap (λ (rs : List Reply). (history_after_all h rs).now) are ∙ ap (λ (x : History). x.now) (history-is settings.steps cs h there.last there.oks) ∙ there.now;
-        answers = ap out are ∙ out-is settings.steps cs h there.last there.oks ∙ ap (λ (n : ℕ). repeat n (line (codes "ok"))) (sym count);
-        accepted = ap (count_by is_ok) are ∙ accepted-is settings.steps cs h there.last there.oks ∙ sym count;
-        refused = ap (count_by is_err) are ∙ refused-is settings.steps cs h there.last there.oks;
+        contents = ap (λ (x : History). x.now) leads.history ∙ ap (λ (rs : List Reply). (history_after_all h rs).now) are ∙ ap (λ (x : History). x.now) (history-is steps cs h there.last there.oks) ∙ there.now;
+        answers = ap out are ∙ out-is steps cs h there.last there.oks ∙ ap (λ (n : ℕ). repeat n (line (codes "ok"))) (sym count);
+        accepted = ap (count_by is_ok) are ∙ accepted-is steps cs h there.last there.oks ∙ sym count;
+        refused = ap (count_by is_err) are ∙ refused-is steps cs h there.last there.oks;
       }
 
   pub dump_answered : DumpIsAnswered
-  dump_answered settings c h can bare =
-      let there = led settings c h can bare in
-      let cs : List (List ℕ) = all_commands settings c h can in (
+  dump_answered stop steps c h can bare =
+      let there = led steps c h can bare in
+      let cs : List (List ℕ) = all_commands steps c h can in (
         falses cs,
-        replies_of settings.steps cs h there.last there.oks,
+        replies_of steps cs h there.last there.oks,
         all-clear cs,
-        subst (λ (cs : List Handed). Replied settings cs (falses (all_commands settings c h can)) h (replies_of settings.steps (all_commands settings c h can) h there.last there.oks)) (sym (handed-are settings c h can))
-            (answered settings cs h there.last there.oks),
+        subst (λ (cs : List Handed). Replied stop (ReplyInRun steps) cs (falses (all_commands steps c h can)) h (replies_of steps (all_commands steps c h can) h there.last there.oks)) (sym (handed-are steps c h can))
+            (answered stop steps cs h there.last there.oks),
       )

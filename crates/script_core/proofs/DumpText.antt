@@ -15,7 +15,7 @@ use Rattle.aterm_text.specs.Laws.{IsPrinted, IsOneLine}
 use Rattle.session_core.specs.Dump.{behind_name}
 use Rattle.script_core.specs.Script.{is_line_feed, is_carriage_return, without_end, is_comment, lines, begins_command, Cut, cut}
 use Rattle.script_core.specs.Laws.{IsCommandText}
-use Rattle.script_core.specs.Form.{Form, tree, set_module, first_word, behind_word, has_bytes, form_with, form_of, checked, command_of}
+use Rattle.script_core.specs.Form.{Form, tree, set_module, front_word, behind_word, has_bytes, form_with, form_of, checked, command_of}
 use Rattle.script_core.proofs.LineLemmas.{IsCore, with_line, first_piece, lines-line_feed, lines-kept}
 
 -- the command that gives a name the tree that a text spells
@@ -96,7 +96,7 @@ word_starts : (name x : List ℕ) → IsInkWord name → without_blanks (32 ∷ 
 word_starts [] x h = absurd (omega (arith, h.some))
 word_starts (b ∷ s) x h = behind_space (b ∷ (s ++ 32 ∷ x)) (no_blanks_in_front b (s ++ 32 ∷ x) h.all.0)
 
-first-is : (name x : List ℕ) → IsInkWord name → first_word (32 ∷ (name ++ 32 ∷ x)) ≡ name
+first-is : (name x : List ℕ) → IsInkWord name → front_word (32 ∷ (name ++ 32 ∷ x)) ≡ name
 first-is name x h =
     ap (λ (text : List ℕ). take (position_or_len is_blank text) text) (word_starts name x h)
     ∙ ap (λ (n : ℕ). take n (name ++ 32 ∷ x)) (word_length name x h.all) ∙ take-append_seam name (32 ∷ x)
@@ -126,7 +126,7 @@ lone_starts : (name : List ℕ) → IsInkWord name → without_blanks (32 ∷ na
 lone_starts [] h = absurd (omega (arith, h.some))
 lone_starts (b ∷ s) h = behind_space (b ∷ s) (no_blanks_in_front b s h.all.0)
 
-lone_first : (name : List ℕ) → IsInkWord name → first_word (32 ∷ name) ≡ name
+lone_first : (name : List ℕ) → IsInkWord name → front_word (32 ∷ name) ≡ name
 lone_first name h =
     ap (λ (text : List ℕ). take (position_or_len is_blank text) text) (lone_starts name h)
     ∙ ap (λ (n : ℕ). take n name) (lone_length name h.all) ∙ take-length name
@@ -141,13 +141,13 @@ abbrev named : (List ℕ → List ℕ → Form) → List ℕ → List ℕ → Op
 named form word rest = if has_bytes word then Some (form word (without_blanks rest)) else None
 
 module _ (form : List ℕ → List ℕ → Form) where
-  named-is : (name x : List ℕ) → IsInkWord name → prefix_len is_blank x ≡ 0 → named form (first_word (32 ∷ (name ++ 32 ∷ x))) (behind_word (32 ∷ (name ++ 32 ∷ x))) ≡ Some (form name x)
+  named-is : (name x : List ℕ) → IsInkWord name → prefix_len is_blank x ≡ 0 → named form (front_word (32 ∷ (name ++ 32 ∷ x))) (behind_word (32 ∷ (name ++ 32 ∷ x))) ≡ Some (form name x)
   named-is name x h front =
       (λ i. named form (first-is name x h i) (behind-is name x h i))
       ∙ ap (λ (q : Bool). if q then Some (form name (without_blanks (32 ∷ x))) else None) (some_bytes name h)
       ∙ ap (λ (rest : List ℕ). Some (form name rest)) (behind_space x front)
 
-  named-alone : (name : List ℕ) → IsInkWord name → named form (first_word (32 ∷ name)) (behind_word (32 ∷ name)) ≡ Some (form name [])
+  named-alone : (name : List ℕ) → IsInkWord name → named form (front_word (32 ∷ name)) (behind_word (32 ∷ name)) ≡ Some (form name [])
   named-alone name h =
       (λ i. named form (lone_first name h i) (lone_behind name h i)) ∙ ap (λ (q : Bool). if q then Some (form name []) else None) (some_bytes name h)
 
@@ -177,31 +177,31 @@ command_ends keyword name x some end =
     subst (λ (xs : List ℕ). suffix_len is_blank (keyword ++ xs) ≡ 0) (append_assoc name (32 ∷ []) x)
     (subst (λ (xs : List ℕ). suffix_len is_blank xs ≡ 0) (append_assoc keyword (name ++ 32 ∷ []) x) (end-append is_blank (keyword ++ (name ++ 32 ∷ [])) x some end))
 
-form-is : (name x : List ℕ) → IsDumped name x → form_of (tree_command name x) ≡ Some (tree name x)
-form-is name x h =
-    ap (λ (text : List ℕ). form_with (first_word text) (behind_word text)) (no_end is_blank (tree_command name x) (command_ends (codes "tree ") name x h.line.some h.line.end))
+form-is : (steps : ℕ) (name x : List ℕ) → IsDumped name x → form_of steps (tree_command name x) ≡ Some (tree name x)
+form-is steps name x h =
+    ap (λ (text : List ℕ). form_with steps (front_word text) (behind_word text)) (no_end is_blank (tree_command name x) (command_ends (codes "tree ") name x h.line.some h.line.end))
     ∙ named-is tree name x (label_ink name h.label) h.line.front
 
 -- the command is read as what was dumped
 pub command-is : (steps : ℕ) (name x : List ℕ) → IsDumped name x → command_of steps (tree_command name x) ≡ Ok (tree name x)
 command-is steps name x h =
-    ap checked (form-is name x h) ∙ ap (λ (label : Option (List ℕ)). if is_some label then Ok (tree name x) else Err Name) h.label
+    ap checked (form-is steps name x h) ∙ ap (λ (label : Option (List ℕ)). if is_some label then Ok (tree name x) else Err Name) h.label
 
 -- ---- commands that give a module
 
-module_form-is : (name text : List ℕ) → label_of name ≡ Some name → IsCommandText text → form_of (module_command name text) ≡ Some (set_module name text)
-module_form-is name [] label h =
+module_form-is : (steps : ℕ) (name text : List ℕ) → label_of name ≡ Some name → IsCommandText text → form_of steps (module_command name text) ≡ Some (set_module name text)
+module_form-is steps name [] label h =
     let word = label_ink name label in
-    ap (λ (rest : List ℕ). form_of (codes "module " ++ rest)) (append-nil name)
-    ∙ ap (λ (text : List ℕ). form_with (first_word text) (behind_word text)) (no_end is_blank (codes "module " ++ name) (end-append is_blank (codes "module ") name word.some (ink_end name word.all)))
+    ap (λ (rest : List ℕ). form_of steps (codes "module " ++ rest)) (append-nil name)
+    ∙ ap (λ (text : List ℕ). form_with steps (front_word text) (behind_word text)) (no_end is_blank (codes "module " ++ name) (end-append is_blank (codes "module ") name word.some (ink_end name word.all)))
     ∙ named-alone set_module name word
-module_form-is name (b ∷ text) label h =
-    ap (λ (text : List ℕ). form_with (first_word text) (behind_word text)) (no_end is_blank (module_command name (b ∷ text)) (command_ends (codes "module ") name (b ∷ text) (omega arith) h.end))
+module_form-is steps name (b ∷ text) label h =
+    ap (λ (text : List ℕ). form_with steps (front_word text) (behind_word text)) (no_end is_blank (module_command name (b ∷ text)) (command_ends (codes "module ") name (b ∷ text) (omega arith) h.end))
     ∙ named-is set_module name (b ∷ text) (label_ink name label) h.front
 
 pub module_command-is : (steps : ℕ) (name text : List ℕ) → label_of name ≡ Some name → IsCommandText text → command_of steps (module_command name text) ≡ Ok (set_module name text)
 module_command-is steps name text label h =
-    ap checked (module_form-is name text label h) ∙ ap (λ (label : Option (List ℕ)). if is_some label then Ok (set_module name text) else Err Name) label
+    ap checked (module_form-is steps name text label h) ∙ ap (λ (label : Option (List ℕ)). if is_some label then Ok (set_module name text) else Err Name) label
 
 -- ---- lines
 

@@ -9,9 +9,8 @@ use Rattle.std.proofs.lemmas.List.Sums.{sum_by-append, sum_by-cons}
 use Rattle.std.specs.Bool.{MatchBool}
 use Rattle.session_core.specs.History.{History}
 use Rattle.script_core.specs.Handed.{Handed}
-use Rattle.script_core.specs.Machine.{Reply, history_after, written}
-use Rattle.script_core.specs.Answer.{Answered, ReplyInRun}
-use Rattle.script_core.specs.declared.running.Settings.{Settings}
+use Rattle.script_core.specs.Machine.{Reply, Replying, history_after, written}
+use Rattle.script_core.specs.Answer.{Answered}
 use Rattle.script_core.specs.Run.{Replied, history_after_all, out, last_answer, one_if, Leads, Completes, WritesFront, BreaksOff}
 use Rattle.script_core.proofs.WriteLemmas.{Appends-none}
 
@@ -39,38 +38,38 @@ goes-rest stop (Ok x) rs g e = g e
 goes-rest stop (Err x) rs g e = absurd (some_refused (Err x) rs (g e) refl)
 
 -- replies behind which the run goes on, and those to the commands behind
-Replied-append : (settings : Settings) (cs ds : List Handed) (fs gs : List Bool) (h : History) (rs ss : List Reply) → GoesBehind settings.stop rs → Replied settings cs fs h rs →
-    Replied settings ds gs (history_after_all h rs) ss → Replied settings (cs ++ ds) (fs ++ gs) h (rs ++ ss)
-Replied-append settings [] ds [] gs h [] ss g p q = q
-Replied-append settings (c ∷ cs) ds (f ∷ fs) gs h (r ∷ rs) ss g p q =
-    let goes = goes-first settings.stop r rs g in
-    let rest : Replied settings cs fs (history_after h r) rs = subst (λ (b : Bool). MatchBool b ((fs ≡ []) × (rs ≡ [])) (Replied settings cs fs (history_after h r) rs)) goes p.1 in (
+Replied-append : (stop : Bool) (Rule : Replying) (cs ds : List Handed) (fs gs : List Bool) (h : History) (rs ss : List Reply) → GoesBehind stop rs → Replied stop Rule cs fs h rs →
+    Replied stop Rule ds gs (history_after_all h rs) ss → Replied stop Rule (cs ++ ds) (fs ++ gs) h (rs ++ ss)
+Replied-append stop Rule [] ds [] gs h [] ss g p q = q
+Replied-append stop Rule (c ∷ cs) ds (f ∷ fs) gs h (r ∷ rs) ss g p q =
+    let goes = goes-first stop r rs g in
+    let rest : Replied stop Rule cs fs (history_after h r) rs = subst (λ (b : Bool). MatchBool b ((fs ≡ []) × (rs ≡ [])) (Replied stop Rule cs fs (history_after h r) rs)) goes p.1 in (
       p.0,
-      subst (λ (b : Bool). MatchBool b ((fs ++ gs ≡ []) × (rs ++ ss ≡ [])) (Replied settings (cs ++ ds) (fs ++ gs) (history_after h r) (rs ++ ss))) (sym goes)
-          (Replied-append settings cs ds fs gs (history_after h r) rs ss (goes-rest settings.stop r rs g) rest q),
+      subst (λ (b : Bool). MatchBool b ((fs ++ gs ≡ []) × (rs ++ ss ≡ [])) (Replied stop Rule (cs ++ ds) (fs ++ gs) (history_after h r) (rs ++ ss))) (sym goes)
+          (Replied-append stop Rule cs ds fs gs (history_after h r) rs ss (goes-rest stop r rs g) rest q),
     )
-Replied-append settings [] ds [] gs h (r ∷ rs) ss g p q = absurd p
-Replied-append settings [] ds (f ∷ fs) gs h rs ss g p q = absurd p
-Replied-append settings (c ∷ cs) ds [] gs h rs ss g p q = absurd p
-Replied-append settings (c ∷ cs) ds (f ∷ fs) gs h [] ss g p q = absurd p
+Replied-append stop Rule [] ds [] gs h (r ∷ rs) ss g p q = absurd p
+Replied-append stop Rule [] ds (f ∷ fs) gs h rs ss g p q = absurd p
+Replied-append stop Rule (c ∷ cs) ds [] gs h rs ss g p q = absurd p
+Replied-append stop Rule (c ∷ cs) ds (f ∷ fs) gs h [] ss g p q = absurd p
 
 -- where the run stopped, no command behind is replied
-Replied-stopped : (settings : Settings) (cs ds : List Handed) (fs : List Bool) (h : History) (rs : List Reply) → settings.stop ≡ true → 0 < count_by is_err rs → Replied settings cs fs h rs →
-    Replied settings (cs ++ ds) fs h rs
-Replied-stopped settings [] ds [] h [] e some p = absurd (omega (arith, some))
-Replied-stopped settings (c ∷ cs) ds (f ∷ fs) h (Ok x ∷ rs) e some p =
-    let Behind : Bool → List Handed → Type 0 = λ b commands. MatchBool (b && false) ((fs ≡ []) × (rs ≡ [])) (Replied settings commands fs (history_after h (Ok x)) rs) in
-    let rest = Replied-stopped settings cs ds fs (history_after h (Ok x)) rs e some (subst (λ (b : Bool). Behind b cs) e p.1) in (
+Replied-stopped : (stop : Bool) (Rule : Replying) (cs ds : List Handed) (fs : List Bool) (h : History) (rs : List Reply) → stop ≡ true → 0 < count_by is_err rs → Replied stop Rule cs fs h rs →
+    Replied stop Rule (cs ++ ds) fs h rs
+Replied-stopped stop Rule [] ds [] h [] e some p = absurd (omega (arith, some))
+Replied-stopped stop Rule (c ∷ cs) ds (f ∷ fs) h (Ok x ∷ rs) e some p =
+    let Behind : Bool → List Handed → Type 0 = λ b commands. MatchBool (b && false) ((fs ≡ []) × (rs ≡ [])) (Replied stop Rule commands fs (history_after h (Ok x)) rs) in
+    let rest = Replied-stopped stop Rule cs ds fs (history_after h (Ok x)) rs e some (subst (λ (b : Bool). Behind b cs) e p.1) in (
       p.0,
       subst (λ (b : Bool). Behind b (cs ++ ds)) (sym e) rest,
     )
-Replied-stopped settings (c ∷ cs) ds (f ∷ fs) h (Err x ∷ rs) e some p =
-    let Behind : Bool → List Handed → Type 0 = λ b commands. MatchBool (b && true) ((fs ≡ []) × (rs ≡ [])) (Replied settings commands fs (history_after h (Err x)) rs) in
+Replied-stopped stop Rule (c ∷ cs) ds (f ∷ fs) h (Err x ∷ rs) e some p =
+    let Behind : Bool → List Handed → Type 0 = λ b commands. MatchBool (b && true) ((fs ≡ []) × (rs ≡ [])) (Replied stop Rule commands fs (history_after h (Err x)) rs) in
     let ends = subst (λ (b : Bool). Behind b cs) e p.1 in (p.0, subst (λ (b : Bool). Behind b (cs ++ ds)) (sym e) ends)
-Replied-stopped settings [] ds [] h (r ∷ rs) e some p = absurd p
-Replied-stopped settings [] ds (f ∷ fs) h rs e some p = absurd p
-Replied-stopped settings (c ∷ cs) ds [] h rs e some p = absurd p
-Replied-stopped settings (c ∷ cs) ds (f ∷ fs) h [] e some p = absurd p
+Replied-stopped stop Rule [] ds [] h (r ∷ rs) e some p = absurd p
+Replied-stopped stop Rule [] ds (f ∷ fs) h rs e some p = absurd p
+Replied-stopped stop Rule (c ∷ cs) ds [] h rs e some p = absurd p
+Replied-stopped stop Rule (c ∷ cs) ds (f ∷ fs) h [] e some p = absurd p
 
 last_answer-append : (rs : List Reply) (s : Reply) (ss : List Reply) → last_answer (rs ++ (s ∷ ss)) ≡ last_answer (s ∷ ss)
 last_answer-append [] s ss = refl
@@ -81,10 +80,10 @@ append-empty : {A : Type 0} (xs ys : List A) → [] ≡ xs ++ ys → ys ≡ []
 append-empty [] ys e = sym e
 append-empty (x ∷ xs) ys e = absurd (cc)
 
-Leads-append : (settings : Settings) (cs ds : List Handed) (h g k : History) (fs gs : List Bool) (rs ss : List Reply) → GoesBehind settings.stop rs → Leads settings cs h g fs rs → Leads settings ds g k gs ss →
-    Leads settings (cs ++ ds) h k (fs ++ gs) (rs ++ ss)
-Leads-append settings cs ds h g k fs gs rs ss goes p q = record {
-  replied = Replied-append settings cs ds fs gs h rs ss goes p.replied (subst (λ (x : History). Replied settings ds gs x ss) p.history q.replied);
+Leads-append : (stop : Bool) (Rule : Replying) (cs ds : List Handed) (h g k : History) (fs gs : List Bool) (rs ss : List Reply) → GoesBehind stop rs → Leads stop Rule cs h g fs rs → Leads stop Rule ds g k gs ss →
+    Leads stop Rule (cs ++ ds) h k (fs ++ gs) (rs ++ ss)
+Leads-append stop Rule cs ds h g k fs gs rs ss goes p q = record {
+  replied = Replied-append stop Rule cs ds fs gs h rs ss goes p.replied (subst (λ (x : History). Replied stop Rule ds gs x ss) p.history q.replied);
   history = q.history ∙ ap (λ (x : History). history_after_all x ss) p.history ∙ sym (history_after_all-append h rs ss);
 }
 
@@ -97,47 +96,47 @@ one_if-total false = refl
 
 -- ---- one command
 
-Replied-one : (settings : Settings) (command : Handed) (flag : Bool) (h : History) (r : Reply) → ReplyInRun settings.steps command flag h r → Replied settings (command ∷ []) (flag ∷ []) h (r ∷ [])
-Replied-one settings command flag h r p = (p, at (settings.stop && is_err r))
+Replied-one : (stop : Bool) (Rule : Replying) (command : Handed) (flag : Bool) (h : History) (r : Reply) → Rule command flag h r → Replied stop Rule (command ∷ []) (flag ∷ []) h (r ∷ [])
+Replied-one stop Rule command flag h r p = (p, at (stop && is_err r))
   where
-    at : (b : Bool) → MatchBool b ((◌≡◌ {A = List Bool} [] []) × (◌≡◌ {A = List Reply} [] [])) (Replied settings [] [] (history_after h r) [])
+    at : (b : Bool) → MatchBool b ((◌≡◌ {A = List Bool} [] []) × (◌≡◌ {A = List Reply} [] [])) (Replied stop Rule [] [] (history_after h r) [])
     at true = (refl, refl)
     at false = tt
 
-Leads-one : (settings : Settings) (command : Handed) (h g : History) (before after : List ℕ) (verdict : Bool) (a : Answered settings.steps command h g before after verdict) →
-    Leads settings (command ∷ []) h g (a.flag ∷ []) (a.reply ∷ [])
-Leads-one settings command h g before after verdict a = record { replied = Replied-one settings command a.flag h a.reply a.replied; history = a.history }
+Leads-one : (stop : Bool) (Rule : Replying) (command : Handed) (h g : History) (before after : List ℕ) (verdict : Bool) (a : Answered Rule command h g before after verdict) →
+    Leads stop Rule (command ∷ []) h g (a.flag ∷ []) (a.reply ∷ [])
+Leads-one stop Rule command h g before after verdict a = record { replied = Replied-one stop Rule command a.flag h a.reply a.replied; history = a.history }
 
 one_ok : (verdict : Bool) (reply : Reply) → verdict ≡ is_ok reply → (one_if verdict ≡ count_by is_ok (reply ∷ [])) × (one_if (not verdict) ≡ count_by is_err (reply ∷ []))
 one_ok verdict (Ok x) e = (ap one_if e, ap (λ (b : Bool). one_if (not b)) e)
 one_ok verdict (Err x) e = (ap one_if e, ap (λ (b : Bool). one_if (not b)) e)
 
 -- the buffer was empty before, and is sent
-pub Answered-alone : (steps : ℕ) (command : Handed) (h g : History) (before bytes sent : List ℕ) (verdict : Bool) → before ≡ [] → sent ≡ bytes → Answered steps command h g before bytes verdict → Answered steps command h g [] sent verdict
-Answered-alone steps command h g before bytes sent verdict e s a =
-    subst (λ (xs : List ℕ). Answered steps command h g xs sent verdict) e (subst (λ (ys : List ℕ). Answered steps command h g before ys verdict) (sym s) a)
+pub Answered-alone : (Rule : Replying) (command : Handed) (h g : History) (before bytes sent : List ℕ) (verdict : Bool) → before ≡ [] → sent ≡ bytes → Answered Rule command h g before bytes verdict → Answered Rule command h g [] sent verdict
+Answered-alone Rule command h g before bytes sent verdict e s a =
+    subst (λ (xs : List ℕ). Answered Rule command h g xs sent verdict) e (subst (λ (ys : List ℕ). Answered Rule command h g before ys verdict) (sym s) a)
 
 -- a command that was answered into an empty buffer, which was written
-pub Completes-one : (settings : Settings) (command : Handed) (h g : History) (bytes : List ℕ) (verdict : Bool) (old new : Option (List ℕ)) →
-    Answered settings.steps command h g [] bytes verdict → Appends old new bytes → Completes settings (command ∷ []) h g old new (one_if verdict) (one_if (not verdict))
-Completes-one settings command h g bytes verdict old new a w = record {
+pub Completes-one : (stop : Bool) (Rule : Replying) (command : Handed) (h g : History) (bytes : List ℕ) (verdict : Bool) (old new : Option (List ℕ)) →
+    Answered Rule command h g [] bytes verdict → Appends old new bytes → Completes stop Rule (command ∷ []) h g old new (one_if verdict) (one_if (not verdict))
+Completes-one stop Rule command h g bytes verdict old new a w = record {
   flags = a.flag ∷ [];
   replies = a.reply ∷ [];
-  leads = Leads-one settings command h g [] bytes verdict a;
+  leads = Leads-one stop Rule command h g [] bytes verdict a;
   written = subst (λ (xs : List ℕ). Appends old new xs) (a.answer ∙ sym (append-nil (written a.reply))) w;
   accepted = (one_ok verdict a.reply a.accepted).0;
   refused = (one_ok verdict a.reply a.accepted).1;
 }
 
-pub BreaksOff-one : (settings : Settings) (command : Handed) (h g : History) (bytes : List ℕ) (verdict : Bool) (old new : Option (List ℕ)) (lost : List ℕ) →
-    Answered settings.steps command h g [] bytes verdict → WritesFront old new bytes lost → BreaksOff settings (command ∷ []) h g old new
-BreaksOff-one settings command h g bytes verdict old new lost a w = record {
+pub BreaksOff-one : (stop : Bool) (Rule : Replying) (command : Handed) (h g : History) (bytes : List ℕ) (verdict : Bool) (old new : Option (List ℕ)) (lost : List ℕ) →
+    Answered Rule command h g [] bytes verdict → WritesFront old new bytes lost → BreaksOff stop Rule (command ∷ []) h g old new
+BreaksOff-one stop Rule command h g bytes verdict old new lost a w = record {
   first = command ∷ [];
   others = [];
   split = refl;
   flags = a.flag ∷ [];
   replies = a.reply ∷ [];
-  leads = Leads-one settings command h g [] bytes verdict a;
+  leads = Leads-one stop Rule command h g [] bytes verdict a;
   lost = lost;
   written = record { kept = w.kept; all = append-nil (written a.reply) ∙ sym a.answer ∙ w.all; written = w.written };
   front = w.kept;
@@ -146,8 +145,8 @@ BreaksOff-one settings command h g bytes verdict old new lost a w = record {
 
 -- ---- one after the other
 
-pub Completes-none : (settings : Settings) (h : History) (a : Option (List ℕ)) → Completes settings [] h h a a 0 0
-Completes-none settings h a = record { flags = []; replies = []; leads = record { replied = tt; history = refl }; written = Appends-none a a (kept a); accepted = refl; refused = refl }
+pub Completes-none : (stop : Bool) (Rule : Replying) (h : History) (a : Option (List ℕ)) → Completes stop Rule [] h h a a 0 0
+Completes-none stop Rule h a = record { flags = []; replies = []; leads = record { replied = tt; history = refl }; written = Appends-none a a (kept a); accepted = refl; refused = refl }
   where
     kept : (o : Option (List ℕ)) → Keeps o o
     kept None = tt
@@ -156,24 +155,24 @@ Completes-none settings h a = record { flags = []; replies = []; leads = record 
 goes_from : (stop : Bool) (n : ℕ) (rs : List Reply) → n ≡ count_by is_err rs → (stop ≡ true → n ≡ 0) → GoesBehind stop rs
 goes_from stop n rs e goes s = sym e ∙ goes s
 
-pub Completes-append : (settings : Settings) (cs ds : List Handed) (h g k : History) (a b c : Option (List ℕ)) (y n z m : ℕ) → (settings.stop ≡ true → n ≡ 0) → Completes settings cs h g a b y n → Completes settings ds g k b c z m →
-    Completes settings (cs ++ ds) h k a c (y + z) (n + m)
-Completes-append settings cs ds h g k a b c y n z m goes p q = record {
+pub Completes-append : (stop : Bool) (Rule : Replying) (cs ds : List Handed) (h g k : History) (a b c : Option (List ℕ)) (y n z m : ℕ) → (stop ≡ true → n ≡ 0) → Completes stop Rule cs h g a b y n → Completes stop Rule ds g k b c z m →
+    Completes stop Rule (cs ++ ds) h k a c (y + z) (n + m)
+Completes-append stop Rule cs ds h g k a b c y n z m goes p q = record {
   flags = p.flags ++ q.flags;
   replies = p.replies ++ q.replies;
-  leads = Leads-append settings cs ds h g k p.flags q.flags p.replies q.replies (goes_from settings.stop n p.replies p.refused goes) p.leads q.leads;
+  leads = Leads-append stop Rule cs ds h g k p.flags q.flags p.replies q.replies (goes_from stop n p.replies p.refused goes) p.leads q.leads;
   written = subst (λ (xs : List ℕ). Appends a c xs) (sym (flat_map-append written p.replies q.replies)) (Appends-trans a b c _ _ p.written q.written);
   accepted = omega (arith, p.accepted, q.accepted, count_by-append is_ok p.replies q.replies);
   refused = omega (arith, p.refused, q.refused, count_by-append is_err p.replies q.replies);
 }
 
 -- a run that stopped answers no command behind
-pub Completes-stopped : (settings : Settings) (cs ds : List Handed) (h g : History) (a b : Option (List ℕ)) (y n : ℕ) → settings.stop ≡ true → 0 < n → Completes settings cs h g a b y n → Completes settings (cs ++ ds) h g a b y n
-Completes-stopped settings cs ds h g a b y n e some p = record {
+pub Completes-stopped : (stop : Bool) (Rule : Replying) (cs ds : List Handed) (h g : History) (a b : Option (List ℕ)) (y n : ℕ) → stop ≡ true → 0 < n → Completes stop Rule cs h g a b y n → Completes stop Rule (cs ++ ds) h g a b y n
+Completes-stopped stop Rule cs ds h g a b y n e some p = record {
   flags = p.flags;
   replies = p.replies;
   leads = record {
-    replied = Replied-stopped settings cs ds p.flags h p.replies e (omega (arith, some, p.refused)) p.leads.replied;
+    replied = Replied-stopped stop Rule cs ds p.flags h p.replies e (omega (arith, some, p.refused)) p.leads.replied;
     history = p.leads.history;
   };
   written = p.written;
@@ -181,15 +180,15 @@ Completes-stopped settings cs ds h g a b y n e some p = record {
   refused = p.refused;
 }
 
-pub BreaksOff-append : (settings : Settings) (cs ds : List Handed) (h g k : History) (a b c : Option (List ℕ)) (y n : ℕ) → (settings.stop ≡ true → n ≡ 0) → Completes settings cs h g a b y n → BreaksOff settings ds g k b c →
-    BreaksOff settings (cs ++ ds) h k a c
-BreaksOff-append settings cs ds h g k a b c y n goes p q = record {
+pub BreaksOff-append : (stop : Bool) (Rule : Replying) (cs ds : List Handed) (h g k : History) (a b c : Option (List ℕ)) (y n : ℕ) → (stop ≡ true → n ≡ 0) → Completes stop Rule cs h g a b y n → BreaksOff stop Rule ds g k b c →
+    BreaksOff stop Rule (cs ++ ds) h k a c
+BreaksOff-append stop Rule cs ds h g k a b c y n goes p q = record {
   first = cs ++ q.first;
   others = q.others;
   split = ap (λ (xs : List Handed). cs ++ xs) q.split ∙ sym (append_assoc cs q.first q.others);
   flags = p.flags ++ q.flags;
   replies = p.replies ++ q.replies;
-  leads = Leads-append settings cs q.first h g k p.flags q.flags p.replies q.replies (goes_from settings.stop n p.replies p.refused goes) p.leads q.leads;
+  leads = Leads-append stop Rule cs q.first h g k p.flags q.flags p.replies q.replies (goes_from stop n p.replies p.refused goes) p.leads q.leads;
   lost = q.lost;
   written = record {
     kept = out p.replies ++ q.written.kept;
@@ -205,8 +204,8 @@ BreaksOff-append settings cs ds h g k a b c y n goes p q = record {
     last rs (s ∷ ss) front lost e = (front, last_answer-append rs s ss ∙ e)
 
 -- commands behind those that a run broke off at are not answered
-pub BreaksOff-longer : (settings : Settings) (cs ds : List Handed) (h g : History) (a b : Option (List ℕ)) → BreaksOff settings cs h g a b → BreaksOff settings (cs ++ ds) h g a b
-BreaksOff-longer settings cs ds h g a b p = record {
+pub BreaksOff-longer : (stop : Bool) (Rule : Replying) (cs ds : List Handed) (h g : History) (a b : Option (List ℕ)) → BreaksOff stop Rule cs h g a b → BreaksOff stop Rule (cs ++ ds) h g a b
+BreaksOff-longer stop Rule cs ds h g a b p = record {
   first = p.first;
   others = p.others ++ ds;
   split = ap (λ (xs : List Handed). xs ++ ds) p.split ∙ append_assoc p.first p.others ds;
@@ -221,8 +220,8 @@ BreaksOff-longer settings cs ds h g a b p = record {
 
 -- ---- a flush
 
-pub Completes-flushed : (settings : Settings) (cs : List Handed) (h g : History) (a b c : Option (List ℕ)) (y n : ℕ) → Completes settings cs h g a b y n → Keeps b c → Completes settings cs h g a c y n
-Completes-flushed settings cs h g a b c y n p k = record {
+pub Completes-flushed : (stop : Bool) (Rule : Replying) (cs : List Handed) (h g : History) (a b c : Option (List ℕ)) (y n : ℕ) → Completes stop Rule cs h g a b y n → Keeps b c → Completes stop Rule cs h g a c y n
+Completes-flushed stop Rule cs h g a b c y n p k = record {
   flags = p.flags;
   replies = p.replies;
   leads = p.leads;
@@ -231,8 +230,8 @@ Completes-flushed settings cs h g a b c y n p k = record {
   refused = p.refused;
 }
 
-pub BreaksOff-flush : (settings : Settings) (cs : List Handed) (h g : History) (a b c : Option (List ℕ)) (y n : ℕ) → Completes settings cs h g a b y n → Keeps b c → BreaksOff settings cs h g a c
-BreaksOff-flush settings cs h g a b c y n p k = record {
+pub BreaksOff-flush : (stop : Bool) (Rule : Replying) (cs : List Handed) (h g : History) (a b c : Option (List ℕ)) (y n : ℕ) → Completes stop Rule cs h g a b y n → Keeps b c → BreaksOff stop Rule cs h g a c
+BreaksOff-flush stop Rule cs h g a b c y n p k = record {
   first = cs;
   others = [];
   split = sym (append-nil cs);
@@ -245,8 +244,8 @@ BreaksOff-flush settings cs h g a b c y n p k = record {
   last = sym (append-nil _);
 }
 
-pub Completes-after : (settings : Settings) (cs : List Handed) (h g : History) (a b c : Option (List ℕ)) (y n : ℕ) → Keeps a b → Completes settings cs h g b c y n → Completes settings cs h g a c y n
-Completes-after settings cs h g a b c y n k p = record {
+pub Completes-after : (stop : Bool) (Rule : Replying) (cs : List Handed) (h g : History) (a b c : Option (List ℕ)) (y n : ℕ) → Keeps a b → Completes stop Rule cs h g b c y n → Completes stop Rule cs h g a c y n
+Completes-after stop Rule cs h g a b c y n k p = record {
   flags = p.flags;
   replies = p.replies;
   leads = p.leads;
@@ -255,8 +254,8 @@ Completes-after settings cs h g a b c y n k p = record {
   refused = p.refused;
 }
 
-pub BreaksOff-after : (settings : Settings) (cs : List Handed) (h g : History) (a b c : Option (List ℕ)) → Keeps a b → BreaksOff settings cs h g b c → BreaksOff settings cs h g a c
-BreaksOff-after settings cs h g a b c k p = record {
+pub BreaksOff-after : (stop : Bool) (Rule : Replying) (cs : List Handed) (h g : History) (a b c : Option (List ℕ)) → Keeps a b → BreaksOff stop Rule cs h g b c → BreaksOff stop Rule cs h g a c
+BreaksOff-after stop Rule cs h g a b c k p = record {
   first = p.first;
   others = p.others;
   split = p.split;

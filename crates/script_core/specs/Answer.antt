@@ -6,7 +6,7 @@ use Rattle.session_core.specs.declared.refusal.Refusal.TheVariants.{Memory, Line
 use Rattle.aterm_text.specs.declared.reader.ReadFault.{ReadFault}
 use Rattle.aterm_text.specs.declared.reader.ReadFault.TheVariants.{Deep as DeepText, Term as NoTerm, Memory as NoMemory}
 use Rattle.script_core.specs.Form.{takes_no_memory}
-use Rattle.script_core.specs.Machine.{Reply, ReplyTo, history_after, written}
+use Rattle.script_core.specs.Machine.{Reply, Replying, ReplyTo, history_after, written}
 use Rattle.script_core.specs.Handed.{Handed, text, long}
 
 -- whether a command that is handed out takes no memory
@@ -21,11 +21,11 @@ ReplyInRun steps command false h reply = ReplyTo steps command h reply
 ReplyInRun steps command true h reply = (takes_none command ≡ false) × (reply ≡ Err Memory)
 
 -- A command is answered: what the answer's buffer held before, it holds with the answer behind it.
-pub record Answered (steps : ℕ) (command : Handed) (old new : History) (before after : List ℕ)
+pub record Answered (Rule : Replying) (command : Handed) (old new : History) (before after : List ℕ)
     (verdict : Bool) : Type 0 where
   pub flag : Bool
   pub reply : Reply
-  pub replied : ReplyInRun steps command flag old reply
+  pub replied : Rule command flag old reply
   pub history : new ≡ history_after old reply
   pub answer : after ≡ before ++ written reply
   pub accepted : verdict ≡ is_ok reply
@@ -44,10 +44,10 @@ Refuses Rule takes_none refusal =
     ((refusal ≡ Memory) × (takes_none ≡ false)) ⊎ Rule (Err refusal)
 
 -- what a fault of reading a term or annotations is told as
-abbrev pub refusal_of : ReadFault → Refusal
-refusal_of DeepText = Deep
-refusal_of NoTerm = Term
-refusal_of NoMemory = Memory
+abbrev pub reading_refusal : ReadFault → Refusal
+reading_refusal DeepText = Deep
+reading_refusal NoTerm = Term
+reading_refusal NoMemory = Memory
 
 -- Whether a refusal tells a fault of the checker. The name in it may be so long that memory is wanted to
 -- write it.

@@ -21,9 +21,9 @@ GoesBehind old new bytes more =
     → StandsBehind (x ++ bytes) (out ++ more) new.left
 
 -- All bytes are taken and nothing is handed out; or those up to the one by which a command is complete,
--- that one included, and the command is ready.
+-- that one included, and the command can be handed out.
 abbrev pub FedRight : Fed → Split → Split → List ℕ → Type 0
 FedRight Need old new bytes = GoesBehind old new bytes []
 FedRight (Command taken) old new bytes =
-    (0 < taken) × (taken ≤ length bytes) × (command : Handed) × (new.ready ≡ Some command)
+    (0 < taken) × (taken ≤ length bytes) × (command : Handed) × (new.to_hand_out ≡ Some command)
     × GoesBehind old new (take taken bytes) (command ∷ [])

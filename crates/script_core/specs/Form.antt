@@ -10,7 +10,7 @@ use Rattle.aterm_text.specs.Tokens.{is_blank, without_blanks}
 use Rattle.session_core.specs.declared.refusal.Refusal.{Refusal}
 use Rattle.session_core.specs.declared.refusal.Refusal.TheVariants.{Line, Name}
 use Rattle.script_core.specs.Script.{without_end}
-use Rattle.script_core.specs.declared.TheConstants.{MAX_STEPS}
+use Rattle.session_core.specs.declared.TheConstants.{MAX_STEPS}
 
 pub data Form : Type 0 where
   -- gives the name the tree that the text spells
@@ -49,11 +49,11 @@ pub data Form : Type 0 where
 
 -- ---- words, which blanks part: spaces, tabs, line feeds and carriage returns
 
--- the first word, with nothing in it where there is none
-abbrev pub first_word : List ℕ → List ℕ
-first_word text = before_first is_blank (without_blanks text)
+-- the word in front, with nothing in it where there is none
+abbrev pub front_word : List ℕ → List ℕ
+front_word text = before_first is_blank (without_blanks text)
 
--- what stands behind the first word
+-- what stands behind the word in front
 abbrev pub behind_word : List ℕ → List ℕ
 behind_word text = drop (position_or_len is_blank (without_blanks text)) (without_blanks text)
 
@@ -62,7 +62,7 @@ has_bytes [] = false
 has_bytes (b ∷ bytes) = true
 
 abbrev pub has_word : List ℕ → Bool
-has_word text = has_bytes (first_word text)
+has_word text = has_bytes (front_word text)
 
 -- whether the word has the bytes of the other
 abbrev pub is_same : List ℕ → List ℕ → Bool
@@ -72,7 +72,7 @@ is_same word other = pointwise nat_eq word other
 
 -- A form goes on with a word, and what that makes of the rest.
 abbrev pub with_word : List ℕ → (List ℕ → List ℕ → Option Form) → Option Form
-with_word rest next = if has_word rest then next (first_word rest) (behind_word rest) else None
+with_word rest next = if has_word rest then next (front_word rest) (behind_word rest) else None
 
 -- A form ends here.
 abbrev pub ended : Form → List ℕ → Option Form
@@ -85,12 +85,12 @@ last_text rest = without_blanks rest
 -- A form goes on with a path, and ends with a text.
 abbrev pub with_path_and_text : (List ℕ → List ℕ → Form) → List ℕ → Option Form
 with_path_and_text form rest =
-    option_map (λ path. form path (last_text (behind_word rest))) (path_of (first_word rest))
+    option_map (λ path. form path (last_text (behind_word rest))) (path_of (front_word rest))
 
 -- A form ends with a name.
 abbrev pub last_name : List ℕ → Option (List ℕ)
 last_name rest =
-    if has_word rest && not (has_word (behind_word rest)) then Some (first_word rest) else None
+    if has_word rest && not (has_word (behind_word rest)) then Some (front_word rest) else None
 
 -- a number of steps, from 1 to 1,000,000, written as a part of a path is
 abbrev pub within_steps : ℕ → Option ℕ
@@ -103,15 +103,15 @@ steps_of digits = option_and_then within_steps (part_of digits)
 abbrev pub last_steps : List ℕ → Option ℕ
 last_steps rest =
     if has_word rest
-    then (if has_word (behind_word rest) then None else steps_of (first_word rest))
+    then (if has_word (behind_word rest) then None else steps_of (front_word rest))
     else Some 1
 
 -- A form ends with `at` and a path, which may both be missing: the path is then the root.
 abbrev pub last_place : List ℕ → Option (List ℕ)
 last_place rest =
     if has_word rest
-    then (if is_same (first_word rest) (codes "at") && not (has_word (behind_word (behind_word rest)))
-    then path_of (first_word (behind_word rest)) else None)
+    then (if is_same (front_word rest) (codes "at") && not (has_word (behind_word (behind_word rest)))
+    then path_of (front_word (behind_word rest)) else None)
     else Some []
 
 -- ---- forms
@@ -144,9 +144,9 @@ text_form rest = option_map module_text (last_name rest)
 abbrev pub show_form : List ℕ → Option Form
 show_form rest = with_word rest (λ name behind. option_map (show name) (last_place behind))
 
--- the form that a keyword begins
-abbrev pub form_with : List ℕ → List ℕ → Option Form
-form_with keyword rest =
+-- the form that a keyword begins, by the budget of a command that names none
+abbrev pub form_with : ℕ → List ℕ → List ℕ → Option Form
+form_with steps keyword rest =
     if is_same keyword (codes "tree") then tree_form rest else
     if is_same keyword (codes "copy") then copy_form rest else
     if is_same keyword (codes "drop") then drop_form rest else
@@ -166,10 +166,10 @@ form_with keyword rest =
     if is_same keyword (codes "history") then ended history rest else
     if is_same keyword (codes "dump") then ended dump rest else None
 
--- the form of a command, without the blanks at its end
-abbrev pub form_of : List ℕ → Option Form
-form_of command =
-    let text = without_end is_blank command in form_with (first_word text) (behind_word text)
+-- the form of a command, without the blanks at its end, by that budget
+abbrev pub form_of : ℕ → List ℕ → Option Form
+form_of steps command =
+    let text = without_end is_blank command in form_with steps (front_word text) (behind_word text)
 
 -- whether the names of a form are labels
 abbrev pub has_labels : Form → Bool
@@ -199,7 +199,7 @@ checked (Some form) = if has_labels form then Ok form else Err Name
 
 -- What a command says. The steps are the budget of a command that names none.
 abbrev pub command_of : ℕ → List ℕ → Result Form Refusal
-command_of steps command = checked (form_of command)
+command_of steps command = checked (form_of steps command)
 
 -- ---- commands that take no memory
 
@@ -210,7 +210,7 @@ takes_no_memory_with word =
     || is_same word (codes "begin") || is_same word (codes "abandon")
 
 abbrev pub takes_no_memory : List ℕ → Bool
-takes_no_memory command = takes_no_memory_with (first_word (without_end is_blank command))
+takes_no_memory command = takes_no_memory_with (front_word (without_end is_blank command))
 
 -- the same of a form
 abbrev pub is_without_memory : Form → Bool

@@ -11,16 +11,16 @@ use Rattle.script_core.specs.declared.TheConstants.{MAX_COMMAND}
 use Rattle.script_core.specs.Script.{is_line_feed, is_carriage_return, begins_command, commands}
 use Rattle.script_core.specs.Handed.{Handed, handed}
 use Rattle.script_core.specs.Machine.{Reply, line}
-use Rattle.script_core.specs.declared.running.Settings.{Settings}
+use Rattle.script_core.specs.Answer.{ReplyInRun}
 use Rattle.script_core.specs.Run.{Replied, Leads, out}
 
 -- The commands, the flags and the history before them determine the replies, and so all that is
 -- written and the history after them.
 abbrev pub OneRun : Type 0
 OneRun =
-    (settings : Settings) (commands : List Handed) (flags : List Bool) (h : History)
-    (replies others : List Reply) → Replied settings commands flags h replies
-    → Replied settings commands flags h others → replies ≡ others
+    (stop : Bool) (steps : ℕ) (commands : List Handed) (flags : List Bool) (h : History)
+    (replies others : List Reply) → Replied stop (ReplyInRun steps) commands flags h replies
+    → Replied stop (ReplyInRun steps) commands flags h others → replies ≡ others
 
 -- ---- dumps
 
@@ -62,13 +62,13 @@ pub record GivesAgain (c : Contents) (g : History) (replies : List Reply) : Type
 -- A dump reads back: on a session with nothing in it, whatever its settings, it gives the same contents.
 abbrev pub DumpReadsBack : Type 0
 DumpReadsBack =
-    (settings : Settings) (c : Contents) (h g : History) (flags : List Bool) (replies : List Reply)
+    (stop : Bool) (steps : ℕ) (c : Contents) (h g : History) (flags : List Bool) (replies : List Reply)
     → CanBeGiven h.primitives c → IsBare h → AreClear flags
-    → Leads settings (handed (dumped c)) h g flags replies → GivesAgain c g replies
+    → Leads stop (ReplyInRun steps) (handed (dumped c)) h g flags replies → GivesAgain c g replies
 
 -- Such a run there is, on every such session: a dump is answered without a refused growth.
 abbrev pub DumpIsAnswered : Type 0
 DumpIsAnswered =
-    (settings : Settings) (c : Contents) (h : History) → CanBeGiven h.primitives c → IsBare h
+    (stop : Bool) (steps : ℕ) (c : Contents) (h : History) → CanBeGiven h.primitives c → IsBare h
     → (flags : List Bool) × (replies : List Reply)
-    × AreClear flags × Replied settings (handed (dumped c)) flags h replies
+    × AreClear flags × Replied stop (ReplyInRun steps) (handed (dumped c)) flags h replies

@@ -4,7 +4,6 @@ pub mod Splitting
 pub mod PendingView
 pub mod Split
 pub mod FedRight
-pub mod Steps
 pub mod Form
 pub mod CommandView
 pub mod Machine

@@ -1,11 +1,8 @@
 -- What is answered to each command, and the history after it.
-use Rattle.std.specs.Prelude.{◌≡◌, ◌<◌, ◌≤◌, ◌⊎◌, ℕ, List, [], ◌∷◌, ◌++◌, length, codes, decimal, Some, None, Ok, Err, MatchResult}
-use Rattle.std.specs.declared.option.Option.{Option}
+use Rattle.std.specs.Prelude.{◌≡◌, ◌<◌, ◌≤◌, ◌⊎◌, ℕ, Bool, List, [], ◌∷◌, ◌++◌, length, codes, decimal, Ok, Err, MatchResult}
 use Rattle.std.specs.declared.result.Result.{Result}
 use Rattle.std.specs.List.{flat_map}
 use Rattle.std.specs.FinMap as finmap
-use Rattle.term_core.specs.Tree.{Tree}
-use Rattle.term_paths.specs.Paths.{at}
 use Rattle.aterm_text.specs.declared.TheConstants.{MAX_NESTING}
 use Rattle.aterm_text.specs.Nesting.{nesting}
 use Rattle.aterm_text.specs.Grammar.{Spells, SpellsAnnotations}
@@ -16,7 +13,7 @@ use Rattle.session_core.specs.Step as session
 use Rattle.session_core.specs.Dump.{dumped}
 use Rattle.session_core.specs.Refusal.{number_of, word_of}
 use Rattle.session_core.specs.declared.refusal.Refusal.{Refusal}
-use Rattle.session_core.specs.declared.refusal.Refusal.TheVariants.{Long, NoTree, NoModule, Path, Term, Deep, Check}
+use Rattle.session_core.specs.declared.refusal.Refusal.TheVariants.{Long, Term, Deep, Check}
 use Rattle.script_core.specs.Handed.{Handed, text as handed_text, long}
 use Rattle.script_core.specs.Form.{Form, tree, copy, drop_tree, put, annotate, set_module, unload, undo, redo, begin, commit, abandon, show, trees, modules, module_text, history, dump, command_of}
 
@@ -48,32 +45,27 @@ abbrev pub ok_with : History → Accepted
 ok_with h = told_of h (line (codes "ok"))
 
 -- a step of the session that is answered `ok`
-abbrev pub done : Result History Refusal → Reply
+abbrev pub done : session.Outcome → Reply
 done (Ok h) = Ok (ok_with h)
 done (Err refusal) = Err refusal
 
--- a text that was read, and the step with what it gives
-abbrev pub given_to : {X : Type 0} → Result X Refusal → (X → Result History Refusal) → Result History Refusal
-given_to (Ok x) next = next x
-given_to (Err refusal) next = Err refusal
+-- what comes of it is answered `ok`, or is the refusal
+abbrev pub Told : (session.Outcome → Type 0) → Reply → Type 0
+Told Comes reply = (outcome : session.Outcome) × Comes outcome × (reply ≡ done outcome)
 
--- what is shown of the name's tree, if there is one
-abbrev pub shown : History → Option Tree → Reply
-shown h (Some t) = Ok (told_of h (line (print t)))
-shown h None = Err Path
-
-abbrev pub shown_at : History → List ℕ → Option Tree → Reply
-shown_at h path (Some t) = shown h (at t path)
-shown_at h path None = Err NoTree
+-- what is shown of a place, if it is there
+abbrev pub shown : History → Result session.Place Refusal → Reply
+shown h (Ok place) = Ok (told_of h (line (print place.part)))
+shown h (Err refusal) = Err refusal
 
 -- a word, and a space and a name for each of these, on one line
 abbrev pub listed : List ℕ → List (List ℕ) → List ℕ
 listed word names = line (word ++ flat_map (λ name. 32 ∷ name) names)
 
--- the text of the name's module, if there is one
-abbrev pub shown_text : History → Option (List ℕ) → Reply
-shown_text h (Some text) = Ok (told_of h (line text))
-shown_text h None = Err NoModule
+-- what is shown of a module's text, if it is there
+abbrev pub shown_text : History → Result (List ℕ) Refusal → Reply
+shown_text h (Ok text) = Ok (told_of h (line text))
+shown_text h (Err refusal) = Err refusal
 
 -- the numbers of steps to undo and to redo
 abbrev pub counted : History → List ℕ
@@ -82,43 +74,35 @@ counted h = line (codes "undo " ++ decimal (length h.past) ++ codes " redo " ++ 
 abbrev pub told : History → List ℕ → Reply
 told h answer = Ok (told_of h answer)
 
--- A step with what a text gives, at a place that has to be there: where it isn't, that is told, and the
--- text isn't looked at.
-abbrev pub AtPlace : {X : Type 0} → (List ℕ → X → Type 0) → List ℕ → List ℕ → List ℕ
-    → (X → Result History Refusal) → History → Reply → Type 0
-AtPlace {X} Spelled name path text next h reply =
-    MatchResult (session.with_place h name path (λ _. Ok h))
-    (λ _. (given : Result X Refusal) × ReadAs Spelled text given × (reply ≡ done (given_to given next)))
-    (λ refusal. reply ≡ Err refusal)
+-- this is the reply
+abbrev pub Is : Reply → Reply → Type 0
+Is is reply = reply ≡ is
 
--- The reply to a form, at a history.
+-- The reply to a form, at a history. What a command finds in the session comes before its text.
 abbrev pub Replies : Form → History → Reply → Type 0
-Replies (tree name text) h reply =
-    (given : Result Tree Refusal) × ReadAs Spells text given
-    × (reply ≡ done (given_to given (λ t. session.step (session.set_tree name t) h)))
-Replies (copy name other) h reply = reply ≡ done (session.step (session.copy_tree name other) h)
-Replies (drop_tree name) h reply = reply ≡ done (session.step (session.drop_tree name) h)
-Replies (put name path text) h reply =
-    AtPlace Spells name path text (λ t. session.step (session.put name path t) h) h reply
-Replies (annotate name path text) h reply =
-    AtPlace SpellsAnnotations name path text (λ ts. session.step (session.annotate name path ts) h) h
-    reply
-Replies (set_module name text) h reply =
-    (left : Result History Refusal) × session.SetsModule name text h left × (reply ≡ done left)
-Replies (unload name) h reply =
-    (left : Result History Refusal) × session.Unloads name h left × (reply ≡ done left)
-Replies (undo n) h reply = reply ≡ done (session.step (session.undo n) h)
-Replies (redo n) h reply = reply ≡ done (session.step (session.redo n) h)
-Replies begin h reply = reply ≡ done (session.step session.begin h)
-Replies commit h reply =
-    (left : Result History Refusal) × session.Commits h left × (reply ≡ done left)
-Replies abandon h reply = reply ≡ done (session.step session.abandon h)
-Replies (show name path) h reply = reply ≡ shown_at h path (finmap.get h.now.trees name)
-Replies trees h reply = reply ≡ told h (listed (codes "trees") (finmap.keys h.now.trees))
-Replies modules h reply = reply ≡ told h (listed (codes "modules") (finmap.keys h.now.modules))
-Replies (module_text name) h reply = reply ≡ shown_text h (finmap.get h.now.modules name)
-Replies history h reply = reply ≡ told h (counted h)
-Replies dump h reply = reply ≡ told h (dumped h.now)
+Replies (tree name text) h =
+    Told (session.Given (ReadAs Spells text) (λ t. session.ComesTo (session.set_tree name t) h))
+Replies (copy name other) h = Told (session.ComesTo (session.copy_tree name other) h)
+Replies (drop_tree name) h = Told (session.ComesTo (session.drop_tree name) h)
+Replies (put name path text) h =
+    Told (session.Passing (session.place_of h.now name path) (λ place.
+    session.Given (ReadAs Spells text) (λ t. session.PutsAt name path t h place)))
+Replies (annotate name path text) h =
+    Told (session.Passing (session.place_of h.now name path) (λ place.
+    session.Given (ReadAs SpellsAnnotations text) (λ ts. session.AnnotatesAt name path ts h place)))
+Replies (set_module name text) h = Told (session.ComesTo (session.set_module name text) h)
+Replies (unload name) h = Told (session.ComesTo (session.unload name) h)
+Replies (undo n) h = Told (session.ComesTo (session.undo n) h)
+Replies (redo n) h = Told (session.ComesTo (session.redo n) h)
+Replies begin h = Told (session.ComesTo session.begin h)
+Replies commit h = Told (session.ComesTo session.commit h)
+Replies abandon h = Told (session.ComesTo session.abandon h)
+Replies (show name path) h = Is (shown h (session.place_of h.now name path))
+Replies trees h = Is (told h (listed (codes "trees") (finmap.keys h.now.trees)))
+Replies modules h = Is (told h (listed (codes "modules") (finmap.keys h.now.modules)))
+Replies (module_text name) h = Is (shown_text h (session.text_of h.now name))
+Replies history h = Is (told h (counted h))
+Replies dump h = Is (told h (dumped h.now))
 
 -- The reply to a text that is a command. The steps are the budget where it names none.
 abbrev pub ReplyToText : ℕ → List ℕ → History → Reply → Type 0
@@ -129,6 +113,11 @@ ReplyToText steps command h reply =
 abbrev pub ReplyTo : ℕ → Handed → History → Reply → Type 0
 ReplyTo steps (handed_text command) h reply = ReplyToText steps command h reply
 ReplyTo steps long h reply = reply ≡ Err Long
+
+-- What a run asks of each reply: how the command as it is handed out, whether a growth of memory was
+-- refused in it, and the history before it stand to the reply.
+abbrev pub Replying : Type 1
+Replying = Handed → Bool → History → Reply → Type 0
 
 -- the history that a reply leaves
 abbrev pub history_after : History → Reply → History

@@ -6,23 +6,21 @@ use Rattle.std.specs.List.{flat_map}
 use Rattle.std.specs.Io.KnownBytes.{Appends, Consumes, IsAtEnd}
 use Rattle.session_core.specs.History.{History}
 use Rattle.script_core.specs.Handed.{Handed, handed, completed}
-use Rattle.script_core.specs.Machine.{Reply, history_after, written}
-use Rattle.script_core.specs.Answer.{ReplyInRun}
-use Rattle.script_core.specs.declared.running.Settings.{Settings}
+use Rattle.script_core.specs.Machine.{Reply, Replying, history_after, written}
 
 -- The replies to commands one after another, each at the history that the one before leaves. The
--- flag of each says whether a growth of memory was refused in it. Where the settings say that a refusal
--- stops the run, nothing is replied behind the first.
-abbrev pub Replied : Settings → List Handed → List Bool → History → List Reply → Type 0
-Replied settings [] [] h [] = Unit {0}
-Replied settings (command ∷ commands) (flag ∷ flags) h (reply ∷ replies) =
-    ReplyInRun settings.steps command flag h reply
-    × MatchBool (settings.stop && is_err reply) ((flags ≡ []) × (replies ≡ []))
-    (Replied settings commands flags (history_after h reply) replies)
-Replied settings [] [] h (reply ∷ replies) = ⊥
-Replied settings [] (flag ∷ flags) h replies = ⊥
-Replied settings (command ∷ commands) [] h replies = ⊥
-Replied settings (command ∷ commands) (flag ∷ flags) h [] = ⊥
+-- flag of each says whether a growth of memory was refused in it. Where a refusal stops the run, nothing
+-- is replied behind the first.
+abbrev pub Replied : Bool → Replying → List Handed → List Bool → History → List Reply → Type 0
+Replied stop Rule [] [] h [] = Unit {0}
+Replied stop Rule (command ∷ commands) (flag ∷ flags) h (reply ∷ replies) =
+    Rule command flag h reply
+    × MatchBool (stop && is_err reply) ((flags ≡ []) × (replies ≡ []))
+    (Replied stop Rule commands flags (history_after h reply) replies)
+Replied stop Rule [] [] h (reply ∷ replies) = ⊥
+Replied stop Rule [] (flag ∷ flags) h replies = ⊥
+Replied stop Rule (command ∷ commands) [] h replies = ⊥
+Replied stop Rule (command ∷ commands) (flag ∷ flags) h [] = ⊥
 
 -- the history that all replies leave
 abbrev pub history_after_all : History → List Reply → History
@@ -44,18 +42,18 @@ one_if true = 1
 one_if false = 0
 
 -- These commands lead from the history h to g by these replies.
-pub record Leads (settings : Settings) (commands : List Handed) (h g : History) (flags : List Bool)
+pub record Leads (stop : Bool) (Rule : Replying) (commands : List Handed) (h g : History) (flags : List Bool)
     (replies : List Reply) : Type 0 where
-  pub replied : Replied settings commands flags h replies
+  pub replied : Replied stop Rule commands flags h replies
   pub history : g ≡ history_after_all h replies
 
 -- The commands are answered, and their answers written: so many accepted, and so many refused. What is
 -- written is known of a writer that tells what it holds.
-pub record Completes (settings : Settings) (commands : List Handed) (h g : History)
+pub record Completes (stop : Bool) (Rule : Replying) (commands : List Handed) (h g : History)
     (old new : Option (List ℕ)) (yes no : ℕ) : Type 0 where
   pub flags : List Bool
   pub replies : List Reply
-  pub leads : Leads settings commands h g flags replies
+  pub leads : Leads stop Rule commands h g flags replies
   pub written : Appends old new (out replies)
   pub accepted : yes ≡ count_by is_ok replies
   pub refused : no ≡ count_by is_err replies
@@ -68,14 +66,14 @@ pub record WritesFront (old new : Option (List ℕ)) (bytes lost : List ℕ) : T
 
 -- The first commands are answered, and no other. Their answers are written, but perhaps for a
 -- suffix of the last.
-pub record BreaksOff (settings : Settings) (commands : List Handed) (h g : History)
+pub record BreaksOff (stop : Bool) (Rule : Replying) (commands : List Handed) (h g : History)
     (old new : Option (List ℕ)) : Type 0 where
   pub first : List Handed
   pub others : List Handed
   pub split : commands ≡ first ++ others
   pub flags : List Bool
   pub replies : List Reply
-  pub leads : Leads settings first h g flags replies
+  pub leads : Leads stop Rule first h g flags replies
   pub lost : List ℕ
   pub written : WritesFront old new (out replies) lost
   pub front : List ℕ
@@ -85,29 +83,29 @@ pub record BreaksOff (settings : Settings) (commands : List Handed) (h g : Histo
 
 -- The script is answered, and was read to its end; or the run stopped at the refusal of a command that is
 -- complete in what was read.
-pub record Answers (settings : Settings) (h g : History) (left left' held held' : Option (List ℕ))
+pub record Answers (stop : Bool) (Rule : Replying) (h g : History) (left left' held held' : Option (List ℕ))
     (yes no : ℕ) : Type 0 where
   pub script : List ℕ
   pub read : Consumes left left' script
-  pub completes : Completes settings (handed script) h g held held' yes no
+  pub completes : Completes stop Rule (handed script) h g held held' yes no
   pub end : IsAtEnd left'
-      ⊎ ((settings.stop ≡ true) × (0 < no) × Completes settings (completed script) h g held held' yes no)
+      ⊎ ((stop ≡ true) × (0 < no) × Completes stop Rule (completed script) h g held held' yes no)
 
 -- A part of the script was read, of at least so many bytes, and its complete commands are answered; the
 -- run didn't stop.
-pub record AnswersPart (settings : Settings) (h g : History) (left left' held held' : Option (List ℕ))
+pub record AnswersPart (stop : Bool) (Rule : Replying) (h g : History) (left left' held held' : Option (List ℕ))
     (least : ℕ) : Type 0 where
   pub part : List ℕ
   pub read : Consumes left left' part
   pub yes : ℕ
   pub no : ℕ
-  pub completes : Completes settings (completed part) h g held held' yes no
-  pub goes_on : settings.stop ≡ true → no ≡ 0
+  pub completes : Completes stop Rule (completed part) h g held held' yes no
+  pub goes_on : stop ≡ true → no ≡ 0
   pub long : least ≤ length part
 
 -- A part of the script was read, and the first of its commands are answered.
-pub record AnswersFirst (settings : Settings) (h g : History) (left left' held held' : Option (List ℕ)) : Type 0
+pub record AnswersFirst (stop : Bool) (Rule : Replying) (h g : History) (left left' held held' : Option (List ℕ)) : Type 0
   where
     pub part : List ℕ
     pub read : Consumes left left' part
-    pub breaks : BreaksOff settings (handed part) h g held held'
+    pub breaks : BreaksOff stop Rule (handed part) h g held held'

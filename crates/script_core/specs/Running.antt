@@ -12,10 +12,15 @@ use Rattle.script_core.specs.declared.running.Settings.{Settings}
 use Rattle.script_core.specs.declared.running.RunFault.{RunFault}
 use Rattle.script_core.specs.declared.running.RunFault.TheVariants.{Read, Write, Turns, Memory}
 use Rattle.script_core.specs.Handed.{Handed, handed, completed}
+use Rattle.script_core.specs.Machine.{Replying}
 use Rattle.script_core.specs.Splitting.{StandsBehind}
 use Rattle.script_core.specs.Split.{Split}
 use Rattle.script_core.specs.FedRight.{GoesBehind}
 use Rattle.script_core.specs.Run.{Completes, BreaksOff, Answers, AnswersPart, AnswersFirst}
+
+-- the rule of a run by the budget of its settings
+abbrev pub ByBudget : Type 1
+ByBudget = ℕ → Replying
 
 -- A run that is to stop at a refusal goes on where none came, and ends where one came.
 abbrev pub GoesOnBy : Bool → ℕ → Bool → Type 0
@@ -23,40 +28,40 @@ GoesOnBy stop n true = stop ≡ true → n ≡ 0
 GoesOnBy stop n false = (stop ≡ true) × (0 < n)
 
 -- The commands are answered and counted.
-pub record Counts (commands : List Handed) (old new : Running) (h g : History)
+pub record Counts (Rule : ByBudget) (commands : List Handed) (old new : Running) (h g : History)
     (held held' : Option (List ℕ)) (goes_on : Bool) : Type 0 where
   pub yes : ℕ
   pub no : ℕ
-  pub completes : Completes old.settings commands h g held held' yes no
+  pub completes : Completes old.settings.stop (Rule old.settings.steps) commands h g held held' yes no
   pub accepted : new.summary.accepted ≡ old.summary.accepted + yes
   pub refused : new.summary.refused ≡ old.summary.refused + no
   pub total : yes + no ≤ length commands
   pub goes : GoesOnBy old.settings.stop no goes_on
   pub settings : new.settings ≡ old.settings
 
--- The command that is ready is answered.
-abbrev pub AnswersReady : Running → Running → History → History → Option (List ℕ)
+-- The command that can be handed out is answered.
+abbrev pub AnswersReady : ByBudget → Running → Running → History → History → Option (List ℕ)
     → Option (List ℕ) → Bool → Type 0
-AnswersReady old new h g held held' goes_on =
-    (command : Handed) × (old.splitter.ready ≡ Some command)
-    × Counts (command ∷ []) old new h g held held' goes_on
+AnswersReady Rule old new h g held held' goes_on =
+    (command : Handed) × (old.splitter.to_hand_out ≡ Some command)
+    × Counts Rule (command ∷ []) old new h g held held' goes_on
 
 -- Of these bytes all but the rest are taken, and the commands that they make complete are answered.
-pub record Underway (old new : Running) (h g : History) (held held' : Option (List ℕ))
+pub record Underway (Rule : ByBudget) (old new : Running) (h g : History) (held held' : Option (List ℕ))
     (bytes rest : List ℕ) (goes_on : Bool) : Type 0 where
   pub taken : List ℕ
   pub all : bytes ≡ taken ++ rest
   pub commands : List Handed
   pub behind : GoesBehind old.splitter new.splitter taken commands
-  pub counts : Counts commands old new h g held held' goes_on
+  pub counts : Counts Rule commands old new h g held held' goes_on
   pub few : length commands ≤ length taken
 
 -- All bytes are taken where the run goes on.
-abbrev pub AnswersBytes : Running → Running → History → History → Option (List ℕ)
+abbrev pub AnswersBytes : ByBudget → Running → Running → History → History → Option (List ℕ)
     → Option (List ℕ) → List ℕ → Bool → Type 0
-AnswersBytes old new h g held held' bytes true = Underway old new h g held held' bytes [] true
-AnswersBytes old new h g held held' bytes false =
-    (rest : List ℕ) × Underway old new h g held held' bytes rest false
+AnswersBytes Rule old new h g held held' bytes true = Underway Rule old new h g held held' bytes [] true
+AnswersBytes Rule old new h g held held' bytes false =
+    (rest : List ℕ) × Underway Rule old new h g held held' bytes rest false
 
 -- Behind what came before, these bytes give all of these commands.
 abbrev pub HandsBehind : Split → List ℕ → List Handed → Type 0
@@ -64,32 +69,32 @@ HandsBehind old bytes all =
     (x : List ℕ) (out : List Handed) → StandsBehind x out old.left → handed (x ++ bytes) ≡ out ++ all
 
 -- Answering these bytes breaks off.
-pub record Breaks (old : Running) (h g : History) (held held' : Option (List ℕ)) (bytes : List ℕ) : Type 0
+pub record Breaks (Rule : ByBudget) (old : Running) (h g : History) (held held' : Option (List ℕ)) (bytes : List ℕ) : Type 0
   where
     pub all : List Handed
     pub hands : HandsBehind old.splitter bytes all
-    pub breaks : BreaksOff old.settings all h g held held'
+    pub breaks : BreaksOff old.settings.stop (Rule old.settings.steps) all h g held held'
 
 -- Answering these bytes comes to an end.
-pub record Ends (old new : Running) (h g : History) (held held' : Option (List ℕ)) (bytes : List ℕ) : Type 0
+pub record Ends (Rule : ByBudget) (old new : Running) (h g : History) (held held' : Option (List ℕ)) (bytes : List ℕ) : Type 0
   where
     pub all : List Handed
     pub hands : HandsBehind old.splitter bytes all
     pub yes : ℕ
     pub no : ℕ
-    pub completes : Completes old.settings all h g held held' yes no
+    pub completes : Completes old.settings.stop (Rule old.settings.steps) all h g held held' yes no
     pub accepted : new.summary.accepted ≡ old.summary.accepted + yes
     pub refused : new.summary.refused ≡ old.summary.refused + no
 
 -- These bytes are answered up to a refusal at which the run stops, in a command that they make complete.
-pub record Stops (old : Running) (h g : History) (held held' : Option (List ℕ)) (bytes : List ℕ)
+pub record Stops (Rule : ByBudget) (old : Running) (h g : History) (held held' : Option (List ℕ)) (bytes : List ℕ)
     (yes no : ℕ) : Type 0 where
   pub stop : old.settings.stop ≡ true
   pub some : 0 < no
   pub all : List Handed
   pub hands : (x : List ℕ) (out : List Handed) → StandsBehind x out old.splitter.left
       → completed (x ++ bytes) ≡ out ++ all
-  pub completes : Completes old.settings all h g held held' yes no
+  pub completes : Completes old.settings.stop (Rule old.settings.steps) all h g held held' yes no
 
 -- what a reader and a writer tell, and how often they failed
 pub record Streams : Type 0 where
@@ -107,35 +112,35 @@ Calm old new = (new.read_failures ≡ old.read_failures) × (new.write_failures 
 
 -- One turn of a run: at most so many bytes are read and their commands answered, and it goes on; or the
 -- run comes to its end, or breaks off.
-abbrev pub TurnRight : Result Bool RunFault → Running → Running → History → History → Streams → Streams
+abbrev pub TurnRight : ByBudget → Result Bool RunFault → Running → Running → History → History → Streams → Streams
     → ℕ → Type 0
-TurnRight (Ok true) old new h g a b most =
+TurnRight Rule (Ok true) old new h g a b most =
     Calm a b × ((bytes : List ℕ) × Consumes a.left b.left bytes
     × (0 < length bytes) × (length bytes ≤ most)
-    × Underway old new h g a.held b.held bytes [] true)
-TurnRight (Ok false) old new h g a b most =
+    × Underway Rule old new h g a.held b.held bytes [] true)
+TurnRight Rule (Ok false) old new h g a b most =
     Calm a b × ((bytes : List ℕ) × Consumes a.left b.left bytes
-    × ((ends : Ends old new h g a.held b.held bytes)
-    × (IsAtEnd b.left ⊎ Stops old h g a.held b.held bytes ends.yes ends.no)))
-TurnRight (Err Read) old new h g a b most =
+    × ((ends : Ends Rule old new h g a.held b.held bytes)
+    × (IsAtEnd b.left ⊎ Stops Rule old h g a.held b.held bytes ends.yes ends.no)))
+TurnRight Rule (Err Read) old new h g a b most =
     (b.read_failures ≡ a.read_failures + 1) × (b.write_failures ≡ a.write_failures)
     × Keeps a.left b.left × (g ≡ h) × Keeps a.held b.held
-TurnRight (Err Write) old new h g a b most =
+TurnRight Rule (Err Write) old new h g a b most =
     (b.write_failures ≡ a.write_failures + 1) × (b.read_failures ≡ a.read_failures)
-    × ((bytes : List ℕ) × Consumes a.left b.left bytes × Breaks old h g a.held b.held bytes)
-TurnRight (Err Turns) old new h g a b most = ⊥
-TurnRight (Err Memory) old new h g a b most = ⊥
+    × ((bytes : List ℕ) × Consumes a.left b.left bytes × Breaks Rule old h g a.held b.held bytes)
+TurnRight Rule (Err Turns) old new h g a b most = ⊥
+TurnRight Rule (Err Memory) old new h g a b most = ⊥
 
 -- A whole run, but for the memory that it begins with.
-abbrev pub RunRight : Result Summary RunFault → Settings → History → History → Streams → Streams → Type 0
-RunRight (Ok summary) settings h g a b =
-    Calm a b × Answers settings h g a.left b.left a.held b.held summary.accepted summary.refused
-RunRight (Err Read) settings h g a b =
+abbrev pub RunRight : ByBudget → Result Summary RunFault → Settings → History → History → Streams → Streams → Type 0
+RunRight Rule (Ok summary) settings h g a b =
+    Calm a b × Answers settings.stop (Rule settings.steps) h g a.left b.left a.held b.held summary.accepted summary.refused
+RunRight Rule (Err Read) settings h g a b =
     (b.read_failures ≡ a.read_failures + 1) × (b.write_failures ≡ a.write_failures)
-    × AnswersPart settings h g a.left b.left a.held b.held 0
-RunRight (Err Turns) settings h g a b =
-    Calm a b × AnswersPart settings h g a.left b.left a.held b.held MAX_READS
-RunRight (Err Write) settings h g a b =
+    × AnswersPart settings.stop (Rule settings.steps) h g a.left b.left a.held b.held 0
+RunRight Rule (Err Turns) settings h g a b =
+    Calm a b × AnswersPart settings.stop (Rule settings.steps) h g a.left b.left a.held b.held MAX_READS
+RunRight Rule (Err Write) settings h g a b =
     (b.write_failures ≡ a.write_failures + 1) × (b.read_failures ≡ a.read_failures)
-    × AnswersFirst settings h g a.left b.left a.held b.held
-RunRight (Err Memory) settings h g a b = ⊥
+    × AnswersFirst settings.stop (Rule settings.steps) h g a.left b.left a.held b.held
+RunRight Rule (Err Memory) settings h g a b = ⊥

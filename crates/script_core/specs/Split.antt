@@ -9,9 +9,10 @@ use Rattle.script_core.specs.declared.splitter.Begun.{Begun}
 use Rattle.script_core.specs.Handed.{Handed, handed_code}
 use Rattle.script_core.specs.Splitting.{begun}
 
--- the command that can be handed out, and what is under way
+-- The command that can be handed out, if one can, which behind a `Need` is the one under way; and what is
+-- under way.
 pub record Split : Type 0 where
-  pub ready : Option Handed
+  pub to_hand_out : Option Handed
   pub left : Unfinished
 
 -- What is under way behind a command that was completed, if one was.
@@ -20,7 +21,7 @@ left_behind s None = s
 left_behind s (Some line) = begun line.returns line.byte
 
 abbrev pub split_of : Unfinished → Option Begun → Split
-split_of s line = record { ready = s.command; left = left_behind s line }
+split_of s line = record { to_hand_out = s.command; left = left_behind s line }
 
 -- ---- how the logic stores it: as a tuple of its parts
 
@@ -54,4 +55,4 @@ unfinished_code =
 abbrev pub split_code : Coded Split
 split_code =
     code_by (Option Handed × Unfinished) (coded× (coded_option handed_code) unfinished_code)
-    (λ s. (s.ready, s.left)) (λ p. record { ready = p.0; left = p.1 }) (λ _. refl)
+    (λ s. (s.to_hand_out, s.left)) (λ p. record { to_hand_out = p.0; left = p.1 }) (λ _. refl)

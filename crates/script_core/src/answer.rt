@@ -6,13 +6,14 @@ ghost use Rattle.aterm_text.specs.Grammar.{Spells, SpellsAnnotations};
 ghost use Rattle.aterm_text.specs.Printed.{print as print_of, print_name as name_printed};
 ghost use Rattle.aterm_text.specs.Printing.{Extends};
 ghost use Rattle.strategy_check.specs.Words.{word_of as kind_word};
-ghost use Rattle.session_core.specs.Step.{with_place};
+ghost use Rattle.session_core.specs.Step.{place_of};
+ghost use Rattle.term_core.specs.Tree.{Tree};
 ghost use Rattle.session_core.specs.Refusal.{number_of};
-ghost use Rattle.script_core.specs.Steps.{AreSteps};
+ghost use Rattle.session_core.specs.Steps.{AreSteps};
 ghost use Rattle.script_core.specs.Form.{tree, put, annotate, show, module_text, takes_no_memory, is_without_memory};
 ghost use Rattle.script_core.specs.FedRight.{handed_out};
 ghost use Rattle.script_core.specs.Machine.{ReadAs, Replies, ReplyTo, ReplyToText, line, listed, counted, ok_with, told_of, reason, refused as refused_text};
-ghost use Rattle.script_core.specs.Answer.{Accepts, Answered, Refuses, is_fault, refusal_of, takes_none};
+ghost use Rattle.script_core.specs.Answer.{Accepts, Answered, Refuses, ReplyInRun, is_fault, reading_refusal, takes_none};
 ghost use Rattle.script_core.specs.CommandView.{form as form_seen};
 
 use crate::{Command, Piece};
@@ -40,7 +41,7 @@ pub fn answer_text<M: Meaning>(
 ) -> bool
     requires steps { AreSteps steps }
     requires room { vec_len answer.old + ANSWER_ROOM ≤ vec_capacity answer.old }
-    ensures answered { Answered steps (handed_out command.entry) session.old session.new answer.old.items
+    ensures answered { Answered (ReplyInRun steps) (handed_out command.entry) session.old session.new answer.old.items
         answer.new.items result }
     ensures room { vec_capacity answer.old ≤ vec_capacity answer.new }
 {
@@ -194,7 +195,9 @@ fn put<M: Meaning>(
         false) }
     ensures err { OnErr result (session.new ≡ session.old) }
 {
-    find_place(session, name, path)?;
+    if let Err(refusal) = find_place(session, name, path) {
+        return Err(refusal);
+    }
     match read_term(alloc, text) {
         Ok(part) => session.put(name, path, part),
         Err(refusal) => Err(refusal),
@@ -214,7 +217,9 @@ fn annotate<M: Meaning>(
         false) }
     ensures err { OnErr result (session.new ≡ session.old) }
 {
-    find_place(session, name, path)?;
+    if let Err(refusal) = find_place(session, name, path) {
+        return Err(refusal);
+    }
     match read_notes(alloc, text) {
         Ok(annotations) => session.annotate(name, path, annotations),
         Err(refusal) => Err(refusal),
@@ -227,10 +232,10 @@ fn find_place<'s, M: Meaning>(
     name: &Label,
     path: &Path,
 ) -> Result<&'s Term, Refusal>
-    ensures found { IfOk result (λ part. with_place session.now name.now path.now (λ _. Ok session.now)
-        ≡ Ok session.now) }
-    ensures refused { IfErr result (λ refusal. with_place session.now name.now path.now
-        (λ _. Ok session.now) ≡ Err refusal) }
+    ensures found { IfOk result (λ part. (tree : Tree) × (place_of session.now.now name.now path.now
+        ≡ Ok (record { tree = tree; part = part.now }))) }
+    ensures refused { IfErr result (λ refusal. place_of session.now.now name.now path.now
+        ≡ Err refusal) }
     ensures shown { IfOk result (λ part. Replies (show name.now path.now) session.now
         (Ok (told_of session.now (line (print_of part.now))))) }
     ensures not_shown { IfErr result (λ refusal. Replies (show name.now path.now) session.now
@@ -268,7 +273,7 @@ fn read_notes(alloc: Global, text: &[u8]) -> Result<Vec<Term>, Refusal>
 }
 
 fn read_refusal(fault: ReadFault) -> Refusal
-    ensures { result ≡ refusal_of fault }
+    ensures { result ≡ reading_refusal fault }
 {
     match fault {
         ReadFault::Deep => Refusal::Deep,

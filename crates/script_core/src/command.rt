@@ -5,14 +5,13 @@ ghost use Rattle.std.specs.List.{prefix_len, suffix_len, position_or_len};
 ghost use Rattle.term_core.specs.Word.{label_of};
 ghost use Rattle.aterm_text.specs.Tokens.{is_blank, without_blanks};
 ghost use Rattle.script_core.specs.Script.{without_end};
-ghost use Rattle.script_core.specs.Steps.{AreSteps};
-ghost use Rattle.script_core.specs.Form.{Form, command_of, checked, tree_form, copy_form, drop_form, put_form, annotate_form, module_form, unload_form, text_form, show_form, last_name, last_steps, last_place, last_text, ended, form_with, is_without_memory, takes_no_memory, takes_no_memory_with, first_word, behind_word, has_word};
+ghost use Rattle.session_core.specs.Steps.{AreSteps};
+ghost use Rattle.script_core.specs.Form.{Form, command_of, checked, tree_form, copy_form, drop_form, put_form, annotate_form, module_form, unload_form, text_form, show_form, last_name, last_steps, last_place, last_text, ended, form_with, is_without_memory, takes_no_memory, takes_no_memory_with, front_word, behind_word, has_word};
 ghost use Rattle.term_paths.specs.PathText.{path_of};
 ghost use Rattle.script_core.specs.CommandView.{form as form_seen};
 
-use crate::MAX_STEPS;
 use aterm_text::{after_blanks, is_blank};
-use session_core::Refusal;
+use session_core::{MAX_STEPS, Refusal};
 use std::alloc::Global;
 use term_core::Label;
 use term_paths::{Path, PathFault, read_number, read_path};
@@ -64,14 +63,14 @@ impl<'a> Command<'a> {
     ///
     /// Errors: `Line` where the command has no form of those above; `Name` where a name is no word or has
     /// more than 64 bytes; `Memory` where a growth of memory is refused.
-    pub fn read(alloc: Global, command: &'a [u8], _steps: u32) -> Result<Command<'a>, Refusal>
-        requires { AreSteps _steps }
-        ensures ok { IfOk result (λ read. command_of _steps command.now ≡ Ok (form_seen read)) }
+    pub fn read(alloc: Global, command: &'a [u8], steps: u32) -> Result<Command<'a>, Refusal>
+        requires { AreSteps steps }
+        ensures ok { IfOk result (λ read. command_of steps command.now ≡ Ok (form_seen read)) }
         ensures without_memory { IfOk result (λ read. takes_no_memory command.now
             ≡ is_without_memory (form_seen read)) }
         ensures refused { IfErr result (λ refusal. ((refusal ≡ Refusal.Memory)
             × (takes_no_memory command.now ≡ false))
-            ⊎ (command_of _steps command.now ≡ Err refusal)) }
+            ⊎ (command_of steps command.now ≡ Err refusal)) }
     {
         let text = without_last_blanks(command);
         let (keyword, rest) = split_word(text);
@@ -84,18 +83,23 @@ impl<'a> Command<'a> {
         } else if keyword == b"abandon".as_slice() {
             read_ended(Command::Abandon, rest)
         } else {
-            read_other(alloc, keyword, rest)
+            read_other(alloc, keyword, rest, steps)
         }
     }
 }
 
-// The forms that may take memory.
-fn read_other<'a>(alloc: Global, keyword: &[u8], rest: &'a [u8]) -> Result<Command<'a>, Refusal>
+// The forms that may take memory. The steps are the budget of one that names none.
+fn read_other<'a>(
+    alloc: Global,
+    keyword: &[u8],
+    rest: &'a [u8],
+    _steps: u32,
+) -> Result<Command<'a>, Refusal>
     requires { takes_no_memory_with keyword.now ≡ false }
-    ensures ok { IfOk result (λ read. checked (form_with keyword.now rest.now) ≡ Ok (form_seen read)) }
+    ensures ok { IfOk result (λ read. checked (form_with _steps keyword.now rest.now) ≡ Ok (form_seen read)) }
     ensures may_take_memory { IfOk result (λ read. is_without_memory (form_seen read) ≡ false) }
     ensures refused { IfErr result (λ refusal. (refusal ≡ Refusal.Memory)
-        ⊎ (checked (form_with keyword.now rest.now) ≡ Err refusal)) }
+        ⊎ (checked (form_with _steps keyword.now rest.now) ≡ Err refusal)) }
 {
     if keyword == b"tree".as_slice() {
         read_tree(alloc, rest)
@@ -332,7 +336,7 @@ fn blanks_at_end(text: &[u8]) -> usize
 
 // The first word of a text, with nothing in it where there is none, and what stands behind it.
 fn split_word(text: &[u8]) -> (&[u8], &[u8])
-    ensures word { result.0.now ≡ first_word text.now }
+    ensures word { result.0.now ≡ front_word text.now }
     ensures behind { result.1.now ≡ behind_word text.now }
 {
     let text = after_blanks(text);

@@ -22,6 +22,3 @@ pub use splitter::{Fed, Piece, Splitter};
 
 /// The most bytes of a command.
 pub const MAX_COMMAND: usize = 65_536;
-
-/// The most steps that one `undo` or `redo` goes, and the greatest budget of an evaluation.
-pub const MAX_STEPS: u32 = 1_000_000;

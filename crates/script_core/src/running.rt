@@ -4,7 +4,8 @@
 ghost use Rattle.std.specs.Prelude.{◌≡◌, ◌≤◌, ◌<◌, ◌+◌, ◌*◌, ◌^◌, ◌∷◌, [], Ok, Err, OnOk, OnErr, IfOk, true, false, not, is_some, Some, vec_capacity, length};
 ghost use Rattle.script_core.specs.Handed.{Handed};
 ghost use Rattle.script_core.specs.Splitting.{StandsBehind};
-ghost use Rattle.script_core.specs.Steps.{AreSteps};
+ghost use Rattle.session_core.specs.Steps.{AreSteps};
+ghost use Rattle.script_core.specs.Answer.{ReplyInRun};
 ghost use Rattle.script_core.specs.Running.{AnswersReady, AnswersBytes, Breaks, Ends, TurnRight, RunRight, streams};
 ghost use Rattle.script_core.specs.Run.{Answers, AnswersPart, AnswersFirst, Completes, BreaksOff, one_if};
 
@@ -85,7 +86,7 @@ pub fn run<M: Meaning, I: Source, O: Sink>(
     requires sink_counts { O.failed sink.old + 1 < 2 ^ 64 }
 
     // All that was read is answered, up to its end; or the run stopped at a refusal.
-    ensures done { IfOk result (λ summary. Answers settings session.old session.new
+    ensures done { IfOk result (λ summary. Answers settings.stop (ReplyInRun settings.steps) session.old session.new
         (I.left source.old) (I.left source.new) (O.held sink.old) (O.held sink.new)
         summary.accepted summary.refused) }
     ensures calm { OnOk result ((I.failed source.new ≡ I.failed source.old)
@@ -95,17 +96,17 @@ pub fn run<M: Meaning, I: Source, O: Sink>(
     // least as many bytes were read.
     ensures read { result ≡ Err RunFault.Read → (I.failed source.new ≡ I.failed source.old + 1)
         × (O.failed sink.new ≡ O.failed sink.old)
-        × AnswersPart settings session.old session.new
+        × AnswersPart settings.stop (ReplyInRun settings.steps) session.old session.new
         (I.left source.old) (I.left source.new) (O.held sink.old) (O.held sink.new) 0 }
     ensures turns { result ≡ Err RunFault.Turns → ((I.failed source.new ≡ I.failed source.old)
         × (O.failed sink.new ≡ O.failed sink.old))
-        × AnswersPart settings session.old session.new
+        × AnswersPart settings.stop (ReplyInRun settings.steps) session.old session.new
         (I.left source.old) (I.left source.new) (O.held sink.old) (O.held sink.new) MAX_READS }
 
     // Where a write or a flush fails, the first commands of what was read are answered.
     ensures write { result ≡ Err RunFault.Write → (O.failed sink.new ≡ O.failed sink.old + 1)
         × (I.failed source.new ≡ I.failed source.old)
-        × AnswersFirst settings session.old session.new
+        × AnswersFirst settings.stop (ReplyInRun settings.steps) session.old session.new
         (I.left source.old) (I.left source.new) (O.held sink.old) (O.held sink.new) }
 
     // Without memory nothing happened.
@@ -131,23 +132,23 @@ pub fn run<M: Meaning, I: Source, O: Sink>(
 }
 
 impl Running {
-    // Answers the command that is ready, and tells whether the run goes on.
+    // Answers the command that can be handed out, and tells whether the run goes on.
     fn answer_ready<M: Meaning, O: Sink>(
         &mut self,
         alloc: Global,
         session: &mut Session<M>,
         sink: &mut O,
     ) -> Result<bool, Failed>
-        requires ready { is_some self.old.splitter.ready ≡ true }
+        requires ready { is_some self.old.splitter.to_hand_out ≡ true }
         requires steps { AreSteps self.old.settings.steps }
         requires room { ANSWER_ROOM ≤ vec_capacity self.old.answer }
         requires counts { self.old.summary.accepted + self.old.summary.refused + 1 < 2 ^ 64 }
         requires sink { O.failed sink.old + 1 < 2 ^ 64 }
-        ensures answers { IfOk result (AnswersReady self.old self.new session.old session.new
+        ensures answers { IfOk result (AnswersReady ReplyInRun self.old self.new session.old session.new
             (O.held sink.old) (O.held sink.new)) }
         ensures same { OnOk result (O.failed sink.new ≡ O.failed sink.old) }
-        ensures breaks { OnErr result ((command : Handed) × (self.old.splitter.ready ≡ Some command)
-            × BreaksOff self.old.settings (command ∷ []) session.old session.new
+        ensures breaks { OnErr result ((command : Handed) × (self.old.splitter.to_hand_out ≡ Some command)
+            × BreaksOff self.old.settings.stop (ReplyInRun self.old.settings.steps) (command ∷ []) session.old session.new
             (O.held sink.old) (O.held sink.new)) }
         ensures count { OnErr result (O.failed sink.new ≡ O.failed sink.old + 1) }
         ensures splitter { self.new.splitter ≡ self.old.splitter }
@@ -179,10 +180,10 @@ impl Running {
         requires counts { self.old.summary.accepted + self.old.summary.refused + length bytes.now
             < 2 ^ 64 }
         requires sink { O.failed sink.old + 1 < 2 ^ 64 }
-        ensures answers { IfOk result (AnswersBytes self.old self.new session.old session.new
+        ensures answers { IfOk result (AnswersBytes ReplyInRun self.old self.new session.old session.new
             (O.held sink.old) (O.held sink.new) bytes.now) }
         ensures same { OnOk result (O.failed sink.new ≡ O.failed sink.old) }
-        ensures breaks { OnErr result (Breaks self.old session.old session.new
+        ensures breaks { OnErr result (Breaks ReplyInRun self.old session.old session.new
             (O.held sink.old) (O.held sink.new) bytes.now) }
         ensures count { OnErr result (O.failed sink.new ≡ O.failed sink.old + 1) }
         ensures room { ANSWER_ROOM ≤ vec_capacity self.new.answer }
@@ -208,10 +209,10 @@ impl Running {
         requires room { ANSWER_ROOM ≤ vec_capacity self.old.answer }
         requires counts { self.old.summary.accepted + self.old.summary.refused + 1 < 2 ^ 64 }
         requires sink { O.failed sink.old + 1 < 2 ^ 64 }
-        ensures ends { OnOk result (Ends self.old self.new session.old session.new
+        ensures ends { OnOk result (Ends ReplyInRun self.old self.new session.old session.new
             (O.held sink.old) (O.held sink.new) []) }
         ensures same { OnOk result (O.failed sink.new ≡ O.failed sink.old) }
-        ensures breaks { OnErr result (Breaks self.old session.old session.new
+        ensures breaks { OnErr result (Breaks ReplyInRun self.old session.old session.new
             (O.held sink.old) (O.held sink.new) []) }
         ensures count { OnErr result (O.failed sink.new ≡ O.failed sink.old + 1) }
     {
@@ -237,7 +238,7 @@ impl Running {
             < 2 ^ 64 }
         requires source { I.failed source.old + 1 < 2 ^ 64 }
         requires sink { O.failed sink.old + 1 < 2 ^ 64 }
-        ensures right { TurnRight result self.old self.new session.old session.new
+        ensures right { TurnRight ReplyInRun result self.old self.new session.old session.new
             (streams (I.left source.old) (O.held sink.old) (I.failed source.old) (O.failed sink.old))
             (streams (I.left source.new) (O.held sink.new) (I.failed source.new) (O.failed sink.new))
             (length piece.old) }
@@ -273,7 +274,7 @@ impl Running {
         requires room { ANSWER_ROOM ≤ vec_capacity self.old.answer }
         requires source { I.failed source.old + 1 < 2 ^ 64 }
         requires sink { O.failed sink.old + 1 < 2 ^ 64 }
-        ensures { RunRight result self.old.settings session.old session.new
+        ensures { RunRight ReplyInRun result self.old.settings session.old session.new
             (streams (I.left source.old) (O.held sink.old) (I.failed source.old) (O.failed sink.old))
             (streams (I.left source.new) (O.held sink.new) (I.failed source.new) (O.failed sink.new)) }
     {

@@ -124,21 +124,21 @@ impl Splitter {
         Fed::Need
     }
 
-    /// Ends the script, and tells whether a last command is ready. Nothing is to be fed after it.
+    /// Ends the script, and tells whether a last command can be handed out. Nothing is to be fed after it.
     pub fn finish(&mut self) -> bool
-        ensures ready { result ≡ is_some self.new.ready }
+        ensures ready { result ≡ is_some self.new.to_hand_out }
         ensures all { (x : List ℕ) (out : List Handed) → StandsBehind x out self.old.left
-            → handed x ≡ out ++ option_to_list self.new.ready }
+            → handed x ≡ out ++ option_to_list self.new.to_hand_out }
     {
         self.open.go_on_behind(self.begun);
         self.begun = None;
         self.open.command.is_there()
     }
 
-    /// The command that is ready.
+    /// The command that can be handed out.
     pub fn command(&self) -> Piece<'_>
-        requires { is_some self.now.ready ≡ true }
-        ensures { self.now.ready ≡ Some (handed_out result) }
+        requires { is_some self.now.to_hand_out ≡ true }
+        ensures { self.now.to_hand_out ≡ Some (handed_out result) }
     {
         self.open.command.piece()
     }

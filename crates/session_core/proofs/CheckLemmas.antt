@@ -1,5 +1,5 @@
 -- What reading and checking the modules of a store says of the history.
-use Rattle.std.proofs.Common.{◌≡◌, ◌<◌, ◌≤◌, ◌⊎◌, ℕ, Bool, true, false, cond, List, [], ◌∷◌, ◌++◌, map, Option, Some, None, IsSome, is_some, IfSome, Result, Ok, Err, IfErr, option_and_then, inl, inr, refl, sym, ap, subst, ◌∙◌, arith}
+use Rattle.std.proofs.Common.{◌≡◌, ◌<◌, ◌≤◌, ◌⊎◌, ℕ, Bool, true, false, cond, List, [], ◌∷◌, ◌++◌, map, Option, Some, None, IsSome, is_some, IfSome, Result, Ok, Err, IfErr, ok_or, option_and_then, inl, inr, refl, sym, ap, subst, ◌∙◌, arith}
 use Rattle.std.specs.Prelude.{IsSomeAnd, IfOk}
 use Rattle.std.proofs.Common.{append_assoc}
 use Rattle.std.proofs.lemmas.List.{append-nil}
@@ -12,9 +12,8 @@ use Rattle.std.specs.FinMap as finmap
 use Rattle.std.specs.FinMap.{find, entries, get-entries, get-insert}
 use Rattle.strategy_syntax.specs.Modules.{Module}
 use Rattle.strategy_check.specs.Tables.{Modules}
-use Rattle.strategy_check.specs.Faults.{Fault, Primitives, first}
+use Rattle.strategy_check.specs.Faults.{Primitives}
 use Rattle.strategy_check.specs.Programs.{Program}
-use Rattle.std.specs.Option.{MatchOption}
 use Rattle.change_log.specs.Contents.{Contents, with_module, without_module}
 use Rattle.change_log.specs.Slots.{Store, AreApart, contents, content, slot_of}
 use Rattle.change_log.specs.Entries.{Entry, slot_text, put, before}
@@ -24,20 +23,21 @@ use Rattle.session_core.specs.Unfolded.{unfolded}
 use Rattle.session_core.specs.declared.timeline.Timeline.{Timeline}
 use Rattle.session_core.specs.declared.timeline.OpenGroup.{OpenGroup}
 use Rattle.session_core.specs.History.{Group, History, changed}
-use Rattle.session_core.specs.Step.{committed, inside, unless, Becomes, SetsModule, Unloads, Commits}
-use Rattle.session_core.specs.Modules.{Texts, ReadsModule, AreReadable, AreRead, AreModules, Finds, IsProgram, IsKept, IsUnread, AreRefused, refusal_of}
+use Rattle.session_core.specs.Step.{set_module, unload, commit, Outcome, Given, Leaves, ChangesModules, ComesTo, committed, text_of}
+use Rattle.session_core.specs.Modules.{Texts, ReadsAsModule, AreReadable, AreRead, AreModules, GivesProgram, IsProgram, IsKept, Checks, IsUnread, AreRefused}
 use Rattle.session_core.specs.declared.refusal.Refusal.{Refusal}
 use Rattle.session_core.specs.declared.refusal.Refusal.TheVariants.{Memory, NoModule, NoGroup}
 use Rattle.session_core.proofs.MapLemmas.{R, same_key}
+use Rattle.session_core.proofs.StepLemmas.{passed, stopped}
 use Rattle.session_core.proofs.SoundLemmas.{readable_without, now_changed}
 
 -- a text that gives a module isn't refused
-pub reads_one : (text : List ℕ) (m : Module) (refusal : Refusal) → ReadsModule text (Ok m) → ReadsModule text (Err refusal) → ⊥
+pub reads_one : (text : List ℕ) (m : Module) (refusal : Refusal) → ReadsAsModule text (Ok m) → ReadsAsModule text (Err refusal) → ⊥
 reads_one text m refusal ok (inl (deep, more)) = omega (arith, ok.0, more)
 reads_one text m refusal ok (inr (syntax, few, none)) = none m ok.1
 
 abbrev Reads : Module → Option (List ℕ) → Type 0
-Reads m o = IsSomeAnd o (λ text. ReadsModule text (Ok m))
+Reads m o = IsSomeAnd o (λ text. ReadsAsModule text (Ok m))
 
 -- a text under one of the names that were read gives a module
 read_found : (texts : Texts) (es : List (List ℕ × List ℕ)) (ms : Modules) (q x : List ℕ) → AreRead texts (map (λ e. e.0) es) ms → find R q es ≡ Some x → (m : Module) × Reads m (finmap.get texts q)
@@ -49,7 +49,7 @@ read_found texts (d ∷ es) (m ∷ ms) q x h e = by (is_eq (R q d.0)) refl (λ f
     by true same rest e = (m.1, subst (λ (k : List ℕ). Reads m.1 (finmap.get texts k)) (sym (same_key q d.0 same)) h.1)
     by false same rest e = rest e
 
-pub module_of : (texts : Texts) (ms : Modules) (name text : List ℕ) → AreModules texts ms → finmap.get texts name ≡ Some text → (m : Module) × ReadsModule text (Ok m)
+pub module_of : (texts : Texts) (ms : Modules) (name text : List ℕ) → AreModules texts ms → finmap.get texts name ≡ Some text → (m : Module) × ReadsAsModule text (Ok m)
 module_of texts ms name text are e =
     let there = read_found texts (entries texts) ms name text are (sym (get-entries texts name) ∙ e) in
     (there.0, subst (Reads there.0) e there.1)
@@ -57,18 +57,18 @@ module_of texts ms name text are e =
 -- ---- a module more, or less
 
 -- where all texts give modules, the one that doesn't is the new one
-pub unread_new : (texts : Texts) (name text : List ℕ) (refusal : Refusal) → AreReadable texts → IsUnread (finmap.insert texts name text) refusal → ReadsModule text (Err refusal)
+pub unread_new : (texts : Texts) (name text : List ℕ) (refusal : Refusal) → AreReadable texts → IsUnread (finmap.insert texts name text) refusal → ReadsAsModule text (Err refusal)
 unread_new texts name text refusal readable (q, x, e, unread) = by (eq_by_cmp (slice_cmp nat_cmp) q name) (sym (get-insert nat_list_cmp_total texts name text q) ∙ e)
   where
-    by : (b : Bool) → cond b (Some text) (finmap.get texts q) ≡ Some x → ReadsModule text (Err refusal)
-    by true e = let same : x ≡ text = cc in subst (λ (t : List ℕ). ReadsModule t (Err refusal)) same unread
+    by : (b : Bool) → cond b (Some text) (finmap.get texts q) ≡ Some x → ReadsAsModule text (Err refusal)
+    by true e = let same : x ≡ text = cc in subst (λ (t : List ℕ). ReadsAsModule t (Err refusal)) same unread
     by false e =
-        let old : (m : Module) × ReadsModule x (Ok m) = subst (λ (o : Option (List ℕ)). IfSome o (λ t. (m : Module) × ReadsModule t (Ok m))) e (readable q) in
+        let old : (m : Module) × ReadsAsModule x (Ok m) = subst (λ (o : Option (List ℕ)). IfSome o (λ t. (m : Module) × ReadsAsModule t (Ok m))) e (readable q) in
         absurd (reads_one x old.0 refusal old.1 unread)
 
 pub none_unread : (texts : Texts) (refusal : Refusal) → AreReadable texts → IsUnread texts refusal → ⊥
 none_unread texts refusal readable (q, x, e, unread) =
-    let old : (m : Module) × ReadsModule x (Ok m) = subst (λ (o : Option (List ℕ)). IfSome o (λ t. (m : Module) × ReadsModule t (Ok m))) e (readable q) in
+    let old : (m : Module) × ReadsAsModule x (Ok m) = subst (λ (o : Option (List ℕ)). IfSome o (λ t. (m : Module) × ReadsAsModule t (Ok m))) e (readable q) in
     reads_one x old.0 refusal old.1 unread
 
 pub get_new : (texts : Texts) (name text : List ℕ) → finmap.get (finmap.insert texts name text) name ≡ Some text
@@ -98,93 +98,102 @@ module _ (s : Store) (name : List ℕ) (apart : AreApart s.modules) where
   text_missing o here none = named_text s name o apart here ∙ none
 
 module _ (texts : Texts) (name text : List ℕ) (is : finmap.get texts name ≡ Some text) (r : Result Module Refusal) where
-  pub named_ok : IfOk r (λ m. ReadsModule text (Ok m)) → IfOk r (λ m. IsSomeAnd (finmap.get texts name) (λ text. ReadsModule text (Ok m)))
+  pub named_ok : IfOk r (λ m. ReadsAsModule text (Ok m)) → IfOk r (λ m. IsSomeAnd (finmap.get texts name) (λ text. ReadsAsModule text (Ok m)))
   named_ok ok = by r ok
     where
-      by : (r : Result Module Refusal) → IfOk r (λ m. ReadsModule text (Ok m)) → IfOk r (λ m. IsSomeAnd (finmap.get texts name) (λ text. ReadsModule text (Ok m)))
-      by (Ok m) ok = subst (λ (o : Option (List ℕ)). IsSomeAnd o (λ text. ReadsModule text (Ok m))) (sym is) ok
+      by : (r : Result Module Refusal) → IfOk r (λ m. ReadsAsModule text (Ok m)) → IfOk r (λ m. IsSomeAnd (finmap.get texts name) (λ text. ReadsAsModule text (Ok m)))
+      by (Ok m) ok = subst (λ (o : Option (List ℕ)). IsSomeAnd o (λ text. ReadsAsModule text (Ok m))) (sym is) ok
       by (Err e) ok = tt
 
-  pub named_refused : IfErr r (λ refusal. (refusal ≡ Memory) ⊎ ReadsModule text (Err refusal)) → IfErr r (λ refusal. (refusal ≡ Memory) ⊎ IsUnread texts refusal)
+  pub named_refused : IfErr r (λ refusal. (refusal ≡ Memory) ⊎ ReadsAsModule text (Err refusal)) → IfErr r (λ refusal. (refusal ≡ Memory) ⊎ IsUnread texts refusal)
   named_refused refused = by r refused
     where
-      by : (r : Result Module Refusal) → IfErr r (λ refusal. (refusal ≡ Memory) ⊎ ReadsModule text (Err refusal)) → IfErr r (λ refusal. (refusal ≡ Memory) ⊎ IsUnread texts refusal)
+      by : (r : Result Module Refusal) → IfErr r (λ refusal. (refusal ≡ Memory) ⊎ ReadsAsModule text (Err refusal)) → IfErr r (λ refusal. (refusal ≡ Memory) ⊎ IsUnread texts refusal)
       by (Ok m) refused = tt
       by (Err e) (inl memory) = inl memory
       by (Err e) (inr unread) = inr (name, text, is, unread)
 
 -- ---- what comes of a text, and of what the checker found
 
--- a text that gives no module changes nothing
-pub set_unread : (h : History) (name text : List ℕ) (refusal : Refusal) → ReadsModule text (Err refusal) → SetsModule name text h (Err refusal)
-set_unread h name text refusal unread = (Err refusal, unread, refl)
+module _ (c : Contents) (h : History) where
+  becomes_found : (g : History) (p : Program) → h.group ≡ None → GivesProgram h.primitives c.modules p → g ≡ changed c h → ChangesModules h.group c h (Ok g)
+  becomes_found g p outside gives is = subst (λ (o : Option Group). ChangesModules o c h (Ok g)) (sym outside) (Ok p, gives, ap Ok is)
 
-becomes_found : (c : Contents) (h g : History) → h.group ≡ None → Finds h.primitives c.modules None → g ≡ changed c h → Becomes c h h.group (Ok g)
-becomes_found c h g outside finds is = subst (λ (o : Option Group). Becomes c h o (Ok g)) (sym outside) (None, finds, ap Ok is)
+  becomes_refused : (refusal : Refusal) → h.group ≡ None → Checks h.primitives c.modules (Err refusal) → ChangesModules h.group c h (Err refusal)
+  becomes_refused refusal outside checks = subst (λ (o : Option Group). ChangesModules o c h (Err refusal)) (sym outside) (Err refusal, checks, refl)
 
-becomes_refused : (c : Contents) (h : History) (fault : Fault) (refusal : Refusal) → h.group ≡ None → Finds h.primitives c.modules (Some fault) → refusal ≡ refusal_of fault → Becomes c h h.group (Err refusal)
-becomes_refused c h fault refusal outside finds is = subst (λ (o : Option Group). Becomes c h o (Err refusal)) (sym outside) (Some fault, finds, ap Err is)
-
-becomes_inside : (c : Contents) (h g : History) (group : Group) → h.group ≡ Some group → g ≡ changed c h → Becomes c h h.group (Ok g)
-becomes_inside c h g group inside is = subst (λ (o : Option Group). Becomes c h o (Ok g)) (sym inside) (ap Ok is)
+  becomes_inside : (g : History) (group : Group) → h.group ≡ Some group → g ≡ changed c h → ChangesModules h.group c h (Ok g)
+  becomes_inside g group inside is = subst (λ (o : Option Group). ChangesModules o c h (Ok g)) (sym inside) (ap Ok is)
 
 module _ (h : History) (name text : List ℕ) where
+  abbrev with_text : Contents
+  with_text = with_module h.now name text
+
+  -- a text that gives no module changes nothing
+  pub set_unread : (refusal : Refusal) → ReadsAsModule text (Err refusal) → ComesTo (set_module name text) h (Err refusal)
+  set_unread refusal unread = (Err refusal, unread, refl)
+
+  set_read : (m : Module) (outcome : Outcome) → ReadsAsModule text (Ok m) → ChangesModules h.group with_text h outcome → ComesTo (set_module name text) h outcome
+  set_read m outcome reads becomes = (Ok m, reads, becomes)
+
   -- the module that the text gives, where all texts give one
-  given : (ps : Primitives) (found : Option Fault) → Finds ps (finmap.insert h.now.modules name text) found → (m : Module) × ReadsModule text (Ok m)
-  given ps found finds = module_of (finmap.insert h.now.modules name text) finds.modules name text finds.are (get_new h.now.modules name text)
+  given : (ms : Modules) → AreModules with_text.modules ms → (m : Module) × ReadsAsModule text (Ok m)
+  given ms are = module_of with_text.modules ms name text are (get_new h.now.modules name text)
 
-  pub set_found : (g : History) → h.group ≡ None → Finds h.primitives (with_module h.now name text).modules None → g ≡ changed (with_module h.now name text) h → SetsModule name text h (Ok g)
-  set_found g outside finds is = let m = given h.primitives None finds in (Ok m.0, m.1, becomes_found (with_module h.now name text) h g outside finds is)
+  pub set_found : (g : History) (p : Program) → h.group ≡ None → GivesProgram h.primitives with_text.modules p → g ≡ changed with_text h → ComesTo (set_module name text) h (Ok g)
+  set_found g p outside gives is = let m = given gives.modules gives.are in set_read m.0 (Ok g) m.1 (becomes_found with_text h g p outside gives is)
 
-  pub set_refused : (refusal : Refusal) → h.group ≡ None → AreReadable h.now.modules → AreRefused h.primitives (with_module h.now name text).modules refusal → (refusal ≡ Memory) ⊎ SetsModule name text h (Err refusal)
+  pub set_refused : (refusal : Refusal) → h.group ≡ None → AreReadable h.now.modules → AreRefused h.primitives with_text.modules refusal → (refusal ≡ Memory) ⊎ ComesTo (set_module name text) h (Err refusal)
   set_refused refusal outside readable (inl (inl memory)) = inl memory
-  set_refused refusal outside readable (inl (inr unread)) = inr (set_unread h name text refusal (unread_new h.now.modules name text refusal readable unread))
+  set_refused refusal outside readable (inl (inr unread)) = inr (set_unread refusal (unread_new h.now.modules name text refusal readable unread))
   set_refused refusal outside readable (inr (fault, finds, is)) =
-      let m = given h.primitives (Some fault) finds in
-      inr (Ok m.0, m.1, becomes_refused (with_module h.now name text) h fault refusal outside finds is)
+      let m = given finds.modules finds.are in
+      inr (set_read m.0 (Err refusal) m.1 (becomes_refused with_text h refusal outside (fault, finds, is)))
 
-  pub set_inside : (g : History) (group : Group) (m : Module) → h.group ≡ Some group → ReadsModule text (Ok m) → g ≡ changed (with_module h.now name text) h → SetsModule name text h (Ok g)
-  set_inside g group m inside reads is = (Ok m, reads, becomes_inside (with_module h.now name text) h g group inside is)
+  pub set_inside : (g : History) (group : Group) (m : Module) → h.group ≡ Some group → ReadsAsModule text (Ok m) → g ≡ changed with_text h → ComesTo (set_module name text) h (Ok g)
+  set_inside g group m inside reads is = set_read m (Ok g) reads (becomes_inside with_text h g group inside is)
 
   module _ (there : finmap.get h.now.modules name ≡ Some text) where
-    unloads_by : (reply : Result History Refusal) → Becomes (without_module h.now name) h h.group reply → Unloads name h reply
-    unloads_by reply becomes =
-        subst (λ (o : Option (List ℕ)). MatchOption o (reply ≡ Err NoModule) (λ _. Becomes (without_module h.now name) h h.group reply)) (sym there) becomes
+    unloads_by : (outcome : Outcome) → ChangesModules h.group (without_module h.now name) h outcome → ComesTo (unload name) h outcome
+    unloads_by outcome becomes =
+        passed (text_of h.now name) (λ text. ChangesModules h.group (without_module h.now name) h) text outcome (ap (λ (o : Option (List ℕ)). ok_or o NoModule) there) becomes
 
-    pub unload_found : (g : History) → h.group ≡ None → Finds h.primitives (without_module h.now name).modules None → g ≡ changed (without_module h.now name) h → Unloads name h (Ok g)
-    unload_found g outside finds is = unloads_by (Ok g) (becomes_found (without_module h.now name) h g outside finds is)
+    pub unload_found : (g : History) (p : Program) → h.group ≡ None → GivesProgram h.primitives (without_module h.now name).modules p → g ≡ changed (without_module h.now name) h → ComesTo (unload name) h (Ok g)
+    unload_found g p outside gives is = unloads_by (Ok g) (becomes_found (without_module h.now name) h g p outside gives is)
 
-    pub unload_refused : (refusal : Refusal) → h.group ≡ None → AreReadable h.now.modules → AreRefused h.primitives (without_module h.now name).modules refusal → (refusal ≡ Memory) ⊎ Unloads name h (Err refusal)
+    pub unload_refused : (refusal : Refusal) → h.group ≡ None → AreReadable h.now.modules → AreRefused h.primitives (without_module h.now name).modules refusal → (refusal ≡ Memory) ⊎ ComesTo (unload name) h (Err refusal)
     unload_refused refusal outside readable (inl (inl memory)) = inl memory
     unload_refused refusal outside readable (inl (inr unread)) =
         absurd (none_unread (finmap.remove h.now.modules name) refusal (readable_without h.now.modules name readable) unread)
-    unload_refused refusal outside readable (inr (fault, finds, is)) = inr (unloads_by (Err refusal) (becomes_refused (without_module h.now name) h fault refusal outside finds is))
+    unload_refused refusal outside readable (inr checks) = inr (unloads_by (Err refusal) (becomes_refused (without_module h.now name) h refusal outside checks))
 
-    pub unload_inside : (g : History) (group : Group) → h.group ≡ Some group → g ≡ changed (without_module h.now name) h → Unloads name h (Ok g)
+    pub unload_inside : (g : History) (group : Group) → h.group ≡ Some group → g ≡ changed (without_module h.now name) h → ComesTo (unload name) h (Ok g)
     unload_inside g group inside is = unloads_by (Ok g) (becomes_inside (without_module h.now name) h g group inside is)
 
-pub unload_none : (h : History) (name : List ℕ) → finmap.get h.now.modules name ≡ None → Unloads name h (Err NoModule)
+pub unload_none : (h : History) (name : List ℕ) → finmap.get h.now.modules name ≡ None → ComesTo (unload name) h (Err NoModule)
 unload_none h name none =
-    subst (λ (o : Option (List ℕ)). MatchOption o (◌≡◌ {A = Result History Refusal} (Err NoModule) (Err NoModule)) (λ _. Becomes (without_module h.now name) h h.group (Err NoModule))) (sym none) refl
+    stopped (text_of h.now name) (λ text. ChangesModules h.group (without_module h.now name) h) NoModule (ap (λ (o : Option (List ℕ)). ok_or o NoModule) none)
 
 module _ (h : History) where
-  commits_by : (group : Group) (reply : Result History Refusal) → h.group ≡ Some group → (found : Option Fault) × Finds h.primitives h.now.modules found × (reply ≡ unless found (Ok (committed group h))) → Commits h reply
-  commits_by group reply inside found =
-      subst (λ (o : Option Group). MatchOption o (reply ≡ Err NoGroup) (λ g. (found : Option Fault) × Finds h.primitives h.now.modules found × (reply ≡ unless found (Ok (committed g h))))) (sym inside) found
+  abbrev Closes : Group → Outcome → Type 0
+  Closes g = Given (Checks h.primitives h.now.modules) (λ p. Leaves (committed g h))
 
-  pub commit_found : (group : Group) (reply : Result History Refusal) → h.group ≡ Some group → Finds h.primitives h.now.modules None → inside h.group (λ g. Ok (committed g h)) ≡ reply → Commits h reply
-  commit_found group reply there finds is =
-      let done : Ok (committed group h) ≡ reply = ap (λ (o : Option Group). inside o (λ g. Ok (committed g h))) (sym there) ∙ is in
-      commits_by group reply there (None, finds, sym done)
+  commits_by : (group : Group) (outcome : Outcome) → h.group ≡ Some group → Closes group outcome → ComesTo commit h outcome
+  commits_by group outcome inside closes = passed (ok_or h.group NoGroup) Closes group outcome (ap (λ (o : Option Group). ok_or o NoGroup) inside) closes
 
-  pub commit_refused : (group : Group) (refusal : Refusal) → h.group ≡ Some group → AreReadable h.now.modules → AreRefused h.primitives h.now.modules refusal → (refusal ≡ Memory) ⊎ Commits h (Err refusal)
+  pub commit_found : (group : Group) (g : History) (kept : Option Program) → h.group ≡ Some group → IsSomeAnd kept (IsProgram h.primitives h.now.modules) → IsSomeAnd h.group (λ k. g ≡ committed k h) → ComesTo commit h (Ok g)
+  commit_found group g None there is closes = absurd is
+  commit_found group g (Some p) there is closes =
+      let left : g ≡ committed group h = subst (λ (o : Option Group). IsSomeAnd o (λ k. g ≡ committed k h)) there closes in
+      commits_by group (Ok g) there (Ok p, is.gives, ap Ok left)
+
+  pub commit_refused : (group : Group) (refusal : Refusal) → h.group ≡ Some group → AreReadable h.now.modules → AreRefused h.primitives h.now.modules refusal → (refusal ≡ Memory) ⊎ ComesTo commit h (Err refusal)
   commit_refused group refusal inside readable (inl (inl memory)) = inl memory
   commit_refused group refusal inside readable (inl (inr unread)) = absurd (none_unread h.now.modules refusal readable unread)
-  commit_refused group refusal inside readable (inr (fault, finds, is)) = inr (commits_by group (Err refusal) inside (Some fault, finds, ap Err is))
+  commit_refused group refusal inside readable (inr checks) = inr (commits_by group (Err refusal) inside (Err refusal, checks, refl))
 
-  pub commit_outside : h.group ≡ None → Commits h (Err NoGroup)
-  commit_outside none =
-      subst (λ (o : Option Group). MatchOption o (◌≡◌ {A = Result History Refusal} (Err NoGroup) (Err NoGroup)) (λ g. (found : Option Fault) × Finds h.primitives h.now.modules found × (Err NoGroup ≡ unless found (Ok (committed g h))))) (sym none) refl
+  pub commit_outside : h.group ≡ None → ComesTo commit h (Err NoGroup)
+  commit_outside none = stopped (ok_or h.group NoGroup) Closes NoGroup (ap (λ (o : Option Group). ok_or o NoGroup) none)
 
 -- ---- the modules of names, one after another
 
@@ -195,7 +204,7 @@ few_tokens n m h = by (cases_lt m n)
     by (inl more) = absurd (h more)
     by (inr few) = few
 
-pub read_more : (texts : Texts) (all next : List (List ℕ)) (ms : Modules) (name : List ℕ) (m : List ℕ × Module) → m.0 ≡ name → IsSomeAnd (finmap.get texts name) (λ text. ReadsModule text (Ok m.1))
+pub read_more : (texts : Texts) (all next : List (List ℕ)) (ms : Modules) (name : List ℕ) (m : List ℕ × Module) → m.0 ≡ name → IsSomeAnd (finmap.get texts name) (λ text. ReadsAsModule text (Ok m.1))
     → ((rest : Modules) → AreRead texts (name ∷ next) rest → AreRead texts all (ms ++ rest)) → (rest : Modules) → AreRead texts next rest → AreRead texts all ((ms ++ m ∷ []) ++ rest)
 read_more texts all next ms name m same reads before rest h = subst (AreRead texts all) (sym (append_assoc ms (m ∷ []) rest)) (before (m ∷ rest) (same, reads, h))
 
@@ -234,13 +243,10 @@ text_taken t name i e apart here is = ap (λ e. contents (put e t.store)) is ∙
 
 -- ---- the program of the modules
 
--- where there is one, the checker finds no fault
-pub program_found : (ps : Primitives) (texts : Texts) (p : Program) → IsProgram ps texts p → Finds ps texts None
-program_found ps texts p is = record { modules = is.modules; are = is.are; fault = sym (ap first is.faultless) }
-
-pub kept_found : (ps : Primitives) (texts : Texts) (kept : Option Program) → is_some kept ≡ true → IsKept ps texts kept → Finds ps texts None
-kept_found ps texts None there is = absurd (cc)
-kept_found ps texts (Some p) there is = program_found ps texts p is
+-- one that is kept is there
+pub kept_there : (ps : Primitives) (texts : Texts) (kept : Option Program) → is_some kept ≡ true → IsKept ps texts kept → IsSomeAnd kept (IsProgram ps texts)
+kept_there ps texts None there is = absurd (cc)
+kept_there ps texts (Some p) there is = is
 
 -- the program of the modules that a change left
 pub program_then : (n : Timeline) (c : Contents) (h : History) (p : Program) (ps : List Signature) → unfolded ps n ≡ changed c h → IsProgram ps c.modules p → IsProgram ps (contents n.store).modules p

@@ -1,18 +1,14 @@
 -- One place back and one place forward take each other back, and so do as many places as one likes.
-use Rattle.std.proofs.Common.{◌≡◌, ◌<◌, ℕ, zero, suc, List, [], ◌∷◌, ◌++◌, ◌+◌, length, arith, Bool, true, false, cond, Some, None, Ok, Err, Option, Result, option_and_then, inl, inr, ok_or, refl, sym, ap, subst, ◌∙◌}
+use Rattle.std.proofs.Common.{◌≡◌, ◌<◌, ℕ, zero, suc, List, [], ◌∷◌, ◌++◌, length, arith, true, cond, is_none, Some, None, Ok, Option, option_and_then, ok_or, refl, sym, ap, subst, ◌∙◌}
 use Rattle.std.specs.Option.{option_map_or}
-use Rattle.std.specs.List.{list_all}
-use Rattle.std.specs.FinMap as finmap
-use Rattle.term_core.specs.Tree.{Tree}
-use Rattle.term_core.specs.Size.{fits}
-use Rattle.term_paths.specs.Paths.{leads, set_at, set_annotations_at}
-use Rattle.change_log.specs.Contents.{Contents, with_tree, without_tree, with_module, without_module}
-use Rattle.session_core.specs.History.{Group, History, stepped, changed, newest, older, back_to, forward_to, step_back, step_forward, undone, redone}
-use Rattle.session_core.specs.Step.{Act, IsChange, set_tree, copy_tree, drop_tree, put, annotate, undo, redo, begin, abandon, step, with_some, with_place, outside, retold}
+use Rattle.change_log.specs.Contents.{Contents}
+use Rattle.session_core.specs.Modules.{Checks}
+use Rattle.session_core.specs.History.{Group, History, stepped, newest, older, back_to, forward_to, step_back, step_forward, undone, redone}
+use Rattle.session_core.specs.Step.{Outcome, Passing, Holding, Given, Leaves, ComesTo, committed, undo, redo}
 use Rattle.session_core.specs.Laws.{ChangeIsUndone, GroupIsUndone, RedoTakesUndoBack, UndoTakesRedoBack}
 use Rattle.session_core.specs.declared.refusal.Refusal.{Refusal}
-use Rattle.session_core.specs.declared.refusal.Refusal.TheVariants.{Path, Big, NoUndo, NoRedo}
-use Rattle.session_core.proofs.ModuleLemmas.{becomes_ok, sets_ok, unloads_ok, commits_ok}
+use Rattle.session_core.specs.declared.refusal.Refusal.TheVariants.{NoUndo, NoRedo, Group as InGroup, NoGroup}
+use Rattle.session_core.proofs.StepLemmas.{same_Ok, passing_Ok, holding_Ok, given_Ok, passed, held, ok_or-Ok, none_of}
 
 -- ---- the last of a row
 
@@ -142,99 +138,62 @@ redone_group (suc k) h g e = by (step_forward h) refl (λ m. redone_group k m g)
 
 -- ---- the laws
 
-ok_or-Ok : (o : Option History) (r : Refusal) (g : History) → ok_or o r ≡ Ok g → o ≡ Some g
-ok_or-Ok None r g e = absurd (cc)
-ok_or-Ok (Some h) r g e = cc
+-- going so many places, which are there, outside a group
+module _ (h g : History) (o : Option History) (refusal : Refusal) where
+  abbrev Goes : Outcome → Type 0
+  Goes = Holding (is_none h.group) InGroup (Passing (ok_or o refusal) Leaves)
 
--- outside a group alone
-was_outside : (o : Option Group) (r : Result History Refusal) (g : History) → outside o r ≡ Ok g → (o ≡ None) × (r ≡ Ok g)
-was_outside None r g e = (refl, e)
-was_outside (Some group) r g e = absurd (cc)
+  pub goes : h.group ≡ None → o ≡ Some g → Goes (Ok g)
+  goes outside there =
+      held (is_none h.group) InGroup (Passing (ok_or o refusal) Leaves) (Ok g) (ap is_none outside)
+      (passed (ok_or o refusal) Leaves g (Ok g) (ap (λ (o : Option History). ok_or o refusal) there) refl)
+
+  pub went : Goes (Ok g) → (h.group ≡ None) × (o ≡ Some g)
+  went done =
+      let outside = holding_Ok (is_none h.group) InGroup (Passing (ok_or o refusal) Leaves) g done in
+      let there = passing_Ok (ok_or o refusal) Leaves g outside.1 in
+      (none_of h.group outside.0, ok_or-Ok o refusal there.0 there.1 ∙ ap (λ (x : History). Some x) (sym (same_Ok there.0 g there.2)))
 
 pub redo_takes_undo_back : RedoTakesUndoBack
-redo_takes_undo_back k h g e =
-    let was = was_outside h.group _ g e in
-    let moved = ok_or-Ok (undone k h) NoUndo g was.1 in
-    ap (λ o. outside o (ok_or (redone k g) NoRedo)) (undone_group k h g moved ∙ was.0) ∙ ap (λ o. ok_or o NoRedo) (redone-undone k h g moved)
+redo_takes_undo_back k h g done =
+    let back = went h g (undone k h) NoUndo done in
+    goes g h (redone k g) NoRedo (undone_group k h g back.1 ∙ back.0) (redone-undone k h g back.1)
 
 pub undo_takes_redo_back : UndoTakesRedoBack
-undo_takes_redo_back k h g e =
-    let was = was_outside h.group _ g e in
-    let moved = ok_or-Ok (redone k h) NoRedo g was.1 in
-    ap (λ o. outside o (ok_or (undone k g) NoUndo)) (redone_group k h g moved ∙ was.0) ∙ ap (λ o. ok_or o NoUndo) (undone-redone k h g moved)
+undo_takes_redo_back k h g done =
+    let forth = went h g (redone k h) NoRedo done in
+    goes g h (undone k g) NoUndo (redone_group k h g forth.1 ∙ forth.0) (undone-redone k h g forth.1)
 
 -- a step from these contents to those now is undone and redone
 step_is_undone : (from c : Contents) (h : History) → h.group ≡ None → (g : History) → record (stepped from h) { now = c } ≡ g
-    → (step (undo 1) g ≡ Ok (record h { now = from; later = g.now ∷ [] })) × (step (redo 1) (record h { now = from; later = g.now ∷ [] }) ≡ Ok g)
+    → ComesTo (undo 1) g (Ok (record h { now = from; later = g.now ∷ [] })) × ComesTo (redo 1) (record h { now = from; later = g.now ∷ [] }) (Ok g)
 step_is_undone from c h none g e =
-    let Back : History → Type 0 = λ g. (step (undo 1) g ≡ Ok (record h { now = from; later = g.now ∷ [] })) × (step (redo 1) (record h { now = from; later = g.now ∷ [] }) ≡ Ok g) in
+    let Back : History → Type 0 = λ g. ComesTo (undo 1) g (Ok (record h { now = from; later = g.now ∷ [] })) × ComesTo (redo 1) (record h { now = from; later = g.now ∷ [] }) (Ok g) in
+    let then : History = record (stepped from h) { now = c } in
+    let back : History = record h { now = from; later = c ∷ [] } in
     subst Back e (
-      ap (λ o. outside o (ok_or (undone 1 (record (stepped from h) { now = c })) NoUndo)) none ∙ ap (λ o. ok_or o NoUndo) (and_then-Some _ ∙ back_to-append (record (stepped from h) { now = c }) h.past from),
-      ap (λ o. outside o (ok_or (redone 1 (record h { now = from; later = c ∷ [] })) NoRedo)) none,
+      goes then back (undone 1 then) NoUndo none (and_then-Some _ ∙ back_to-append then h.past from),
+      goes back then (redone 1 back) NoRedo none refl,
     )
-
-change_by_cases : (c : Contents) (h g : History) → h.group ≡ None → changed c h ≡ g
-    → (step (undo 1) g ≡ Ok (record h { later = g.now ∷ [] })) × (step (redo 1) (record h { later = g.now ∷ [] }) ≡ Ok g)
-change_by_cases c h g none e =
-    step_is_undone h.now c h none g
-    (sym (ap (λ o. option_map_or (λ g. record h { now = c; group = Some (record g { changed = true }) }) o (record (stepped h.now h) { now = c })) none) ∙ e)
-
-chosen_Ok : (b : Bool) (h g : History) → cond b (Ok h) (Err Big) ≡ Ok g → h ≡ g
-chosen_Ok true h g e = cc
-chosen_Ok false h g e = absurd (cc)
-
--- the tree that there was
-given_tree : (o : Option Tree) (next : Tree → Result History Refusal) (g : History) → with_some o next ≡ Ok g → (t : Tree) × (next t ≡ Ok g)
-given_tree None next g e = absurd (cc)
-given_tree (Some t) next g e = (t, e)
-
-given_place : (h : History) (name path : List ℕ) (next : Tree → Result History Refusal) (g : History) → with_place h name path next ≡ Ok g → (t : Tree) × (next t ≡ Ok g)
-given_place h name path next g e =
-    let there = given_tree (finmap.get h.now.trees name) (λ t. cond (leads t path) (next t) (Err Path)) g e in
-    (there.0, leading (leads there.0 path) (next there.0) there.1)
-  where
-    leading : (b : Bool) (r : Result History Refusal) → cond b r (Err Path) ≡ Ok g → r ≡ Ok g
-    leading true r e = e
-    leading false r e = absurd (cc)
-
-same_Ok : (g h : History) → ◌≡◌ {A = Result History Refusal} (Ok h) (Ok g) → h ≡ g
-same_Ok g h e = cc
-
-act_is_undone : (act : Act) (h g : History) → IsChange act → h.group ≡ None → step act h ≡ Ok g →
-    (step (undo 1) g ≡ Ok (record h { later = g.now ∷ [] })) × (step (redo 1) (record h { later = g.now ∷ [] }) ≡ Ok g)
-act_is_undone (set_tree name tree) h g change none e = change_by_cases _ h g none (chosen_Ok (fits 0 tree) _ _ e)
-act_is_undone (copy_tree name copy) h g change none e =
-    let there = given_tree (finmap.get h.now.trees name) (λ t. Ok (retold h copy t)) g e in
-    change_by_cases (with_tree h.now copy there.0) h g none (same_Ok g (retold h copy there.0) there.1)
-act_is_undone (drop_tree name) h g change none e =
-    let there = given_tree (finmap.get h.now.trees name) (λ t. Ok (changed (without_tree h.now name) h)) g e in
-    change_by_cases (without_tree h.now name) h g none (same_Ok g (changed (without_tree h.now name) h) there.1)
-act_is_undone (put name path part) h g change none e =
-    let there = given_place h name path (λ t. cond (fits (length path) part) (Ok (retold h name (set_at t path part))) (Err Big)) g e in
-    change_by_cases (with_tree h.now name (set_at there.0 path part)) h g none (chosen_Ok (fits (length path) part) (retold h name (set_at there.0 path part)) g there.1)
-act_is_undone (annotate name path annotations) h g change none e =
-    let fit = list_all (fits (length path + 1)) annotations in
-    let there = given_place h name path (λ t. cond fit (Ok (retold h name (set_annotations_at t path annotations))) (Err Big)) g e in
-    change_by_cases (with_tree h.now name (set_annotations_at there.0 path annotations)) h g none (chosen_Ok fit (retold h name (set_annotations_at there.0 path annotations)) g there.1)
-act_is_undone (undo k) h g change none e = absurd change
-act_is_undone (redo k) h g change none e = absurd change
-act_is_undone begin h g change none e = absurd change
-act_is_undone abandon h g change none e = absurd change
 
 pub change_is_undone : ChangeIsUndone
-change_is_undone h g (inl (act, change, e)) none = act_is_undone act h g change none e
-change_is_undone h g (inr (inl (name, text, sets))) none =
-    change_by_cases (with_module h.now name text) h g none (becomes_ok (with_module h.now name text) h h.group g (sets_ok name text h g sets).2).0
-change_is_undone h g (inr (inr (name, unloads))) none =
-    change_by_cases (without_module h.now name) h g none (becomes_ok (without_module h.now name) h h.group g (unloads_ok name h g unloads)).0
+change_is_undone c h g e none =
+    step_is_undone h.now c h none g
+    (sym (e ∙ ap (λ o. option_map_or (λ g. record h { now = c; group = Some (record g { changed = true }) }) o (record (stepped h.now h) { now = c })) none))
 
 pub group_is_undone : GroupIsUndone
-group_is_undone group h g is was commits =
-    let done = (commits_ok h g group is commits).0 in
+group_is_undone group h g is was done =
+    let there = passing_Ok (ok_or h.group NoGroup) (λ group. Given (Checks h.primitives h.now.modules) (λ p. Leaves (committed group h))) g done in
+    let checked = given_Ok (Checks h.primitives h.now.modules) (λ p. Leaves (committed there.0 h)) g there.2 in
+    let same : there.0 ≡ group = same_group there.0 group (sym (ok_or-Ok h.group NoGroup there.0 there.1) ∙ is) in
+    let left : committed group h ≡ g = ap (λ (x : Group). committed x h) (sym same) ∙ sym (same_Ok (committed there.0 h) g checked.2) in
     let stepped_from : record (stepped group.begun (record h { group = None })) { now = h.now } ≡ g =
-    ap (λ b. cond b (record (stepped group.begun h) { group = None }) (record h { group = None })) (sym was) ∙ done in
+    ap (λ b. cond b (record (stepped group.begun h) { group = None }) (record h { group = None })) (sym was) ∙ left in
     let undone = step_is_undone group.begun h.now (record h { group = None }) refl g stepped_from in
     let now : g.now ≡ h.now = ap (λ g. g.now) (sym stepped_from) in (
-      undone.0 ∙ (λ i. Ok (record h { now = group.begun; later = now i ∷ []; group = None })),
-      ap (step (redo 1)) (λ i. record h { now = group.begun; later = sym now i ∷ []; group = None }) ∙ undone.1,
+      subst (λ (x : Contents). ComesTo (undo 1) g (Ok (record h { now = group.begun; later = x ∷ []; group = None }))) now undone.0,
+      subst (λ (x : Contents). ComesTo (redo 1) (record h { now = group.begun; later = x ∷ []; group = None }) (Ok g)) now undone.1,
     )
+  where
+    same_group : (a b : Group) → Some a ≡ Some b → a ≡ b
+    same_group a b e = cc

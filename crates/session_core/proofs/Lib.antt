@@ -1,6 +1,6 @@
 pub mod MapLemmas
+pub mod StepLemmas
 pub mod SoundLemmas
-pub mod ModuleLemmas
 pub mod HistoryLemmas
 pub mod TimelineLemmas
 pub mod PlaceLemmas

@@ -10,14 +10,14 @@ use Rattle.prim_core.specs.Signature.{Signature}
 use Rattle.change_log.specs.Contents.{Contents}
 use Rattle.change_log.specs.Slots.{Slots, Store, contents, slot_of}
 use Rattle.change_log.specs.Entries.{Entry, HasPlace, put, found, before, after, flipped_back, flipped_forward, Fits}
-use Rattle.change_log.proofs.EntryLemmas.{pushed_fits, pushed_leads_back}
+use Rattle.change_log.proofs.EntryLemmas.{before-append, pushed_fits, pushed_leads_back}
 use Rattle.session_core.specs.History.{Group, History, stepped, changed, back_to, forward_to, step_back, step_forward}
-use Rattle.session_core.specs.Step.{committed, inside}
-use Rattle.session_core.specs.declared.refusal.Refusal.{Refusal}
-use Rattle.session_core.specs.Unfolded.{past_of, later_of, FitBack, FitForward, unfolded, IsCurrent, IsPlaced}
+use Rattle.std.specs.Prelude.{IsSomeAnd}
+use Rattle.session_core.specs.Step.{committed}
+use Rattle.session_core.specs.Unfolded.{past_of, later_of, FitBack, FitForward, unfolded, IsCurrent, IsPlaced, AddsEntries}
 use Rattle.session_core.specs.declared.timeline.Timeline.{Timeline}
 use Rattle.session_core.specs.declared.timeline.OpenGroup.{OpenGroup}
-use Rattle.session_core.proofs.TimelineLemmas.{IsGrowth, rewound_grown, past_grown, later_grown, length-past_of, length-later_of, count_past, stepped_past, stepped_later, stepped_back, stepped_forward, stepped_within, grouped_past, grouped_later, grouped_back, grouped_forward, grouped_within, back_past, back_later, back_back, back_forward, forward_later, forward_past, forward_back, forward_forward}
+use Rattle.session_core.proofs.TimelineLemmas.{fits-append, take-append, drop-append, IsGrowth, rewound_grown, past_grown, later_grown, length-past_of, length-later_of, count_past, stepped_past, stepped_later, stepped_back, stepped_forward, stepped_within, grouped_past, grouped_later, grouped_back, grouped_forward, grouped_within, back_past, back_later, back_back, back_forward, forward_later, forward_past, forward_back, forward_forward}
 use Rattle.session_core.proofs.HistoryLemmas.{back_to-append}
 
 -- ---- slots
@@ -172,6 +172,129 @@ module _ (t : Timeline) (e : Entry) (s : Store) (logs : Vec (List Entry)) (log :
         group = option_map (λ g. record { begun = contents (before t.current t.store); changed = g.changed }) (closed i);
       }))
 
+-- ---- an entry that is added
+
+pub adds_one : (e : Entry) (s t : Store) (l m : List Entry) → HasPlace e s → t ≡ put e s → m ≡ l ++ found e s ∷ [] → AddsEntries s l t m
+adds_one e s t l m place store log = record {
+  added = found e s ∷ [];
+  behind = log;
+  back = ap (before (found e s ∷ [])) store ∙ pushed_leads_back [] e s;
+  fits = subst (Fits (found e s ∷ [])) (sym store) (pushed_fits [] e s tt place);
+}
+
+-- ---- a change of many entries in a group
+
+module _ (t : Timeline) (s : Store) (log : List Entry) (adds : AddsEntries t.store t.current s log) (h : IsPlaced t) where
+  begin_stays : before log s ≡ before t.current t.store
+  begin_stays = ap (λ l. before l s) adds.behind ∙ before-append t.current adds.added s ∙ ap (before t.current) adds.back
+
+  pub grown_placed : (g : OpenGroup) → g.changed ≡ true → IsPlaced (record t { store = s; group = Some g; current = log })
+  grown_placed g was = record {
+    within = h.within;
+    back = subst (FitBack (take t.position t.logs.items)) (sym begin_stays) h.back;
+    forward = subst (FitForward (drop t.position t.logs.items)) (sym begin_stays) h.forward;
+    fits = subst (λ l. Fits l s) (sym adds.behind) (fits-append t.current adds.added s (subst (Fits t.current) (sym adds.back) h.fits) adds.fits);
+    current = subst (λ b. OnFalse b (log ≡ [])) (sym was) tt;
+  }
+
+  pub grown_unfolded : (g : OpenGroup) (ps : List Signature) → g.changed ≡ true → IsSome t.group → unfolded ps (record t { store = s; group = Some g; current = log }) ≡ changed (contents s) (unfolded ps t)
+  grown_unfolded g ps was there =
+      (λ i. record {
+        primitives = ps;
+        past = past_of (take t.position t.logs.items) (begin_stays i);
+        now = contents s;
+        later = later_of (drop t.position t.logs.items) (begin_stays i);
+        group = Some (record { begun = contents (begin_stays i); changed = was i });
+      })
+      ∙ in_group t.group there
+    where
+      in_group : (o : Option OpenGroup) → IsSome o
+          → record { primitives = ps; past = past_of (take t.position t.logs.items) (before t.current t.store); now = contents s; later = later_of (drop t.position t.logs.items) (before t.current t.store); group = Some (record { begun = contents (before t.current t.store); changed = true }) }
+          ≡ changed (contents s) (unfolded ps (record t { group = o }))
+      in_group None there = absurd (cc)
+      in_group (Some g) there = refl
+
+  -- what was added is taken back
+  pub taken_back : (mark : ℕ) (r : Store) (rest : List Entry) → mark ≡ length t.current → r ≡ before (drop mark log) s → rest ≡ take mark log → record t { store = r; current = rest } ≡ t
+  taken_back mark r rest is back left =
+      let count : mark ≡ length t.current = is in
+      let store : r ≡ t.store = back ∙ (λ i. before (drop (count i) (adds.behind i)) s) ∙ ap (λ l. before l s) (drop-append t.current adds.added) ∙ adds.back in
+      let current : rest ≡ t.current = left ∙ (λ i. take (count i) (adds.behind i)) ∙ take-append t.current adds.added in
+      λ i. record t { store = store i; current = current i }
+
+-- ---- a change of many entries as a step of its own
+
+module _ (t : Timeline) (s : Store) (logs : Vec (List Entry)) (log new : List Entry) (closed : t.group ≡ None) (none : new ≡ []) (adds : AddsEntries t.store new s log) (all : logs.items ≡ take t.position t.logs.items ++ log ∷ []) (h : IsPlaced t) where
+  bare_log : t.current ≡ []
+  bare_log = none_current t.group t.current closed h.current
+
+  bare_then : before t.current t.store ≡ t.store
+  bare_then = ap (λ l. before l t.store) bare_log
+
+  bare_now : before t.current s ≡ s
+  bare_now = ap (λ l. before l s) bare_log
+
+  log_is : log ≡ adds.added
+  log_is = adds.behind ∙ ap (λ l. l ++ adds.added) none
+
+  leads_back : before log s ≡ t.store
+  leads_back = ap (λ l. before l s) log_is ∙ adds.back
+
+  pub many_placed : IsPlaced (record t { store = s; logs = logs; position = t.position + 1 })
+  many_placed = record {
+    within = subst (λ (l : List (List Entry)). t.position + 1 ≤ length l) (sym all) (grouped_within t.logs.items t.position s log h.within);
+    back = subst₂ (λ l s. FitBack (take (t.position + 1) l) s) (sym all) (sym bare_now)
+        (grouped_back t.logs.items t.position s log h.within (subst (λ l. Fits l s) (sym log_is) adds.fits) (subst (FitBack (take t.position t.logs.items)) (bare_then ∙ sym leads_back) h.back));
+    forward = subst₂ (λ l s. FitForward (drop (t.position + 1) l) s) (sym all) (sym bare_now) (grouped_forward t.logs.items t.position s log h.within);
+    fits = subst (λ l. Fits l s) (sym bare_log) tt;
+    current = h.current;
+  }
+
+  pub many_unfolded : (ps : List Signature) → unfolded ps (record t { store = s; logs = logs; position = t.position + 1 }) ≡ changed (contents s) (unfolded ps t)
+  many_unfolded ps =
+      let past : past_of (take (t.position + 1) logs.items) (before t.current s) ≡ past_of (take t.position t.logs.items) (before t.current t.store) ++ contents t.store ∷ [] =
+      (λ i. past_of (take (t.position + 1) (all i)) (bare_now i)) ∙ grouped_past t.logs.items t.position s log h.within
+      ∙ (λ i. past_of (take t.position t.logs.items) ((leads_back ∙ sym bare_then) i) ++ contents (leads_back i) ∷ []) in
+      let later : later_of (drop (t.position + 1) logs.items) (before t.current s) ≡ [] =
+      (λ i. later_of (drop (t.position + 1) (all i)) (bare_now i)) ∙ grouped_later t.logs.items t.position s log h.within in
+      (λ i. record {
+        primitives = ps;
+        past = past i;
+        now = contents s;
+        later = later i;
+        group = option_map (λ g. record { begun = contents (before t.current s); changed = g.changed }) (closed i);
+      })
+      ∙ sym (ap (λ o. option_map_or (λ g. record (unfolded ps t) { now = contents s; group = Some (record g { changed = true }) }) o (record (stepped (contents t.store) (unfolded ps t)) { now = contents s }))
+      (ap (option_map (λ g. record { begun = contents (before t.current t.store); changed = g.changed })) closed)
+      ∙ (λ i. record {
+        primitives = ps;
+        past = past_of (take t.position t.logs.items) (before t.current t.store) ++ contents t.store ∷ [];
+        now = contents s;
+        later = [];
+        group = option_map (λ g. record { begun = contents (before t.current t.store); changed = g.changed }) (closed i);
+      }))
+
+-- ---- the store as it was, and room for a step
+
+module _ (t : Timeline) (s : Store) (logs : Vec (List Entry)) (same : s ≡ t.store) (all : logs.items ≡ t.logs.items) (h : IsPlaced t) where
+  pub roomier_placed : IsPlaced (record t { store = s; logs = logs })
+  roomier_placed = record {
+    within = subst (λ (l : List (List Entry)). t.position ≤ length l) (sym all) h.within;
+    back = subst₂ (λ l s. FitBack (take t.position l) (before t.current s)) (sym all) (sym same) h.back;
+    forward = subst₂ (λ l s. FitForward (drop t.position l) (before t.current s)) (sym all) (sym same) h.forward;
+    fits = subst (Fits t.current) (sym same) h.fits;
+    current = h.current;
+  }
+
+  pub roomier_unfolded : (ps : List Signature) → unfolded ps (record t { store = s; logs = logs }) ≡ unfolded ps t
+  roomier_unfolded ps = λ i. record {
+    primitives = ps;
+    past = past_of (take t.position (all i)) (before t.current (same i));
+    now = contents (same i);
+    later = later_of (drop t.position (all i)) (before t.current (same i));
+    group = option_map (λ g. record { begun = contents (before t.current (same i)); changed = g.changed }) t.group;
+  }
+
 -- ---- a change that was taken back
 
 module _ (t : Timeline) (e : Entry) (pushed s : Store) (logs : Vec (List Entry)) (log : List Entry) (is : pushed ≡ put e t.store) (one : log ≡ [] ++ found e t.store ∷ []) (back : s ≡ before (drop 0 log) pushed)
@@ -180,22 +303,22 @@ module _ (t : Timeline) (e : Entry) (pushed s : Store) (logs : Vec (List Entry))
   rolled_store = back ∙ (λ i. before (drop 0 (one i)) (is i)) ∙ pushed_leads_back [] e t.store
 
   pub rolled_placed : IsPlaced (record t { store = s; logs = logs })
-  rolled_placed = record {
-    within = subst (λ (l : List (List Entry)). t.position ≤ length l) (sym all) h.within;
-    back = subst₂ (λ l s. FitBack (take t.position l) (before t.current s)) (sym all) (sym rolled_store) h.back;
-    forward = subst₂ (λ l s. FitForward (drop t.position l) (before t.current s)) (sym all) (sym rolled_store) h.forward;
-    fits = subst (Fits t.current) (sym rolled_store) h.fits;
-    current = h.current;
-  }
+  rolled_placed = roomier_placed t s logs rolled_store all h
 
   pub rolled_unfolded : (ps : List Signature) → unfolded ps (record t { store = s; logs = logs }) ≡ unfolded ps t
-  rolled_unfolded ps = λ i. record {
-    primitives = ps;
-    past = past_of (take t.position (all i)) (before t.current (rolled_store i));
-    now = contents (rolled_store i);
-    later = later_of (drop t.position (all i)) (before t.current (rolled_store i));
-    group = option_map (λ g. record { begun = contents (before t.current (rolled_store i)); changed = g.changed }) t.group;
-  }
+  rolled_unfolded ps = roomier_unfolded t s logs rolled_store all h ps
+
+-- what a closure added to a new log was taken back
+module _ (t : Timeline) (pushed s : Store) (logs : Vec (List Entry)) (log new : List Entry) (none : new ≡ []) (adds : AddsEntries t.store new pushed log) (back : s ≡ before (drop 0 log) pushed)
+    (all : logs.items ≡ t.logs.items) (h : IsPlaced t) where
+  undone_store : s ≡ t.store
+  undone_store = back ∙ ap (λ l. before l pushed) (adds.behind ∙ ap (λ l. l ++ adds.added) none) ∙ adds.back
+
+  pub undone_placed : IsPlaced (record t { store = s; logs = logs })
+  undone_placed = roomier_placed t s logs undone_store all h
+
+  pub undone_unfolded : (ps : List Signature) → unfolded ps (record t { store = s; logs = logs }) ≡ unfolded ps t
+  undone_unfolded ps = roomier_unfolded t s logs undone_store all h ps
 
 -- a timeline by its parts
 pub same_timeline : (t : Timeline) (s : Store) (q : ℕ) (g : Option OpenGroup) (log : List Entry) → t.store ≡ s → t.position ≡ q → t.group ≡ g → t.current ≡ log
@@ -300,13 +423,12 @@ module _ (t : Timeline) (changed : Bool) (there : IsSome t.group) (flag : change
   flagged = flag_of t.group opened changed is_open flag
 
   -- what closing the group leaves, by the flag
-  abbrev closing : List Signature → Result History Refusal
-  closing ps = inside (unfolded ps t).group (λ g. Ok (committed g (unfolded ps t)))
+  abbrev closing : List Signature → Bool → History
+  closing ps b = cond b (record (stepped (contents (before t.current t.store)) (unfolded ps t)) { group = None }) (record (unfolded ps t) { group = None })
 
-  committing : (ps : List Signature) → closing ps ≡ Ok (cond changed (record (stepped (contents (before t.current t.store)) (unfolded ps t)) { group = None }) (record (unfolded ps t) { group = None }))
-  committing ps =
-      ap (λ o. inside o (λ g. Ok (committed g (unfolded ps t)))) (group_seen t.group opened (contents (before t.current t.store)) is_open)
-      ∙ ap (λ b. Ok (cond b (record (stepped (contents (before t.current t.store)) (unfolded ps t)) { group = None }) (record (unfolded ps t) { group = None }))) flagged
+  committing : (ps : List Signature) (g : History) → closing ps changed ≡ g → IsSomeAnd (unfolded ps t).group (λ k. g ≡ committed k (unfolded ps t))
+  committing ps g e =
+      subst (λ (o : Option Group). IsSomeAnd o (λ k. g ≡ committed k (unfolded ps t))) (sym (group_seen t.group opened (contents (before t.current t.store)) is_open)) (sym (ap (closing ps) flagged ∙ e))
 
   pub kept_placed : changed ≡ false → IsPlaced (record t { group = None })
   kept_placed none = record {
@@ -317,9 +439,8 @@ module _ (t : Timeline) (changed : Bool) (there : IsSome t.group) (flag : change
     current = subst (λ b. OnFalse b (t.current ≡ [])) (flagged ∙ none) (subst (λ g. IsCurrent g t.current) is_open h.current);
   }
 
-  pub kept_unfolded : changed ≡ false → (ps : List Signature) → closing ps ≡ Ok (unfolded ps (record t { group = None }))
-  kept_unfolded none ps =
-      committing ps ∙ ap (λ b. Ok (cond b (record (stepped (contents (before t.current t.store)) (unfolded ps t)) { group = None }) (record (unfolded ps t) { group = None }))) none
+  pub kept_unfolded : changed ≡ false → (ps : List Signature) → IsSomeAnd (unfolded ps t).group (λ k. unfolded ps (record t { group = None }) ≡ committed k (unfolded ps t))
+  kept_unfolded none ps = committing ps (unfolded ps (record t { group = None })) (ap (closing ps) none)
 
   module _ (logs : Vec (List Entry)) (log new : List Entry) (taken : log ≡ t.current) (empty : new ≡ []) (all : logs.items ≡ take t.position t.logs.items ++ log ∷ []) where
     whole : logs.items ≡ take t.position t.logs.items ++ t.current ∷ []
@@ -337,12 +458,12 @@ module _ (t : Timeline) (changed : Bool) (there : IsSome t.group) (flag : change
       current = empty;
     }
 
-    pub committed_unfolded : changed ≡ true → (ps : List Signature) → closing ps ≡ Ok (unfolded ps (record t { logs = logs; position = t.position + 1; group = None; current = new }))
+    pub committed_unfolded : changed ≡ true → (ps : List Signature)
+        → IsSomeAnd (unfolded ps t).group (λ k. unfolded ps (record t { logs = logs; position = t.position + 1; group = None; current = new }) ≡ committed k (unfolded ps t))
     committed_unfolded some ps =
         let past : past_of (take t.position t.logs.items) (before t.current t.store) ++ contents (before t.current t.store) ∷ [] ≡ past_of (take (t.position + 1) logs.items) (before new t.store) =
         sym (grouped_past t.logs.items t.position t.store t.current h.within) ∙ (λ i. past_of (take (t.position + 1) (sym whole i)) (sym begins i)) in
         let later : [] ≡ later_of (drop (t.position + 1) logs.items) (before new t.store) =
         sym (grouped_later t.logs.items t.position t.store t.current h.within) ∙ (λ i. later_of (drop (t.position + 1) (sym whole i)) (sym begins i)) in
-        committing ps
-        ∙ ap (λ b. Ok (cond b (record (stepped (contents (before t.current t.store)) (unfolded ps t)) { group = None }) (record (unfolded ps t) { group = None }))) some
-        ∙ (λ i. Ok (record { primitives = ps; past = past i; now = contents t.store; later = later i; group = None }))
+        committing ps (unfolded ps (record t { logs = logs; position = t.position + 1; group = None; current = new }))
+        (ap (closing ps) some ∙ (λ i. record { primitives = ps; past = past i; now = contents t.store; later = later i; group = None }))

@@ -1,5 +1,5 @@
 -- What a step leaves is sound.
-use Rattle.std.proofs.Common.{◌≡◌, ◌≤◌, ◌+◌, ◌-◌, ℕ, zero, suc, Bool, true, false, ◌&&◌, cond, List, [], ◌∷◌, ◌++◌, length, set, slice_get, Option, Some, None, IfSome, Result, Ok, Err, OnOk, OnErr, ok_or, option_and_then, refl, sym, ap, subst, ◌∙◌, arith}
+use Rattle.std.proofs.Common.{◌≡◌, ◌≤◌, ◌+◌, ◌-◌, ℕ, zero, suc, Bool, true, false, ◌&&◌, cond, List, [], ◌∷◌, ◌++◌, length, set, slice_get, Option, Some, None, IfSome, Result, Ok, Err, OnOk, OnErr, ok_or, is_none, option_and_then, refl, sym, ap, subst, ◌∙◌, arith}
 use Rattle.std.specs.Option.{option_map_or}
 use Rattle.std.specs.List.{AllByRecursion, list_all}
 use Rattle.std.specs.Ordering.{nat_cmp, eq_by_cmp}
@@ -10,18 +10,22 @@ use Rattle.std.specs.FinMap.{get, get-empty, get-insert, get-remove}
 use Rattle.term_core.specs.Tree.{Tree, integer, branch, to_list, of_list, children, with_child, with_annotations}
 use Rattle.term_core.specs.Size.{height, heights, fits}
 use Rattle.term_core.specs.declared.TheConstants.{MAX_HEIGHT}
-use Rattle.term_paths.specs.Paths.{leads, set_at, set_annotations_at}
+use Rattle.term_paths.specs.Paths.{set_at, set_annotations_at}
 use Rattle.term_core.proofs.TreeLemmas.{of_list-to_list}
 use Rattle.term_paths.proofs.PathLemmas.{changed_at, set_at-changed, set_annotations_at-changed, changed_at-child, changed_at-no_child}
 use Rattle.strategy_syntax.specs.Modules.{Module}
 use Rattle.strategy_check.specs.Faults.{Primitives}
-use Rattle.change_log.specs.Contents.{Contents, Named, no_contents, without_tree}
-use Rattle.session_core.specs.Modules.{Texts, ReadsModule, AreReadable, AreRead, Finds}
-use Rattle.session_core.specs.History.{Group, History, stepped, changed, newest, older, back_to, forward_to, step_back, step_forward, undone, redone, AreLow, AreFormed, AreSound, IsSoundNow, IsSound}
-use Rattle.session_core.specs.Step.{Act, set_tree, copy_tree, drop_tree, put, annotate, undo, redo, begin, abandon, step, with_some, outside, inside, committed, retold}
+use Rattle.change_log.specs.Contents.{Contents, Named, no_contents, with_tree, without_tree, with_module, without_module}
+use Rattle.strategy_check.specs.Programs.{Program}
+use Rattle.strategy_check.specs.Faults.{first}
+use Rattle.session_core.specs.Modules.{Texts, ReadsAsModule, AreReadable, AreRead, Finds, GivesProgram, Checks}
+use Rattle.session_core.specs.History.{Group, History, stepped, changed, newest, older, back_to, forward_to, step_back, step_forward, undone, redone, AreLow, AreFormed, AreSound, IsSoundNow, HasSoundContents}
+use Rattle.session_core.specs.Step.{Act, set_tree, copy_tree, drop_tree, put, annotate, set_module, unload, undo, redo, begin, commit, abandon, Passing, Leaves, ChangesTo, ChangesModules, Given, PutsAt, AnnotatesAt, ComesTo, tree_of, text_of, place_of, committed}
+use Rattle.session_core.specs.Laws.{ChangeIsToContents}
 use Rattle.session_core.specs.declared.refusal.Refusal.{Refusal}
-use Rattle.session_core.specs.declared.refusal.Refusal.TheVariants.{Path, Big, NoUndo, NoRedo}
+use Rattle.session_core.specs.declared.refusal.Refusal.TheVariants.{NoTree, Big, NoUndo, NoRedo, Group as InGroup, NoGroup}
 use Rattle.session_core.proofs.MapLemmas.{no_keys}
+use Rattle.session_core.proofs.StepLemmas.{same_Ok, passing_Ok, holding_Ok, given_Ok, ok_or-Ok, none_of, place_tree}
 
 -- ---- contents
 
@@ -41,12 +45,12 @@ low_without_tree trees name s = λ q.
     (elim (eq_by_cmp (slice_cmp nat_cmp) q name) as (λ b. Low (cond b None (get trees q))) [ true ↦ tt | false ↦ s q ])
 
 abbrev GivesSome : Option (List ℕ) → Type 0
-GivesSome o = IfSome o (λ text. (m : Module) × ReadsModule text (Ok m))
+GivesSome o = IfSome o (λ text. (m : Module) × ReadsAsModule text (Ok m))
 
 pub readable_empty : AreReadable finmap.empty
 readable_empty = λ q. subst GivesSome (sym (get-empty (slice_cmp nat_cmp) q)) tt
 
-pub readable_with : (texts : Texts) (name text : List ℕ) (m : Module) → AreReadable texts → ReadsModule text (Ok m) → AreReadable (finmap.insert texts name text)
+pub readable_with : (texts : Texts) (name text : List ℕ) (m : Module) → AreReadable texts → ReadsAsModule text (Ok m) → AreReadable (finmap.insert texts name text)
 readable_with texts name text m s h = λ q.
     subst GivesSome (sym (get-insert nat_list_cmp_total texts name text q))
     (elim (eq_by_cmp (slice_cmp nat_cmp) q name) as (λ b. GivesSome (cond b (Some text) (get texts q))) [ true ↦ (m, h) | false ↦ s q ])
@@ -155,39 +159,31 @@ pub formed_now : (ps : Primitives) (c : Contents) (o : Option Group) → IsSound
 formed_now ps c None s = s.0
 formed_now ps c (Some g) s = s.0
 
-pub sound_outside : (h : History) → IsSound h → h.group ≡ None → AreSound h.primitives h.now
+pub sound_outside : (h : History) → HasSoundContents h → h.group ≡ None → AreSound h.primitives h.now
 sound_outside h s closed = subst (IsSoundNow h.primitives h.now) closed s.1
 
-pub sound_begun : (h : History) (group : Group) → IsSound h → h.group ≡ Some group → AreSound h.primitives group.begun
+pub sound_begun : (h : History) (group : Group) → HasSoundContents h → h.group ≡ Some group → AreSound h.primitives group.begun
 sound_begun h group s e = (subst (IsSoundNow h.primitives h.now) e s.1).1
 
-pub sound_changed : (c : Contents) (h : History) → IsSound h → AreFormed c → (h.group ≡ None → Finds h.primitives c.modules None) → IsSound (changed c h)
+pub sound_changed : (c : Contents) (h : History) → HasSoundContents h → AreFormed c → (h.group ≡ None → Finds h.primitives c.modules None) → HasSoundContents (changed c h)
 sound_changed c h s k f = by h.group refl s.1
   where
     by : (o : Option Group) → h.group ≡ o → IsSoundNow h.primitives h.now o
-        → IsSound (option_map_or (λ g. record h { now = c; group = Some (record g { changed = true }) }) o (record (stepped h.now h) { now = c }))
+        → HasSoundContents (option_map_or (λ g. record h { now = c; group = Some (record g { changed = true }) }) o (record (stepped h.now h) { now = c }))
     by None e n = (All-push (AreSound h.primitives) h.past h.now s.0 n, subst (IsSoundNow h.primitives c) (sym e) (k, f e), tt)
     by (Some group) e n = (s.0, (k, n.1, tt), s.2)
 
--- a change of the trees leaves the modules as they are
-sound_trees : (trees : Named Tree) (h : History) → IsSound h → AreLow trees → IsSound (changed (record h.now { trees = trees }) h)
-sound_trees trees h s low =
-    sound_changed (record h.now { trees = trees }) h s (low, (formed_now h.primitives h.now h.group s.1).1) (λ closed. (sound_outside h s closed).1)
-
 same_Some : (g h : History) → Some h ≡ Some g → h ≡ g
 same_Some g h e = cc
-
-pub same_Ok : (g h : History) → ◌≡◌ {A = Result History Refusal} (Ok h) (Ok g) → h ≡ g
-same_Ok g h e = cc
 
 -- a sound history without an open group
 abbrev Whole : History → Type 0
 Whole h = (h.group ≡ None) × (AllByRecursion (AreSound h.primitives) h.past × AreSound h.primitives h.now × AllByRecursion (AreSound h.primitives) h.later)
 
-whole : (h : History) → IsSound h → h.group ≡ None → Whole h
+whole : (h : History) → HasSoundContents h → h.group ≡ None → Whole h
 whole h s closed = (closed, (s.0, sound_outside h s closed, s.2))
 
-sound_whole : (h : History) → Whole h → IsSound h
+sound_whole : (h : History) → Whole h → HasSoundContents h
 sound_whole h w = (w.1.0, subst (IsSoundNow h.primitives h.now) (sym w.0) w.1.1, w.1.2)
 
 whole_back : (h : History) (past : List Contents) (g : History) → Whole h → AllByRecursion (AreSound h.primitives) past → back_to h past ≡ Some g → Whole g
@@ -215,91 +211,17 @@ whole_redone (suc k) h g w e = by (step_forward h) refl (λ m. whole_redone k m 
     by None p rest q = absurd (cc)
     by (Some m) p rest q = rest m (whole_forward h h.later m w w.1.2 p) q
 
--- ---- steps
+-- ---- acts
 
-ok_or-Ok : (o : Option History) (r : Refusal) (g : History) → ok_or o r ≡ Ok g → o ≡ Some g
-ok_or-Ok None r g e = absurd (cc)
-ok_or-Ok (Some h) r g e = cc
-
-chosen : (b : Bool) (h g : History) (r : Refusal) → cond b (Ok h) (Err r) ≡ Ok g → (b ≡ true) × (h ≡ g)
-chosen true h g r e = (refl, cc)
-chosen false h g r e = absurd (cc)
-
-led : (b : Bool) (x : Result History Refusal) (g : History) → cond b x (Err Path) ≡ Ok g → x ≡ Ok g
-led true x g e = e
-led false x g e = absurd (cc)
-
--- the tree of a label, and what was done with it
-the_tree : (o : Option Tree) (next : Tree → Result History Refusal) (g : History) → with_some o next ≡ Ok g → (t : Tree) × (o ≡ Some t) × (next t ≡ Ok g)
-the_tree None next g e = absurd (cc)
-the_tree (Some t) next g e = (t, refl, e)
-
-low_tree : (h : History) (name : List ℕ) (t : Tree) → IsSound h → get h.now.trees name ≡ Some t → height t ≤ MAX_HEIGHT
-low_tree h name t s e = subst (λ (o : Option Tree). IfSome o (λ t. height t ≤ MAX_HEIGHT)) e ((formed_now h.primitives h.now h.group s.1).0 name)
-
-when_outside : (o : Option Group) (x : Result History Refusal) (g : History) → outside o x ≡ Ok g → (o ≡ None) × (x ≡ Ok g)
-when_outside None x g e = (refl, e)
-when_outside (Some group) x g e = absurd (cc)
-
-the_group : (o : Option Group) (next : Group → Result History Refusal) (g : History) → inside o next ≡ Ok g → (group : Group) × (o ≡ Some group) × (next group ≡ Ok g)
-the_group None next g e = absurd (cc)
-the_group (Some group) next g e = (group, refl, e)
-
-low_now : (h : History) → IsSound h → AreLow h.now.trees
-low_now h s = (formed_now h.primitives h.now h.group s.1).0
-
-pub sound_committed : (group : Group) (h : History) → IsSound h → h.group ≡ Some group → Finds h.primitives h.now.modules None → IsSound (committed group h)
+pub sound_committed : (group : Group) (h : History) → HasSoundContents h → h.group ≡ Some group → Finds h.primitives h.now.modules None → HasSoundContents (committed group h)
 sound_committed group h s inside found = by group.changed
   where
     now : AreSound h.primitives h.now
     now = (formed_now h.primitives h.now h.group s.1, found)
 
-    by : (b : Bool) → IsSound (cond b (record (stepped group.begun h) { group = None }) (record h { group = None }))
+    by : (b : Bool) → HasSoundContents (cond b (record (stepped group.begun h) { group = None }) (record h { group = None }))
     by true = (All-push (AreSound h.primitives) h.past group.begun s.0 (sound_begun h group s inside), now, tt)
     by false = (s.0, now, s.2)
-
-pub step_sound : (act : Act) (h g : History) → IsSound h → step act h ≡ Ok g → IsSound g
-step_sound (set_tree name tree) h g s e =
-    let done = chosen (fits 0 tree) (retold h name tree) g Big e in
-    let low = height_of_fit 0 tree done.0 in
-    subst IsSound done.1 (sound_trees (finmap.insert h.now.trees name tree) h s (low_with_tree h.now.trees name tree (low_now h s) (omega (arith, low))))
-step_sound (copy_tree name copy) h g s e =
-    let found = the_tree (get h.now.trees name) (λ t. Ok (retold h copy t)) g e in
-    subst IsSound (same_Ok g (retold h copy found.0) found.2) (sound_trees (finmap.insert h.now.trees copy found.0) h s (low_with_tree h.now.trees copy found.0 (low_now h s) (low_tree h name found.0 s found.1)))
-step_sound (drop_tree name) h g s e =
-    let found = the_tree (get h.now.trees name) (λ t. Ok (changed (without_tree h.now name) h)) g e in
-    subst IsSound (same_Ok g (changed (without_tree h.now name) h) found.2) (sound_trees (finmap.remove h.now.trees name) h s (low_without_tree h.now.trees name (low_now h s)))
-step_sound (put name path part) h g s e =
-    let found = the_tree (get h.now.trees name) (λ t. cond (leads t path) (cond (fits (length path) part) (Ok (retold h name (set_at t path part))) (Err Big)) (Err Path)) g e in
-    let tree = set_at found.0 path part in
-    let done = chosen (fits (length path) part) (retold h name tree) g Big (led (leads found.0 path) _ g found.2) in
-    subst IsSound done.1 (sound_trees (finmap.insert h.now.trees name tree) h s (low_with_tree h.now.trees name tree (low_now h s) (height_of_set found.0 part path (low_tree h name found.0 s found.1) done.0)))
-step_sound (annotate name path us) h g s e =
-    let fit = list_all (fits (length path + 1)) us in
-    let found = the_tree (get h.now.trees name) (λ t. cond (leads t path) (cond fit (Ok (retold h name (set_annotations_at t path us))) (Err Big)) (Err Path)) g e in
-    let tree = set_annotations_at found.0 path us in
-    let done = chosen fit (retold h name tree) g Big (led (leads found.0 path) _ g found.2) in
-    subst IsSound done.1 (sound_trees (finmap.insert h.now.trees name tree) h s (low_with_tree h.now.trees name tree (low_now h s) (height_of_annotated found.0 us path (low_tree h name found.0 s found.1) done.0)))
-step_sound (undo k) h g s e =
-    let there = when_outside h.group _ g e in
-    sound_whole g (whole_undone k h g (whole h s there.0) (ok_or-Ok (undone k h) NoUndo g there.1))
-step_sound (redo k) h g s e =
-    let there = when_outside h.group _ g e in
-    sound_whole g (whole_redone k h g (whole h s there.0) (ok_or-Ok (redone k h) NoRedo g there.1))
-step_sound begin h g s e =
-    let there = when_outside h.group _ g e in
-    let now = sound_outside h s there.0 in
-    subst IsSound (same_Ok g _ there.1) (s.0, (now.0, now, refl), s.2)
-step_sound abandon h g s e =
-    let there = the_group h.group (λ group. Ok (record h { now = group.begun; group = None })) g e in
-    subst IsSound (same_Ok g (record h { now = there.0.begun; group = None }) there.2) (s.0, sound_begun h there.0 s there.1, s.2)
-
--- an act that is accepted leaves what the machine does, and a refused one leaves all
-pub act_sound : {A E : Type 0} (act : Act) (r : Result A E) (old new : History) → OnOk r (step act old ≡ Ok new) → OnErr r (new ≡ old) → IsSound old → IsSound new
-act_sound act (Ok x) old new ok err s = step_sound act old new s ok
-act_sound act (Err e) old new ok err s = subst IsSound (sym err) s
-
--- ---- steps that leave the modules
 
 pub now_changed : (c : Contents) (h : History) → (changed c h).now ≡ c
 now_changed c h = by h.group
@@ -308,42 +230,205 @@ now_changed c h = by h.group
     by None = refl
     by (Some g) = refl
 
--- which acts leave the modules as they are
+-- where the checker gives a program, it finds no fault
+pub program_finds : (ps : Primitives) (texts : Texts) (p : Program) → GivesProgram ps texts p → Finds ps texts None
+program_finds ps texts p is = record { modules = is.modules; are = is.are; fault = sym (ap first is.faultless) }
+
+-- ---- acts that change the trees alone
+
+-- Such a change keeps trees low.
+pub record TreesChange (h g : History) : Type 0 where
+  pub trees : Named Tree
+  pub is : g ≡ changed (record h.now { trees = trees }) h
+  pub low : AreLow h.now.trees → AreLow trees
+
+abbrev pub ChangesTrees : Act → Type 0
+ChangesTrees (set_tree name tree) = Unit {0}
+ChangesTrees (copy_tree name copy) = Unit {0}
+ChangesTrees (drop_tree name) = Unit {0}
+ChangesTrees (put name path part) = Unit {0}
+ChangesTrees (annotate name path us) = Unit {0}
+ChangesTrees (set_module name text) = ⊥
+ChangesTrees (unload name) = ⊥
+ChangesTrees (undo k) = ⊥
+ChangesTrees (redo k) = ⊥
+ChangesTrees begin = ⊥
+ChangesTrees commit = ⊥
+ChangesTrees abandon = ⊥
+
+low_at : (c : Contents) (name : List ℕ) (t : Tree) → get c.trees name ≡ Some t → AreLow c.trees → height t ≤ MAX_HEIGHT
+low_at c name t e low = subst (λ (o : Option Tree). IfSome o (λ t. height t ≤ MAX_HEIGHT)) e (low name)
+
+pub trees_change : (act : Act) (h g : History) → ChangesTrees act → ComesTo act h (Ok g) → TreesChange h g
+trees_change (set_tree name tree) h g only done =
+    let fit = holding_Ok (fits 0 tree) Big (ChangesTo (with_tree h.now name tree) h) g done in
+    let within = height_of_fit 0 tree fit.0 in
+    record {
+      trees = finmap.insert h.now.trees name tree;
+      is = same_Ok (changed (with_tree h.now name tree) h) g fit.1;
+      low = λ low. low_with_tree h.now.trees name tree low (omega (arith, within));
+    }
+trees_change (copy_tree name copy) h g only done =
+    let there = passing_Ok (tree_of h.now name) (λ t. ChangesTo (with_tree h.now copy t) h) g done in
+    record {
+      trees = finmap.insert h.now.trees copy there.0;
+      is = same_Ok (changed (with_tree h.now copy there.0) h) g there.2;
+      low = λ low. low_with_tree h.now.trees copy there.0 low (low_at h.now name there.0 (ok_or-Ok (get h.now.trees name) NoTree there.0 there.1) low);
+    }
+trees_change (drop_tree name) h g only done =
+    let there = passing_Ok (tree_of h.now name) (λ t. ChangesTo (without_tree h.now name) h) g done in
+    record {
+      trees = finmap.remove h.now.trees name;
+      is = same_Ok (changed (without_tree h.now name) h) g there.2;
+      low = λ low. low_without_tree h.now.trees name low;
+    }
+trees_change (put name path part) h g only done =
+    let there = passing_Ok (place_of h.now name path) (PutsAt name path part h) g done in
+    let tree = set_at there.0.tree path part in
+    let fit = holding_Ok (fits (length path) part) Big (ChangesTo (with_tree h.now name tree) h) g there.2 in
+    record {
+      trees = finmap.insert h.now.trees name tree;
+      is = same_Ok (changed (with_tree h.now name tree) h) g fit.1;
+      low = λ low. low_with_tree h.now.trees name tree low (height_of_set there.0.tree part path (low_at h.now name there.0.tree (place_tree h.now name path there.0 there.1) low) fit.0);
+    }
+trees_change (annotate name path us) h g only done =
+    let there = passing_Ok (place_of h.now name path) (AnnotatesAt name path us h) g done in
+    let tree = set_annotations_at there.0.tree path us in
+    let fit = holding_Ok (list_all (fits (length path + 1)) us) Big (ChangesTo (with_tree h.now name tree) h) g there.2 in
+    record {
+      trees = finmap.insert h.now.trees name tree;
+      is = same_Ok (changed (with_tree h.now name tree) h) g fit.1;
+      low = λ low. low_with_tree h.now.trees name tree low (height_of_annotated there.0.tree us path (low_at h.now name there.0.tree (place_tree h.now name path there.0 there.1) low) fit.0);
+    }
+trees_change (set_module name text) h g only done = absurd only
+trees_change (unload name) h g only done = absurd only
+trees_change (undo k) h g only done = absurd only
+trees_change (redo k) h g only done = absurd only
+trees_change begin h g only done = absurd only
+trees_change commit h g only done = absurd only
+trees_change abandon h g only done = absurd only
+
+-- a change of the trees leaves the modules as they are
+trees_sound : (act : Act) (h g : History) → ChangesTrees act → HasSoundContents h → ComesTo act h (Ok g) → HasSoundContents g
+trees_sound act h g only s done =
+    let change = trees_change act h g only done in
+    let formed = formed_now h.primitives h.now h.group s.1 in
+    subst HasSoundContents (sym change.is) (sound_changed (record h.now { trees = change.trees }) h s (change.low formed.0, formed.1) (λ closed. (sound_outside h s closed).1))
+
+trees_leave : (act : Act) (h g : History) → ChangesTrees act → ComesTo act h (Ok g) → g.now.modules ≡ h.now.modules
+trees_leave act h g only done =
+    let change = trees_change act h g only done in
+    ap (λ (x : History). x.now.modules) change.is ∙ ap (λ (c : Contents). c.modules) (now_changed (record h.now { trees = change.trees }) h)
+
+-- ---- acts that change the modules
+
+modules_change : (o : Option Group) (c : Contents) (h g : History) → ChangesModules o c h (Ok g) → (g ≡ changed c h) × (o ≡ None → Finds h.primitives c.modules None)
+modules_change None c h g done =
+    let checked = given_Ok (Checks h.primitives c.modules) (λ p. ChangesTo c h) g done in
+    (same_Ok (changed c h) g checked.2, λ _. program_finds h.primitives c.modules checked.0 checked.1)
+modules_change (Some group) c h g done = (same_Ok (changed c h) g done, λ none. absurd (cc))
+
+modules_sound : (c : Contents) (h g : History) → HasSoundContents h → AreFormed c → ChangesModules h.group c h (Ok g) → HasSoundContents g
+modules_sound c h g s formed done =
+    let change = modules_change h.group c h g done in
+    subst HasSoundContents (sym change.0) (sound_changed c h s formed change.1)
+
+-- ---- all acts
+
+moved : (h g : History) (o : Option History) (refusal : Refusal) → Passing (ok_or o refusal) Leaves (Ok g) → o ≡ Some g
+moved h g o refusal done =
+    let there = passing_Ok (ok_or o refusal) Leaves g done in
+    ok_or-Ok o refusal there.0 there.1 ∙ ap (λ (x : History). Some x) (sym (same_Ok there.0 g there.2))
+
+pub step_sound : (act : Act) (h g : History) → HasSoundContents h → ComesTo act h (Ok g) → HasSoundContents g
+step_sound (set_tree name tree) h g s done = trees_sound (set_tree name tree) h g tt s done
+step_sound (copy_tree name copy) h g s done = trees_sound (copy_tree name copy) h g tt s done
+step_sound (drop_tree name) h g s done = trees_sound (drop_tree name) h g tt s done
+step_sound (put name path part) h g s done = trees_sound (put name path part) h g tt s done
+step_sound (annotate name path us) h g s done = trees_sound (annotate name path us) h g tt s done
+step_sound (set_module name text) h g s done =
+    let read = given_Ok (ReadsAsModule text) (λ m. ChangesModules h.group (with_module h.now name text) h) g done in
+    let formed = formed_now h.primitives h.now h.group s.1 in
+    modules_sound (with_module h.now name text) h g s (formed.0, readable_with h.now.modules name text read.0 formed.1 read.1) read.2
+step_sound (unload name) h g s done =
+    let there = passing_Ok (text_of h.now name) (λ text. ChangesModules h.group (without_module h.now name) h) g done in
+    let formed = formed_now h.primitives h.now h.group s.1 in
+    modules_sound (without_module h.now name) h g s (formed.0, readable_without h.now.modules name formed.1) there.2
+step_sound (undo k) h g s done =
+    let there = holding_Ok (is_none h.group) InGroup (Passing (ok_or (undone k h) NoUndo) Leaves) g done in
+    sound_whole g (whole_undone k h g (whole h s (none_of h.group there.0)) (moved h g (undone k h) NoUndo there.1))
+step_sound (redo k) h g s done =
+    let there = holding_Ok (is_none h.group) InGroup (Passing (ok_or (redone k h) NoRedo) Leaves) g done in
+    sound_whole g (whole_redone k h g (whole h s (none_of h.group there.0)) (moved h g (redone k h) NoRedo there.1))
+step_sound begin h g s done =
+    let begun : History = record h { group = Some (record { begun = h.now; changed = false }) } in
+    let there = holding_Ok (is_none h.group) InGroup (Leaves begun) g done in
+    let now = sound_outside h s (none_of h.group there.0) in
+    subst HasSoundContents (sym (same_Ok begun g there.1)) (s.0, (now.0, now, refl), s.2)
+step_sound commit h g s done =
+    let there = passing_Ok (ok_or h.group NoGroup) (λ group. Given (Checks h.primitives h.now.modules) (λ p. Leaves (committed group h))) g done in
+    let checked = given_Ok (Checks h.primitives h.now.modules) (λ p. Leaves (committed there.0 h)) g there.2 in
+    subst HasSoundContents (sym (same_Ok (committed there.0 h) g checked.2)) (sound_committed there.0 h s (ok_or-Ok h.group NoGroup there.0 there.1) (program_finds h.primitives h.now.modules checked.0 checked.1))
+step_sound abandon h g s done =
+    let there = passing_Ok (ok_or h.group NoGroup) (λ group. Leaves (record h { now = group.begun; group = None })) g done in
+    let left : History = record h { now = there.0.begun; group = None } in
+    subst HasSoundContents (sym (same_Ok left g there.2)) (s.0, sound_begun h there.0 s (ok_or-Ok h.group NoGroup there.0 there.1), s.2)
+
+-- an act that is accepted leaves what the machine does, and a refused one leaves all
+pub act_sound : {A E : Type 0} (act : Act) (r : Result A E) (old new : History) → OnOk r (ComesTo act old (Ok new)) → OnErr r (new ≡ old) → HasSoundContents old → HasSoundContents new
+act_sound act (Ok x) old new ok err s = step_sound act old new s ok
+act_sound act (Err e) old new ok err s = subst HasSoundContents (sym err) s
+
+-- an accepted change gives contents by a change
+pub change_is_to_contents : ChangeIsToContents
+change_is_to_contents (set_tree name tree) h g change done = let t = trees_change (set_tree name tree) h g tt done in (record h.now { trees = t.trees }, t.is)
+change_is_to_contents (copy_tree name copy) h g change done = let t = trees_change (copy_tree name copy) h g tt done in (record h.now { trees = t.trees }, t.is)
+change_is_to_contents (drop_tree name) h g change done = let t = trees_change (drop_tree name) h g tt done in (record h.now { trees = t.trees }, t.is)
+change_is_to_contents (put name path part) h g change done = let t = trees_change (put name path part) h g tt done in (record h.now { trees = t.trees }, t.is)
+change_is_to_contents (annotate name path us) h g change done = let t = trees_change (annotate name path us) h g tt done in (record h.now { trees = t.trees }, t.is)
+change_is_to_contents (set_module name text) h g change done =
+    let read = given_Ok (ReadsAsModule text) (λ m. ChangesModules h.group (with_module h.now name text) h) g done in
+    (with_module h.now name text, (modules_change h.group (with_module h.now name text) h g read.2).0)
+change_is_to_contents (unload name) h g change done =
+    let there = passing_Ok (text_of h.now name) (λ text. ChangesModules h.group (without_module h.now name) h) g done in
+    (without_module h.now name, (modules_change h.group (without_module h.now name) h g there.2).0)
+change_is_to_contents (undo k) h g change done = absurd change
+change_is_to_contents (redo k) h g change done = absurd change
+change_is_to_contents begin h g change done = absurd change
+change_is_to_contents commit h g change done = absurd change
+change_is_to_contents abandon h g change done = absurd change
+
+-- ---- acts that leave the modules as they are
+
 abbrev pub LeavesModules : Act → Type 0
 LeavesModules (set_tree name tree) = Unit {0}
 LeavesModules (copy_tree name copy) = Unit {0}
 LeavesModules (drop_tree name) = Unit {0}
 LeavesModules (put name path part) = Unit {0}
 LeavesModules (annotate name path us) = Unit {0}
+LeavesModules (set_module name text) = ⊥
+LeavesModules (unload name) = ⊥
 LeavesModules (undo k) = ⊥
 LeavesModules (redo k) = ⊥
 LeavesModules begin = Unit {0}
+LeavesModules commit = ⊥
 LeavesModules abandon = ⊥
 
-trees_changed : (trees : Named Tree) (h g : History) → changed (record h.now { trees = trees }) h ≡ g → g.now.modules ≡ h.now.modules
-trees_changed trees h g e = ap (λ (x : History). x.now.modules) (sym e) ∙ ap (λ (c : Contents). c.modules) (now_changed (record h.now { trees = trees }) h)
-
-pub step_leaves : (act : Act) (h g : History) → LeavesModules act → step act h ≡ Ok g → g.now.modules ≡ h.now.modules
-step_leaves (set_tree name tree) h g _ e = trees_changed (finmap.insert h.now.trees name tree) h g (chosen (fits 0 tree) (retold h name tree) g Big e).1
-step_leaves (copy_tree name copy) h g _ e =
-    let found = the_tree (get h.now.trees name) (λ t. Ok (retold h copy t)) g e in
-    trees_changed (finmap.insert h.now.trees copy found.0) h g (same_Ok g (retold h copy found.0) found.2)
-step_leaves (drop_tree name) h g _ e =
-    let found = the_tree (get h.now.trees name) (λ t. Ok (changed (without_tree h.now name) h)) g e in
-    trees_changed (finmap.remove h.now.trees name) h g (same_Ok g (changed (without_tree h.now name) h) found.2)
-step_leaves (put name path part) h g _ e =
-    let found = the_tree (get h.now.trees name) (λ t. cond (leads t path) (cond (fits (length path) part) (Ok (retold h name (set_at t path part))) (Err Big)) (Err Path)) g e in
-    let tree = set_at found.0 path part in
-    trees_changed (finmap.insert h.now.trees name tree) h g (chosen (fits (length path) part) (retold h name tree) g Big (led (leads found.0 path) _ g found.2)).1
-step_leaves (annotate name path us) h g _ e =
-    let fit = list_all (fits (length path + 1)) us in
-    let found = the_tree (get h.now.trees name) (λ t. cond (leads t path) (cond fit (Ok (retold h name (set_annotations_at t path us))) (Err Big)) (Err Path)) g e in
-    let tree = set_annotations_at found.0 path us in
-    trees_changed (finmap.insert h.now.trees name tree) h g (chosen fit (retold h name tree) g Big (led (leads found.0 path) _ g found.2)).1
-step_leaves (undo k) h g leaves e = absurd leaves
-step_leaves (redo k) h g leaves e = absurd leaves
-step_leaves begin h g _ e = ap (λ (x : History). x.now.modules) (sym (same_Ok g _ (when_outside h.group _ g e).1))
-step_leaves abandon h g leaves e = absurd leaves
+pub step_leaves : (act : Act) (h g : History) → LeavesModules act → ComesTo act h (Ok g) → g.now.modules ≡ h.now.modules
+step_leaves (set_tree name tree) h g leaves done = trees_leave (set_tree name tree) h g tt done
+step_leaves (copy_tree name copy) h g leaves done = trees_leave (copy_tree name copy) h g tt done
+step_leaves (drop_tree name) h g leaves done = trees_leave (drop_tree name) h g tt done
+step_leaves (put name path part) h g leaves done = trees_leave (put name path part) h g tt done
+step_leaves (annotate name path us) h g leaves done = trees_leave (annotate name path us) h g tt done
+step_leaves (set_module name text) h g leaves done = absurd leaves
+step_leaves (unload name) h g leaves done = absurd leaves
+step_leaves (undo k) h g leaves done = absurd leaves
+step_leaves (redo k) h g leaves done = absurd leaves
+step_leaves begin h g leaves done =
+    let begun : History = record h { group = Some (record { begun = h.now; changed = false }) } in
+    ap (λ (x : History). x.now.modules) (same_Ok begun g (holding_Ok (is_none h.group) InGroup (Leaves begun) g done).1)
+step_leaves commit h g leaves done = absurd leaves
+step_leaves abandon h g leaves done = absurd leaves
 
 -- and so does the end of a group
 pub committed_leaves : (group : Group) (h : History) → (committed group h).now ≡ h.now

@@ -3,7 +3,7 @@ use Rattle.std.proofs.Common.{◌≡◌, ℕ, zero, suc, ◌+◌, ◌<◌, ◌�
 use Rattle.std.proofs.lemmas.List.{length-append, length-take, drop_all, take_all, take-set}
 use Rattle.change_log.specs.Slots.{Store, contents, with_tree_slot, with_module_slot}
 use Rattle.change_log.specs.Entries.{Entry, HasPlace, put, found, before, after, flipped_back, flipped_forward, Fits, FitsForward}
-use Rattle.change_log.proofs.EntryLemmas.{pushed_leads_back, store_from_after, store_from_before, flipped_back_fits, flipped_forward_fits, pushed_fits}
+use Rattle.change_log.proofs.EntryLemmas.{before-append, pushed_leads_back, store_from_after, store_from_before, flipped_back_fits, flipped_forward_fits, pushed_fits}
 use Rattle.change_log.proofs.ContentsLemmas.{new_slots_are_empty, fits_with_more, fits_forward_with_more, fits_with_more_modules, fits_forward_with_more_modules}
 use Rattle.session_core.specs.Unfolded.{rewound, past_of, later_of, FitBack, FitForward}
 
@@ -24,6 +24,20 @@ FitBack-append (k ∷ ls) l s h f = (subst (Fits k) (sym (rewound-append ls l s)
 pub FitBack-split : (ls : List (List Entry)) (l : List Entry) (s : Store) → FitBack (ls ++ l ∷ []) s → FitBack ls (before l s) × Fits l s
 FitBack-split [] l s h = (tt, h.0)
 FitBack-split (k ∷ ls) l s h = let rest = FitBack-split ls l s h.1 in ((subst (Fits k) (rewound-append ls l s) h.0, rest.0), rest.1)
+
+-- ---- entries behind entries
+
+pub fits-append : (es fs : List Entry) (s : Store) → Fits es (before fs s) → Fits fs s → Fits (es ++ fs) s
+fits-append [] fs s h f = f
+fits-append (e ∷ es) fs s h f = (subst (HasPlace e) (sym (before-append es fs s)) h.0, fits-append es fs s h.1 f)
+
+pub take-append : (es fs : List Entry) → take (length es) (es ++ fs) ≡ es
+take-append [] fs = refl
+take-append (e ∷ es) fs = ap (λ l. e ∷ l) (take-append es fs)
+
+pub drop-append : (es fs : List Entry) → drop (length es) (es ++ fs) ≡ fs
+drop-append [] fs = refl
+drop-append (e ∷ es) fs = drop-append es fs
 
 -- ---- rows of logs
 
@@ -142,8 +156,6 @@ module _ (ls : List (List Entry)) (p : ℕ) (s : Store) (e : Entry) (inside : p 
 
   pub stepped_within : p + 1 ≤ length (take p ls ++ one ∷ [])
   stepped_within = omega (arith, inside, length-append (take p ls) (one ∷ []), length-take p ls)
-
--- ---- a change in a group
 
 -- ---- a group as a step
 

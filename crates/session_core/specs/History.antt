@@ -105,7 +105,7 @@ IsSoundNow primitives c (Some g) =
     AreFormed c × AreSound primitives g.begun × OnFalse g.changed (c ≡ g.begun)
 
 -- All contents of a history are sound: the past, those now and the later ones.
-abbrev pub IsSound : History → Type 0
-IsSound h =
+abbrev pub HasSoundContents : History → Type 0
+HasSoundContents h =
     AllByRecursion (AreSound h.primitives) h.past × IsSoundNow h.primitives h.now h.group
     × AllByRecursion (AreSound h.primitives) h.later

@@ -1,4 +1,5 @@
 pub mod Refusal
+pub mod Steps
 pub mod Modules
 pub mod History
 pub mod Codes

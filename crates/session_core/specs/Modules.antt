@@ -20,9 +20,9 @@ abbrev pub Texts : Type 0
 Texts = Named (List ℕ)
 
 -- What a text gives that is to be a module. One of over 4,000 tokens is refused before it is read.
-abbrev pub ReadsModule : List ℕ → Result Module Refusal → Type 0
-ReadsModule text (Ok m) = (length (tokens text) ≤ MAX_TOKENS) × GivesModule (tokens text) m
-ReadsModule text (Err refusal) =
+abbrev pub ReadsAsModule : List ℕ → Result Module Refusal → Type 0
+ReadsAsModule text (Ok m) = (length (tokens text) ≤ MAX_TOKENS) × GivesModule (tokens text) m
+ReadsAsModule text (Err refusal) =
     ((refusal ≡ Deep) × (MAX_TOKENS < length (tokens text)))
     ⊎ ((refusal ≡ Syntax) × (length (tokens text) ≤ MAX_TOKENS)
     × ((m : Module) → GivesModule (tokens text) m → ⊥))
@@ -30,13 +30,13 @@ ReadsModule text (Err refusal) =
 -- each text gives a module
 abbrev pub AreReadable : Texts → Type 0
 AreReadable texts =
-    (name : List ℕ) → IfSome (finmap.get texts name) (λ text. (m : Module) × ReadsModule text (Ok m))
+    (name : List ℕ) → IfSome (finmap.get texts name) (λ text. (m : Module) × ReadsAsModule text (Ok m))
 
 -- These are the modules that the texts of these names give, one after another.
 abbrev pub AreRead : Texts → List (List ℕ) → Modules → Type 0
 AreRead texts [] [] = Unit {0}
 AreRead texts (name ∷ names) (m ∷ ms) =
-    (m.0 ≡ name) × IsSomeAnd (finmap.get texts name) (λ text. ReadsModule text (Ok m.1))
+    (m.0 ≡ name) × IsSomeAnd (finmap.get texts name) (λ text. ReadsAsModule text (Ok m.1))
     × AreRead texts names ms
 AreRead texts [] (m ∷ ms) = ⊥
 AreRead texts (name ∷ names) [] = ⊥
@@ -51,13 +51,16 @@ pub record Finds (primitives : Primitives) (texts : Texts) (found : Option Fault
   pub are : AreModules texts modules
   pub fault : found ≡ first (faults modules primitives)
 
--- The program that these texts give with these primitives: the checker finds no fault in their modules,
--- and all its numbers are in range.
-pub record IsProgram (primitives : Primitives) (texts : Texts) (checked : Program) : Type 0 where
+-- The program that these texts give with these primitives: the checker finds no fault in their modules.
+pub record GivesProgram (primitives : Primitives) (texts : Texts) (checked : Program) : Type 0 where
   pub modules : Modules
   pub are : AreModules texts modules
   pub faultless : faults modules primitives ≡ []
   pub given : checked ≡ program modules primitives
+
+-- It is such a program, and all its numbers are in range.
+pub record IsProgram (primitives : Primitives) (texts : Texts) (checked : Program) : Type 0 where
+  pub gives : GivesProgram primitives texts checked
   pub in_range : IsSound checked primitives
 
 -- A program that is kept is that of these texts.
@@ -68,15 +71,21 @@ IsKept primitives texts kept = IfSome kept (IsProgram primitives texts)
 abbrev pub refusal_of : Fault → Refusal
 refusal_of fault = Check fault.kind fault.name fault.first fault.second
 
+-- What the checker makes of the modules of these texts: their program, or the refusal that tells the first
+-- fault.
+abbrev pub Checks : Primitives → Texts → Result Program Refusal → Type 0
+Checks primitives texts (Ok checked) = GivesProgram primitives texts checked
+Checks primitives texts (Err refusal) =
+    (fault : Fault) × Finds primitives texts (Some fault) × (refusal ≡ refusal_of fault)
+
 -- ---- why modules are refused: for want of memory, for a text that gives none, or for a fault
 
 -- one of the texts gives no module, and this is why
 abbrev pub IsUnread : Texts → Refusal → Type 0
 IsUnread texts refusal =
     (name : List ℕ) × (text : List ℕ) × (finmap.get texts name ≡ Some text)
-    × ReadsModule text (Err refusal)
+    × ReadsAsModule text (Err refusal)
 
 abbrev pub AreRefused : Primitives → Texts → Refusal → Type 0
 AreRefused primitives texts refusal =
-    ((refusal ≡ Memory) ⊎ IsUnread texts refusal)
-    ⊎ ((fault : Fault) × Finds primitives texts (Some fault) × (refusal ≡ refusal_of fault))
+    ((refusal ≡ Memory) ⊎ IsUnread texts refusal) ⊎ Checks primitives texts (Err refusal)

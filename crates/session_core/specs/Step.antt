@@ -1,19 +1,15 @@
 -- What each act does to a session: the history after it, or the one refusal, which leaves all as it
 -- was.
-use Rattle.std.specs.Prelude.{◌≡◌, ◌⊎◌, ℕ, ◌+◌, false, List, length, Some, None, Ok, Err, ok_or, if◌then◌else◌}
+use Rattle.std.specs.Prelude.{◌≡◌, ℕ, ◌+◌, Bool, true, false, List, length, Some, None, Ok, Err, is_none, ok_or, option_map, if◌then◌else◌}
 use Rattle.std.specs.declared.option.Option.{Option}
 use Rattle.std.specs.declared.result.Result.{Result}
-use Rattle.std.specs.Option.{MatchOption}
-use Rattle.std.specs.Result.{MatchResult}
 use Rattle.std.specs.List.{list_all}
 use Rattle.std.specs.FinMap as finmap
 use Rattle.term_core.specs.Tree.{Tree}
 use Rattle.term_core.specs.Size.{fits}
-use Rattle.term_paths.specs.Paths.{leads, set_at, set_annotations_at}
-use Rattle.strategy_syntax.specs.Modules.{Module}
-use Rattle.strategy_check.specs.Faults.{Fault}
+use Rattle.term_paths.specs.Paths.{at, set_at, set_annotations_at}
 use Rattle.change_log.specs.Contents.{Contents, with_tree, without_tree, with_module, without_module}
-use Rattle.session_core.specs.Modules.{ReadsModule, Finds, refusal_of}
+use Rattle.session_core.specs.Modules.{ReadsAsModule, Checks}
 use Rattle.session_core.specs.History.{Group, History, stepped, changed, undone, redone}
 use Rattle.session_core.specs.declared.refusal.Refusal.{Refusal}
 use Rattle.session_core.specs.declared.refusal.Refusal.TheVariants.{NoTree, NoModule, Path, Big, NoUndo, NoRedo, Group as InGroup, NoGroup}
@@ -29,117 +25,136 @@ pub data Act : Type 0 where
   put : List ℕ → List ℕ → Tree → Act
   -- gives the subterm at a path of the label's tree these annotations
   annotate : List ℕ → List ℕ → List Tree → Act
+  -- gives the label this module text
+  set_module : List ℕ → List ℕ → Act
+  -- takes the module of the label away
+  unload : List ℕ → Act
   -- goes so many places back
   undo : ℕ → Act
   -- goes so many places forward
   redo : ℕ → Act
-  -- begins a group, or takes back what it changed (how it ends else: `Commits`)
+  -- begins a group, makes what it changed one step, or takes that back
   begin : Act
+  commit : Act
   abandon : Act
 
--- what is done with a tree, if there is one
-abbrev pub with_some : Option Tree → (Tree → Result History Refusal) → Result History Refusal
-with_some None next = Err NoTree
-with_some (Some tree) next = next tree
+-- what an act comes to: the history after it, or the refusal
+abbrev pub Outcome : Type 0
+Outcome = Result History Refusal
 
--- what is done with the tree of a label
-abbrev pub with_tree_of : History → List ℕ → (Tree → Result History Refusal) → Result History Refusal
-with_tree_of h name next = with_some (finmap.get h.now.trees name) next
+-- ---- the order of refusals: each test refuses, or what stands behind it decides
 
--- what is done with the tree of a label at a path that leads to a subterm of it
-abbrev pub with_place : History → List ℕ → List ℕ → (Tree → Result History Refusal) → Result History Refusal
-with_place h name path next =
-    with_tree_of h name (λ tree. if leads tree path then next tree else Err Path)
+-- A test hands on what it found, or refuses.
+abbrev pub Passing : {X : Type 0} → Result X Refusal → (X → Outcome → Type 0) → Outcome → Type 0
+Passing (Ok x) next outcome = next x outcome
+Passing (Err refusal) next outcome = outcome ≡ Err refusal
 
--- the label has this tree now, by a change
-abbrev pub retold : History → List ℕ → Tree → History
-retold h name tree = changed (with_tree h.now name tree) h
+-- A test has to hold, else this is the refusal.
+abbrev pub Holding : Bool → Refusal → (Outcome → Type 0) → Outcome → Type 0
+Holding true refusal next outcome = next outcome
+Holding false refusal next outcome = outcome ≡ Err refusal
+
+-- What is related to a value goes on with it; what is related to a refusal is refused so.
+abbrev pub Given : {X : Type 0} → (Result X Refusal → Type 0) → (X → Outcome → Type 0) → Outcome
+    → Type 0
+Given {X} Gives next outcome = (given : Result X Refusal) × Gives given × Passing given next outcome
+
+-- this is the history then
+abbrev pub Leaves : History → Outcome → Type 0
+Leaves g outcome = outcome ≡ Ok g
+
+-- These are the contents then, by a change.
+abbrev pub ChangesTo : Contents → History → Outcome → Type 0
+ChangesTo c h = Leaves (changed c h)
+
+-- ---- what the tests find
+
+-- the tree of a label
+abbrev pub tree_of : Contents → List ℕ → Result Tree Refusal
+tree_of c name = ok_or (finmap.get c.trees name) NoTree
+
+-- the module text of a label
+abbrev pub text_of : Contents → List ℕ → Result (List ℕ) Refusal
+text_of c name = ok_or (finmap.get c.modules name) NoModule
+
+-- A place in a tree: the tree, and the subterm that stands there.
+pub record Place : Type 0 where
+  pub tree : Tree
+  pub part : Tree
+
+abbrev pub place_in : List ℕ → Result Tree Refusal → Result Place Refusal
+place_in path (Ok tree) =
+    ok_or (option_map (λ part. record { tree = tree; part = part }) (at tree path)) Path
+place_in path (Err refusal) = Err refusal
+
+-- the place that a path leads to in the tree of a label
+abbrev pub place_of : Contents → List ℕ → List ℕ → Result Place Refusal
+place_of c name path = place_in path (tree_of c name)
+
+-- ---- acts
+
+-- Modules become those of these contents, by a change. Outside a group the checker has to find no fault
+-- in them.
+abbrev pub ChangesModules : Option Group → Contents → History → Outcome → Type 0
+ChangesModules None c h = Given (Checks h.primitives c.modules) (λ program. ChangesTo c h)
+ChangesModules (Some g) c h = ChangesTo c h
+
+-- What is put at a place has to fit at its level, which is the length of the path; annotations one
+-- below.
+abbrev pub PutsAt : List ℕ → List ℕ → Tree → History → Place → Outcome → Type 0
+PutsAt name path part h place =
+    Holding (fits (length path) part) Big
+    (ChangesTo (with_tree h.now name (set_at place.tree path part)) h)
+
+abbrev pub AnnotatesAt : List ℕ → List ℕ → List Tree → History → Place → Outcome → Type 0
+AnnotatesAt name path annotations h place =
+    Holding (list_all (fits (length path + 1)) annotations) Big
+    (ChangesTo (with_tree h.now name (set_annotations_at place.tree path annotations)) h)
 
 -- What an open group changed becomes one step, where something was changed in it.
 abbrev pub committed : Group → History → History
 committed g h =
     if g.changed then record (stepped g.begun h) { group = None } else record h { group = None }
 
--- outside a group, and inside one
-abbrev pub outside : Option Group → Result History Refusal → Result History Refusal
-outside None next = next
-outside (Some g) next = Err InGroup
+-- What each act comes to at a history. A copy needs no test of its size. Going back or forward needs as
+-- many places there, and no open group; a group is committed where the checker finds no fault in the
+-- modules then.
+abbrev pub ComesTo : Act → History → Outcome → Type 0
+ComesTo (set_tree name tree) h = Holding (fits 0 tree) Big (ChangesTo (with_tree h.now name tree) h)
+ComesTo (copy_tree name copy) h =
+    Passing (tree_of h.now name) (λ tree. ChangesTo (with_tree h.now copy tree) h)
+ComesTo (drop_tree name) h = Passing (tree_of h.now name) (λ tree. ChangesTo (without_tree h.now name) h)
+ComesTo (put name path part) h = Passing (place_of h.now name path) (PutsAt name path part h)
+ComesTo (annotate name path annotations) h =
+    Passing (place_of h.now name path) (AnnotatesAt name path annotations h)
+ComesTo (set_module name text) h =
+    Given (ReadsAsModule text) (λ m. ChangesModules h.group (with_module h.now name text) h)
+ComesTo (unload name) h =
+    Passing (text_of h.now name) (λ text. ChangesModules h.group (without_module h.now name) h)
+ComesTo (undo k) h =
+    Holding (is_none h.group) InGroup (Passing (ok_or (undone k h) NoUndo) Leaves)
+ComesTo (redo k) h =
+    Holding (is_none h.group) InGroup (Passing (ok_or (redone k h) NoRedo) Leaves)
+ComesTo begin h =
+    Holding (is_none h.group) InGroup
+    (Leaves (record h { group = Some (record { begun = h.now; changed = false }) }))
+ComesTo commit h =
+    Passing (ok_or h.group NoGroup)
+    (λ g. Given (Checks h.primitives h.now.modules) (λ program. Leaves (committed g h)))
+ComesTo abandon h =
+    Passing (ok_or h.group NoGroup) (λ g. Leaves (record h { now = g.begun; group = None }))
 
-abbrev pub inside : Option Group → (Group → Result History Refusal) → Result History Refusal
-inside None next = Err NoGroup
-inside (Some g) next = next g
-
--- A tree has to fit at its level: a whole tree at 0, one that is put at a path at the length of the
--- path, and annotations one below. A copy needs no test. Going back or forward needs as many places
--- there, and no open group.
-abbrev pub step : Act → History → Result History Refusal
-step (set_tree name tree) h = if fits 0 tree then Ok (retold h name tree) else Err Big
-step (copy_tree name copy) h = with_tree_of h name (λ tree. Ok (retold h copy tree))
-step (drop_tree name) h = with_tree_of h name (λ tree. Ok (changed (without_tree h.now name) h))
-step (put name path part) h =
-    with_place h name path (λ tree.
-    if fits (length path) part then Ok (retold h name (set_at tree path part)) else Err Big)
-step (annotate name path annotations) h =
-    with_place h name path (λ tree.
-    if list_all (fits (length path + 1)) annotations
-    then Ok (retold h name (set_annotations_at tree path annotations)) else Err Big)
-step (undo k) h = outside h.group (ok_or (undone k h) NoUndo)
-step (redo k) h = outside h.group (ok_or (redone k h) NoRedo)
-step begin h = outside h.group (Ok (record h { group = Some (record { begun = h.now; changed = false }) }))
-step abandon h = inside h.group (λ g. Ok (record h { now = g.begun; group = None }))
-
--- ---- modules
-
--- What comes of it where the checker found this: the refusal that tells it, or what follows.
-abbrev pub unless : Option Fault → Result History Refusal → Result History Refusal
-unless None next = next
-unless (Some fault) next = Err (refusal_of fault)
-
--- Contents with other modules become those now, by a change. Outside a group the checker has to find
--- no fault in them.
-abbrev pub Becomes : Contents → History → Option Group → Result History Refusal → Type 0
-Becomes c h None reply =
-    (found : Option Fault) × Finds h.primitives c.modules found
-    × (reply ≡ unless found (Ok (changed c h)))
-Becomes c h (Some g) reply = reply ≡ Ok (changed c h)
-
--- gives the label this module text
-abbrev pub SetsModule : List ℕ → List ℕ → History → Result History Refusal → Type 0
-SetsModule name text h reply =
-    (read : Result Module Refusal) × ReadsModule text read
-    × MatchResult read (λ _. Becomes (with_module h.now name text) h h.group reply)
-    (λ refusal. reply ≡ Err refusal)
-
--- takes the module of the label away
-abbrev pub Unloads : List ℕ → History → Result History Refusal → Type 0
-Unloads name h reply =
-    MatchOption (finmap.get h.now.modules name) (reply ≡ Err NoModule)
-    (λ _. Becomes (without_module h.now name) h h.group reply)
-
--- An open group is committed where the checker finds no fault in the contents now.
-abbrev pub Commits : History → Result History Refusal → Type 0
-Commits h reply =
-    MatchOption h.group (reply ≡ Err NoGroup)
-    (λ g. (found : Option Fault) × Finds h.primitives h.now.modules found
-    × (reply ≡ unless found (Ok (committed g h))))
-
--- ---- changes
-
--- which acts are a change of the contents
+-- which acts are a change of the contents, where they are accepted
 abbrev pub IsChange : Act → Type 0
 IsChange (set_tree name tree) = Unit {0}
 IsChange (copy_tree name copy) = Unit {0}
 IsChange (drop_tree name) = Unit {0}
 IsChange (put name path part) = Unit {0}
 IsChange (annotate name path annotations) = Unit {0}
+IsChange (set_module name text) = Unit {0}
+IsChange (unload name) = Unit {0}
 IsChange (undo k) = ⊥
 IsChange (redo k) = ⊥
 IsChange begin = ⊥
+IsChange commit = ⊥
 IsChange abandon = ⊥
-
--- an accepted change: of a tree, or of the modules
-abbrev pub Changes : History → History → Type 0
-Changes h g =
-    ((act : Act) × IsChange act × (step act h ≡ Ok g))
-    ⊎ (((name : List ℕ) × (text : List ℕ) × SetsModule name text h (Ok g))
-    ⊎ ((name : List ℕ) × Unloads name h (Ok g)))

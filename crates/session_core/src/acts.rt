@@ -3,12 +3,10 @@
 
 ghost use Rattle.std.specs.Prelude.{◌≡◌, ◌⊎◌, List, Ok, Err, IfOk, OnOk, OnErr, IfErr};
 ghost use Rattle.std.specs.List.{list_all};
-ghost use Rattle.std.specs.declared.result.Result.{Result};
-ghost use Rattle.term_core.specs.Tree.{Tree};
 ghost use Rattle.term_core.specs.Size.{fits};
 ghost use Rattle.prim_core.specs.Signature.{Signature};
-ghost use Rattle.session_core.specs.History.{History};
-ghost use Rattle.session_core.specs.Step.{step, set_tree, copy_tree, drop_tree, put, annotate, undo, redo, begin, abandon, with_place};
+ghost use Rattle.change_log.specs.Slots.{contents};
+ghost use Rattle.session_core.specs.Step.{ComesTo, set_tree, copy_tree, drop_tree, put, annotate, undo, redo, begin, abandon, place_of};
 ghost use Rattle.session_core.specs.Unfolded.{unfolded, IsPlaced, IsPlaceOf};
 
 use crate::{Refusal, Timeline};
@@ -21,11 +19,9 @@ impl Timeline {
     pub(crate) fn set_tree(&mut self, name: &Label, tree: Term) -> Result<(), Refusal>
         requires { IsPlaced self.old }
         ensures placed { IsPlaced self.new }
-        ensures ok { OnOk result ((ps : List Signature) → step (set_tree name.now tree)
-            (unfolded ps self.old) ≡ Ok (unfolded ps self.new)) }
+        ensures ok { OnOk result ((ps : List Signature) → ComesTo (set_tree name.now tree) (unfolded ps self.old) (Ok (unfolded ps self.new))) }
         ensures refused { IfErr result (λ refusal. (refusal ≡ Refusal.Memory)
-            ⊎ ((ps : List Signature) → step (set_tree name.now tree) (unfolded ps self.old)
-            ≡ Err refusal)) }
+            ⊎ ((ps : List Signature) → ComesTo (set_tree name.now tree) (unfolded ps self.old) (Err refusal))) }
         ensures err { OnErr result ((ps : List Signature) → unfolded ps self.new
             ≡ unfolded ps self.old) }
     {
@@ -41,11 +37,9 @@ impl Timeline {
     pub(crate) fn copy_tree(&mut self, name: &Label, copy: &Label) -> Result<(), Refusal>
         requires { IsPlaced self.old }
         ensures placed { IsPlaced self.new }
-        ensures ok { OnOk result ((ps : List Signature) → step (copy_tree name.now copy.now)
-            (unfolded ps self.old) ≡ Ok (unfolded ps self.new)) }
+        ensures ok { OnOk result ((ps : List Signature) → ComesTo (copy_tree name.now copy.now) (unfolded ps self.old) (Ok (unfolded ps self.new))) }
         ensures refused { IfErr result (λ refusal. (refusal ≡ Refusal.Memory)
-            ⊎ ((ps : List Signature) → step (copy_tree name.now copy.now) (unfolded ps self.old)
-            ≡ Err refusal)) }
+            ⊎ ((ps : List Signature) → ComesTo (copy_tree name.now copy.now) (unfolded ps self.old) (Err refusal))) }
         ensures err { OnErr result ((ps : List Signature) → unfolded ps self.new
             ≡ unfolded ps self.old) }
     {
@@ -62,11 +56,9 @@ impl Timeline {
     pub(crate) fn drop_tree(&mut self, name: &Label) -> Result<(), Refusal>
         requires { IsPlaced self.old }
         ensures placed { IsPlaced self.new }
-        ensures ok { OnOk result ((ps : List Signature) → step (drop_tree name.now)
-            (unfolded ps self.old) ≡ Ok (unfolded ps self.new)) }
+        ensures ok { OnOk result ((ps : List Signature) → ComesTo (drop_tree name.now) (unfolded ps self.old) (Ok (unfolded ps self.new))) }
         ensures refused { IfErr result (λ refusal. (refusal ≡ Refusal.Memory)
-            ⊎ ((ps : List Signature) → step (drop_tree name.now) (unfolded ps self.old)
-            ≡ Err refusal)) }
+            ⊎ ((ps : List Signature) → ComesTo (drop_tree name.now) (unfolded ps self.old) (Err refusal))) }
         ensures err { OnErr result ((ps : List Signature) → unfolded ps self.new
             ≡ unfolded ps self.old) }
     {
@@ -84,11 +76,9 @@ impl Timeline {
     pub(crate) fn put(&mut self, name: &Label, path: &Path, part: Term) -> Result<(), Refusal>
         requires { IsPlaced self.old }
         ensures placed { IsPlaced self.new }
-        ensures ok { OnOk result ((ps : List Signature) → step (put name.now path.now part)
-            (unfolded ps self.old) ≡ Ok (unfolded ps self.new)) }
+        ensures ok { OnOk result ((ps : List Signature) → ComesTo (put name.now path.now part) (unfolded ps self.old) (Ok (unfolded ps self.new))) }
         ensures refused { IfErr result (λ refusal. (refusal ≡ Refusal.Memory)
-            ⊎ ((ps : List Signature) → step (put name.now path.now part) (unfolded ps self.old)
-            ≡ Err refusal)) }
+            ⊎ ((ps : List Signature) → ComesTo (put name.now path.now part) (unfolded ps self.old) (Err refusal))) }
         ensures err { OnErr result ((ps : List Signature) → unfolded ps self.new
             ≡ unfolded ps self.old) }
     {
@@ -113,12 +103,10 @@ impl Timeline {
         requires { IsPlaced self.old }
         ensures placed { IsPlaced self.new }
         ensures ok { OnOk result ((ps : List Signature)
-            → step (annotate name.now path.now annotations.items) (unfolded ps self.old)
-            ≡ Ok (unfolded ps self.new)) }
+            → ComesTo (annotate name.now path.now annotations.items) (unfolded ps self.old) (Ok (unfolded ps self.new))) }
         ensures refused { IfErr result (λ refusal. (refusal ≡ Refusal.Memory)
             ⊎ ((ps : List Signature)
-            → step (annotate name.now path.now annotations.items) (unfolded ps self.old)
-            ≡ Err refusal)) }
+            → ComesTo (annotate name.now path.now annotations.items) (unfolded ps self.old) (Err refusal))) }
         ensures err { OnErr result ((ps : List Signature) → unfolded ps self.new
             ≡ unfolded ps self.old) }
     {
@@ -136,9 +124,8 @@ impl Timeline {
     // The slot of the name's tree, where the path leads to a subterm of it.
     fn place(&self, name: &Label, path: &Path) -> Result<usize, Refusal>
         ensures there { IfOk result (λ slot. IsPlaceOf self.now.store name.now path.now slot) }
-        ensures refused { IfErr result (λ refusal. (ps : List Signature)
-            (next : Tree → Result History Refusal)
-            → with_place (unfolded ps self.now) name.now path.now next ≡ Err refusal) }
+        ensures refused { IfErr result (λ refusal. place_of (contents self.now.store) name.now path.now
+            ≡ Err refusal) }
     {
         let Some(slot) = self.store.find_tree(name) else {
             return Err(Refusal::NoTree);
@@ -156,10 +143,8 @@ impl Timeline {
     pub(crate) fn undo(&mut self, n: u32) -> Result<(), Refusal>
         requires { IsPlaced self.old }
         ensures placed { IsPlaced self.new }
-        ensures ok { OnOk result ((ps : List Signature) → step (undo n)
-            (unfolded ps self.old) ≡ Ok (unfolded ps self.new)) }
-        ensures refused { IfErr result (λ refusal. (ps : List Signature) → step (undo n)
-            (unfolded ps self.old) ≡ Err refusal) }
+        ensures ok { OnOk result ((ps : List Signature) → ComesTo (undo n) (unfolded ps self.old) (Ok (unfolded ps self.new))) }
+        ensures refused { IfErr result (λ refusal. (ps : List Signature) → ComesTo (undo n) (unfolded ps self.old) (Err refusal)) }
         ensures err { OnErr result ((ps : List Signature) → unfolded ps self.new
             ≡ unfolded ps self.old) }
     {
@@ -178,10 +163,8 @@ impl Timeline {
     pub(crate) fn redo(&mut self, n: u32) -> Result<(), Refusal>
         requires { IsPlaced self.old }
         ensures placed { IsPlaced self.new }
-        ensures ok { OnOk result ((ps : List Signature) → step (redo n)
-            (unfolded ps self.old) ≡ Ok (unfolded ps self.new)) }
-        ensures refused { IfErr result (λ refusal. (ps : List Signature) → step (redo n)
-            (unfolded ps self.old) ≡ Err refusal) }
+        ensures ok { OnOk result ((ps : List Signature) → ComesTo (redo n) (unfolded ps self.old) (Ok (unfolded ps self.new))) }
+        ensures refused { IfErr result (λ refusal. (ps : List Signature) → ComesTo (redo n) (unfolded ps self.old) (Err refusal)) }
         ensures err { OnErr result ((ps : List Signature) → unfolded ps self.new
             ≡ unfolded ps self.old) }
     {
@@ -200,10 +183,8 @@ impl Timeline {
     pub(crate) fn begin(&mut self) -> Result<(), Refusal>
         requires { IsPlaced self.old }
         ensures placed { IsPlaced self.new }
-        ensures ok { OnOk result ((ps : List Signature) → step begin
-            (unfolded ps self.old) ≡ Ok (unfolded ps self.new)) }
-        ensures refused { IfErr result (λ refusal. (ps : List Signature) → step begin
-            (unfolded ps self.old) ≡ Err refusal) }
+        ensures ok { OnOk result ((ps : List Signature) → ComesTo begin (unfolded ps self.old) (Ok (unfolded ps self.new))) }
+        ensures refused { IfErr result (λ refusal. (ps : List Signature) → ComesTo begin (unfolded ps self.old) (Err refusal)) }
         ensures err { OnErr result ((ps : List Signature) → unfolded ps self.new
             ≡ unfolded ps self.old) }
     {
@@ -218,10 +199,8 @@ impl Timeline {
     pub(crate) fn abandon(&mut self) -> Result<(), Refusal>
         requires { IsPlaced self.old }
         ensures placed { IsPlaced self.new }
-        ensures ok { OnOk result ((ps : List Signature) → step abandon
-            (unfolded ps self.old) ≡ Ok (unfolded ps self.new)) }
-        ensures refused { IfErr result (λ refusal. (ps : List Signature) → step abandon
-            (unfolded ps self.old) ≡ Err refusal) }
+        ensures ok { OnOk result ((ps : List Signature) → ComesTo abandon (unfolded ps self.old) (Ok (unfolded ps self.new))) }
+        ensures refused { IfErr result (λ refusal. (ps : List Signature) → ComesTo abandon (unfolded ps self.old) (Err refusal)) }
         ensures err { OnErr result ((ps : List Signature) → unfolded ps self.new
             ≡ unfolded ps self.old) }
     {

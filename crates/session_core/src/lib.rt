@@ -17,3 +17,6 @@ pub use timeline::{OpenGroup, Timeline};
 
 #[cfg(test)]
 mod tests;
+
+/// The most steps that one `undo` or `redo` goes, and the greatest budget of an evaluation.
+pub const MAX_STEPS: u32 = 1_000_000;

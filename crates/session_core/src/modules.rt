@@ -3,8 +3,8 @@
 ghost use Rattle.std.specs.Prelude.{◌≡◌, ◌⊎◌, Ok, Err, None, IfOk, IfErr, OnOk, OnErr, IsSome, IsSomeAnd};
 ghost use Rattle.std.specs.FinMap as finmap;
 ghost use Rattle.change_log.specs.Slots.{contents};
-ghost use Rattle.session_core.specs.Step.{SetsModule, Unloads, Commits};
-ghost use Rattle.session_core.specs.Modules.{ReadsModule, AreModules, AreReadable, AreRefused, Finds, IsProgram, IsKept, IsUnread};
+ghost use Rattle.session_core.specs.Step.{ComesTo, set_module, unload, commit};
+ghost use Rattle.session_core.specs.Modules.{ReadsAsModule, AreModules, AreReadable, AreRefused, Finds, IsProgram, IsKept, IsUnread};
 ghost use Rattle.session_core.specs.Unfolded.{unfolded, IsPlaced};
 
 use crate::{Refusal, Timeline};
@@ -28,10 +28,10 @@ impl Timeline {
         requires placed { IsPlaced self.old }
         requires readable { AreReadable (contents self.old.store).modules }
         ensures placed { IsPlaced self.new }
-        ensures ok { OnOk result (SetsModule name.now text.now (unfolded primitives.now self.old)
+        ensures ok { OnOk result (ComesTo (set_module name.now text.now) (unfolded primitives.now self.old)
             (Ok (unfolded primitives.now self.new))) }
         ensures refused { IfErr result (λ refusal. (refusal ≡ Refusal.Memory)
-            ⊎ SetsModule name.now text.now (unfolded primitives.now self.old) (Err refusal)) }
+            ⊎ ComesTo (set_module name.now text.now) (unfolded primitives.now self.old) (Err refusal)) }
         ensures err { OnErr result (unfolded primitives.now self.new
             ≡ unfolded primitives.now self.old) }
         ensures program { IfOk result (λ program. IsKept primitives.now
@@ -59,10 +59,10 @@ impl Timeline {
         requires placed { IsPlaced self.old }
         requires inside { IsSome self.old.group }
         ensures placed { IsPlaced self.new }
-        ensures ok { OnOk result (SetsModule name.now text.now (unfolded primitives.now self.old)
+        ensures ok { OnOk result (ComesTo (set_module name.now text.now) (unfolded primitives.now self.old)
             (Ok (unfolded primitives.now self.new))) }
         ensures refused { IfErr result (λ refusal. (refusal ≡ Refusal.Memory)
-            ⊎ SetsModule name.now text.now (unfolded primitives.now self.old) (Err refusal)) }
+            ⊎ ComesTo (set_module name.now text.now) (unfolded primitives.now self.old) (Err refusal)) }
         ensures err { OnErr result (unfolded primitives.now self.new
             ≡ unfolded primitives.now self.old) }
     {
@@ -83,10 +83,10 @@ impl Timeline {
         requires placed { IsPlaced self.old }
         requires readable { AreReadable (contents self.old.store).modules }
         ensures placed { IsPlaced self.new }
-        ensures ok { OnOk result (Unloads name.now (unfolded primitives.now self.old)
+        ensures ok { OnOk result (ComesTo (unload name.now) (unfolded primitives.now self.old)
             (Ok (unfolded primitives.now self.new))) }
         ensures refused { IfErr result (λ refusal. (refusal ≡ Refusal.Memory)
-            ⊎ Unloads name.now (unfolded primitives.now self.old) (Err refusal)) }
+            ⊎ ComesTo (unload name.now) (unfolded primitives.now self.old) (Err refusal)) }
         ensures err { OnErr result (unfolded primitives.now self.new
             ≡ unfolded primitives.now self.old) }
         ensures program { IfOk result (λ program. IsKept primitives.now
@@ -120,10 +120,10 @@ impl Timeline {
         requires readable { AreReadable (contents self.old.store).modules }
         requires program { IsKept primitives.now (contents self.old.store).modules program.old }
         ensures placed { IsPlaced self.new }
-        ensures ok { OnOk result (Commits (unfolded primitives.now self.old)
+        ensures ok { OnOk result (ComesTo commit (unfolded primitives.now self.old)
             (Ok (unfolded primitives.now self.new))) }
         ensures refused { IfErr result (λ refusal. (refusal ≡ Refusal.Memory)
-            ⊎ Commits (unfolded primitives.now self.old) (Err refusal)) }
+            ⊎ ComesTo commit (unfolded primitives.now self.old) (Err refusal)) }
         ensures err { OnErr result (unfolded primitives.now self.new
             ≡ unfolded primitives.now self.old) }
         ensures program { IsKept primitives.now (contents self.new.store).modules program.new }
@@ -138,8 +138,8 @@ impl Timeline {
     }
 }
 
-// Keeps the program of the modules of the store, where the checker finds no fault in them. A program
-// that is kept already is theirs.
+// Keeps the program of the modules of the store, where the checker finds no fault in them: then there is
+// one. A program that is kept already is theirs.
 fn keep_program<M: Meaning>(
     alloc: Global,
     store: &Store,
@@ -147,7 +147,8 @@ fn keep_program<M: Meaning>(
     program: &mut Option<Program>,
 ) -> Result<(), Refusal>
     requires { IsKept primitives.now (contents store.now).modules program.old }
-    ensures ok { OnOk result (Finds primitives.now (contents store.now).modules None) }
+    ensures ok { OnOk result (IsSomeAnd program.new (IsProgram primitives.now
+        (contents store.now).modules)) }
     ensures refused { IfErr result (λ refusal. AreRefused primitives.now
         (contents store.now).modules refusal) }
     ensures program { IsKept primitives.now (contents store.now).modules program.new }
@@ -210,7 +211,7 @@ fn read_modules(alloc: Global, store: &Store) -> Result<Vec<(Label, Module)>, Re
 fn read_named(alloc: Global, store: &Store, name: &Label) -> Result<Module, Refusal>
     requires { IsSome (finmap.get (contents store.now).modules name.now) }
     ensures ok { IfOk result (λ m. IsSomeAnd (finmap.get (contents store.now).modules name.now)
-        (λ text. ReadsModule text (Ok m))) }
+        (λ text. ReadsAsModule text (Ok m))) }
     ensures refused { IfErr result (λ refusal. (refusal ≡ Refusal.Memory)
         ⊎ IsUnread (contents store.now).modules refusal) }
 {
@@ -225,9 +226,9 @@ fn read_named(alloc: Global, store: &Store, name: &Label) -> Result<Module, Refu
 
 // The module that a text gives.
 fn read_module(alloc: Global, text: &[u8]) -> Result<Module, Refusal>
-    ensures ok { IfOk result (λ m. ReadsModule text.now (Ok m)) }
+    ensures ok { IfOk result (λ m. ReadsAsModule text.now (Ok m)) }
     ensures refused { IfErr result (λ refusal. (refusal ≡ Refusal.Memory)
-        ⊎ ReadsModule text.now (Err refusal)) }
+        ⊎ ReadsAsModule text.now (Err refusal)) }
 {
     match parse_module(alloc, text) {
         Ok(module) => Ok(module),

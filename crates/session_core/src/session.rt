@@ -2,8 +2,8 @@
 
 ghost use Rattle.std.specs.Prelude.{◌≡◌, ◌≤◌, ◌↔◌, ◌⊎◌, ◌++◌, Ok, Err, vec_capacity, OnOk, OnErr, IfOk, IfErr, length, option_copied};
 ghost use Rattle.std.specs.FinMap as finmap;
-ghost use Rattle.session_core.specs.History.{empty_history, IsSound};
-ghost use Rattle.session_core.specs.Step.{step, set_tree, copy_tree, drop_tree, put, annotate, undo, redo, begin, abandon, SetsModule, Unloads, Commits};
+ghost use Rattle.session_core.specs.History.{empty_history, HasSoundContents};
+ghost use Rattle.session_core.specs.Step.{ComesTo, set_tree, copy_tree, drop_tree, put, annotate, set_module, unload, undo, redo, begin, commit, abandon};
 ghost use Rattle.session_core.specs.Dump.{dumped, AreNamedTerms};
 
 use crate::{Refusal, Timeline};
@@ -33,13 +33,13 @@ impl<M: Meaning> Model for Session<M> {
     ghost coded = { history_code };
 
     ghost use Rattle.change_log.specs.Slots.{contents};
-    ghost use Rattle.session_core.specs.History.{IsSound};
+    ghost use Rattle.session_core.specs.History.{HasSoundContents};
     ghost use Rattle.session_core.specs.Modules.{IsKept};
     ghost use Rattle.session_core.specs.Unfolded.{unfolded, IsPlaced};
 
     ghost view = { λ a. unfolded a.primitives a.timeline };
 
-    ghost invariant = { λ a. IsPlaced a.timeline × IsSound (unfolded a.primitives a.timeline)
+    ghost invariant = { λ a. IsPlaced a.timeline × HasSoundContents (unfolded a.primitives a.timeline)
         × IsKept a.primitives (contents a.timeline.store).modules a.program };
 }
 
@@ -48,7 +48,7 @@ impl<M: Meaning> Session<M> {
     /// redone. It takes no memory.
     pub fn new(alloc: Global, primitives: Primitives<M>) -> Session<M>
         ensures value { result ≡ empty_history primitives }
-        ensures sound { IsSound result }
+        ensures sound { HasSoundContents result }
     {
         Session {
             primitives,
@@ -60,7 +60,7 @@ impl<M: Meaning> Session<M> {
     /// The tree of this name, or `None` where there is none.
     pub fn tree(&self, name: &Label) -> Option<&Term>
         ensures value { option_copied result ≡ finmap.get self.now.now.trees name.now }
-        ensures sound { IsSound self.now }
+        ensures sound { HasSoundContents self.now }
     {
         self.timeline.tree(name)
     }
@@ -68,7 +68,7 @@ impl<M: Meaning> Session<M> {
     /// The names of the trees, in byte order.
     pub fn tree_names(&self) -> Result<Vec<Label>, NoMemory>
         ensures names { IfOk result (λ names. names.items ≡ finmap.keys self.now.now.trees) }
-        ensures sound { IsSound self.now }
+        ensures sound { HasSoundContents self.now }
     {
         self.timeline.tree_names()
     }
@@ -76,7 +76,7 @@ impl<M: Meaning> Session<M> {
     /// The text of the module of this name, or `None` where there is none.
     pub fn module_text(&self, name: &Label) -> Option<&[u8]>
         ensures value { option_copied result ≡ finmap.get self.now.now.modules name.now }
-        ensures sound { IsSound self.now }
+        ensures sound { HasSoundContents self.now }
     {
         self.timeline.module_text(name)
     }
@@ -84,7 +84,7 @@ impl<M: Meaning> Session<M> {
     /// The names of the modules, in byte order.
     pub fn module_names(&self) -> Result<Vec<Label>, NoMemory>
         ensures names { IfOk result (λ names. names.items ≡ finmap.keys self.now.now.modules) }
-        ensures sound { IsSound self.now }
+        ensures sound { HasSoundContents self.now }
     {
         self.timeline.module_names()
     }
@@ -94,7 +94,7 @@ impl<M: Meaning> Session<M> {
     pub fn counts(&self) -> (u64, u64)
         ensures undo { result.0 ≡ length self.now.past }
         ensures redo { result.1 ≡ length self.now.later }
-        ensures sound { IsSound self.now }
+        ensures sound { HasSoundContents self.now }
     {
         (self.timeline.past() as u64, self.timeline.later() as u64)
     }
@@ -107,7 +107,7 @@ impl<M: Meaning> Session<M> {
         ensures terms { OnOk result (AreNamedTerms self.now.now) }
         ensures err { OnErr result (out.new.items ≡ out.old.items) }
         ensures room { vec_capacity out.old ≤ vec_capacity out.new }
-        ensures sound { IsSound self.now }
+        ensures sound { HasSoundContents self.now }
     {
         self.timeline.dump(out)
     }
@@ -118,11 +118,11 @@ impl<M: Meaning> Session<M> {
     ///
     /// A refusal leaves the session as it was. The tree is dropped then.
     pub fn set_tree(&mut self, name: &Label, tree: Term) -> Result<(), Refusal>
-        ensures ok { OnOk result (step (set_tree name.now tree) self.old ≡ Ok self.new) }
+        ensures ok { OnOk result (ComesTo (set_tree name.now tree) self.old (Ok self.new)) }
         ensures refused { IfErr result (λ refusal. (refusal ≡ Refusal.Memory)
-            ⊎ (step (set_tree name.now tree) self.old ≡ Err refusal)) }
+            ⊎ ComesTo (set_tree name.now tree) self.old (Err refusal)) }
         ensures err { OnErr result (self.new ≡ self.old) }
-        ensures sound { IsSound self.new }
+        ensures sound { HasSoundContents self.new }
     {
         self.timeline.set_tree(name, tree)
     }
@@ -130,11 +130,11 @@ impl<M: Meaning> Session<M> {
     /// Gives the name `copy` a copy of the tree of `name`, also where it has a tree or is that name.
     /// Where there is no such tree, the refusal is `NoTree`. A refusal leaves the session as it was.
     pub fn copy_tree(&mut self, name: &Label, copy: &Label) -> Result<(), Refusal>
-        ensures ok { OnOk result (step (copy_tree name.now copy.now) self.old ≡ Ok self.new) }
+        ensures ok { OnOk result (ComesTo (copy_tree name.now copy.now) self.old (Ok self.new)) }
         ensures refused { IfErr result (λ refusal. (refusal ≡ Refusal.Memory)
-            ⊎ (step (copy_tree name.now copy.now) self.old ≡ Err refusal)) }
+            ⊎ ComesTo (copy_tree name.now copy.now) self.old (Err refusal)) }
         ensures err { OnErr result (self.new ≡ self.old) }
-        ensures sound { IsSound self.new }
+        ensures sound { HasSoundContents self.new }
     {
         self.timeline.copy_tree(name, copy)
     }
@@ -142,11 +142,11 @@ impl<M: Meaning> Session<M> {
     /// Takes the tree of the name away. Where there is none, the refusal is `NoTree`. A refusal leaves
     /// the session as it was.
     pub fn drop_tree(&mut self, name: &Label) -> Result<(), Refusal>
-        ensures ok { OnOk result (step (drop_tree name.now) self.old ≡ Ok self.new) }
+        ensures ok { OnOk result (ComesTo (drop_tree name.now) self.old (Ok self.new)) }
         ensures refused { IfErr result (λ refusal. (refusal ≡ Refusal.Memory)
-            ⊎ (step (drop_tree name.now) self.old ≡ Err refusal)) }
+            ⊎ ComesTo (drop_tree name.now) self.old (Err refusal)) }
         ensures err { OnErr result (self.new ≡ self.old) }
-        ensures sound { IsSound self.new }
+        ensures sound { HasSoundContents self.new }
     {
         self.timeline.drop_tree(name)
     }
@@ -157,11 +157,11 @@ impl<M: Meaning> Session<M> {
     ///
     /// A refusal leaves the session as it was. The term is dropped then.
     pub fn put(&mut self, name: &Label, path: &Path, part: Term) -> Result<(), Refusal>
-        ensures ok { OnOk result (step (put name.now path.now part) self.old ≡ Ok self.new) }
+        ensures ok { OnOk result (ComesTo (put name.now path.now part) self.old (Ok self.new)) }
         ensures refused { IfErr result (λ refusal. (refusal ≡ Refusal.Memory)
-            ⊎ (step (put name.now path.now part) self.old ≡ Err refusal)) }
+            ⊎ ComesTo (put name.now path.now part) self.old (Err refusal)) }
         ensures err { OnErr result (self.new ≡ self.old) }
-        ensures sound { IsSound self.new }
+        ensures sound { HasSoundContents self.new }
     {
         self.timeline.put(name, path, part)
     }
@@ -176,11 +176,11 @@ impl<M: Meaning> Session<M> {
         path: &Path,
         annotations: Vec<Term>,
     ) -> Result<(), Refusal>
-        ensures ok { OnOk result (step (annotate name.now path.now annotations.items) self.old ≡ Ok self.new) }
+        ensures ok { OnOk result (ComesTo (annotate name.now path.now annotations.items) self.old (Ok self.new)) }
         ensures refused { IfErr result (λ refusal. (refusal ≡ Refusal.Memory)
-            ⊎ (step (annotate name.now path.now annotations.items) self.old ≡ Err refusal)) }
+            ⊎ ComesTo (annotate name.now path.now annotations.items) self.old (Err refusal)) }
         ensures err { OnErr result (self.new ≡ self.old) }
-        ensures sound { IsSound self.new }
+        ensures sound { HasSoundContents self.new }
     {
         self.timeline.annotate(name, path, annotations)
     }
@@ -192,11 +192,11 @@ impl<M: Meaning> Session<M> {
     ///
     /// A refusal leaves the session as it was.
     pub fn set_module(&mut self, name: &Label, text: &[u8]) -> Result<(), Refusal>
-        ensures ok { OnOk result (SetsModule name.now text.now self.old (Ok self.new)) }
+        ensures ok { OnOk result (ComesTo (set_module name.now text.now) self.old (Ok self.new)) }
         ensures refused { IfErr result (λ refusal. (refusal ≡ Refusal.Memory)
-            ⊎ SetsModule name.now text.now self.old (Err refusal)) }
+            ⊎ ComesTo (set_module name.now text.now) self.old (Err refusal)) }
         ensures err { OnErr result (self.new ≡ self.old) }
-        ensures sound { IsSound self.new }
+        ensures sound { HasSoundContents self.new }
     {
         self.program = self.timeline.set_module(&self.primitives, name, text)?;
         Ok(())
@@ -206,11 +206,11 @@ impl<M: Meaning> Session<M> {
     /// the checker has to find no fault in the modules that are left, else the refusal is `Check`. A
     /// refusal leaves the session as it was.
     pub fn unload(&mut self, name: &Label) -> Result<(), Refusal>
-        ensures ok { OnOk result (Unloads name.now self.old (Ok self.new)) }
+        ensures ok { OnOk result (ComesTo (unload name.now) self.old (Ok self.new)) }
         ensures refused { IfErr result (λ refusal. (refusal ≡ Refusal.Memory)
-            ⊎ Unloads name.now self.old (Err refusal)) }
+            ⊎ ComesTo (unload name.now) self.old (Err refusal)) }
         ensures err { OnErr result (self.new ≡ self.old) }
-        ensures sound { IsSound self.new }
+        ensures sound { HasSoundContents self.new }
     {
         self.program = self.timeline.unload(&self.primitives, name)?;
         Ok(())
@@ -220,10 +220,10 @@ impl<M: Meaning> Session<M> {
     /// In a group the refusal is `Group`; where there are fewer steps, `NoUndo`. A refusal leaves the
     /// session as it was. It takes no memory.
     pub fn undo(&mut self, n: u32) -> Result<(), Refusal>
-        ensures ok { OnOk result (step (undo n) self.old ≡ Ok self.new) }
-        ensures refused { IfErr result (λ refusal. step (undo n) self.old ≡ Err refusal) }
+        ensures ok { OnOk result (ComesTo (undo n) self.old (Ok self.new)) }
+        ensures refused { IfErr result (λ refusal. ComesTo (undo n) self.old (Err refusal)) }
         ensures err { OnErr result (self.new ≡ self.old) }
-        ensures sound { IsSound self.new }
+        ensures sound { HasSoundContents self.new }
     {
         self.timeline.undo(n)?;
         self.program = None;
@@ -234,10 +234,10 @@ impl<M: Meaning> Session<M> {
     /// were undone since the last change, `NoRedo`. A refusal leaves the session as it was. It takes no
     /// memory.
     pub fn redo(&mut self, n: u32) -> Result<(), Refusal>
-        ensures ok { OnOk result (step (redo n) self.old ≡ Ok self.new) }
-        ensures refused { IfErr result (λ refusal. step (redo n) self.old ≡ Err refusal) }
+        ensures ok { OnOk result (ComesTo (redo n) self.old (Ok self.new)) }
+        ensures refused { IfErr result (λ refusal. ComesTo (redo n) self.old (Err refusal)) }
         ensures err { OnErr result (self.new ≡ self.old) }
-        ensures sound { IsSound self.new }
+        ensures sound { HasSoundContents self.new }
     {
         self.timeline.redo(n)?;
         self.program = None;
@@ -247,10 +247,10 @@ impl<M: Meaning> Session<M> {
     /// Opens a group: all changes until `commit` are one step. Where a group is open, the refusal is
     /// `Group`, and leaves the session as it was. It takes no memory.
     pub fn begin(&mut self) -> Result<(), Refusal>
-        ensures ok { OnOk result (step begin self.old ≡ Ok self.new) }
-        ensures refused { IfErr result (λ refusal. step begin self.old ≡ Err refusal) }
+        ensures ok { OnOk result (ComesTo begin self.old (Ok self.new)) }
+        ensures refused { IfErr result (λ refusal. ComesTo begin self.old (Err refusal)) }
         ensures err { OnErr result (self.new ≡ self.old) }
-        ensures sound { IsSound self.new }
+        ensures sound { HasSoundContents self.new }
     {
         self.timeline.begin()
     }
@@ -260,11 +260,11 @@ impl<M: Meaning> Session<M> {
     /// refusal is `NoGroup`; where the checker finds a fault in the modules, `Check` with the first. A
     /// refusal leaves the session as it was, the group open.
     pub fn commit(&mut self) -> Result<(), Refusal>
-        ensures ok { OnOk result (Commits self.old (Ok self.new)) }
+        ensures ok { OnOk result (ComesTo commit self.old (Ok self.new)) }
         ensures refused { IfErr result (λ refusal. (refusal ≡ Refusal.Memory)
-            ⊎ Commits self.old (Err refusal)) }
+            ⊎ ComesTo commit self.old (Err refusal)) }
         ensures err { OnErr result (self.new ≡ self.old) }
-        ensures sound { IsSound self.new }
+        ensures sound { HasSoundContents self.new }
     {
         self.timeline.commit(&self.primitives, &mut self.program)
     }
@@ -273,10 +273,10 @@ impl<M: Meaning> Session<M> {
     /// is that from before. Where no group is open, the refusal is `NoGroup`, and leaves the session as
     /// it was. It takes no memory.
     pub fn abandon(&mut self) -> Result<(), Refusal>
-        ensures ok { OnOk result (step abandon self.old ≡ Ok self.new) }
-        ensures refused { IfErr result (λ refusal. step abandon self.old ≡ Err refusal) }
+        ensures ok { OnOk result (ComesTo abandon self.old (Ok self.new)) }
+        ensures refused { IfErr result (λ refusal. ComesTo abandon self.old (Err refusal)) }
         ensures err { OnErr result (self.new ≡ self.old) }
-        ensures sound { IsSound self.new }
+        ensures sound { HasSoundContents self.new }
     {
         self.timeline.abandon()?;
         self.program = None;

@@ -1,6 +1,10 @@
 //! The calls of a session, with ample memory: what a row of them is answered, and what is left.
 
-use crate::{Refusal, Session};
+ghost use Rattle.std.specs.Prelude.{◌<◌, length};
+ghost use Rattle.session_core.specs.Unfolded.{IsPlaced, AddsEntries};
+
+use crate::{Refusal, Session, Timeline};
+use change_log::{Entry, Log, Store};
 use prim_core::{NoPrimitives, Primitives};
 use std::alloc::Global;
 use std::test::Fail;
@@ -413,5 +417,45 @@ fn refusals_have_numbers_and_words(rt: HostRuntime) -> Result<(), Fail> {
     assert_eq!(rt; Refusal::NoUndo.word(), "noundo");
     assert_eq!(rt; Refusal::from(LabelFault::Name).number(), 4);
     assert_eq!(rt; Refusal::from(NoMemory).number(), 1);
+    Ok(())
+}
+
+// Takes a tree out of its slot, and refuses behind that where it is told to.
+fn clear_slot(store: &mut Store, log: &mut Log, slot: usize, refuses: bool) -> Result<(), Refusal>
+    requires { slot < length store.old.trees }
+    ensures { AddsEntries store.old log.old store.new log.new }
+{
+    log.push(store, Entry::tree(slot, None))?;
+    if refuses {
+        return Err(Refusal::Big);
+    }
+    Ok(())
+}
+
+fn clear(timeline: &mut Timeline, slot: usize, refuses: bool) -> Result<(), Refusal>
+    requires placed { IsPlaced timeline.old }
+    requires slot { slot < length timeline.old.store.trees }
+    ensures { IsPlaced timeline.new }
+{
+    timeline.change_by(|store, log| clear_slot(store, log, slot, refuses))
+}
+
+// Whether a slot is cleared by one change, as a step, and stays where the change is refused.
+fn changes_by_a_closure(alloc: Global) -> Result<bool, Fail> {
+    let mut timeline = Timeline::new(alloc);
+    let name = Label::read(alloc, b"t")?;
+    timeline.set_tree(&name, Term::integer(alloc, 1))?;
+    let slot = timeline.tree_slot(&name)?;
+    let refused = number_of(clear(&mut timeline, slot, true));
+    let stays = timeline.tree(&name).is_some() && timeline.past() == 1;
+    let slot = timeline.tree_slot(&name)?;
+    let done = number_of(clear(&mut timeline, slot, false));
+    let gone = timeline.tree(&name).is_none() && timeline.past() == 2;
+    Ok(refused == 14 && stays && done == 0 && gone)
+}
+
+#[test]
+fn many_entries_are_one_change(rt: HostRuntime) -> Result<(), Fail> {
+    assert!(rt; changes_by_a_closure(rt.alloc())?);
     Ok(())
 }

@@ -1,16 +1,18 @@
 //! Steps over one store: the logs that lead back from each, and forward again.
 
-ghost use Rattle.std.specs.Prelude.{◌≡◌, ◌<◌, ◌≤◌, ◌+◌, ◌-◌, ◌++◌, ℕ, List, [], ◌∷◌, length, take, vec_capacity, IfOk, OnOk, OnErr, Some, None, Ok, IsSome, true, false, is_some, option_copied, IfErr};
+ghost use Rattle.std.specs.Prelude.{◌≡◌, ◌⊎◌, ◌<◌, ◌≤◌, ◌+◌, ◌-◌, ◌++◌, ℕ, List, [], ◌∷◌, length, take, vec_capacity, IfOk, OnOk, OnErr, Some, None, Ok, Err, IsSome, IsSomeAnd, true, false, is_some, option_copied, IfErr};
 ghost use Rattle.std.specs.Option.{option_map_or};
 ghost use Rattle.std.specs.FinMap as finmap;
 ghost use Rattle.std.specs.declared.option.Option.{Option};
 ghost use Rattle.prim_core.specs.Signature.{Signature};
-ghost use Rattle.change_log.specs.Slots.{contents, slot_of, AreApart};
-ghost use Rattle.change_log.specs.Entries.{HasPlace, put};
+ghost use Rattle.std.specs.declared.result.Result.{Result};
+ghost use Rattle.std.specs.Borrow.{MutBor};
+ghost use Rattle.change_log.specs.Slots.{Store, contents, slot_of, AreApart};
+ghost use Rattle.change_log.specs.Entries.{Entry, HasPlace, put};
 ghost use Rattle.session_core.specs.History.{empty_history, changed, step_back, step_forward, undone, redone};
-ghost use Rattle.session_core.specs.Step.{step, begin, abandon, inside, committed};
+ghost use Rattle.session_core.specs.Step.{ComesTo, begin, abandon, committed};
 ghost use Rattle.session_core.specs.Modules.{IsProgram, AreRefused};
-ghost use Rattle.session_core.specs.Unfolded.{unfolded, IsPlaced};
+ghost use Rattle.session_core.specs.Unfolded.{unfolded, IsPlaced, AddsEntries, CallLeaves, CallRefuses};
 
 use crate::Refusal;
 use crate::modules::check_modules;
@@ -195,6 +197,101 @@ impl Timeline {
         Ok(())
     }
 
+    /// Makes a change of as many entries as the closure adds behind the log that it is lent, or of none:
+    /// as a step, or as part of the group that is open. Where the closure refuses, or a growth of memory
+    /// is refused, all stays as it was.
+    pub fn change_by<F: FnOnce(&mut Store, &mut Log) -> Result<(), Refusal> + Drop>(
+        &mut self,
+        change: F,
+    ) -> Result<(), Refusal>
+        requires placed { IsPlaced self.old }
+        requires callable { (s : MutBor Store) (l : MutBor (List Entry)) → s.now ≡ self.old.store
+            → F.pre change s l }
+        requires entries { (s : MutBor Store) (l : MutBor (List Entry)) (r : Result _ Refusal)
+            (t : MutBor Store) (m : MutBor (List Entry)) → s.now ≡ self.old.store
+            → F.post change s l r t m → AddsEntries s.now l.now t.now m.now }
+        ensures placed { IsPlaced self.new }
+        ensures ok { OnOk result ((ps : List Signature) → unfolded ps self.new
+            ≡ changed (contents self.new.store) (unfolded ps self.old)) }
+        ensures made { OnOk result (CallLeaves (λ s l t m. F.post change s l (Ok tt) t m)
+            self.old.store self.new.store) }
+        ensures refused { IfErr result (λ refusal. (refusal ≡ Refusal.Memory)
+            ⊎ CallRefuses (λ s l t m. F.post change s l (Err refusal) t m) self.old.store) }
+        ensures err { OnErr result ((ps : List Signature) → unfolded ps self.new
+            ≡ unfolded ps self.old) }
+    {
+        if self.in_group() {
+            self.change_in_group_by(change)
+        } else {
+            self.change_as_step_by(change)
+        }
+    }
+
+    // What the closure added to the group's log before it refused is taken back from there.
+    fn change_in_group_by<F: FnOnce(&mut Store, &mut Log) -> Result<(), Refusal> + Drop>(
+        &mut self,
+        change: F,
+    ) -> Result<(), Refusal>
+        requires placed { IsPlaced self.old }
+        requires callable { (s : MutBor Store) (l : MutBor (List Entry)) → s.now ≡ self.old.store
+            → F.pre change s l }
+        requires entries { (s : MutBor Store) (l : MutBor (List Entry)) (r : Result _ Refusal)
+            (t : MutBor Store) (m : MutBor (List Entry)) → s.now ≡ self.old.store
+            → F.post change s l r t m → AddsEntries s.now l.now t.now m.now }
+        requires inside { IsSome self.old.group }
+        ensures placed { IsPlaced self.new }
+        ensures ok { OnOk result ((ps : List Signature) → unfolded ps self.new
+            ≡ changed (contents self.new.store) (unfolded ps self.old)) }
+        ensures made { OnOk result (CallLeaves (λ s l t m. F.post change s l (Ok tt) t m)
+            self.old.store self.new.store) }
+        ensures refused { IfErr result (λ refusal. CallRefuses
+            (λ s l t m. F.post change s l (Err refusal) t m) self.old.store) }
+        ensures err { OnErr result ((ps : List Signature) → unfolded ps self.new
+            ≡ unfolded ps self.old) }
+    {
+        let mark = self.current.mark();
+        if let Err(refusal) = change(&mut self.store, &mut self.current) {
+            self.current.roll_back(mark, &mut self.store);
+            return Err(refusal);
+        }
+        self.group = Some(OpenGroup { changed: true });
+        Ok(())
+    }
+
+    // The place in the list of steps is reserved before anything is changed.
+    fn change_as_step_by<F: FnOnce(&mut Store, &mut Log) -> Result<(), Refusal> + Drop>(
+        &mut self,
+        change: F,
+    ) -> Result<(), Refusal>
+        requires placed { IsPlaced self.old }
+        requires callable { (s : MutBor Store) (l : MutBor (List Entry)) → s.now ≡ self.old.store
+            → F.pre change s l }
+        requires entries { (s : MutBor Store) (l : MutBor (List Entry)) (r : Result _ Refusal)
+            (t : MutBor Store) (m : MutBor (List Entry)) → s.now ≡ self.old.store
+            → F.post change s l r t m → AddsEntries s.now l.now t.now m.now }
+        requires outside { self.old.group ≡ None }
+        ensures placed { IsPlaced self.new }
+        ensures ok { OnOk result ((ps : List Signature) → unfolded ps self.new
+            ≡ changed (contents self.new.store) (unfolded ps self.old)) }
+        ensures made { OnOk result (CallLeaves (λ s l t m. F.post change s l (Ok tt) t m)
+            self.old.store self.new.store) }
+        ensures refused { IfErr result (λ refusal. (refusal ≡ Refusal.Memory)
+            ⊎ CallRefuses (λ s l t m. F.post change s l (Err refusal) t m) self.old.store) }
+        ensures err { OnErr result ((ps : List Signature) → unfolded ps self.new
+            ≡ unfolded ps self.old) }
+    {
+        if self.logs.reserve(1).is_err() {
+            return Err(Refusal::Memory);
+        }
+        let mut added = Log::new(*self.logs.allocator());
+        if let Err(refusal) = change(&mut self.store, &mut added) {
+            added.roll_back(0, &mut self.store);
+            return Err(refusal);
+        }
+        self.add_step(added);
+        Ok(())
+    }
+
     /// Makes a change as a step, where the checker finds no fault in the modules then, and gives their
     /// program. Else all stays as it was.
     pub(crate) fn change_checked<M: Meaning>(
@@ -315,8 +412,7 @@ impl Timeline {
         requires placed { IsPlaced self.old }
         requires outside { self.old.group ≡ None }
         ensures placed { IsPlaced self.new }
-        ensures value { (ps : List Signature) → step begin (unfolded ps self.old)
-            ≡ Ok (unfolded ps self.new) }
+        ensures value { (ps : List Signature) → ComesTo begin (unfolded ps self.old) (Ok (unfolded ps self.new)) }
     {
         self.group = Some(OpenGroup { changed: false });
     }
@@ -328,8 +424,8 @@ impl Timeline {
         requires inside { IsSome self.old.group }
         ensures placed { IsPlaced self.new }
         ensures ok { OnOk result ((ps : List Signature)
-            → inside (unfolded ps self.old).group (λ g. Ok (committed g (unfolded ps self.old)))
-            ≡ Ok (unfolded ps self.new)) }
+            → IsSomeAnd (unfolded ps self.old).group (λ g. unfolded ps self.new
+            ≡ committed g (unfolded ps self.old))) }
         ensures err { OnErr result ((ps : List Signature) → unfolded ps self.new
             ≡ unfolded ps self.old) }
     {
@@ -356,8 +452,7 @@ impl Timeline {
         requires placed { IsPlaced self.old }
         requires inside { IsSome self.old.group }
         ensures placed { IsPlaced self.new }
-        ensures value { (ps : List Signature) → step abandon (unfolded ps self.old)
-            ≡ Ok (unfolded ps self.new) }
+        ensures value { (ps : List Signature) → ComesTo abandon (unfolded ps self.old) (Ok (unfolded ps self.new)) }
     {
         self.current.roll_back(0, &mut self.store);
         self.group = None;

@@ -1,8 +1,15 @@
-//! The command line and the status of a run's end.
+//! The command line, the status of a run's end, and the primitives that modules may call.
+
+ghost use Rattle.prim_core.specs.StandardTable.{ComputeStandard};
 
 use crate::arguments::{CommandLine, arguments};
 use crate::status::status;
-use script_core::{RunFault, Summary};
+use prim_core::{
+    BoxedOperation, Meaning, Primitives, Standard, StandardOperations, addi, divi, gti,
+    int_to_string, muli, standard_primitives, strcat, string_to_int, strlen, subti,
+};
+use script_core::{Bytes, Held, RunFault, Settings, Summary, run};
+use session_core::Session;
 use std::alloc::Global;
 use std::test::Fail;
 
@@ -77,5 +84,47 @@ fn tells_statuses(rt: HostRuntime) -> Result<(), Fail> {
     for (outcome, wanted) in table {
         assert!(rt; status(&outcome) == wanted);
     }
+    Ok(())
+}
+
+// Whether a session with these primitives gives these answers to the script.
+fn is_answered<M: Meaning>(
+    alloc: Global,
+    operations: StandardOperations<M::Operation>,
+    script: &[u8],
+    answers: &[u8],
+) -> bool
+    requires { ComputeStandard M.Operation.may_run M.Operation.answers M.meaning operations }
+{
+    let Ok(primitives) = standard_primitives::<M>(alloc, operations) else {
+        return false;
+    };
+    let mut session = Session::new(alloc, Primitives::new(primitives));
+    let mut source = Bytes::new(script);
+    let mut sink = Held::new(alloc);
+    let settings = Settings {
+        steps: 1,
+        stop: false,
+    };
+    let ended = run(alloc, &mut session, &mut source, &mut sink, settings);
+    ended.is_ok() && sink.bytes() == answers
+}
+
+#[test]
+fn knows_the_standard_primitives(rt: HostRuntime) -> Result<(), Fail> {
+    let alloc = rt.alloc();
+    let operations: StandardOperations<BoxedOperation> = StandardOperations {
+        addi: Box::new(alloc, addi)?,
+        subti: Box::new(alloc, subti)?,
+        muli: Box::new(alloc, muli)?,
+        divi: Box::new(alloc, divi)?,
+        gti: Box::new(alloc, gti)?,
+        strcat: Box::new(alloc, strcat)?,
+        strlen: Box::new(alloc, strlen)?,
+        int_to_string: Box::new(alloc, int_to_string)?,
+        string_to_int: Box::new(alloc, string_to_int)?,
+    };
+    let script = b"module arith strategies inc = ?x; prim(\"addi\",x,1)\n";
+    assert!(rt; is_answered::<Standard>(alloc, operations, script, b"ok\n"));
     Ok(())
 }

@@ -1,10 +1,10 @@
 //! A run over a script that is read in pieces of a given size.
 
-ghost use Rattle.script_core.specs.Steps.{AreSteps};
+ghost use Rattle.session_core.specs.Steps.{AreSteps};
 
-use crate::{Counted, Held, MAX_STEPS, RunFault, Settings, Summary, run};
+use crate::{Counted, Held, RunFault, Settings, Summary, run};
 use prim_core::{NoPrimitives, Primitives};
-use session_core::Session;
+use session_core::{MAX_STEPS, Session};
 use std::alloc::Global;
 use std::io::{self, Error, ErrorKind, Read};
 use std::process::Abort;

@@ -1,13 +1,13 @@
 use Rattle.std.proofs.Common.{sym, subst}
-use Rattle.session_core.specs.History.{IsSound}
+use Rattle.session_core.specs.History.{HasSoundContents}
 use Rattle.session_core.proofs.SoundLemmas.{sound_no_contents}
 use Rattle.session_core.proofs.session.Session.new.Goals as goal
 
 pub invariant_of-result : goal.invariant_of-result
-invariant_of-result g c = (c.new.ensures.placed, subst IsSound (sym (c.new.ensures.value c.args.primitives)) (tt, sound_no_contents c.args.primitives, tt), tt)
+invariant_of-result g c = (c.new.ensures.placed, subst HasSoundContents (sym (c.new.ensures.value c.args.primitives)) (tt, sound_no_contents c.args.primitives, tt), tt)
 
 pub returns-clause-value : goal.returns-clause-value
 returns-clause-value g c = c.new.ensures.value c.args.primitives
 
 pub returns-clause-sound : goal.returns-clause-sound
-returns-clause-sound g c = subst IsSound (sym (c.new.ensures.value c.args.primitives)) (tt, sound_no_contents c.args.primitives, tt)
+returns-clause-sound g c = subst HasSoundContents (sym (c.new.ensures.value c.args.primitives)) (tt, sound_no_contents c.args.primitives, tt)

@@ -1,5 +1,5 @@
 use Rattle.std.proofs.Common.{sym, subst, ◌∙◌}
-use Rattle.session_core.specs.History.{IsSound}
+use Rattle.session_core.specs.History.{HasSoundContents}
 use Rattle.session_core.specs.Step.{redo}
 use Rattle.session_core.proofs.ActLemmas.{on_err, stepped_sound, kept_same}
 use Rattle.session_core.proofs.session.Session.redo.Goals as goal
@@ -7,7 +7,7 @@ use Rattle.session_core.proofs.session.Session.redo.Goals as goal
 pub invariant_of-self : goal.invariant_of-self
 invariant_of-self g c = (
   c.redo.ensures.placed,
-  subst IsSound (sym (c.in_err-redo.ensures.err c.self.inside.primitives)) c.self.invariant.1,
+  subst HasSoundContents (sym (c.in_err-redo.ensures.err c.self.inside.primitives)) c.self.invariant.1,
   kept_same c.self.inside.primitives c.self.inside.timeline c.redo.new.self c.self.inside.program (c.in_err-redo.ensures.err c.self.inside.primitives) c.self.invariant.2,
 )
 
@@ -15,7 +15,7 @@ pub returns-in_err-redo-clause-err : goal.returns-in_err-redo-clause-err
 returns-in_err-redo-clause-err g c = on_err c.from_residual.result (c.in_err-redo.ensures.err c.self.inside.primitives ∙ c.self.view_is)
 
 pub returns-in_err-redo-clause-sound : goal.returns-in_err-redo-clause-sound
-returns-in_err-redo-clause-sound g c = subst IsSound (sym (c.in_err-redo.ensures.err c.self.inside.primitives)) c.self.invariant.1
+returns-in_err-redo-clause-sound g c = subst HasSoundContents (sym (c.in_err-redo.ensures.err c.self.inside.primitives)) c.self.invariant.1
 
 pub invariant_of-self-2 : goal.invariant_of-self-2
 invariant_of-self-2 g c = (

@@ -1,4 +1,3 @@
-use Rattle.std.proofs.Common.{Ok}
 use Rattle.session_core.specs.Unfolded.{unfolded}
 use Rattle.session_core.proofs.ActLemmas.{on_err, kept_same, kept_closed}
 use Rattle.session_core.proofs.CheckLemmas.{group_of, commit_found, commit_refused}
@@ -15,7 +14,7 @@ pub returns-in_ok-close_group-in-Ok-clause-ok : goal.returns-in_ok-close_group-i
 returns-in_ok-close_group-in-Ok-clause-ok g c =
     let ps = c.args.primitives.now in
     let inside = group_of c.args.self.now ps (c.in_group.ensures.inside c.if-not-in_group.false) in
-    commit_found (unfolded ps c.args.self.now) inside.0 (Ok (unfolded ps c.close_group.new.self)) inside.1 c.in-Ok.ensures.ok (c.in_ok-close_group-in-Ok.ensures.ok ps)
+    commit_found (unfolded ps c.args.self.now) inside.0 (unfolded ps c.close_group.new.self) c.keep_program.new.program inside.1 c.in-Ok.ensures.ok (c.in_ok-close_group-in-Ok.ensures.ok ps)
 
 pub returns-in_ok-close_group-in-Ok-clause-program : goal.returns-in_ok-close_group-in-Ok-clause-program
 returns-in_ok-close_group-in-Ok-clause-program g c =

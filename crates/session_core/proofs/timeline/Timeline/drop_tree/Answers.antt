@@ -1,19 +1,16 @@
-use Rattle.std.proofs.Common.{refl, sym, ap, subst, ◌∙◌, inr, Ok}
-use Rattle.change_log.specs.Contents.{without_tree}
-use Rattle.change_log.specs.Slots.{contents}
+use Rattle.std.proofs.Common.{refl, sym, subst, inr}
 use Rattle.change_log.specs.Entries.{HasPlace}
-use Rattle.session_core.specs.History.{changed}
 use Rattle.session_core.specs.Unfolded.{unfolded}
 use Rattle.session_core.proofs.PlaceLemmas.{slot_within}
-use Rattle.session_core.proofs.ActLemmas.{no_tree, the_tree_of, seen_none, seen_some, tree_gone}
+use Rattle.session_core.proofs.ActLemmas.{no_tree, dropped_none, dropped, seen_none, seen_some}
 use Rattle.session_core.proofs.timeline.Timeline.drop_tree.Goals as goal
 
 pub returns-in_default-clause-refused : goal.returns-in_default-clause-refused
-returns-in_default-clause-refused c = inr (λ ps. no_tree c.args.self.now c.args.name.now ps _ _ c.find_tree.ensures.apart c.in_default.ensures.slot refl)
+returns-in_default-clause-refused c = inr (λ ps. dropped_none (unfolded ps c.args.self.now) c.args.name.now (no_tree c.args.self.now.store c.args.name.now c.find_tree.ensures.apart _ c.in_default.ensures.slot refl))
 
 pub returns-then-is_none-clause-refused : goal.returns-then-is_none-clause-refused
 returns-then-is_none-clause-refused c = inr (λ ps.
-    no_tree c.args.self.now c.args.name.now ps _ _ c.find_tree.ensures.apart c.in-Some.ensures.slot (seen_none c.tree.result _ c.tree.ensures c.if-is_none.ensures))
+    dropped_none (unfolded ps c.args.self.now) c.args.name.now (no_tree c.args.self.now.store c.args.name.now c.find_tree.ensures.apart _ c.in-Some.ensures.slot (seen_none c.tree.result _ c.tree.ensures c.if-is_none.ensures)))
 
 pub change-requires-clause-place : goal.change-requires-clause-place
 change-requires-clause-place c =
@@ -21,7 +18,5 @@ change-requires-clause-place c =
 
 pub returns-clause-ok : goal.returns-clause-ok
 returns-clause-ok c = λ ps.
-    let h = unfolded ps c.args.self.now in
     let there = seen_some c.tree.result _ c.tree.ensures c.if-is_none.ensures in
-    the_tree_of c.args.self.now c.args.name.now ps c.in-Some.slot there.0 (λ tree. Ok (changed (without_tree (contents c.args.self.now.store) c.args.name.now) h)) c.find_tree.ensures.apart c.in-Some.ensures.slot there.1
-    ∙ ap Ok (sym (tree_gone c.args.self.now c.change.new.self c.args.name.now c.in-Some.slot c.tree-2.result ps c.find_tree.ensures.apart (sym c.in-Some.ensures.slot) c.tree-2.ensures (c.in_ok-change.ensures.ok ps)))
+    dropped c.args.self.now c.change.new.self ps c.args.name.now c.in-Some.slot there.0 c.tree-2.result c.find_tree.ensures.apart c.in-Some.ensures.slot there.1 c.tree-2.ensures (c.in_ok-change.ensures.ok ps)

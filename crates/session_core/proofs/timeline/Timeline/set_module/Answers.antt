@@ -1,11 +1,11 @@
 use Rattle.std.proofs.Common.{subst, ◌∙◌}
-use Rattle.change_log.specs.Contents.{Contents, with_module}
+use Rattle.change_log.specs.Contents.{Contents}
 use Rattle.change_log.specs.Slots.{contents}
 use Rattle.change_log.specs.Entries.{put}
 use Rattle.session_core.specs.Modules.{IsProgram, AreRefused}
 use Rattle.session_core.specs.Unfolded.{unfolded}
 use Rattle.session_core.proofs.ActLemmas.{on_err, closed_group}
-use Rattle.session_core.proofs.CheckLemmas.{set_found, set_refused, text_put, text_told, program_found, program_then}
+use Rattle.session_core.proofs.CheckLemmas.{set_found, set_refused, text_put, text_told, program_then}
 use Rattle.session_core.proofs.timeline.Timeline.set_module.Goals as goal
 
 pub returns-in_err-slot-clause-err : goal.returns-in_err-slot-clause-err
@@ -16,8 +16,8 @@ returns-in-Ok-clause-ok g c =
     let ps = c.args.primitives.now in
     let t = c.args.self.now in
     let there = text_put t c.module_slot.new.self c.args.name.now c.in_ok-copy.copy.items c.args.text.now c.in_ok-slot.slot c.text.result ps c.in_ok-slot.ensures.slot c.text.ensures c.in_ok-copy.ensures (c.module_slot.ensures.same ps) in
-    set_found (unfolded ps t) c.args.name.now c.args.text.now (unfolded ps c.change_checked.new.self) (closed_group t ps (c.in_group.ensures.closed c.if-in_group.false))
-    (program_found ps (with_module (contents t.store) c.args.name.now c.args.text.now).modules c.in-Ok.program (subst (λ (now : Contents). IsProgram ps now.modules c.in-Ok.program) there c.in-Ok.ensures.program))
+    set_found (unfolded ps t) c.args.name.now c.args.text.now (unfolded ps c.change_checked.new.self) c.in-Ok.program (closed_group t ps (c.in_group.ensures.closed c.if-in_group.false))
+    (subst (λ (now : Contents). IsProgram ps now.modules c.in-Ok.program) there c.in-Ok.ensures.program).gives
     (text_told t c.module_slot.new.self c.change_checked.new.self c.args.name.now c.in_ok-copy.copy.items c.args.text.now c.in_ok-slot.slot c.text.result ps c.in_ok-slot.ensures.slot c.text.ensures c.in_ok-copy.ensures (c.module_slot.ensures.same ps) c.in-Ok.ensures.ok)
 
 pub returns-in-Ok-clause-program : goal.returns-in-Ok-clause-program

@@ -1,5 +1,5 @@
 use Rattle.std.proofs.Common.{refl, sym, ap, subst, ◌∙◌, inr}
-use Rattle.change_log.specs.Contents.{Contents, without_module}
+use Rattle.change_log.specs.Contents.{Contents}
 use Rattle.change_log.specs.Slots.{contents}
 use Rattle.change_log.specs.Entries.{HasPlace, put}
 use Rattle.session_core.specs.History.{changed}
@@ -7,7 +7,7 @@ use Rattle.session_core.specs.Modules.{IsProgram, AreRefused}
 use Rattle.session_core.specs.Unfolded.{unfolded}
 use Rattle.session_core.proofs.PlaceLemmas.{slot_within}
 use Rattle.session_core.proofs.ActLemmas.{on_err, seen_none, seen_some, closed_group}
-use Rattle.session_core.proofs.CheckLemmas.{text_missing, text_there, text_taken, unload_none, unload_found, unload_refused, unload_inside, group_of, program_found, program_then}
+use Rattle.session_core.proofs.CheckLemmas.{text_missing, text_there, text_taken, unload_none, unload_found, unload_refused, unload_inside, group_of, program_then}
 use Rattle.session_core.proofs.timeline.Timeline.unload.Goals as goal
 
 pub returns-in_default-clause-refused : goal.returns-in_default-clause-refused
@@ -47,8 +47,8 @@ returns-in-Ok-clause-ok g c =
     let there = seen_some c.«module».result _ c.«module».ensures c.if-is_none.ensures in
     let taken = text_taken t name c.in-Some.slot c.text-2.result c.find_module.ensures.apart (sym c.in-Some.ensures.slot) c.text-2.ensures in
     let found = text_there t.store name c.find_module.ensures.apart c.in-Some.slot there.0 c.in-Some.ensures.slot there.1 in
-    unload_found (unfolded ps t) name there.0 found (unfolded ps c.change_checked.new.self) (closed_group t ps (c.in_group.ensures.closed c.if-in_group.false))
-    (program_found ps (without_module (contents t.store) name).modules c.in-Ok.left (subst (λ (now : Contents). IsProgram ps now.modules c.in-Ok.left) taken c.in-Ok.ensures.program)) (c.in-Ok.ensures.ok ∙ ap (λ now. changed now (unfolded ps t)) taken)
+    unload_found (unfolded ps t) name there.0 found (unfolded ps c.change_checked.new.self) c.in-Ok.left (closed_group t ps (c.in_group.ensures.closed c.if-in_group.false))
+    (subst (λ (now : Contents). IsProgram ps now.modules c.in-Ok.left) taken c.in-Ok.ensures.program).gives (c.in-Ok.ensures.ok ∙ ap (λ now. changed now (unfolded ps t)) taken)
 
 pub returns-in-Ok-clause-program : goal.returns-in-Ok-clause-program
 returns-in-Ok-clause-program g c =

@@ -1,6 +1,6 @@
 -- Numbers of steps.
 use Rattle.std.specs.Prelude.{◌≤◌, ℕ}
-use Rattle.script_core.specs.declared.TheConstants.{MAX_STEPS}
+use Rattle.session_core.specs.declared.TheConstants.{MAX_STEPS}
 
 -- what `undo`, `redo` and the budget of an evaluation are numbers of: from 1 to 1,000,000
 abbrev pub AreSteps : ℕ → Type 0
