@@ -1,0 +1,17 @@
+pub mod PlaceLemmas
+pub mod LeadLemmas
+pub mod NodeLeads
+pub mod OpenLemmas
+pub mod TakeLemmas
+pub mod ChildLemmas
+pub mod GiveLemmas
+pub mod FailLemmas
+pub mod ScopeLemmas
+pub mod TrailLemmas
+pub mod TailLemmas
+pub mod WalkLemmas
+pub mod CallLemmas
+pub mod FormLemmas
+pub mod EndLemmas
+pub mod ResultLemmas
+pub mod ArgumentLemmas

@@ -1,0 +1,34 @@
+-- The path through frames that come outermost first, and trails.
+use Rattle.std.proofs.Common.{◌≡◌, ◌<◌, ◌≤◌, ℕ, ◌+◌, List, [], ◌∷◌, ◌++◌, length, take, reverse, refl, sym, ap, ◌∙◌, arith, get_or, suc}
+use Rattle.std.proofs.lemmas.List.{append-nil, take_all}
+use Rattle.std.proofs.Math.Seq.{take-suc}
+use Rattle.strategy_run.specs.Trails.{path_of, step_of}
+use Rattle.strategy_run.specs.declared.frames.Frame.{Frame}
+use Rattle.strategy_run.specs.declared.frames.Frame.TheVariants.{Then, Choose, Restore, Each, Leftmost, Those, Tail, Rest, Leave, Cut}
+use Rattle.strategy_run.proofs.OpenLemmas.{pushed}
+
+next : (i : ℕ) → i + 1 ≡ suc i
+next i = omega arith
+
+taken : (fs : List Frame) (i : ℕ) (f : Frame) → i < length fs → f ≡ get_or fs i f → take (i + 1) fs ≡ take i fs ++ f ∷ []
+taken fs i f lt e = ap (λ k. take k fs) (next i) ∙ take-suc fs i f lt ∙ ap (λ x. take i fs ++ x ∷ []) (sym e)
+
+path_step : (f : Frame) (fs : List Frame) → path_of (f ∷ fs) ≡ path_of fs ++ step_of f
+path_step (Then s n) fs = sym (append-nil (path_of fs))
+path_step (Choose s r n p k m) fs = sym (append-nil (path_of fs))
+path_step (Restore p k) fs = sym (append-nil (path_of fs))
+path_step (Each acts n w) fs = refl
+path_step (Leftmost s n w m) fs = refl
+path_step (Those s n w m any) fs = refl
+path_step (Tail s n k) fs = sym (append-nil (path_of fs))
+path_step (Rest p n k) fs = sym (append-nil (path_of fs))
+path_step (Leave n) fs = sym (append-nil (path_of fs))
+path_step (Cut n k) fs = sym (append-nil (path_of fs))
+
+-- one frame more
+pub path_more : (fs : List Frame) (i : ℕ) (f : Frame) (old new : List ℕ) → i < length fs → f ≡ get_or fs i f → old ≡ path_of (reverse (take i fs)) → new ≡ old ++ step_of f → new ≡ path_of (reverse (take (i + 1) fs))
+path_more fs i f old new lt e o n =
+    n ∙ ap (λ x. x ++ step_of f) o ∙ sym (path_step f (reverse (take i fs))) ∙ ap path_of (sym (pushed (take i fs) (take (i + 1) fs) f (taken fs i f lt e)))
+
+pub path_whole : (fs : List Frame) (i : ℕ) (p : List ℕ) → length fs ≤ i → p ≡ path_of (reverse (take i fs)) → p ≡ path_of (reverse fs)
+path_whole fs i p le e = e ∙ ap (λ x. path_of (reverse x)) (take_all i fs le)

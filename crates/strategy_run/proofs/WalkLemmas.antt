@@ -1,0 +1,47 @@
+-- Turns that give an answer to a frame, by what the machine's fields are then.
+use Rattle.std.proofs.Common.{◌≡◌, List, [], ◌∷◌, ◌++◌, length, reverse, refl, sym, ap, ◌∙◌, subst, arith, Vec, Global}
+use Rattle.term_core.specs.Tree.{Tree}
+use Rattle.term_changes.specs.Standing.{Standing}
+use Rattle.strategy_meaning.specs.Answer.{Answer}
+use Rattle.strategy_meaning.specs.Meaning.{World}
+use Rattle.strategy_scopes.specs.Table.{scopes}
+use Rattle.strategy_run.specs.Turns.{State, state_of, HoldsIn, Holds, ComesUp, Replaced}
+use Rattle.strategy_run.specs.declared.machine.Machine.{Machine}
+use Rattle.strategy_run.specs.declared.frames.Walk.{Walk}
+use Rattle.strategy_run.specs.declared.frames.Frame.{Frame}
+use Rattle.strategy_run.specs.declared.frames.Hand.{Hand}
+use Rattle.strategy_run.proofs.OpenLemmas.{pushed}
+
+-- the frame that was taken off
+pub popped : (W : World) (sub : Standing) (whole : Answer) (m : Machine) (hand : Hand) (old new : List Frame) (f : Frame) → old ≡ new ++ f ∷ [] → old ≡ m.frames.items
+    → Holds W sub whole m hand
+    → HoldsIn W sub whole (record { cells = m.cells; scopes = scopes m.scopes; trail = m.trail; level = m.level; frames = f ∷ reverse new; steps = m.steps }) hand
+popped W sub whole m hand old new f e is h =
+    subst (λ (fs : List Frame). HoldsIn W sub whole (record { cells = m.cells; scopes = scopes m.scopes; trail = m.trail; level = m.level; frames = fs; steps = m.steps }) hand)
+    (ap reverse (sym is) ∙ pushed new old f e) h
+
+-- the same machine but for the level
+pub came_up : (W : World) (sub : Standing) (whole : Answer) (m new : Machine) {hand : Hand} (w : Walk) (p : Standing) (up : Standing × Vec Standing Global) → ComesUp m w p new up
+    → HoldsIn W sub whole (record { cells = m.cells; scopes = scopes m.scopes; trail = m.trail; level = w.level; frames = reverse m.frames.items; steps = m.steps }) hand
+    → HoldsIn W sub whole (state_of new) hand
+came_up W sub whole m new {hand = hand} w p up k h =
+    subst (λ (S : State). HoldsIn W sub whole S hand)
+    (λ i. record { cells = sym k.rest.1 i; scopes = scopes (sym k.rest.2 i); trail = sym k.rest.3 i; level = sym k.level i; frames = reverse (sym k.rest.0 i).items; steps = sym k.rest.4 i }) h
+
+-- the same machine but for the trail
+pub was_put : (W : World) (sub : Standing) (whole : Answer) (m new : Machine) {hand : Hand} (u : Tree) (q : Standing) → Replaced m u new q
+    → HoldsIn W sub whole (record { cells = m.cells; scopes = scopes m.scopes; trail = new.trail; level = m.level; frames = reverse m.frames.items; steps = m.steps }) hand
+    → HoldsIn W sub whole (state_of new) hand
+was_put W sub whole m new {hand = hand} u q k h =
+    subst (λ (S : State). HoldsIn W sub whole S hand)
+    (λ i. record { cells = sym k.rest.1 i; scopes = scopes (sym k.rest.2 i); trail = new.trail; level = sym k.rest.3 i; frames = reverse (sym k.rest.0 i).items; steps = sym k.rest.4 i }) h
+
+-- nothing waits
+pub none_waits : (W : World) (sub : Standing) (whole : Answer) (m : Machine) (hand : Hand) → m.frames.items ≡ [] → Holds W sub whole m hand
+    → HoldsIn W sub whole (record { cells = m.cells; scopes = scopes m.scopes; trail = m.trail; level = m.level; frames = []; steps = m.steps }) hand
+none_waits W sub whole m hand e h =
+    subst (λ (fs : List Frame). HoldsIn W sub whole (record { cells = m.cells; scopes = scopes m.scopes; trail = m.trail; level = m.level; frames = reverse fs; steps = m.steps }) hand) e h
+
+pub nil_of : {A : Type 0} (xs : List A) → length xs ≡ 0 → xs ≡ []
+nil_of [] e = refl
+nil_of (x ∷ xs) e = absurd (omega (arith, e))

@@ -1,0 +1,47 @@
+use Rattle.std.proofs.Common.{subst}
+use Rattle.strategy_run.proofs.FailLemmas.{fail_then, fail_choice, fail_test, fail_each, fail_leftmost, fail_those, fail_tail, fail_rest, fail_leave, fail_cut}
+use Rattle.strategy_run.specs.Turns.{HoldsIn, under}
+use Rattle.strategy_run.specs.declared.frames.Hand.TheVariants.{Failed}
+use Rattle.strategy_run.proofs.give.fail.Goals as goal
+
+pub returns-in-Then-clause-ok : goal.returns-in-Then-clause-ok
+returns-in-Then-clause-ok c = λ W. record { keeps = λ sub whole h. fail_then W sub whole _ _ _ _ _ _ _ _ (subst (λ f. HoldsIn W sub whole (under f c.args.m.now) Failed) c.in-Then.is h) }
+
+pub returns-in-Choose-clause-ok : goal.returns-in-Choose-clause-ok
+returns-in-Choose-clause-ok c = λ W. record { keeps = λ sub whole h. fail_choice W sub whole _ _ _ _ _ _ _ _ _ c.in-Choose.other c.in-Choose.scope c.in-Choose.saved _ _ c.cut.ensures c.back_to.ensures.cells c.back_to.ensures.mark c.back_to.ensures.stays (subst (λ f. HoldsIn W sub whole (under f c.args.m.now) Failed) c.in-Choose.is h) }
+
+pub returns-in-Restore-clause-ok : goal.returns-in-Restore-clause-ok
+returns-in-Restore-clause-ok c = λ W. record { keeps = λ sub whole h. fail_test W sub whole _ _ _ _ _ _ _ _ c.in-Restore.edits c.cut-in-Restore.ensures (subst (λ f. HoldsIn W sub whole (under f c.args.m.now) Failed) c.in-Restore.is h) }
+
+pub returns-in-Each-clause-ok : goal.returns-in-Each-clause-ok
+returns-in-Each-clause-ok c = λ W. record { keeps = λ sub whole h. fail_each W sub whole _ _ _ _ _ _ _ _ _ c.in-Each.walk c.cut-in-Each.ensures (subst (λ f. HoldsIn W sub whole (under f c.args.m.now) Failed) c.in-Each.is h) }
+
+pub returns-in-Leftmost-clause-ok : goal.returns-in-Leftmost-clause-ok
+returns-in-Leftmost-clause-ok c = λ W. record { keeps = λ sub whole h. fail_leftmost W sub whole _ _ _ _ _ _ _ _ c.in-Leftmost.strategy c.in-Leftmost.scope c.in-Some.next c.in-Leftmost.walk c.in-Leftmost.mark (c.in-Some.ensures.1) c.cut-in-Leftmost.ensures c.back_to-in-Leftmost.ensures.cells c.back_to-in-Leftmost.ensures.mark c.back_to-in-Leftmost.ensures.stays (subst (λ f. HoldsIn W sub whole (under f c.args.m.now) Failed) c.in-Leftmost.is h) }
+
+pub returns-in-Those-clause-ok : goal.returns-in-Those-clause-ok
+returns-in-Those-clause-ok c = λ W. record { keeps = λ sub whole h. fail_those W sub whole _ _ _ _ _ _ _ _ c.in-Those.strategy c.in-Those.scope _ c.in-Those.walk c.in-Those.mark c.in-Those.any c.in-Some-checked_add.ensures.1 c.cut-in-Those.ensures c.back_to-in-Those.ensures.cells c.back_to-in-Those.ensures.mark c.back_to-in-Those.ensures.stays (subst (λ f. HoldsIn W sub whole (under f c.args.m.now) Failed) c.in-Those.is h) }
+
+pub returns-in-Tail-clause-ok : goal.returns-in-Tail-clause-ok
+returns-in-Tail-clause-ok c = λ W. record { keeps = λ sub whole h. fail_tail W sub whole _ _ _ _ _ _ _ _ _ (subst (λ f. HoldsIn W sub whole (under f c.args.m.now) Failed) c.in-Tail.is h) }
+
+pub returns-in-Rest-clause-ok : goal.returns-in-Rest-clause-ok
+returns-in-Rest-clause-ok c = λ W. record { keeps = λ sub whole h. fail_rest W sub whole _ _ _ _ _ _ _ _ _ c.in-Rest.edits c.cut-in-Rest.ensures (subst (λ f. HoldsIn W sub whole (under f c.args.m.now) Failed) c.in-Rest.is h) }
+
+pub returns-in-Leave-clause-ok : goal.returns-in-Leave-clause-ok
+returns-in-Leave-clause-ok c = λ W. record { keeps = λ sub whole h. fail_leave W sub whole _ _ _ _ _ _ _ c.in-Leave.scopes c.cut-in-Leave.ensures (subst (λ f. HoldsIn W sub whole (under f c.args.m.now) Failed) c.in-Leave.is h) }
+
+pub returns-clause-ok : goal.returns-clause-ok
+returns-clause-ok c = λ W. record { keeps = λ sub whole h. fail_cut W sub whole _ _ _ _ _ _ _ _ c.in-Cut.cells c.in-Cut.scopes c.cut-in-Cut.ensures c.close_to.ensures.later c.close_to.ensures.stays (subst (λ f. HoldsIn W sub whole (under f c.args.m.now) Failed) c.in-Cut.is h) }
+
+pub back_to-requires : goal.back_to-requires
+back_to-requires c = let r = c.requires in (subst (λ f. HoldsIn r.0 r.1 r.2 (under f c.args.m.now) Failed) c.in-Choose.is r.3).opens.is.3
+
+pub back_to-requires-in-Leftmost : goal.back_to-requires-in-Leftmost
+back_to-requires-in-Leftmost c = let r = c.requires in (subst (λ f. HoldsIn r.0 r.1 r.2 (under f c.args.m.now) Failed) c.in-Leftmost.is r.3).opens.is.2
+
+pub back_to-requires-in-Those : goal.back_to-requires-in-Those
+back_to-requires-in-Those c = let r = c.requires in (subst (λ f. HoldsIn r.0 r.1 r.2 (under f c.args.m.now) Failed) c.in-Those.is r.3).opens.is.2
+
+pub close_to-requires : goal.close_to-requires
+close_to-requires c = let r = c.requires in (subst (λ f. HoldsIn r.0 r.1 r.2 (under f c.args.m.now) Failed) c.in-Cut.is r.3).opens.is.1

@@ -1,0 +1,34 @@
+-- How a run ends.
+use Rattle.std.specs.Prelude.{◌≡◌, ℕ, []}
+use Rattle.term_paths.specs.Edits.{Edits}
+use Rattle.term_changes.specs.Standing.{Standing}
+use Rattle.strategy_meaning.specs.Matching.{Bindings}
+use Rattle.strategy_meaning.specs.Answer.{Answer, done, failed, stopped, spent, big}
+use Rattle.strategy_scopes.specs.Table.{scopes}
+use Rattle.strategy_run.specs.Trails.{Shows}
+use Rattle.strategy_run.specs.Turns.{IsDone, state_of}
+use Rattle.strategy_run.specs.declared.machine.Machine.{Machine}
+use Rattle.strategy_run.specs.declared.evaluation.Ended.{Ended}
+use Rattle.strategy_run.specs.declared.evaluation.Ended.TheVariants as ends
+use Rattle.strategy_run.specs.declared.evaluation.Evaluated.{Evaluated}
+use Rattle.strategy_run.specs.declared.evaluation.Evaluated.TheVariants.{Done, Failed, Spent, Big}
+
+-- nothing waits, and nothing was done
+pub record IsEmpty (m : Machine) : Type 0 where
+  pub frames : m.frames.items ≡ []
+  pub cells : m.cells.bindings ≡ []
+  pub scopes : scopes m.scopes ≡ []
+  pub trail : Shows m.trail []
+
+abbrev pub Ends : Standing → Machine → Ended → Answer → Type 0
+Ends sub m (ends.Done p) whole = IsDone sub whole (state_of m) p
+Ends sub m ends.Failed whole = (b : ℕ) × (whole ≡ failed b)
+Ends sub m ends.Spent whole = whole ≡ stopped spent
+Ends sub m ends.Big whole = whole ≡ stopped big
+
+-- The answer is this one: of a term that is given, the term alone.
+abbrev pub IsAnswered : Evaluated → Answer → Type 0
+IsAnswered (Done t) whole = (B : Bindings) × (b : ℕ) × (e : Edits) × (whole ≡ done t B b e)
+IsAnswered Failed whole = (b : ℕ) × (whole ≡ failed b)
+IsAnswered Spent whole = whole ≡ stopped spent
+IsAnswered Big whole = whole ≡ stopped big

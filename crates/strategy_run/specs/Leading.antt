@@ -1,0 +1,70 @@
+-- How what stands in a place comes from what stood there, by edits.
+use Rattle.std.specs.Prelude.{◌≡◌, ◌⊎◌, ℕ, List, [], ◌∷◌}
+use Rattle.term_core.specs.Tree.{children}
+use Rattle.term_paths.specs.Paths.{LiesWithin}
+use Rattle.term_paths.specs.Edits.{Edits, Replaces}
+use Rattle.term_changes.specs.Change.{Change, same, inside, replaced}
+use Rattle.term_changes.specs.Edits.{nth_change}
+use Rattle.term_changes.specs.Standing.{Standing, unchanged, altered, fresh, standing_tree, standing_change, standing_children, with_standing}
+use Rattle.term_changes.specs.Follows.{Follows, AllFollow}
+use Rattle.term_changes.specs.Putting.{HaveAllPlaces, AllApart}
+
+-- the path of one of the edits
+abbrev pub IsOf : List ℕ → Edits → Type 0
+IsOf x [] = ⊥
+IsOf x (y ∷ e) = (y.path ≡ x) ⊎ IsOf x e
+
+-- whether a place of the change is at this path
+abbrev pub IsPlace : Change → List ℕ → Type 0
+IsPlace same x = ⊥
+IsPlace (inside cs) [] = ⊥
+IsPlace (inside cs) (i ∷ x) = IsPlace (nth_change cs i) x
+IsPlace (replaced u) [] = Unit {0}
+IsPlace (replaced u) (i ∷ x) = ⊥
+
+-- whether a place of the change is there or above
+abbrev pub IsWithin : Change → List ℕ → Type 0
+IsWithin same x = ⊥
+IsWithin (inside cs) [] = ⊥
+IsWithin (inside cs) (i ∷ x) = IsWithin (nth_change cs i) x
+IsWithin (replaced u) x = Unit {0}
+
+-- what was kept has the places of the change
+abbrev pub Has : Standing → Type 0
+Has (unchanged t) = Unit {0}
+Has (altered a) = HaveAllPlaces (children a.before) a.changes
+Has (fresh t) = Unit {0}
+
+abbrev pub AllHave : List Standing → Type 0
+AllHave [] = Unit {0}
+AllHave (p ∷ ps) = Has p × AllHave ps
+
+-- the node so far: none of its children has changed, or these stand in their places
+abbrev pub node_now : Standing → List Standing → Standing
+node_now p [] = p
+node_now p (q ∷ qs) = with_standing p (q ∷ qs)
+
+-- what stands in the places of its children so far
+abbrev pub parts_now : Standing → List Standing → List Standing
+parts_now p [] = standing_children p
+parts_now p (q ∷ qs) = q ∷ qs
+
+-- these can stand there
+pub record PartsStand (p : Standing) (qs : List Standing) : Type 0 where
+  pub follow : AllFollow (standing_children p) (parts_now p qs)
+  pub have : AllHave (parts_now p qs)
+
+-- q stands where p stood, after these edits: what it keeps is what was kept, each of its places was one
+-- of p or is that of an edit, and none of these lies outside its places
+pub record Leads (p : Standing) (e : Edits) (q : Standing) : Type 0 where
+  pub follows : Follows p q
+  pub made : Replaces e (standing_tree p) (standing_tree q)
+  pub has : Has q
+  pub among : (x : List ℕ) → IsPlace (standing_change q) x → IsPlace (standing_change p) x ⊎ IsOf x e
+  pub covers : (x : List ℕ) → IsWithin (standing_change p) x ⊎ IsOf x e → IsWithin (standing_change q) x
+
+-- The places of ps are those of the edits that lie within no other one's.
+pub record AreOutermost (ps e : Edits) : Type 0 where
+  pub apart : AllApart ps
+  pub among : (x : List ℕ) → IsOf x ps → IsOf x e
+  pub covers : (x : List ℕ) → IsOf x e → (y : List ℕ) × IsOf y ps × LiesWithin x y

@@ -1,0 +1,6 @@
+pub mod Trails
+pub mod Leading
+pub mod Frames
+pub mod Arguments
+pub mod Turns
+pub mod Ends

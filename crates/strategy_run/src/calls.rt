@@ -1,0 +1,201 @@
+//! Calls of definitions and primitives, and what else opens scopes.
+
+ghost use Rattle.std.specs.Prelude.{◌≡◌, ◌<◌, ◌++◌, map, replicate, length, Some, None, IfOk};
+ghost use Rattle.strategy_syntax.specs.Resolved.{scope as scope_form, rec, param, call, prim, resolveds_of, places_of};
+ghost use Rattle.strategy_scopes.specs.Table.{scopes as scopes_of};
+ghost use Rattle.strategy_meaning.specs.Meaning.{World, primitive_answer};
+ghost use Rattle.strategy_run.specs.Turns.{Takes, TakeFalls, Enters, world_of};
+
+use crate::arguments::{BuiltAll, build_all, open_arguments, owned_terms};
+use crate::forms::replace;
+use crate::frames::{Frame, Hand, Turned};
+use crate::machine::{Host, Machine};
+use prim_core::Meaning;
+use std::alloc::Global;
+use strategy_scopes::Known;
+use strategy_syntax::{Place, Resolved, ResolvedStrategy};
+use term_core::{NoMemory, Term};
+use term_values::{Part, Value};
+
+/// So many new variables in a strategy.
+pub(crate) fn take_scope<'t>(
+    m: &mut Machine<'t>,
+    count: usize,
+    strategy: &'t ResolvedStrategy,
+    scope: usize,
+    part: Part<'t>,
+) -> Result<Turned<'t>, NoMemory>
+    requires { scope < length (scopes_of m.old.scopes) }
+    ensures ok { (W : World) → IfOk result (λ next. Takes W m.old (scope_form count strategy.entry.now) scope part.entry m.new next) }
+    ensures less { IfOk result (λ next. TakeFalls m.old m.new next) }
+{
+    let first = m.cells.count();
+    if first.checked_add(count).is_none() {
+        return Err(NoMemory);
+    }
+    m.frames.push(Frame::Cut(first, m.scopes.count()))?;
+    m.cells.open_cells(count)?;
+    let inner = m.scopes.add_variables(Some(scope), first, count)?;
+    Ok(Turned::On(Hand::Begin(strategy, inner, part)))
+}
+
+/// A strategy in which a new name stands for the whole.
+pub(crate) fn take_rec<'t>(
+    m: &mut Machine<'t>,
+    whole: &'t ResolvedStrategy,
+    body: &'t ResolvedStrategy,
+    scope: usize,
+    part: Part<'t>,
+) -> Result<Turned<'t>, NoMemory>
+    requires there { scope < length (scopes_of m.old.scopes) }
+    requires whole { whole.now ≡ rec body.now }
+    ensures ok { (W : World) → IfOk result (λ next. Takes W m.old (rec body.entry.now) scope part.entry m.new next) }
+    ensures less { IfOk result (λ next. TakeFalls m.old m.new next) }
+{
+    m.frames.push(Frame::Leave(m.scopes.count()))?;
+    let known = Known {
+        strategy: whole,
+        inside: scope,
+    };
+    let inner = m.scopes.add_name(Some(scope), known)?;
+    Ok(Turned::On(Hand::Begin(body, inner, part)))
+}
+
+/// What a strategy name stands for.
+pub(crate) fn take_param<'t>(
+    m: &mut Machine<'t>,
+    name: usize,
+    scope: usize,
+    part: Part<'t>,
+) -> Turned<'t>
+    requires { scope < length (scopes_of m.old.scopes) }
+    ensures ok { (W : World) → Takes W m.old (param name) scope part.entry m.new result }
+    ensures less { TakeFalls m.old m.new result }
+{
+    match m.scopes.named(scope, name) {
+        None => Turned::On(Hand::Failed),
+        Some(known) => Turned::On(Hand::Begin(known.strategy, known.inside, part)),
+    }
+}
+
+/// A call of a definition.
+pub(crate) fn take_call<'t, M: Meaning>(
+    alloc: Global,
+    host: &Host<'t, M>,
+    m: &mut Machine<'t>,
+    definition: usize,
+    strategies: &'t [ResolvedStrategy],
+    patterns: &'t [Place],
+    scope: usize,
+    part: Part<'t>,
+) -> Result<Turned<'t>, NoMemory>
+    requires { scope < length (scopes_of m.old.scopes) }
+    ensures ok { IfOk result (λ next. Takes (world_of M.meaning host.now.definitions.now host.now.primitives.now) m.old
+        (call definition (resolveds_of strategies.entry.now) (places_of patterns.entry.now)) scope part.entry m.new next) }
+    ensures less { IfOk result (λ next. TakeFalls m.old m.new next) }
+{
+    let built = build_all(
+        alloc,
+        &mut m.cells,
+        &m.scopes,
+        scope,
+        m.level,
+        patterns,
+        &mut m.arguments,
+    )?;
+    match built {
+        BuiltAll::Nothing => Ok(Turned::On(Hand::Failed)),
+        BuiltAll::Big => Ok(Turned::Big),
+        BuiltAll::All => match host.definitions.get(definition) {
+            None => Ok(Turned::On(Hand::Failed)),
+            Some(body) => {
+                let inner = enter(m, strategies, body, scope)?;
+                Ok(Turned::On(Hand::Begin(&body.strategy, inner, part)))
+            }
+        },
+    }
+}
+
+// Opens the cells and the scope of a definition's body; the arguments are those that were built.
+fn enter<'t>(
+    m: &mut Machine<'t>,
+    strategies: &'t [ResolvedStrategy],
+    body: &Resolved,
+    scope: usize,
+) -> Result<usize, NoMemory>
+    requires { scope < length (scopes_of m.old.scopes) }
+    ensures { IfOk result (λ inner. Enters m.old (resolveds_of strategies.entry.now) body.now scope m.new inner) }
+{
+    let first = m.cells.count();
+    let Some(count) = m.arguments.len().checked_add(body.variables) else {
+        return Err(NoMemory);
+    };
+    if first.checked_add(count).is_none() {
+        return Err(NoMemory);
+    }
+    m.frames.push(Frame::Cut(first, m.scopes.count()))?;
+    open_arguments(&mut m.cells, &m.arguments)?;
+    m.cells.open_cells(body.variables)?;
+    Ok(m.scopes.add_call(scope, strategies, first, count)?)
+}
+
+/// A primitive.
+pub(crate) fn take_prim<'t, M: Meaning>(
+    alloc: Global,
+    host: &Host<'t, M>,
+    m: &mut Machine<'t>,
+    primitive: usize,
+    patterns: &'t [Place],
+    scope: usize,
+    _part: Part<'t>,
+) -> Result<Turned<'t>, NoMemory>
+    ensures ok { IfOk result (λ next. Takes (world_of M.meaning host.now.definitions.now host.now.primitives.now) m.old
+        (prim primitive (places_of patterns.entry.now)) scope _part.entry m.new next) }
+    ensures less { IfOk result (λ next. TakeFalls m.old m.new next) }
+{
+    let built = build_all(
+        alloc,
+        &mut m.cells,
+        &m.scopes,
+        scope,
+        m.level,
+        patterns,
+        &mut m.arguments,
+    )?;
+    match built {
+        BuiltAll::Nothing => Ok(Turned::On(Hand::Failed)),
+        BuiltAll::Big => Ok(Turned::Big),
+        BuiltAll::All => {
+            let terms = owned_terms(alloc, &m.arguments)?;
+            let Some(term) = answer_of(alloc, host, primitive, &terms)? else {
+                return Ok(Turned::On(Hand::Failed));
+            };
+            let mut value = Value::from_term(alloc, &term)?;
+            if !value.fits(m.level) {
+                return Ok(Turned::Big);
+            }
+            let part = replace(alloc, m, value)?;
+            Ok(Turned::On(Hand::Done(part)))
+        }
+    }
+}
+
+// What a primitive answers on these terms; nothing where there is no such primitive, or where it takes
+// another number of terms.
+fn answer_of<M: Meaning>(
+    alloc: Global,
+    host: &Host<'_, M>,
+    primitive: usize,
+    terms: &[Term],
+) -> Result<Option<Term>, NoMemory>
+    ensures { IfOk result (λ found. found
+        ≡ primitive_answer (world_of M.meaning host.now.definitions.now host.now.primitives.now) primitive terms.now) }
+{
+    let Some(arity) = host.primitives.arity(primitive) else {
+        return Ok(None);
+    };
+    if arity != terms.len() {
+        return Ok(None);
+    }
+    host.primitives.call(alloc, primitive, terms)
+}

@@ -1,0 +1,220 @@
+//! Strategies over children.
+
+ghost use Rattle.std.specs.Prelude.{◌≡◌, ◌<◌, ◌-◌, [], ◌∷◌, cond, length, MatchOption, IfOk, slice_get, slice_set};
+ghost use Rattle.term_core.specs.Tree.{children};
+ghost use Rattle.term_changes.specs.Standing.{standing_tree, standing_children};
+ghost use Rattle.strategy_meaning.specs.Meaning.{World};
+ghost use Rattle.strategy_run.specs.Frames.{acts_list};
+ghost use Rattle.strategy_run.specs.Leading.{PartsStand, node_now, parts_now};
+ghost use Rattle.strategy_run.specs.Turns.{Turn, Falls};
+
+use crate::frames::{Acts, Frame, Hand, Turned, Walk};
+use crate::machine::Machine;
+use std::alloc::Global;
+use strategy_syntax::ResolvedStrategy;
+use term_core::NoMemory;
+use term_values::Part;
+
+// The strategy for the next child and those behind it, where so many children are left.
+pub(crate) fn next_act<'t>(acts: Acts<'t>, left: usize) -> Option<(&'t ResolvedStrategy, Acts<'t>)>
+    ensures { MatchOption result (acts_list acts.entry left ≡ [])
+        (λ found. acts_list acts.entry left ≡ found.0.now ∷ acts_list found.1 (left - 1)) }
+{
+    match acts {
+        Acts::Same(strategy) => {
+            if left == 0 {
+                return None;
+            }
+            Some((strategy, Acts::Same(strategy)))
+        }
+        Acts::List(strategies) => {
+            if strategies.is_empty() {
+                return None;
+            }
+            Some((&strategies[0], Acts::List(&strategies[1..])))
+        }
+    }
+}
+
+/// What stands in the place of child `i` so far.
+pub(crate) fn child_now<'t>(
+    node: &Part<'t>,
+    parts: &[Part<'t>],
+    i: usize,
+) -> Result<Option<Part<'t>>, NoMemory>
+    ensures { IfOk result (λ child. child ≡ slice_get (parts_now node.now parts.now) i) }
+{
+    if parts.is_empty() {
+        return node.child(i);
+    }
+    if i >= parts.len() {
+        return Ok(None);
+    }
+    Ok(Some(parts[i].try_clone()?))
+}
+
+/// The node so far.
+pub(crate) fn finished<'t>(
+    alloc: Global,
+    node: Part<'t>,
+    parts: Vec<Part<'t>>,
+) -> Result<Part<'t>, NoMemory>
+    requires { PartsStand node parts.items }
+    ensures { IfOk result (λ part. part ≡ node_now node.entry parts.entry.items) }
+{
+    if parts.is_empty() {
+        return Ok(node);
+    }
+    node.with_parts(alloc, parts)
+}
+
+/// What stands in the places of the children, with another part at child `i` where it has changed.
+pub(crate) fn settled<'t>(
+    alloc: Global,
+    node: &Part<'t>,
+    parts: Vec<Part<'t>>,
+    i: usize,
+    part: Part<'t>,
+    changed: bool,
+) -> Result<Vec<Part<'t>>, NoMemory>
+    ensures { IfOk result (λ all. all.items
+        ≡ cond changed (slice_set (parts_now node.now parts.entry.items) i part.entry) parts.entry.items) }
+{
+    if !changed {
+        return Ok(parts);
+    }
+    let mut all = if parts.is_empty() {
+        node.parts(alloc)?
+    } else {
+        parts
+    };
+    if i < all.len() {
+        all[i] = part;
+    }
+    Ok(all)
+}
+
+/// Goes on with the children from this one on.
+pub(crate) fn go_on<'t>(
+    alloc: Global,
+    m: &mut Machine<'t>,
+    acts: Acts<'t>,
+    scope: usize,
+    node: Part<'t>,
+    index: usize,
+    parts: Vec<Part<'t>>,
+) -> Result<Turned<'t>, NoMemory>
+    requires { PartsStand node parts.items }
+    ensures ok { (W : World) → IfOk result (λ next. Turn W m.old (Hand.Each acts.entry scope node.entry index parts.entry) m.new next) }
+    ensures less { IfOk result (λ next. Falls m.old (Hand.Each acts.entry scope node.entry index parts.entry) m.new next) }
+{
+    let count = node.child_count();
+    let left = count.saturating_sub(index);
+    let Some((strategy, others)) = next_act(acts, left) else {
+        let part = finished(alloc, node, parts)?;
+        return Ok(Turned::On(Hand::Done(part)));
+    };
+    let Some(child) = child_now(&node, &parts, index)? else {
+        return Ok(Turned::On(Hand::Failed));
+    };
+    let level = m.level;
+    if level == u64::MAX {
+        return Err(NoMemory);
+    }
+    let edits = m.trail.count;
+    m.frames.push(Frame::Each(
+        others,
+        scope,
+        Walk {
+            node,
+            parts,
+            index,
+            level,
+            edits,
+        },
+    ))?;
+    m.level += 1;
+    Ok(Turned::On(Hand::Begin(strategy, scope, child)))
+}
+
+/// Tries the children from this one on, until the strategy gives a term.
+pub(crate) fn try_on<'t>(
+    alloc: Global,
+    m: &mut Machine<'t>,
+    strategy: &'t ResolvedStrategy,
+    scope: usize,
+    node: Part<'t>,
+    index: usize,
+) -> Result<Turned<'t>, NoMemory>
+    ensures ok { (W : World) → IfOk result (λ next. Turn W m.old (Hand.Leftmost strategy.entry scope node.entry index) m.new next) }
+    ensures less { IfOk result (λ next. Falls m.old (Hand.Leftmost strategy.entry scope node.entry index) m.new next) }
+{
+    let Some(child) = node.child(index)? else {
+        return Ok(Turned::On(Hand::Failed));
+    };
+    let level = m.level;
+    if level == u64::MAX {
+        return Err(NoMemory);
+    }
+    let edits = m.trail.count;
+    let mark = m.cells.mark();
+    m.frames.push(Frame::Leftmost(
+        strategy,
+        scope,
+        Walk {
+            node,
+            parts: Vec::new(alloc),
+            index,
+            level,
+            edits,
+        },
+        mark,
+    ))?;
+    m.level += 1;
+    Ok(Turned::On(Hand::Begin(strategy, scope, child)))
+}
+
+/// Goes on with the children from this one on, whether the strategy gives a term there or not.
+pub(crate) fn go_over<'t>(
+    alloc: Global,
+    m: &mut Machine<'t>,
+    strategy: &'t ResolvedStrategy,
+    scope: usize,
+    node: Part<'t>,
+    index: usize,
+    any: bool,
+    parts: Vec<Part<'t>>,
+) -> Result<Turned<'t>, NoMemory>
+    requires { PartsStand node parts.items }
+    ensures ok { (W : World) → IfOk result (λ next. Turn W m.old (Hand.Those strategy.entry scope node.entry index any parts.entry) m.new next) }
+    ensures less { IfOk result (λ next. Falls m.old (Hand.Those strategy.entry scope node.entry index any parts.entry) m.new next) }
+{
+    let Some(child) = child_now(&node, &parts, index)? else {
+        if !any {
+            return Ok(Turned::On(Hand::Failed));
+        }
+        let part = finished(alloc, node, parts)?;
+        return Ok(Turned::On(Hand::Done(part)));
+    };
+    let level = m.level;
+    if level == u64::MAX {
+        return Err(NoMemory);
+    }
+    let edits = m.trail.count;
+    let mark = m.cells.mark();
+    m.frames.push(Frame::Those(
+        strategy,
+        scope,
+        Walk {
+            node,
+            parts,
+            index,
+            level,
+            edits,
+        },
+        mark,
+        any,
+    ))?;
+    m.level += 1;
+    Ok(Turned::On(Hand::Begin(strategy, scope, child)))
+}

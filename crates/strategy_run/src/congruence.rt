@@ -1,0 +1,95 @@
+//! Congruences, and the selection of a child.
+
+ghost use Rattle.std.specs.Prelude.{◌≡◌, ◌<◌, length, IfOk};
+ghost use Rattle.term_core.specs.Tree.{children};
+ghost use Rattle.strategy_syntax.specs.Heads.{head_of};
+ghost use Rattle.strategy_meaning.specs.Matching.{elements};
+ghost use Rattle.strategy_meaning.specs.Meaning.{is_over as is_headed_over, is_list_from as has_elements};
+ghost use Rattle.strategy_meaning.specs.Meaning.{World};
+ghost use Rattle.strategy_syntax.specs.Resolved.{congruence, tail_congruence, child, resolveds_of};
+ghost use Rattle.term_changes.specs.Standing.{standing_tree};
+ghost use Rattle.strategy_run.specs.Turns.{Takes, TakeFalls};
+
+use crate::frames::{Acts, Frame, Hand, Turned};
+use crate::machine::Machine;
+use std::alloc::Global;
+use strategy_syntax::{Head, ResolvedStrategy};
+use term_core::{Kind, NoMemory};
+use term_values::Part;
+
+/// Whether it is this head over so many children.
+pub(crate) fn is_over(head: &Head, count: usize, part: &Part<'_>) -> bool
+    ensures { result ≡ is_headed_over (head_of head.now) count (standing_tree part.now) }
+{
+    head.is_head_of(part.kind()) && part.child_count() == count
+}
+
+/// Whether it is a list of at least so many elements.
+pub(crate) fn is_list_from(count: usize, part: &Part<'_>) -> bool
+    ensures { result ≡ has_elements count (elements (standing_tree part.now)) }
+{
+    match part.kind() {
+        Kind::List => count <= part.child_count(),
+        _ => false,
+    }
+}
+
+/// A strategy for each child, where the head is over so many.
+pub(crate) fn take_congruence<'t>(
+    alloc: Global,
+    m: &mut Machine<'t>,
+    head: &Head,
+    strategies: &'t [ResolvedStrategy],
+    scope: usize,
+    part: Part<'t>,
+) -> Result<Turned<'t>, NoMemory>
+    ensures ok { (W : World) → IfOk result (λ next. Takes W m.old (congruence (head_of head.now) (resolveds_of strategies.entry.now)) scope part.entry m.new next) }
+    ensures less { IfOk result (λ next. TakeFalls m.old m.new next) }
+{
+    if !is_over(head, strategies.len(), &part) {
+        return Ok(Turned::On(Hand::Failed));
+    }
+    let none = Vec::new(alloc);
+    Ok(Turned::On(Hand::Each(Acts::List(strategies), scope, part, 0, none)))
+}
+
+/// A strategy for each of the first elements of a list, and one for the list of the others.
+pub(crate) fn take_tail<'t>(
+    alloc: Global,
+    m: &mut Machine<'t>,
+    strategies: &'t [ResolvedStrategy],
+    tail: &'t ResolvedStrategy,
+    scope: usize,
+    part: Part<'t>,
+) -> Result<Turned<'t>, NoMemory>
+    ensures ok { (W : World) → IfOk result (λ next. Takes W m.old (tail_congruence (resolveds_of strategies.entry.now) tail.entry.now) scope part.entry m.new next) }
+    ensures less { IfOk result (λ next. TakeFalls m.old m.new next) }
+{
+    let count = strategies.len();
+    if !is_list_from(count, &part) {
+        return Ok(Turned::On(Hand::Failed));
+    }
+    m.frames.push(Frame::Tail(tail, scope, count))?;
+    let none = Vec::new(alloc);
+    Ok(Turned::On(Hand::Each(Acts::List(strategies), scope, part, 0, none)))
+}
+
+/// A strategy for one child, counted from 1.
+pub(crate) fn take_child<'t>(
+    alloc: Global,
+    m: &mut Machine<'t>,
+    number: usize,
+    inner: &'t ResolvedStrategy,
+    scope: usize,
+    part: Part<'t>,
+) -> Result<Turned<'t>, NoMemory>
+    ensures ok { (W : World) → IfOk result (λ next. Takes W m.old (child number inner.entry.now) scope part.entry m.new next) }
+    ensures less { IfOk result (λ next. TakeFalls m.old m.new next) }
+{
+    if number == 0 {
+        return Ok(Turned::On(Hand::Failed));
+    }
+    let none = Vec::new(alloc);
+    let alone = Acts::List(std::slice::from_ref(inner));
+    Ok(Turned::On(Hand::Each(alone, scope, part, number - 1, none)))
+}

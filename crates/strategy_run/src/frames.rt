@@ -1,0 +1,85 @@
+//! What waits for an answer, and what is in hand.
+
+use strategy_syntax::ResolvedStrategy;
+use term_match::Mark;
+use term_values::Part;
+
+/// The strategies for the children from one on.
+#[derive(Clone, Copy)]
+pub enum Acts<'t> {
+    /// This one for each child that there is.
+    Same(&'t ResolvedStrategy),
+    /// One for each child.
+    List(&'t [ResolvedStrategy]),
+}
+
+/// A node of which one child is in hand.
+#[derive(Drop)]
+pub struct Walk<'t> {
+    pub node: Part<'t>,
+    /// What stands in the places of all its children, or nothing as long as none has changed.
+    pub parts: Vec<Part<'t>>,
+    /// The child in hand.
+    pub index: usize,
+    /// The level of the node.
+    pub level: u64,
+    /// How many edits there were when the child was begun.
+    pub edits: usize,
+}
+
+/// What waits for the answer of the part in hand. Scopes are numbers of the table, edits how many there
+/// were when the frame was made.
+#[derive(Drop)]
+pub enum Frame<'t> {
+    /// Then this strategy, in this scope.
+    Then(&'t ResolvedStrategy, usize),
+    /// The second and the third part of a guard in their scope, with the part at its start, the edits
+    /// and the mark of the cells.
+    Choose(&'t ResolvedStrategy, &'t ResolvedStrategy, usize, Part<'t>, usize, Mark),
+    /// The part that comes back, and the edits.
+    Restore(Part<'t>, usize),
+    /// Strategies for the children behind the one in hand.
+    Each(Acts<'t>, usize, Walk<'t>),
+    /// A strategy for the leftmost child where it gives a term: the next one's turn comes where it
+    /// fails, with the cells of the mark.
+    Leftmost(&'t ResolvedStrategy, usize, Walk<'t>, Mark),
+    /// A strategy for those children where it gives a term, and whether it has given one.
+    Those(&'t ResolvedStrategy, usize, Walk<'t>, Mark, bool),
+    /// Then this strategy on the list of the elements behind the first so many.
+    Tail(&'t ResolvedStrategy, usize, usize),
+    /// The list whose elements behind the first so many are in hand as a list of their own, and the edits.
+    Rest(Part<'t>, usize, usize),
+    /// Scopes behind the first so many end.
+    Leave(usize),
+    /// Cells and scopes behind the first so many end.
+    Cut(usize, usize),
+}
+
+/// What is in hand.
+#[derive(Drop)]
+pub enum Hand<'t> {
+    /// A strategy in a scope is to be evaluated.
+    Begin(&'t ResolvedStrategy, usize, Part<'t>),
+    /// A part has given this.
+    Done(Part<'t>),
+    /// A part has failed.
+    Failed,
+    /// Strategies for the children of a node from this one on, with what stands in the places of all
+    /// its children, or nothing as long as none has changed.
+    Each(Acts<'t>, usize, Part<'t>, usize, Vec<Part<'t>>),
+    /// A strategy for the leftmost of the children from this one on where it gives a term.
+    Leftmost(&'t ResolvedStrategy, usize, Part<'t>, usize),
+    /// A strategy for those of the children from this one on where it gives a term, and whether it has
+    /// given one before.
+    Those(&'t ResolvedStrategy, usize, Part<'t>, usize, bool, Vec<Part<'t>>),
+}
+
+/// What a turn leads to.
+#[derive(Drop)]
+pub enum Turned<'t> {
+    On(Hand<'t>),
+    Done(Part<'t>),
+    Failed,
+    Spent,
+    Big,
+}

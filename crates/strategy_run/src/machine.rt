@@ -1,0 +1,72 @@
+//! The state of a run.
+
+ghost use Rattle.std.specs.Prelude.{◌≡◌, [], slice_get};
+ghost use Rattle.strategy_meaning.specs.Scopes.{cells_in};
+ghost use Rattle.strategy_scopes.specs.Table.{scopes as scopes_of, scope_at};
+
+use crate::frames::Frame;
+use crate::trail::Trail;
+use prim_core::{Meaning, Primitives};
+use std::alloc::Global;
+use strategy_scopes::Scopes;
+use strategy_syntax::Resolved;
+use term_match::{Cells, Places};
+use term_values::Value;
+
+/// What the numbers of definitions and primitives stand for.
+#[derive(Drop)]
+pub struct Host<'t, M: Meaning> {
+    pub definitions: &'t [Resolved],
+    pub primitives: &'t Primitives<M>,
+}
+
+/// What waits, what variables and names stand for, the edits, the level of what is in hand, and the
+/// steps left. The vectors are used again by all parts of a run.
+#[derive(Drop)]
+pub struct Machine<'t> {
+    pub frames: Vec<Frame<'t>>,
+    pub cells: Cells<'t>,
+    pub scopes: Scopes<'t>,
+    pub trail: Trail<'t>,
+    /// The term arguments of the call at hand.
+    pub arguments: Vec<Value<'t>>,
+    pub level: u64,
+    pub steps: u64,
+}
+
+impl<'t> Machine<'t> {
+    /// A machine in which nothing waits.
+    pub fn new(alloc: Global, trail: Trail<'t>, level: u64, steps: u64) -> Machine<'t>
+        ensures frames { result.frames.items ≡ [] }
+        ensures cells { result.cells.bindings ≡ [] }
+        ensures scopes { scopes_of result.scopes ≡ [] }
+        ensures trail { result.trail ≡ trail.entry }
+        ensures level { result.level ≡ level }
+        ensures steps { result.steps ≡ steps }
+    {
+        Machine {
+            frames: Vec::new(alloc),
+            cells: Cells::new(alloc),
+            scopes: Scopes::new(alloc),
+            trail,
+            arguments: Vec::new(alloc),
+            level,
+            steps,
+        }
+    }
+}
+
+/// A scope of the table, as the cells of its variables.
+#[derive(Clone, Copy)]
+pub struct InTable<'s, 't> {
+    pub scopes: &'s Scopes<'t>,
+    pub scope: usize,
+}
+
+impl<'s, 't> Places for InTable<'s, 't> {
+    ghost places = { λ s. cells_in (scope_at (scopes_of s.scopes.now) s.scope) };
+
+    fn cell(&self, variable: usize) -> Option<usize> {
+        self.scopes.cell(self.scope, variable)
+    }
+}
