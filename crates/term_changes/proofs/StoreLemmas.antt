@@ -18,17 +18,17 @@ use Rattle.term_changes.proofs.PlacesThere.{AllThere, all_there}
 
 -- ---- one slot
 
-content_same : (ss : Slots Tree) (i : ℕ) (t : Tree) → content ss i ≡ Some t → with_content ss i (Some t) ≡ ss
+pub content_same : (ss : Slots Tree) (i : ℕ) (t : Tree) → content ss i ≡ Some t → with_content ss i (Some t) ≡ ss
 content_same [] i t h = refl
 content_same (x ∷ ss) zero t h = ap (λ c. (x.0, c) ∷ ss) (sym h)
 content_same (x ∷ ss) (suc i) t h = ap (λ l. x ∷ l) (content_same ss i t h)
 
-content_put : (ss : Slots Tree) (i : ℕ) (t u : Tree) → content ss i ≡ Some t → content (with_content ss i (Some u)) i ≡ Some u
+pub content_put : (ss : Slots Tree) (i : ℕ) (t u : Tree) → content ss i ≡ Some t → content (with_content ss i (Some u)) i ≡ Some u
 content_put [] i t u h = absurd (cc)
 content_put (x ∷ ss) zero t u h = refl
 content_put (x ∷ ss) (suc i) t u h = content_put ss i t u h
 
-content_twice : (ss : Slots Tree) (i : ℕ) (c d : Option Tree) → with_content (with_content ss i c) i d ≡ with_content ss i d
+pub content_twice : (ss : Slots Tree) (i : ℕ) (c d : Option Tree) → with_content (with_content ss i c) i d ≡ with_content ss i d
 content_twice [] i c d = refl
 content_twice (x ∷ ss) zero c d = refl
 content_twice (x ∷ ss) (suc i) c d = ap (λ l. x ∷ l) (content_twice ss i c d)
