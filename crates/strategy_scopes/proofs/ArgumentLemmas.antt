@@ -1,12 +1,15 @@
 -- Strategy arguments, added one by one.
-use Rattle.std.proofs.Common.{◌≡◌, ℕ, ◌+◌, ◌≤◌, ◌<◌, List, [], ◌∷◌, ◌++◌, length, take, get_or, zero, suc, refl, sym, ap, ◌∙◌, arith, Some, None}
+use Rattle.std.proofs.Common.{◌≡◌, ℕ, Bool, true, false, ◌+◌, ◌≤◌, ◌<◌, List, [], ◌∷◌, ◌++◌, length, take, get_or, zero, suc, refl, sym, ap, subst, ◌∙◌, arith, Some, None}
+use Rattle.std.specs.Prelude.{unwrap_or}
+use Rattle.std.specs.Bool.{OnTrue}
 use Rattle.std.specs.declared.option.Option.{Option}
-use Rattle.std.proofs.lemmas.List.{length-append, get_or-take, take-append-le, get_or-append-add}
+use Rattle.std.proofs.lemmas.List.{length-append, length-take-le, get_or-take, take-append-le, get_or-append-add}
 use Rattle.std.proofs.Math.Seq.{take-suc}
-use Rattle.strategy_syntax.specs.Resolved.{ResolvedStrategy, resolveds_of}
-use Rattle.strategy_meaning.specs.Scopes.{Scope, Closure, inside, and_closure, with_closure, with_name, argument, arguments}
+use Rattle.strategy_syntax.specs.Resolved.{ResolvedStrategy, param, resolveds_of}
+use Rattle.strategy_meaning.specs.Scopes.{Scope, Closure, Closures, inside, no_closures, and_closure, closure_at, cells_in, stands_for, with_closure, with_name, argument, arguments}
 use Rattle.strategy_scopes.specs.Table.{nowhere, scope_at, scope_from, IsThere, Starts, closure_of}
 use Rattle.strategy_scopes.specs.declared.scopes.Known.{Known}
+use Rattle.strategy_scopes.specs.Entries.{AreNames, names_in, closure_count}
 
 shorter : {A : Type 0} (n : ℕ) (xs : List A) → length (take n xs) ≤ length xs
 shorter zero xs = omega arith
@@ -73,3 +76,45 @@ pub added_all : (old now : List Scope) (scope : ℕ) (ss : List ResolvedStrategy
 added_all old now scope ss i names a h k =
     let e : i ≡ length ss = omega (arith, h, k) in
     a.given ∙ ap (λ l. inside [] (arguments (scope_at old scope) (resolveds_of l))) (ap (λ j. take j ss) e ∙ all_taken ss)
+
+-- ---- all names handed on
+
+-- From name i on, the strategies are the names of the scope.
+names_stay : (E : Scope) (cs : Closures) (i : ℕ) (ss : List ResolvedStrategy) → ((x : ℕ) → stands_for E (i + x) ≡ closure_at cs x)
+    → AreNames i ss → length ss ≡ closure_count cs → arguments E (resolveds_of ss) ≡ cs
+names_stay E no_closures i [] h a l = refl
+names_stay E (and_closure r F more) i [] h a l = absurd (omega (arith, l))
+names_stay E no_closures i (s ∷ ss) h a l = absurd (omega (arith, l))
+names_stay E (and_closure r F more) i (s ∷ ss) h a l =
+    let here : stands_for E i ≡ Some (record { strategy = r; written_in = F }) = ap (stands_for E) (omega arith) ∙ h 0 in
+    let own : Closure = record { strategy = param i; written_in = E } in
+    let is : argument E s ≡ record { strategy = r; written_in = F } = ap (argument E) a.0 ∙ ap (λ o. unwrap_or o own) here in
+    let rest = names_stay E more (suc i) ss (λ x. ap (stands_for E) (omega arith) ∙ h (suc x)) a.1 (omega (arith, l)) in
+    ap (λ (c : Closure). and_closure c.strategy c.written_in (arguments E (resolveds_of ss))) is ∙ ap (and_closure r F) rest
+
+no_cells : (cells : List ℕ) → length cells ≡ 0 → cells ≡ []
+no_cells [] h = refl
+no_cells (x ∷ xs) h = absurd (omega (arith, h))
+
+all_handed_on : (E : Scope) (ss : List ResolvedStrategy) → length (cells_in E) ≡ 0 → closure_count (names_in E) ≡ length ss → AreNames 0 ss
+    → E ≡ inside [] (arguments E (resolveds_of ss))
+all_handed_on (inside cells names) ss v n a =
+    let same = names_stay (inside cells names) names 0 ss (λ x. ap (closure_at names) (omega arith)) a (sym n) in
+    ap (λ c. inside c names) (no_cells cells v) ∙ ap (inside []) (sym same)
+
+one_more : (i : ℕ) (ss : List ResolvedStrategy) (s : ResolvedStrategy) → AreNames i ss → s ≡ param (i + length ss) → AreNames i (ss ++ s ∷ [])
+one_more i [] s a h = (h ∙ ap param (omega arith), tt)
+one_more i (r ∷ ss) s a h = (a.0, one_more (suc i) ss s a.1 (h ∙ ap param (omega arith)))
+
+-- one name more behind the first ones
+pub names_more : (ss : List ResolvedStrategy) (i : ℕ) (s : ResolvedStrategy) → i < length ss → s ≡ get_or ss i s → AreNames 0 (take i ss) → s ≡ param i
+    → AreNames 0 (take (i + 1) ss)
+names_more ss i s lt e a is =
+    let n : suc i ≡ i + 1 = omega arith in
+    let whole : take i ss ++ s ∷ [] ≡ take (i + 1) ss = ap (λ x. take i ss ++ x ∷ []) e ∙ sym (take-suc ss i s lt) ∙ ap (λ j. take j ss) n in
+    subst (AreNames 0) whole (one_more 0 (take i ss) s a (is ∙ ap param (let l : length (take i ss) ≡ i = length-take-le i ss (omega (arith, lt)) in omega (arith, l))))
+
+pub all_handed_on_where : (b : Bool) (E : Scope) (ss : List ResolvedStrategy) → length (cells_in E) ≡ 0 → closure_count (names_in E) ≡ length ss
+    → OnTrue b (AreNames 0 ss) → OnTrue b (E ≡ inside [] (arguments E (resolveds_of ss)))
+all_handed_on_where true E ss v n a = all_handed_on E ss v n a
+all_handed_on_where false E ss v n a = tt

@@ -1,5 +1,6 @@
 -- What the entries of the table stand for, and what is known of them.
 use Rattle.std.specs.Prelude.{◌≡◌, ◌<◌, ◌+◌, ◌^◌, ℕ, suc, List, [], ◌∷◌, ◌++◌, length}
+use Rattle.strategy_syntax.specs.Resolved.{ResolvedStrategy, param}
 use Rattle.strategy_meaning.specs.Scopes.{Scope, inside, Closures, no_closures, and_closure, cells_in, numbers_from}
 use Rattle.strategy_scopes.specs.Table.{Addition, variables, name, Widening, scope_from, widened, IsThere}
 use Rattle.strategy_scopes.specs.declared.scopes.Adds.{Adds}
@@ -49,3 +50,8 @@ abbrev pub AreSound : List Scope → List Entry → Type 0
 AreSound known [] = Unit {0}
 AreSound known (e ∷ es) =
     IsSound known (length known) e × AreSound (known ++ widened known (widening_of e) ∷ []) es
+
+-- they are the names from i on, in order
+abbrev pub AreNames : ℕ → List ResolvedStrategy → Type 0
+AreNames i [] = Unit {0}
+AreNames i (s ∷ ss) = (s ≡ param i) × AreNames (suc i) ss

@@ -2,9 +2,10 @@
 
 ghost use Rattle.std.specs.Prelude.{◌≡◌, ◌≤◌, ◌<◌, ◌+◌, ◌∷◌, ◌++◌, ◌^◌, [], length, take, slice_get, OnErr, IfOk, IfSome, MatchOption, None};
 ghost use Rattle.strategy_meaning.specs.Scopes.{inside, cells_in, stands_for, with_variables, with_name, numbers_from, argument, arguments};
-ghost use Rattle.strategy_syntax.specs.Resolved.{resolveds_of};
+ghost use Rattle.std.specs.Bool.{OnTrue};
+ghost use Rattle.strategy_syntax.specs.Resolved.{param, resolveds_of};
 ghost use Rattle.strategy_scopes.specs.Table.{scopes, scope_at, scope_from, with_addition, IsThere, Stands, Starts, closure_of};
-ghost use Rattle.strategy_scopes.specs.Entries.{names_in, closure_count, addition_of, AddsFit, AddsRoom, added_cells, added_names};
+ghost use Rattle.strategy_scopes.specs.Entries.{AreNames, names_in, closure_count, addition_of, AddsFit, AddsRoom, added_cells, added_names};
 
 use std::alloc::Global;
 use std::marker::Model;
@@ -125,6 +126,9 @@ impl<'t> Scopes<'t> {
             ≡ inside (numbers_from first count) (arguments (scope_at (scopes self.old) scope) (resolveds_of strategies.entry.now))) }
         ensures stay { IfOk result (λ _. Starts (scopes self.old) (scopes self.new)) }
     {
+        if count == 0 && self.hands_all_on(scope, strategies) {
+            return Ok(scope);
+        }
         let names = self.add_arguments(scope, strategies)?;
         if count == 0 {
             if let Some(n) = names {
@@ -132,6 +136,22 @@ impl<'t> Scopes<'t> {
             }
         }
         self.add_variables(names, first, count)
+    }
+
+    // Whether these strategies are the names of this scope, all of them in their order, and it has no
+    // variables: what they stand for in a scope of their own is what they stand for there.
+    fn hands_all_on(&self, scope: usize, strategies: &[ResolvedStrategy]) -> bool
+        requires { scope < length (scopes self.now) }
+        ensures { OnTrue result (scope_at (scopes self.now) scope
+            ≡ inside [] (arguments (scope_at (scopes self.now) scope) (resolveds_of strategies.now))) }
+    {
+        let Some(counts) = self.counts(Some(scope)) else {
+            return false;
+        };
+        if counts.variables != 0 {
+            return false;
+        }
+        counts.names == strategies.len() && are_names(strategies)
     }
 
     // A scope without variables, whose names stand for strategies written in this scope; none where
@@ -262,6 +282,28 @@ impl<'t> Scopes<'t> {
 struct Counts {
     variables: usize,
     names: usize,
+}
+
+// Whether these are the names from 0 on, in order.
+fn are_names(strategies: &[ResolvedStrategy]) -> bool
+    ensures { OnTrue result (AreNames 0 strategies.now) }
+{
+    'each: for i in 0..strategies.len() {
+        if !is_name(&strategies[i], i) {
+            return false;
+        }
+    }
+    true
+}
+
+// Whether this is a name alone, with this number.
+fn is_name(strategy: &ResolvedStrategy, x: usize) -> bool
+    ensures { OnTrue result (strategy.now ≡ param x) }
+{
+    match strategy.form() {
+        ResolvedForm::Param(y) => *y == x,
+        _ => false,
+    }
 }
 
 // The cell of variable i of those that are added.

@@ -3,52 +3,86 @@
 use crate::{Known, Scopes};
 use std::test::Fail;
 use strategy_syntax::{ResolvedForm, ResolvedStrategy};
+use term_core::NoMemory;
+
+// What is found in `{x,y: rec f({z: ..})}`, where x and y are cells 3 and 4, f is name 0 and z is cell 9,
+// and in the body of a call there with `id` and `f`, whose variable is cell 20.
+fn are_found<'t>(
+    scopes: &mut Scopes<'t>,
+    param: &'t ResolvedStrategy,
+    arguments: &'t [ResolvedStrategy],
+) -> Result<bool, NoMemory> {
+    let whole = scopes.add_variables(None, 3, 2)?;
+    let known = Known {
+        strategy: param,
+        inside: whole,
+    };
+    let recursion = scopes.add_name(Some(whole), known)?;
+    let inner = scopes.add_variables(Some(recursion), 9, 1)?;
+    let before = scopes.count();
+    let body = scopes.add_call(inner, arguments, 20, 1)?;
+    Ok(
+        before == 3
+            && scopes.cell(inner, 0) == Some(3)
+            && scopes.cell(inner, 1) == Some(4)
+            && scopes.cell(inner, 2) == Some(9)
+            && scopes.cell(inner, 3).is_none()
+            && scopes.cell(recursion, 2).is_none()
+            && written_in(scopes, inner, 0) == Some(whole)
+            && written_in(scopes, inner, 1).is_none()
+            && scopes.cell(body, 0) == Some(20)
+            && scopes.cell(body, 1).is_none()
+            && written_in(scopes, body, 0) == Some(inner)
+            && written_in(scopes, body, 1) == Some(whole),
+    )
+}
+
+fn written_in(scopes: &Scopes<'_>, scope: usize, name: usize) -> Option<usize> {
+    scopes.named(scope, name).map(|known| known.inside)
+}
+
+// Whether a call that hands all names on has the scope of its caller, and others have their own.
+fn is_handed_on<'t>(
+    scopes: &mut Scopes<'t>,
+    others: &'t [ResolvedStrategy],
+    names: &'t [ResolvedStrategy],
+) -> Result<bool, NoMemory> {
+    let whole = scopes.add_variables(None, 0, 0)?;
+    let body = scopes.add_call(whole, others, 0, 0)?;
+    let count = scopes.count();
+    let same = scopes.add_call(body, names, 0, 0)?;
+    let flat = scopes.count() == count;
+    let with_variable = scopes.add_call(body, names, 0, 1)?;
+    let with_others = scopes.add_call(body, others, 0, 0)?;
+    Ok(same == body && flat && with_variable != body && with_others != body)
+}
 
 #[test]
 fn variables_and_names_are_found(rt: HostRuntime) -> Result<(), Fail> {
     let alloc = rt.alloc();
-    let param = ResolvedStrategy::new(ResolvedForm::Param(0));
     let arguments = vec![in alloc;
         ResolvedStrategy::new(ResolvedForm::Id),
         ResolvedStrategy::new(ResolvedForm::Param(0)),
     ]?;
     let mut scopes = Scopes::new(alloc);
-    // `{x,y: rec f(..)}`: x and y are cells 3 and 4, f is name 0
-    let whole = scopes.add_variables(None, 3, 2)?;
-    let recursion = scopes.add_name(
-        Some(whole),
-        Known {
-            strategy: &param,
-            inside: whole,
-        },
-    )?;
-    // `{z: ..}` in it
-    let inner = scopes.add_variables(Some(recursion), 9, 1)?;
-    assert_eq!(rt; scopes.cell(inner, 0), Some(3));
-    assert_eq!(rt; scopes.cell(inner, 1), Some(4));
-    assert_eq!(rt; scopes.cell(inner, 2), Some(9));
-    assert_eq!(rt; scopes.cell(inner, 3), None);
-    assert_eq!(rt; scopes.cell(recursion, 2), None);
-    assert_eq!(rt;
-        scopes.named(inner, 0).map(|known| known.inside),
-        Some(whole)
-    );
-    assert!(rt; scopes.named(inner, 1).is_none());
-    // a call with `id` and `f`: the first is written here, the second is what f stands for
-    let before = scopes.count();
-    let body = scopes.add_call(inner, arguments.as_slice(), 20, 1)?;
-    assert_eq!(rt; scopes.cell(body, 0), Some(20));
-    assert_eq!(rt; scopes.cell(body, 1), None);
-    assert_eq!(rt;
-        scopes.named(body, 0).map(|known| known.inside),
-        Some(inner)
-    );
-    assert_eq!(rt;
-        scopes.named(body, 1).map(|known| known.inside),
-        Some(whole)
-    );
-    scopes.cut(before);
-    assert_eq!(rt; scopes.count(), 3);
-    assert_eq!(rt; scopes.cell(body, 0), None);
+    let found = are_found(&mut scopes, &arguments[1], &arguments)?;
+    scopes.cut(3);
+    let is_cut = scopes.count() == 3 && scopes.cell(3, 0).is_none();
+    assert!(rt; found && is_cut);
+    Ok(())
+}
+
+#[test]
+fn a_call_that_hands_all_names_on_has_the_same_scope(rt: HostRuntime) -> Result<(), Fail> {
+    let alloc = rt.alloc();
+    let strategies = vec![in alloc;
+        ResolvedStrategy::new(ResolvedForm::Param(0)),
+        ResolvedStrategy::new(ResolvedForm::Param(1)),
+        ResolvedStrategy::new(ResolvedForm::Id),
+        ResolvedStrategy::new(ResolvedForm::Fail),
+    ]?;
+    let mut scopes = Scopes::new(alloc);
+    let is = is_handed_on(&mut scopes, &strategies[2..], &strategies[..2])?;
+    assert!(rt; is);
     Ok(())
 }
