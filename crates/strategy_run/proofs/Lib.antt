@@ -15,3 +15,4 @@ pub mod FormLemmas
 pub mod EndLemmas
 pub mod ResultLemmas
 pub mod ArgumentLemmas
+pub mod ApplyLemmas

@@ -2,6 +2,7 @@
 use Rattle.std.proofs.Common.{◌≡◌, ◌<◌, ◌≤◌, ℕ, ◌+◌, List, [], ◌∷◌, ◌++◌, length, take, reverse, refl, sym, ap, ◌∙◌, arith, get_or, suc}
 use Rattle.std.proofs.lemmas.List.{append-nil, take_all}
 use Rattle.std.proofs.Math.Seq.{take-suc}
+use Rattle.term_paths.specs.Edits.{Edit, Edits, behind}
 use Rattle.strategy_run.specs.Trails.{path_of, step_of}
 use Rattle.strategy_run.specs.declared.frames.Frame.{Frame}
 use Rattle.strategy_run.specs.declared.frames.Frame.TheVariants.{Then, Choose, Restore, Each, Leftmost, Those, Tail, Rest, Leave, Cut}
@@ -32,3 +33,19 @@ path_more fs i f old new lt e o n =
 
 pub path_whole : (fs : List Frame) (i : ℕ) (p : List ℕ) → length fs ≤ i → p ≡ path_of (reverse (take i fs)) → p ≡ path_of (reverse fs)
 path_whole fs i p le e = e ∙ ap (λ x. path_of (reverse x)) (take_all i fs le)
+
+-- ---- edits, as places to be put in place
+
+behind-append : (p : List ℕ) (e d : Edits) → behind p (e ++ d) ≡ behind p e ++ behind p d
+behind-append p [] d = refl
+behind-append p (x ∷ e) d = ap (λ l. record { path = p ++ x.path; new = x.new } ∷ l) (behind-append p e d)
+
+-- one edit more
+pub replaced_more : (p : List ℕ) (es : Edits) (i : ℕ) (x : Edit) (old new : Edits) (r : Edit) → i < length es → x ≡ get_or es i x → old ≡ behind p (take i es)
+    → r ≡ record { path = p ++ x.path; new = x.new } → new ≡ old ++ r ∷ [] → new ≡ behind p (take (i + 1) es)
+replaced_more p es i x old new r lt e o is n =
+    n ∙ (λ k. o k ++ is k ∷ []) ∙ sym (behind-append p (take i es) (x ∷ []))
+    ∙ ap (behind p) (sym (ap (λ k. take k es) (next i) ∙ take-suc es i x lt ∙ ap (λ y. take i es ++ y ∷ []) (sym e)))
+
+pub replaced_whole : (p : List ℕ) (es T : Edits) (i : ℕ) (all : Edits) → length es ≤ i → all ≡ behind p (take i es) → es ≡ T → all ≡ behind p T
+replaced_whole p es T i all le e t = e ∙ ap (behind p) (take_all i es le ∙ t)

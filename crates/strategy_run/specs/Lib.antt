@@ -4,3 +4,4 @@ pub mod Frames
 pub mod Arguments
 pub mod Turns
 pub mod Ends
+pub mod Applies

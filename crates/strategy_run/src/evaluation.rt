@@ -1,6 +1,7 @@
 //! Strategies, run to their ends.
 
 ghost use Rattle.std.specs.Prelude.{◌≡◌, ◌≤◌, ◌+◌, IfOk};
+ghost use Rattle.term_core.specs.Size.{height};
 ghost use Rattle.strategy_meaning.specs.Answer.{Answer};
 ghost use Rattle.strategy_meaning.specs.Meaning.{World, run_whole};
 ghost use Rattle.term_changes.specs.Standing.{Standing, unchanged};
@@ -17,7 +18,7 @@ use prim_core::{Meaning, Primitives};
 use std::alloc::Global;
 use strategy_check::Program;
 use strategy_syntax::Resolved;
-use term_core::{NoMemory, Term};
+use term_core::{MAX_HEIGHT, NoMemory, Term};
 use term_values::Part;
 
 /// The answer of a strategy.
@@ -43,7 +44,7 @@ pub(crate) enum Ended<'t> {
 }
 
 /// Evaluates a strategy on a term at a level, which is the number of terms above it, in at most so many
-/// steps. The term is left as it is.
+/// steps. The term has to be low enough at its level, and is left as it is.
 pub fn evaluate<M: Meaning>(
     alloc: Global,
     program: &Program,
@@ -53,6 +54,7 @@ pub fn evaluate<M: Meaning>(
     strategy: &Resolved,
     steps: u64,
 ) -> Result<Evaluated, NoMemory>
+    requires { level + height term.now ≤ MAX_HEIGHT }
     ensures { IfOk result (λ evaluated. IsAnswered evaluated
         (run_whole (world_of M.meaning program.now.bodies primitives.now) level strategy.now steps term.now)) }
 {
@@ -77,13 +79,15 @@ pub(crate) fn run_to_end<'t, M: Meaning>(
     strategy: &'t Resolved,
     term: &'t Term,
 ) -> Result<Ended<'t>, NoMemory>
-    requires { IsEmpty m.old }
+    requires empty { IsEmpty m.old }
+    requires low { m.old.level + height term.now ≤ MAX_HEIGHT }
     ensures { IfOk result (λ ended. Ends (unchanged term.entry.now) m.new ended
         (run_whole (world_of M.meaning host.now.definitions.now host.now.primitives.now) m.old.level strategy.entry.now m.old.steps term.entry.now)) }
 {
     m.cells.open_cells(strategy.variables)?;
     let scope = m.scopes.add_variables(None, 0, strategy.variables)?;
-    let mut hand = Hand::Begin(&strategy.strategy, scope, Part::original(term));
+    let part = Part::original_within(term, MAX_HEIGHT - m.level);
+    let mut hand = Hand::Begin(&strategy.strategy, scope, part);
     'run: loop {
         match turn(alloc, host, m, hand)? {
             Turned::On(next) => hand = next,

@@ -258,8 +258,8 @@ fn fail<'t>(m: &mut Machine<'t>, frame: Frame<'t>) -> Result<Turned<'t>, NoMemor
             m.scopes.cut(scopes);
             Ok(Turned::On(Hand::Failed))
         }
-        Frame::Cut(cells, scopes) => {
-            m.cells.close_to(cells);
+        Frame::Cut(count, scopes) => {
+            m.cells.close_to(count);
             m.scopes.cut(scopes);
             Ok(Turned::On(Hand::Failed))
         }

@@ -1,6 +1,7 @@
 //! Strategies, run on terms by one machine.
 #![tactic(auto)]
 
+mod application;
 mod arguments;
 mod begin;
 mod calls;
@@ -14,7 +15,10 @@ mod machine;
 mod tails;
 mod trail;
 
+pub use application::{Outcome, apply, apply_outermost, is_low_enough};
 pub use evaluation::{Evaluated, evaluate};
 
+#[cfg(test)]
+mod application_tests;
 #[cfg(test)]
 mod tests;

@@ -4,11 +4,11 @@ use crate::{Evaluated, evaluate};
 use prim_core::{NoPrimitives, Primitives};
 use std::alloc::Global;
 use std::test::Fail;
-use strategy_check::check;
+use strategy_check::{Program, check};
 use strategy_syntax::{Place, PlaceForm, Resolved, ResolvedForm, ResolvedStrategy};
-use term_core::{NoMemory, Term};
+use term_core::{MAX_HEIGHT, NoMemory, Term};
 
-fn pair(alloc: Global, first: i64, second: i64) -> Result<Term, NoMemory> {
+pub(crate) fn pair(alloc: Global, first: i64, second: i64) -> Result<Term, NoMemory> {
     let children = vec![in alloc; Term::integer(alloc, first), Term::integer(alloc, second)]?;
     Ok(Term::tuple(alloc, children))
 }
@@ -17,7 +17,7 @@ fn matches(number: i64) -> ResolvedStrategy {
     ResolvedStrategy::new(ResolvedForm::Match(Place::new(PlaceForm::Integer(number))))
 }
 
-fn builds(number: i64) -> ResolvedStrategy {
+pub(crate) fn builds(number: i64) -> ResolvedStrategy {
     ResolvedStrategy::new(ResolvedForm::Build(Place::new(PlaceForm::Integer(number))))
 }
 
@@ -29,13 +29,30 @@ fn becomes_seven(alloc: Global, number: i64) -> Result<ResolvedStrategy, NoMemor
 
 fn evaluated(alloc: Global, strategy: ResolvedStrategy, steps: u64) -> Result<Evaluated, Fail> {
     let primitives: Primitives<NoPrimitives> = Primitives::new(Vec::new(alloc));
-    let program = check(alloc, &[], &primitives).map_err(|_| "a fault")?;
+    match check(alloc, &[], &primitives) {
+        Ok(program) => {
+            let whole = Resolved {
+                variables: 0,
+                strategy,
+            };
+            with_program(alloc, &program, &primitives, &whole, steps)
+        }
+        Err(_) => Err("a fault".into()),
+    }
+}
+
+fn with_program(
+    alloc: Global,
+    program: &Program,
+    primitives: &Primitives<NoPrimitives>,
+    strategy: &Resolved,
+    steps: u64,
+) -> Result<Evaluated, Fail> {
     let term = pair(alloc, 1, 2)?;
-    let whole = Resolved {
-        variables: 0,
-        strategy,
-    };
-    Ok(evaluate(alloc, &program, &primitives, &term, 0, &whole, steps)?)
+    if term.height() > MAX_HEIGHT {
+        return Err("a high term".into());
+    }
+    Ok(evaluate(alloc, program, primitives, &term, 0, strategy, steps)?)
 }
 
 fn gives(alloc: Global, answer: Evaluated, first: i64, second: i64) -> Result<bool, Fail> {

@@ -1,12 +1,13 @@
 //! The edits of a run: how many there are, and where they are asked for, what they are.
 
 ghost use Rattle.std.specs.Prelude.{◌≡◌, ◌++◌, ◌∷◌, [], length, reverse, IfOk, OnOk};
-ghost use Rattle.term_paths.specs.Edits.{Edits};
+ghost use Rattle.term_paths.specs.Edits.{Edits, behind};
 ghost use Rattle.strategy_run.specs.Trails.{Shows, path_of, step_of};
 
 use crate::frames::Frame;
 use std::alloc::Global;
 use std::marker::Model;
+use term_changes::Replacement;
 use term_core::NoMemory;
 use term_values::Value;
 
@@ -26,6 +27,17 @@ impl<'t> Model for Made<'t> {
     ghost coded = { edit_code };
 
     ghost view = { λ a. record { path = a.path.items; new = a.value } };
+}
+
+impl<'t> Made<'t> {
+    // With the path in front, as a term of its own.
+    fn replacement(&self, alloc: Global, path: &[usize]) -> Result<Replacement, NoMemory>
+        ensures { IfOk result (λ r. r ≡ record { path = path.now ++ self.now.path; new = self.now.new }) }
+    {
+        let mut whole = Vec::from_slice(alloc, path)?;
+        whole.extend_from_slice(&self.path)?;
+        Ok(Replacement::new(whole, self.value.to_term(alloc)?))
+    }
 }
 
 /// The edits so far, the first one first.
@@ -88,6 +100,21 @@ impl<'t> Trail<'t> {
         }
         self.count = count;
         Ok(())
+    }
+
+    /// The edits as terms of their own, in their order, with the path in front of theirs. Where they
+    /// weren't kept, there is no memory of them.
+    pub fn replacements(&self, alloc: Global, path: &[usize]) -> Result<Vec<Replacement>, NoMemory>
+        ensures { IfOk result (λ all. (T : Edits) → Shows self.now T → all.items ≡ behind path.now T) }
+    {
+        let Some(made) = &self.made else {
+            return Err(NoMemory);
+        };
+        let mut all = Vec::with_capacity(alloc, made.len())?;
+        for edit in made {
+            all.push(edit.replacement(alloc, path)?)?;
+        }
+        Ok(all)
     }
 }
 

@@ -32,7 +32,7 @@ pub returns-in-Leave-clause-ok : goal.returns-in-Leave-clause-ok
 returns-in-Leave-clause-ok c = λ W. record { keeps = λ sub whole h. fail_leave W sub whole _ _ _ _ _ _ _ c.in-Leave.scopes c.cut-in-Leave.ensures (subst (λ f. HoldsIn W sub whole (under f c.args.m.now) Failed) c.in-Leave.is h) }
 
 pub returns-clause-ok : goal.returns-clause-ok
-returns-clause-ok c = λ W. record { keeps = λ sub whole h. fail_cut W sub whole _ _ _ _ _ _ _ _ c.in-Cut.cells c.in-Cut.scopes c.cut-in-Cut.ensures c.close_to.ensures.later c.close_to.ensures.stays (subst (λ f. HoldsIn W sub whole (under f c.args.m.now) Failed) c.in-Cut.is h) }
+returns-clause-ok c = λ W. record { keeps = λ sub whole h. fail_cut W sub whole _ _ _ _ _ _ _ _ c.in-Cut.count c.in-Cut.scopes c.cut-in-Cut.ensures c.close_to.ensures.later c.close_to.ensures.stays (subst (λ f. HoldsIn W sub whole (under f c.args.m.now) Failed) c.in-Cut.is h) }
 
 pub back_to-requires : goal.back_to-requires
 back_to-requires c = let r = c.requires in (subst (λ f. HoldsIn r.0 r.1 r.2 (under f c.args.m.now) Failed) c.in-Choose.is r.3).opens.is.3

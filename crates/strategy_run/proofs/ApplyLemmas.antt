@@ -1,0 +1,163 @@
+-- Strategies applied in a slot's tree.
+use Rattle.std.proofs.Common.{◌≡◌, ◌≤◌, ◌+◌, ℕ, suc, List, [], ◌∷◌, ◌++◌, length, slice_get, Some, None, IsSome, IfSome, refl, sym, ap, subst, ◌∙◌, arith}
+use Rattle.std.proofs.lemmas.Option.{slice_get_within, get_or_from_slice_get}
+use Rattle.std.specs.Prelude.{option_and_then}
+use Rattle.std.specs.Option.{option_map_or}
+use Rattle.term_core.specs.Tree.{Tree, children}
+use Rattle.term_core.specs.Size.{height}
+use Rattle.term_core.specs.declared.TheConstants.{MAX_HEIGHT}
+use Rattle.term_core.proofs.TreeLemmas.{child-lower}
+use Rattle.term_paths.specs.Paths.{at, set_at}
+use Rattle.term_paths.proofs.PathLemmas.{at-child, at-no_child}
+use Rattle.term_paths.specs.Edits.{Edits, behind, Replaces}
+use Rattle.term_paths.proofs.EditLemmas.{edits_of_a_subterm}
+use Rattle.change_log.specs.Slots.{Slots, Store, content, with_content}
+use Rattle.change_log.specs.Entries.{Entry, slot_tree, subterm, subterm_in, put, before, after, flipped_forward, Fits, FitsForward}
+use Rattle.change_log.proofs.SlotLemmas.{same_content}
+use Rattle.change_log.proofs.EntryLemmas.{store_from_before, flipped_forward_fits}
+use Rattle.change_log.proofs.ContentsLemmas.{subterm_put}
+use Rattle.term_changes.specs.Change.{places, changed}
+use Rattle.term_changes.specs.Putting.{entries_at, entry_at, HasPlaces}
+use Rattle.term_changes.specs.Standing.{Standing, unchanged, standing_tree, standing_change, Suits}
+use Rattle.term_changes.proofs.FollowLemmas.{followers_are_the_change}
+use Rattle.term_changes.proofs.StoreLemmas.{content_put, content_twice, places_put_the_change, places_are_there}
+use Rattle.strategy_syntax.specs.declared.resolved.Resolved.{Resolved}
+use Rattle.strategy_meaning.specs.Answer.{Answer, done, failed, stopped, Stop}
+use Rattle.strategy_meaning.specs.Meaning.{World, run_whole}
+use Rattle.strategy_meaning.specs.Applied.{Outcome, gives, fails, stops, placed, applied}
+use Rattle.strategy_run.specs.Leading.{AreOutermost, Leads}
+use Rattle.strategy_run.specs.Turns.{State, IsDone}
+use Rattle.strategy_run.specs.Applies.{applied_in, Applies, PutsAll, PutsOutermost, PutsListed, AreListed, Makes, FindsAll, Finds, Lists, Stay}
+use Rattle.strategy_run.specs.declared.application.Outcome.{Outcome as Ending}
+use Rattle.strategy_run.specs.declared.application.Outcome.TheVariants.{Done, Failed, Spent, Big}
+use Rattle.strategy_run.specs.declared.application.Listing.{Listing}
+use Rattle.strategy_run.specs.declared.application.Listing.TheVariants.{Outermost, Each}
+use Rattle.strategy_run.specs.Trails.{Shows}
+use Rattle.strategy_run.proofs.PlaceLemmas.{outermost}
+
+-- ---- heights
+
+-- a subterm is as much lower as it is deeper
+pub low_at : (p : List ℕ) (t u : Tree) → at t p ≡ Some u → length p + height u ≤ height t
+low_at [] t u e = let same : t ≡ u = cc in omega (arith, ap height same)
+low_at (i ∷ p) t u e =
+    elim (slice_get (children t) i) as (λ o. slice_get (children t) i ≡ o → suc (length p) + height u ≤ height t) [
+      | None ↦ λ no. absurd (let none = sym (at-no_child t i p no) ∙ e in cc)
+      | Some kid ↦ λ some.
+          let lower = child-lower t i kid (slice_get_within (children t) i kid some) in
+          let is = ap height (get_or_from_slice_get (children t) i kid kid some) in
+          omega (arith, lower, is, low_at p kid u (sym (at-child t kid i p some) ∙ e))
+    ] refl
+
+-- ---- edits one after the other, in a slot's tree
+
+edits_make : (e : Edits) (t u : Tree) (slot : ℕ) (s : Store) → content s.trees slot ≡ Some t → Replaces e t u → Makes slot e u s
+edits_make [] t u slot s h r =
+    let there : content s.trees slot ≡ Some u = h ∙ ap (λ x. Some x) r in
+    let stays : with_content s.trees slot (Some u) ≡ s.trees = ap (with_content s.trees slot) (sym there) ∙ same_content s.trees slot in
+    record { tree = sym (λ i. record s { trees = stays i }); places = tt }
+edits_make (x ∷ e) t u slot s h r =
+    let next = set_at t x.path x.new in
+    let s1 = put (slot_tree slot (Some next)) s in
+    let once : put (entry_at slot x) s ≡ s1 = subterm_put s slot x.path t x.new h in
+    let rest = edits_make e next u slot s1 (content_put s.trees slot t next h) r.1 in
+    record {
+      tree = ap (after (entries_at slot e)) once ∙ rest.tree ∙ (λ i. record s { trees = content_twice s.trees slot (Some next) (Some u) i });
+      places = (
+        subst (λ o. IsSome (option_and_then (λ y. at y x.path) o)) (sym h) r.0,
+        subst (FitsForward (entries_at slot e)) (sym once) rest.places,
+      );
+    }
+
+-- ---- what a run finds
+
+at_place : (s : Store) (slot : ℕ) (t u : Tree) (p : List ℕ) → content s.trees slot ≡ Some t → at t p ≡ Some u → subterm_in s.trees slot p ≡ Some u
+at_place s slot t u p h k = ap (option_and_then (λ y. at y p)) h ∙ k
+
+pub applied_there : (W : World) (p : List ℕ) (r : Resolved) (b : ℕ) (t u : Tree) (a : Answer) → at t p ≡ Some u → run_whole W (length p) r b u ≡ a → applied W p r b t ≡ placed t p a
+applied_there W p r b t u a k is = ap (λ o. option_map_or (λ x. placed t p (run_whole W (length p) r b x)) o fails) k ∙ ap (placed t p) is
+
+pub applied_nowhere : (W : World) (p : List ℕ) (r : Resolved) (b : ℕ) (t : Tree) → at t p ≡ None → applied W p r b t ≡ fails
+applied_nowhere W p r b t k = ap (λ o. option_map_or (λ x. placed t p (run_whole W (length p) r b x)) o fails) k
+
+pub low_part : (p : List ℕ) (t u : Tree) → at t p ≡ Some u → IfSome (at t p) (λ x. length p + height x ≤ MAX_HEIGHT) → length p + height u ≤ MAX_HEIGHT
+low_part p t u k low = subst (λ o. IfSome o (λ x. length p + height x ≤ MAX_HEIGHT)) k low
+
+pub finds : (listing : Listing) (W : World) (p : Standing) (path : List ℕ) (ps : Edits) (t u : Tree) (r : Resolved) (b : ℕ) (S : State) (s : Store) (slot : ℕ)
+    → at t path ≡ Some u → IsDone (unchanged u) (run_whole W (length path) r b u) S p → Lists listing S.trail p path ps
+    → content s.trees slot ≡ Some t → FindsAll listing s slot (applied W path r b t) ps
+finds Outermost W p path ps t u r b S s slot k d l h =
+    let c = standing_change p in
+    let all = behind path (places c) in
+    let v = standing_tree p in
+    let made : after (entries_at slot all) s ≡ put (slot_tree slot (Some (set_at t path v))) s =
+    places_put_the_change c u slot path s (at_place s slot t u path h k)
+    ∙ subterm_put s slot path t (changed c u) h
+    ∙ ap (λ x. put (slot_tree slot (Some (set_at t path x))) s) (followers_are_the_change u p d.leads.follows) in
+    let there = places_are_there c u slot path s (at_place s slot t u path h k) (l.1 u d.leads.follows) in (
+      set_at t path v,
+      behind path d.edits,
+      applied_there W path r b t u _ k d.is,
+      subst (λ x. AreOutermost x (behind path d.edits)) (sym l.0) (outermost path u d.edits p d.leads),
+      subst (λ x. Makes slot x (set_at t path v) s) (sym l.0) (record { tree = made; places = there }),
+    )
+finds Each W p path ps t u r b S s slot k d l h =
+    let v = standing_tree p in
+    let is = l d.edits d.shows in (
+      set_at t path v,
+      behind path d.edits,
+      applied_there W path r b t u _ k d.is,
+      is,
+      subst (λ x. Makes slot x (set_at t path v) s) (sym is) (edits_make (behind path d.edits) t (set_at t path v) slot s h (edits_of_a_subterm d.edits t u v path k d.leads.made)),
+    )
+
+-- ---- what was found is put in place
+
+pub puts : (listing : Listing) (whole : Outcome) (ps : Edits) (slot : ℕ) (s t : Store) (log longer : List Entry)
+    → FindsAll listing s slot whole ps → t ≡ after (entries_at slot ps) s → longer ≡ log ++ flipped_forward (entries_at slot ps) s
+    → Applies (λ e u. PutsListed listing slot e u s log t longer) (Stay s log t longer) whole Done
+puts listing whole ps slot s t log longer f te le = (
+  f.0,
+  f.1,
+  f.2,
+  (
+    ps,
+    f.3,
+    record {
+      tree = te ∙ f.4.tree;
+      behind = le;
+      back = ap (before (flipped_forward (entries_at slot ps) s)) te ∙ store_from_before (entries_at slot ps) s;
+      fits = subst (Fits (flipped_forward (entries_at slot ps) s)) (sym te) (flipped_forward_fits (entries_at slot ps) s f.4.places);
+    },
+  ),
+)
+
+-- the condition, for the tree that is in the slot
+pub low_there : (s : Store) (slot : ℕ) (p : List ℕ) (t : Tree) → content s.trees slot ≡ Some t
+    → IfSome (subterm_in s.trees slot p) (λ u. length p + height u ≤ MAX_HEIGHT) → IfSome (at t p) (λ u. length p + height u ≤ MAX_HEIGHT)
+low_there s slot p t h low = subst (λ o. IfSome (option_and_then (λ y. at y p) o) (λ u. length p + height u ≤ MAX_HEIGHT)) h low
+
+-- what applying comes to where the slot has a tree, or none
+pub in_tree : (W : World) (s : Store) (slot : ℕ) (p : List ℕ) (r : Resolved) (b : ℕ) (t : Tree) → content s.trees slot ≡ Some t → applied_in W s.trees slot p r b ≡ applied W p r b t
+in_tree W s slot p r b t h = ap (λ o. option_map_or (applied W p r b) o fails) h
+
+pub in_none : (W : World) (s : Store) (slot : ℕ) (p : List ℕ) (r : Resolved) (b : ℕ) → content s.trees slot ≡ None → applied_in W s.trees slot p r b ≡ fails
+in_none W s slot p r b h = ap (λ o. option_map_or (applied W p r b) o fails) h
+
+-- ---- by the listing
+
+pub applies_outermost : (slot : ℕ) (s t : Store) (log longer : List Entry) (whole : Outcome) (o : Ending)
+    → Applies (λ e u. PutsListed Outermost slot e u s log t longer) (Stay s log t longer) whole o
+    → Applies (λ e u. PutsOutermost slot e u s log t longer) (Stay s log t longer) whole o
+applies_outermost slot s t log longer whole Done h = (h.0, h.1, h.2, record { places = h.3.0; outermost = h.3.1; puts = h.3.2 })
+applies_outermost slot s t log longer whole Failed h = h
+applies_outermost slot s t log longer whole Spent h = h
+applies_outermost slot s t log longer whole Big h = h
+
+pub applies_each : (slot : ℕ) (s t : Store) (log longer : List Entry) (whole : Outcome) (o : Ending)
+    → Applies (λ e u. PutsListed Each slot e u s log t longer) (Stay s log t longer) whole o
+    → Applies (λ e u. PutsAll slot e u s log t longer) (Stay s log t longer) whole o
+applies_each slot s t log longer whole Done h = (h.0, h.1, h.2, subst (λ x. PutsAll slot x h.0 s log t longer) h.3.1 h.3.2)
+applies_each slot s t log longer whole Failed h = h
+applies_each slot s t log longer whole Spent h = h
+applies_each slot s t log longer whole Big h = h

@@ -1,0 +1,45 @@
+use Rattle.std.proofs.Common.{◌≡◌, ◌∙◌, Some, None, refl, sym, ap, subst}
+use Rattle.std.specs.Prelude.{option_copied}
+use Rattle.change_log.specs.Slots.{content}
+use Rattle.strategy_meaning.specs.Applied.{applied}
+use Rattle.strategy_run.specs.Turns.{world_of}
+use Rattle.strategy_run.specs.Applies.{Finds, FindsAll, applied_in}
+use Rattle.strategy_run.specs.declared.application.Found.{Found}
+use Rattle.strategy_run.proofs.ApplyLemmas.{puts, in_tree, in_none, low_there}
+use Rattle.strategy_run.proofs.application.apply_listing.Goals as goal
+
+pub returns-in_default-clause-applies : goal.returns-in_default-clause-applies
+returns-in_default-clause-applies g c =
+    (in_none (world_of g.M.Meaning.meaning c.args.program.now.bodies c.args.primitives.now) c.args.store.now c.args.slot c.args.path.now c.args.strategy.now c.args.steps (sym c.tree.ensures ∙ ap (λ o. option_copied o) c.in_default.is), record { store = refl; log = refl })
+
+pub returns-in-Failed-clause-applies : goal.returns-in-Failed-clause-applies
+returns-in-Failed-clause-applies g c =
+    let there : content c.args.store.now.trees c.args.slot ≡ Some c.in-Some.tree.now = sym c.tree.ensures ∙ ap (λ o. option_copied o) c.in-Some.is in
+    let into = in_tree (world_of g.M.Meaning.meaning c.args.program.now.bodies c.args.primitives.now) c.args.store.now c.args.slot c.args.path.now c.args.strategy.now c.args.steps c.in-Some.tree.now there in
+    (into ∙ (subst (λ (f : Found). Finds c.args.listing c.args.store.now c.args.slot (applied (world_of g.M.Meaning.meaning c.args.program.now.bodies c.args.primitives.now) c.args.path.now c.args.strategy.now c.args.steps c.in-Some.tree.now) f) c.in-Failed.is (c.in_ok-all.ensures c.args.store.now c.args.slot there)), record { store = refl; log = refl })
+
+pub returns-in-Spent-clause-applies : goal.returns-in-Spent-clause-applies
+returns-in-Spent-clause-applies g c =
+    let there : content c.args.store.now.trees c.args.slot ≡ Some c.in-Some.tree.now = sym c.tree.ensures ∙ ap (λ o. option_copied o) c.in-Some.is in
+    let into = in_tree (world_of g.M.Meaning.meaning c.args.program.now.bodies c.args.primitives.now) c.args.store.now c.args.slot c.args.path.now c.args.strategy.now c.args.steps c.in-Some.tree.now there in
+    (into ∙ (subst (λ (f : Found). Finds c.args.listing c.args.store.now c.args.slot (applied (world_of g.M.Meaning.meaning c.args.program.now.bodies c.args.primitives.now) c.args.path.now c.args.strategy.now c.args.steps c.in-Some.tree.now) f) c.in-Spent.is (c.in_ok-all.ensures c.args.store.now c.args.slot there)), record { store = refl; log = refl })
+
+pub returns-in-Big-clause-applies : goal.returns-in-Big-clause-applies
+returns-in-Big-clause-applies g c =
+    let there : content c.args.store.now.trees c.args.slot ≡ Some c.in-Some.tree.now = sym c.tree.ensures ∙ ap (λ o. option_copied o) c.in-Some.is in
+    let into = in_tree (world_of g.M.Meaning.meaning c.args.program.now.bodies c.args.primitives.now) c.args.store.now c.args.slot c.args.path.now c.args.strategy.now c.args.steps c.in-Some.tree.now there in
+    (into ∙ (subst (λ (f : Found). Finds c.args.listing c.args.store.now c.args.slot (applied (world_of g.M.Meaning.meaning c.args.program.now.bodies c.args.primitives.now) c.args.path.now c.args.strategy.now c.args.steps c.in-Some.tree.now) f) c.in-Big.is (c.in_ok-all.ensures c.args.store.now c.args.slot there)), record { store = refl; log = refl })
+
+pub find-requires : goal.find-requires
+find-requires g c =
+    let there : content c.args.store.now.trees c.args.slot ≡ Some c.in-Some.tree.now = sym c.tree.ensures ∙ ap (λ o. option_copied o) c.in-Some.is in
+    record { low = low_there c.args.store.now c.args.slot c.args.path.now c.in-Some.tree.now there c.requires.low }
+
+pub returns-in_ok-put_in_place-in-Replaced-clause-applies : goal.returns-in_ok-put_in_place-in-Replaced-clause-applies
+returns-in_ok-put_in_place-in-Replaced-clause-applies g c =
+    let there : content c.args.store.now.trees c.args.slot ≡ Some c.in-Some.tree.now = sym c.tree.ensures ∙ ap (λ o. option_copied o) c.in-Some.is in
+    let into = in_tree (world_of g.M.Meaning.meaning c.args.program.now.bodies c.args.primitives.now) c.args.store.now c.args.slot c.args.path.now c.args.strategy.now c.args.steps c.in-Some.tree.now there in
+    let f = subst (λ (f : Found). Finds c.args.listing c.args.store.now c.args.slot (applied (world_of g.M.Meaning.meaning c.args.program.now.bodies c.args.primitives.now) c.args.path.now c.args.strategy.now c.args.steps c.in-Some.tree.now) f) c.in-Replaced.is (c.in_ok-all.ensures c.args.store.now c.args.slot there) in
+    puts c.args.listing (applied_in (world_of g.M.Meaning.meaning c.args.program.now.bodies c.args.primitives.now) c.args.store.now.trees c.args.slot c.args.path.now c.args.strategy.now c.args.steps) c.in-Replaced.all.items c.args.slot c.args.store.now c.put_in_place.new.store c.args.log.now c.put_in_place.new.log
+    (subst (λ w. FindsAll c.args.listing c.args.store.now c.args.slot w c.in-Replaced.all.items) (sym into) f)
+    c.in_ok-put_in_place-in-Replaced.ensures.store c.in_ok-put_in_place-in-Replaced.ensures.log

@@ -1,0 +1,7 @@
+use Rattle.std.proofs.Common.{◌≡◌, take}
+use Rattle.term_paths.specs.Edits.{behind}
+use Rattle.strategy_run.proofs.trail.Trail.replacements.Given as goal
+
+-- what stands for the first edits
+abbrev pub invariant-loop-edit : goal.invariant-loop-edit
+invariant-loop-edit l = l.all.items ≡ behind l.path (take l.edit-index l.edit-items)

@@ -1,0 +1,84 @@
+-- Strategies applied in the tree of a slot, through a log.
+use Rattle.std.specs.Prelude.{◌≡◌, ℕ, List, ◌++◌, Some}
+use Rattle.std.specs.Option.{option_map_or}
+use Rattle.term_core.specs.Tree.{Tree}
+use Rattle.term_paths.specs.Edits.{Edits, behind}
+use Rattle.change_log.specs.Slots.{Slots, Store, content}
+use Rattle.change_log.specs.Entries.{Entry, slot_tree, put, before, after, flipped_forward, Fits, FitsForward}
+use Rattle.term_changes.specs.Change.{places}
+use Rattle.term_changes.specs.Putting.{entries_at, HasPlaces}
+use Rattle.term_changes.specs.Standing.{Standing, Suits, standing_change}
+use Rattle.strategy_syntax.specs.declared.resolved.Resolved.{Resolved}
+use Rattle.strategy_meaning.specs.Answer.{spent, big}
+use Rattle.strategy_meaning.specs.Meaning.{World}
+use Rattle.strategy_meaning.specs.Applied.{Outcome, gives, fails, stops, applied}
+use Rattle.strategy_run.specs.Leading.{AreOutermost}
+use Rattle.strategy_run.specs.declared.application.Outcome.{Outcome as Ending}
+use Rattle.strategy_run.specs.declared.application.Outcome.TheVariants.{Done, Failed, Spent, Big}
+use Rattle.strategy_run.specs.declared.application.Found.{Found}
+use Rattle.strategy_run.specs.declared.application.Found.TheVariants as founds
+use Rattle.strategy_run.specs.declared.application.Listing.{Listing}
+use Rattle.strategy_run.specs.declared.application.Listing.TheVariants.{Outermost, Each}
+use Rattle.strategy_run.specs.Trails.{Shows}
+use Rattle.strategy_run.specs.declared.trail.Trail.{Trail}
+
+-- what applying comes to in a slot's tree; where the slot has none, it fails
+abbrev pub applied_in : World → Slots Tree → ℕ → List ℕ → Resolved → ℕ → Outcome
+applied_in W slots i p r b = option_map_or (applied W p r b) (content slots i) fails
+
+-- From a store and a log to these: the slot's tree is u, by an entry behind the log for each of the
+-- edits, in their order. These entries lead back, and fit.
+pub record PutsAll (slot : ℕ) (e : Edits) (u : Tree) (s : Store) (log : List Entry) (t : Store) (longer : List Entry) : Type 0 where
+  pub tree : t ≡ put (slot_tree slot (Some u)) s
+  pub behind : longer ≡ log ++ flipped_forward (entries_at slot e) s
+  pub back : before (flipped_forward (entries_at slot e) s) t ≡ s
+  pub fits : Fits (flipped_forward (entries_at slot e) s) t
+
+-- The same with an entry for each of the outermost places of the edits alone.
+pub record PutsOutermost (slot : ℕ) (e : Edits) (u : Tree) (s : Store) (log : List Entry) (t : Store) (longer : List Entry) : Type 0 where
+  pub places : Edits
+  pub outermost : AreOutermost places e
+  pub puts : PutsAll slot places u s log t longer
+
+-- How applying ends, by what it comes to. Where it gives a tree, that is put in place; else all stays.
+abbrev pub Applies : (Edits → Tree → Type 0) → Type 0 → Outcome → Ending → Type 0
+Applies Puts Stays whole Done = (u : Tree) × (e : Edits) × (whole ≡ gives u e) × Puts e u
+Applies Puts Stays whole Failed = (whole ≡ fails) × Stays
+Applies Puts Stays whole Spent = (whole ≡ stops spent) × Stays
+Applies Puts Stays whole Big = (whole ≡ stops big) × Stays
+
+-- a store and a log that stay
+pub record Stay (s : Store) (entries : List Entry) (t : Store) (longer : List Entry) : Type 0 where
+  pub store : t ≡ s
+  pub log : longer ≡ entries
+
+-- ---- on the way
+
+-- These are the edits that get an entry.
+abbrev pub AreListed : Listing → Edits → Edits → Type 0
+AreListed Outermost ps e = AreOutermost ps e
+AreListed Each ps e = ps ≡ e
+
+abbrev pub PutsListed : Listing → ℕ → Edits → Tree → Store → List Entry → Store → List Entry → Type 0
+PutsListed listing slot e u s log t longer = (ps : Edits) × AreListed listing ps e × PutsAll slot ps u s log t longer
+
+-- Made one after the other, they make u the slot's tree, and each finds its place.
+pub record Makes (slot : ℕ) (ps : Edits) (u : Tree) (s : Store) : Type 0 where
+  pub tree : after (entries_at slot ps) s ≡ put (slot_tree slot (Some u)) s
+  pub places : FitsForward (entries_at slot ps) s
+
+abbrev pub FindsAll : Listing → Store → ℕ → Outcome → Edits → Type 0
+FindsAll listing s slot whole ps = (u : Tree) × (e : Edits) × (whole ≡ gives u e) × AreListed listing ps e × Makes slot ps u s
+
+-- What applying comes to, before anything is put in place.
+abbrev pub Finds : Listing → Store → ℕ → Outcome → Found → Type 0
+Finds listing s slot whole (founds.Replaced ps) = FindsAll listing s slot whole ps.items
+Finds listing s slot whole founds.Failed = whole ≡ fails
+Finds listing s slot whole founds.Spent = whole ≡ stops spent
+Finds listing s slot whole founds.Big = whole ≡ stops big
+
+-- What is listed of a run that ended with p, at the path.
+abbrev pub Lists : Listing → Trail → Standing → List ℕ → Edits → Type 0
+Lists Outermost trail p path ps =
+    (ps ≡ behind path (places (standing_change p))) × ((t : Tree) → Suits t p → HasPlaces t (standing_change p))
+Lists Each trail p path ps = (e : Edits) → Shows trail e → ps ≡ behind path e

@@ -1,0 +1,239 @@
+//! Strategies, applied in the tree of a slot.
+
+ghost use Rattle.std.specs.Prelude.{[], ◌≡◌, ◌≤◌, ◌+◌, ℕ, Some, length, Decides, IfOk, IfSome, OnErr};
+ghost use Rattle.term_core.specs.Size.{height};
+ghost use Rattle.term_paths.specs.Paths.{at as found_at};
+ghost use Rattle.change_log.specs.Slots.{Store, content};
+ghost use Rattle.change_log.specs.Entries.{subterm_in};
+ghost use Rattle.strategy_meaning.specs.Applied.{applied};
+ghost use Rattle.strategy_run.specs.Trails.{Shows};
+ghost use Rattle.strategy_run.specs.Turns.{world_of};
+ghost use Rattle.strategy_run.specs.Applies.{Applies, PutsAll, PutsOutermost, PutsListed, Stay, Finds, Lists, applied_in};
+
+use crate::evaluation::{Ended, run_to_end};
+use crate::machine::{Host, Machine};
+use crate::trail::Trail;
+use change_log::{Log, Store};
+use prim_core::{Meaning, Primitives};
+use std::alloc::Global;
+use strategy_check::Program;
+use strategy_syntax::Resolved;
+use term_changes::{Replacement, put_in_place};
+use term_core::{MAX_HEIGHT, NoMemory, Term};
+use term_paths::{Path, at};
+use term_values::Part;
+
+/// How applying a strategy ends.
+#[derive(Clone, Copy, Debug, PartialEq, Eq, Drop)]
+pub enum Outcome {
+    /// It gives a term, which stands in the tree now.
+    Done,
+    /// It fails, or there is no subterm at the path.
+    Failed,
+    /// No step is left.
+    Spent,
+    /// A term doesn't fit.
+    Big,
+}
+
+// Which of the edits of a run get an entry in the log.
+#[derive(Clone, Copy, Drop)]
+pub(crate) enum Listing {
+    Outermost,
+    Each,
+}
+
+// What applying comes to, before anything is put in place.
+#[derive(Drop)]
+pub(crate) enum Found {
+    Replaced(Vec<Replacement>),
+    Failed,
+    Spent,
+    Big,
+}
+
+/// Whether what stands at the path of the slot's tree is low enough for [`apply`] and
+/// [`apply_outermost`]: the length of the path and the height of the subterm are together at most
+/// 1,000, or there is no subterm. It walks over the subterm.
+pub fn is_low_enough(store: &Store, slot: usize, path: &Path) -> bool
+    ensures { Decides result (IfSome (subterm_in store.now.trees slot path.now) (λ u. length path.now + height u ≤ MAX_HEIGHT)) }
+{
+    let Some(tree) = store.tree(slot) else {
+        return true;
+    };
+    let Some(subterm) = at(tree, path) else {
+        return true;
+    };
+    match MAX_HEIGHT.checked_sub(path.len() as u64) {
+        Some(room) => subterm.height() <= room,
+        None => false,
+    }
+}
+
+/// Applies a strategy to the subterm at the path of the slot's tree, in at most so many steps. The log
+/// gets an entry for each of the outermost places that were replaced, and none where nothing was. What
+/// was built and replaced again on the way costs no term of its own. The subterm has to be low enough at
+/// its level, which is the length of the path ([`is_low_enough`]); in a tree that fits, each is.
+///
+/// On every answer but `Done`, and where a growth of memory is refused, store and log stay as they were.
+pub fn apply_outermost<M: Meaning>(
+    alloc: Global,
+    program: &Program,
+    primitives: &Primitives<M>,
+    store: &mut Store,
+    slot: usize,
+    path: &Path,
+    strategy: &Resolved,
+    steps: u64,
+    log: &mut Log,
+) -> Result<Outcome, NoMemory>
+    requires low { IfSome (subterm_in store.old.trees slot path.now) (λ u. length path.now + height u ≤ MAX_HEIGHT) }
+    ensures applies { IfOk result (λ outcome. Applies
+        (λ e u. PutsOutermost slot e u store.old log.old store.new log.new) (Stay store.old log.old store.new log.new)
+        (applied_in (world_of M.meaning program.now.bodies primitives.now) store.old.trees slot path.now strategy.now steps) outcome) }
+    ensures store_err { OnErr result (store.new ≡ store.old) }
+    ensures log_err { OnErr result (log.new ≡ log.old) }
+{
+    apply_listing(
+        alloc,
+        program,
+        primitives,
+        store,
+        slot,
+        path,
+        strategy,
+        steps,
+        log,
+        Listing::Outermost,
+    )
+}
+
+/// The same as [`apply_outermost`], with an entry in the log for each edit, in the order in which they
+/// were made, so that each rewriting step can be read there.
+pub fn apply<M: Meaning>(
+    alloc: Global,
+    program: &Program,
+    primitives: &Primitives<M>,
+    store: &mut Store,
+    slot: usize,
+    path: &Path,
+    strategy: &Resolved,
+    steps: u64,
+    log: &mut Log,
+) -> Result<Outcome, NoMemory>
+    requires low { IfSome (subterm_in store.old.trees slot path.now) (λ u. length path.now + height u ≤ MAX_HEIGHT) }
+    ensures applies { IfOk result (λ outcome. Applies
+        (λ e u. PutsAll slot e u store.old log.old store.new log.new) (Stay store.old log.old store.new log.new)
+        (applied_in (world_of M.meaning program.now.bodies primitives.now) store.old.trees slot path.now strategy.now steps) outcome) }
+    ensures store_err { OnErr result (store.new ≡ store.old) }
+    ensures log_err { OnErr result (log.new ≡ log.old) }
+{
+    apply_listing(
+        alloc,
+        program,
+        primitives,
+        store,
+        slot,
+        path,
+        strategy,
+        steps,
+        log,
+        Listing::Each,
+    )
+}
+
+fn apply_listing<M: Meaning>(
+    alloc: Global,
+    program: &Program,
+    primitives: &Primitives<M>,
+    store: &mut Store,
+    slot: usize,
+    path: &Path,
+    strategy: &Resolved,
+    steps: u64,
+    log: &mut Log,
+    listing: Listing,
+) -> Result<Outcome, NoMemory>
+    requires low { IfSome (subterm_in store.old.trees slot path.now) (λ u. length path.now + height u ≤ MAX_HEIGHT) }
+    ensures applies { IfOk result (λ outcome. Applies
+        (λ e u. PutsListed listing slot e u store.old log.old store.new log.new) (Stay store.old log.old store.new log.new)
+        (applied_in (world_of M.meaning program.now.bodies primitives.now) store.old.trees slot path.now strategy.now steps) outcome) }
+    ensures store_err { OnErr result (store.new ≡ store.old) }
+    ensures log_err { OnErr result (log.new ≡ log.old) }
+{
+    let Some(tree) = store.tree(slot) else {
+        return Ok(Outcome::Failed);
+    };
+    match find(
+        alloc, program, primitives, tree, path, strategy, steps, listing,
+    )? {
+        Found::Replaced(all) => {
+            put_in_place(all, slot, store, log)?;
+            Ok(Outcome::Done)
+        }
+        Found::Failed => Ok(Outcome::Failed),
+        Found::Spent => Ok(Outcome::Spent),
+        Found::Big => Ok(Outcome::Big),
+    }
+}
+
+// Runs the strategy on the subterm at the path of the tree, which stays.
+fn find<M: Meaning>(
+    alloc: Global,
+    program: &Program,
+    primitives: &Primitives<M>,
+    tree: &Term,
+    path: &Path,
+    strategy: &Resolved,
+    steps: u64,
+    listing: Listing,
+) -> Result<Found, NoMemory>
+    requires low { IfSome (found_at tree.now path.now) (λ u. length path.now + height u ≤ MAX_HEIGHT) }
+    ensures { IfOk result (λ found. (s : Store) (slot : ℕ) → content s.trees slot ≡ Some tree.now → Finds listing s slot
+        (applied (world_of M.meaning program.now.bodies primitives.now) path.now strategy.now steps tree.now) found) }
+{
+    let Some(term) = at(tree, path) else {
+        return Ok(Found::Failed);
+    };
+    let host = Host {
+        definitions: program.definitions(),
+        primitives,
+    };
+    let trail = trail_for(alloc, listing);
+    let mut m = Machine::new(alloc, trail, path.len() as u64, steps);
+    match run_to_end(alloc, &host, &mut m, strategy, term)? {
+        Ended::Done(part) => {
+            let all = replacements(alloc, listing, &m.trail, &part, path.parts())?;
+            Ok(Found::Replaced(all))
+        }
+        Ended::Failed => Ok(Found::Failed),
+        Ended::Spent => Ok(Found::Spent),
+        Ended::Big => Ok(Found::Big),
+    }
+}
+
+// The trail that the listing needs, without edits.
+fn trail_for<'t>(alloc: Global, listing: Listing) -> Trail<'t>
+    ensures { Shows result [] }
+{
+    match listing {
+        Listing::Outermost => Trail::counted(),
+        Listing::Each => Trail::listed(alloc),
+    }
+}
+
+// What is to be put in place, as terms of their own.
+fn replacements(
+    alloc: Global,
+    listing: Listing,
+    trail: &Trail<'_>,
+    part: &Part<'_>,
+    path: &[usize],
+) -> Result<Vec<Replacement>, NoMemory>
+    ensures { IfOk result (λ all. Lists listing trail.now part.now path.now all.items) }
+{
+    match listing {
+        Listing::Outermost => part.replacements(alloc, path),
+        Listing::Each => trail.replacements(alloc, path),
+    }
+}
