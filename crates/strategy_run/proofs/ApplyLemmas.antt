@@ -11,28 +11,27 @@ use Rattle.term_paths.specs.Paths.{at, set_at}
 use Rattle.term_paths.proofs.PathLemmas.{at-child, at-no_child}
 use Rattle.term_paths.specs.Edits.{Edits, behind, Replaces}
 use Rattle.term_paths.proofs.EditLemmas.{edits_of_a_subterm}
-use Rattle.change_log.specs.Slots.{Slots, Store, content, with_content}
-use Rattle.change_log.specs.Entries.{Entry, slot_tree, subterm, subterm_in, put, before, after, flipped_forward, Fits, FitsForward}
+use Rattle.change_log.specs.Slots.{Store, content, with_content}
+use Rattle.change_log.specs.Entries.{Entry, slot_tree, subterm_in, put, before, after, flipped_forward, Fits, FitsForward}
 use Rattle.change_log.proofs.SlotLemmas.{same_content}
 use Rattle.change_log.proofs.EntryLemmas.{store_from_before, flipped_forward_fits}
 use Rattle.change_log.proofs.ContentsLemmas.{subterm_put}
 use Rattle.term_changes.specs.Change.{places, changed}
-use Rattle.term_changes.specs.Putting.{entries_at, entry_at, HasPlaces}
-use Rattle.term_changes.specs.Standing.{Standing, unchanged, standing_tree, standing_change, Suits}
+use Rattle.term_changes.specs.Putting.{entries_at, entry_at}
+use Rattle.term_changes.specs.Standing.{Standing, unchanged, standing_tree, standing_change}
 use Rattle.term_changes.proofs.FollowLemmas.{followers_are_the_change}
 use Rattle.term_changes.proofs.StoreLemmas.{content_put, content_twice, places_put_the_change, places_are_there}
 use Rattle.strategy_syntax.specs.declared.resolved.Resolved.{Resolved}
-use Rattle.strategy_meaning.specs.Answer.{Answer, done, failed, stopped, Stop}
+use Rattle.strategy_meaning.specs.Answer.{Answer}
 use Rattle.strategy_meaning.specs.Meaning.{World, run_whole}
-use Rattle.strategy_meaning.specs.Applied.{Outcome, gives, fails, stops, placed, applied}
-use Rattle.strategy_run.specs.Leading.{AreOutermost, Leads}
+use Rattle.strategy_meaning.specs.Applied.{Outcome, fails, placed, applied}
+use Rattle.strategy_run.specs.Leading.{AreOutermost}
 use Rattle.strategy_run.specs.Turns.{State, IsDone}
-use Rattle.strategy_run.specs.Applies.{applied_in, Applies, PutsAll, PutsOutermost, PutsListed, AreListed, Makes, FindsAll, Finds, Lists, Stay}
+use Rattle.strategy_run.specs.Applies.{applied_in, Applies, PutsAll, PutsOutermost, PutsListed, Makes, FindsAll, Lists, Stay}
 use Rattle.strategy_run.specs.declared.application.Outcome.{Outcome as Ending}
 use Rattle.strategy_run.specs.declared.application.Outcome.TheVariants.{Done, Failed, Spent, Big}
 use Rattle.strategy_run.specs.declared.application.Listing.{Listing}
 use Rattle.strategy_run.specs.declared.application.Listing.TheVariants.{Outermost, Each}
-use Rattle.strategy_run.specs.Trails.{Shows}
 use Rattle.strategy_run.proofs.PlaceLemmas.{outermost}
 
 -- ---- heights

@@ -1,6 +1,6 @@
 -- Calls of definitions and primitives.
 use Rattle.std.proofs.lemmas.Option.{slice_get_past, slice_get-get_or}
-use Rattle.std.proofs.Common.{◌≡◌, ◌<◌, ◌≤◌, get_or, ℕ, ◌+◌, List, ◌++◌, length, map, replicate, sym, ap, ◌∙◌, subst, Some, None, Bor, slice_get}
+use Rattle.std.proofs.Common.{◌≡◌, ◌<◌, ◌≤◌, get_or, ℕ, ◌+◌, List, ◌++◌, length, map, replicate, reverse, sym, ap, ◌∙◌, subst, Some, None, Bor, slice_get}
 use Rattle.std.proofs.lemmas.List.{append_assoc}
 use Rattle.term_core.specs.Tree.{Tree}
 use Rattle.term_changes.specs.Standing.{Standing, standing_tree}
@@ -12,12 +12,11 @@ use Rattle.strategy_meaning.specs.Meaning.{World, run, form, enter, opened}
 use Rattle.strategy_scopes.specs.Table.{scopes, scope_at}
 use Rattle.term_match.specs.Contents.{Contents}
 use Rattle.strategy_run.specs.Arguments.{AreBuilt}
-use Rattle.strategy_run.specs.Turns.{State, state_of, HoldsIn, FormIn, Enters}
+use Rattle.strategy_run.specs.Turns.{State, state_of, HoldsIn, FormIn}
+use Rattle.strategy_run.specs.Endings.{Enters}
 use Rattle.strategy_run.specs.declared.machine.Machine.{Machine}
 use Rattle.strategy_run.specs.declared.arguments.BuiltAll.TheVariants.{All}
-use Rattle.strategy_run.specs.declared.frames.Frame.TheVariants.{Cut}
 use Rattle.strategy_run.specs.declared.frames.Hand.TheVariants.{Begin}
-use Rattle.strategy_run.proofs.OpenLemmas.{pushed}
 use Rattle.strategy_run.proofs.TakeLemmas.{celled, some_is, none_is, take_opened}
 
 pub form_cells : (W : World) (sub : Standing) (whole : Answer) (S : State) (r : ResolvedStrategy) (n : ℕ) (p : Standing) (D : Contents) → D ≡ S.cells → FormIn W sub whole S r n p → FormIn W sub whole (celled S D) r n p
@@ -37,11 +36,11 @@ entered W sub whole m new f ss ps d s n inner p k e se en h =
     let E = scope_at (scopes m.scopes) n in
     let us = m.arguments.items in
     subst (λ (S : State). HoldsIn W sub whole S (Begin s inner p))
-    (λ i. record { cells = new.cells; scopes = scopes new.scopes; trail = sym en.rest.0 i; level = sym en.rest.1 i; frames = sym (pushed m.frames.items new.frames.items (Cut (length m.cells.bindings) (length (scopes m.scopes))) en.frames) i; steps = sym en.rest.2 i })
-    (take_opened W sub whole (state_of m) (call f ss ps) s n inner p (inside (numbers_from (length m.cells.bindings) (length us + d.variables)) (arguments E ss)) (map Some us ++ replicate d.variables None) new.cells (scopes new.scopes)
+    (λ i. record { cells = new.cells; scopes = scopes new.scopes; trail = sym en.rest.0 i; level = sym en.rest.1 i; frames = reverse new.frames.items; steps = sym en.rest.2 i })
+    (take_opened W sub whole (state_of m) (call f ss ps) s n inner p (inside (numbers_from (length m.cells.bindings) (length us + d.variables)) (arguments E ss)) (map Some us ++ replicate d.variables None) new.cells (scopes new.scopes) (reverse new.frames.items)
     (k m.steps _ ∙ some_is (slice_get W.bodies f) d m.steps (λ x. enter (run W) ss E us x m.level m.steps m.cells.bindings (standing_tree p)) e
     ∙ ap (λ (r : ResolvedStrategy). opened (run W) (inside (numbers_from (length m.cells.bindings) (length us + d.variables)) (arguments E ss)) (map Some us ++ replicate d.variables None) m.level r m.steps m.cells.bindings (standing_tree p)) (sym se))
-    en.there en.scope en.starts (en.cells ∙ append_assoc m.cells.bindings (map Some us) (replicate d.variables None)) en.later en.stays h)
+    en.there en.scope (en.cells ∙ append_assoc m.cells.bindings (map Some us) (replicate d.variables None)) (en.room W sub whole p) h)
 
 pub slice_past : {A : Type 0} (xs : List A) (i : ℕ) → length xs ≤ i → slice_get xs i ≡ None
 slice_past xs i le = slice_get_past xs i le

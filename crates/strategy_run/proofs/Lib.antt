@@ -6,6 +6,7 @@ pub mod TakeLemmas
 pub mod ChildLemmas
 pub mod GiveLemmas
 pub mod FailLemmas
+pub mod EndingLemmas
 pub mod ScopeLemmas
 pub mod TrailLemmas
 pub mod TailLemmas

@@ -1,8 +1,7 @@
 -- What a form leads to when its step is paid.
-use Rattle.std.proofs.Common.{◌≡◌, ◌<◌, ◌≤◌, ℕ, ◌+◌, ◌-◌, zero, suc, List, [], ◌∷◌, ◌++◌, length, take, replicate, reverse, refl, sym, ap, ◌∙◌, subst, arith, Some, None, Bool, true, false, cond, Bor, Vec, Global}
+use Rattle.std.proofs.Common.{◌≡◌, ◌<◌, ℕ, ◌+◌, ◌-◌, zero, suc, List, [], ◌∷◌, ◌++◌, length, replicate, reverse, refl, sym, ap, ◌∙◌, subst, arith, Some, None, Bool, true, false, cond, Bor, Vec, Global}
 use Rattle.std.specs.declared.option.Option.{Option}
-use Rattle.std.proofs.lemmas.List.{append-nil, length-append, length-take}
-use Rattle.std.proofs.Math.Seq.{get_or-append_seam, take-append_seam}
+use Rattle.std.proofs.lemmas.List.{append-nil}
 use Rattle.term_core.specs.Tree.{Head, Tree, children}
 use Rattle.term_core.specs.Size.{fits}
 use Rattle.term_paths.specs.Edits.{Edits}
@@ -14,7 +13,7 @@ use Rattle.strategy_meaning.specs.Matching.{Bindings, match_place, elements}
 use Rattle.strategy_meaning.specs.Answer.{Stop, Answer, done, failed, stopped, spent, big, either, with_edits, and_then, at_root}
 use Rattle.strategy_meaning.specs.Meaning.{World, run, form, with_some, built, each, leftmost, those_done, on_rest, is_over, is_list_from, on_child, cut, opened}
 use Rattle.strategy_meaning.proofs.StepLemmas.{one_step_is_one_form}
-use Rattle.strategy_scopes.specs.Table.{nowhere, scopes, scope_at, Starts, Stands, closure_of}
+use Rattle.strategy_scopes.specs.Table.{scopes, scope_at, Stands, closure_of}
 use Rattle.strategy_scopes.specs.declared.scopes.Known.{Known}
 use Rattle.term_match.specs.Contents.{Contents}
 use Rattle.term_match.specs.Marks.{kept, mark_of, Before, Stays}
@@ -22,17 +21,20 @@ use Rattle.strategy_run.specs.Leading.{Has, node_now, PartsStand}
 use Rattle.strategy_run.specs.Trails.{Shows, path_of}
 use Rattle.strategy_run.specs.Frames.{Opens, Meets, acts_list}
 use Rattle.strategy_run.specs.Turns.{State, state_of, HoldsIn, FormIn, Replaced}
+use Rattle.strategy_run.specs.Endings.{AnswersIn, with_those}
 use Rattle.strategy_run.specs.declared.machine.Machine.{Machine}
 use Rattle.strategy_run.specs.declared.trail.Trail.{Trail}
 use Rattle.strategy_run.specs.declared.frames.Acts.{Acts}
 use Rattle.strategy_run.specs.declared.frames.Acts.TheVariants.{Same, List as Listed}
 use Rattle.strategy_run.specs.declared.frames.Frame.{Frame}
-use Rattle.strategy_run.specs.declared.frames.Frame.TheVariants.{Then, Choose, Restore, Tail, Leave, Cut}
+use Rattle.strategy_run.specs.declared.frames.Frame.TheVariants.{Then, Choose, Restore, Tail}
 use Rattle.strategy_run.specs.declared.frames.Hand.{Hand}
 use Rattle.strategy_run.specs.declared.frames.Hand.TheVariants.{Begin, Done, Failed, Each, Leftmost, Those}
 use Rattle.strategy_run.proofs.LeadLemmas.{leads_fresh}
 use Rattle.strategy_run.proofs.NodeLeads.{none_stand}
-use Rattle.strategy_run.proofs.OpenLemmas.{with_edits-and_then, with_edits-cut, and_then-done, opens_along, opens_through, opens_on, opens_new, before_self, meets_kept, opens_kept, meets_stopped}
+use Rattle.strategy_run.proofs.ScopeLemmas.{one_more_there, one_more_is}
+use Rattle.strategy_run.proofs.EndingLemmas.{form_answers, begun, along}
+use Rattle.strategy_run.proofs.OpenLemmas.{with_edits-and_then, and_then-done, opens_along, opens_through, opens_on, opens_new, before_self, opens_kept, meets_stopped}
 
 -- the same with other frames
 abbrev pub framed : State → List Frame → State
@@ -215,55 +217,27 @@ take_test W sub whole S s1 n p h = record {
 
 -- ---- scopes
 
-starts_length : (xs ys : List Scope) → take (length xs) ys ≡ xs → length xs ≤ length ys
-starts_length xs ys e = omega (arith, ap (λ (l : List Scope). length l) e, length-take (length xs) ys)
-
--- new cells and a scope, which end behind the strategy
-pub take_opened : (W : World) (sub : Standing) (whole : Answer) (S : State) (r : ResolvedStrategy) (s : Bor ResolvedStrategy) (n inner : ℕ) (p : Standing) (E : Scope) (new : Bindings) (D : Contents) (es : List Scope)
+-- Room for more cells and a scope, which end behind the strategy.
+pub take_opened : (W : World) (sub : Standing) (whole : Answer) (S : State) (r : ResolvedStrategy) (s : Bor ResolvedStrategy) (n inner : ℕ) (p : Standing) (E : Scope) (new : Bindings) (D : Contents) (es : List Scope) (fs : List Frame)
     → answers W S r n p ≡ opened (run W) E new S.level s.now S.steps S.cells.bindings (standing_tree p)
-    → inner < length es → scope_at es inner ≡ E → Starts S.scopes es → D.bindings ≡ S.cells.bindings ++ new
-    → Before (mark_of S.cells) (mark_of D) → Stays (mark_of S.cells) S.cells D
-    → FormIn W sub whole S r n p
-    → HoldsIn W sub whole (record { cells = D; scopes = es; trail = S.trail; level = S.level; frames = Cut (length S.cells.bindings) (length S.scopes) ∷ S.frames; steps = S.steps }) (Begin s inner p)
-take_opened W sub whole S r s n inner p E new D es a lt is st de b sy h = record {
-  now = p;
-  edits = h.edits;
-  shows = h.shows;
-  in_hand = (lt, refl);
-  opens = opens_through _ _ (λ start base e x. (
-    starts_length S.scopes es st,
-    b.0,
-    meets_kept W sub whole S.cells D (mark_of S.cells) (record { count = length S.cells.bindings; filled = length D.filled }) (take (length S.scopes) es) S.level S.frames start base _ (omega arith, b.1) sy
-        (subst (λ (y : List Scope). Meets W sub whole S.cells (mark_of S.cells) y S.level S.frames start base (cut (length S.cells.bindings) (with_edits e (run W (scope_at es inner) S.level s.now S.steps D.bindings (standing_tree p))))) (sym st)
-        (subst (Meets W sub whole S.cells (mark_of S.cells) S.scopes S.level S.frames start base)
-        (with_edits-cut e (length S.cells.bindings) _) x)),
-  ))
-      (opens_along _ _ (a ∙ (λ i. cut (length S.cells.bindings) (run W ((sym is) i) S.level s.now S.steps ((sym de) i) (standing_tree p)))) h.opens);
-}
+    → inner < length es → scope_at es inner ≡ E → D.bindings ≡ S.cells.bindings ++ new
+    → ((a : Answer) → AnswersIn W sub whole S p (cut (length S.cells.bindings) a) → AnswersIn W sub whole (with_those S D es fs) p a)
+    → FormIn W sub whole S r n p → HoldsIn W sub whole (with_those S D es fs) (Begin s inner p)
+take_opened W sub whole S r s n inner p E new D es fs a lt is de room h =
+    begun W sub whole (with_those S D es fs) s inner p lt
+    (room _ (along W sub whole S p _ _ (a ∙ (λ i. cut (length S.cells.bindings) (run W ((sym is) i) S.level s.now S.steps ((sym de) i) (standing_tree p)))) (form_answers W sub whole S r n p h)))
 
--- `rec`: a scope, which ends behind the strategy
-pub take_named : (W : World) (sub : Standing) (whole : Answer) (S : State) (s body : Bor ResolvedStrategy) (n inner : ℕ) (p : Standing) (es : List Scope)
-    → s.now ≡ rec body.now → inner ≡ length S.scopes
-    → es ≡ S.scopes ++ with_name (scope_at S.scopes n) s.now (scope_at S.scopes n) ∷ []
-    → FormIn W sub whole S (rec body.now) n p
-    → HoldsIn W sub whole (record { cells = S.cells; scopes = es; trail = S.trail; level = S.level; frames = Leave (length S.scopes) ∷ S.frames; steps = S.steps }) (Begin body inner p)
-take_named W sub whole S s body n inner p es is at e h =
-    let E = with_name (scope_at S.scopes n) s.now (scope_at S.scopes n) in
-    let there : scope_at es inner ≡ E = (λ i. scope_at (e i) (at i)) ∙ get_or-append_seam S.scopes E [] nowhere in
-    let first : take (length S.scopes) es ≡ S.scopes = ap (take (length S.scopes)) e ∙ take-append_seam S.scopes (E ∷ []) in
-    let count : length es ≡ length S.scopes + 1 = ap (λ (l : List Scope). length l) e ∙ length-append S.scopes (E ∷ []) in
-    record {
-      now = p;
-      edits = h.edits;
-      shows = h.shows;
-      in_hand = (omega (arith, count, at), refl);
-      opens = opens_through _ _ (λ start base x r. (
-        omega (arith, count),
-        subst (λ (y : List Scope). Meets W sub whole S.cells (mark_of S.cells) y S.level S.frames start base (with_edits x (run W (scope_at es inner) S.level body.now S.steps S.cells.bindings (standing_tree p)))) (sym first) r,
-      ))
-          (opens_along _ _ (ap (λ (F : Scope). run W F S.level body.now S.steps S.cells.bindings (standing_tree p))
-          (ap (λ (r : ResolvedStrategy). with_name (scope_at S.scopes n) r (scope_at S.scopes n)) (sym is) ∙ sym there)) h.opens);
-    }
+-- `rec`: room for a scope, which ends behind the strategy
+pub take_named : (W : World) (sub : Standing) (whole : Answer) (S : State) (s body : Bor ResolvedStrategy) (n inner : ℕ) (p : Standing) (mid es : List Scope) (fs : List Frame)
+    → s.now ≡ rec body.now → inner ≡ length mid → scope_at mid n ≡ scope_at S.scopes n
+    → es ≡ mid ++ with_name (scope_at mid n) s.now (scope_at mid n) ∷ []
+    → ((a : Answer) → AnswersIn W sub whole S p a → AnswersIn W sub whole (with_those S S.cells es fs) p a)
+    → FormIn W sub whole S (rec body.now) n p → HoldsIn W sub whole (with_those S S.cells es fs) (Begin body inner p)
+take_named W sub whole S s body n inner p mid es fs is at same e room h =
+    let E = with_name (scope_at mid n) s.now (scope_at mid n) in
+    begun W sub whole (with_those S S.cells es fs) body inner p (one_more_there mid es E at e)
+    (room _ (along W sub whole S p _ _ (ap (λ (F : Scope). run W F S.level body.now S.steps S.cells.bindings (standing_tree p))
+    ((λ i. with_name (sym same i) (sym is i) (sym same i)) ∙ sym (one_more_is mid es E at e))) (form_answers W sub whole S (rec body.now) n p h)))
 
 -- what a name stands for
 pub take_known : (W : World) (sub : Standing) (whole : Answer) (S : State) (x n : ℕ) (p : Standing) (known : Known)

@@ -5,3 +5,4 @@ pub mod Arguments
 pub mod Turns
 pub mod Ends
 pub mod Applies
+pub mod Endings

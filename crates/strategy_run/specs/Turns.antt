@@ -1,27 +1,26 @@
 -- What a turn of the machine keeps, and that a run ends.
-use Rattle.std.specs.Prelude.{◌≡◌, ◌<◌, ℕ, ◌+◌, ◌-◌, ◌*◌, ◌==◌, not, cond, List, [], ◌∷◌, ◌++◌, length, map, replicate, reverse, slice_set, vec_len, Vec, Some, None}
+use Rattle.std.specs.Prelude.{◌≡◌, ◌<◌, ℕ, ◌+◌, ◌-◌, ◌*◌, ◌==◌, not, cond, List, [], ◌∷◌, ◌++◌, length, reverse, slice_set, vec_len, Vec}
 use Rattle.std.specs.Global.{Global}
 use Rattle.std.specs.declared.option.Option.{Option}
 use Rattle.term_core.specs.Tree.{Tree, children}
 use Rattle.term_paths.specs.Edits.{Edits}
 use Rattle.term_changes.specs.Standing.{Standing, fresh, standing_tree}
 use Rattle.prim_core.specs.Signature.{Signature}
-use Rattle.strategy_syntax.specs.Resolved.{ResolvedStrategy, ResolvedStrategies}
+use Rattle.strategy_syntax.specs.Resolved.{ResolvedStrategy}
 use Rattle.strategy_syntax.specs.declared.resolved.Resolved.{Resolved}
-use Rattle.strategy_meaning.specs.Scopes.{Scope, inside, numbers_from, arguments}
+use Rattle.strategy_meaning.specs.Scopes.{Scope}
 use Rattle.strategy_meaning.specs.Matching.{Bindings}
 use Rattle.strategy_meaning.specs.Answer.{Answer, done, failed, stopped, spent, big}
 use Rattle.strategy_meaning.specs.Meaning.{World, run, form, each, leftmost, those_done}
-use Rattle.strategy_scopes.specs.Table.{scopes, scope_at, Starts}
+use Rattle.strategy_scopes.specs.Table.{scopes, scope_at}
 use Rattle.term_match.specs.Contents.{Contents}
-use Rattle.term_match.specs.Marks.{mark_of, Before, Stays}
+use Rattle.term_match.specs.Marks.{mark_of}
 use Rattle.strategy_run.specs.Leading.{Leads, Has, node_now, parts_now, PartsStand}
 use Rattle.strategy_run.specs.Trails.{Shows, path_of}
 use Rattle.strategy_run.specs.Frames.{Meets, Opens, acts_list}
 use Rattle.strategy_run.specs.declared.trail.Trail.{Trail}
 use Rattle.strategy_run.specs.declared.frames.Walk.{Walk}
 use Rattle.strategy_run.specs.declared.frames.Frame.{Frame}
-use Rattle.strategy_run.specs.declared.frames.Frame.TheVariants.{Cut}
 use Rattle.strategy_run.specs.declared.frames.Hand.{Hand}
 use Rattle.strategy_run.specs.declared.frames.Hand.TheVariants.{Begin, Done, Failed, Each, Leftmost, Those}
 use Rattle.strategy_run.specs.declared.frames.Turned.{Turned}
@@ -155,19 +154,6 @@ pub record Replaced (m : Machine) (u : Tree) (new : Machine) (p : Standing) : Ty
   pub shows : (T : Edits) → Shows m.trail T
       → Shows new.trail (T ++ record { path = path_of (reverse m.frames.items); new = u } ∷ [])
   pub rest : (new.frames ≡ m.frames) × (new.cells ≡ m.cells) × (new.scopes ≡ m.scopes) × (new.level ≡ m.level) × (new.steps ≡ m.steps)
-
--- The body of a definition was entered, whose strategies were written in scope n: cells hold the
--- arguments, others are empty, and a frame ends cells and scopes.
-pub record Enters (m : Machine) (ss : ResolvedStrategies) (d : Resolved) (n : ℕ) (new : Machine) (inner : ℕ) : Type 0 where
-  pub there : inner < length (scopes new.scopes)
-  pub scope : scope_at (scopes new.scopes) inner
-      ≡ inside (numbers_from (length m.cells.bindings) (length m.arguments.items + d.variables)) (arguments (scope_at (scopes m.scopes) n) ss)
-  pub starts : Starts (scopes m.scopes) (scopes new.scopes)
-  pub cells : new.cells.bindings ≡ (m.cells.bindings ++ map Some m.arguments.items) ++ replicate d.variables None
-  pub later : Before (mark_of m.cells) (mark_of new.cells)
-  pub stays : Stays (mark_of m.cells) m.cells new.cells
-  pub frames : new.frames.items ≡ m.frames.items ++ Cut (length m.cells.bindings) (length (scopes m.scopes)) ∷ []
-  pub rest : (new.trail ≡ m.trail) × (new.level ≡ m.level) × (new.steps ≡ m.steps)
 
 -- ---- an answer, given to a frame that was taken off
 

@@ -4,11 +4,13 @@ ghost use Rattle.std.specs.Prelude.{◌≡◌, ◌<◌, ◌++◌, map, replicate
 ghost use Rattle.strategy_syntax.specs.Resolved.{scope as scope_form, rec, param, call, prim, resolveds_of, places_of};
 ghost use Rattle.strategy_scopes.specs.Table.{scopes as scopes_of};
 ghost use Rattle.strategy_meaning.specs.Meaning.{World, primitive_answer};
-ghost use Rattle.strategy_run.specs.Turns.{Takes, TakeFalls, Enters, world_of};
+ghost use Rattle.strategy_run.specs.Turns.{Takes, TakeFalls, world_of};
+ghost use Rattle.strategy_run.specs.Endings.{Enters};
 
 use crate::arguments::{BuiltAll, build_all, open_arguments, owned_terms};
+use crate::endings::{end_cells, end_scopes};
 use crate::forms::replace;
-use crate::frames::{Frame, Hand, Turned};
+use crate::frames::{Hand, Turned};
 use crate::machine::{Host, Machine};
 use prim_core::Meaning;
 use std::alloc::Global;
@@ -33,7 +35,7 @@ pub(crate) fn take_scope<'t>(
     if first.checked_add(count).is_none() {
         return Err(NoMemory);
     }
-    m.frames.push(Frame::Cut(first, m.scopes.count()))?;
+    end_cells(m, scope)?;
     m.cells.open_cells(count)?;
     let inner = m.scopes.add_variables(Some(scope), first, count)?;
     Ok(Turned::On(Hand::Begin(strategy, inner, part)))
@@ -52,7 +54,7 @@ pub(crate) fn take_rec<'t>(
     ensures ok { (W : World) → IfOk result (λ next. Takes W m.old (rec body.entry.now) scope part.entry m.new next) }
     ensures less { IfOk result (λ next. TakeFalls m.old m.new next) }
 {
-    m.frames.push(Frame::Leave(m.scopes.count()))?;
+    end_scopes(m, scope)?;
     let known = Known {
         strategy: whole,
         inside: scope,
@@ -133,7 +135,7 @@ fn enter<'t>(
     if first.checked_add(count).is_none() {
         return Err(NoMemory);
     }
-    m.frames.push(Frame::Cut(first, m.scopes.count()))?;
+    end_cells(m, scope)?;
     open_arguments(&mut m.cells, &m.arguments)?;
     m.cells.open_cells(body.variables)?;
     Ok(m.scopes.add_call(scope, strategies, first, count)?)

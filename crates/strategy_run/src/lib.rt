@@ -7,6 +7,7 @@ mod begin;
 mod calls;
 mod children;
 mod congruence;
+mod endings;
 mod evaluation;
 mod forms;
 mod frames;

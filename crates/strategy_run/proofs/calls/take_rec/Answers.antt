@@ -1,15 +1,27 @@
-use Rattle.std.proofs.Common.{◌∙◌, ◌∷◌, reverse}
-use Rattle.strategy_run.proofs.TakeLemmas.{with_frames, take_named}
-use Rattle.strategy_run.specs.Turns.{state_of}
-use Rattle.strategy_run.proofs.OpenLemmas.{pushed}
-use Rattle.strategy_run.specs.declared.frames.Frame.TheVariants.{Leave}
+use Rattle.std.proofs.Common.{sym, subst, reverse}
 use Rattle.strategy_scopes.specs.Table.{scopes}
-use Rattle.strategy_run.proofs.GiveLemmas.{st}
+use Rattle.strategy_run.specs.Turns.{State, HoldsIn, state_of}
+use Rattle.strategy_run.specs.Endings.{frames_of}
+use Rattle.strategy_run.specs.declared.frames.Hand.TheVariants.{Begin}
+use Rattle.strategy_run.proofs.TakeLemmas.{take_named}
+use Rattle.strategy_run.proofs.ScopeLemmas.{one_more_starts}
 use Rattle.strategy_run.proofs.calls.take_rec.Goals as goal
+
+pub add_name-requires-clause-there : goal.add_name-requires-clause-there
+add_name-requires-clause-there c = c.in_ok-end_scopes.ensures.there
+
+pub add_name-requires-clause-written : goal.add_name-requires-clause-written
+add_name-requires-clause-written c = c.in_ok-end_scopes.ensures.there
 
 pub returns-clause-ok : goal.returns-clause-ok
 returns-clause-ok c = λ W. record {
-  keeps = λ sub whole h. with_frames W sub whole (st c.args.m.now.cells (scopes c.add_name.new.self) c.args.m.now.trail c.args.m.now.level c.args.m.now.steps (reverse c.args.m.now.frames.items)) _ _ _
-      (pushed _ _ _ c.in_ok-push.ensures.items ∙ (λ i. Leave (c.count.ensures i) ∷ reverse c.args.m.now.frames.items))
-      (take_named W sub whole (state_of c.args.m.now) c.args.whole c.args.body c.args.scope c.in_ok-inner.inner c.args.part (scopes c.add_name.new.self) c.requires.whole c.in_ok-inner.ensures.number c.in_ok-inner.ensures.ok h);
+  keeps = λ sub whole h.
+      let r = c.in_ok-end_scopes.ensures in
+      let mid = c.end_scopes.new.m in
+      let es = scopes c.add_name.new.self in
+      subst (λ (S : State). HoldsIn W sub whole S (Begin c.args.body c.in_ok-inner.inner c.args.part))
+      (λ i. record { cells = sym r.rest.0 i; scopes = es; trail = sym r.rest.1 i; level = sym r.rest.3 i; frames = reverse mid.frames.items; steps = sym r.rest.4 i })
+      (take_named W sub whole (state_of c.args.m.now) c.args.whole c.args.body c.args.scope c.in_ok-inner.inner c.args.part (scopes mid.scopes) es (frames_of mid)
+      c.requires.whole c.in_ok-inner.ensures.number r.same c.in_ok-inner.ensures.ok
+      (λ a x. r.room W sub whole c.args.part a x es (one_more_starts _ _ _ c.in_ok-inner.ensures.ok)) h);
 }

@@ -1,4 +1,4 @@
-use Rattle.std.proofs.Common.{◌≡◌, ◌∙◌, sym, ap, subst}
+use Rattle.std.proofs.Common.{◌∙◌, subst}
 use Rattle.strategy_run.specs.Trails.{Keeps}
 use Rattle.strategy_run.proofs.TrailLemmas.{replaced_more, replaced_whole}
 use Rattle.strategy_run.proofs.trail.Trail.replacements.Goals as goal
