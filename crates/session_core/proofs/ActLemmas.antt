@@ -20,7 +20,7 @@ use Rattle.session_core.specs.declared.timeline.Timeline.{Timeline}
 use Rattle.session_core.specs.declared.refusal.Refusal.{Refusal}
 use Rattle.session_core.specs.declared.refusal.Refusal.TheVariants.{Memory, NoTree, Path, Big, Group as InGroup, NoGroup}
 use Rattle.session_core.proofs.StepLemmas.{place_there, place_missing, place_none, passed, held, missed, stopped}
-use Rattle.session_core.proofs.SoundLemmas.{act_sound, step_sound, LeavesModules, step_leaves, committed_leaves}
+use Rattle.session_core.proofs.SoundLemmas.{StandsOn, act_sound, step_sound, LeavesModules, step_leaves, committed_leaves}
 
 pub on_err : {A E : Type 0} {P : Type 0} (r : Result A E) → P → OnErr r P
 on_err (Ok x) p = tt
@@ -71,13 +71,13 @@ module _ {A : Type 0} (act : Act) (r : Result A Refusal) (ps : List Signature) (
       by (Ok x) err = tt
       by (Err e) err = err ps ∙ seen
 
-  pub sound_seen : OnOk r ((ps : List Signature) → ComesTo act (unfolded ps old) (Ok (unfolded ps new))) → OnErr r ((ps : List Signature) → unfolded ps new ≡ unfolded ps old)
+  pub sound_seen : StandsOn act → OnOk r ((ps : List Signature) → ComesTo act (unfolded ps old) (Ok (unfolded ps new))) → OnErr r ((ps : List Signature) → unfolded ps new ≡ unfolded ps old)
       → HasSoundContents (unfolded ps old) → HasSoundContents (unfolded ps new)
-  sound_seen ok err sound = act_sound act r h (unfolded ps new) (ok_seen ok) (err_seen err) (subst HasSoundContents seen sound)
+  sound_seen stands ok err sound = act_sound act r h (unfolded ps new) stands (ok_seen ok) (err_seen err) (subst HasSoundContents seen sound)
 
   -- the same where it is known what came of the call
-  pub stepped_sound : ((ps : List Signature) → ComesTo act (unfolded ps old) (Ok (unfolded ps new))) → HasSoundContents (unfolded ps old) → HasSoundContents (unfolded ps new)
-  stepped_sound ok sound = step_sound act (unfolded ps old) (unfolded ps new) sound (ok ps)
+  pub stepped_sound : StandsOn act → ((ps : List Signature) → ComesTo act (unfolded ps old) (Ok (unfolded ps new))) → HasSoundContents (unfolded ps old) → HasSoundContents (unfolded ps new)
+  stepped_sound stands ok sound = step_sound act (unfolded ps old) (unfolded ps new) stands sound (ok ps)
 
 -- ---- the program that a session keeps
 
@@ -90,6 +90,12 @@ module _ (ps : List Signature) (old new : Timeline) (kept : Option Program) wher
       → OnErr r ((ps : List Signature) → unfolded ps new ≡ unfolded ps old) → IsKept ps (contents old.store).modules kept → IsKept ps (contents new.store).modules kept
   kept_seen act (Ok x) leaves ok err k = subst (λ (texts : Texts). IsKept ps texts kept) (sym (step_leaves act (unfolded ps old) (unfolded ps new) leaves (ok ps))) k
   kept_seen act (Err e) leaves ok err k = kept_same (err ps) k
+
+  -- the same of an act that is known of these primitives alone
+  pub kept_said : {A : Type 0} (act : Act) (r : Result A Refusal) → LeavesModules act → OnOk r (ComesTo act (unfolded ps old) (Ok (unfolded ps new)))
+      → OnErr r (unfolded ps new ≡ unfolded ps old) → IsKept ps (contents old.store).modules kept → IsKept ps (contents new.store).modules kept
+  kept_said act (Ok x) leaves ok err k = subst (λ (texts : Texts). IsKept ps texts kept) (sym (step_leaves act (unfolded ps old) (unfolded ps new) leaves ok)) k
+  kept_said act (Err e) leaves ok err k = kept_same err k
 
   -- and where a group was closed
   pub kept_closed : (group : Group) → (unfolded ps old).group ≡ Some group → IsSomeAnd (unfolded ps old).group (λ g. unfolded ps new ≡ committed g (unfolded ps old))
@@ -132,7 +138,7 @@ module _ (s : Store) (name : List ℕ) (apart : AreApart s.trees) where
   no_place path o here none = place_none (contents s) name path (tree_gone_of o here none)
 
   -- a name with a tree
-  tree_held : (i : ℕ) (tree : Tree) → Some i ≡ slot_of s.trees name → content s.trees i ≡ Some tree → finmap.get (contents s).trees name ≡ Some tree
+  pub tree_held : (i : ℕ) (tree : Tree) → Some i ≡ slot_of s.trees name → content s.trees i ≡ Some tree → finmap.get (contents s).trees name ≡ Some tree
   tree_held i tree here is = tree_of_name s name apart ∙ ap (option_and_then (content s.trees)) (sym here) ∙ is
 
   pub the_tree_of : (i : ℕ) (tree : Tree) → Some i ≡ slot_of s.trees name → content s.trees i ≡ Some tree → tree_of (contents s) name ≡ Ok tree
@@ -216,7 +222,7 @@ module _ (t : Timeline) (name path : List ℕ) (i : ℕ) (there : IsPlaceOf t.st
       some_of None h = absurd (cc)
       some_of (Some u) h = refl
 
-  abbrev the_place : Place
+  abbrev pub the_place : Place
   the_place = record { tree = there.0; part = seen_place.0 }
 
   module _ (ps : List Signature) where

@@ -6,3 +6,4 @@ pub mod TimelineLemmas
 pub mod PlaceLemmas
 pub mod CheckLemmas
 pub mod ActLemmas
+pub mod ApplyLemmas

@@ -18,9 +18,13 @@ use Rattle.strategy_check.specs.Faults.{Primitives}
 use Rattle.change_log.specs.Contents.{Contents, Named, no_contents, with_tree, without_tree, with_module, without_module}
 use Rattle.strategy_check.specs.Programs.{Program}
 use Rattle.strategy_check.specs.Faults.{first}
+use Rattle.strategy_syntax.specs.Syntax.{Strategy}
+use Rattle.strategy_meaning.specs.Applied.{Outcome as Ending, gives, fails, stops, IfGiven, applied}
+use Rattle.strategy_meaning.specs.Laws.{AppliedKeepsHeights}
 use Rattle.session_core.specs.Modules.{Texts, ReadsAsModule, AreReadable, AreRead, Finds, GivesProgram, Checks}
 use Rattle.session_core.specs.History.{Group, History, stepped, changed, newest, older, back_to, forward_to, step_back, step_forward, undone, redone, AreLow, AreFormed, AreSound, IsSoundNow, HasSoundContents}
-use Rattle.session_core.specs.Step.{Act, set_tree, copy_tree, drop_tree, put, annotate, set_module, unload, undo, redo, begin, commit, abandon, Passing, Leaves, ChangesTo, ChangesModules, Given, PutsAt, AnnotatesAt, ComesTo, tree_of, text_of, place_of, committed}
+use Rattle.session_core.specs.Step.{Act, set_tree, copy_tree, drop_tree, put, annotate, set_module, unload, apply, undo, redo, begin, commit, abandon, Passing, Leaves, ChangesTo, ChangesModules, Given, PutsAt, AnnotatesAt, AppliesAt, Place, Outcome, ComesTo, tree_of, text_of, place_of, committed}
+use Rattle.session_core.specs.Applying.{ReadsAsStrategy, resolved_in, world_in, given_by}
 use Rattle.session_core.specs.Laws.{ChangeIsToContents}
 use Rattle.session_core.specs.declared.refusal.Refusal.{Refusal}
 use Rattle.session_core.specs.declared.refusal.Refusal.TheVariants.{NoTree, Big, NoUndo, NoRedo, Group as InGroup, NoGroup}
@@ -236,11 +240,16 @@ program_finds ps texts p is = record { modules = is.modules; are = is.are; fault
 
 -- ---- acts that change the trees alone
 
+-- what the soundness of an act stands on: of an apply, that strategies keep heights
+abbrev pub StandsOn : Act → Type 0
+StandsOn (apply meaning name path steps text) = AppliedKeepsHeights
+StandsOn act = Unit {0}
+
 -- Such a change keeps trees low.
-pub record TreesChange (h g : History) : Type 0 where
+pub record TreesChange (act : Act) (h g : History) : Type 0 where
   pub trees : Named Tree
   pub is : g ≡ changed (record h.now { trees = trees }) h
-  pub low : AreLow h.now.trees → AreLow trees
+  pub low : StandsOn act → AreLow h.now.trees → AreLow trees
 
 abbrev pub ChangesTrees : Act → Type 0
 ChangesTrees (set_tree name tree) = Unit {0}
@@ -250,6 +259,7 @@ ChangesTrees (put name path part) = Unit {0}
 ChangesTrees (annotate name path us) = Unit {0}
 ChangesTrees (set_module name text) = ⊥
 ChangesTrees (unload name) = ⊥
+ChangesTrees (apply meaning name path steps text) = Unit {0}
 ChangesTrees (undo k) = ⊥
 ChangesTrees (redo k) = ⊥
 ChangesTrees begin = ⊥
@@ -259,28 +269,34 @@ ChangesTrees abandon = ⊥
 low_at : (c : Contents) (name : List ℕ) (t : Tree) → get c.trees name ≡ Some t → AreLow c.trees → height t ≤ MAX_HEIGHT
 low_at c name t e low = subst (λ (o : Option Tree). IfSome o (λ t. height t ≤ MAX_HEIGHT)) e (low name)
 
-pub trees_change : (act : Act) (h g : History) → ChangesTrees act → ComesTo act h (Ok g) → TreesChange h g
+-- what is given where heights are kept
+given_low : (o : Ending) (t : Tree) → given_by o ≡ Ok t → IfGiven o (λ u e. height u ≤ MAX_HEIGHT) → height t ≤ MAX_HEIGHT
+given_low (gives u e) t is low = let same : u ≡ t = cc in subst (λ (x : Tree). height x ≤ MAX_HEIGHT) same low
+given_low fails t is low = absurd (cc)
+given_low (stops why) t is low = absurd (cc)
+
+pub trees_change : (act : Act) (h g : History) → ChangesTrees act → ComesTo act h (Ok g) → TreesChange act h g
 trees_change (set_tree name tree) h g only done =
     let fit = holding_Ok (fits 0 tree) Big (ChangesTo (with_tree h.now name tree) h) g done in
     let within = height_of_fit 0 tree fit.0 in
     record {
       trees = finmap.insert h.now.trees name tree;
       is = same_Ok (changed (with_tree h.now name tree) h) g fit.1;
-      low = λ low. low_with_tree h.now.trees name tree low (omega (arith, within));
+      low = λ _ low. low_with_tree h.now.trees name tree low (omega (arith, within));
     }
 trees_change (copy_tree name copy) h g only done =
     let there = passing_Ok (tree_of h.now name) (λ t. ChangesTo (with_tree h.now copy t) h) g done in
     record {
       trees = finmap.insert h.now.trees copy there.0;
       is = same_Ok (changed (with_tree h.now copy there.0) h) g there.2;
-      low = λ low. low_with_tree h.now.trees copy there.0 low (low_at h.now name there.0 (ok_or-Ok (get h.now.trees name) NoTree there.0 there.1) low);
+      low = λ _ low. low_with_tree h.now.trees copy there.0 low (low_at h.now name there.0 (ok_or-Ok (get h.now.trees name) NoTree there.0 there.1) low);
     }
 trees_change (drop_tree name) h g only done =
     let there = passing_Ok (tree_of h.now name) (λ t. ChangesTo (without_tree h.now name) h) g done in
     record {
       trees = finmap.remove h.now.trees name;
       is = same_Ok (changed (without_tree h.now name) h) g there.2;
-      low = λ low. low_without_tree h.now.trees name low;
+      low = λ _ low. low_without_tree h.now.trees name low;
     }
 trees_change (put name path part) h g only done =
     let there = passing_Ok (place_of h.now name path) (PutsAt name path part h) g done in
@@ -289,7 +305,7 @@ trees_change (put name path part) h g only done =
     record {
       trees = finmap.insert h.now.trees name tree;
       is = same_Ok (changed (with_tree h.now name tree) h) g fit.1;
-      low = λ low. low_with_tree h.now.trees name tree low (height_of_set there.0.tree part path (low_at h.now name there.0.tree (place_tree h.now name path there.0 there.1) low) fit.0);
+      low = λ _ low. low_with_tree h.now.trees name tree low (height_of_set there.0.tree part path (low_at h.now name there.0.tree (place_tree h.now name path there.0 there.1) low) fit.0);
     }
 trees_change (annotate name path us) h g only done =
     let there = passing_Ok (place_of h.now name path) (AnnotatesAt name path us h) g done in
@@ -298,10 +314,27 @@ trees_change (annotate name path us) h g only done =
     record {
       trees = finmap.insert h.now.trees name tree;
       is = same_Ok (changed (with_tree h.now name tree) h) g fit.1;
-      low = λ low. low_with_tree h.now.trees name tree low (height_of_annotated there.0.tree us path (low_at h.now name there.0.tree (place_tree h.now name path there.0 there.1) low) fit.0);
+      low = λ _ low. low_with_tree h.now.trees name tree low (height_of_annotated there.0.tree us path (low_at h.now name there.0.tree (place_tree h.now name path there.0 there.1) low) fit.0);
     }
 trees_change (set_module name text) h g only done = absurd only
 trees_change (unload name) h g only done = absurd only
+trees_change (apply meaning name path steps text) h g only done =
+    let Resolves : Place → Strategy → Program → Outcome → Type 0 = λ place s program. Passing (resolved_in program h.primitives s) (AppliesAt meaning name path steps h place program) in
+    let Checked : Place → Strategy → Outcome → Type 0 = λ place s. Given (Checks h.primitives h.now.modules) (Resolves place s) in
+    let Read : Place → Outcome → Type 0 = λ place. Given (ReadsAsStrategy text) (Checked place) in
+    let there = passing_Ok (place_of h.now name path) Read g done in
+    let read = given_Ok (ReadsAsStrategy text) (Checked there.0) g there.2 in
+    let checked = given_Ok (Checks h.primitives h.now.modules) (Resolves there.0 read.0) g read.2 in
+    let whole = passing_Ok (resolved_in checked.0 h.primitives read.0) (AppliesAt meaning name path steps h there.0 checked.0) g checked.2 in
+    let ending = applied (world_in meaning checked.0 h.primitives) path whole.0 steps there.0.tree in
+    let given = passing_Ok (given_by ending) (λ tree. ChangesTo (with_tree h.now name tree) h) g whole.2 in
+    record {
+      trees = finmap.insert h.now.trees name given.0;
+      is = same_Ok (changed (with_tree h.now name given.0) h) g given.2;
+      low = λ keeps low.
+          let within = low_at h.now name there.0.tree (place_tree h.now name path there.0 there.1) low in
+          low_with_tree h.now.trees name given.0 low (given_low ending given.0 given.1 (keeps (world_in meaning checked.0 h.primitives) path whole.0 steps there.0.tree within));
+    }
 trees_change (undo k) h g only done = absurd only
 trees_change (redo k) h g only done = absurd only
 trees_change begin h g only done = absurd only
@@ -309,11 +342,11 @@ trees_change commit h g only done = absurd only
 trees_change abandon h g only done = absurd only
 
 -- a change of the trees leaves the modules as they are
-trees_sound : (act : Act) (h g : History) → ChangesTrees act → HasSoundContents h → ComesTo act h (Ok g) → HasSoundContents g
-trees_sound act h g only s done =
+trees_sound : (act : Act) (h g : History) → ChangesTrees act → StandsOn act → HasSoundContents h → ComesTo act h (Ok g) → HasSoundContents g
+trees_sound act h g only stands s done =
     let change = trees_change act h g only done in
     let formed = formed_now h.primitives h.now h.group s.1 in
-    subst HasSoundContents (sym change.is) (sound_changed (record h.now { trees = change.trees }) h s (change.low formed.0, formed.1) (λ closed. (sound_outside h s closed).1))
+    subst HasSoundContents (sym change.is) (sound_changed (record h.now { trees = change.trees }) h s (change.low stands formed.0, formed.1) (λ closed. (sound_outside h s closed).1))
 
 trees_leave : (act : Act) (h g : History) → ChangesTrees act → ComesTo act h (Ok g) → g.now.modules ≡ h.now.modules
 trees_leave act h g only done =
@@ -340,44 +373,45 @@ moved h g o refusal done =
     let there = passing_Ok (ok_or o refusal) Leaves g done in
     ok_or-Ok o refusal there.0 there.1 ∙ ap (λ (x : History). Some x) (sym (same_Ok there.0 g there.2))
 
-pub step_sound : (act : Act) (h g : History) → HasSoundContents h → ComesTo act h (Ok g) → HasSoundContents g
-step_sound (set_tree name tree) h g s done = trees_sound (set_tree name tree) h g tt s done
-step_sound (copy_tree name copy) h g s done = trees_sound (copy_tree name copy) h g tt s done
-step_sound (drop_tree name) h g s done = trees_sound (drop_tree name) h g tt s done
-step_sound (put name path part) h g s done = trees_sound (put name path part) h g tt s done
-step_sound (annotate name path us) h g s done = trees_sound (annotate name path us) h g tt s done
-step_sound (set_module name text) h g s done =
+pub step_sound : (act : Act) (h g : History) → StandsOn act → HasSoundContents h → ComesTo act h (Ok g) → HasSoundContents g
+step_sound (set_tree name tree) h g stands s done = trees_sound (set_tree name tree) h g tt tt s done
+step_sound (copy_tree name copy) h g stands s done = trees_sound (copy_tree name copy) h g tt tt s done
+step_sound (drop_tree name) h g stands s done = trees_sound (drop_tree name) h g tt tt s done
+step_sound (put name path part) h g stands s done = trees_sound (put name path part) h g tt tt s done
+step_sound (annotate name path us) h g stands s done = trees_sound (annotate name path us) h g tt tt s done
+step_sound (set_module name text) h g stands s done =
     let read = given_Ok (ReadsAsModule text) (λ m. ChangesModules h.group (with_module h.now name text) h) g done in
     let formed = formed_now h.primitives h.now h.group s.1 in
     modules_sound (with_module h.now name text) h g s (formed.0, readable_with h.now.modules name text read.0 formed.1 read.1) read.2
-step_sound (unload name) h g s done =
+step_sound (unload name) h g stands s done =
     let there = passing_Ok (text_of h.now name) (λ text. ChangesModules h.group (without_module h.now name) h) g done in
     let formed = formed_now h.primitives h.now h.group s.1 in
     modules_sound (without_module h.now name) h g s (formed.0, readable_without h.now.modules name formed.1) there.2
-step_sound (undo k) h g s done =
+step_sound (apply meaning name path steps text) h g stands s done = trees_sound (apply meaning name path steps text) h g tt stands s done
+step_sound (undo k) h g stands s done =
     let there = holding_Ok (is_none h.group) InGroup (Passing (ok_or (undone k h) NoUndo) Leaves) g done in
     sound_whole g (whole_undone k h g (whole h s (none_of h.group there.0)) (moved h g (undone k h) NoUndo there.1))
-step_sound (redo k) h g s done =
+step_sound (redo k) h g stands s done =
     let there = holding_Ok (is_none h.group) InGroup (Passing (ok_or (redone k h) NoRedo) Leaves) g done in
     sound_whole g (whole_redone k h g (whole h s (none_of h.group there.0)) (moved h g (redone k h) NoRedo there.1))
-step_sound begin h g s done =
+step_sound begin h g stands s done =
     let begun : History = record h { group = Some (record { begun = h.now; changed = false }) } in
     let there = holding_Ok (is_none h.group) InGroup (Leaves begun) g done in
     let now = sound_outside h s (none_of h.group there.0) in
     subst HasSoundContents (sym (same_Ok begun g there.1)) (s.0, (now.0, now, refl), s.2)
-step_sound commit h g s done =
+step_sound commit h g stands s done =
     let there = passing_Ok (ok_or h.group NoGroup) (λ group. Given (Checks h.primitives h.now.modules) (λ p. Leaves (committed group h))) g done in
     let checked = given_Ok (Checks h.primitives h.now.modules) (λ p. Leaves (committed there.0 h)) g there.2 in
     subst HasSoundContents (sym (same_Ok (committed there.0 h) g checked.2)) (sound_committed there.0 h s (ok_or-Ok h.group NoGroup there.0 there.1) (program_finds h.primitives h.now.modules checked.0 checked.1))
-step_sound abandon h g s done =
+step_sound abandon h g stands s done =
     let there = passing_Ok (ok_or h.group NoGroup) (λ group. Leaves (record h { now = group.begun; group = None })) g done in
     let left : History = record h { now = there.0.begun; group = None } in
     subst HasSoundContents (sym (same_Ok left g there.2)) (s.0, sound_begun h there.0 s (ok_or-Ok h.group NoGroup there.0 there.1), s.2)
 
 -- an act that is accepted leaves what the machine does, and a refused one leaves all
-pub act_sound : {A E : Type 0} (act : Act) (r : Result A E) (old new : History) → OnOk r (ComesTo act old (Ok new)) → OnErr r (new ≡ old) → HasSoundContents old → HasSoundContents new
-act_sound act (Ok x) old new ok err s = step_sound act old new s ok
-act_sound act (Err e) old new ok err s = subst HasSoundContents (sym err) s
+pub act_sound : {A E : Type 0} (act : Act) (r : Result A E) (old new : History) → StandsOn act → OnOk r (ComesTo act old (Ok new)) → OnErr r (new ≡ old) → HasSoundContents old → HasSoundContents new
+act_sound act (Ok x) old new stands ok err s = step_sound act old new stands s ok
+act_sound act (Err e) old new stands ok err s = subst HasSoundContents (sym err) s
 
 -- an accepted change gives contents by a change
 pub change_is_to_contents : ChangeIsToContents
@@ -392,6 +426,7 @@ change_is_to_contents (set_module name text) h g change done =
 change_is_to_contents (unload name) h g change done =
     let there = passing_Ok (text_of h.now name) (λ text. ChangesModules h.group (without_module h.now name) h) g done in
     (without_module h.now name, (modules_change h.group (without_module h.now name) h g there.2).0)
+change_is_to_contents (apply meaning name path steps text) h g change done = let t = trees_change (apply meaning name path steps text) h g tt done in (record h.now { trees = t.trees }, t.is)
 change_is_to_contents (undo k) h g change done = absurd change
 change_is_to_contents (redo k) h g change done = absurd change
 change_is_to_contents begin h g change done = absurd change
@@ -408,6 +443,7 @@ LeavesModules (put name path part) = Unit {0}
 LeavesModules (annotate name path us) = Unit {0}
 LeavesModules (set_module name text) = ⊥
 LeavesModules (unload name) = ⊥
+LeavesModules (apply meaning name path steps text) = Unit {0}
 LeavesModules (undo k) = ⊥
 LeavesModules (redo k) = ⊥
 LeavesModules begin = Unit {0}
@@ -422,6 +458,7 @@ step_leaves (put name path part) h g leaves done = trees_leave (put name path pa
 step_leaves (annotate name path us) h g leaves done = trees_leave (annotate name path us) h g tt done
 step_leaves (set_module name text) h g leaves done = absurd leaves
 step_leaves (unload name) h g leaves done = absurd leaves
+step_leaves (apply meaning name path steps text) h g leaves done = trees_leave (apply meaning name path steps text) h g tt done
 step_leaves (undo k) h g leaves done = absurd leaves
 step_leaves (redo k) h g leaves done = absurd leaves
 step_leaves begin h g leaves done =

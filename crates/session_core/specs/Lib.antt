@@ -1,6 +1,7 @@
 pub mod Refusal
 pub mod Steps
 pub mod Modules
+pub mod Applying
 pub mod History
 pub mod Codes
 pub mod Unfolded

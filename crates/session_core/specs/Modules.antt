@@ -5,6 +5,7 @@ use Rattle.std.specs.declared.result.Result.{Result}
 use Rattle.std.specs.FinMap as finmap
 use Rattle.strategy_syntax.specs.Modules.{Module}
 use Rattle.strategy_tokens.specs.declared.TheConstants.{MAX_TOKENS}
+use Rattle.strategy_tokens.specs.declared.token.Token.{Token}
 use Rattle.strategy_tokens.specs.Tokens.{tokens}
 use Rattle.strategy_parse.specs.Gives.{GivesModule}
 use Rattle.strategy_check.specs.Tables.{Modules}
@@ -19,13 +20,18 @@ use Rattle.session_core.specs.declared.refusal.Refusal.TheVariants.{Memory, Deep
 abbrev pub Texts : Type 0
 Texts = Named (List ℕ)
 
--- What a text gives that is to be a module. One of over 4,000 tokens is refused before it is read.
-abbrev pub ReadsAsModule : List ℕ → Result Module Refusal → Type 0
-ReadsAsModule text (Ok m) = (length (tokens text) ≤ MAX_TOKENS) × GivesModule (tokens text) m
-ReadsAsModule text (Err refusal) =
+-- What a text gives whose tokens are to give something. One of over 4,000 tokens is refused before it is
+-- read.
+abbrev pub ReadsBy : {X : Type 0} → (List Token → X → Type 0) → List ℕ → Result X Refusal → Type 0
+ReadsBy Gives text (Ok x) = (length (tokens text) ≤ MAX_TOKENS) × Gives (tokens text) x
+ReadsBy {X} Gives text (Err refusal) =
     ((refusal ≡ Deep) × (MAX_TOKENS < length (tokens text)))
     ⊎ ((refusal ≡ Syntax) × (length (tokens text) ≤ MAX_TOKENS)
-    × ((m : Module) → GivesModule (tokens text) m → ⊥))
+    × ((x : X) → Gives (tokens text) x → ⊥))
+
+-- what a text gives that is to be a module
+abbrev pub ReadsAsModule : List ℕ → Result Module Refusal → Type 0
+ReadsAsModule = ReadsBy GivesModule
 
 -- each text gives a module
 abbrev pub AreReadable : Texts → Type 0

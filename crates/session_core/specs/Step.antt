@@ -9,7 +9,11 @@ use Rattle.term_core.specs.Tree.{Tree}
 use Rattle.term_core.specs.Size.{fits}
 use Rattle.term_paths.specs.Paths.{at, set_at, set_annotations_at}
 use Rattle.change_log.specs.Contents.{Contents, with_tree, without_tree, with_module, without_module}
+use Rattle.strategy_syntax.specs.declared.resolved.Resolved.{Resolved}
+use Rattle.strategy_check.specs.Programs.{Program}
+use Rattle.strategy_meaning.specs.Applied.{applied}
 use Rattle.session_core.specs.Modules.{ReadsAsModule, Checks}
+use Rattle.session_core.specs.Applying.{Meaning, ReadsAsStrategy, resolved_in, world_in, given_by}
 use Rattle.session_core.specs.History.{Group, History, stepped, changed, undone, redone}
 use Rattle.session_core.specs.declared.refusal.Refusal.{Refusal}
 use Rattle.session_core.specs.declared.refusal.Refusal.TheVariants.{NoTree, NoModule, Path, Big, NoUndo, NoRedo, Group as InGroup, NoGroup}
@@ -29,6 +33,9 @@ pub data Act : Type 0 where
   set_module : List ℕ → List ℕ → Act
   -- takes the module of the label away
   unload : List ℕ → Act
+  -- applies the strategy of this text at a path of the label's tree, within so many steps, where primitives
+  -- mean this
+  apply : Meaning → List ℕ → List ℕ → ℕ → List ℕ → Act
   -- goes so many places back
   undo : ℕ → Act
   -- goes so many places forward
@@ -111,12 +118,19 @@ AnnotatesAt name path annotations h place =
     Holding (list_all (fits (length path + 1)) annotations) Big
     (ChangesTo (with_tree h.now name (set_annotations_at place.tree path annotations)) h)
 
+-- What the strategy gives there becomes the label's tree, by a change.
+abbrev pub AppliesAt : Meaning → List ℕ → List ℕ → ℕ → History → Place → Program → Resolved → Outcome → Type 0
+AppliesAt meaning name path steps h place program strategy =
+    Passing (given_by (applied (world_in meaning program h.primitives) path strategy steps place.tree))
+    (λ tree. ChangesTo (with_tree h.now name tree) h)
+
 -- What an open group changed becomes one step, where something was changed in it.
 abbrev pub committed : Group → History → History
 committed g h =
     if g.changed then record (stepped g.begun h) { group = None } else record h { group = None }
 
--- What each act comes to at a history. A copy needs no test of its size. Going back or forward needs as
+-- What each act comes to at a history. A copy needs no test of its size. A strategy is applied where the
+-- checker finds no fault in the modules now, nor in it beside their program. Going back or forward needs as
 -- many places there, and no open group; a group is committed where the checker finds no fault in the
 -- modules then.
 abbrev pub ComesTo : Act → History → Outcome → Type 0
@@ -131,6 +145,10 @@ ComesTo (set_module name text) h =
     Given (ReadsAsModule text) (λ m. ChangesModules h.group (with_module h.now name text) h)
 ComesTo (unload name) h =
     Passing (text_of h.now name) (λ text. ChangesModules h.group (without_module h.now name) h)
+ComesTo (apply meaning name path steps text) h =
+    Passing (place_of h.now name path) (λ place. Given (ReadsAsStrategy text) (λ s.
+    Given (Checks h.primitives h.now.modules) (λ program.
+    Passing (resolved_in program h.primitives s) (AppliesAt meaning name path steps h place program))))
 ComesTo (undo k) h =
     Holding (is_none h.group) InGroup (Passing (ok_or (undone k h) NoUndo) Leaves)
 ComesTo (redo k) h =
@@ -153,6 +171,7 @@ IsChange (put name path part) = Unit {0}
 IsChange (annotate name path annotations) = Unit {0}
 IsChange (set_module name text) = Unit {0}
 IsChange (unload name) = Unit {0}
+IsChange (apply meaning name path steps text) = Unit {0}
 IsChange (undo k) = ⊥
 IsChange (redo k) = ⊥
 IsChange begin = ⊥

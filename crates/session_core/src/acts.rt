@@ -121,8 +121,8 @@ impl Timeline {
         Ok(())
     }
 
-    // The slot of the name's tree, where the path leads to a subterm of it.
-    fn place(&self, name: &Label, path: &Path) -> Result<usize, Refusal>
+    /// The slot of the name's tree, where the path leads to a subterm of it.
+    pub(crate) fn place(&self, name: &Label, path: &Path) -> Result<usize, Refusal>
         ensures there { IfOk result (λ slot. IsPlaceOf self.now.store name.now path.now slot) }
         ensures refused { IfErr result (λ refusal. place_of (contents self.now.store) name.now path.now
             ≡ Err refusal) }

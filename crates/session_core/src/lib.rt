@@ -3,6 +3,7 @@
 #![tactic(auto)]
 
 mod acts;
+mod applying;
 mod dump;
 pub mod laws;
 mod modules;

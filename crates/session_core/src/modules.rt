@@ -138,9 +138,9 @@ impl Timeline {
     }
 }
 
-// Keeps the program of the modules of the store, where the checker finds no fault in them: then there is
-// one. A program that is kept already is theirs.
-fn keep_program<M: Meaning>(
+/// Keeps the program of the modules of the store, where the checker finds no fault in them: then there is
+/// one. A program that is kept already is theirs.
+pub(crate) fn keep_program<M: Meaning>(
     alloc: Global,
     store: &Store,
     primitives: &Primitives<M>,

@@ -3,7 +3,8 @@
 ghost use Rattle.std.specs.Prelude.{◌≡◌, ◌≤◌, ◌↔◌, ◌⊎◌, ◌++◌, Ok, Err, vec_capacity, OnOk, OnErr, IfOk, IfErr, length, option_copied};
 ghost use Rattle.std.specs.FinMap as finmap;
 ghost use Rattle.session_core.specs.History.{empty_history, HasSoundContents};
-ghost use Rattle.session_core.specs.Step.{ComesTo, set_tree, copy_tree, drop_tree, put, annotate, set_module, unload, undo, redo, begin, commit, abandon};
+ghost use Rattle.session_core.specs.Step.{ComesTo, set_tree, copy_tree, drop_tree, put, annotate, set_module, unload, apply, undo, redo, begin, commit, abandon};
+ghost use Rattle.session_core.specs.Steps.{AreSteps};
 ghost use Rattle.session_core.specs.Dump.{dumped, AreNamedTerms};
 
 use crate::{Refusal, Timeline};
@@ -11,6 +12,7 @@ use prim_core::{Meaning, Primitives};
 use std::alloc::Global;
 use std::marker::Model;
 use strategy_check::Program;
+use strategy_meaning::laws::heights_are_kept;
 use term_core::{Label, NoMemory, Term};
 use term_paths::Path;
 
@@ -214,6 +216,36 @@ impl<M: Meaning> Session<M> {
     {
         self.program = self.timeline.unload(&self.primitives, name)?;
         Ok(())
+    }
+
+    /// Replaces the subterm at the path of the name's tree by what the strategy of the text gives for it
+    /// within so many steps, from 1 to 1,000,000. That is a step, as `set_tree` is, also where the term
+    /// stays the same. The modules are those now, and their program is kept until they change.
+    ///
+    /// The refusals, in the order of their tests: where there is no such tree, `NoTree`; where it has no
+    /// subterm there, `Path`; where the text has more than 4,000 tokens, `Deep`; where it is no strategy,
+    /// `Syntax`; where the checker finds a fault in the modules, which comes in a group alone, or in the
+    /// strategy, `Check` with the first. Then, as the run comes to it: where the strategy fails, `Fails`;
+    /// where no step is left, `Spent`; where a term doesn't fit at its level, `Big`. A refusal leaves the
+    /// session as it was.
+    pub fn apply(
+        &mut self,
+        name: &Label,
+        path: &Path,
+        steps: u32,
+        text: &[u8],
+    ) -> Result<(), Refusal>
+        requires { AreSteps steps }
+        ensures ok { OnOk result (ComesTo (apply M.meaning name.now path.now steps text.now) self.old
+            (Ok self.new)) }
+        ensures refused { IfErr result (λ refusal. (refusal ≡ Refusal.Memory)
+            ⊎ ComesTo (apply M.meaning name.now path.now steps text.now) self.old (Err refusal)) }
+        ensures err { OnErr result (self.new ≡ self.old) }
+        ensures sound { HasSoundContents self.new }
+    {
+        // Called for its contract: no tree gets too high.
+        heights_are_kept();
+        self.timeline.apply(&self.primitives, &mut self.program, name, path, steps, text)
     }
 
     /// Goes `n` steps back: the contents are those from before the last `n` steps, and with 0 they stay.

@@ -20,9 +20,9 @@ returns-in_err-abandon-clause-sound g c = subst HasSoundContents (sym (c.in_err-
 pub invariant_of-self-2 : goal.invariant_of-self-2
 invariant_of-self-2 g c = (
   c.abandon.ensures.placed,
-  stepped_sound abandon c.abandon.result c.self.inside.primitives c.self.inside.timeline c.abandon.new.self c.args.self.now c.self.view_is c.in_ok-abandon.ensures.ok c.self.invariant.1,
+  stepped_sound abandon c.abandon.result c.self.inside.primitives c.self.inside.timeline c.abandon.new.self c.args.self.now c.self.view_is tt c.in_ok-abandon.ensures.ok c.self.invariant.1,
   tt,
 )
 
 pub returns-clause-sound : goal.returns-clause-sound
-returns-clause-sound g c = stepped_sound abandon c.abandon.result c.self.inside.primitives c.self.inside.timeline c.abandon.new.self c.args.self.now c.self.view_is c.in_ok-abandon.ensures.ok c.self.invariant.1
+returns-clause-sound g c = stepped_sound abandon c.abandon.result c.self.inside.primitives c.self.inside.timeline c.abandon.new.self c.args.self.now c.self.view_is tt c.in_ok-abandon.ensures.ok c.self.invariant.1

@@ -5,7 +5,7 @@ use Rattle.session_core.proofs.session.Session.annotate.Goals as goal
 pub invariant_of-self : goal.invariant_of-self
 invariant_of-self g c = (
   c.annotate.ensures.placed,
-  sound_seen (annotate c.args.name.now c.args.path.now c.args.annotations.items) c.annotate.result c.self.inside.primitives c.self.inside.timeline c.annotate.new.self c.args.self.now c.self.view_is c.annotate.ensures.ok c.annotate.ensures.err c.self.invariant.1,
+  sound_seen (annotate c.args.name.now c.args.path.now c.args.annotations.items) c.annotate.result c.self.inside.primitives c.self.inside.timeline c.annotate.new.self c.args.self.now c.self.view_is tt c.annotate.ensures.ok c.annotate.ensures.err c.self.invariant.1,
   kept_seen c.self.inside.primitives c.self.inside.timeline c.annotate.new.self c.self.inside.program (annotate c.args.name.now c.args.path.now c.args.annotations.items) c.annotate.result tt c.annotate.ensures.ok c.annotate.ensures.err c.self.invariant.2,
 )
 
@@ -19,4 +19,4 @@ pub returns-clause-err : goal.returns-clause-err
 returns-clause-err g c = err_seen (annotate c.args.name.now c.args.path.now c.args.annotations.items) c.annotate.result c.self.inside.primitives c.self.inside.timeline c.annotate.new.self c.args.self.now c.self.view_is c.annotate.ensures.err
 
 pub returns-clause-sound : goal.returns-clause-sound
-returns-clause-sound g c = sound_seen (annotate c.args.name.now c.args.path.now c.args.annotations.items) c.annotate.result c.self.inside.primitives c.self.inside.timeline c.annotate.new.self c.args.self.now c.self.view_is c.annotate.ensures.ok c.annotate.ensures.err c.self.invariant.1
+returns-clause-sound g c = sound_seen (annotate c.args.name.now c.args.path.now c.args.annotations.items) c.annotate.result c.self.inside.primitives c.self.inside.timeline c.annotate.new.self c.args.self.now c.self.view_is tt c.annotate.ensures.ok c.annotate.ensures.err c.self.invariant.1

@@ -5,7 +5,7 @@ use Rattle.session_core.proofs.session.Session.begin.Goals as goal
 pub invariant_of-self : goal.invariant_of-self
 invariant_of-self g c = (
   c.begin.ensures.placed,
-  sound_seen begin c.begin.result c.self.inside.primitives c.self.inside.timeline c.begin.new.self c.args.self.now c.self.view_is c.begin.ensures.ok c.begin.ensures.err c.self.invariant.1,
+  sound_seen begin c.begin.result c.self.inside.primitives c.self.inside.timeline c.begin.new.self c.args.self.now c.self.view_is tt c.begin.ensures.ok c.begin.ensures.err c.self.invariant.1,
   kept_seen c.self.inside.primitives c.self.inside.timeline c.begin.new.self c.self.inside.program begin c.begin.result tt c.begin.ensures.ok c.begin.ensures.err c.self.invariant.2,
 )
 
@@ -19,4 +19,4 @@ pub returns-clause-err : goal.returns-clause-err
 returns-clause-err g c = err_seen begin c.begin.result c.self.inside.primitives c.self.inside.timeline c.begin.new.self c.args.self.now c.self.view_is c.begin.ensures.err
 
 pub returns-clause-sound : goal.returns-clause-sound
-returns-clause-sound g c = sound_seen begin c.begin.result c.self.inside.primitives c.self.inside.timeline c.begin.new.self c.args.self.now c.self.view_is c.begin.ensures.ok c.begin.ensures.err c.self.invariant.1
+returns-clause-sound g c = sound_seen begin c.begin.result c.self.inside.primitives c.self.inside.timeline c.begin.new.self c.args.self.now c.self.view_is tt c.begin.ensures.ok c.begin.ensures.err c.self.invariant.1

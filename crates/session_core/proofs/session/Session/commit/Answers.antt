@@ -7,7 +7,7 @@ use Rattle.session_core.proofs.session.Session.commit.Goals as goal
 pub invariant_of-self : goal.invariant_of-self
 invariant_of-self g c = (
   c.commit.ensures.placed,
-  said_sound (ComesTo commit) c.commit.result _ _ c.args.self.now c.self.view_is (λ g d s. step_sound commit _ g s d) c.commit.ensures.ok c.commit.ensures.err c.self.invariant.1,
+  said_sound (ComesTo commit) c.commit.result _ _ c.args.self.now c.self.view_is (λ g d s. step_sound commit _ g tt s d) c.commit.ensures.ok c.commit.ensures.err c.self.invariant.1,
   c.commit.ensures.program,
 )
 
@@ -21,4 +21,4 @@ pub returns-clause-err : goal.returns-clause-err
 returns-clause-err g c = said_err (ComesTo commit) c.commit.result _ _ c.args.self.now c.self.view_is c.commit.ensures.err
 
 pub returns-clause-sound : goal.returns-clause-sound
-returns-clause-sound g c = said_sound (ComesTo commit) c.commit.result _ _ c.args.self.now c.self.view_is (λ g d s. step_sound commit _ g s d) c.commit.ensures.ok c.commit.ensures.err c.self.invariant.1
+returns-clause-sound g c = said_sound (ComesTo commit) c.commit.result _ _ c.args.self.now c.self.view_is (λ g d s. step_sound commit _ g tt s d) c.commit.ensures.ok c.commit.ensures.err c.self.invariant.1

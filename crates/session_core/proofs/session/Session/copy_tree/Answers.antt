@@ -5,7 +5,7 @@ use Rattle.session_core.proofs.session.Session.copy_tree.Goals as goal
 pub invariant_of-self : goal.invariant_of-self
 invariant_of-self g c = (
   c.copy_tree.ensures.placed,
-  sound_seen (copy_tree c.args.name.now c.args.copy.now) c.copy_tree.result c.self.inside.primitives c.self.inside.timeline c.copy_tree.new.self c.args.self.now c.self.view_is c.copy_tree.ensures.ok c.copy_tree.ensures.err c.self.invariant.1,
+  sound_seen (copy_tree c.args.name.now c.args.copy.now) c.copy_tree.result c.self.inside.primitives c.self.inside.timeline c.copy_tree.new.self c.args.self.now c.self.view_is tt c.copy_tree.ensures.ok c.copy_tree.ensures.err c.self.invariant.1,
   kept_seen c.self.inside.primitives c.self.inside.timeline c.copy_tree.new.self c.self.inside.program (copy_tree c.args.name.now c.args.copy.now) c.copy_tree.result tt c.copy_tree.ensures.ok c.copy_tree.ensures.err c.self.invariant.2,
 )
 
@@ -19,4 +19,4 @@ pub returns-clause-err : goal.returns-clause-err
 returns-clause-err g c = err_seen (copy_tree c.args.name.now c.args.copy.now) c.copy_tree.result c.self.inside.primitives c.self.inside.timeline c.copy_tree.new.self c.args.self.now c.self.view_is c.copy_tree.ensures.err
 
 pub returns-clause-sound : goal.returns-clause-sound
-returns-clause-sound g c = sound_seen (copy_tree c.args.name.now c.args.copy.now) c.copy_tree.result c.self.inside.primitives c.self.inside.timeline c.copy_tree.new.self c.args.self.now c.self.view_is c.copy_tree.ensures.ok c.copy_tree.ensures.err c.self.invariant.1
+returns-clause-sound g c = sound_seen (copy_tree c.args.name.now c.args.copy.now) c.copy_tree.result c.self.inside.primitives c.self.inside.timeline c.copy_tree.new.self c.args.self.now c.self.view_is tt c.copy_tree.ensures.ok c.copy_tree.ensures.err c.self.invariant.1

@@ -5,7 +5,7 @@ use Rattle.session_core.proofs.session.Session.drop_tree.Goals as goal
 pub invariant_of-self : goal.invariant_of-self
 invariant_of-self g c = (
   c.drop_tree.ensures.placed,
-  sound_seen (drop_tree c.args.name.now) c.drop_tree.result c.self.inside.primitives c.self.inside.timeline c.drop_tree.new.self c.args.self.now c.self.view_is c.drop_tree.ensures.ok c.drop_tree.ensures.err c.self.invariant.1,
+  sound_seen (drop_tree c.args.name.now) c.drop_tree.result c.self.inside.primitives c.self.inside.timeline c.drop_tree.new.self c.args.self.now c.self.view_is tt c.drop_tree.ensures.ok c.drop_tree.ensures.err c.self.invariant.1,
   kept_seen c.self.inside.primitives c.self.inside.timeline c.drop_tree.new.self c.self.inside.program (drop_tree c.args.name.now) c.drop_tree.result tt c.drop_tree.ensures.ok c.drop_tree.ensures.err c.self.invariant.2,
 )
 
@@ -19,4 +19,4 @@ pub returns-clause-err : goal.returns-clause-err
 returns-clause-err g c = err_seen (drop_tree c.args.name.now) c.drop_tree.result c.self.inside.primitives c.self.inside.timeline c.drop_tree.new.self c.args.self.now c.self.view_is c.drop_tree.ensures.err
 
 pub returns-clause-sound : goal.returns-clause-sound
-returns-clause-sound g c = sound_seen (drop_tree c.args.name.now) c.drop_tree.result c.self.inside.primitives c.self.inside.timeline c.drop_tree.new.self c.args.self.now c.self.view_is c.drop_tree.ensures.ok c.drop_tree.ensures.err c.self.invariant.1
+returns-clause-sound g c = sound_seen (drop_tree c.args.name.now) c.drop_tree.result c.self.inside.primitives c.self.inside.timeline c.drop_tree.new.self c.args.self.now c.self.view_is tt c.drop_tree.ensures.ok c.drop_tree.ensures.err c.self.invariant.1

@@ -5,7 +5,7 @@ use Rattle.session_core.proofs.session.Session.set_tree.Goals as goal
 pub invariant_of-self : goal.invariant_of-self
 invariant_of-self g c = (
   c.set_tree.ensures.placed,
-  sound_seen (set_tree c.args.name.now c.args.tree) c.set_tree.result c.self.inside.primitives c.self.inside.timeline c.set_tree.new.self c.args.self.now c.self.view_is c.set_tree.ensures.ok c.set_tree.ensures.err c.self.invariant.1,
+  sound_seen (set_tree c.args.name.now c.args.tree) c.set_tree.result c.self.inside.primitives c.self.inside.timeline c.set_tree.new.self c.args.self.now c.self.view_is tt c.set_tree.ensures.ok c.set_tree.ensures.err c.self.invariant.1,
   kept_seen c.self.inside.primitives c.self.inside.timeline c.set_tree.new.self c.self.inside.program (set_tree c.args.name.now c.args.tree) c.set_tree.result tt c.set_tree.ensures.ok c.set_tree.ensures.err c.self.invariant.2,
 )
 
@@ -19,4 +19,4 @@ pub returns-clause-err : goal.returns-clause-err
 returns-clause-err g c = err_seen (set_tree c.args.name.now c.args.tree) c.set_tree.result c.self.inside.primitives c.self.inside.timeline c.set_tree.new.self c.args.self.now c.self.view_is c.set_tree.ensures.err
 
 pub returns-clause-sound : goal.returns-clause-sound
-returns-clause-sound g c = sound_seen (set_tree c.args.name.now c.args.tree) c.set_tree.result c.self.inside.primitives c.self.inside.timeline c.set_tree.new.self c.args.self.now c.self.view_is c.set_tree.ensures.ok c.set_tree.ensures.err c.self.invariant.1
+returns-clause-sound g c = sound_seen (set_tree c.args.name.now c.args.tree) c.set_tree.result c.self.inside.primitives c.self.inside.timeline c.set_tree.new.self c.args.self.now c.self.view_is tt c.set_tree.ensures.ok c.set_tree.ensures.err c.self.invariant.1

@@ -20,9 +20,9 @@ returns-in_err-undo-clause-sound g c = subst HasSoundContents (sym (c.in_err-und
 pub invariant_of-self-2 : goal.invariant_of-self-2
 invariant_of-self-2 g c = (
   c.undo.ensures.placed,
-  stepped_sound (undo c.args.n) c.undo.result c.self.inside.primitives c.self.inside.timeline c.undo.new.self c.args.self.now c.self.view_is c.in_ok-undo.ensures.ok c.self.invariant.1,
+  stepped_sound (undo c.args.n) c.undo.result c.self.inside.primitives c.self.inside.timeline c.undo.new.self c.args.self.now c.self.view_is tt c.in_ok-undo.ensures.ok c.self.invariant.1,
   tt,
 )
 
 pub returns-clause-sound : goal.returns-clause-sound
-returns-clause-sound g c = stepped_sound (undo c.args.n) c.undo.result c.self.inside.primitives c.self.inside.timeline c.undo.new.self c.args.self.now c.self.view_is c.in_ok-undo.ensures.ok c.self.invariant.1
+returns-clause-sound g c = stepped_sound (undo c.args.n) c.undo.result c.self.inside.primitives c.self.inside.timeline c.undo.new.self c.args.self.now c.self.view_is tt c.in_ok-undo.ensures.ok c.self.invariant.1

@@ -1,0 +1,179 @@
+//! Strategies, applied to the trees of a session.
+
+ghost use Rattle.std.specs.Prelude.{◌≡◌, ◌≤◌, ◌+◌, ◌⊎◌, length, Ok, Err, IfOk, IfErr, IfSome, OnOk, OnErr};
+ghost use Rattle.term_core.specs.Size.{height};
+ghost use Rattle.change_log.specs.Slots.{contents};
+ghost use Rattle.change_log.specs.Entries.{subterm_in};
+ghost use Rattle.strategy_run.specs.Applies.{applied_in};
+ghost use Rattle.session_core.specs.Applying.{ReadsAsStrategy, resolved_in, world_in, given_by, GivesIn};
+ghost use Rattle.session_core.specs.History.{AreFormed, changed};
+ghost use Rattle.session_core.specs.Modules.{IsKept};
+ghost use Rattle.session_core.specs.Step.{ComesTo, apply};
+ghost use Rattle.session_core.specs.Unfolded.{unfolded, IsPlaced, AddsEntries};
+
+use crate::modules::keep_program;
+use crate::{Refusal, Timeline};
+use change_log::{Log, Store};
+use prim_core::{Meaning, Primitives};
+use std::alloc::Global;
+use strategy_check::{CheckFault, Program, resolve};
+use strategy_parse::{ParseFault, parse_strategy};
+use strategy_run::{Outcome, apply_outermost};
+use strategy_syntax::{Resolved, Strategy};
+use term_core::{Label, MAX_HEIGHT};
+use term_paths::Path;
+
+impl Timeline {
+    /// Applies the strategy that the text gives to the subterm at the path of the name's tree, in at most
+    /// so many steps. The program of the modules is made where it isn't kept, and is kept then.
+    pub(crate) fn apply<M: Meaning>(
+        &mut self,
+        primitives: &Primitives<M>,
+        program: &mut Option<Program>,
+        name: &Label,
+        path: &Path,
+        steps: u32,
+        text: &[u8],
+    ) -> Result<(), Refusal>
+        requires placed { IsPlaced self.old }
+        requires formed { AreFormed (contents self.old.store) }
+        requires program { IsKept primitives.now (contents self.old.store).modules program.old }
+        ensures placed { IsPlaced self.new }
+        ensures ok { OnOk result (ComesTo (apply M.meaning name.now path.now steps text.now)
+            (unfolded primitives.now self.old) (Ok (unfolded primitives.now self.new))) }
+        ensures refused { IfErr result (λ refusal. (refusal ≡ Refusal.Memory)
+            ⊎ ComesTo (apply M.meaning name.now path.now steps text.now)
+            (unfolded primitives.now self.old) (Err refusal)) }
+        ensures err { OnErr result (unfolded primitives.now self.new
+            ≡ unfolded primitives.now self.old) }
+        ensures program { IsKept primitives.now (contents self.new.store).modules program.new }
+    {
+        let alloc = self.allocator();
+        let slot = match self.place(name, path) {
+            Ok(slot) => slot,
+            Err(refusal) => return Err(refusal),
+        };
+        let strategy = match read_strategy(alloc, text) {
+            Ok(strategy) => strategy,
+            Err(refusal) => return Err(refusal),
+        };
+        if let Err(refusal) = keep_program(alloc, &self.store, primitives, program) {
+            return Err(refusal);
+        }
+        let Some(checked) = program.as_ref() else {
+            unreachable!()
+        };
+        let strategy = match resolve_strategy(alloc, checked, primitives, &strategy) {
+            Ok(strategy) => strategy,
+            Err(refusal) => return Err(refusal),
+        };
+        self.apply_in_slot(checked, primitives, slot, path, &strategy, steps)
+    }
+
+    // Applies a strategy in the tree of a slot, as one change.
+    fn apply_in_slot<M: Meaning>(
+        &mut self,
+        program: &Program,
+        primitives: &Primitives<M>,
+        slot: usize,
+        path: &Path,
+        strategy: &Resolved,
+        steps: u32,
+    ) -> Result<(), Refusal>
+        requires placed { IsPlaced self.old }
+        requires low { IfSome (subterm_in self.old.store.trees slot path.now)
+            (λ u. length path.now + height u ≤ MAX_HEIGHT) }
+        ensures placed { IsPlaced self.new }
+        ensures ok { OnOk result (unfolded primitives.now self.new
+            ≡ changed (contents self.new.store) (unfolded primitives.now self.old)) }
+        ensures made { OnOk result (GivesIn (applied_in (world_in M.meaning program.now primitives.now)
+            self.old.store.trees slot path.now strategy.now steps) slot self.old.store self.new.store) }
+        ensures refused { IfErr result (λ refusal. (refusal ≡ Refusal.Memory)
+            ⊎ (given_by (applied_in (world_in M.meaning program.now primitives.now)
+            self.old.store.trees slot path.now strategy.now steps) ≡ Err refusal)) }
+        ensures err { OnErr result (unfolded primitives.now self.new
+            ≡ unfolded primitives.now self.old) }
+    {
+        let alloc = self.allocator();
+        self.change_by(|store, log| {
+            apply_in(
+                alloc, program, primitives, store, slot, path, strategy, steps, log,
+            )
+        })
+    }
+}
+
+// Applies a strategy in the tree of a slot, to a subterm that is low enough at its level. Where it gives a
+// term, the log leads back from there; else store and log stay.
+fn apply_in<M: Meaning>(
+    alloc: Global,
+    program: &Program,
+    primitives: &Primitives<M>,
+    store: &mut Store,
+    slot: usize,
+    path: &Path,
+    strategy: &Resolved,
+    steps: u32,
+    log: &mut Log,
+) -> Result<(), Refusal>
+    requires low { IfSome (subterm_in store.old.trees slot path.now)
+        (λ u. length path.now + height u ≤ MAX_HEIGHT) }
+    ensures entries { AddsEntries store.old log.old store.new log.new }
+    ensures ok { OnOk result (GivesIn (applied_in (world_in M.meaning program.now primitives.now)
+        store.old.trees slot path.now strategy.now steps) slot store.old store.new) }
+    ensures refused { IfErr result (λ refusal. (refusal ≡ Refusal.Memory)
+        ⊎ (given_by (applied_in (world_in M.meaning program.now primitives.now)
+        store.old.trees slot path.now strategy.now steps) ≡ Err refusal)) }
+{
+    match apply_outermost(
+        alloc,
+        program,
+        primitives,
+        store,
+        slot,
+        path,
+        strategy,
+        steps as u64,
+        log,
+    ) {
+        Ok(Outcome::Done) => Ok(()),
+        Ok(Outcome::Failed) => Err(Refusal::Fails),
+        Ok(Outcome::Spent) => Err(Refusal::Spent),
+        Ok(Outcome::Big) => Err(Refusal::Big),
+        Err(_) => Err(Refusal::Memory),
+    }
+}
+
+// The strategy that a text gives.
+fn read_strategy(alloc: Global, text: &[u8]) -> Result<Strategy, Refusal>
+    ensures ok { IfOk result (λ s. ReadsAsStrategy text.now (Ok s)) }
+    ensures refused { IfErr result (λ refusal. (refusal ≡ Refusal.Memory)
+        ⊎ ReadsAsStrategy text.now (Err refusal)) }
+{
+    match parse_strategy(alloc, text) {
+        Ok(strategy) => Ok(strategy),
+        Err(ParseFault::Deep) => Err(Refusal::Deep),
+        Err(ParseFault::Syntax) => Err(Refusal::Syntax),
+        Err(ParseFault::Memory) => Err(Refusal::Memory),
+    }
+}
+
+// The strategy with numbers for names, where the checker finds no fault in it beside the program.
+fn resolve_strategy<M: Meaning>(
+    alloc: Global,
+    program: &Program,
+    primitives: &Primitives<M>,
+    strategy: &Strategy,
+) -> Result<Resolved, Refusal>
+    ensures ok { IfOk result (λ whole. resolved_in program.now primitives.now strategy.now ≡ Ok whole) }
+    ensures refused { IfErr result (λ refusal. (refusal ≡ Refusal.Memory)
+        ⊎ (resolved_in program.now primitives.now strategy.now ≡ Err refusal)) }
+{
+    match resolve(alloc, program, primitives, strategy) {
+        Ok(whole) => Ok(whole),
+        Err(CheckFault::Memory) => Err(Refusal::Memory),
+        Err(CheckFault::Fault(kind, name, first, second)) => {
+            Err(Refusal::Check(kind, name, first, second))
+        }
+    }
+}
