@@ -7,6 +7,7 @@ use Rattle.aterm_text.specs.declared.TheConstants.{MAX_NESTING}
 use Rattle.aterm_text.specs.declared.reader.ReadFault.{ReadFault}
 use Rattle.aterm_text.specs.declared.reader.ReadFault.TheVariants.{Deep as DeepText, Term as NoTerm, Memory as NoMemory}
 use Rattle.aterm_text.specs.Nesting.{nesting}
+use Rattle.session_core.specs.Applying.{Meaning}
 use Rattle.session_core.specs.History.{Group, History, undone, redone}
 use Rattle.session_core.specs.Step.{Outcome, Passing, Holding, Given, Leaves, Place}
 use Rattle.session_core.specs.declared.refusal.Refusal.{Refusal}
@@ -95,20 +96,20 @@ module _ {X : Type 0} (test : Result Place Refusal) (Gives : Result X Refusal �
     placed_refused (Err refusal) x gives (inr p) = inr (Err refusal, at_place (Ok x) (Err refusal) gives (found x (Err refusal) p), refl)
 
 -- a command whose outcome is told
-module _ (command known : Command) (h : History) (r outcome : Result (Unit {0}) Refusal) (is : command ≡ known) (same : r ≡ outcome) where
-  pub performed_ok : (new : History) (before after : List ℕ) → OnOk outcome (Replies (form known) h (Ok (ok_with new))) → OnOk r (after ≡ before ++ line (codes "ok")) → OnOk r (Accepts (Replies (form command) h) new before after)
+module _ (meaning : Meaning) (command known : Command) (h : History) (r outcome : Result (Unit {0}) Refusal) (is : command ≡ known) (same : r ≡ outcome) where
+  pub performed_ok : (new : History) (before after : List ℕ) → OnOk outcome (Replies meaning (form known) h (Ok (ok_with new))) → OnOk r (after ≡ before ++ line (codes "ok")) → OnOk r (Accepts (Replies meaning (form command) h) new before after)
   performed_ok new before after ok text =
-      subst (λ (c : Command). OnOk r (Accepts (Replies (form c) h) new before after)) (sym is)
-      (by r (subst (λ (x : Result (Unit {0}) Refusal). OnOk x (Replies (form known) h (Ok (ok_with new)))) (sym same) ok) text)
+      subst (λ (c : Command). OnOk r (Accepts (Replies meaning (form c) h) new before after)) (sym is)
+      (by r (subst (λ (x : Result (Unit {0}) Refusal). OnOk x (Replies meaning (form known) h (Ok (ok_with new)))) (sym same) ok) text)
     where
-      by : (r : Result (Unit {0}) Refusal) → OnOk r (Replies (form known) h (Ok (ok_with new))) → OnOk r (after ≡ before ++ line (codes "ok")) → OnOk r (Accepts (Replies (form known) h) new before after)
+      by : (r : Result (Unit {0}) Refusal) → OnOk r (Replies meaning (form known) h (Ok (ok_with new))) → OnOk r (after ≡ before ++ line (codes "ok")) → OnOk r (Accepts (Replies meaning (form known) h) new before after)
       by (Ok x) ok text = record { text = line (codes "ok"); reply = ok; answer = text }
       by (Err refusal) ok text = tt
 
-  pub performed_refused : IfErr outcome (Refuses (Replies (form known) h) (is_without_memory (form known))) → IfErr r (Refuses (Replies (form command) h) (is_without_memory (form command)))
+  pub performed_refused : IfErr outcome (Refuses (Replies meaning (form known) h) (is_without_memory (form known))) → IfErr r (Refuses (Replies meaning (form command) h) (is_without_memory (form command)))
   performed_refused refused =
-      subst (λ (c : Command). IfErr r (Refuses (Replies (form c) h) (is_without_memory (form c)))) (sym is)
-      (subst (λ (x : Result (Unit {0}) Refusal). IfErr x (Refuses (Replies (form known) h) (is_without_memory (form known)))) (sym same) refused)
+      subst (λ (c : Command). IfErr r (Refuses (Replies meaning (form c) h) (is_without_memory (form c)))) (sym is)
+      (subst (λ (x : Result (Unit {0}) Refusal). IfErr x (Refuses (Replies meaning (form known) h) (is_without_memory (form known)))) (sym same) refused)
 
 pub if_err_weaker : {T E : Type 0} {P Q : E → Type 0} (r : Result T E) → ((d : E) → P d → Q d) → IfErr r P → IfErr r Q
 if_err_weaker (Ok x) f p = p
@@ -117,9 +118,9 @@ if_err_weaker (Err d) f p = f d p
 -- ---- a command in a run
 
 -- a command that is refused
-pub answered_refused : (steps : ℕ) (command : Handed) (h g : History) (before after : List ℕ) (refusal : Refusal) → Refuses (ReplyTo steps command h) (takes_none command) refusal →
-    g ≡ h → after ≡ before ++ line (refused refusal) → Answered (ReplyInRun steps) command h g before after false
-answered_refused steps command h g before after refusal (inl memory) same text = record {
+pub answered_refused : (meaning : Meaning) (steps : ℕ) (command : Handed) (h g : History) (before after : List ℕ) (refusal : Refusal) → Refuses (ReplyTo meaning steps command h) (takes_none command) refusal →
+    g ≡ h → after ≡ before ++ line (refused refusal) → Answered (ReplyInRun meaning steps) command h g before after false
+answered_refused meaning steps command h g before after refusal (inl memory) same text = record {
   flag = true;
   reply = Err refusal;
   replied = (memory.1, ap Err memory.0);
@@ -127,7 +128,7 @@ answered_refused steps command h g before after refusal (inl memory) same text =
   answer = text;
   accepted = refl;
 }
-answered_refused steps command h g before after refusal (inr reply) same text = record {
+answered_refused meaning steps command h g before after refusal (inr reply) same text = record {
   flag = false;
   reply = Err refusal;
   replied = reply;
@@ -158,9 +159,9 @@ leaving : (group : Option Group) (next : Group → History) (outcome : Outcome) 
 leaving None next outcome p = same_told outcome (Err NoGroup) p refl
 leaving (Some g) next outcome p = same_told outcome (Ok (next g)) p refl
 
-module _ (steps : ℕ) (h : History) (reply : Reply) where
+module _ (meaning : Meaning) (steps : ℕ) (h : History) (reply : Reply) where
   abbrev Says : Option Form → Type 0
-  Says form = MatchResult (checked form) (λ f. Replies f h reply) (λ refusal. reply ≡ Err refusal)
+  Says form = MatchResult (checked form) (λ f. Replies meaning f h reply) (λ refusal. reply ≡ Err refusal)
 
   undo_said : (o : Option ℕ) → Says (option_map undo o) → tells_fault reply ≡ false
   undo_said None m = ap tells_fault m
@@ -193,20 +194,20 @@ module _ (steps : ℕ) (h : History) (reply : Reply) where
     said_shortly : takes_no_memory_with keyword ≡ true → tells_fault reply ≡ false
     said_shortly = by_word (is_same keyword (codes "undo")) (is_same keyword (codes "redo")) (is_same keyword (codes "begin")) (is_same keyword (codes "abandon")) refl refl refl refl
 
-told_shortly : (steps : ℕ) (command : Handed) (h : History) (refusal : Refusal) → is_fault refusal ≡ true → ReplyTo steps command h (Err refusal) → takes_none command ≡ false
-told_shortly steps (handed_text c) h refusal fault reply = at (takes_no_memory c) refl
+told_shortly : (meaning : Meaning) (steps : ℕ) (command : Handed) (h : History) (refusal : Refusal) → is_fault refusal ≡ true → ReplyTo meaning steps command h (Err refusal) → takes_none command ≡ false
+told_shortly meaning steps (handed_text c) h refusal fault reply = at (takes_no_memory c) refl
   where
     at : (b : Bool) → takes_no_memory c ≡ b → takes_no_memory c ≡ false
     at false e = e
     at true e =
-        let short : is_fault refusal ≡ false = said_shortly steps h (Err refusal) (front_word (without_end is_blank c)) (behind_word (without_end is_blank c)) reply e in
+        let short : is_fault refusal ≡ false = said_shortly meaning steps h (Err refusal) (front_word (without_end is_blank c)) (behind_word (without_end is_blank c)) reply e in
         absurd (cc)
-told_shortly steps long h refusal fault reply = let short : is_fault refusal ≡ false = ap tells_fault reply in absurd (cc)
+told_shortly meaning steps long h refusal fault reply = let short : is_fault refusal ≡ false = ap tells_fault reply in absurd (cc)
 
 -- a fault for whose name there is no memory
-pub answered_wanting : (steps : ℕ) (command : Handed) (h g : History) (before after : List ℕ) (refusal : Refusal) → Refuses (ReplyTo steps command h) (takes_none command) refusal →
-    is_fault refusal ≡ true → g ≡ h → after ≡ before ++ line (refused Memory) → Answered (ReplyInRun steps) command h g before after false
-answered_wanting steps command h g before after refusal refuses fault same text = record {
+pub answered_wanting : (meaning : Meaning) (steps : ℕ) (command : Handed) (h g : History) (before after : List ℕ) (refusal : Refusal) → Refuses (ReplyTo meaning steps command h) (takes_none command) refusal →
+    is_fault refusal ≡ true → g ≡ h → after ≡ before ++ line (refused Memory) → Answered (ReplyInRun meaning steps) command h g before after false
+answered_wanting meaning steps command h g before after refusal refuses fault same text = record {
   flag = true;
   reply = Err Memory;
   replied = (may refuses, refl);
@@ -215,6 +216,6 @@ answered_wanting steps command h g before after refusal refuses fault same text 
   accepted = refl;
 }
   where
-    may : Refuses (ReplyTo steps command h) (takes_none command) refusal → takes_none command ≡ false
+    may : Refuses (ReplyTo meaning steps command h) (takes_none command) refusal → takes_none command ≡ false
     may (inl memory) = memory.1
-    may (inr reply) = told_shortly steps command h refusal fault reply
+    may (inr reply) = told_shortly meaning steps command h refusal fault reply

@@ -1,10 +1,10 @@
 -- The definitions, computed at worked rows.
-use Rattle.std.proofs.Common.{◌≡◌, [], ◌∷◌, ◌++◌, Ok, Err, refl, codes, true, false}
+use Rattle.std.proofs.Common.{◌≡◌, [], ◌∷◌, ◌++◌, None, Ok, Err, refl, codes, true, false}
 use Rattle.session_core.specs.History.{empty_history}
 use Rattle.session_core.specs.declared.refusal.Refusal.TheVariants.{Line, Name, Memory}
 use Rattle.script_core.specs.Script.{commands, complete}
 use Rattle.script_core.specs.Handed.{handed}
-use Rattle.script_core.specs.Form.{tree, show, put, undo, command_of, takes_no_memory}
+use Rattle.script_core.specs.Form.{tree, show, put, apply, undo, command_of, takes_no_memory}
 use Rattle.script_core.specs.Answer.{ReplyInRun}
 use Rattle.script_core.specs.Run.{Replied}
 
@@ -42,6 +42,22 @@ reads_place = refl
 reads_no_place : command_of 100 (codes "show t") ≡ Ok (show (codes "t") [])
 reads_no_place = refl
 
+reads_apply : command_of 100 (codes "apply t at /1 within 07 do id; f") ≡ Ok (apply (codes "t") (1 ∷ []) 7 (codes "id; f"))
+reads_apply = refl
+
+-- names are no keywords, and the budget is that of a command that names none
+reads_names : command_of 100 (codes "apply do do id") ≡ Ok (apply (codes "do") [] 100 (codes "id"))
+reads_names = refl
+
+needs_do : command_of 100 (codes "apply do id") ≡ Err Line
+needs_do = refl
+
+at_stands_first : command_of 100 (codes "apply t within 9 at / do id") ≡ Err Line
+at_stands_first = refl
+
+budget_in_range : command_of 100 (codes "apply 9 within 0 do id") ≡ Err Line
+budget_in_range = refl
+
 reads_steps : command_of 100 (codes "undo 003") ≡ Ok (undo 3)
 reads_steps = refl
 
@@ -69,9 +85,9 @@ commit_may_not = refl
 -- ---- runs
 
 -- behind a refusal at which the run stops, nothing is replied
-stops_at_a_refusal : Replied true (ReplyInRun 1) (handed (codes "undo 0" ++ 10 ∷ codes "trees")) (false ∷ []) (empty_history []) (Err Line ∷ [])
+stops_at_a_refusal : Replied true (ReplyInRun (λ name terms. None) 1) (handed (codes "undo 0" ++ 10 ∷ codes "trees")) (false ∷ []) (empty_history []) (Err Line ∷ [])
 stops_at_a_refusal = (refl, (refl, refl))
 
 -- else the next command is replied to, at the same history; or memory was refused in it
-goes_on_without_memory : Replied false (ReplyInRun 1) (handed (codes "undo 0" ++ 10 ∷ codes "trees")) (false ∷ (true ∷ [])) (empty_history []) (Err Line ∷ (Err Memory ∷ []))
+goes_on_without_memory : Replied false (ReplyInRun (λ name terms. None) 1) (handed (codes "undo 0" ++ 10 ∷ codes "trees")) (false ∷ (true ∷ [])) (empty_history []) (Err Line ∷ (Err Memory ∷ []))
 goes_on_without_memory = (refl, ((refl, refl), tt))

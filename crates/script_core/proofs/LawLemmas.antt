@@ -1,5 +1,5 @@
 -- The replies to commands are determined, since a text spells at most one term and at most one list of
--- annotations, and gives at most one module.
+-- annotations, and gives at most one module and at most one strategy.
 use Rattle.std.proofs.Common.{◌≡◌, ◌<◌, ◌≤◌, ◌⊎◌, ℕ, Some, None, Bool, true, false, ◌&&◌, ◌+◌, List, [], ◌∷◌, length, Ok, Err, Result, refl, sym, ap, ◌∙◌, subst, inl, inr, arith}
 use Rattle.std.specs.Prelude.{is_err, is_none, ok_or, IsSomeAnd}
 use Rattle.std.specs.declared.option.Option.{Option}
@@ -13,9 +13,12 @@ use Rattle.term_paths.specs.Paths.{set_at, set_annotations_at}
 use Rattle.aterm_text.specs.Laws.{OneTerm}
 use Rattle.aterm_text.specs.Grammar.{Spells, SpellsAnnotations}
 use Rattle.strategy_syntax.specs.Modules.{Module}
-use Rattle.strategy_parse.specs.Laws.{OneModule}
+use Rattle.strategy_syntax.specs.Syntax.{Strategy}
+use Rattle.strategy_syntax.specs.declared.resolved.Resolved.{Resolved}
+use Rattle.strategy_parse.specs.Laws.{OneModule, OneResult}
+use Rattle.strategy_tokens.specs.declared.token.Token.{Token}
 use Rattle.strategy_tokens.specs.Tokens.{tokens}
-use Rattle.strategy_parse.specs.Gives.{GivesModule}
+use Rattle.strategy_parse.specs.Gives.{GivesModule, GivesStrategy}
 use Rattle.strategy_tokens.specs.declared.TheConstants.{MAX_TOKENS}
 use Rattle.strategy_check.specs.Tables.{Modules}
 use Rattle.strategy_check.specs.Faults.{Fault, Primitives, faults, first}
@@ -23,12 +26,14 @@ use Rattle.strategy_check.specs.Programs.{Program, program}
 use Rattle.aterm_text.specs.Nesting.{nesting}
 use Rattle.aterm_text.specs.declared.TheConstants.{MAX_NESTING}
 use Rattle.change_log.specs.Contents.{Contents, with_tree, without_tree, with_module, without_module}
-use Rattle.session_core.specs.Modules.{Texts, ReadsAsModule, AreRead, Finds, GivesProgram, Checks, refusal_of}
+use Rattle.strategy_meaning.specs.Applied.{applied}
+use Rattle.session_core.specs.Applying.{Meaning, ReadsAsStrategy, resolved_in, world_in, given_by}
+use Rattle.session_core.specs.Modules.{Texts, ReadsBy, ReadsAsModule, AreRead, Finds, GivesProgram, Checks, refusal_of}
 use Rattle.session_core.specs.History.{Group, History, changed, undone, redone}
-use Rattle.session_core.specs.Step.{Act, set_tree as set_tree_act, copy_tree, drop_tree as drop_tree_act, put as put_act, annotate as annotate_act, set_module as set_module_act, unload as unload_act, undo as undo_act, redo as redo_act, begin as begin_act, commit as commit_act, abandon as abandon_act, Outcome, Passing, Holding, Given, Leaves, ChangesTo, ChangesModules, PutsAt, AnnotatesAt, Place, ComesTo, committed, tree_of, text_of, place_of}
+use Rattle.session_core.specs.Step.{Act, set_tree as set_tree_act, copy_tree, drop_tree as drop_tree_act, put as put_act, annotate as annotate_act, set_module as set_module_act, unload as unload_act, apply as apply_act, undo as undo_act, redo as redo_act, begin as begin_act, commit as commit_act, abandon as abandon_act, Outcome, Passing, Holding, Given, Leaves, ChangesTo, ChangesModules, PutsAt, AnnotatesAt, AppliesAt, Place, ComesTo, committed, tree_of, text_of, place_of}
 use Rattle.session_core.specs.declared.refusal.Refusal.{Refusal}
 use Rattle.session_core.specs.declared.refusal.Refusal.TheVariants.{Deep, Term, Syntax, Big, NoUndo, NoRedo, Group as InGroup, NoGroup}
-use Rattle.script_core.specs.Form.{Form, tree, copy, drop_tree, put, annotate, set_module, unload, undo, redo, begin, commit, abandon, show, trees, modules, module_text, history, dump, command_of}
+use Rattle.script_core.specs.Form.{Form, tree, copy, drop_tree, put, annotate, set_module, unload, apply, undo, redo, begin, commit, abandon, show, trees, modules, module_text, history, dump, command_of}
 use Rattle.script_core.specs.Handed.{Handed, text, long}
 use Rattle.script_core.specs.Machine.{ReadAs, Told, done, Reply, Replies, history_after}
 use Rattle.script_core.specs.Answer.{ReplyInRun}
@@ -95,15 +100,24 @@ Told-one Comes one r s p q = p.2 ∙ ap done (one p.0 q.0 p.1 q.1) ∙ sym q.2
 same_fault : (f g : Fault) → Some f ≡ Some g → f ≡ g
 same_fault f g e = cc
 
-module _ (one : OneModule) where
-  abbrev Gives : List ℕ → Module → Type 0
-  Gives x m = GivesModule (tokens x) m
+module _ {X : Type 0} (Gives : List Token → X → Type 0) (one : (x : List ℕ) (a b : X) → Gives (tokens x) a → Gives (tokens x) b → a ≡ b) where
+  abbrev From : List ℕ → X → Type 0
+  From x m = Gives (tokens x) m
 
-  pub ReadsAsModule-one : (x : List ℕ) (a b : Result Module Refusal) → ReadsAsModule x a → ReadsAsModule x b → a ≡ b
-  ReadsAsModule-one x (Ok m) (Ok n) p q = outcome-one (Gives x) (length (tokens x)) MAX_TOKENS Deep Syntax (one x) (Ok m) (Ok n) p q
-  ReadsAsModule-one x (Ok m) (Err r) p q = outcome-one (Gives x) (length (tokens x)) MAX_TOKENS Deep Syntax (one x) (Ok m) (Err r) p q
-  ReadsAsModule-one x (Err r) (Ok n) p q = outcome-one (Gives x) (length (tokens x)) MAX_TOKENS Deep Syntax (one x) (Err r) (Ok n) p q
-  ReadsAsModule-one x (Err r) (Err s) p q = outcome-one (Gives x) (length (tokens x)) MAX_TOKENS Deep Syntax (one x) (Err r) (Err s) p q
+  ReadsBy-one : (x : List ℕ) (a b : Result X Refusal) → ReadsBy Gives x a → ReadsBy Gives x b → a ≡ b
+  ReadsBy-one x (Ok m) (Ok n) p q = outcome-one (From x) (length (tokens x)) MAX_TOKENS Deep Syntax (one x) (Ok m) (Ok n) p q
+  ReadsBy-one x (Ok m) (Err r) p q = outcome-one (From x) (length (tokens x)) MAX_TOKENS Deep Syntax (one x) (Ok m) (Err r) p q
+  ReadsBy-one x (Err r) (Ok n) p q = outcome-one (From x) (length (tokens x)) MAX_TOKENS Deep Syntax (one x) (Err r) (Ok n) p q
+  ReadsBy-one x (Err r) (Err s) p q = outcome-one (From x) (length (tokens x)) MAX_TOKENS Deep Syntax (one x) (Err r) (Err s) p q
+
+AppliesAt-one : (meaning : Meaning) (name path : List ℕ) (n : ℕ) (h : History) (place : Place) (program : Program) (strategy : Resolved) (a b : Outcome) → AppliesAt meaning name path n h place program strategy a
+    → AppliesAt meaning name path n h place program strategy b → a ≡ b
+AppliesAt-one meaning name path n h place program strategy =
+    Passing-one (given_by (applied (world_in meaning program h.primitives) path strategy n place.tree)) (λ t. ChangesTo (with_tree h.now name t) h) (λ t. Leaves-one (changed (with_tree h.now name t) h))
+
+module _ (one : OneModule) where
+  ReadsAsModule-one : (x : List ℕ) (a b : Result Module Refusal) → ReadsAsModule x a → ReadsAsModule x b → a ≡ b
+  ReadsAsModule-one = ReadsBy-one GivesModule one
 
   read_as-one : (text : Option (List ℕ)) (m n : Module) → IsSomeAnd text (λ x. ReadsAsModule x (Ok m)) → IsSomeAnd text (λ x. ReadsAsModule x (Ok n)) → m ≡ n
   read_as-one None m n p q = absurd p
@@ -145,34 +159,41 @@ module _ (one : OneModule) where
   ChangesModules-one None c h a b p q = Given-one (Checks h.primitives c.modules) (λ program. ChangesTo c h) (Checks-one h.primitives c.modules) (λ program. Leaves-one (changed c h)) a b p q
   ChangesModules-one (Some g) c h a b p q = p ∙ sym q
 
-  pub ComesTo-one : (act : Act) (h : History) (a b : Outcome) → ComesTo act h a → ComesTo act h b → a ≡ b
-  ComesTo-one (set_tree_act name t) h = Holding-one (fits 0 t) Big (ChangesTo (with_tree h.now name t) h) (Leaves-one (changed (with_tree h.now name t) h))
-  ComesTo-one (copy_tree name other) h = Passing-one (tree_of h.now name) (λ t. ChangesTo (with_tree h.now other t) h) (λ t. Leaves-one (changed (with_tree h.now other t) h))
-  ComesTo-one (drop_tree_act name) h = Passing-one (tree_of h.now name) (λ t. ChangesTo (without_tree h.now name) h) (λ t. Leaves-one (changed (without_tree h.now name) h))
-  ComesTo-one (put_act name path t) h = Passing-one (place_of h.now name path) (PutsAt name path t h) (PutsAt-one name path t h)
-  ComesTo-one (annotate_act name path ts) h = Passing-one (place_of h.now name path) (AnnotatesAt name path ts h) (AnnotatesAt-one name path ts h)
-  ComesTo-one (set_module_act name x) h =
+  pub ComesTo-one : OneResult → (act : Act) (h : History) (a b : Outcome) → ComesTo act h a → ComesTo act h b → a ≡ b
+  ComesTo-one strategies (set_tree_act name t) h = Holding-one (fits 0 t) Big (ChangesTo (with_tree h.now name t) h) (Leaves-one (changed (with_tree h.now name t) h))
+  ComesTo-one strategies (copy_tree name other) h = Passing-one (tree_of h.now name) (λ t. ChangesTo (with_tree h.now other t) h) (λ t. Leaves-one (changed (with_tree h.now other t) h))
+  ComesTo-one strategies (drop_tree_act name) h = Passing-one (tree_of h.now name) (λ t. ChangesTo (without_tree h.now name) h) (λ t. Leaves-one (changed (without_tree h.now name) h))
+  ComesTo-one strategies (put_act name path t) h = Passing-one (place_of h.now name path) (PutsAt name path t h) (PutsAt-one name path t h)
+  ComesTo-one strategies (annotate_act name path ts) h = Passing-one (place_of h.now name path) (AnnotatesAt name path ts h) (AnnotatesAt-one name path ts h)
+  ComesTo-one strategies (set_module_act name x) h =
       Given-one (ReadsAsModule x) (λ m. ChangesModules h.group (with_module h.now name x) h) (ReadsAsModule-one x) (λ m. ChangesModules-one h.group (with_module h.now name x) h)
-  ComesTo-one (unload_act name) h =
+  ComesTo-one strategies (unload_act name) h =
       Passing-one (text_of h.now name) (λ x. ChangesModules h.group (without_module h.now name) h) (λ x. ChangesModules-one h.group (without_module h.now name) h)
-  ComesTo-one (undo_act k) h = Holding-one (is_none h.group) InGroup (Passing (ok_or (undone k h) NoUndo) Leaves) (Passing-one (ok_or (undone k h) NoUndo) Leaves Leaves-one)
-  ComesTo-one (redo_act k) h = Holding-one (is_none h.group) InGroup (Passing (ok_or (redone k h) NoRedo) Leaves) (Passing-one (ok_or (redone k h) NoRedo) Leaves Leaves-one)
-  ComesTo-one begin_act h =
+  ComesTo-one strategies (apply_act meaning name path n x) h =
+      let Resolves : Place → Strategy → Program → Outcome → Type 0 = λ place s program. Passing (resolved_in program h.primitives s) (AppliesAt meaning name path n h place program) in
+      let Checked : Place → Strategy → Outcome → Type 0 = λ place s. Given (Checks h.primitives h.now.modules) (Resolves place s) in
+      Passing-one (place_of h.now name path) (λ place. Given (ReadsAsStrategy x) (Checked place))
+      (λ place. Given-one (ReadsAsStrategy x) (Checked place) (ReadsBy-one GivesStrategy strategies x)
+      (λ s. Given-one (Checks h.primitives h.now.modules) (Resolves place s) (Checks-one h.primitives h.now.modules)
+      (λ program. Passing-one (resolved_in program h.primitives s) (AppliesAt meaning name path n h place program) (AppliesAt-one meaning name path n h place program))))
+  ComesTo-one strategies (undo_act k) h = Holding-one (is_none h.group) InGroup (Passing (ok_or (undone k h) NoUndo) Leaves) (Passing-one (ok_or (undone k h) NoUndo) Leaves Leaves-one)
+  ComesTo-one strategies (redo_act k) h = Holding-one (is_none h.group) InGroup (Passing (ok_or (redone k h) NoRedo) Leaves) (Passing-one (ok_or (redone k h) NoRedo) Leaves Leaves-one)
+  ComesTo-one strategies begin_act h =
       let begun : History = record h { group = Some (record { begun = h.now; changed = false }) } in
       Holding-one (is_none h.group) InGroup (Leaves begun) (Leaves-one begun)
-  ComesTo-one commit_act h =
+  ComesTo-one strategies commit_act h =
       Passing-one (ok_or h.group NoGroup) (λ g. Given (Checks h.primitives h.now.modules) (λ program. Leaves (committed g h)))
       (λ g. Given-one (Checks h.primitives h.now.modules) (λ program. Leaves (committed g h)) (Checks-one h.primitives h.now.modules) (λ program. Leaves-one (committed g h)))
-  ComesTo-one abandon_act h =
+  ComesTo-one strategies abandon_act h =
       Passing-one (ok_or h.group NoGroup) (λ g. Leaves (record h { now = g.begun; group = None })) (λ g. Leaves-one (record h { now = g.begun; group = None }))
 
 -- ---- replies
 
-module _ (one : OneTerm) (one_module : OneModule) where
-  Replies-one : (form : Form) (h : History) (r s : Reply) → Replies form h r → Replies form h s → r ≡ s
+module _ (one : OneTerm) (one_module : OneModule) (one_strategy : OneResult) (meaning : Meaning) where
+  Replies-one : (form : Form) (h : History) (r s : Reply) → Replies meaning form h r → Replies meaning form h s → r ≡ s
   Replies-one (tree name x) h =
       let next : Tree → Outcome → Type 0 = λ t. ComesTo (set_tree_act name t) h in
-      Told-one (Given (ReadAs Spells x) next) (Given-one (ReadAs Spells x) next (ReadAs-one Spells one.term x) (λ t. ComesTo-one one_module (set_tree_act name t) h))
+      Told-one (Given (ReadAs Spells x) next) (Given-one (ReadAs Spells x) next (ReadAs-one Spells one.term x) (λ t. ComesTo-one one_module one_strategy (set_tree_act name t) h))
   Replies-one (put name path x) h =
       let next : Place → Tree → Outcome → Type 0 = λ place t. PutsAt name path t h place in
       Told-one (Passing (place_of h.now name path) (λ place. Given (ReadAs Spells x) (next place))) (Passing-one (place_of h.now name path) (λ place. Given (ReadAs Spells x) (next place))
@@ -181,15 +202,16 @@ module _ (one : OneTerm) (one_module : OneModule) where
       let next : Place → List Tree → Outcome → Type 0 = λ place ts. AnnotatesAt name path ts h place in
       Told-one (Passing (place_of h.now name path) (λ place. Given (ReadAs SpellsAnnotations x) (next place))) (Passing-one (place_of h.now name path) (λ place. Given (ReadAs SpellsAnnotations x) (next place))
       (λ place. Given-one (ReadAs SpellsAnnotations x) (next place) (ReadAs-one SpellsAnnotations one.annotations x) (λ ts. AnnotatesAt-one name path ts h place)))
-  Replies-one (copy name other) h = Told-one (ComesTo (copy_tree name other) h) (ComesTo-one one_module (copy_tree name other) h)
-  Replies-one (drop_tree name) h = Told-one (ComesTo (drop_tree_act name) h) (ComesTo-one one_module (drop_tree_act name) h)
-  Replies-one (set_module name x) h = Told-one (ComesTo (set_module_act name x) h) (ComesTo-one one_module (set_module_act name x) h)
-  Replies-one (unload name) h = Told-one (ComesTo (unload_act name) h) (ComesTo-one one_module (unload_act name) h)
-  Replies-one (undo n) h = Told-one (ComesTo (undo_act n) h) (ComesTo-one one_module (undo_act n) h)
-  Replies-one (redo n) h = Told-one (ComesTo (redo_act n) h) (ComesTo-one one_module (redo_act n) h)
-  Replies-one begin h = Told-one (ComesTo begin_act h) (ComesTo-one one_module begin_act h)
-  Replies-one commit h = Told-one (ComesTo commit_act h) (ComesTo-one one_module commit_act h)
-  Replies-one abandon h = Told-one (ComesTo abandon_act h) (ComesTo-one one_module abandon_act h)
+  Replies-one (copy name other) h = Told-one (ComesTo (copy_tree name other) h) (ComesTo-one one_module one_strategy (copy_tree name other) h)
+  Replies-one (drop_tree name) h = Told-one (ComesTo (drop_tree_act name) h) (ComesTo-one one_module one_strategy (drop_tree_act name) h)
+  Replies-one (set_module name x) h = Told-one (ComesTo (set_module_act name x) h) (ComesTo-one one_module one_strategy (set_module_act name x) h)
+  Replies-one (unload name) h = Told-one (ComesTo (unload_act name) h) (ComesTo-one one_module one_strategy (unload_act name) h)
+  Replies-one (apply name path n x) h = Told-one (ComesTo (apply_act meaning name path n x) h) (ComesTo-one one_module one_strategy (apply_act meaning name path n x) h)
+  Replies-one (undo n) h = Told-one (ComesTo (undo_act n) h) (ComesTo-one one_module one_strategy (undo_act n) h)
+  Replies-one (redo n) h = Told-one (ComesTo (redo_act n) h) (ComesTo-one one_module one_strategy (redo_act n) h)
+  Replies-one begin h = Told-one (ComesTo begin_act h) (ComesTo-one one_module one_strategy begin_act h)
+  Replies-one commit h = Told-one (ComesTo commit_act h) (ComesTo-one one_module one_strategy commit_act h)
+  Replies-one abandon h = Told-one (ComesTo abandon_act h) (ComesTo-one one_module one_strategy abandon_act h)
   Replies-one (show name path) h = λ r s p q. p ∙ sym q
   Replies-one trees h = λ r s p q. p ∙ sym q
   Replies-one modules h = λ r s p q. p ∙ sym q
@@ -197,25 +219,25 @@ module _ (one : OneTerm) (one_module : OneModule) where
   Replies-one history h = λ r s p q. p ∙ sym q
   Replies-one dump h = λ r s p q. p ∙ sym q
 
-  read-one : (read : Result Form Refusal) (h : History) (r s : Reply) → MatchResult read (λ form. Replies form h r) (λ refusal. r ≡ Err refusal) →
-      MatchResult read (λ form. Replies form h s) (λ refusal. s ≡ Err refusal) → r ≡ s
+  read-one : (read : Result Form Refusal) (h : History) (r s : Reply) → MatchResult read (λ form. Replies meaning form h r) (λ refusal. r ≡ Err refusal) →
+      MatchResult read (λ form. Replies meaning form h s) (λ refusal. s ≡ Err refusal) → r ≡ s
   read-one (Ok form) h r s p q = Replies-one form h r s p q
   read-one (Err refusal) h r s p q = p ∙ sym q
 
-  ReplyInRun-one : (steps : ℕ) (command : Handed) (flag : Bool) (h : History) (r s : Reply) → ReplyInRun steps command flag h r → ReplyInRun steps command flag h s → r ≡ s
+  ReplyInRun-one : (steps : ℕ) (command : Handed) (flag : Bool) (h : History) (r s : Reply) → ReplyInRun meaning steps command flag h r → ReplyInRun meaning steps command flag h s → r ≡ s
   ReplyInRun-one steps (text command) false h r s p q = read-one (command_of steps command) h r s p q
   ReplyInRun-one steps long false h r s p q = p ∙ sym q
   ReplyInRun-one steps command true h r s p q = p.1 ∙ sym q.1
 
-  pub Replied-one : (stop : Bool) (steps : ℕ) (commands : List Handed) (flags : List Bool) (h : History) (rs ss : List Reply) → Replied stop (ReplyInRun steps) commands flags h rs → Replied stop (ReplyInRun steps) commands flags h ss → rs ≡ ss
+  pub Replied-one : (stop : Bool) (steps : ℕ) (commands : List Handed) (flags : List Bool) (h : History) (rs ss : List Reply) → Replied stop (ReplyInRun meaning steps) commands flags h rs → Replied stop (ReplyInRun meaning steps) commands flags h ss → rs ≡ ss
   Replied-one stop steps [] [] h [] [] p q = refl
   Replied-one stop steps (c ∷ cs) (f ∷ fs) h (r ∷ rs) (s ∷ ss) p q =
       let first = ReplyInRun-one steps c f h r s p.0 q.0 in
-      behind (stop && is_err r) first p.1 (subst (λ (x : Reply). MatchBool (stop && is_err x) ((fs ≡ []) × (ss ≡ [])) (Replied stop (ReplyInRun steps) cs fs (history_after h x) ss)) (sym first) q.1)
+      behind (stop && is_err r) first p.1 (subst (λ (x : Reply). MatchBool (stop && is_err x) ((fs ≡ []) × (ss ≡ [])) (Replied stop (ReplyInRun meaning steps) cs fs (history_after h x) ss)) (sym first) q.1)
       (Replied-one stop steps cs fs (history_after h r) rs ss)
     where
-      behind : (b : Bool) → r ≡ s → MatchBool b ((fs ≡ []) × (rs ≡ [])) (Replied stop (ReplyInRun steps) cs fs (history_after h r) rs) → MatchBool b ((fs ≡ []) × (ss ≡ [])) (Replied stop (ReplyInRun steps) cs fs (history_after h r) ss) →
-          (Replied stop (ReplyInRun steps) cs fs (history_after h r) rs → Replied stop (ReplyInRun steps) cs fs (history_after h r) ss → rs ≡ ss) → r ∷ rs ≡ s ∷ ss
+      behind : (b : Bool) → r ≡ s → MatchBool b ((fs ≡ []) × (rs ≡ [])) (Replied stop (ReplyInRun meaning steps) cs fs (history_after h r) rs) → MatchBool b ((fs ≡ []) × (ss ≡ [])) (Replied stop (ReplyInRun meaning steps) cs fs (history_after h r) ss) →
+          (Replied stop (ReplyInRun meaning steps) cs fs (history_after h r) rs → Replied stop (ReplyInRun meaning steps) cs fs (history_after h r) ss → rs ≡ ss) → r ∷ rs ≡ s ∷ ss
       behind true e a b rest = ap (λ (x : Reply). x ∷ rs) e ∙ ap (λ (xs : List Reply). s ∷ xs) (a.1 ∙ sym b.1)
       behind false e a b rest = ap (λ (x : Reply). x ∷ rs) e ∙ ap (λ (xs : List Reply). s ∷ xs) (rest a b)
   Replied-one stop steps [] [] h (r ∷ rs) ss p q = absurd p

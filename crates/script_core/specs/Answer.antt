@@ -1,5 +1,6 @@
 -- How one command of a run is answered.
 use Rattle.std.specs.Prelude.{◌≡◌, ◌⊎◌, ℕ, Bool, true, false, List, ◌++◌, Ok, Err, is_ok}
+use Rattle.session_core.specs.Applying.{Meaning}
 use Rattle.session_core.specs.History.{History}
 use Rattle.session_core.specs.declared.refusal.Refusal.{Refusal}
 use Rattle.session_core.specs.declared.refusal.Refusal.TheVariants.{Memory, Line, Long, Name, NoTree, NoModule, Term, Deep, Path, Syntax, Check, Fails, Spent, Big, NoUndo, NoRedo, Group, NoGroup}
@@ -16,9 +17,9 @@ takes_none long = true
 
 -- The reply to a command in a run. Where the flag says that a growth of memory was refused, it is
 -- `refused 1 memory`; no command that takes no memory has a flag.
-abbrev pub ReplyInRun : ℕ → Handed → Bool → History → Reply → Type 0
-ReplyInRun steps command false h reply = ReplyTo steps command h reply
-ReplyInRun steps command true h reply = (takes_none command ≡ false) × (reply ≡ Err Memory)
+abbrev pub ReplyInRun : Meaning → ℕ → Handed → Bool → History → Reply → Type 0
+ReplyInRun meaning steps command false h reply = ReplyTo meaning steps command h reply
+ReplyInRun meaning steps command true h reply = (takes_none command ≡ false) × (reply ≡ Err Memory)
 
 -- A command is answered: what the answer's buffer held before, it holds with the answer behind it.
 pub record Answered (Rule : Replying) (command : Handed) (old new : History) (before after : List ℕ)

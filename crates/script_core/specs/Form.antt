@@ -10,6 +10,7 @@ use Rattle.aterm_text.specs.Tokens.{is_blank, without_blanks}
 use Rattle.session_core.specs.declared.refusal.Refusal.{Refusal}
 use Rattle.session_core.specs.declared.refusal.Refusal.TheVariants.{Line, Name}
 use Rattle.script_core.specs.Script.{without_end}
+use Rattle.session_core.specs.Steps.{AreSteps}
 use Rattle.session_core.specs.declared.TheConstants.{MAX_STEPS}
 
 pub data Form : Type 0 where
@@ -27,6 +28,8 @@ pub data Form : Type 0 where
   set_module : List ℕ → List ℕ → Form
   -- takes the module of the name away
   unload : List ℕ → Form
+  -- applies the strategy that the text spells at the path of the name's tree, within so many steps
+  apply : List ℕ → List ℕ → ℕ → List ℕ → Form
   -- goes so many steps back, or forward
   undo : ℕ → Form
   redo : ℕ → Form
@@ -106,13 +109,42 @@ last_steps rest =
     then (if has_word (behind_word rest) then None else steps_of (front_word rest))
     else Some 1
 
--- A form ends with `at` and a path, which may both be missing: the path is then the root.
+-- A keyword may come next, with a word behind it: that word, if it does, and what stands behind.
+abbrev pub option_word : List ℕ → List ℕ → Option (List ℕ)
+option_word keyword rest =
+    if is_same (front_word rest) keyword then Some (front_word (behind_word rest)) else None
+
+abbrev pub behind_option : List ℕ → List ℕ → List ℕ
+behind_option keyword rest =
+    if is_same (front_word rest) keyword then behind_word (behind_word rest) else rest
+
+-- the path of a word, or the root where there is none
+abbrev pub path_or_root : Option (List ℕ) → Option (List ℕ)
+path_or_root None = Some []
+path_or_root (Some word) = path_of word
+
+-- the number of steps of a word, or this one where there is none
+abbrev pub steps_or : ℕ → Option (List ℕ) → Option ℕ
+steps_or steps None = Some steps
+steps_or steps (Some word) = steps_of word
+
+-- A form ends with `at` and a path, which may both be missing.
 abbrev pub last_place : List ℕ → Option (List ℕ)
 last_place rest =
-    if has_word rest
-    then (if is_same (front_word rest) (codes "at") && not (has_word (behind_word (behind_word rest)))
-    then path_of (front_word (behind_word rest)) else None)
-    else Some []
+    if has_word (behind_option (codes "at") rest) then None
+    else path_or_root (option_word (codes "at") rest)
+
+-- A form ends with `do` and a text.
+abbrev pub with_do : (List ℕ → Form) → List ℕ → Option Form
+with_do form rest =
+    if is_same (front_word rest) (codes "do") then Some (form (last_text (behind_word rest))) else None
+
+-- A form goes on with `within` and a number of steps, which may both be missing, and ends with `do` and a
+-- text.
+abbrev pub with_budget : ℕ → (ℕ → List ℕ → Form) → List ℕ → Option Form
+with_budget steps form rest =
+    option_and_then (λ n. with_do (form n) (behind_option (codes "within") rest))
+    (steps_or steps (option_word (codes "within") rest))
 
 -- ---- forms
 
@@ -138,6 +170,13 @@ module_form rest = with_word rest (λ name behind. Some (set_module name (last_t
 abbrev pub unload_form : List ℕ → Option Form
 unload_form rest = option_map unload (last_name rest)
 
+-- Both `at` and `within`, in this order, may be missing.
+abbrev pub apply_form : ℕ → List ℕ → Option Form
+apply_form steps rest =
+    with_word rest (λ name behind. option_and_then
+    (λ path. with_budget steps (apply name path) (behind_option (codes "at") behind))
+    (path_or_root (option_word (codes "at") behind)))
+
 abbrev pub text_form : List ℕ → Option Form
 text_form rest = option_map module_text (last_name rest)
 
@@ -154,6 +193,7 @@ form_with steps keyword rest =
     if is_same keyword (codes "annotate") then annotate_form rest else
     if is_same keyword (codes "module") then module_form rest else
     if is_same keyword (codes "unload") then unload_form rest else
+    if is_same keyword (codes "apply") then apply_form steps rest else
     if is_same keyword (codes "undo") then option_map undo (last_steps rest) else
     if is_same keyword (codes "redo") then option_map redo (last_steps rest) else
     if is_same keyword (codes "begin") then ended begin rest else
@@ -180,6 +220,7 @@ has_labels (put name path text) = is_some (label_of name)
 has_labels (annotate name path text) = is_some (label_of name)
 has_labels (set_module name text) = is_some (label_of name)
 has_labels (unload name) = is_some (label_of name)
+has_labels (apply name path steps text) = is_some (label_of name)
 has_labels (undo n) = true
 has_labels (redo n) = true
 has_labels begin = true
@@ -201,6 +242,11 @@ checked (Some form) = if has_labels form then Ok form else Err Name
 abbrev pub command_of : ℕ → List ℕ → Result Form Refusal
 command_of steps command = checked (form_of steps command)
 
+-- the budget of a form, where it has one, is a number of steps
+abbrev pub HasBudget : Form → Type 0
+HasBudget (apply name path steps text) = AreSteps steps
+HasBudget form = Unit {0}
+
 -- ---- commands that take no memory
 
 -- whether a keyword is `undo`, `redo`, `begin` or `abandon`
@@ -221,6 +267,7 @@ is_without_memory (put name path text) = false
 is_without_memory (annotate name path text) = false
 is_without_memory (set_module name text) = false
 is_without_memory (unload name) = false
+is_without_memory (apply name path steps text) = false
 is_without_memory (undo n) = true
 is_without_memory (redo n) = true
 is_without_memory begin = true

@@ -5,6 +5,7 @@ use Rattle.std.specs.FinMap as finmap
 use Rattle.aterm_text.specs.Tokens.{is_blank}
 use Rattle.strategy_check.specs.Faults.{Primitives}
 use Rattle.change_log.specs.Contents.{Contents, no_contents}
+use Rattle.session_core.specs.Applying.{Meaning}
 use Rattle.session_core.specs.History.{History, AreSound}
 use Rattle.session_core.specs.Dump.{dumped, AreNamedTerms}
 use Rattle.script_core.specs.declared.TheConstants.{MAX_COMMAND}
@@ -15,12 +16,12 @@ use Rattle.script_core.specs.Answer.{ReplyInRun}
 use Rattle.script_core.specs.Run.{Replied, Leads, out}
 
 -- The commands, the flags and the history before them determine the replies, and so all that is
--- written and the history after them.
+-- written and the history after them, by what primitives mean.
 abbrev pub OneRun : Type 0
 OneRun =
-    (stop : Bool) (steps : ℕ) (commands : List Handed) (flags : List Bool) (h : History)
-    (replies others : List Reply) → Replied stop (ReplyInRun steps) commands flags h replies
-    → Replied stop (ReplyInRun steps) commands flags h others → replies ≡ others
+    (meaning : Meaning) (stop : Bool) (steps : ℕ) (commands : List Handed) (flags : List Bool) (h : History)
+    (replies others : List Reply) → Replied stop (ReplyInRun meaning steps) commands flags h replies
+    → Replied stop (ReplyInRun meaning steps) commands flags h others → replies ≡ others
 
 -- ---- dumps
 
@@ -62,13 +63,13 @@ pub record GivesAgain (c : Contents) (g : History) (replies : List Reply) : Type
 -- A dump reads back: on a session with nothing in it, whatever its settings, it gives the same contents.
 abbrev pub DumpReadsBack : Type 0
 DumpReadsBack =
-    (stop : Bool) (steps : ℕ) (c : Contents) (h g : History) (flags : List Bool) (replies : List Reply)
+    (meaning : Meaning) (stop : Bool) (steps : ℕ) (c : Contents) (h g : History) (flags : List Bool) (replies : List Reply)
     → CanBeGiven h.primitives c → IsBare h → AreClear flags
-    → Leads stop (ReplyInRun steps) (handed (dumped c)) h g flags replies → GivesAgain c g replies
+    → Leads stop (ReplyInRun meaning steps) (handed (dumped c)) h g flags replies → GivesAgain c g replies
 
 -- Such a run there is, on every such session: a dump is answered without a refused growth.
 abbrev pub DumpIsAnswered : Type 0
 DumpIsAnswered =
-    (stop : Bool) (steps : ℕ) (c : Contents) (h : History) → CanBeGiven h.primitives c → IsBare h
+    (meaning : Meaning) (stop : Bool) (steps : ℕ) (c : Contents) (h : History) → CanBeGiven h.primitives c → IsBare h
     → (flags : List Bool) × (replies : List Reply)
-    × AreClear flags × Replied stop (ReplyInRun steps) (handed (dumped c)) flags h replies
+    × AreClear flags × Replied stop (ReplyInRun meaning steps) (handed (dumped c)) flags h replies

@@ -9,13 +9,14 @@ use Rattle.aterm_text.specs.Grammar.{Spells, SpellsAnnotations}
 use Rattle.aterm_text.specs.Printed.{print, print_name as print_symbol}
 use Rattle.strategy_check.specs.Words.{word_of as kind_word}
 use Rattle.session_core.specs.History.{History}
+use Rattle.session_core.specs.Applying.{Meaning}
 use Rattle.session_core.specs.Step as session
 use Rattle.session_core.specs.Dump.{dumped}
 use Rattle.session_core.specs.Refusal.{number_of, word_of}
 use Rattle.session_core.specs.declared.refusal.Refusal.{Refusal}
 use Rattle.session_core.specs.declared.refusal.Refusal.TheVariants.{Long, Term, Deep, Check}
 use Rattle.script_core.specs.Handed.{Handed, text as handed_text, long}
-use Rattle.script_core.specs.Form.{Form, tree, copy, drop_tree, put, annotate, set_module, unload, undo, redo, begin, commit, abandon, show, trees, modules, module_text, history, dump, command_of}
+use Rattle.script_core.specs.Form.{Form, tree, copy, drop_tree, put, annotate, set_module, unload, apply, undo, redo, begin, commit, abandon, show, trees, modules, module_text, history, dump, command_of}
 
 -- an accepted command: what it answers, its line feeds included, and the history after it
 pub record Accepted : Type 0 where
@@ -78,41 +79,44 @@ told h answer = Ok (told_of h answer)
 abbrev pub Is : Reply → Reply → Type 0
 Is is reply = reply ≡ is
 
--- The reply to a form, at a history. What a command finds in the session comes before its text.
-abbrev pub Replies : Form → History → Reply → Type 0
-Replies (tree name text) h =
+-- The reply to a form, at a history, where primitives mean this. What a command finds in the session comes
+-- before its text.
+abbrev pub Replies : Meaning → Form → History → Reply → Type 0
+Replies meaning (tree name text) h =
     Told (session.Given (ReadAs Spells text) (λ t. session.ComesTo (session.set_tree name t) h))
-Replies (copy name other) h = Told (session.ComesTo (session.copy_tree name other) h)
-Replies (drop_tree name) h = Told (session.ComesTo (session.drop_tree name) h)
-Replies (put name path text) h =
+Replies meaning (copy name other) h = Told (session.ComesTo (session.copy_tree name other) h)
+Replies meaning (drop_tree name) h = Told (session.ComesTo (session.drop_tree name) h)
+Replies meaning (put name path text) h =
     Told (session.Passing (session.place_of h.now name path) (λ place.
     session.Given (ReadAs Spells text) (λ t. session.PutsAt name path t h place)))
-Replies (annotate name path text) h =
+Replies meaning (annotate name path text) h =
     Told (session.Passing (session.place_of h.now name path) (λ place.
     session.Given (ReadAs SpellsAnnotations text) (λ ts. session.AnnotatesAt name path ts h place)))
-Replies (set_module name text) h = Told (session.ComesTo (session.set_module name text) h)
-Replies (unload name) h = Told (session.ComesTo (session.unload name) h)
-Replies (undo n) h = Told (session.ComesTo (session.undo n) h)
-Replies (redo n) h = Told (session.ComesTo (session.redo n) h)
-Replies begin h = Told (session.ComesTo session.begin h)
-Replies commit h = Told (session.ComesTo session.commit h)
-Replies abandon h = Told (session.ComesTo session.abandon h)
-Replies (show name path) h = Is (shown h (session.place_of h.now name path))
-Replies trees h = Is (told h (listed (codes "trees") (finmap.keys h.now.trees)))
-Replies modules h = Is (told h (listed (codes "modules") (finmap.keys h.now.modules)))
-Replies (module_text name) h = Is (shown_text h (session.text_of h.now name))
-Replies history h = Is (told h (counted h))
-Replies dump h = Is (told h (dumped h.now))
+Replies meaning (set_module name text) h = Told (session.ComesTo (session.set_module name text) h)
+Replies meaning (unload name) h = Told (session.ComesTo (session.unload name) h)
+Replies meaning (apply name path steps text) h =
+    Told (session.ComesTo (session.apply meaning name path steps text) h)
+Replies meaning (undo n) h = Told (session.ComesTo (session.undo n) h)
+Replies meaning (redo n) h = Told (session.ComesTo (session.redo n) h)
+Replies meaning begin h = Told (session.ComesTo session.begin h)
+Replies meaning commit h = Told (session.ComesTo session.commit h)
+Replies meaning abandon h = Told (session.ComesTo session.abandon h)
+Replies meaning (show name path) h = Is (shown h (session.place_of h.now name path))
+Replies meaning trees h = Is (told h (listed (codes "trees") (finmap.keys h.now.trees)))
+Replies meaning modules h = Is (told h (listed (codes "modules") (finmap.keys h.now.modules)))
+Replies meaning (module_text name) h = Is (shown_text h (session.text_of h.now name))
+Replies meaning history h = Is (told h (counted h))
+Replies meaning dump h = Is (told h (dumped h.now))
 
 -- The reply to a text that is a command. The steps are the budget where it names none.
-abbrev pub ReplyToText : ℕ → List ℕ → History → Reply → Type 0
-ReplyToText steps command h reply =
-    MatchResult (command_of steps command) (λ form. Replies form h reply) (λ refusal. reply ≡ Err refusal)
+abbrev pub ReplyToText : Meaning → ℕ → List ℕ → History → Reply → Type 0
+ReplyToText meaning steps command h reply =
+    MatchResult (command_of steps command) (λ form. Replies meaning form h reply) (λ refusal. reply ≡ Err refusal)
 
 -- the reply to a command as it is handed out
-abbrev pub ReplyTo : ℕ → Handed → History → Reply → Type 0
-ReplyTo steps (handed_text command) h reply = ReplyToText steps command h reply
-ReplyTo steps long h reply = reply ≡ Err Long
+abbrev pub ReplyTo : Meaning → ℕ → Handed → History → Reply → Type 0
+ReplyTo meaning steps (handed_text command) h reply = ReplyToText meaning steps command h reply
+ReplyTo meaning steps long h reply = reply ≡ Err Long
 
 -- What a run asks of each reply: how the command as it is handed out, whether a growth of memory was
 -- refused in it, and the history before it stand to the reply.

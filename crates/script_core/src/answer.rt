@@ -10,7 +10,7 @@ ghost use Rattle.session_core.specs.Step.{place_of};
 ghost use Rattle.term_core.specs.Tree.{Tree};
 ghost use Rattle.session_core.specs.Refusal.{number_of};
 ghost use Rattle.session_core.specs.Steps.{AreSteps};
-ghost use Rattle.script_core.specs.Form.{tree, put, annotate, show, module_text, takes_no_memory, is_without_memory};
+ghost use Rattle.script_core.specs.Form.{tree, put, annotate, show, module_text, HasBudget, takes_no_memory, is_without_memory};
 ghost use Rattle.script_core.specs.FedRight.{handed_out};
 ghost use Rattle.script_core.specs.Machine.{ReadAs, Replies, ReplyTo, ReplyToText, line, listed, counted, ok_with, told_of, reason, refused as refused_text};
 ghost use Rattle.script_core.specs.Answer.{Accepts, Answered, Refuses, ReplyInRun, is_fault, reading_refusal, takes_none};
@@ -41,7 +41,7 @@ pub fn answer_text<M: Meaning>(
 ) -> bool
     requires steps { AreSteps steps }
     requires room { vec_len answer.old + ANSWER_ROOM ≤ vec_capacity answer.old }
-    ensures answered { Answered (ReplyInRun steps) (handed_out command.entry) session.old session.new answer.old.items
+    ensures answered { Answered (ReplyInRun M.meaning steps) (handed_out command.entry) session.old session.new answer.old.items
         answer.new.items result }
     ensures room { vec_capacity answer.old ≤ vec_capacity answer.new }
 {
@@ -68,9 +68,9 @@ fn try_answer<M: Meaning>(
 ) -> Result<(), Refusal>
     requires steps { AreSteps steps }
     requires room { vec_len answer.old + ANSWER_ROOM ≤ vec_capacity answer.old }
-    ensures ok { OnOk result (Accepts (ReplyTo steps (handed_out command.entry) session.old) session.new
+    ensures ok { OnOk result (Accepts (ReplyTo M.meaning steps (handed_out command.entry) session.old) session.new
         answer.old.items answer.new.items) }
-    ensures refused { IfErr result (Refuses (ReplyTo steps (handed_out command.entry) session.old)
+    ensures refused { IfErr result (Refuses (ReplyTo M.meaning steps (handed_out command.entry) session.old)
         (takes_none (handed_out command.entry))) }
     ensures err { OnErr result ((session.new ≡ session.old)
         × (answer.new.items ≡ answer.old.items)) }
@@ -92,9 +92,9 @@ fn answer_line<M: Meaning>(
 ) -> Result<(), Refusal>
     requires steps { AreSteps steps }
     requires room { vec_len answer.old + ANSWER_ROOM ≤ vec_capacity answer.old }
-    ensures ok { OnOk result (Accepts (ReplyToText steps command.now session.old) session.new
+    ensures ok { OnOk result (Accepts (ReplyToText M.meaning steps command.now session.old) session.new
         answer.old.items answer.new.items) }
-    ensures refused { IfErr result (Refuses (ReplyToText steps command.now session.old)
+    ensures refused { IfErr result (Refuses (ReplyToText M.meaning steps command.now session.old)
         (takes_no_memory command.now)) }
     ensures err { OnErr result ((session.new ≡ session.old)
         × (answer.new.items ≡ answer.old.items)) }
@@ -115,10 +115,11 @@ fn perform<M: Meaning>(
     command: Command<'_>,
     answer: &mut Vec<u8>,
 ) -> Result<(), Refusal>
-    requires { vec_len answer.old + ANSWER_ROOM ≤ vec_capacity answer.old }
-    ensures ok { OnOk result (Accepts (Replies (form_seen command.entry) session.old) session.new
+    requires budget { HasBudget (form_seen command) }
+    requires room { vec_len answer.old + ANSWER_ROOM ≤ vec_capacity answer.old }
+    ensures ok { OnOk result (Accepts (Replies M.meaning (form_seen command.entry) session.old) session.new
         answer.old.items answer.new.items) }
-    ensures refused { IfErr result (Refuses (Replies (form_seen command.entry) session.old)
+    ensures refused { IfErr result (Refuses (Replies M.meaning (form_seen command.entry) session.old)
         (is_without_memory (form_seen command.entry))) }
     ensures err { OnErr result ((session.new ≡ session.old)
         × (answer.new.items ≡ answer.old.items)) }
@@ -135,6 +136,9 @@ fn perform<M: Meaning>(
         }
         Command::Module(name, text) => say_ok(session.set_module(&name, text), answer),
         Command::Unload(name) => say_ok(session.unload(&name), answer),
+        Command::Apply(name, path, steps, text) => {
+            say_ok(session.apply(&name, &path, steps, text), answer)
+        }
         Command::Undo(n) => say_ok(session.undo(n), answer),
         Command::Redo(n) => say_ok(session.redo(n), answer),
         Command::Begin => say_ok(session.begin(), answer),
@@ -172,8 +176,8 @@ fn set_tree<M: Meaning>(
     name: &Label,
     text: &[u8],
 ) -> Result<(), Refusal>
-    ensures ok { OnOk result (Replies (tree name.now text.now) session.old (Ok (ok_with session.new))) }
-    ensures refused { IfErr result (Refuses (Replies (tree name.now text.now) session.old) false) }
+    ensures ok { OnOk result (Replies M.meaning (tree name.now text.now) session.old (Ok (ok_with session.new))) }
+    ensures refused { IfErr result (Refuses (Replies M.meaning (tree name.now text.now) session.old) false) }
     ensures err { OnErr result (session.new ≡ session.old) }
 {
     match read_term(alloc, text) {
@@ -189,9 +193,9 @@ fn put<M: Meaning>(
     path: &Path,
     text: &[u8],
 ) -> Result<(), Refusal>
-    ensures ok { OnOk result (Replies (put name.now path.now text.now) session.old
+    ensures ok { OnOk result (Replies M.meaning (put name.now path.now text.now) session.old
         (Ok (ok_with session.new))) }
-    ensures refused { IfErr result (Refuses (Replies (put name.now path.now text.now) session.old)
+    ensures refused { IfErr result (Refuses (Replies M.meaning (put name.now path.now text.now) session.old)
         false) }
     ensures err { OnErr result (session.new ≡ session.old) }
 {
@@ -211,9 +215,9 @@ fn annotate<M: Meaning>(
     path: &Path,
     text: &[u8],
 ) -> Result<(), Refusal>
-    ensures ok { OnOk result (Replies (annotate name.now path.now text.now) session.old
+    ensures ok { OnOk result (Replies M.meaning (annotate name.now path.now text.now) session.old
         (Ok (ok_with session.new))) }
-    ensures refused { IfErr result (Refuses (Replies (annotate name.now path.now text.now) session.old)
+    ensures refused { IfErr result (Refuses (Replies M.meaning (annotate name.now path.now text.now) session.old)
         false) }
     ensures err { OnErr result (session.new ≡ session.old) }
 {
@@ -236,9 +240,9 @@ fn find_place<'s, M: Meaning>(
         ≡ Ok (record { tree = tree; part = part.now }))) }
     ensures refused { IfErr result (λ refusal. place_of session.now.now name.now path.now
         ≡ Err refusal) }
-    ensures shown { IfOk result (λ part. Replies (show name.now path.now) session.now
+    ensures shown { IfOk result (λ part. Replies M.meaning (show name.now path.now) session.now
         (Ok (told_of session.now (line (print_of part.now))))) }
-    ensures not_shown { IfErr result (λ refusal. Replies (show name.now path.now) session.now
+    ensures not_shown { IfErr result (λ refusal. Replies M.meaning (show name.now path.now) session.now
         (Err refusal)) }
 {
     let Some(tree) = session.tree(name) else {
@@ -288,9 +292,9 @@ fn show_place<M: Meaning>(
     path: &Path,
     answer: &mut Vec<u8>,
 ) -> Result<(), Refusal>
-    ensures ok { OnOk result (Accepts (Replies (show name.now path.now) session.now) session.now
+    ensures ok { OnOk result (Accepts (Replies M.meaning (show name.now path.now) session.now) session.now
         answer.old.items answer.new.items) }
-    ensures refused { IfErr result (Refuses (Replies (show name.now path.now) session.now) false) }
+    ensures refused { IfErr result (Refuses (Replies M.meaning (show name.now path.now) session.now) false) }
     ensures err { OnErr result (answer.new.items ≡ answer.old.items) }
     ensures len { OnErr result (vec_len answer.new ≡ vec_len answer.old) }
     ensures room { vec_capacity answer.old ≤ vec_capacity answer.new }
@@ -318,9 +322,9 @@ fn show_text<M: Meaning>(
     name: &Label,
     answer: &mut Vec<u8>,
 ) -> Result<(), Refusal>
-    ensures ok { OnOk result (Accepts (Replies (module_text name.now) session.now) session.now
+    ensures ok { OnOk result (Accepts (Replies M.meaning (module_text name.now) session.now) session.now
         answer.old.items answer.new.items) }
-    ensures refused { IfErr result (Refuses (Replies (module_text name.now) session.now) false) }
+    ensures refused { IfErr result (Refuses (Replies M.meaning (module_text name.now) session.now) false) }
     ensures err { OnErr result (answer.new.items ≡ answer.old.items) }
     ensures len { OnErr result (vec_len answer.new ≡ vec_len answer.old) }
     ensures room { vec_capacity answer.old ≤ vec_capacity answer.new }

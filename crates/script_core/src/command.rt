@@ -1,12 +1,12 @@
 //! The forms of commands.
 
-ghost use Rattle.std.specs.Prelude.{◌≡◌, ◌≤◌, length, ◌⊎◌, ℕ, List, false, IfOk, IfErr, IfSome, Ok, Err, Some, None};
+ghost use Rattle.std.specs.Prelude.{◌≡◌, ◌≤◌, length, ◌⊎◌, ℕ, List, false, IfOk, IfErr, IfSome, Ok, Err, Some, None, option_copied};
 ghost use Rattle.std.specs.List.{prefix_len, suffix_len, position_or_len};
 ghost use Rattle.term_core.specs.Word.{label_of};
 ghost use Rattle.aterm_text.specs.Tokens.{is_blank, without_blanks};
 ghost use Rattle.script_core.specs.Script.{without_end};
 ghost use Rattle.session_core.specs.Steps.{AreSteps};
-ghost use Rattle.script_core.specs.Form.{Form, command_of, checked, tree_form, copy_form, drop_form, put_form, annotate_form, module_form, unload_form, text_form, show_form, last_name, last_steps, last_place, last_text, ended, form_with, is_without_memory, takes_no_memory, takes_no_memory_with, front_word, behind_word, has_word};
+ghost use Rattle.script_core.specs.Form.{Form, command_of, checked, tree_form, copy_form, drop_form, put_form, annotate_form, module_form, unload_form, apply_form, text_form, show_form, last_name, last_steps, last_text, option_word, behind_option, path_or_root, steps_or, steps_of, ended, form_with, HasBudget, is_without_memory, takes_no_memory, takes_no_memory_with, front_word, behind_word, has_word};
 ghost use Rattle.term_paths.specs.PathText.{path_of};
 ghost use Rattle.script_core.specs.CommandView.{form as form_seen};
 
@@ -33,6 +33,8 @@ pub enum Command<'a> {
     Module(Label, &'a [u8]),
     /// Takes the module of the name away.
     Unload(Label),
+    /// Applies the strategy that the text gives at the path, within so many steps, from 1 to 1,000,000.
+    Apply(Label, Path, u32, &'a [u8]),
     /// Goes so many steps back.
     Undo(u32),
     /// Goes so many steps forward.
@@ -68,6 +70,7 @@ impl<'a> Command<'a> {
         ensures ok { IfOk result (λ read. command_of steps command.now ≡ Ok (form_seen read)) }
         ensures without_memory { IfOk result (λ read. takes_no_memory command.now
             ≡ is_without_memory (form_seen read)) }
+        ensures budget { IfOk result (λ read. HasBudget (form_seen read)) }
         ensures refused { IfErr result (λ refusal. ((refusal ≡ Refusal.Memory)
             × (takes_no_memory command.now ≡ false))
             ⊎ (command_of steps command.now ≡ Err refusal)) }
@@ -93,13 +96,15 @@ fn read_other<'a>(
     alloc: Global,
     keyword: &[u8],
     rest: &'a [u8],
-    _steps: u32,
+    steps: u32,
 ) -> Result<Command<'a>, Refusal>
-    requires { takes_no_memory_with keyword.now ≡ false }
-    ensures ok { IfOk result (λ read. checked (form_with _steps keyword.now rest.now) ≡ Ok (form_seen read)) }
+    requires memory { takes_no_memory_with keyword.now ≡ false }
+    requires steps { AreSteps steps }
+    ensures ok { IfOk result (λ read. checked (form_with steps keyword.now rest.now) ≡ Ok (form_seen read)) }
     ensures may_take_memory { IfOk result (λ read. is_without_memory (form_seen read) ≡ false) }
+    ensures budget { IfOk result (λ read. HasBudget (form_seen read)) }
     ensures refused { IfErr result (λ refusal. (refusal ≡ Refusal.Memory)
-        ⊎ (checked (form_with _steps keyword.now rest.now) ≡ Err refusal)) }
+        ⊎ (checked (form_with steps keyword.now rest.now) ≡ Err refusal)) }
 {
     if keyword == b"tree".as_slice() {
         read_tree(alloc, rest)
@@ -115,6 +120,8 @@ fn read_other<'a>(
         read_module(alloc, rest)
     } else if keyword == b"unload".as_slice() {
         Ok(Command::Unload(read_last_name(alloc, rest)?))
+    } else if keyword == b"apply".as_slice() {
+        read_apply(alloc, rest, steps)
     } else if keyword == b"text".as_slice() {
         Ok(Command::Text(read_last_name(alloc, rest)?))
     } else if keyword == b"show".as_slice() {
@@ -137,6 +144,7 @@ fn read_other<'a>(
 fn read_tree(alloc: Global, rest: &[u8]) -> Result<Command<'_>, Refusal>
     ensures ok { IfOk result (λ read. checked (tree_form rest.now) ≡ Ok (form_seen read)) }
     ensures may_take_memory { IfOk result (λ read. is_without_memory (form_seen read) ≡ false) }
+    ensures budget { IfOk result (λ read. HasBudget (form_seen read)) }
     ensures refused { IfErr result (λ refusal. (refusal ≡ Refusal.Memory)
         ⊎ (checked (tree_form rest.now) ≡ Err refusal)) }
 {
@@ -151,6 +159,7 @@ fn read_tree(alloc: Global, rest: &[u8]) -> Result<Command<'_>, Refusal>
 fn read_copy<'a>(alloc: Global, rest: &[u8]) -> Result<Command<'a>, Refusal>
     ensures ok { IfOk result (λ read. checked (copy_form rest.now) ≡ Ok (form_seen read)) }
     ensures may_take_memory { IfOk result (λ read. is_without_memory (form_seen read) ≡ false) }
+    ensures budget { IfOk result (λ read. HasBudget (form_seen read)) }
     ensures refused { IfErr result (λ refusal. (refusal ≡ Refusal.Memory)
         ⊎ (checked (copy_form rest.now) ≡ Err refusal)) }
 {
@@ -167,6 +176,7 @@ fn read_copy<'a>(alloc: Global, rest: &[u8]) -> Result<Command<'a>, Refusal>
 fn read_put(alloc: Global, rest: &[u8]) -> Result<Command<'_>, Refusal>
     ensures ok { IfOk result (λ read. checked (put_form rest.now) ≡ Ok (form_seen read)) }
     ensures may_take_memory { IfOk result (λ read. is_without_memory (form_seen read) ≡ false) }
+    ensures budget { IfOk result (λ read. HasBudget (form_seen read)) }
     ensures refused { IfErr result (λ refusal. (refusal ≡ Refusal.Memory)
         ⊎ (checked (put_form rest.now) ≡ Err refusal)) }
 {
@@ -183,6 +193,7 @@ fn read_put(alloc: Global, rest: &[u8]) -> Result<Command<'_>, Refusal>
 fn read_annotate(alloc: Global, rest: &[u8]) -> Result<Command<'_>, Refusal>
     ensures ok { IfOk result (λ read. checked (annotate_form rest.now) ≡ Ok (form_seen read)) }
     ensures may_take_memory { IfOk result (λ read. is_without_memory (form_seen read) ≡ false) }
+    ensures budget { IfOk result (λ read. HasBudget (form_seen read)) }
     ensures refused { IfErr result (λ refusal. (refusal ≡ Refusal.Memory)
         ⊎ (checked (annotate_form rest.now) ≡ Err refusal)) }
 {
@@ -199,6 +210,7 @@ fn read_annotate(alloc: Global, rest: &[u8]) -> Result<Command<'_>, Refusal>
 fn read_module(alloc: Global, rest: &[u8]) -> Result<Command<'_>, Refusal>
     ensures ok { IfOk result (λ read. checked (module_form rest.now) ≡ Ok (form_seen read)) }
     ensures may_take_memory { IfOk result (λ read. is_without_memory (form_seen read) ≡ false) }
+    ensures budget { IfOk result (λ read. HasBudget (form_seen read)) }
     ensures refused { IfErr result (λ refusal. (refusal ≡ Refusal.Memory)
         ⊎ (checked (module_form rest.now) ≡ Err refusal)) }
 {
@@ -213,6 +225,7 @@ fn read_module(alloc: Global, rest: &[u8]) -> Result<Command<'_>, Refusal>
 fn read_show<'a>(alloc: Global, rest: &[u8]) -> Result<Command<'a>, Refusal>
     ensures ok { IfOk result (λ read. checked (show_form rest.now) ≡ Ok (form_seen read)) }
     ensures may_take_memory { IfOk result (λ read. is_without_memory (form_seen read) ≡ false) }
+    ensures budget { IfOk result (λ read. HasBudget (form_seen read)) }
     ensures refused { IfErr result (λ refusal. (refusal ≡ Refusal.Memory)
         ⊎ (checked (show_form rest.now) ≡ Err refusal)) }
 {
@@ -220,9 +233,37 @@ fn read_show<'a>(alloc: Global, rest: &[u8]) -> Result<Command<'a>, Refusal>
     if name.is_empty() {
         return Err(Refusal::Line);
     }
-    let path = read_place(alloc, rest)?;
+    let (word, rest) = split_option(b"at", rest);
+    if has_more(rest) {
+        return Err(Refusal::Line);
+    }
+    let path = read_place(alloc, word)?;
     let name = read_label(alloc, name)?;
     Ok(Command::Show(name, path))
+}
+
+fn read_apply(alloc: Global, rest: &[u8], steps: u32) -> Result<Command<'_>, Refusal>
+    requires { AreSteps steps }
+    ensures ok { IfOk result (λ read. checked (apply_form steps rest.now) ≡ Ok (form_seen read)) }
+    ensures may_take_memory { IfOk result (λ read. is_without_memory (form_seen read) ≡ false) }
+    ensures budget { IfOk result (λ read. HasBudget (form_seen read)) }
+    ensures refused { IfErr result (λ refusal. (refusal ≡ Refusal.Memory)
+        ⊎ (checked (apply_form steps rest.now) ≡ Err refusal)) }
+{
+    let (name, rest) = split_word(rest);
+    if name.is_empty() {
+        return Err(Refusal::Line);
+    }
+    let (place, rest) = split_option(b"at", rest);
+    let (budget, rest) = split_option(b"within", rest);
+    let (keyword, text) = split_word(rest);
+    if keyword != b"do".as_slice() {
+        return Err(Refusal::Line);
+    }
+    let path = read_place(alloc, place)?;
+    let steps = read_budget(budget, steps)?;
+    let name = read_label(alloc, name)?;
+    Ok(Command::Apply(name, path, steps, after_blanks(text)))
 }
 
 // A name at the end of a form.
@@ -241,21 +282,16 @@ fn read_last_name(alloc: Global, rest: &[u8]) -> Result<Label, Refusal>
     read_label(alloc, name)
 }
 
-// `at` and a path at the end of a form, or nothing, which is the root.
-fn read_place(alloc: Global, rest: &[u8]) -> Result<Path, Refusal>
-    ensures ok { IfOk result (λ path. last_place rest.now ≡ Some path) }
+// The path of a word, or the root where there is none.
+fn read_place(alloc: Global, word: Option<&[u8]>) -> Result<Path, Refusal>
+    ensures ok { IfOk result (λ path. path_or_root (option_copied word.entry) ≡ Some path) }
     ensures refused { IfErr result (λ refusal. (refusal ≡ Refusal.Memory)
-        ⊎ ((refusal ≡ Refusal.Line) × (last_place rest.now ≡ None))) }
+        ⊎ ((refusal ≡ Refusal.Line) × (path_or_root (option_copied word.entry) ≡ None))) }
 {
-    let (word, rest) = split_word(rest);
-    if word.is_empty() {
-        return Ok(Path::root(alloc));
+    match word {
+        Some(word) => read_path_word(alloc, word),
+        None => Ok(Path::root(alloc)),
     }
-    let (path, rest) = split_word(rest);
-    if word != b"at".as_slice() || has_more(rest) {
-        return Err(Refusal::Line);
-    }
-    read_path_word(alloc, path)
 }
 
 fn read_path_word(alloc: Global, word: &[u8]) -> Result<Path, Refusal>
@@ -275,7 +311,6 @@ fn read_steps(rest: &[u8]) -> Result<u32, Refusal>
     ensures ok { IfOk result (λ steps. last_steps rest.now ≡ Some steps) }
     ensures refused { IfErr result (λ refusal. (refusal ≡ Refusal.Line)
         × (last_steps rest.now ≡ None)) }
-    ensures within { IfOk result (λ steps. 1 ≤ steps) }
 {
     let (word, rest) = split_word(rest);
     if word.is_empty() {
@@ -284,6 +319,30 @@ fn read_steps(rest: &[u8]) -> Result<u32, Refusal>
     if has_more(rest) {
         return Err(Refusal::Line);
     }
+    read_steps_word(word)
+}
+
+// The number of steps of a word, or this one where there is none.
+fn read_budget(word: Option<&[u8]>, steps: u32) -> Result<u32, Refusal>
+    requires { AreSteps steps }
+    ensures ok { IfOk result (λ n. steps_or steps (option_copied word.entry) ≡ Some n) }
+    ensures steps { IfOk result AreSteps }
+    ensures refused { IfErr result (λ refusal. (refusal ≡ Refusal.Line)
+        × (steps_or steps (option_copied word.entry) ≡ None)) }
+{
+    match word {
+        Some(word) => read_steps_word(word),
+        None => Ok(steps),
+    }
+}
+
+// A number of steps, from 1 to 1,000,000.
+fn read_steps_word(word: &[u8]) -> Result<u32, Refusal>
+    ensures ok { IfOk result (λ steps. steps_of word.now ≡ Some steps) }
+    ensures steps { IfOk result AreSteps }
+    ensures refused { IfErr result (λ refusal. (refusal ≡ Refusal.Line)
+        × (steps_of word.now ≡ None)) }
+{
     match read_number(word) {
         Some(steps) if steps >= 1 && steps <= MAX_STEPS as usize => Ok(steps as u32),
         _ => Err(Refusal::Line),
@@ -341,6 +400,19 @@ fn split_word(text: &[u8]) -> (&[u8], &[u8])
 {
     let text = after_blanks(text);
     text.split_at(word_len(text))
+}
+
+// Where this keyword comes next, the word behind it; and what stands behind, or all where it doesn't.
+fn split_option<'a>(keyword: &[u8], rest: &'a [u8]) -> (Option<&'a [u8]>, &'a [u8])
+    ensures word { option_copied result.0 ≡ option_word keyword.now rest.now }
+    ensures behind { result.1.now ≡ behind_option keyword.now rest.now }
+{
+    let (word, behind) = split_word(rest);
+    if word != keyword {
+        return (None, rest);
+    }
+    let (word, behind) = split_word(behind);
+    (Some(word), behind)
 }
 
 fn word_len(text: &[u8]) -> usize

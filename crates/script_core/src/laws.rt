@@ -15,15 +15,17 @@ use aterm_text::laws::{
     one_term, printed_text_is_as_long, printed_text_is_one_line, printed_text_nests,
     printed_text_reads_back,
 };
-use strategy_parse::laws::one_module;
+use strategy_parse::laws::{one_module, one_result};
 
 /// A run of commands in which the same growths of memory are refused has one outcome.
 pub fn one_run()
     ensures { OneRun }
 {
-    // Called for their contracts: at most one tree, one list of annotations and one module comes of a text.
+    // Called for their contracts: at most one tree, one list of annotations, one module and one strategy
+    // comes of a text.
     one_term();
     one_module();
+    one_result();
 }
 
 /// A dump reads back: run on a session with nothing in it and no open group, the dump of contents gives

@@ -86,7 +86,7 @@ pub fn run<M: Meaning, I: Source, O: Sink>(
     requires sink_counts { O.failed sink.old + 1 < 2 ^ 64 }
 
     // All that was read is answered, up to its end; or the run stopped at a refusal.
-    ensures done { IfOk result (λ summary. Answers settings.stop (ReplyInRun settings.steps) session.old session.new
+    ensures done { IfOk result (λ summary. Answers settings.stop (ReplyInRun M.meaning settings.steps) session.old session.new
         (I.left source.old) (I.left source.new) (O.held sink.old) (O.held sink.new)
         summary.accepted summary.refused) }
     ensures calm { OnOk result ((I.failed source.new ≡ I.failed source.old)
@@ -96,17 +96,17 @@ pub fn run<M: Meaning, I: Source, O: Sink>(
     // least as many bytes were read.
     ensures read { result ≡ Err RunFault.Read → (I.failed source.new ≡ I.failed source.old + 1)
         × (O.failed sink.new ≡ O.failed sink.old)
-        × AnswersPart settings.stop (ReplyInRun settings.steps) session.old session.new
+        × AnswersPart settings.stop (ReplyInRun M.meaning settings.steps) session.old session.new
         (I.left source.old) (I.left source.new) (O.held sink.old) (O.held sink.new) 0 }
     ensures turns { result ≡ Err RunFault.Turns → ((I.failed source.new ≡ I.failed source.old)
         × (O.failed sink.new ≡ O.failed sink.old))
-        × AnswersPart settings.stop (ReplyInRun settings.steps) session.old session.new
+        × AnswersPart settings.stop (ReplyInRun M.meaning settings.steps) session.old session.new
         (I.left source.old) (I.left source.new) (O.held sink.old) (O.held sink.new) MAX_READS }
 
     // Where a write or a flush fails, the first commands of what was read are answered.
     ensures write { result ≡ Err RunFault.Write → (O.failed sink.new ≡ O.failed sink.old + 1)
         × (I.failed source.new ≡ I.failed source.old)
-        × AnswersFirst settings.stop (ReplyInRun settings.steps) session.old session.new
+        × AnswersFirst settings.stop (ReplyInRun M.meaning settings.steps) session.old session.new
         (I.left source.old) (I.left source.new) (O.held sink.old) (O.held sink.new) }
 
     // Without memory nothing happened.
@@ -144,11 +144,11 @@ impl Running {
         requires room { ANSWER_ROOM ≤ vec_capacity self.old.answer }
         requires counts { self.old.summary.accepted + self.old.summary.refused + 1 < 2 ^ 64 }
         requires sink { O.failed sink.old + 1 < 2 ^ 64 }
-        ensures answers { IfOk result (AnswersReady ReplyInRun self.old self.new session.old session.new
+        ensures answers { IfOk result (AnswersReady (ReplyInRun M.meaning) self.old self.new session.old session.new
             (O.held sink.old) (O.held sink.new)) }
         ensures same { OnOk result (O.failed sink.new ≡ O.failed sink.old) }
         ensures breaks { OnErr result ((command : Handed) × (self.old.splitter.to_hand_out ≡ Some command)
-            × BreaksOff self.old.settings.stop (ReplyInRun self.old.settings.steps) (command ∷ []) session.old session.new
+            × BreaksOff self.old.settings.stop (ReplyInRun M.meaning self.old.settings.steps) (command ∷ []) session.old session.new
             (O.held sink.old) (O.held sink.new)) }
         ensures count { OnErr result (O.failed sink.new ≡ O.failed sink.old + 1) }
         ensures splitter { self.new.splitter ≡ self.old.splitter }
@@ -180,10 +180,10 @@ impl Running {
         requires counts { self.old.summary.accepted + self.old.summary.refused + length bytes.now
             < 2 ^ 64 }
         requires sink { O.failed sink.old + 1 < 2 ^ 64 }
-        ensures answers { IfOk result (AnswersBytes ReplyInRun self.old self.new session.old session.new
+        ensures answers { IfOk result (AnswersBytes (ReplyInRun M.meaning) self.old self.new session.old session.new
             (O.held sink.old) (O.held sink.new) bytes.now) }
         ensures same { OnOk result (O.failed sink.new ≡ O.failed sink.old) }
-        ensures breaks { OnErr result (Breaks ReplyInRun self.old session.old session.new
+        ensures breaks { OnErr result (Breaks (ReplyInRun M.meaning) self.old session.old session.new
             (O.held sink.old) (O.held sink.new) bytes.now) }
         ensures count { OnErr result (O.failed sink.new ≡ O.failed sink.old + 1) }
         ensures room { ANSWER_ROOM ≤ vec_capacity self.new.answer }
@@ -209,10 +209,10 @@ impl Running {
         requires room { ANSWER_ROOM ≤ vec_capacity self.old.answer }
         requires counts { self.old.summary.accepted + self.old.summary.refused + 1 < 2 ^ 64 }
         requires sink { O.failed sink.old + 1 < 2 ^ 64 }
-        ensures ends { OnOk result (Ends ReplyInRun self.old self.new session.old session.new
+        ensures ends { OnOk result (Ends (ReplyInRun M.meaning) self.old self.new session.old session.new
             (O.held sink.old) (O.held sink.new) []) }
         ensures same { OnOk result (O.failed sink.new ≡ O.failed sink.old) }
-        ensures breaks { OnErr result (Breaks ReplyInRun self.old session.old session.new
+        ensures breaks { OnErr result (Breaks (ReplyInRun M.meaning) self.old session.old session.new
             (O.held sink.old) (O.held sink.new) []) }
         ensures count { OnErr result (O.failed sink.new ≡ O.failed sink.old + 1) }
     {
@@ -238,7 +238,7 @@ impl Running {
             < 2 ^ 64 }
         requires source { I.failed source.old + 1 < 2 ^ 64 }
         requires sink { O.failed sink.old + 1 < 2 ^ 64 }
-        ensures right { TurnRight ReplyInRun result self.old self.new session.old session.new
+        ensures right { TurnRight (ReplyInRun M.meaning) result self.old self.new session.old session.new
             (streams (I.left source.old) (O.held sink.old) (I.failed source.old) (O.failed sink.old))
             (streams (I.left source.new) (O.held sink.new) (I.failed source.new) (O.failed sink.new))
             (length piece.old) }
@@ -274,7 +274,7 @@ impl Running {
         requires room { ANSWER_ROOM ≤ vec_capacity self.old.answer }
         requires source { I.failed source.old + 1 < 2 ^ 64 }
         requires sink { O.failed sink.old + 1 < 2 ^ 64 }
-        ensures { RunRight ReplyInRun result self.old.settings session.old session.new
+        ensures { RunRight (ReplyInRun M.meaning) result self.old.settings session.old session.new
             (streams (I.left source.old) (O.held sink.old) (I.failed source.old) (O.failed sink.old))
             (streams (I.left source.new) (O.held sink.new) (I.failed source.new) (O.failed sink.new)) }
     {

@@ -1,5 +1,6 @@
 //! Tests of runs.
 
+mod applies;
 mod modules;
 mod pieces;
 mod rows;

@@ -289,15 +289,36 @@ fn looks_at_modules_in_order(rt: HostRuntime) -> Result<(), Fail> {
 
 // 4,000 tokens are the most of a text, before it is parsed; a name that a fault tells may be long.
 #[test]
-fn bounds_module_texts(rt: HostRuntime) -> Result<(), Fail> {
-    let table: [(&[u8], u8, usize, &[u8]); 3] = [
-        (b"module m ", b'(', 4000, b"refused 10 syntax\n"),
-        (b"module m ", b'(', 4001, b"refused 8 deep\n"),
-        (b"module m strategies f = ", b'x', 0, b"refused 10 syntax\n"),
+fn bounds_texts(rt: HostRuntime) -> Result<(), Fail> {
+    let table: [(&[u8], u8, usize, &[u8], u64); 5] = [
+        (b"module m ", b'(', 4000, b"refused 10 syntax\n", 0),
+        (b"module m ", b'(', 4001, b"refused 8 deep\n", 0),
+        (
+            b"module m strategies f = ",
+            b'x',
+            0,
+            b"refused 10 syntax\n",
+            0,
+        ),
+        (
+            b"tree t a\napply t do ",
+            b'(',
+            4000,
+            b"ok\nrefused 10 syntax\n",
+            1,
+        ),
+        (
+            b"tree t a\napply t do ",
+            b'(',
+            4001,
+            b"ok\nrefused 8 deep\n",
+            1,
+        ),
     ];
-    for (front, byte, count, answers) in table {
+    for (front, byte, count, answers, accepted) in table {
         let script = with_run(rt.alloc(), front, byte, count)?;
-        assert!(rt; is_row(rt.alloc(), &script, false, answers, ends(0, 1))?);
+        let outcome = ends(accepted, 1);
+        assert!(rt; is_row(rt.alloc(), &script, false, answers, outcome)?);
     }
     let script = with_run(rt.alloc(), b"module m strategies f = ", b'x', 60_000)?;
     let mut answers = with_run(rt.alloc(), b"refused 11 unknown ", b'x', 60_000)?;

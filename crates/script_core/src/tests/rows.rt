@@ -300,9 +300,10 @@ fn bounds_depth(rt: HostRuntime) -> Result<(), Fail> {
         assert!(rt; is_row(rt.alloc(), &script, false, answers, outcome)?);
     }
     let mut script = bracketed(rt.alloc(), b"tree t ", b"", 1000)?;
-    script.extend_from_slice(b"\nshow t")?;
-    let mut answers = bracketed(rt.alloc(), b"ok\n", b"", 1000)?;
+    script.extend_from_slice(b"\napply t do ?x; ![x]\napply t at /0 do ?x; ![x]\nshow t")?;
+    let told = b"ok\nrefused 14 big\nrefused 14 big\n";
+    let mut answers = bracketed(rt.alloc(), told, b"", 1000)?;
     answers.push(b'\n')?;
-    assert!(rt; is_row(rt.alloc(), &script, false, &answers, ends(2, 0))?);
+    assert!(rt; is_row(rt.alloc(), &script, false, &answers, ends(2, 2))?);
     Ok(())
 }
