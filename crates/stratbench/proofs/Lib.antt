@@ -1,2 +1,2 @@
-pub mod StopLemmas
+pub mod FlagLemmas
 pub mod LineRows

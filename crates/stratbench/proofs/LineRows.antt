@@ -6,8 +6,9 @@ use Rattle.clap.specs.declared.error.kind.ErrorKind.TheVariants as kind
 use Rattle.clap.proofs.OnLiterals.{clap_on_literals}
 use Rattle.stratbench.specs.Line.{given, line}
 
--- the flag, the file and the text of the number that these words give, and why they are refused
+-- the flags, the file and the text of the number that these words give, and why they are refused
 record Row : Type 0 where
+  library : Bool
   stop : Bool
   file : Option Text
   steps : Option Text
@@ -15,23 +16,24 @@ record Row : Type 0 where
 
 abbrev row : List Text → Row
 row words = record {
+  library = is_given (codes "library") (given words);
   stop = is_given (codes "stop") (given words);
   file = first_of (codes "file") (given words);
   steps = one_of (codes "steps") (given words);
   fault = fault_of line words;
 }
 
-pub nothing : row (codes "stratbench" ∷ []) ≡ record { stop = false; file = None; steps = Some (codes "100000"); fault = [] }
+pub nothing : row (codes "stratbench" ∷ []) ≡ record { library = false; stop = false; file = None; steps = Some (codes "100000"); fault = [] }
 unfolding clap_on_literals
 nothing = refl
 
-pub all : row (codes "stratbench" ∷ codes "--steps=7" ∷ codes "a" ∷ codes "--stop" ∷ [])
-    ≡ record { stop = true; file = Some (codes "a"); steps = Some (codes "7"); fault = [] }
+pub all : row (codes "stratbench" ∷ codes "--steps=7" ∷ codes "a" ∷ codes "--stop" ∷ codes "--library" ∷ [])
+    ≡ record { library = true; stop = true; file = Some (codes "a"); steps = Some (codes "7"); fault = [] }
 unfolding clap_on_literals
 all = refl
 
 pub behind_dashes : row (codes "stratbench" ∷ codes "--steps" ∷ codes "1" ∷ codes "--" ∷ codes "--stop" ∷ [])
-    ≡ record { stop = false; file = Some (codes "--stop"); steps = Some (codes "1"); fault = [] }
+    ≡ record { library = false; stop = false; file = Some (codes "--stop"); steps = Some (codes "1"); fault = [] }
 unfolding clap_on_literals
 behind_dashes = refl
 

@@ -1,4 +1,4 @@
--- The command line, in the words of `clap`: `--steps N`, `--stop` and the name of a file.
+-- The command line, in the words of `clap`: `--library`, `--steps N`, `--stop` and the name of a file.
 use Rattle.std.specs.Prelude.{◌≡◌, ℕ, List, [], ◌∷◌, codes, pos, Some}
 use Rattle.std.specs.Str.Parse.{IsNumeral, digits_value, without_leading_plus}
 use Rattle.session_core.specs.Steps.{AreSteps}
@@ -15,15 +15,17 @@ steps_option = record (new_rule (codes "steps")) {
   parser = Some (Signed (pos 1) (pos 1000000));
 }
 
-abbrev pub stop_flag : Rule
-stop_flag = record (new_rule (codes "stop")) { long = Some (codes "stop"); action = Some SetTrue }
+-- a flag of this name
+abbrev pub flag_of : Text → Rule
+flag_of name = record (new_rule name) { long = Some name; action = Some SetTrue }
 
 abbrev pub file_name : Rule
 file_name = record (new_rule (codes "file")) { value_names = 1 }
 
 abbrev pub line : App
 line =
-    with_rule (with_rule (with_rule (new_app (codes "stratbench")) steps_option) stop_flag) file_name
+    with_rule (with_rule (with_rule (with_rule (new_app (codes "stratbench")) (flag_of (codes "library"))) steps_option)
+    (flag_of (codes "stop"))) file_name
 
 -- what the words give for each of them, the program's name first
 abbrev pub given : List Text → List Row

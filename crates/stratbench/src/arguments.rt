@@ -14,9 +14,16 @@ use std::convert::AsStr;
 /// The budget of a command that names none, where the command line names none either.
 pub const DEFAULT_STEPS: u32 = 100_000;
 
+// Two examples of use, which stand at the end of the text of help.
+const EXAMPLES: &str = "Examples:
+  stratbench --library simplify.txt      runs a script that applies definitions of the library
+  stratbench --steps 1000 --stop <FILE   runs standard input up to the first refused command";
+
 /// What the command line says.
 #[derive(Clone, Copy, Debug, PartialEq, Eq)]
 pub struct CommandLine<'a> {
+    /// Whether the library's definitions are loaded before the script.
+    pub library: bool,
     /// The budget of commands that name none, from 1 to 1,000,000.
     pub steps: u32,
     /// Whether the run ends behind the first command that is refused.
@@ -25,7 +32,7 @@ pub struct CommandLine<'a> {
     pub file: Option<&'a str>,
 }
 
-/// Reads the command line, the program's name first: `[--steps N] [--stop] [FILE]`.
+/// Reads the command line, the program's name first: `[--library] [--steps N] [--stop] [FILE]`.
 ///
 /// Errors: those of `clap`, among them the text of help that was asked for, and want of memory.
 pub fn arguments<'a, S: AsStr>(alloc: Global, words: &'a [S]) -> Result<CommandLine<'a>, Error>
@@ -37,6 +44,8 @@ pub fn arguments<'a, S: AsStr>(alloc: Global, words: &'a [S]) -> Result<CommandL
         → IsNumberIfSteps text arguments.steps) }
     ensures file { IfOk result (λ arguments. option_map (λ name. name.now) arguments.file
         ≡ first_of (codes "file") (given (map S.text words.now))) }
+    ensures library { IfOk result (λ arguments. arguments.library
+        ≡ is_given (codes "library") (given (map S.text words.now))) }
     ensures stop { IfOk result (λ arguments. arguments.stop
         ≡ is_given (codes "stop") (given (map S.text words.now))) }
 
@@ -46,6 +55,7 @@ pub fn arguments<'a, S: AsStr>(alloc: Global, words: &'a [S]) -> Result<CommandL
 {
     let matches = command(alloc)?.try_get_matches_from(words)?;
     Ok(CommandLine {
+        library: matches.get_flag("library"),
         steps: steps(&matches),
         stop: matches.get_flag("stop"),
         file: matches.get_str("file"),
@@ -55,12 +65,18 @@ pub fn arguments<'a, S: AsStr>(alloc: Global, words: &'a [S]) -> Result<CommandL
 fn command<'a>(alloc: Global) -> Result<Command<'a>, AllocError>
     ensures { IfOk result (λ command. app_of command ≡ line) }
 {
+    let library = Arg::new(alloc, "library")
+        .long("library")
+        .action(ArgAction::SetTrue)
+        .help(
+            "Loads the module `library` first, as a step: try, repeat, topdown, innermost, map and others",
+        );
     let steps = Arg::new(alloc, "steps")
         .long("steps")
         .value_name("N")
         .value_parser(value_parser!(u32).range(1..=MAX_STEPS as i64))
         .default_value("100000")
-        .help("The steps that a strategy may take, where the command doesn't say");
+        .help("The steps that a strategy may take where `apply` names none, from 1 to 1,000,000");
     let stop = Arg::new(alloc, "stop")
         .long("stop")
         .action(ArgAction::SetTrue)
@@ -72,6 +88,8 @@ fn command<'a>(alloc: Global) -> Result<Command<'a>, AllocError>
         .about(
             "Transforms program trees by the commands of a script, and takes back what they changed",
         )
+        .after_help(EXAMPLES)
+        .arg(library)?
         .arg(steps)?
         .arg(stop)?
         .arg(file)

@@ -5,6 +5,7 @@ ghost use Rattle.prim_core.specs.StandardTable.{ComputeStandard};
 ghost use Rattle.session_core.specs.Steps.{AreSteps};
 
 mod arguments;
+mod library;
 mod status;
 #[cfg(test)]
 mod tests;
@@ -12,6 +13,7 @@ mod tests;
 use arguments::{CommandLine, arguments};
 use clap::Error;
 use clap::error::ErrorKind;
+use library::load_library;
 use prim_core::{
     BoxedOperation, Meaning, Primitives, Standard, StandardOperations, addi, divi, gti,
     int_to_string, muli, standard_primitives, strcat, string_to_int, strlen, subti,
@@ -120,6 +122,9 @@ fn run_with<M: Meaning>(
         return Err(RunFault::Memory);
     };
     let mut session = Session::new(rt.alloc(), Primitives::new(primitives));
+    if line.library {
+        load_library(rt.alloc(), &mut session)?;
+    }
     run_session(rt, line, &mut session)
 }
 
