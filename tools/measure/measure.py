@@ -31,15 +31,15 @@ SHAPES = {
 }
 
 
-def instructions(program, words, text):
-    """How many instructions a run takes, and what it writes."""
+def instructions(program, words, text, status=0):
+    """How many instructions a run takes that ends so, and what it writes."""
     with tempfile.NamedTemporaryFile() as out:
         run = subprocess.run(
             ["valgrind", "--tool=callgrind", "--callgrind-out-file=" + out.name, program, *words],
             input=text.encode(),
             capture_output=True,
-            check=True,
         )
+    assert run.returncode == status, run.stderr.decode()
     count = re.search(rb"Collected : (\d+)", run.stderr)
     return int(count.group(1)), run.stdout.decode().strip()
 
