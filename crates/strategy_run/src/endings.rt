@@ -1,6 +1,7 @@
 //! Where scopes and cells that a strategy adds end: behind it, by a frame. What a frame that ends scopes
 //! waits for is all that is left of a strategy; so what is begun there needs no frame of its own, and the
-//! scopes that it doesn't need end at once. A loop by calls or by `rec` there is flat.
+//! scopes that it doesn't need end at once. A loop there by `rec`, or by calls that hand all
+//! names on, is flat.
 
 ghost use Rattle.std.specs.Prelude.{◌≡◌, ◌<◌, ◌≤◌, ◌-◌, ◌^◌, length, reverse, IfSome, OnOk};
 ghost use Rattle.strategy_scopes.specs.Table.{scopes as scopes_of};
