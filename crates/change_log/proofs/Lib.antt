@@ -1,5 +1,6 @@
 pub mod SlotLemmas
 pub mod EntryLemmas
+pub mod PlaceLemmas
 pub mod LogLemmas
 pub mod NameLemmas
 pub mod ContentsLemmas

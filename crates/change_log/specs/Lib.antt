@@ -1,6 +1,7 @@
 pub mod Contents
 pub mod Slots
 pub mod Entries
+pub mod Compact
 pub mod Laws
 pub mod Codes
 pub mod LogView

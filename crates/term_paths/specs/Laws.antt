@@ -1,7 +1,7 @@
 -- Laws of what paths set.
-use Rattle.std.specs.Prelude.{◌≡◌, ℕ, List, ◌++◌, reverse, Some, unwrap_or, option_and_then}
+use Rattle.std.specs.Prelude.{◌≡◌, ℕ, List, ◌∷◌, ◌++◌, reverse, Some, unwrap_or, option_and_then}
 use Rattle.term_core.specs.Tree.{Tree}
-use Rattle.term_paths.specs.Paths.{at, annotations_at, set_at, set_annotations_at, LiesWithin}
+use Rattle.term_paths.specs.Paths.{at, leads, annotations_at, set_at, set_annotations_at, LiesWithin}
 use Rattle.term_paths.specs.Edits.{Edits, paths, behind, edited, Replaces, with_outermost}
 
 -- Where a path leads to a subterm, putting it back after anything was set there gives the tree from
@@ -97,6 +97,50 @@ ApartAnnotationsCommute = (t : Tree) (us vs : List Tree) (p q : List ℕ) → Ar
 abbrev pub ApartMixedCommute : Type 0
 ApartMixedCommute = (t u : Tree) (vs : List Tree) (p q : List ℕ) → AreApart p q
     → set_annotations_at (set_at t p u) q vs ≡ set_at (set_annotations_at t q vs) p u
+
+-- ---- paths that lie within another one
+
+-- What is set at a path takes the place of what was set at a path within it, be it there or not.
+abbrev pub SetAround : Type 0
+SetAround = (t u v : Tree) (p q : List ℕ) → set_at (set_at t (p ++ q) v) p u ≡ set_at t p u
+
+abbrev pub SetAroundAnnotations : Type 0
+SetAroundAnnotations = (t u : Tree) (notes : List Tree) (p q : List ℕ)
+    → set_at (set_annotations_at t (p ++ q) notes) p u ≡ set_at t p u
+
+-- What is set within it afterwards can as well be set in the subterm before that is put there.
+abbrev pub SetInside : Type 0
+SetInside = (t u v : Tree) (p q : List ℕ)
+    → set_at (set_at t p u) (p ++ q) v ≡ set_at t p (set_at u q v)
+
+abbrev pub SetAnnotationsInside : Type 0
+SetAnnotationsInside = (t u : Tree) (notes : List Tree) (p q : List ℕ)
+    → set_annotations_at (set_at t p u) (p ++ q) notes ≡ set_at t p (set_annotations_at u q notes)
+
+-- Whether a path leads to a subterm is the same after a change within it.
+abbrev pub LeadsAround : Type 0
+LeadsAround = (t v : Tree) (p q : List ℕ) → leads (set_at t (p ++ q) v) p ≡ leads t p
+
+abbrev pub LeadsAroundAnnotations : Type 0
+LeadsAroundAnnotations = (t : Tree) (notes : List Tree) (p q : List ℕ)
+    → leads (set_annotations_at t (p ++ q) notes) p ≡ leads t p
+
+-- ---- annotations, and what stands below the subterm that bears them
+
+-- Annotations leave what stands below, and it doesn't matter which of the two is set first.
+abbrev pub BelowIsLeftByAnnotations : Type 0
+BelowIsLeftByAnnotations = (t : Tree) (notes : List Tree) (p q : List ℕ) (i : ℕ)
+    → at (set_annotations_at t p notes) (p ++ i ∷ q) ≡ at t (p ++ i ∷ q)
+
+abbrev pub AnnotationsAndBelowCommute : Type 0
+AnnotationsAndBelowCommute = (t u : Tree) (notes : List Tree) (p q : List ℕ) (i : ℕ)
+    → set_annotations_at (set_at t (p ++ i ∷ q) u) p notes
+    ≡ set_at (set_annotations_at t p notes) (p ++ i ∷ q) u
+
+abbrev pub AnnotationsBelowCommute : Type 0
+AnnotationsBelowCommute = (t : Tree) (notes below : List Tree) (p q : List ℕ) (i : ℕ)
+    → set_annotations_at (set_annotations_at t (p ++ i ∷ q) below) p notes
+    ≡ set_annotations_at (set_annotations_at t p notes) (p ++ i ∷ q) below
 
 -- ---- edits
 

@@ -1,6 +1,6 @@
 //! Laws over the definitions of paths and edits alone. Each is the contract of a function that does nothing.
 
-ghost use Rattle.term_paths.specs.Laws.{PuttingBack, PuttingAnnotationsBack, SetIsThere, SetAnnotationsAreThere, LastSetStays, LastAnnotationsStay, SubtermAfterAnnotations, SwappingTwiceIsNothing, SwappingAnnotationsTwiceIsNothing, AtBehind, SetBehind, SetAnnotationsBehind, ApartIsLeft, ApartIsLeftByAnnotations, ApartCommute, ApartAnnotationsCommute, ApartMixedCommute, EditsMakeTheTree, EditsAfterEdits, EditsOfASubterm, EditsLeadBack, OutermostAreEnough};
+ghost use Rattle.term_paths.specs.Laws.{PuttingBack, PuttingAnnotationsBack, SetIsThere, SetAnnotationsAreThere, LastSetStays, LastAnnotationsStay, SubtermAfterAnnotations, SwappingTwiceIsNothing, SwappingAnnotationsTwiceIsNothing, AtBehind, SetBehind, SetAnnotationsBehind, ApartIsLeft, ApartIsLeftByAnnotations, ApartCommute, ApartAnnotationsCommute, ApartMixedCommute, SetAround, SetAroundAnnotations, SetInside, SetAnnotationsInside, LeadsAround, LeadsAroundAnnotations, BelowIsLeftByAnnotations, AnnotationsAndBelowCommute, AnnotationsBelowCommute, EditsMakeTheTree, EditsAfterEdits, EditsOfASubterm, EditsLeadBack, OutermostAreEnough};
 
 /// Putting back what was there gives the tree from before.
 pub fn putting_back()
@@ -42,6 +42,25 @@ pub fn paths_apart_are_independent()
     ensures order { ApartCommute }
     ensures order_of_annotations { ApartAnnotationsCommute }
     ensures order_of_both { ApartMixedCommute }
+{}
+
+/// What is set at a path takes the place of what was set within it; what is set within it afterwards can
+/// as well be set in the subterm that is put there. Whether it leads to a subterm stays the same.
+pub fn one_path_within_another()
+    ensures around { SetAround }
+    ensures around_annotations { SetAroundAnnotations }
+    ensures inside { SetInside }
+    ensures annotations_inside { SetAnnotationsInside }
+    ensures leads { LeadsAround }
+    ensures leads_by_annotations { LeadsAroundAnnotations }
+{}
+
+/// Annotations leave what stands below the subterm that bears them, and the two can be set in either
+/// order.
+pub fn annotations_and_what_stands_below()
+    ensures left { BelowIsLeftByAnnotations }
+    ensures order { AnnotationsAndBelowCommute }
+    ensures order_of_annotations { AnnotationsBelowCommute }
 {}
 
 /// Edits one after the other, and the edits of a subterm, are edits of the tree.

@@ -1,0 +1,26 @@
+-- Compact logs: of their entries none changes what another one changes too.
+use Rattle.std.specs.Prelude.{◌≡◌, List}
+use Rattle.std.specs.List.{AllPairs}
+use Rattle.term_paths.specs.Paths as path
+use Rattle.change_log.specs.Entries.{Entry, slot_tree, subterm, subterm_annotations, slot_text}
+
+-- Whether the place of the first entry lies within that of the second. Within a slot's tree lies all of
+-- that tree; within a subterm lie the subterms and annotations at paths within its own; within
+-- annotations only these, and within a slot's module text only that.
+abbrev pub LiesWithin : Entry → Entry → Type 0
+LiesWithin (slot_tree i t) (slot_tree j u) = i ≡ j
+LiesWithin (subterm i p t) (slot_tree j u) = i ≡ j
+LiesWithin (subterm_annotations i p ts) (slot_tree j u) = i ≡ j
+LiesWithin (subterm i p t) (subterm j q u) = (i ≡ j) × path.LiesWithin p q
+LiesWithin (subterm_annotations i p ts) (subterm j q u) = (i ≡ j) × path.LiesWithin p q
+LiesWithin (subterm_annotations i p ts) (subterm_annotations j q us) = (i ≡ j) × (p ≡ q)
+LiesWithin (slot_text i x) (slot_text j y) = i ≡ j
+LiesWithin d e = ⊥
+
+-- Neither place lies within the other.
+abbrev pub AreApart : Entry → Entry → Type 0
+AreApart d e = (¬ (LiesWithin d e)) × (¬ (LiesWithin e d))
+
+-- No entry's place lies within another's.
+abbrev pub IsCompact : List Entry → Type 0
+IsCompact log = AllPairs AreApart log
