@@ -2,6 +2,8 @@ pub mod Contents
 pub mod Slots
 pub mod Entries
 pub mod Compact
+pub mod PlaceOrder
+pub mod Merging
 pub mod Laws
 pub mod Codes
 pub mod LogView
