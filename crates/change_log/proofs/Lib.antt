@@ -2,6 +2,7 @@ pub mod SlotLemmas
 pub mod EntryLemmas
 pub mod PlaceLemmas
 pub mod KeyLemmas
+pub mod RelationLemmas
 pub mod MergeLemmas
 pub mod LogLemmas
 pub mod NameLemmas

@@ -4,6 +4,7 @@ pub mod Entries
 pub mod Compact
 pub mod PlaceOrder
 pub mod Merging
+pub mod Relations
 pub mod Laws
 pub mod Codes
 pub mod LogView

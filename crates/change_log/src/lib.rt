@@ -5,6 +5,7 @@
 mod entry;
 pub mod laws;
 mod log;
+mod relation;
 mod slots;
 mod store;
 mod text;
@@ -15,6 +16,8 @@ pub use entry::Kept;
 pub use log::Log;
 #[doc(hidden)]
 pub use log::Replaced;
+#[doc(hidden)]
+pub use relation::Relation;
 #[doc(hidden)]
 pub use slots::Slots;
 pub use store::Store;

@@ -21,10 +21,10 @@ pub struct Log {
 /// What one change replaced, without the path of its place.
 #[derive(Drop)]
 pub struct Replaced {
-    slot: usize,
+    pub(crate) slot: usize,
     // How long the path is.
-    depth: usize,
-    kept: Kept,
+    pub(crate) depth: usize,
+    pub(crate) kept: Kept,
 }
 
 impl Model for Log {

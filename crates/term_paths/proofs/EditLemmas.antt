@@ -1,10 +1,10 @@
 -- Edits, one after the other.
-use Rattle.std.proofs.Common.{◌≡◌, ℕ, List, [], ◌∷◌, ◌++◌, reverse, map, refl, sym, ap, ◌∙◌, subst, slice_get, Some, None, IsSome, is_some}
+use Rattle.std.proofs.Common.{◌≡◌, ℕ, List, [], ◌∷◌, ◌++◌, reverse, refl, sym, ap, ◌∙◌, subst, slice_get, Some, None, IsSome, is_some}
 use Rattle.std.proofs.lemmas.List.{map-append}
 use Rattle.std.proofs.lemmas.Grind.{reverse_onto}
 use Rattle.term_core.specs.Tree.{Tree, children, with_child}
 use Rattle.term_paths.specs.Paths.{at, set_at}
-use Rattle.term_paths.specs.Edits.{Edit, Edits, paths, behind, edited, Replaces}
+use Rattle.term_paths.specs.Edits.{Edits, paths, behind, Replaces}
 use Rattle.term_paths.specs.Laws.{EditsMakeTheTree, EditsAfterEdits, EditsOfASubterm, EditsLeadBack}
 use Rattle.term_paths.proofs.PathLemmas.{with_child-same, child-with_child, with_child-with_child, at-child, at-no_child, set_at-child}
 use Rattle.term_paths.proofs.LawLemmas.{putting_back, set_is_there}

@@ -1,13 +1,12 @@
 -- Trees of which one is the other after edits agree but for these.
 use Rattle.std.proofs.Common.{◌≡◌, ℕ, ◌+◌, zero, suc, true, false, cond, ◌==◌, eq-eqb, List, [], ◌∷◌, ◌++◌, map, set, refl, sym, ap, ◌∙◌, subst, Some, None, arith}
 use Rattle.std.specs.Prelude.{⊤}
-use Rattle.std.specs.declared.option.Option.{Option}
 use Rattle.std.specs.List.{slice_get}
 use Rattle.std.specs.Bool.{IsFalse}
 use Rattle.std.specs.Option.{option_map_or}
 use Rattle.term_core.specs.Tree.{Tree, Trees, integer, branch, none, more, to_list, of_list, children, with_child}
 use Rattle.term_core.proofs.TreeLemmas.{of_list-to_list}
-use Rattle.term_paths.specs.Paths.{at, set_at}
+use Rattle.term_paths.specs.Paths.{set_at}
 use Rattle.term_paths.specs.Edits.{Edits, paths, Replaces, has_root, through, kids_of, with_outermost, all_with_outermost}
 use Rattle.term_paths.specs.Laws.{OutermostAreEnough}
 

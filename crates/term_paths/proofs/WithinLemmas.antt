@@ -1,8 +1,8 @@
 -- Changes at a path and at paths that lie within it.
-use Rattle.std.proofs.Common.{◌≡◌, ℕ, List, [], ◌∷◌, ◌++◌, refl, sym, ap, ◌∙◌, Some, None, is_some, option_and_then}
+use Rattle.std.proofs.Common.{◌≡◌, ℕ, List, ◌∷◌, ◌++◌, refl, sym, ap, ◌∙◌, Some, None, is_some, option_and_then}
 use Rattle.std.specs.List.{slice_get}
 use Rattle.std.specs.Option.{option_map_or}
-use Rattle.term_core.specs.Tree.{Tree, integer, branch, to_list, children, with_child, with_annotations}
+use Rattle.term_core.specs.Tree.{Tree, integer, branch, to_list, with_child, with_annotations}
 use Rattle.term_paths.specs.Paths.{at, leads, set_at, set_annotations_at}
 use Rattle.term_paths.specs.Laws.{SetAround, SetAroundAnnotations, SetInside, SetAnnotationsInside, LeadsAround, LeadsAroundAnnotations, BelowIsLeftByAnnotations, AnnotationsAndBelowCommute, AnnotationsBelowCommute}
 use Rattle.term_paths.proofs.PathLemmas.{changed_at, set_at-changed, set_annotations_at-changed, at-changed_at, changed_at-changed_at, changed_at-nowhere, changed_at-append, at-append}
