@@ -5,5 +5,10 @@ pub mod KeyLemmas
 pub mod RelationLemmas
 pub mod MergeLemmas
 pub mod LogLemmas
+pub mod RunLemmas
+pub mod ChosenLemmas
+pub mod KeepLemmas
+pub mod CompactLemmas
+pub mod FlipLemmas
 pub mod NameLemmas
 pub mod ContentsLemmas

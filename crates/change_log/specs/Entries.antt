@@ -1,6 +1,6 @@
 -- Logs of changes. An entry is a place in a store with what is kept for it: what stood there before
 -- a change, or, once the change was taken back, what the change put there.
-use Rattle.std.specs.Prelude.{ℕ, ◌<◌, List, [], ◌∷◌, length, option_map, option_and_then, unwrap_or, IsSome}
+use Rattle.std.specs.Prelude.{ℕ, ◌+◌, ◌<◌, Bool, nat_lt, List, [], ◌∷◌, length, option_map, option_and_then, unwrap_or, IsSome}
 use Rattle.std.specs.declared.option.Option.{Option}
 use Rattle.term_core.specs.Tree.{Tree}
 use Rattle.term_paths.specs.Paths.{at, annotations_at, set_at, set_annotations_at}
@@ -51,6 +51,22 @@ found (subterm i p kept) s = subterm i p (unwrap_or (subterm_in s.trees i p) kep
 found (subterm_annotations i p kept) s =
     subterm_annotations i p (unwrap_or (annotations_in s.trees i p) kept)
 found (slot_text i kept) s = slot_text i (unwrap_or (slot_at s.modules i) kept)
+
+-- 1 for the entry of a module text
+abbrev pub text_of : Entry → ℕ
+text_of (slot_tree i kept) = 0
+text_of (subterm i p kept) = 0
+text_of (subterm_annotations i p kept) = 0
+text_of (slot_text i kept) = 1
+
+-- how many entries are of module texts
+abbrev pub texts : List Entry → ℕ
+texts [] = 0
+texts (e ∷ es) = text_of e + texts es
+
+-- whether one is
+abbrev pub has_text : List Entry → Bool
+has_text log = nat_lt 0 (texts log)
 
 -- The store before a log: what its entries keep is put at their places, the newest entry first. A
 -- log is the list of its entries, the oldest first.

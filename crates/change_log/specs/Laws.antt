@@ -1,11 +1,12 @@
 -- Laws of logs. Places that a store doesn't have are no exception: nothing is put there.
-use Rattle.std.specs.Prelude.{◌≡◌, ℕ, List, ◌++◌, [], ◌∷◌, Some, None, take, drop, option_and_then}
+use Rattle.std.specs.Prelude.{◌≡◌, ℕ, List, ◌++◌, [], ◌∷◌, Some, None, false, take, drop, option_and_then}
 use Rattle.std.specs.FinMap as finmap
 use Rattle.term_core.specs.Tree.{Tree}
 use Rattle.term_paths.specs.Paths.{set_at, set_annotations_at}
 use Rattle.change_log.specs.Contents.{with_tree, without_tree, with_module, without_module}
 use Rattle.change_log.specs.Slots.{Store, AreApart, content, contents, slot_of, with_tree_slot, with_module_slot}
-use Rattle.change_log.specs.Entries.{Entry, slot_tree, subterm, subterm_annotations, slot_text, HasPlace, put, found, before, after, flipped_back, flipped_forward, Fits, FitsForward}
+use Rattle.change_log.specs.Entries.{Entry, slot_tree, subterm, subterm_annotations, slot_text, HasPlace, put, found, before, after, flipped_back, flipped_forward, Fits, FitsForward, has_text}
+use Rattle.change_log.specs.Compact.{IsCompact}
 
 -- After a log was flipped back, going forward gives the store from before the flip and the log.
 abbrev pub StoreFromAfter : Type 0
@@ -42,6 +43,20 @@ PushedFits = (log : List Entry) (e : Entry) (s : Store)
 abbrev pub RolledBackFits : Type 0
 RolledBackFits = (mark : ℕ) (log : List Entry) (s : Store)
     → Fits log s → Fits (take mark log) (before (drop mark log) s)
+
+-- Flips keep the places of a log, so a compact one stays so.
+abbrev pub FlippedBackIsCompact : Type 0
+FlippedBackIsCompact = (log : List Entry) (s : Store) → IsCompact log → IsCompact (flipped_back log s)
+
+abbrev pub FlippedForwardIsCompact : Type 0
+FlippedForwardIsCompact = (log : List Entry) (s : Store) → IsCompact log → IsCompact (flipped_forward log s)
+
+-- A log without module texts leaves those of the store.
+abbrev pub BeforeKeepsTexts : Type 0
+BeforeKeepsTexts = (log : List Entry) (s : Store) → has_text log ≡ false → (before log s).modules ≡ s.modules
+
+abbrev pub AfterKeepsTexts : Type 0
+AfterKeepsTexts = (log : List Entry) (s : Store) → has_text log ≡ false → (after log s).modules ≡ s.modules
 
 -- What a log leads back to: a push keeps it, since it keeps what the change replaces, and rolling back
 -- keeps it too.

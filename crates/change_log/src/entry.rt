@@ -1,7 +1,8 @@
 //! Entries: changes of one place of a store.
 
-ghost use Rattle.std.specs.Prelude.{◌≡◌, option_map};
-ghost use Rattle.change_log.specs.Entries.{slot_tree, subterm, subterm_annotations, slot_text};
+ghost use Rattle.std.specs.Prelude.{◌≡◌, ◌≤◌, ℕ, List, option_map};
+ghost use Rattle.change_log.specs.Entries.{slot_tree, subterm, subterm_annotations, slot_text, text_of};
+ghost use Rattle.change_log.specs.LogView.{entry_of};
 
 use crate::Text;
 use std::marker::Model;
@@ -27,6 +28,19 @@ pub enum Kept {
     Annotations(Vec<Term>),
     /// A slot's module text, or none.
     Text(Option<Text>),
+}
+
+impl Kept {
+    /// 1 for a module text, else 0.
+    pub(crate) fn texts(&self) -> usize
+        ensures value { (i : ℕ) (p : List ℕ) → result ≡ text_of (entry_of i p self.now) }
+        ensures one { result ≤ 1 }
+    {
+        match self {
+            Kept::Text(_) => 1,
+            _ => 0,
+        }
+    }
 }
 
 impl<'a> Model for Entry<'a> {

@@ -1,7 +1,7 @@
 //! Laws of logs and stores, over every log and every store. Each is the contract of a function that
 //! does nothing.
 
-ghost use Rattle.change_log.specs.Laws.{FlipsForward, FlipsBack, StoreFromAfter, StoreFromBefore, FlippedBackFits, FlippedForwardFits, PushedFits, RolledBackFits, PushedLeadsBack, RolledBackLeadsBack, NewSlotsAreEmpty, TreePut, TreeTaken, ModulePut, ModuleTaken, SubtermPut, AnnotationsPut, TreeOfName, ModuleOfName, FitsWithMore, FitsForwardWithMore, FitsWithMoreModules, FitsForwardWithMoreModules};
+ghost use Rattle.change_log.specs.Laws.{FlipsForward, FlipsBack, StoreFromAfter, StoreFromBefore, FlippedBackFits, FlippedForwardFits, PushedFits, RolledBackFits, PushedLeadsBack, RolledBackLeadsBack, FlippedBackIsCompact, FlippedForwardIsCompact, BeforeKeepsTexts, AfterKeepsTexts, NewSlotsAreEmpty, TreePut, TreeTaken, ModulePut, ModuleTaken, SubtermPut, AnnotationsPut, TreeOfName, ModuleOfName, FitsWithMore, FitsForwardWithMore, FitsWithMoreModules, FitsForwardWithMoreModules};
 
 /// Each of the two flips takes back what the other did: the store is that from before, and so is the
 /// log.
@@ -26,6 +26,18 @@ pub fn logs_fit()
 pub fn logs_lead_back()
     ensures pushed { PushedLeadsBack }
     ensures rolled_back { RolledBackLeadsBack }
+{}
+
+/// Flips keep the places of a log: a compact one stays so.
+pub fn flips_keep_places()
+    ensures back { FlippedBackIsCompact }
+    ensures forward { FlippedForwardIsCompact }
+{}
+
+/// A log that holds no module text leads back and forward with the texts that the store has.
+pub fn texts_stay()
+    ensures back { BeforeKeepsTexts }
+    ensures forward { AfterKeepsTexts }
 {}
 
 /// What a store contains by its names: new slots are empty; what is put in the slot of a name is under

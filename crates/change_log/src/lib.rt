@@ -2,9 +2,11 @@
 //! keep what was replaced in it.
 #![tactic(auto)]
 
+mod compact;
 mod entry;
 pub mod laws;
 mod log;
+mod merge;
 mod relation;
 mod slots;
 mod store;

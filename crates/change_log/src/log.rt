@@ -1,9 +1,12 @@
 //! Logs: what changes of a store replaced, so that they can be taken back.
 
-ghost use Rattle.std.specs.Prelude.{◌≡◌, ◌<◌, ◌-◌, ◌++◌, [], ◌∷◌, length, take, drop, OnOk, OnErr, vec_len, vec_capacity};
-ghost use Rattle.change_log.specs.Entries.{put, found, before, after, flipped_back, flipped_forward};
+ghost use Rattle.std.specs.Prelude.{◌≡◌, ◌<◌, ◌≤◌, ◌+◌, ◌-◌, ◌*◌, ◌++◌, ℕ, List, [], ◌∷◌, length, take, drop, OnOk, OnErr, vec_len, vec_capacity};
+ghost use Rattle.change_log.specs.Slots.{Store};
+ghost use Rattle.change_log.specs.Entries.{put, found, before, after, flipped_back, flipped_forward, Fits, texts, has_text};
+ghost use Rattle.change_log.specs.Compact.{IsCompact};
 ghost use Rattle.change_log.specs.LogView.{entry_of, entries, depths};
 
+use crate::compact::compact;
 use crate::{Entry, Kept, Store};
 use std::alloc::Global;
 use std::marker::Model;
@@ -16,6 +19,10 @@ pub struct Log {
     replaced: Vec<Replaced>,
     // The paths of all entries, one behind the other.
     paths: Vec<usize>,
+    // How many entries are of module texts.
+    text_count: usize,
+    // Three numbers for each entry where there is more than one, so that `compact` takes no memory.
+    space: Vec<usize>,
 }
 
 /// What one change replaced, without the path of its place.
@@ -28,7 +35,7 @@ pub struct Replaced {
 }
 
 impl Model for Log {
-    ghost use Rattle.std.specs.Prelude.{◌≡◌, List, length};
+    ghost use Rattle.std.specs.Prelude.{◌≡◌, ◌<◌, ◌≤◌, ◌*◌, List, length};
     ghost use Rattle.std.specs.Coded.{coded_list};
     ghost use Rattle.change_log.specs.Entries.{Entry};
     ghost use Rattle.change_log.specs.Codes.{entry_code};
@@ -37,11 +44,14 @@ impl Model for Log {
 
     ghost coded = { coded_list entry_code };
 
+    ghost use Rattle.change_log.specs.Entries.{texts};
     ghost use Rattle.change_log.specs.LogView.{entries, depths};
 
     ghost view = { λ a. entries a.replaced.items a.paths.items };
 
-    ghost invariant = { λ a. depths a.replaced.items ≡ length a.paths.items };
+    ghost invariant = { λ a. (depths a.replaced.items ≡ length a.paths.items)
+        × (1 < length a.replaced.items → 3 * length a.replaced.items ≤ length a.space.items)
+        × (a.text_count ≡ texts (entries a.replaced.items a.paths.items)) };
 }
 
 impl Log {
@@ -52,6 +62,8 @@ impl Log {
         Log {
             replaced: Vec::new(alloc),
             paths: Vec::new(alloc),
+            text_count: 0,
+            space: Vec::new(alloc),
         }
     }
 
@@ -67,6 +79,13 @@ impl Log {
         ensures { result ≡ length self.now }
     {
         self.count()
+    }
+
+    /// Whether an entry is of a module text.
+    pub fn has_text(&self) -> bool
+        ensures { result ≡ has_text self.now }
+    {
+        self.text_count > 0
     }
 
     /// Makes the change: puts what the entry has at its place, and keeps what was found there. Where
@@ -85,8 +104,10 @@ impl Log {
             mut kept,
         } = change;
         reserve_one(&mut self.replaced)?;
+        make_space(&mut self.space, self.replaced.len())?;
         self.paths.extend_from_slice(path)?;
         store.exchange(slot, path, &mut kept);
+        self.text_count += kept.texts();
         self.replaced.push_reserved(Replaced {
             slot,
             depth: path.len(),
@@ -114,6 +135,7 @@ impl Log {
     {
         if let Some(newest) = self.replaced.pop() {
             let begin = self.paths.len() - newest.depth;
+            self.text_count -= newest.kept.texts();
             put_back(newest, &self.paths[begin..], store);
             self.paths.truncate(begin);
         }
@@ -135,6 +157,20 @@ impl Log {
     {
         flip_forward(&mut self.replaced, &self.paths, store);
     }
+
+    /// Leaves entries of which none's place lies within another's, and which lead back to the same.
+    /// It takes no memory. No mark from before is of use afterwards.
+    pub fn compact(&mut self)
+        ensures before { (s : Store) → before self.new s ≡ before self.old s }
+        ensures fits { (s : Store) → Fits self.old s → Fits self.new s }
+        ensures compact { IsCompact self.new }
+        ensures count { length self.new ≤ length self.old }
+    {
+        if self.count() > 1 {
+            compact(&mut self.replaced, &mut self.paths, &mut self.space);
+            self.text_count = count_texts(&self.replaced);
+        }
+    }
 }
 
 // Makes room for one more: for the first alone, since most logs are of one change.
@@ -146,6 +182,30 @@ fn reserve_one(replaced: &mut Vec<Replaced>) -> Result<(), NoMemory>
         replaced.reserve_exact(1)?;
     } else {
         replaced.reserve(1)?;
+    }
+    Ok(())
+}
+
+// How many entries are of module texts.
+fn count_texts(replaced: &[Replaced]) -> usize
+    ensures { (paths : List ℕ) → result ≡ texts (entries replaced.now paths) }
+{
+    let mut count = 0;
+    for entry in replaced {
+        count += entry.kept.texts();
+    }
+    count
+}
+
+// Makes space for one entry more than this many; for one alone there is none.
+fn make_space(space: &mut Vec<usize>, count: usize) -> Result<(), NoMemory>
+    ensures room { OnOk result (0 < count → 3 * (count + 1) ≤ vec_len space.new) }
+    ensures kept { vec_len space.old ≤ vec_len space.new }
+{
+    if count > 0 {
+        while space.len() / 3 <= count {
+            space.extend_from_slice(&[0; 3])?;
+        }
     }
     Ok(())
 }

@@ -21,12 +21,14 @@ enum Step<'a> {
     FlipBack,
     FlipForward,
     RollBack(usize),
+    Compact,
     // What a name's slot is found to be, or made.
     FoundTree(&'a [u8], Option<usize>),
     FoundModule(&'a [u8], Option<usize>),
     MadeTreeSlot(&'a [u8], usize),
-    // What a slot has: this tree, no tree, a tree with so many annotations, this module text.
+    // What a slot has: this tree or this word, no tree, a tree with so many annotations, this module text.
     HasTree(usize, &'a [u8], &'a [u8]),
+    HasWord(usize, &'a [u8]),
     HasNoTree(usize),
     HasAnnotations(usize, usize),
     HasModule(usize, Option<&'a [u8]>),
@@ -179,6 +181,7 @@ fn is_so_without_memory(alloc: Global, store: &mut Store, log: &mut Log, step: &
         Step::FlipBack => log.flip_back(store),
         Step::FlipForward => log.flip_forward(store),
         Step::RollBack(mark) => log.roll_back(*mark, store),
+        Step::Compact => log.compact(),
         _ => return is_seen(store, log, step),
     }
     true
@@ -187,6 +190,7 @@ fn is_so_without_memory(alloc: Global, store: &mut Store, log: &mut Log, step: &
 fn is_seen(store: &Store, log: &Log, step: &Step<'_>) -> bool {
     match step {
         Step::HasTree(slot, outer, inner) => has_tree(store, *slot, outer, inner),
+        Step::HasWord(slot, word) => store.tree(*slot).is_some_and(|tree| has_word(tree, word)),
         Step::HasNoTree(slot) => store.tree(*slot).is_none(),
         Step::HasAnnotations(slot, count) => has_annotations(store, *slot, *count),
         Step::HasModule(slot, text) => store.module(*slot) == *text,
@@ -223,6 +227,88 @@ fn subterms_are_taken_back(rt: HostRuntime) -> Result<(), Fail> {
         Step::RollBack(1),
         Step::HasTree(0, b"g", b"b"),
         Step::Count(1),
+    ];
+    assert!(rt; is_row(rt.alloc(), &steps)?);
+    Ok(())
+}
+
+#[test]
+fn compact_within_a_newer_subterm(rt: HostRuntime) -> Result<(), Fail> {
+    let steps = [
+        Step::GiveTree(b"t", b"f", b"a"),
+        Step::NewLog,
+        Step::PutWord(0, &[0], b"b"),
+        Step::PutWord(0, &[], b"g"),
+        Step::Compact,
+        Step::Count(1),
+        Step::FlipBack,
+        Step::HasTree(0, b"f", b"a"),
+        Step::FlipForward,
+        Step::HasWord(0, b"g"),
+    ];
+    assert!(rt; is_row(rt.alloc(), &steps)?);
+    Ok(())
+}
+
+#[test]
+fn compact_at_one_place(rt: HostRuntime) -> Result<(), Fail> {
+    let steps = [
+        Step::GiveTree(b"t", b"f", b"a"),
+        Step::NewLog,
+        Step::PutWord(0, &[0], b"b"),
+        Step::PutWord(0, &[0], b"c"),
+        Step::Compact,
+        Step::Count(1),
+        Step::FlipBack,
+        Step::HasTree(0, b"f", b"a"),
+    ];
+    assert!(rt; is_row(rt.alloc(), &steps)?);
+    Ok(())
+}
+
+#[test]
+fn compact_annotations_within_a_newer_subterm(rt: HostRuntime) -> Result<(), Fail> {
+    let steps = [
+        Step::GiveTree(b"t", b"f", b"a"),
+        Step::NewLog,
+        Step::Annotate(0, &[0], 1),
+        Step::PutWord(0, &[0], b"b"),
+        Step::Compact,
+        Step::Count(1),
+        Step::FlipBack,
+        Step::HasTree(0, b"f", b"a"),
+        Step::FlipForward,
+        Step::HasTree(0, b"f", b"b"),
+    ];
+    assert!(rt; is_row(rt.alloc(), &steps)?);
+    Ok(())
+}
+
+#[test]
+fn compact_places_apart(rt: HostRuntime) -> Result<(), Fail> {
+    let steps = [
+        Step::GiveTree(b"t", b"f", b"a"),
+        Step::GiveTree(b"u", b"g", b"a"),
+        Step::NewLog,
+        Step::GiveText(b"m", b"strategies f = id"),
+        Step::PutWord(1, &[0], b"b"),
+        Step::Annotate(0, &[], 1),
+        Step::PutWord(0, &[0], b"b"),
+        Step::PutWord(1, &[0], b"c"),
+        Step::GiveText(b"m", b"strategies g = id"),
+        Step::Annotate(0, &[], 2),
+        Step::Compact,
+        Step::Count(4),
+        Step::FlipBack,
+        Step::HasTree(0, b"f", b"a"),
+        Step::HasAnnotations(0, 0),
+        Step::HasTree(1, b"g", b"a"),
+        Step::HasModule(0, None),
+        Step::FlipForward,
+        Step::HasTree(0, b"f", b"b"),
+        Step::HasAnnotations(0, 1),
+        Step::HasTree(1, b"g", b"c"),
+        Step::HasModule(0, Some(b"strategies g = id")),
     ];
     assert!(rt; is_row(rt.alloc(), &steps)?);
     Ok(())
@@ -292,6 +378,8 @@ fn laws_are_there() {
     laws::flips_are_inverse();
     laws::logs_fit();
     laws::logs_lead_back();
+    laws::flips_keep_places();
+    laws::texts_stay();
     laws::contents_by_name();
     laws::slots_stay();
 }

@@ -1,0 +1,8 @@
+use Rattle.std.proofs.Common.{◌≡◌, ◌≤◌, List, ℕ, take}
+use Rattle.change_log.specs.Entries.{texts}
+use Rattle.change_log.specs.LogView.{entries}
+use Rattle.change_log.proofs.log.count_texts.Given as goal
+
+abbrev pub invariant-loop-entry : goal.invariant-loop-entry
+invariant-loop-entry l =
+    (l.count ≤ l.entry-index) × ((paths : List ℕ) → l.count ≡ texts (entries (take l.entry-index l.replaced) paths))
