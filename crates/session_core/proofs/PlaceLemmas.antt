@@ -11,13 +11,14 @@ use Rattle.change_log.specs.Contents.{Contents}
 use Rattle.change_log.specs.Slots.{Slots, Store, contents, slot_of}
 use Rattle.change_log.specs.Entries.{Entry, HasPlace, put, found, before, after, flipped_back, flipped_forward, Fits}
 use Rattle.change_log.proofs.EntryLemmas.{before-append, pushed_fits, pushed_leads_back}
+use Rattle.change_log.proofs.FlipLemmas.{flipped_back_is_compact, flipped_forward_is_compact}
 use Rattle.session_core.specs.History.{Group, History, stepped, changed, back_to, forward_to, step_back, step_forward}
 use Rattle.std.specs.Prelude.{IsSomeAnd}
 use Rattle.session_core.specs.Step.{committed}
-use Rattle.session_core.specs.Unfolded.{past_of, later_of, FitBack, FitForward, unfolded, IsCurrent, IsPlaced, AddsEntries}
+use Rattle.session_core.specs.Unfolded.{past_of, later_of, FitBack, FitForward, AllCompact, unfolded, IsCurrent, IsPlaced, AddsStep, AddsEntries}
 use Rattle.session_core.specs.declared.timeline.Timeline.{Timeline}
 use Rattle.session_core.specs.declared.timeline.OpenGroup.{OpenGroup}
-use Rattle.session_core.proofs.TimelineLemmas.{fits-append, take-append, drop-append, IsGrowth, rewound_grown, past_grown, later_grown, length-past_of, length-later_of, count_past, stepped_past, stepped_later, stepped_back, stepped_forward, stepped_within, grouped_past, grouped_later, grouped_back, grouped_forward, grouped_within, back_past, back_later, back_back, back_forward, forward_later, forward_past, forward_back, forward_forward}
+use Rattle.session_core.proofs.TimelineLemmas.{fits-append, take-append, drop-append, IsGrowth, rewound_grown, past_grown, later_grown, length-past_of, length-later_of, count_past, compact-append, compact-take, compact-set, compact_at, grouped_past, grouped_later, grouped_back, grouped_forward, grouped_within, back_past, back_later, back_back, back_forward, forward_later, forward_past, forward_back, forward_forward}
 use Rattle.session_core.proofs.HistoryLemmas.{back_to-append}
 
 -- ---- slots
@@ -44,6 +45,7 @@ module _ (grow : Store → Store) (is : IsGrowth grow) where
         within = h.within;
         back = subst (FitBack (take t.position t.logs.items)) (sym here.1) past.0;
         forward = subst (FitForward (drop t.position t.logs.items)) (sym here.1) later.0;
+        compact = h.compact;
         fits = here.0;
         current = h.current;
       }
@@ -97,6 +99,7 @@ module _ (t : Timeline) (e : Entry) (s : Store) (log : List Entry) (place : HasP
     within = h.within;
     back = subst (FitBack (take t.position t.logs.items)) (sym group_start_stays) h.back;
     forward = subst (FitForward (drop t.position t.logs.items)) (sym group_start_stays) h.forward;
+    compact = h.compact;
     fits = subst (λ l. Fits l s) (sym more) (subst (Fits (t.current ++ found e t.store ∷ [])) (sym is) (pushed_fits t.current e t.store h.fits place));
     current = subst (λ b. OnFalse b (log ≡ [])) (sym was) tt;
   }
@@ -119,58 +122,11 @@ module _ (t : Timeline) (e : Entry) (s : Store) (log : List Entry) (place : HasP
       in_group None there = absurd (cc)
       in_group (Some g) there = refl
 
--- ---- a change as a step of its own
+-- ---- outside a group
 
 -- outside a group the current log is empty
 none_current : (g : Option OpenGroup) (log : List Entry) → g ≡ None → IsCurrent g log → log ≡ []
 none_current g log e h = subst (λ g. IsCurrent g log) e h
-
-module _ (t : Timeline) (e : Entry) (s : Store) (logs : Vec (List Entry)) (log : List Entry) (place : HasPlace e t.store) (closed : t.group ≡ None) (is : s ≡ put e t.store) (one : log ≡ [] ++ found e t.store ∷ [])
-    (all : logs.items ≡ take t.position t.logs.items ++ log ∷ []) (h : IsPlaced t) where
-  empty : t.current ≡ []
-  empty = none_current t.group t.current closed h.current
-
-  -- the logs and the stores that the lemmas on rows speak of
-  row : logs.items ≡ take t.position t.logs.items ++ (found e t.store ∷ []) ∷ []
-  row = all ∙ ap (λ l. take t.position t.logs.items ++ l ∷ []) one
-
-  before_now : before t.current s ≡ put e t.store
-  before_now = ap (λ l. before l s) empty ∙ is
-
-  before_then : before t.current t.store ≡ t.store
-  before_then = ap (λ l. before l t.store) empty
-
-  pub step_placed : IsPlaced (record t { store = s; logs = logs; position = t.position + 1 })
-  step_placed = record {
-    within = subst (λ (l : List (List Entry)). t.position + 1 ≤ length l) (sym row) (stepped_within t.logs.items t.position t.store e h.within);
-    back = subst₂ (λ l s. FitBack (take (t.position + 1) l) s) (sym row) (sym before_now) (stepped_back t.logs.items t.position t.store e h.within place (subst (FitBack (take t.position t.logs.items)) before_then h.back));
-    forward = subst₂ (λ l s. FitForward (drop (t.position + 1) l) s) (sym row) (sym before_now) (stepped_forward t.logs.items t.position t.store e h.within);
-    fits = subst (λ l. Fits l s) (sym empty) tt;
-    current = h.current;
-  }
-
-  pub step_unfolded : (ps : List Signature) → unfolded ps (record t { store = s; logs = logs; position = t.position + 1 }) ≡ changed (contents (put e t.store)) (unfolded ps t)
-  step_unfolded ps =
-      let past : past_of (take (t.position + 1) logs.items) (before t.current s) ≡ past_of (take t.position t.logs.items) (before t.current t.store) ++ contents t.store ∷ [] =
-      (λ i. past_of (take (t.position + 1) (row i)) (before_now i)) ∙ stepped_past t.logs.items t.position t.store e h.within ∙ ap (λ s. past_of (take t.position t.logs.items) s ++ contents t.store ∷ []) (sym before_then) in
-      let later : later_of (drop (t.position + 1) logs.items) (before t.current s) ≡ [] =
-      (λ i. later_of (drop (t.position + 1) (row i)) (before_now i)) ∙ stepped_later t.logs.items t.position t.store e h.within in
-      (λ i. record {
-        primitives = ps;
-        past = past i;
-        now = contents (is i);
-        later = later i;
-        group = option_map (λ g. record { begun = contents (before t.current s); changed = g.changed }) (closed i);
-      })
-      ∙ sym (ap (λ o. option_map_or (λ g. record (unfolded ps t) { now = contents (put e t.store); group = Some (record g { changed = true }) }) o (record (stepped (contents t.store) (unfolded ps t)) { now = contents (put e t.store) }))
-      (ap (option_map (λ g. record { begun = contents (before t.current t.store); changed = g.changed })) closed)
-      ∙ (λ i. record {
-        primitives = ps;
-        past = past_of (take t.position t.logs.items) (before t.current t.store) ++ contents t.store ∷ [];
-        now = contents (put e t.store);
-        later = [];
-        group = option_map (λ g. record { begun = contents (before t.current t.store); changed = g.changed }) (closed i);
-      }))
 
 -- ---- an entry that is added
 
@@ -193,6 +149,7 @@ module _ (t : Timeline) (s : Store) (log : List Entry) (adds : AddsEntries t.sto
     within = h.within;
     back = subst (FitBack (take t.position t.logs.items)) (sym begin_stays) h.back;
     forward = subst (FitForward (drop t.position t.logs.items)) (sym begin_stays) h.forward;
+    compact = h.compact;
     fits = subst (λ l. Fits l s) (sym adds.behind) (fits-append t.current adds.added s (subst (Fits t.current) (sym adds.back) h.fits) adds.fits);
     current = subst (λ b. OnFalse b (log ≡ [])) (sym was) tt;
   }
@@ -224,7 +181,8 @@ module _ (t : Timeline) (s : Store) (log : List Entry) (adds : AddsEntries t.sto
 
 -- ---- a change of many entries as a step of its own
 
-module _ (t : Timeline) (s : Store) (logs : Vec (List Entry)) (log new : List Entry) (closed : t.group ≡ None) (none : new ≡ []) (adds : AddsEntries t.store new s log) (all : logs.items ≡ take t.position t.logs.items ++ log ∷ []) (h : IsPlaced t) where
+module _ (t : Timeline) (s : Store) (logs : Vec (List Entry)) (log new : List Entry) (closed : t.group ≡ None) (none : new ≡ []) (adds : AddsEntries t.store new s log)
+    (step : AddsStep (take t.position t.logs.items) log logs.items) (h : IsPlaced t) where
   bare_log : t.current ≡ []
   bare_log = none_current t.group t.current closed h.current
 
@@ -237,15 +195,16 @@ module _ (t : Timeline) (s : Store) (logs : Vec (List Entry)) (log new : List En
   log_is : log ≡ adds.added
   log_is = adds.behind ∙ ap (λ l. l ++ adds.added) none
 
-  leads_back : before log s ≡ t.store
-  leads_back = ap (λ l. before l s) log_is ∙ adds.back
+  leads_back : before step.left s ≡ t.store
+  leads_back = step.back s ∙ ap (λ l. before l s) log_is ∙ adds.back
 
   pub many_placed : IsPlaced (record t { store = s; logs = logs; position = t.position + 1 })
   many_placed = record {
-    within = subst (λ (l : List (List Entry)). t.position + 1 ≤ length l) (sym all) (grouped_within t.logs.items t.position s log h.within);
-    back = subst₂ (λ l s. FitBack (take (t.position + 1) l) s) (sym all) (sym bare_now)
-        (grouped_back t.logs.items t.position s log h.within (subst (λ l. Fits l s) (sym log_is) adds.fits) (subst (FitBack (take t.position t.logs.items)) (bare_then ∙ sym leads_back) h.back));
-    forward = subst₂ (λ l s. FitForward (drop (t.position + 1) l) s) (sym all) (sym bare_now) (grouped_forward t.logs.items t.position s log h.within);
+    within = subst (λ (l : List (List Entry)). t.position + 1 ≤ length l) (sym step.all) (grouped_within t.logs.items t.position s step.left h.within);
+    back = subst₂ (λ l s. FitBack (take (t.position + 1) l) s) (sym step.all) (sym bare_now)
+        (grouped_back t.logs.items t.position s step.left h.within (step.fits s (subst (λ l. Fits l s) (sym log_is) adds.fits)) (subst (FitBack (take t.position t.logs.items)) (bare_then ∙ sym leads_back) h.back));
+    forward = subst₂ (λ l s. FitForward (drop (t.position + 1) l) s) (sym step.all) (sym bare_now) (grouped_forward t.logs.items t.position s step.left h.within);
+    compact = subst AllCompact (sym step.all) (compact-append (take t.position t.logs.items) step.left (compact-take t.position t.logs.items h.compact) step.compact);
     fits = subst (λ l. Fits l s) (sym bare_log) tt;
     current = h.current;
   }
@@ -253,10 +212,10 @@ module _ (t : Timeline) (s : Store) (logs : Vec (List Entry)) (log new : List En
   pub many_unfolded : (ps : List Signature) → unfolded ps (record t { store = s; logs = logs; position = t.position + 1 }) ≡ changed (contents s) (unfolded ps t)
   many_unfolded ps =
       let past : past_of (take (t.position + 1) logs.items) (before t.current s) ≡ past_of (take t.position t.logs.items) (before t.current t.store) ++ contents t.store ∷ [] =
-      (λ i. past_of (take (t.position + 1) (all i)) (bare_now i)) ∙ grouped_past t.logs.items t.position s log h.within
+      (λ i. past_of (take (t.position + 1) (step.all i)) (bare_now i)) ∙ grouped_past t.logs.items t.position s step.left h.within
       ∙ (λ i. past_of (take t.position t.logs.items) ((leads_back ∙ sym bare_then) i) ++ contents (leads_back i) ∷ []) in
       let later : later_of (drop (t.position + 1) logs.items) (before t.current s) ≡ [] =
-      (λ i. later_of (drop (t.position + 1) (all i)) (bare_now i)) ∙ grouped_later t.logs.items t.position s log h.within in
+      (λ i. later_of (drop (t.position + 1) (step.all i)) (bare_now i)) ∙ grouped_later t.logs.items t.position s step.left h.within in
       (λ i. record {
         primitives = ps;
         past = past i;
@@ -282,6 +241,7 @@ module _ (t : Timeline) (s : Store) (logs : Vec (List Entry)) (same : s ≡ t.st
     within = subst (λ (l : List (List Entry)). t.position ≤ length l) (sym all) h.within;
     back = subst₂ (λ l s. FitBack (take t.position l) (before t.current s)) (sym all) (sym same) h.back;
     forward = subst₂ (λ l s. FitForward (drop t.position l) (before t.current s)) (sym all) (sym same) h.forward;
+    compact = subst AllCompact (sym all) h.compact;
     fits = subst (Fits t.current) (sym same) h.fits;
     current = h.current;
   }
@@ -349,6 +309,7 @@ module _ (t : Timeline) (q : ℕ) (s : Store) (logs : Vec (List Entry)) (log : L
       within = omega (arith, inside, ap length all, length-set t.logs.items q (flipped_back log t.store));
       back = subst₂ (λ l s. FitBack (take q l) s) (sym all) (sym now_is) (back_back t.logs.items q t.store log at inside fit_back);
       forward = subst₂ (λ l s. FitForward (drop q l) s) (sym all) (sym now_is) (back_forward t.logs.items q t.store log at inside fit_back fit_forward);
+      compact = subst AllCompact (sym all) (compact-set q t.logs.items (flipped_back log t.store) h.compact (flipped_back_is_compact log t.store (compact_at q t.logs.items log at h.compact)));
       fits = subst (λ l. Fits l s) (sym bare) tt;
       current = h.current;
     }
@@ -381,6 +342,7 @@ module _ (t : Timeline) (q : ℕ) (s : Store) (logs : Vec (List Entry)) (log : L
       within = omega (arith, inside, ap length all, length-set t.logs.items q (flipped_forward log t.store));
       back = subst₂ (λ l s. FitBack (take (q + 1) l) s) (sym all) (sym then_is) (forward_back t.logs.items q t.store log at inside fit_behind fit_ahead);
       forward = subst₂ (λ l s. FitForward (drop (q + 1) l) s) (sym all) (sym then_is) (forward_forward t.logs.items q t.store log at inside fit_ahead);
+      compact = subst AllCompact (sym all) (compact-set q t.logs.items (flipped_forward log t.store) h.compact (flipped_forward_is_compact log t.store (compact_at q t.logs.items log at h.compact)));
       fits = subst (λ l. Fits l s) (sym bare) tt;
       current = h.current;
     }
@@ -435,6 +397,7 @@ module _ (t : Timeline) (changed : Bool) (there : IsSome t.group) (flag : change
     within = h.within;
     back = h.back;
     forward = h.forward;
+    compact = h.compact;
     fits = h.fits;
     current = subst (λ b. OnFalse b (t.current ≡ [])) (flagged ∙ none) (subst (λ g. IsCurrent g t.current) is_open h.current);
   }
@@ -442,18 +405,22 @@ module _ (t : Timeline) (changed : Bool) (there : IsSome t.group) (flag : change
   pub kept_unfolded : changed ≡ false → (ps : List Signature) → IsSomeAnd (unfolded ps t).group (λ k. unfolded ps (record t { group = None }) ≡ committed k (unfolded ps t))
   kept_unfolded none ps = committing ps (unfolded ps (record t { group = None })) (ap (closing ps) none)
 
-  module _ (logs : Vec (List Entry)) (log new : List Entry) (taken : log ≡ t.current) (empty : new ≡ []) (all : logs.items ≡ take t.position t.logs.items ++ log ∷ []) where
-    whole : logs.items ≡ take t.position t.logs.items ++ t.current ∷ []
-    whole = all ∙ ap (λ l. take t.position t.logs.items ++ l ∷ []) taken
+  module _ (logs : Vec (List Entry)) (log new : List Entry) (taken : log ≡ t.current) (empty : new ≡ []) (step : AddsStep (take t.position t.logs.items) log logs.items) where
+    left_back : before step.left t.store ≡ before t.current t.store
+    left_back = step.back t.store ∙ ap (λ l. before l t.store) taken
+
+    left_fits : Fits step.left t.store
+    left_fits = step.fits t.store (subst (λ l. Fits l t.store) (sym taken) h.fits)
 
     begins : before new t.store ≡ t.store
     begins = ap (λ l. before l t.store) empty
 
     pub committed_placed : IsPlaced (record t { logs = logs; position = t.position + 1; group = None; current = new })
     committed_placed = record {
-      within = subst (λ (l : List (List Entry)). t.position + 1 ≤ length l) (sym whole) (grouped_within t.logs.items t.position t.store t.current h.within);
-      back = subst₂ (λ l s. FitBack (take (t.position + 1) l) s) (sym whole) (sym begins) (grouped_back t.logs.items t.position t.store t.current h.within h.fits h.back);
-      forward = subst₂ (λ l s. FitForward (drop (t.position + 1) l) s) (sym whole) (sym begins) (grouped_forward t.logs.items t.position t.store t.current h.within);
+      within = subst (λ (l : List (List Entry)). t.position + 1 ≤ length l) (sym step.all) (grouped_within t.logs.items t.position t.store step.left h.within);
+      back = subst₂ (λ l s. FitBack (take (t.position + 1) l) s) (sym step.all) (sym begins) (grouped_back t.logs.items t.position t.store step.left h.within left_fits (subst (FitBack (take t.position t.logs.items)) (sym left_back) h.back));
+      forward = subst₂ (λ l s. FitForward (drop (t.position + 1) l) s) (sym step.all) (sym begins) (grouped_forward t.logs.items t.position t.store step.left h.within);
+      compact = subst AllCompact (sym step.all) (compact-append (take t.position t.logs.items) step.left (compact-take t.position t.logs.items h.compact) step.compact);
       fits = subst (λ l. Fits l t.store) (sym empty) tt;
       current = empty;
     }
@@ -462,8 +429,8 @@ module _ (t : Timeline) (changed : Bool) (there : IsSome t.group) (flag : change
         → IsSomeAnd (unfolded ps t).group (λ k. unfolded ps (record t { logs = logs; position = t.position + 1; group = None; current = new }) ≡ committed k (unfolded ps t))
     committed_unfolded some ps =
         let past : past_of (take t.position t.logs.items) (before t.current t.store) ++ contents (before t.current t.store) ∷ [] ≡ past_of (take (t.position + 1) logs.items) (before new t.store) =
-        sym (grouped_past t.logs.items t.position t.store t.current h.within) ∙ (λ i. past_of (take (t.position + 1) (sym whole i)) (sym begins i)) in
+        (λ i. past_of (take t.position t.logs.items) (sym left_back i) ++ contents (sym left_back i) ∷ []) ∙ sym (grouped_past t.logs.items t.position t.store step.left h.within) ∙ (λ i. past_of (take (t.position + 1) (sym step.all i)) (sym begins i)) in
         let later : [] ≡ later_of (drop (t.position + 1) logs.items) (before new t.store) =
-        sym (grouped_later t.logs.items t.position t.store t.current h.within) ∙ (λ i. later_of (drop (t.position + 1) (sym whole i)) (sym begins i)) in
+        sym (grouped_later t.logs.items t.position t.store step.left h.within) ∙ (λ i. later_of (drop (t.position + 1) (sym step.all i)) (sym begins i)) in
         committing ps (unfolded ps (record t { logs = logs; position = t.position + 1; group = None; current = new }))
         (ap (closing ps) some ∙ (λ i. record { primitives = ps; past = past i; now = contents t.store; later = later i; group = None }))

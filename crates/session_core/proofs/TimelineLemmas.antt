@@ -5,7 +5,8 @@ use Rattle.change_log.specs.Slots.{Store, contents, with_tree_slot, with_module_
 use Rattle.change_log.specs.Entries.{Entry, HasPlace, put, found, before, after, flipped_back, flipped_forward, Fits, FitsForward}
 use Rattle.change_log.proofs.EntryLemmas.{before-append, pushed_leads_back, store_from_after, store_from_before, flipped_back_fits, flipped_forward_fits, pushed_fits}
 use Rattle.change_log.proofs.ContentsLemmas.{new_slots_are_empty, fits_with_more, fits_forward_with_more, fits_with_more_modules, fits_forward_with_more_modules}
-use Rattle.session_core.specs.Unfolded.{rewound, past_of, later_of, FitBack, FitForward}
+use Rattle.change_log.specs.Compact.{IsCompact}
+use Rattle.session_core.specs.Unfolded.{rewound, past_of, later_of, FitBack, FitForward, AllCompact}
 
 -- ---- one log more
 
@@ -77,6 +78,27 @@ module _ {A : Type 0} where
   pub count_past : (p : ℕ) (ls : List A) → p ≤ length ls → length (take p ls) ≡ p
   count_past p ls h = omega (arith, h, length-take p ls)
 
+-- ---- compact logs
+
+pub compact-append : (ls : List (List Entry)) (l : List Entry) → AllCompact ls → IsCompact l → AllCompact (ls ++ l ∷ [])
+compact-append [] l h c = (c, tt)
+compact-append (k ∷ ls) l h c = (h.0, compact-append ls l h.1 c)
+
+pub compact-take : (n : ℕ) (ls : List (List Entry)) → AllCompact ls → AllCompact (take n ls)
+compact-take zero ls h = tt
+compact-take (suc n) [] h = tt
+compact-take (suc n) (l ∷ ls) h = (h.0, compact-take n ls h.1)
+
+pub compact-set : (q : ℕ) (ls : List (List Entry)) (l : List Entry) → AllCompact ls → IsCompact l → AllCompact (set ls q l)
+compact-set q [] l h c = h
+compact-set zero (k ∷ ls) l h c = (c, h.1)
+compact-set (suc q) (k ∷ ls) l h c = (h.0, compact-set q ls l h.1 c)
+
+pub compact_at : (q : ℕ) (ls : List (List Entry)) (l : List Entry) → slice_get ls q ≡ Some l → AllCompact ls → IsCompact l
+compact_at q [] l e h = absurd (cc)
+compact_at zero (k ∷ ls) l e h = let same : k ≡ l = cc in subst IsCompact same h.0
+compact_at (suc q) (k ∷ ls) l e h = compact_at q ls l e h.1
+
 -- ---- how many contents
 
 pub length-past_of : (ls : List (List Entry)) (s : Store) → length (past_of ls s) ≡ length ls
@@ -130,32 +152,6 @@ module _ (grow : Store → Store) (is : IsGrowth grow) where
         (here.0, subst (FitForward ls) (sym here.1) rest.0),
         (λ i. (ap contents here.1 ∙ is.same (after l s)) i ∷ (ap (later_of ls) here.1 ∙ rest.1) i),
       )
-
--- ---- a change as a step of its own
-
-module _ (ls : List (List Entry)) (p : ℕ) (s : Store) (e : Entry) (inside : p ≤ length ls) where
-  -- the log of the one change
-  abbrev pub one : List Entry
-  one = found e s ∷ []
-
-  pub stepped_past : past_of (take (p + 1) (take p ls ++ one ∷ [])) (put e s) ≡ past_of (take p ls) s ++ contents s ∷ []
-  stepped_past =
-      ap (λ l. past_of l (put e s)) (take_pushed p ls one inside) ∙ past_of-append (take p ls) one (put e s)
-      ∙ ap (λ t. past_of (take p ls) t ++ contents t ∷ []) (pushed_leads_back [] e s)
-
-  pub stepped_later : later_of (drop (p + 1) (take p ls ++ one ∷ [])) (put e s) ≡ []
-  stepped_later = ap (λ l. later_of l (put e s)) (drop_pushed p ls one inside)
-
-  pub stepped_back : HasPlace e s → FitBack (take p ls) s → FitBack (take (p + 1) (take p ls ++ one ∷ [])) (put e s)
-  stepped_back place h =
-      subst (λ l. FitBack l (put e s)) (sym (take_pushed p ls one inside))
-      (FitBack-append (take p ls) one (put e s) (subst (FitBack (take p ls)) (sym (pushed_leads_back [] e s)) h) (pushed_fits [] e s tt place))
-
-  pub stepped_forward : FitForward (drop (p + 1) (take p ls ++ one ∷ [])) (put e s)
-  stepped_forward = subst (λ l. FitForward l (put e s)) (sym (drop_pushed p ls one inside)) tt
-
-  pub stepped_within : p + 1 ≤ length (take p ls ++ one ∷ [])
-  stepped_within = omega (arith, inside, length-append (take p ls) (one ∷ []), length-take p ls)
 
 -- ---- a group as a step
 

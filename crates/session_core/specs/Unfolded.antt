@@ -9,6 +9,7 @@ use Rattle.prim_core.specs.Signature.{Signature}
 use Rattle.change_log.specs.Contents.{Contents}
 use Rattle.change_log.specs.Slots.{Store, AreApart, contents, content, slot_of}
 use Rattle.change_log.specs.Entries.{Entry, before, after, Fits, FitsForward}
+use Rattle.change_log.specs.Compact.{IsCompact}
 use Rattle.session_core.specs.History.{History}
 use Rattle.session_core.specs.declared.timeline.Timeline.{Timeline}
 use Rattle.session_core.specs.declared.timeline.OpenGroup.{OpenGroup}
@@ -56,14 +57,29 @@ abbrev pub IsCurrent : Option OpenGroup → List Entry → Type 0
 IsCurrent None log = log ≡ []
 IsCurrent (Some g) log = OnFalse g.changed (log ≡ [])
 
--- The position is one of the logs or their end; the logs before it lead back, the others forward.
--- What an open group changed leads back too.
+-- in each log no entry's place lies within another's
+abbrev pub AllCompact : List (List Entry) → Type 0
+AllCompact [] = Unit {0}
+AllCompact (log ∷ logs) = IsCompact log × AllCompact logs
+
+-- The position is one of the logs or their end; the logs before it lead back, the others forward. All are
+-- compact. What an open group changed leads back too.
 pub record IsPlaced (t : Timeline) : Type 0 where
   pub within : t.position ≤ length t.logs.items
   pub back : FitBack (take t.position t.logs.items) (before t.current t.store)
   pub forward : FitForward (drop t.position t.logs.items) (before t.current t.store)
+  pub compact : AllCompact t.logs.items
   pub fits : Fits t.current t.store
   pub current : IsCurrent t.group t.current
+
+-- A step is added behind these logs: what is left of the given log once it is compact, which leads back to
+-- the same.
+pub record AddsStep (logs : List (List Entry)) (log : List Entry) (new : List (List Entry)) : Type 0 where
+  pub left : List Entry
+  pub all : new ≡ logs ++ left ∷ []
+  pub back : (s : Store) → before left s ≡ before log s
+  pub fits : (s : Store) → Fits log s → Fits left s
+  pub compact : IsCompact left
 
 -- the slot of a name's tree, in which the path leads to a subterm
 abbrev pub IsPlaceOf : Store → List ℕ → List ℕ → ℕ → Type 0

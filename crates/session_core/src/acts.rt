@@ -1,7 +1,7 @@
 //! What commands do to a timeline: each is a step of the session machine, or is refused and leaves
 //! all as it was.
 
-ghost use Rattle.std.specs.Prelude.{◌≡◌, ◌⊎◌, List, Ok, Err, IfOk, OnOk, OnErr, IfErr};
+ghost use Rattle.std.specs.Prelude.{◌≡◌, ◌⊎◌, List, false, Ok, Err, IfOk, OnOk, OnErr, IfErr};
 ghost use Rattle.std.specs.List.{list_all};
 ghost use Rattle.term_core.specs.Size.{fits};
 ghost use Rattle.prim_core.specs.Signature.{Signature};
@@ -139,11 +139,13 @@ impl Timeline {
         Ok(slot)
     }
 
-    /// Goes `n` steps back.
-    pub(crate) fn undo(&mut self, n: u32) -> Result<(), Refusal>
+    /// Goes `n` steps back, and tells whether that may have changed module texts.
+    pub(crate) fn undo(&mut self, n: u32) -> Result<bool, Refusal>
         requires { IsPlaced self.old }
         ensures placed { IsPlaced self.new }
         ensures ok { OnOk result ((ps : List Signature) → ComesTo (undo n) (unfolded ps self.old) (Ok (unfolded ps self.new))) }
+        ensures texts { IfOk result (λ texts. texts ≡ false
+            → self.new.store.modules ≡ self.old.store.modules) }
         ensures refused { IfErr result (λ refusal. (ps : List Signature) → ComesTo (undo n) (unfolded ps self.old) (Err refusal)) }
         ensures err { OnErr result ((ps : List Signature) → unfolded ps self.new
             ≡ unfolded ps self.old) }
@@ -155,15 +157,16 @@ impl Timeline {
         if self.past() < steps {
             return Err(Refusal::NoUndo);
         }
-        self.back_by(steps);
-        Ok(())
+        Ok(self.back_by(steps))
     }
 
-    /// Goes `n` steps forward.
-    pub(crate) fn redo(&mut self, n: u32) -> Result<(), Refusal>
+    /// Goes `n` steps forward, and tells whether that may have changed module texts.
+    pub(crate) fn redo(&mut self, n: u32) -> Result<bool, Refusal>
         requires { IsPlaced self.old }
         ensures placed { IsPlaced self.new }
         ensures ok { OnOk result ((ps : List Signature) → ComesTo (redo n) (unfolded ps self.old) (Ok (unfolded ps self.new))) }
+        ensures texts { IfOk result (λ texts. texts ≡ false
+            → self.new.store.modules ≡ self.old.store.modules) }
         ensures refused { IfErr result (λ refusal. (ps : List Signature) → ComesTo (redo n) (unfolded ps self.old) (Err refusal)) }
         ensures err { OnErr result ((ps : List Signature) → unfolded ps self.new
             ≡ unfolded ps self.old) }
@@ -175,8 +178,7 @@ impl Timeline {
         if self.later() < steps {
             return Err(Refusal::NoRedo);
         }
-        self.forward_by(steps);
-        Ok(())
+        Ok(self.forward_by(steps))
     }
 
     /// Opens a group.
@@ -195,11 +197,14 @@ impl Timeline {
         Ok(())
     }
 
-    /// Takes back what the open group changed, and closes it.
-    pub(crate) fn abandon(&mut self) -> Result<(), Refusal>
+    /// Takes back what the open group changed, and closes it, and tells whether that may have changed module
+    /// texts.
+    pub(crate) fn abandon(&mut self) -> Result<bool, Refusal>
         requires { IsPlaced self.old }
         ensures placed { IsPlaced self.new }
         ensures ok { OnOk result ((ps : List Signature) → ComesTo abandon (unfolded ps self.old) (Ok (unfolded ps self.new))) }
+        ensures texts { IfOk result (λ texts. texts ≡ false
+            → self.new.store.modules ≡ self.old.store.modules) }
         ensures refused { IfErr result (λ refusal. (ps : List Signature) → ComesTo abandon (unfolded ps self.old) (Err refusal)) }
         ensures err { OnErr result ((ps : List Signature) → unfolded ps self.new
             ≡ unfolded ps self.old) }
@@ -207,8 +212,7 @@ impl Timeline {
         if !self.in_group() {
             return Err(Refusal::NoGroup);
         }
-        self.leave_group();
-        Ok(())
+        Ok(self.leave_group())
     }
 }
 

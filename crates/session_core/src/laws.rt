@@ -1,6 +1,6 @@
-//! Laws of undo and redo, over every history.
+//! Laws of undo and redo, over every history, and of the logs that a session keeps.
 
-ghost use Rattle.session_core.specs.Laws.{ChangeIsToContents, ChangeIsUndone, GroupIsUndone, RedoTakesUndoBack, UndoTakesRedoBack};
+ghost use Rattle.session_core.specs.Laws.{ChangeIsToContents, ChangeIsUndone, GroupIsUndone, RedoTakesUndoBack, UndoTakesRedoBack, StepsAreCompact};
 
 /// Each accepted change gives some contents by a change, and undo takes that, or a group of them, back and
 /// redo brings it again; each of the two takes back what the other did, over as many places, and gives back
@@ -11,4 +11,10 @@ pub fn undo_and_redo_are_inverse()
     ensures group { GroupIsUndone }
     ensures redo { RedoTakesUndoBack }
     ensures undo { UndoTakesRedoBack }
+{}
+
+/// The log of each step that a session keeps is compact: what is kept of a change is what it replaced at
+/// places that don't lie within one another.
+pub fn steps_are_compact()
+    ensures { StepsAreCompact }
 {}

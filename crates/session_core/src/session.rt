@@ -1,6 +1,6 @@
 //! Sessions: contents that change in steps, which are undone and redone.
 
-ghost use Rattle.std.specs.Prelude.{◌≡◌, ◌≤◌, ◌↔◌, ◌⊎◌, ◌++◌, Ok, Err, vec_capacity, OnOk, OnErr, IfOk, IfErr, length, option_copied};
+ghost use Rattle.std.specs.Prelude.{◌≡◌, ◌≤◌, ◌↔◌, ◌⊎◌, ◌++◌, Ok, Err, vec_capacity, OnOk, OnErr, IfOk, IfErr, None, length, option_copied, if◌then◌else◌};
 ghost use Rattle.std.specs.FinMap as finmap;
 ghost use Rattle.session_core.specs.History.{empty_history, HasSoundContents};
 ghost use Rattle.session_core.specs.Step.{ComesTo, set_tree, copy_tree, drop_tree, put, annotate, set_module, unload, apply, undo, redo, begin, commit, abandon};
@@ -22,7 +22,7 @@ use term_paths::Path;
 pub struct Session<M: Meaning> {
     primitives: Primitives<M>,
     timeline: Timeline,
-    // The program of the modules now, where it is known; undo, redo and abandon forget it.
+    // The program of the modules now, where it is known; undo, redo and abandon of module texts forget it.
     program: Option<Program>,
 }
 
@@ -257,8 +257,7 @@ impl<M: Meaning> Session<M> {
         ensures err { OnErr result (self.new ≡ self.old) }
         ensures sound { HasSoundContents self.new }
     {
-        self.timeline.undo(n)?;
-        self.program = None;
+        forget_changed(&mut self.program, self.timeline.undo(n)?);
         Ok(())
     }
 
@@ -271,8 +270,7 @@ impl<M: Meaning> Session<M> {
         ensures err { OnErr result (self.new ≡ self.old) }
         ensures sound { HasSoundContents self.new }
     {
-        self.timeline.redo(n)?;
-        self.program = None;
+        forget_changed(&mut self.program, self.timeline.redo(n)?);
         Ok(())
     }
 
@@ -310,8 +308,16 @@ impl<M: Meaning> Session<M> {
         ensures err { OnErr result (self.new ≡ self.old) }
         ensures sound { HasSoundContents self.new }
     {
-        self.timeline.abandon()?;
-        self.program = None;
+        forget_changed(&mut self.program, self.timeline.abandon()?);
         Ok(())
+    }
+}
+
+// Forgets the program where module texts may have changed.
+fn forget_changed(program: &mut Option<Program>, changed: bool)
+    ensures { program.new ≡ (if changed then None else program.old) }
+{
+    if changed {
+        *program = None;
     }
 }

@@ -12,7 +12,7 @@ ghost use Rattle.change_log.specs.Entries.{Entry, HasPlace, put};
 ghost use Rattle.session_core.specs.History.{empty_history, changed, step_back, step_forward, undone, redone};
 ghost use Rattle.session_core.specs.Step.{ComesTo, begin, abandon, committed};
 ghost use Rattle.session_core.specs.Modules.{IsProgram, AreRefused};
-ghost use Rattle.session_core.specs.Unfolded.{unfolded, IsPlaced, AddsEntries, CallLeaves, CallRefuses};
+ghost use Rattle.session_core.specs.Unfolded.{unfolded, IsPlaced, AddsStep, AddsEntries, CallLeaves, CallRefuses};
 
 use crate::Refusal;
 use crate::modules::check_modules;
@@ -329,54 +329,64 @@ impl Timeline {
         }
     }
 
-    // Adds a step where there is room for it. Those that were undone are dropped.
-    fn add_step(&mut self, log: Log)
+    // Adds a step of the log, made compact, where there is room for it. Those that were undone are dropped.
+    fn add_step(&mut self, mut log: Log)
         requires within { self.old.position ≤ length self.old.logs.items }
         requires room { length self.old.logs.items < vec_capacity self.old.logs }
-        ensures logs { self.new.logs.items ≡ take self.old.position self.old.logs.items ++ log ∷ [] }
+        ensures logs { AddsStep (take self.old.position self.old.logs.items) log self.new.logs.items }
         ensures position { self.new.position ≡ self.old.position + 1 }
         ensures store { self.new.store ≡ self.old.store }
         ensures group { self.new.group ≡ self.old.group }
         ensures current { self.new.current ≡ self.old.current }
     {
+        log.compact();
         self.logs.truncate(self.position);
         self.logs.push_reserved(log);
         self.position += 1;
     }
 
-    /// Goes one step back.
-    pub(crate) fn back(&mut self)
+    /// Goes one step back, and tells whether that may have changed module texts.
+    pub(crate) fn back(&mut self) -> bool
         requires placed { IsPlaced self.old }
         requires some { 0 < self.old.position }
         requires outside { self.old.group ≡ None }
         ensures placed { IsPlaced self.new }
         ensures outside { self.new.group ≡ None }
         ensures position { self.new.position ≡ self.old.position - 1 }
+        ensures texts { result ≡ false → self.new.store.modules ≡ self.old.store.modules }
         ensures value { (ps : List Signature) → step_back (unfolded ps self.old)
             ≡ Some (unfolded ps self.new) }
     {
         self.position -= 1;
-        self.logs[self.position].flip_back(&mut self.store);
+        let log = &mut self.logs[self.position];
+        let texts = log.has_text();
+        log.flip_back(&mut self.store);
+        texts
     }
 
-    /// Goes so many steps back.
-    pub(crate) fn back_by(&mut self, steps: usize)
+    /// Goes so many steps back, and tells whether that may have changed module texts.
+    pub(crate) fn back_by(&mut self, steps: usize) -> bool
         requires placed { IsPlaced self.old }
         requires enough { steps ≤ self.old.position }
         requires outside { self.old.group ≡ None }
         ensures placed { IsPlaced self.new }
         ensures value { (ps : List Signature) → undone steps (unfolded ps self.old)
             ≡ Some (unfolded ps self.new) }
+        ensures texts { result ≡ false → self.new.store.modules ≡ self.old.store.modules }
     {
+        let mut texts = false;
         let mut left = steps;
         while left > 0 {
-            self.back();
             left -= 1;
+            if self.back() {
+                texts = true;
+            }
         }
+        texts
     }
 
-    /// Goes one step forward.
-    pub(crate) fn forward(&mut self)
+    /// Goes one step forward, and tells whether that may have changed module texts.
+    pub(crate) fn forward(&mut self) -> bool
         requires placed { IsPlaced self.old }
         requires some { self.old.position < length self.old.logs.items }
         requires outside { self.old.group ≡ None }
@@ -384,27 +394,36 @@ impl Timeline {
         ensures outside { self.new.group ≡ None }
         ensures position { self.new.position ≡ self.old.position + 1 }
         ensures count { length self.new.logs.items ≡ length self.old.logs.items }
+        ensures texts { result ≡ false → self.new.store.modules ≡ self.old.store.modules }
         ensures value { (ps : List Signature) → step_forward (unfolded ps self.old)
             ≡ Some (unfolded ps self.new) }
     {
-        self.logs[self.position].flip_forward(&mut self.store);
+        let log = &mut self.logs[self.position];
+        let texts = log.has_text();
+        log.flip_forward(&mut self.store);
         self.position += 1;
+        texts
     }
 
-    /// Goes so many steps forward.
-    pub(crate) fn forward_by(&mut self, steps: usize)
+    /// Goes so many steps forward, and tells whether that may have changed module texts.
+    pub(crate) fn forward_by(&mut self, steps: usize) -> bool
         requires placed { IsPlaced self.old }
         requires enough { self.old.position + steps ≤ length self.old.logs.items }
         requires outside { self.old.group ≡ None }
         ensures placed { IsPlaced self.new }
         ensures value { (ps : List Signature) → redone steps (unfolded ps self.old)
             ≡ Some (unfolded ps self.new) }
+        ensures texts { result ≡ false → self.new.store.modules ≡ self.old.store.modules }
     {
+        let mut texts = false;
         let mut left = steps;
         while left > 0 {
-            self.forward();
             left -= 1;
+            if self.forward() {
+                texts = true;
+            }
         }
+        texts
     }
 
     /// Opens a group. It takes no memory.
@@ -447,14 +466,18 @@ impl Timeline {
         self.group.is_some_and(|group| group.changed)
     }
 
-    /// Takes back what the open group changed, and closes it. It takes no memory.
-    pub(crate) fn leave_group(&mut self)
+    /// Takes back what the open group changed, and closes it, and tells whether that may have changed
+    /// module texts. It takes no memory.
+    pub(crate) fn leave_group(&mut self) -> bool
         requires placed { IsPlaced self.old }
         requires inside { IsSome self.old.group }
         ensures placed { IsPlaced self.new }
         ensures value { (ps : List Signature) → ComesTo abandon (unfolded ps self.old) (Ok (unfolded ps self.new)) }
+        ensures texts { result ≡ false → self.new.store.modules ≡ self.old.store.modules }
     {
+        let texts = self.current.has_text();
         self.current.roll_back(0, &mut self.store);
         self.group = None;
+        texts
     }
 }

@@ -1,4 +1,4 @@
-use Rattle.std.proofs.Common.{◌≡◌, ◌≤◌, List, None}
+use Rattle.std.proofs.Common.{◌≡◌, ◌≤◌, List, None, false}
 use Rattle.prim_core.specs.Signature.{Signature}
 use Rattle.session_core.specs.History.{undone}
 use Rattle.session_core.specs.Unfolded.{unfolded, IsPlaced}
@@ -11,6 +11,7 @@ invariant-loop-left l = record {
   outside : l.self.group ≡ None;
   enough : l.left ≤ l.self.position;
   value : (ps : List Signature) → undone l.steps (unfolded ps l.initial.self) ≡ undone l.left (unfolded ps l.self);
+  texts : l.texts ≡ false → l.self.store.modules ≡ l.initial.self.store.modules;
 }
 
 abbrev pub decreases-loop-left : goal.decreases-loop-left

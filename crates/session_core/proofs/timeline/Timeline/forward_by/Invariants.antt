@@ -1,4 +1,4 @@
-use Rattle.std.proofs.Common.{◌≡◌, ◌≤◌, ◌+◌, List, None, length}
+use Rattle.std.proofs.Common.{◌≡◌, ◌≤◌, ◌+◌, List, None, false, length}
 use Rattle.prim_core.specs.Signature.{Signature}
 use Rattle.session_core.specs.History.{redone}
 use Rattle.session_core.specs.Unfolded.{unfolded, IsPlaced}
@@ -11,6 +11,7 @@ invariant-loop-left l = record {
   outside : l.self.group ≡ None;
   enough : l.self.position + l.left ≤ length l.self.logs.items;
   value : (ps : List Signature) → redone l.steps (unfolded ps l.initial.self) ≡ redone l.left (unfolded ps l.self);
+  texts : l.texts ≡ false → l.self.store.modules ≡ l.initial.self.store.modules;
 }
 
 abbrev pub decreases-loop-left : goal.decreases-loop-left
