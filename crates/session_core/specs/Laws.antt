@@ -2,8 +2,6 @@
 use Rattle.std.specs.Prelude.{◌≡◌, ℕ, true, [], ◌∷◌, Some, None, Ok}
 use Rattle.change_log.specs.Contents.{Contents}
 use Rattle.session_core.specs.History.{Group, History, changed}
-use Rattle.session_core.specs.Unfolded.{IsPlaced, AllCompact}
-use Rattle.session_core.specs.declared.timeline.Timeline.{Timeline}
 use Rattle.session_core.specs.Step.{Act, undo, redo, commit, ComesTo, IsChange}
 
 -- An accepted change gives some contents by a change.
@@ -32,7 +30,3 @@ RedoTakesUndoBack = (k : ℕ) (h g : History) → ComesTo (undo k) h (Ok g) → 
 -- And the other way round.
 abbrev pub UndoTakesRedoBack : Type 0
 UndoTakesRedoBack = (k : ℕ) (h g : History) → ComesTo (redo k) h (Ok g) → ComesTo (undo k) g (Ok h)
-
--- What a session says of its steps: in no log of its list does an entry's place lie within another's.
-abbrev pub StepsAreCompact : Type 0
-StepsAreCompact = (t : Timeline) → IsPlaced t → AllCompact t.logs.items

@@ -1,6 +1,11 @@
 //! Laws of undo and redo, over every history, and of the logs that a session keeps.
 
-ghost use Rattle.session_core.specs.Laws.{ChangeIsToContents, ChangeIsUndone, GroupIsUndone, RedoTakesUndoBack, UndoTakesRedoBack, StepsAreCompact};
+ghost use Rattle.std.specs.Prelude.{◌≡◌};
+ghost use Rattle.session_core.specs.Laws.{ChangeIsToContents, ChangeIsUndone, GroupIsUndone, RedoTakesUndoBack, UndoTakesRedoBack};
+ghost use Rattle.session_core.specs.Unfolded.{unfolded, AllCompact};
+
+use crate::{Session, Timeline};
+use prim_core::Meaning;
 
 /// Each accepted change gives some contents by a change, and undo takes that, or a group of them, back and
 /// redo brings it again; each of the two takes back what the other did, over as many places, and gives back
@@ -13,8 +18,11 @@ pub fn undo_and_redo_are_inverse()
     ensures undo { UndoTakesRedoBack }
 {}
 
-/// The log of each step that a session keeps is compact: what is kept of a change is what it replaced at
-/// places that don't lie within one another.
-pub fn steps_are_compact()
-    ensures { StepsAreCompact }
-{}
+/// The steps that a session keeps: its history is what they unfold to, and the log of each is compact. So what
+/// is kept of a change is what it replaced at places that don't lie within one another.
+pub fn steps_are_compact<M: Meaning>(session: &Session<M>) -> &Timeline
+    ensures history { unfolded session.now.primitives result.now ≡ session.now }
+    ensures compact { AllCompact result.now.logs.items }
+{
+    session.timeline()
+}

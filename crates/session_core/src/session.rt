@@ -6,6 +6,7 @@ ghost use Rattle.session_core.specs.History.{empty_history, HasSoundContents};
 ghost use Rattle.session_core.specs.Step.{ComesTo, set_tree, copy_tree, drop_tree, put, annotate, set_module, unload, apply, undo, redo, begin, commit, abandon};
 ghost use Rattle.session_core.specs.Steps.{AreSteps};
 ghost use Rattle.session_core.specs.Dump.{dumped, AreNamedTerms};
+ghost use Rattle.session_core.specs.Unfolded.{unfolded, IsPlaced};
 
 use crate::{Refusal, Timeline};
 use prim_core::{Meaning, Primitives};
@@ -57,6 +58,14 @@ impl<M: Meaning> Session<M> {
             timeline: Timeline::new(alloc),
             program: None,
         }
+    }
+
+    /// The steps that are kept.
+    pub(crate) fn timeline(&self) -> &Timeline
+        ensures history { unfolded self.now.primitives result.now ≡ self.now }
+        ensures placed { IsPlaced result.now }
+    {
+        &self.timeline
     }
 
     /// The tree of this name, or `None` where there is none.

@@ -3,6 +3,7 @@
 ghost use Rattle.std.specs.Prelude.{◌<◌, length};
 ghost use Rattle.session_core.specs.Unfolded.{IsPlaced, AddsEntries};
 
+use crate::laws::steps_are_compact;
 use crate::{Refusal, Session, Timeline};
 use change_log::{Entry, Log, Store};
 use prim_core::{NoPrimitives, Primitives};
@@ -369,7 +370,8 @@ fn has_one_module(session: &Session<NoPrimitives>) -> Result<bool, Fail> {
 }
 
 fn trees_are_found(alloc: Global, session: &mut Session<NoPrimitives>) -> Result<bool, Fail> {
-    Ok(is_found_by_name(alloc, session)? && has_one_name(session)?)
+    let found = is_found_by_name(alloc, session)? && has_one_name(session)?;
+    Ok(found && !steps_are_compact(session).in_group())
 }
 
 fn modules_are_found(alloc: Global, session: &mut Session<NoPrimitives>) -> Result<bool, Fail> {
