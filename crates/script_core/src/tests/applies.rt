@@ -95,7 +95,7 @@ fn behind(alloc: Global, front: &[u8], rest: &[u8]) -> Result<Vec<u8>, Fail> {
 
 #[test]
 fn applies_strategies_with_constructors(rt: HostRuntime) -> Result<(), Fail> {
-    let table: [(&[u8], &[u8], u64, u64); 6] = [
+    let table: [(&[u8], &[u8], u64, u64); 8] = [
         (
             b"tree t F(A,A)\napply t do (F(!B(), id); !A(); fail) <+ F(id, !B())\nshow t\nundo\nshow t\n",
             b"ok\nok\nF(A,B)\nok\nF(A,A)\n",
@@ -131,6 +131,18 @@ fn applies_strategies_with_constructors(rt: HostRuntime) -> Result<(), Fail> {
             b"ok\nrefused 13 spent\nrefused 14 big\nZ\nundo 2 redo 0\n",
             3,
             2,
+        ),
+        (
+            b"tree t F(G(A),Z)\napply t do F(rec x((G(x) <+ id); ((?A(); !B()) <+ (?G(y); !S(y)))), id)\nshow t\nundo\nshow t\nredo\nshow t\n",
+            b"ok\nok\nF(S(B),Z)\nok\nF(G(A),Z)\nok\nF(S(B),Z)\n",
+            7,
+            0,
+        ),
+        (
+            b"tree t F(G(A),Z)\nbegin\napply t at /0/0 do !B()\nannotate t /0 {Z}\napply t at /0 do ?G(y); !S(y)\nannotate t /0 {A}\nput t /1 A\napply t at /1 do !B()\ncommit\nshow t\nundo\nshow t\nredo\nshow t\n",
+            b"ok\nok\nok\nok\nok\nok\nok\nok\nok\nF(S(B){A},B)\nok\nF(G(A),Z)\nok\nF(S(B){A},B)\n",
+            14,
+            0,
         ),
     ];
     for (script, answers, accepted, refused) in table {
