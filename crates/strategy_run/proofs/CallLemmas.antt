@@ -16,7 +16,7 @@ use Rattle.strategy_run.specs.Turns.{State, state_of, HoldsIn, FormIn}
 use Rattle.strategy_run.specs.Endings.{Enters}
 use Rattle.strategy_run.specs.declared.machine.Machine.{Machine}
 use Rattle.strategy_run.specs.declared.arguments.BuiltAll.TheVariants.{All}
-use Rattle.strategy_run.specs.declared.frames.Hand.TheVariants.{Begin}
+use Rattle.strategy_run.specs.Hands.{Begin}
 use Rattle.strategy_run.proofs.TakeLemmas.{celled, some_is, none_is, take_opened}
 
 pub form_cells : (W : World) (sub : Standing) (whole : Answer) (S : State) (r : ResolvedStrategy) (n : ℕ) (p : Standing) (D : Contents) → D ≡ S.cells → FormIn W sub whole S r n p → FormIn W sub whole (celled S D) r n p
@@ -28,19 +28,21 @@ pub undefined_is : (W : World) (S : State) (f : ℕ) (ss : ResolvedStrategies) (
 undefined_is W S f ss ps n p us k e =
     k S.steps _ ∙ none_is (slice_get W.bodies f) S.steps (λ d. enter (run W) ss (scope_at S.scopes n) us d S.level S.steps S.cells.bindings (standing_tree p)) e
 
-pub entered : (W : World) (sub : Standing) (whole : Answer) (m new : Machine) (f : ℕ) (ss : ResolvedStrategies) (ps : Places) (d : Resolved) (s : Bor ResolvedStrategy) (n inner : ℕ) (p : Standing)
+pub entered : (W : World) (sub : Standing) (whole : Answer) (m new : Machine) (f : ℕ) (ss : ResolvedStrategies) (ps : Places) (d : Resolved) (s : Bor ResolvedStrategy) (n inner : ℕ)
     → AreBuilt ps (cells_in (scope_at (scopes m.scopes) n)) m.cells.bindings m.level m.arguments.items All → slice_get W.bodies f ≡ Some d → s.now ≡ d.strategy
     → Enters m ss d n new inner
-    → FormIn W sub whole (state_of m) (call f ss ps) n p → HoldsIn W sub whole (state_of new) (Begin s inner p)
-entered W sub whole m new f ss ps d s n inner p k e se en h =
+    → FormIn W sub whole (state_of m) (call f ss ps) n m.part → HoldsIn W sub whole (state_of new) (Begin s inner new.part)
+entered W sub whole m new f ss ps d s n inner k e se en h =
+    let p = m.part in
     let E = scope_at (scopes m.scopes) n in
     let us = m.arguments.items in
+    subst (λ (q : Standing). HoldsIn W sub whole (state_of new) (Begin s inner q)) (sym en.part) (
     subst (λ (S : State). HoldsIn W sub whole S (Begin s inner p))
     (λ i. record { cells = new.cells; scopes = scopes new.scopes; trail = sym en.rest.0 i; level = sym en.rest.1 i; frames = reverse new.frames.items; steps = sym en.rest.2 i })
     (take_opened W sub whole (state_of m) (call f ss ps) s n inner p (inside (numbers_from (length m.cells.bindings) (length us + d.variables)) (arguments E ss)) (map Some us ++ replicate d.variables None) new.cells (scopes new.scopes) (reverse new.frames.items)
     (k m.steps _ ∙ some_is (slice_get W.bodies f) d m.steps (λ x. enter (run W) ss E us x m.level m.steps m.cells.bindings (standing_tree p)) e
     ∙ ap (λ (r : ResolvedStrategy). opened (run W) (inside (numbers_from (length m.cells.bindings) (length us + d.variables)) (arguments E ss)) (map Some us ++ replicate d.variables None) m.level r m.steps m.cells.bindings (standing_tree p)) (sym se))
-    en.there en.scope (en.cells ∙ append_assoc m.cells.bindings (map Some us) (replicate d.variables None)) (en.room W sub whole p) h)
+    en.there en.scope (en.cells ∙ append_assoc m.cells.bindings (map Some us) (replicate d.variables None)) (en.room W sub whole p) h))
 
 pub slice_past : {A : Type 0} (xs : List A) (i : ℕ) → length xs ≤ i → slice_get xs i ≡ None
 slice_past xs i le = slice_get_past xs i le

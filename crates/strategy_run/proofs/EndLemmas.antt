@@ -13,7 +13,7 @@ use Rattle.strategy_run.specs.Ends.{IsEmpty}
 use Rattle.strategy_run.specs.Turns.{State, HoldsIn, After}
 use Rattle.strategy_run.specs.declared.machine.Machine.{Machine}
 use Rattle.strategy_run.specs.declared.frames.Turned.{Turned}
-use Rattle.strategy_run.specs.declared.frames.Hand.TheVariants.{Begin}
+use Rattle.strategy_run.specs.Hands.{Begin}
 use Rattle.strategy_meaning.specs.Answer.{with_edits}
 use Rattle.strategy_run.specs.Leading.{Has}
 use Rattle.strategy_run.specs.Frames.{Meets}
@@ -48,5 +48,5 @@ starts W m D es r s t n p k de ne ee pe se =
       };
     }
 
-pub after_is : (W : World) (sub : Standing) (whole : Answer) (S : State) {x y : Turned} → x ≡ y → After W sub whole S x → After W sub whole S y
-after_is W sub whole S e h = subst (λ (z : Turned). After W sub whole S z) e h
+pub after_is : (W : World) (sub : Standing) (whole : Answer) (m : Machine) {x y : Turned} → x ≡ y → After W sub whole m x → After W sub whole m y
+after_is W sub whole m e h = subst (λ (z : Turned). After W sub whole m z) e h

@@ -17,7 +17,7 @@ use Rattle.strategy_run.specs.Turns.{State, HoldsIn, FormIn}
 use Rattle.strategy_run.specs.Endings.{LeavesScopes, LeavesCells, AnswersIn, with_those}
 use Rattle.strategy_run.specs.declared.frames.Frame.{Frame}
 use Rattle.strategy_run.specs.declared.frames.Frame.TheVariants.{Then, Choose, Restore, Each, Leftmost, Those, Tail, Rest, Leave, Cut}
-use Rattle.strategy_run.specs.declared.frames.Hand.TheVariants.{Begin}
+use Rattle.strategy_run.specs.Hands.{Begin}
 use Rattle.strategy_run.proofs.OpenLemmas.{with_edits-cut, opens_along, opens_through, meets_kept, pushed}
 
 -- ---- the innermost frame

@@ -19,7 +19,7 @@ use Rattle.strategy_run.specs.declared.frames.Acts.{Acts}
 use Rattle.strategy_run.specs.declared.frames.Walk.{Walk}
 use Rattle.strategy_run.specs.declared.frames.Frame.{Frame}
 use Rattle.strategy_run.specs.declared.frames.Frame.TheVariants as frames
-use Rattle.strategy_run.specs.declared.frames.Hand.TheVariants.{Begin, Failed, Leftmost, Those}
+use Rattle.strategy_run.specs.Hands.{Begin, Failed, Leftmost, Those}
 use Rattle.strategy_run.proofs.OpenLemmas.{opens_along, opens_through, before_self, meets_kept, opens_kept}
 use Rattle.strategy_run.proofs.GiveLemmas.{st, Cuts, cut_back}
 

@@ -12,14 +12,14 @@ use Rattle.strategy_run.specs.Turns.{state_of, FormIn, After, Takes, Holds}
 use Rattle.strategy_run.specs.declared.machine.Machine.{Machine}
 use Rattle.strategy_run.specs.declared.frames.Acts.{Acts}
 use Rattle.strategy_run.specs.declared.frames.Turned.{Turned}
-use Rattle.strategy_run.specs.declared.frames.Hand.TheVariants.{Begin, Each, Those}
+use Rattle.strategy_run.specs.Hands.{Begin, Each, Those}
 
 pub taken_form : {E : Type 0} (W : World) (m new : Machine) (s r : ResolvedStrategy) (n : ℕ) (p : Standing) (x : Result Turned E) → s ≡ r
     → IfOk x (λ next. Takes W m r n p new next) → IfOk x (λ next. Takes W m s n p new next)
 taken_form W m new s r n p x e h = subst (λ (q : ResolvedStrategy). IfOk x (λ next. Takes W m q n p new next)) (sym e) h
 
 pub taken_turn : (W : World) (m : Machine) {new : Machine} (s r : ResolvedStrategy) (n : ℕ) (p : Standing) (next : Turned) → s ≡ r
-    → ((sub : Standing) (whole : Answer) → FormIn W sub whole (state_of m) r n p → After W sub whole (state_of new) next) → Takes W m s n p new next
+    → ((sub : Standing) (whole : Answer) → FormIn W sub whole (state_of m) r n p → After W sub whole new next) → Takes W m s n p new next
 taken_turn W m {new = new} s r n p next e f = subst (λ (q : ResolvedStrategy). Takes W m q n p new next) (sym e) (record { keeps = f })
 
 pub begin_there : {W : World} {sub : Standing} {whole : Answer} (m : Machine) {s : Bor ResolvedStrategy} {n : ℕ} {p : Standing} → Holds W sub whole m (Begin s n p) → n < length (scopes m.scopes)

@@ -22,7 +22,7 @@ use Rattle.strategy_run.specs.declared.frames.Acts.{Acts}
 use Rattle.strategy_run.specs.declared.frames.Walk.{Walk}
 use Rattle.strategy_run.specs.declared.frames.Frame.{Frame}
 use Rattle.strategy_run.specs.declared.frames.Frame.TheVariants as frames
-use Rattle.strategy_run.specs.declared.frames.Hand.TheVariants.{Begin, Done, Failed, Each, Those}
+use Rattle.strategy_run.specs.Hands.{Begin, Done, Failed, Each, Those}
 use Rattle.strategy_run.proofs.OpenLemmas.{with_edits-done, opens_along, opens_through, opens_on, opens_new, behind-nothing, stays_self, meets_kept, opens_kept}
 use Rattle.strategy_run.proofs.ChildLemmas.{Settled, settled_here, goes_up}
 use Rattle.strategy_run.proofs.TakeLemmas.{puts, some_is, none_is}

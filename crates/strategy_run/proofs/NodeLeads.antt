@@ -332,6 +332,16 @@ leads_child node parts new i c r d n h e l is =
     subst (λ x. Leads (node_now node parts) (behind (i ∷ []) d) (node_now node x) × PartsStand node x) (sym is)
     (set_leads node parts i c r d n h e l k, k)
 
+-- the node over some
+pub node_over_some : (node : Standing) (parts : List Standing) (b : Bool) → b ≡ (length parts == 0) → b ≡ false → node_now node parts ≡ with_standing node parts
+node_over_some node [] b e f = absurd (cc)
+node_over_some node (q ∷ qs) b e f = refl
+
+-- the node over none
+pub node_over_none : (node : Standing) (parts : List Standing) (b : Bool) → b ≡ (length parts == 0) → b ≡ true → node ≡ node_now node parts
+node_over_none node [] b e f = refl
+node_over_none node (q ∷ qs) b e f = absurd (cc)
+
 -- where there are some
 pub some_parts_can_hold : (node : Standing) (parts : List Standing) (b : Bool) → PartsStand node parts → b ≡ (length parts == 0) → b ≡ false → CanHold node parts
 some_parts_can_hold node [] b h e f = absurd (cc)

@@ -28,8 +28,7 @@ use Rattle.strategy_run.specs.declared.frames.Acts.{Acts}
 use Rattle.strategy_run.specs.declared.frames.Acts.TheVariants.{Same, List as Listed}
 use Rattle.strategy_run.specs.declared.frames.Frame.{Frame}
 use Rattle.strategy_run.specs.declared.frames.Frame.TheVariants.{Then, Choose, Restore, Tail}
-use Rattle.strategy_run.specs.declared.frames.Hand.{Hand}
-use Rattle.strategy_run.specs.declared.frames.Hand.TheVariants.{Begin, Done, Failed, Each, Leftmost, Those}
+use Rattle.strategy_run.specs.Hands.{Hand, Begin, Done, Failed, Each, Leftmost, Those}
 use Rattle.strategy_run.proofs.LeadLemmas.{leads_fresh}
 use Rattle.strategy_run.proofs.NodeLeads.{none_stand}
 use Rattle.strategy_run.proofs.ScopeLemmas.{one_more_there, one_more_is}

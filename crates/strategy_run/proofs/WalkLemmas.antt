@@ -9,7 +9,7 @@ use Rattle.strategy_run.specs.Turns.{State, state_of, HoldsIn, Holds, ComesUp, R
 use Rattle.strategy_run.specs.declared.machine.Machine.{Machine}
 use Rattle.strategy_run.specs.declared.frames.Walk.{Walk}
 use Rattle.strategy_run.specs.declared.frames.Frame.{Frame}
-use Rattle.strategy_run.specs.declared.frames.Hand.{Hand}
+use Rattle.strategy_run.specs.Hands.{Hand}
 use Rattle.strategy_run.proofs.OpenLemmas.{pushed}
 
 -- the frame that was taken off

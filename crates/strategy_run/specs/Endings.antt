@@ -49,6 +49,7 @@ pub record ScopesEnd (m : Machine) (n : ℕ) (new : Machine) : Type 0 where
   pub same : scope_at (scopes new.scopes) n ≡ scope_at (scopes m.scopes) n
   pub room : (W : World) (sub : Standing) (whole : Answer) (p : Standing) (a : Answer) → AnswersIn W sub whole (state_of m) p a
       → (es : List Scope) → Starts (scopes new.scopes) es → AnswersIn W sub whole (with_those (state_of m) m.cells es (frames_of new)) p a
+  pub part : new.part ≡ m.part
   pub rest : (new.cells ≡ m.cells) × (new.trail ≡ m.trail) × (new.arguments ≡ m.arguments) × (new.level ≡ m.level) × (new.steps ≡ m.steps)
   pub frames : vec_len new.frames ≤ vec_len m.frames + 1
 
@@ -59,6 +60,7 @@ pub record CellsEnd (m : Machine) (n : ℕ) (new : Machine) : Type 0 where
   pub room : (W : World) (sub : Standing) (whole : Answer) (p : Standing) (a : Answer) → AnswersIn W sub whole (state_of m) p (cut (length m.cells.bindings) a)
       → (D : Contents) (es : List Scope) → Starts (scopes new.scopes) es → Before (mark_of m.cells) (mark_of D) → Stays (mark_of m.cells) m.cells D
       → AnswersIn W sub whole (with_those (state_of m) D es (frames_of new)) p a
+  pub part : new.part ≡ m.part
   pub rest : (new.cells ≡ m.cells) × (new.trail ≡ m.trail) × (new.arguments ≡ m.arguments) × (new.level ≡ m.level) × (new.steps ≡ m.steps)
   pub frames : vec_len new.frames ≤ vec_len m.frames + 1
 
@@ -71,5 +73,6 @@ pub record Enters (m : Machine) (ss : ResolvedStrategies) (d : Resolved) (n : �
   pub cells : new.cells.bindings ≡ (m.cells.bindings ++ map Some m.arguments.items) ++ replicate d.variables None
   pub room : (W : World) (sub : Standing) (whole : Answer) (p : Standing) (a : Answer) → AnswersIn W sub whole (state_of m) p (cut (length m.cells.bindings) a)
       → AnswersIn W sub whole (with_those (state_of m) new.cells (scopes new.scopes) (frames_of new)) p a
+  pub part : new.part ≡ m.part
   pub rest : (new.trail ≡ m.trail) × (new.level ≡ m.level) × (new.steps ≡ m.steps)
   pub frames : vec_len new.frames ≤ vec_len m.frames + 1

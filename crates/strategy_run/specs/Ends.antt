@@ -21,7 +21,7 @@ pub record IsEmpty (m : Machine) : Type 0 where
   pub trail : Shows m.trail []
 
 abbrev pub Ends : Standing → Machine → Ended → Answer → Type 0
-Ends sub m (ends.Done p) whole = IsDone sub whole (state_of m) p
+Ends sub m ends.Done whole = IsDone sub whole (state_of m) m.part
 Ends sub m ends.Failed whole = (b : ℕ) × (whole ≡ failed b)
 Ends sub m ends.Spent whole = whole ≡ stopped spent
 Ends sub m ends.Big whole = whole ≡ stopped big

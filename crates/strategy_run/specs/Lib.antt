@@ -2,6 +2,7 @@ pub mod Trails
 pub mod Leading
 pub mod Frames
 pub mod Arguments
+pub mod Hands
 pub mod Turns
 pub mod Ends
 pub mod Applies

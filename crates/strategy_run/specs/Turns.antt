@@ -21,8 +21,7 @@ use Rattle.strategy_run.specs.Frames.{Meets, Opens, acts_list}
 use Rattle.strategy_run.specs.declared.trail.Trail.{Trail}
 use Rattle.strategy_run.specs.declared.frames.Walk.{Walk}
 use Rattle.strategy_run.specs.declared.frames.Frame.{Frame}
-use Rattle.strategy_run.specs.declared.frames.Hand.{Hand}
-use Rattle.strategy_run.specs.declared.frames.Hand.TheVariants.{Begin, Done, Failed, Each, Leftmost, Those}
+use Rattle.strategy_run.specs.Hands.{Hand, Begin, Done, Failed, Each, Leftmost, Those, in_hand}
 use Rattle.strategy_run.specs.declared.frames.Turned.{Turned}
 use Rattle.strategy_run.specs.declared.frames.Turned.TheVariants as turns
 use Rattle.strategy_run.specs.declared.machine.Machine.{Machine}
@@ -90,16 +89,16 @@ pub record IsDone (sub : Standing) (whole : Answer) (S : State) (p : Standing) :
   pub bindings : Bindings
   pub is : whole ≡ done (standing_tree p) bindings S.steps edits
 
-abbrev pub After : World → Standing → Answer → State → Turned → Type 0
-After W sub whole S (turns.On hand) = HoldsIn W sub whole S hand
-After W sub whole S (turns.Done p) = IsDone sub whole S p
-After W sub whole S turns.Failed = whole ≡ failed S.steps
-After W sub whole S turns.Spent = whole ≡ stopped spent
-After W sub whole S turns.Big = whole ≡ stopped big
+abbrev pub After : World → Standing → Answer → Machine → Turned → Type 0
+After W sub whole m turns.On = Holds W sub whole m (in_hand m)
+After W sub whole m turns.Done = IsDone sub whole (state_of m) m.part
+After W sub whole m turns.Failed = whole ≡ failed m.steps
+After W sub whole m turns.Spent = whole ≡ stopped spent
+After W sub whole m turns.Big = whole ≡ stopped big
 
 -- A turn keeps the whole answer.
 pub record Turn (W : World) (m : Machine) (hand : Hand) (new : Machine) (next : Turned) : Type 0 where
-  pub keeps : (sub : Standing) (whole : Answer) → Holds W sub whole m hand → After W sub whole (state_of new) next
+  pub keeps : (sub : Standing) (whole : Answer) → Holds W sub whole m hand → After W sub whole new next
 
 -- what the numbers in the strategies of a run stand for
 abbrev pub world_of : (List ℕ → List Tree → Option Tree) → List Resolved → List Signature → World
@@ -121,8 +120,8 @@ abbrev pub load : Machine → Hand → ℕ
 load m hand = 7 * m.steps + 2 * vec_len m.frames + weight hand
 
 abbrev pub Falls : Machine → Hand → Machine → Turned → Type 0
-Falls m hand new (turns.On next) = load new next < load m hand
-Falls m hand new (turns.Done p) = Unit {0}
+Falls m hand new turns.On = load new (in_hand new) < load m hand
+Falls m hand new turns.Done = Unit {0}
 Falls m hand new turns.Failed = Unit {0}
 Falls m hand new turns.Spent = Unit {0}
 Falls m hand new turns.Big = Unit {0}
@@ -139,11 +138,11 @@ pub record FormIn (W : World) (sub : Standing) (whole : Answer) (S : State) (r :
 
 -- A turn that goes on with the form keeps it.
 pub record Takes (W : World) (m : Machine) (r : ResolvedStrategy) (n : ℕ) (p : Standing) (new : Machine) (next : Turned) : Type 0 where
-  pub keeps : (sub : Standing) (whole : Answer) → FormIn W sub whole (state_of m) r n p → After W sub whole (state_of new) next
+  pub keeps : (sub : Standing) (whole : Answer) → FormIn W sub whole (state_of m) r n p → After W sub whole new next
 
 abbrev pub TakeFalls : Machine → Machine → Turned → Type 0
-TakeFalls m new (turns.On next) = load new next < 7 * (m.steps + 1) + 2 * vec_len m.frames
-TakeFalls m new (turns.Done p) = Unit {0}
+TakeFalls m new turns.On = load new (in_hand new) < 7 * (m.steps + 1) + 2 * vec_len m.frames
+TakeFalls m new turns.Done = Unit {0}
 TakeFalls m new turns.Failed = Unit {0}
 TakeFalls m new turns.Spent = Unit {0}
 TakeFalls m new turns.Big = Unit {0}
@@ -169,15 +168,15 @@ under f m = record {
 
 -- Going on from there keeps the whole answer.
 pub record Gives (W : World) (f : Frame) (m : Machine) (hand : Hand) (new : Machine) (next : Turned) : Type 0 where
-  pub keeps : (sub : Standing) (whole : Answer) → HoldsIn W sub whole (under f m) hand → After W sub whole (state_of new) next
+  pub keeps : (sub : Standing) (whole : Answer) → HoldsIn W sub whole (under f m) hand → After W sub whole new next
 
 -- There is such a run.
 abbrev pub IsOfRun : Frame → Machine → Hand → Type 0
 IsOfRun f m hand = (W : World) × (sub : Standing) × (whole : Answer) × HoldsIn W sub whole (under f m) hand
 
 abbrev pub GiveFalls : Machine → Machine → Turned → Type 0
-GiveFalls m new (turns.On next) = load new next < 7 * m.steps + 2 * vec_len m.frames + 4
-GiveFalls m new (turns.Done p) = Unit {0}
+GiveFalls m new turns.On = load new (in_hand new) < 7 * m.steps + 2 * vec_len m.frames + 4
+GiveFalls m new turns.Done = Unit {0}
 GiveFalls m new turns.Failed = Unit {0}
 GiveFalls m new turns.Spent = Unit {0}
 GiveFalls m new turns.Big = Unit {0}

@@ -200,10 +200,10 @@ fn find<M: Meaning>(
         primitives,
     };
     let trail = trail_for(alloc, listing);
-    let mut m = Machine::new(alloc, trail, path.len() as u64, steps);
+    let mut m = Machine::new(alloc, trail, term, path.len() as u64, steps);
     match run_to_end(alloc, &host, &mut m, strategy, term)? {
-        Ended::Done(part) => {
-            let all = replacements(alloc, listing, &m.trail, &part, path.parts())?;
+        Ended::Done => {
+            let all = replacements(alloc, listing, &m.trail, &m.part, path.parts())?;
             Ok(Found::Replaced(all))
         }
         Ended::Failed => Ok(Found::Failed),

@@ -10,14 +10,14 @@ ghost use Rattle.strategy_run.specs.Endings.{Enters};
 use crate::arguments::{BuiltAll, build_all, open_arguments, owned_terms};
 use crate::endings::{end_cells, end_scopes};
 use crate::forms::replace;
-use crate::frames::{Hand, Turned};
+use crate::frames::{Next, Turned};
 use crate::machine::{Host, Machine};
 use prim_core::Meaning;
 use std::alloc::Global;
 use strategy_scopes::Known;
 use strategy_syntax::{Place, Resolved, ResolvedStrategy};
 use term_core::{NoMemory, Term};
-use term_values::{Part, Value};
+use term_values::Value;
 
 /// So many new variables in a strategy.
 pub(crate) fn take_scope<'t>(
@@ -25,10 +25,9 @@ pub(crate) fn take_scope<'t>(
     count: usize,
     strategy: &'t ResolvedStrategy,
     scope: usize,
-    part: Part<'t>,
-) -> Result<Turned<'t>, NoMemory>
+) -> Result<Turned, NoMemory>
     requires { scope < length (scopes_of m.old.scopes) }
-    ensures ok { (W : World) → IfOk result (λ next. Takes W m.old (scope_form count strategy.entry.now) scope part.entry m.new next) }
+    ensures ok { (W : World) → IfOk result (λ next. Takes W m.old (scope_form count strategy.entry.now) scope m.old.part m.new next) }
     ensures less { IfOk result (λ next. TakeFalls m.old m.new next) }
 {
     let first = m.cells.count();
@@ -38,7 +37,8 @@ pub(crate) fn take_scope<'t>(
     end_cells(m, scope)?;
     m.cells.open_cells(count)?;
     let inner = m.scopes.add_variables(Some(scope), first, count)?;
-    Ok(Turned::On(Hand::Begin(strategy, inner, part)))
+    m.next = Next::Begin(strategy, inner);
+    Ok(Turned::On)
 }
 
 /// A strategy in which a new name stands for the whole.
@@ -47,11 +47,10 @@ pub(crate) fn take_rec<'t>(
     whole: &'t ResolvedStrategy,
     body: &'t ResolvedStrategy,
     scope: usize,
-    part: Part<'t>,
-) -> Result<Turned<'t>, NoMemory>
+) -> Result<Turned, NoMemory>
     requires there { scope < length (scopes_of m.old.scopes) }
     requires whole { whole.now ≡ rec body.now }
-    ensures ok { (W : World) → IfOk result (λ next. Takes W m.old (rec body.entry.now) scope part.entry m.new next) }
+    ensures ok { (W : World) → IfOk result (λ next. Takes W m.old (rec body.entry.now) scope m.old.part m.new next) }
     ensures less { IfOk result (λ next. TakeFalls m.old m.new next) }
 {
     end_scopes(m, scope)?;
@@ -60,7 +59,8 @@ pub(crate) fn take_rec<'t>(
         inside: scope,
     };
     let inner = m.scopes.add_name(Some(scope), known)?;
-    Ok(Turned::On(Hand::Begin(body, inner, part)))
+    m.next = Next::Begin(body, inner);
+    Ok(Turned::On)
 }
 
 /// What a strategy name stands for.
@@ -68,15 +68,20 @@ pub(crate) fn take_param<'t>(
     m: &mut Machine<'t>,
     name: usize,
     scope: usize,
-    part: Part<'t>,
-) -> Turned<'t>
+) -> Turned
     requires { scope < length (scopes_of m.old.scopes) }
-    ensures ok { (W : World) → Takes W m.old (param name) scope part.entry m.new result }
+    ensures ok { (W : World) → Takes W m.old (param name) scope m.old.part m.new result }
     ensures less { TakeFalls m.old m.new result }
 {
     match m.scopes.named(scope, name) {
-        None => Turned::On(Hand::Failed),
-        Some(known) => Turned::On(Hand::Begin(known.strategy, known.inside, part)),
+        None => {
+            m.next = Next::Failed;
+            Turned::On
+        }
+        Some(known) => {
+            m.next = Next::Begin(known.strategy, known.inside);
+            Turned::On
+        }
     }
 }
 
@@ -89,11 +94,10 @@ pub(crate) fn take_call<'t, M: Meaning>(
     strategies: &'t [ResolvedStrategy],
     patterns: &'t [Place],
     scope: usize,
-    part: Part<'t>,
-) -> Result<Turned<'t>, NoMemory>
+) -> Result<Turned, NoMemory>
     requires { scope < length (scopes_of m.old.scopes) }
     ensures ok { IfOk result (λ next. Takes (world_of M.meaning host.now.definitions.now host.now.primitives.now) m.old
-        (call definition (resolveds_of strategies.entry.now) (places_of patterns.entry.now)) scope part.entry m.new next) }
+        (call definition (resolveds_of strategies.entry.now) (places_of patterns.entry.now)) scope m.old.part m.new next) }
     ensures less { IfOk result (λ next. TakeFalls m.old m.new next) }
 {
     let built = build_all(
@@ -106,13 +110,20 @@ pub(crate) fn take_call<'t, M: Meaning>(
         &mut m.arguments,
     )?;
     match built {
-        BuiltAll::Nothing => Ok(Turned::On(Hand::Failed)),
+        BuiltAll::Nothing => {
+            m.next = Next::Failed;
+            Ok(Turned::On)
+        }
         BuiltAll::Big => Ok(Turned::Big),
         BuiltAll::All => match host.definitions.get(definition) {
-            None => Ok(Turned::On(Hand::Failed)),
+            None => {
+                m.next = Next::Failed;
+                Ok(Turned::On)
+            }
             Some(body) => {
                 let inner = enter(m, strategies, body, scope)?;
-                Ok(Turned::On(Hand::Begin(&body.strategy, inner, part)))
+                m.next = Next::Begin(&body.strategy, inner);
+                Ok(Turned::On)
             }
         },
     }
@@ -149,10 +160,9 @@ pub(crate) fn take_prim<'t, M: Meaning>(
     primitive: usize,
     patterns: &'t [Place],
     scope: usize,
-    _part: Part<'t>,
-) -> Result<Turned<'t>, NoMemory>
+) -> Result<Turned, NoMemory>
     ensures ok { IfOk result (λ next. Takes (world_of M.meaning host.now.definitions.now host.now.primitives.now) m.old
-        (prim primitive (places_of patterns.entry.now)) scope _part.entry m.new next) }
+        (prim primitive (places_of patterns.entry.now)) scope m.old.part m.new next) }
     ensures less { IfOk result (λ next. TakeFalls m.old m.new next) }
 {
     let built = build_all(
@@ -165,19 +175,24 @@ pub(crate) fn take_prim<'t, M: Meaning>(
         &mut m.arguments,
     )?;
     match built {
-        BuiltAll::Nothing => Ok(Turned::On(Hand::Failed)),
+        BuiltAll::Nothing => {
+            m.next = Next::Failed;
+            Ok(Turned::On)
+        }
         BuiltAll::Big => Ok(Turned::Big),
         BuiltAll::All => {
             let terms = owned_terms(alloc, &m.arguments)?;
             let Some(term) = answer_of(alloc, host, primitive, &terms)? else {
-                return Ok(Turned::On(Hand::Failed));
+                m.next = Next::Failed;
+                return Ok(Turned::On);
             };
             let mut value = Value::from_term(alloc, &term)?;
             if !value.fits(m.level) {
                 return Ok(Turned::Big);
             }
-            let part = replace(alloc, m, value)?;
-            Ok(Turned::On(Hand::Done(part)))
+            replace(alloc, m, value)?;
+            m.next = Next::Done;
+            Ok(Turned::On)
         }
     }
 }

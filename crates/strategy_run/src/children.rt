@@ -1,16 +1,18 @@
 //! Strategies over children.
 
-ghost use Rattle.std.specs.Prelude.{◌≡◌, ◌<◌, ◌-◌, [], ◌∷◌, cond, length, MatchOption, IfOk, slice_get, slice_set};
+ghost use Rattle.std.specs.Prelude.{◌≡◌, ◌<◌, ◌-◌, [], ◌∷◌, cond, length, MatchOption, IfOk, OnOk, slice_get, slice_set};
 ghost use Rattle.term_core.specs.Tree.{children};
 ghost use Rattle.term_changes.specs.Standing.{standing_tree, standing_children};
 ghost use Rattle.strategy_meaning.specs.Meaning.{World};
 ghost use Rattle.strategy_run.specs.Frames.{acts_list};
 ghost use Rattle.strategy_run.specs.Leading.{PartsStand, node_now, parts_now};
+ghost use Rattle.strategy_run.specs.Hands.{Each, Leftmost, Those};
 ghost use Rattle.strategy_run.specs.Turns.{Turn, Falls};
 
-use crate::frames::{Acts, Frame, Hand, Turned, Walk};
+use crate::frames::{Acts, Frame, Next, Turned, Walk};
 use crate::machine::Machine;
 use std::alloc::Global;
+use std::mem;
 use strategy_syntax::ResolvedStrategy;
 use term_core::NoMemory;
 use term_values::Part;
@@ -53,19 +55,22 @@ pub(crate) fn child_now<'t>(
     Ok(Some(parts[i].try_clone()?))
 }
 
-/// The node so far.
-pub(crate) fn finished<'t>(
+/// Puts the node so far in the place of the node.
+pub(crate) fn finish<'t>(
     alloc: Global,
-    node: Part<'t>,
-    parts: Vec<Part<'t>>,
-) -> Result<Part<'t>, NoMemory>
-    requires { PartsStand node parts.items }
-    ensures { IfOk result (λ part. part ≡ node_now node.entry parts.entry.items) }
+    node: &mut Part<'t>,
+    parts: &mut Vec<Part<'t>>,
+) -> Result<(), NoMemory>
+    requires { PartsStand node.old parts.old.items }
+    ensures { OnOk result (node.new ≡ node_now node.old parts.old.items) }
 {
     if parts.is_empty() {
-        return Ok(node);
+        return Ok(());
     }
-    node.with_parts(alloc, parts)
+    let all = mem::replace(parts, Vec::new(alloc));
+    let whole = node.with_parts(alloc, all)?;
+    *node = whole;
+    Ok(())
 }
 
 /// What stands in the places of the children, with another part at child `i` where it has changed.
@@ -100,27 +105,29 @@ pub(crate) fn go_on<'t>(
     m: &mut Machine<'t>,
     acts: Acts<'t>,
     scope: usize,
-    node: Part<'t>,
     index: usize,
-    parts: Vec<Part<'t>>,
-) -> Result<Turned<'t>, NoMemory>
-    requires { PartsStand node parts.items }
-    ensures ok { (W : World) → IfOk result (λ next. Turn W m.old (Hand.Each acts.entry scope node.entry index parts.entry) m.new next) }
-    ensures less { IfOk result (λ next. Falls m.old (Hand.Each acts.entry scope node.entry index parts.entry) m.new next) }
+) -> Result<Turned, NoMemory>
+    requires { PartsStand m.old.part m.old.parts.items }
+    ensures ok { (W : World) → IfOk result (λ next. Turn W m.old (Each acts.entry scope m.old.part index m.old.parts) m.new next) }
+    ensures less { IfOk result (λ next. Falls m.old (Each acts.entry scope m.old.part index m.old.parts) m.new next) }
 {
-    let count = node.child_count();
+    let count = m.part.child_count();
     let left = count.saturating_sub(index);
     let Some((strategy, others)) = next_act(acts, left) else {
-        let part = finished(alloc, node, parts)?;
-        return Ok(Turned::On(Hand::Done(part)));
+        finish(alloc, &mut m.part, &mut m.parts)?;
+        m.next = Next::Done;
+        return Ok(Turned::On);
     };
-    let Some(child) = child_now(&node, &parts, index)? else {
-        return Ok(Turned::On(Hand::Failed));
+    let Some(child) = child_now(&m.part, &m.parts, index)? else {
+        m.next = Next::Failed;
+        return Ok(Turned::On);
     };
     let level = m.level;
     if level == u64::MAX {
         return Err(NoMemory);
     }
+    let node = mem::replace(&mut m.part, child);
+    let parts = mem::replace(&mut m.parts, Vec::new(alloc));
     let edits = m.trail.count;
     m.frames.push(Frame::Each(
         others,
@@ -134,7 +141,8 @@ pub(crate) fn go_on<'t>(
         },
     ))?;
     m.level += 1;
-    Ok(Turned::On(Hand::Begin(strategy, scope, child)))
+    m.next = Next::Begin(strategy, scope);
+    Ok(Turned::On)
 }
 
 /// Tries the children from this one on, until the strategy gives a term.
@@ -143,21 +151,22 @@ pub(crate) fn try_on<'t>(
     m: &mut Machine<'t>,
     strategy: &'t ResolvedStrategy,
     scope: usize,
-    node: Part<'t>,
     index: usize,
-) -> Result<Turned<'t>, NoMemory>
-    ensures ok { (W : World) → IfOk result (λ next. Turn W m.old (Hand.Leftmost strategy.entry scope node.entry index) m.new next) }
-    ensures less { IfOk result (λ next. Falls m.old (Hand.Leftmost strategy.entry scope node.entry index) m.new next) }
+) -> Result<Turned, NoMemory>
+    ensures ok { (W : World) → IfOk result (λ next. Turn W m.old (Leftmost strategy.entry scope m.old.part index) m.new next) }
+    ensures less { IfOk result (λ next. Falls m.old (Leftmost strategy.entry scope m.old.part index) m.new next) }
 {
-    let Some(child) = node.child(index)? else {
-        return Ok(Turned::On(Hand::Failed));
+    let Some(child) = m.part.child(index)? else {
+        m.next = Next::Failed;
+        return Ok(Turned::On);
     };
     let level = m.level;
     if level == u64::MAX {
         return Err(NoMemory);
     }
-    let edits = m.trail.count;
     let mark = m.cells.mark();
+    let node = mem::replace(&mut m.part, child);
+    let edits = m.trail.count;
     m.frames.push(Frame::Leftmost(
         strategy,
         scope,
@@ -171,7 +180,8 @@ pub(crate) fn try_on<'t>(
         mark,
     ))?;
     m.level += 1;
-    Ok(Turned::On(Hand::Begin(strategy, scope, child)))
+    m.next = Next::Begin(strategy, scope);
+    Ok(Turned::On)
 }
 
 /// Goes on with the children from this one on, whether the strategy gives a term there or not.
@@ -180,28 +190,30 @@ pub(crate) fn go_over<'t>(
     m: &mut Machine<'t>,
     strategy: &'t ResolvedStrategy,
     scope: usize,
-    node: Part<'t>,
     index: usize,
     any: bool,
-    parts: Vec<Part<'t>>,
-) -> Result<Turned<'t>, NoMemory>
-    requires { PartsStand node parts.items }
-    ensures ok { (W : World) → IfOk result (λ next. Turn W m.old (Hand.Those strategy.entry scope node.entry index any parts.entry) m.new next) }
-    ensures less { IfOk result (λ next. Falls m.old (Hand.Those strategy.entry scope node.entry index any parts.entry) m.new next) }
+) -> Result<Turned, NoMemory>
+    requires { PartsStand m.old.part m.old.parts.items }
+    ensures ok { (W : World) → IfOk result (λ next. Turn W m.old (Those strategy.entry scope m.old.part index any m.old.parts) m.new next) }
+    ensures less { IfOk result (λ next. Falls m.old (Those strategy.entry scope m.old.part index any m.old.parts) m.new next) }
 {
-    let Some(child) = child_now(&node, &parts, index)? else {
+    let Some(child) = child_now(&m.part, &m.parts, index)? else {
         if !any {
-            return Ok(Turned::On(Hand::Failed));
+            m.next = Next::Failed;
+            return Ok(Turned::On);
         }
-        let part = finished(alloc, node, parts)?;
-        return Ok(Turned::On(Hand::Done(part)));
+        finish(alloc, &mut m.part, &mut m.parts)?;
+        m.next = Next::Done;
+        return Ok(Turned::On);
     };
     let level = m.level;
     if level == u64::MAX {
         return Err(NoMemory);
     }
-    let edits = m.trail.count;
     let mark = m.cells.mark();
+    let node = mem::replace(&mut m.part, child);
+    let parts = mem::replace(&mut m.parts, Vec::new(alloc));
+    let edits = m.trail.count;
     m.frames.push(Frame::Those(
         strategy,
         scope,
@@ -216,5 +228,6 @@ pub(crate) fn go_over<'t>(
         any,
     ))?;
     m.level += 1;
-    Ok(Turned::On(Hand::Begin(strategy, scope, child)))
+    m.next = Next::Begin(strategy, scope);
+    Ok(Turned::On)
 }

@@ -10,7 +10,7 @@ ghost use Rattle.strategy_syntax.specs.Resolved.{congruence, tail_congruence, ch
 ghost use Rattle.term_changes.specs.Standing.{standing_tree};
 ghost use Rattle.strategy_run.specs.Turns.{Takes, TakeFalls};
 
-use crate::frames::{Acts, Frame, Hand, Turned};
+use crate::frames::{Acts, Frame, Next, Turned};
 use crate::machine::Machine;
 use std::alloc::Global;
 use strategy_syntax::{Head, ResolvedStrategy};
@@ -41,16 +41,17 @@ pub(crate) fn take_congruence<'t>(
     head: &Head,
     strategies: &'t [ResolvedStrategy],
     scope: usize,
-    part: Part<'t>,
-) -> Result<Turned<'t>, NoMemory>
-    ensures ok { (W : World) → IfOk result (λ next. Takes W m.old (congruence (head_of head.now) (resolveds_of strategies.entry.now)) scope part.entry m.new next) }
+) -> Result<Turned, NoMemory>
+    ensures ok { (W : World) → IfOk result (λ next. Takes W m.old (congruence (head_of head.now) (resolveds_of strategies.entry.now)) scope m.old.part m.new next) }
     ensures less { IfOk result (λ next. TakeFalls m.old m.new next) }
 {
-    if !is_over(head, strategies.len(), &part) {
-        return Ok(Turned::On(Hand::Failed));
+    if !is_over(head, strategies.len(), &m.part) {
+        m.next = Next::Failed;
+        return Ok(Turned::On);
     }
-    let none = Vec::new(alloc);
-    Ok(Turned::On(Hand::Each(Acts::List(strategies), scope, part, 0, none)))
+    m.parts = Vec::new(alloc);
+    m.next = Next::Each(Acts::List(strategies), scope, 0);
+    Ok(Turned::On)
 }
 
 /// A strategy for each of the first elements of a list, and one for the list of the others.
@@ -60,18 +61,19 @@ pub(crate) fn take_tail<'t>(
     strategies: &'t [ResolvedStrategy],
     tail: &'t ResolvedStrategy,
     scope: usize,
-    part: Part<'t>,
-) -> Result<Turned<'t>, NoMemory>
-    ensures ok { (W : World) → IfOk result (λ next. Takes W m.old (tail_congruence (resolveds_of strategies.entry.now) tail.entry.now) scope part.entry m.new next) }
+) -> Result<Turned, NoMemory>
+    ensures ok { (W : World) → IfOk result (λ next. Takes W m.old (tail_congruence (resolveds_of strategies.entry.now) tail.entry.now) scope m.old.part m.new next) }
     ensures less { IfOk result (λ next. TakeFalls m.old m.new next) }
 {
     let count = strategies.len();
-    if !is_list_from(count, &part) {
-        return Ok(Turned::On(Hand::Failed));
+    if !is_list_from(count, &m.part) {
+        m.next = Next::Failed;
+        return Ok(Turned::On);
     }
     m.frames.push(Frame::Tail(tail, scope, count))?;
-    let none = Vec::new(alloc);
-    Ok(Turned::On(Hand::Each(Acts::List(strategies), scope, part, 0, none)))
+    m.parts = Vec::new(alloc);
+    m.next = Next::Each(Acts::List(strategies), scope, 0);
+    Ok(Turned::On)
 }
 
 /// A strategy for one child, counted from 1.
@@ -81,15 +83,16 @@ pub(crate) fn take_child<'t>(
     number: usize,
     inner: &'t ResolvedStrategy,
     scope: usize,
-    part: Part<'t>,
-) -> Result<Turned<'t>, NoMemory>
-    ensures ok { (W : World) → IfOk result (λ next. Takes W m.old (child number inner.entry.now) scope part.entry m.new next) }
+) -> Result<Turned, NoMemory>
+    ensures ok { (W : World) → IfOk result (λ next. Takes W m.old (child number inner.entry.now) scope m.old.part m.new next) }
     ensures less { IfOk result (λ next. TakeFalls m.old m.new next) }
 {
     if number == 0 {
-        return Ok(Turned::On(Hand::Failed));
+        m.next = Next::Failed;
+        return Ok(Turned::On);
     }
-    let none = Vec::new(alloc);
+    m.parts = Vec::new(alloc);
     let alone = Acts::List(std::slice::from_ref(inner));
-    Ok(Turned::On(Hand::Each(alone, scope, part, number - 1, none)))
+    m.next = Next::Each(alone, scope, number - 1);
+    Ok(Turned::On)
 }

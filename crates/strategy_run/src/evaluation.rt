@@ -5,12 +5,13 @@ ghost use Rattle.term_core.specs.Size.{height};
 ghost use Rattle.strategy_meaning.specs.Answer.{Answer};
 ghost use Rattle.strategy_meaning.specs.Meaning.{World, run_whole};
 ghost use Rattle.term_changes.specs.Standing.{Standing, unchanged};
+ghost use Rattle.strategy_run.specs.Hands.{in_hand};
 ghost use Rattle.strategy_run.specs.Turns.{Turn, Falls, Holds, world_of};
 ghost use Rattle.strategy_run.specs.Ends.{Ends, IsAnswered, IsEmpty};
 
 use crate::begin::begin;
 use crate::children::{go_on, go_over, try_on};
-use crate::frames::{Hand, Turned};
+use crate::frames::{Next, Turned};
 use crate::give::{give_done, give_failed};
 use crate::machine::{Host, Machine};
 use crate::trail::Trail;
@@ -35,9 +36,10 @@ pub enum Evaluated {
 }
 
 /// How a run ends.
-#[derive(Drop)]
-pub(crate) enum Ended<'t> {
-    Done(Part<'t>),
+#[derive(Clone, Copy, Drop)]
+pub(crate) enum Ended {
+    /// It gives what is in hand.
+    Done,
     Failed,
     Spent,
     Big,
@@ -62,9 +64,9 @@ pub fn evaluate<M: Meaning>(
         definitions: program.definitions(),
         primitives,
     };
-    let mut m = Machine::new(alloc, Trail::counted(), level, steps);
+    let mut m = Machine::new(alloc, Trail::counted(), term, level, steps);
     match run_to_end(alloc, &host, &mut m, strategy, term)? {
-        Ended::Done(part) => Ok(Evaluated::Done(part.value()?.to_term(alloc)?)),
+        Ended::Done => Ok(Evaluated::Done(m.part.value()?.to_term(alloc)?)),
         Ended::Failed => Ok(Evaluated::Failed),
         Ended::Spent => Ok(Evaluated::Spent),
         Ended::Big => Ok(Evaluated::Big),
@@ -78,7 +80,7 @@ pub(crate) fn run_to_end<'t, M: Meaning>(
     m: &mut Machine<'t>,
     strategy: &'t Resolved,
     term: &'t Term,
-) -> Result<Ended<'t>, NoMemory>
+) -> Result<Ended, NoMemory>
     requires empty { IsEmpty m.old }
     requires low { m.old.level + height term.now ≤ MAX_HEIGHT }
     ensures { IfOk result (λ ended. Ends (unchanged term.entry.now) m.new ended
@@ -87,11 +89,13 @@ pub(crate) fn run_to_end<'t, M: Meaning>(
     m.cells.open_cells(strategy.variables)?;
     let scope = m.scopes.add_variables(None, 0, strategy.variables)?;
     let part = Part::original_within(term, MAX_HEIGHT - m.level);
-    let mut hand = Hand::Begin(&strategy.strategy, scope, part);
+    m.part = part;
+    m.next = Next::Begin(&strategy.strategy, scope);
     'run: loop {
-        match turn(alloc, host, m, hand)? {
-            Turned::On(next) => hand = next,
-            Turned::Done(part) => return Ok(Ended::Done(part)),
+        let turned = turn(alloc, host, m)?;
+        match turned {
+            Turned::On => (),
+            Turned::Done => return Ok(Ended::Done),
             Turned::Failed => return Ok(Ended::Failed),
             Turned::Spent => return Ok(Ended::Spent),
             Turned::Big => return Ok(Ended::Big),
@@ -104,24 +108,19 @@ fn turn<'t, M: Meaning>(
     alloc: Global,
     host: &Host<'t, M>,
     m: &mut Machine<'t>,
-    hand: Hand<'t>,
-) -> Result<Turned<'t>, NoMemory>
-    requires { (W : World) × (sub : Standing) × (whole : Answer) × Holds W sub whole m.old hand }
-    ensures ok { IfOk result (λ next. Turn (world_of M.meaning host.now.definitions.now host.now.primitives.now) m.old hand.entry m.new next) }
-    ensures less { IfOk result (λ next. Falls m.old hand.entry m.new next) }
+) -> Result<Turned, NoMemory>
+    requires { (W : World) × (sub : Standing) × (whole : Answer) × Holds W sub whole m.old (in_hand m.old) }
+    ensures ok { IfOk result (λ next. Turn (world_of M.meaning host.now.definitions.now host.now.primitives.now) m.old (in_hand m.old) m.new next) }
+    ensures less { IfOk result (λ next. Falls m.old (in_hand m.old) m.new next) }
 {
-    match hand {
-        Hand::Begin(strategy, scope, part) => begin(alloc, host, m, strategy, scope, part),
-        Hand::Done(part) => give_done(alloc, m, part),
-        Hand::Failed => give_failed(m),
-        Hand::Each(acts, scope, node, index, parts) => {
-            go_on(alloc, m, acts, scope, node, index, parts)
-        }
-        Hand::Leftmost(strategy, scope, node, index) => {
-            try_on(alloc, m, strategy, scope, node, index)
-        }
-        Hand::Those(strategy, scope, node, index, any, parts) => {
-            go_over(alloc, m, strategy, scope, node, index, any, parts)
+    match m.next {
+        Next::Begin(strategy, scope) => begin(alloc, host, m, strategy, scope),
+        Next::Done => give_done(alloc, m),
+        Next::Failed => give_failed(m),
+        Next::Each(acts, scope, index) => go_on(alloc, m, acts, scope, index),
+        Next::Leftmost(strategy, scope, index) => try_on(alloc, m, strategy, scope, index),
+        Next::Those(strategy, scope, index, any) => {
+            go_over(alloc, m, strategy, scope, index, any)
         }
     }
 }

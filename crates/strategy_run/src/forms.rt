@@ -1,11 +1,11 @@
 //! Matching, building, and strategies one after the other.
 
-ghost use Rattle.std.specs.Prelude.{◌≡◌, IfOk};
+ghost use Rattle.std.specs.Prelude.{◌≡◌, IfOk, OnOk};
 ghost use Rattle.strategy_syntax.specs.Resolved.{matches, builds, seq, guard, test};
 ghost use Rattle.strategy_meaning.specs.Meaning.{World};
 ghost use Rattle.strategy_run.specs.Turns.{Takes, TakeFalls, Replaced};
 
-use crate::frames::{Frame, Hand, Turned};
+use crate::frames::{Frame, Next, Turned};
 use crate::machine::{InTable, Machine};
 use std::alloc::Global;
 use strategy_syntax::{Place, ResolvedStrategy};
@@ -19,20 +19,21 @@ pub(crate) fn take_match<'t>(
     m: &mut Machine<'t>,
     pattern: &'t Place,
     scope: usize,
-    part: Part<'t>,
-) -> Result<Turned<'t>, NoMemory>
-    ensures ok { (W : World) → IfOk result (λ next. Takes W m.old (matches pattern.entry.now) scope part.entry m.new next) }
+) -> Result<Turned, NoMemory>
+    ensures ok { (W : World) → IfOk result (λ next. Takes W m.old (matches pattern.entry.now) scope m.old.part m.new next) }
     ensures less { IfOk result (λ next. TakeFalls m.old m.new next) }
 {
-    let value = part.value()?;
+    let value = m.part.value()?;
     let places = InTable {
         scopes: &m.scopes,
         scope,
     };
     if m.cells.matches(alloc, &places, pattern, &value)? {
-        Ok(Turned::On(Hand::Done(part)))
+        m.next = Next::Done;
+        Ok(Turned::On)
     } else {
-        Ok(Turned::On(Hand::Failed))
+        m.next = Next::Failed;
+        Ok(Turned::On)
     }
 }
 
@@ -42,9 +43,8 @@ pub(crate) fn take_build<'t>(
     m: &mut Machine<'t>,
     pattern: &'t Place,
     scope: usize,
-    _part: Part<'t>,
-) -> Result<Turned<'t>, NoMemory>
-    ensures ok { (W : World) → IfOk result (λ next. Takes W m.old (builds pattern.entry.now) scope _part.entry m.new next) }
+) -> Result<Turned, NoMemory>
+    ensures ok { (W : World) → IfOk result (λ next. Takes W m.old (builds pattern.entry.now) scope m.old.part m.new next) }
     ensures less { IfOk result (λ next. TakeFalls m.old m.new next) }
 {
     let places = InTable {
@@ -52,11 +52,15 @@ pub(crate) fn take_build<'t>(
         scope,
     };
     match m.cells.build(alloc, &places, pattern, m.level)? {
-        Built::Nothing => Ok(Turned::On(Hand::Failed)),
+        Built::Nothing => {
+            m.next = Next::Failed;
+            Ok(Turned::On)
+        }
         Built::Big => Ok(Turned::Big),
         Built::Value(value) => {
-            let part = replace(alloc, m, value)?;
-            Ok(Turned::On(Hand::Done(part)))
+            replace(alloc, m, value)?;
+            m.next = Next::Done;
+            Ok(Turned::On)
         }
     }
 }
@@ -66,11 +70,12 @@ pub(crate) fn replace<'t>(
     alloc: Global,
     m: &mut Machine<'t>,
     value: Value<'t>,
-) -> Result<Part<'t>, NoMemory>
-    ensures { IfOk result (λ part. Replaced m.old value.entry m.new part) }
+) -> Result<(), NoMemory>
+    ensures { OnOk result (Replaced m.old value.entry m.new m.new.part) }
 {
     m.trail.push(alloc, &m.frames, &value)?;
-    Ok(Part::new(value))
+    m.part = Part::new(value);
+    Ok(())
 }
 
 /// One strategy after the other.
@@ -79,13 +84,13 @@ pub(crate) fn take_seq<'t>(
     first: &'t ResolvedStrategy,
     second: &'t ResolvedStrategy,
     scope: usize,
-    part: Part<'t>,
-) -> Result<Turned<'t>, NoMemory>
-    ensures ok { (W : World) → IfOk result (λ next. Takes W m.old (seq first.entry.now second.entry.now) scope part.entry m.new next) }
+) -> Result<Turned, NoMemory>
+    ensures ok { (W : World) → IfOk result (λ next. Takes W m.old (seq first.entry.now second.entry.now) scope m.old.part m.new next) }
     ensures less { IfOk result (λ next. TakeFalls m.old m.new next) }
 {
     m.frames.push(Frame::Then(second, scope))?;
-    Ok(Turned::On(Hand::Begin(first, scope, part)))
+    m.next = Next::Begin(first, scope);
+    Ok(Turned::On)
 }
 
 /// A strategy after the first one, or in its place where that fails.
@@ -95,17 +100,17 @@ pub(crate) fn take_guard<'t>(
     second: &'t ResolvedStrategy,
     other: &'t ResolvedStrategy,
     scope: usize,
-    part: Part<'t>,
-) -> Result<Turned<'t>, NoMemory>
-    ensures ok { (W : World) → IfOk result (λ next. Takes W m.old (guard first.entry.now second.entry.now other.entry.now) scope part.entry m.new next) }
+) -> Result<Turned, NoMemory>
+    ensures ok { (W : World) → IfOk result (λ next. Takes W m.old (guard first.entry.now second.entry.now other.entry.now) scope m.old.part m.new next) }
     ensures less { IfOk result (λ next. TakeFalls m.old m.new next) }
 {
-    let saved = part.try_clone()?;
+    let saved = m.part.try_clone()?;
     let mark = m.cells.mark();
     let edits = m.trail.count;
     m.frames
         .push(Frame::Choose(second, other, scope, saved, edits, mark))?;
-    Ok(Turned::On(Hand::Begin(first, scope, part)))
+    m.next = Next::Begin(first, scope);
+    Ok(Turned::On)
 }
 
 /// A strategy whose term is taken back.
@@ -113,13 +118,13 @@ pub(crate) fn take_test<'t>(
     m: &mut Machine<'t>,
     inner: &'t ResolvedStrategy,
     scope: usize,
-    part: Part<'t>,
-) -> Result<Turned<'t>, NoMemory>
-    ensures ok { (W : World) → IfOk result (λ next. Takes W m.old (test inner.entry.now) scope part.entry m.new next) }
+) -> Result<Turned, NoMemory>
+    ensures ok { (W : World) → IfOk result (λ next. Takes W m.old (test inner.entry.now) scope m.old.part m.new next) }
     ensures less { IfOk result (λ next. TakeFalls m.old m.new next) }
 {
-    let saved = part.try_clone()?;
+    let saved = m.part.try_clone()?;
     let edits = m.trail.count;
     m.frames.push(Frame::Restore(saved, edits))?;
-    Ok(Turned::On(Hand::Begin(inner, scope, part)))
+    m.next = Next::Begin(inner, scope);
+    Ok(Turned::On)
 }

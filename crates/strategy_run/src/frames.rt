@@ -1,4 +1,4 @@
-//! What waits for an answer, and what is in hand.
+//! What waits for an answer, and what comes next.
 
 use strategy_syntax::ResolvedStrategy;
 use term_match::Mark;
@@ -55,30 +55,29 @@ pub enum Frame<'t> {
     Cut(usize, usize),
 }
 
-/// What is in hand.
-#[derive(Drop)]
-pub enum Hand<'t> {
-    /// A strategy in a scope is to be evaluated.
-    Begin(&'t ResolvedStrategy, usize, Part<'t>),
-    /// A part has given this.
-    Done(Part<'t>),
-    /// A part has failed.
+/// What comes next for the part in hand.
+#[derive(Clone, Copy)]
+pub enum Next<'t> {
+    /// This strategy begins, in this scope.
+    Begin(&'t ResolvedStrategy, usize),
+    /// It is what a strategy has given.
+    Done,
+    /// A strategy has failed.
     Failed,
-    /// Strategies for the children of a node from this one on, with what stands in the places of all
-    /// its children, or nothing as long as none has changed.
-    Each(Acts<'t>, usize, Part<'t>, usize, Vec<Part<'t>>),
-    /// A strategy for the leftmost of the children from this one on where it gives a term.
-    Leftmost(&'t ResolvedStrategy, usize, Part<'t>, usize),
-    /// A strategy for those of the children from this one on where it gives a term, and whether it has
-    /// given one before.
-    Those(&'t ResolvedStrategy, usize, Part<'t>, usize, bool, Vec<Part<'t>>),
+    /// Strategies in this scope for its children from this one on.
+    Each(Acts<'t>, usize, usize),
+    /// A strategy in this scope for the leftmost of its children from this one on where it gives a term.
+    Leftmost(&'t ResolvedStrategy, usize, usize),
+    /// A strategy in this scope for those of its children from this one on where it gives a term, and
+    /// whether it has given one before.
+    Those(&'t ResolvedStrategy, usize, usize, bool),
 }
 
 /// What a turn leads to.
-#[derive(Drop)]
-pub enum Turned<'t> {
-    On(Hand<'t>),
-    Done(Part<'t>),
+#[derive(Clone, Copy, Drop)]
+pub enum Turned {
+    On,
+    Done,
     Failed,
     Spent,
     Big,

@@ -1,17 +1,19 @@
 //! Answers, given to what waits for them.
 
-ghost use Rattle.std.specs.Prelude.{◌≡◌, IfOk};
+ghost use Rattle.std.specs.Prelude.{◌≡◌, IfOk, OnOk};
 ghost use Rattle.strategy_meaning.specs.Answer.{Answer};
 ghost use Rattle.strategy_meaning.specs.Meaning.{World};
 ghost use Rattle.term_changes.specs.Standing.{Standing};
+ghost use Rattle.strategy_run.specs.Hands.{Done, Failed};
 ghost use Rattle.strategy_run.specs.Turns.{Turn, Falls, Holds, Gives, IsOfRun, GiveFalls, ComesUp};
 
-use crate::children::{finished, settled};
+use crate::children::{finish, settled};
 use crate::forms::replace;
-use crate::frames::{Acts, Frame, Hand, Turned, Walk};
+use crate::frames::{Acts, Frame, Next, Turned, Walk};
 use crate::machine::Machine;
 use crate::tails::{is_list, rest_behind, with_rest_behind};
 use std::alloc::Global;
+use std::mem;
 use strategy_syntax::ResolvedStrategy;
 use term_core::NoMemory;
 use term_match::Mark;
@@ -21,15 +23,14 @@ use term_values::Part;
 pub(crate) fn give_done<'t>(
     alloc: Global,
     m: &mut Machine<'t>,
-    part: Part<'t>,
-) -> Result<Turned<'t>, NoMemory>
-    requires { (W : World) × (sub : Standing) × (whole : Answer) × Holds W sub whole m.old (Hand.Done part) }
-    ensures ok { (W : World) → IfOk result (λ next. Turn W m.old (Hand.Done part.entry) m.new next) }
-    ensures less { IfOk result (λ next. Falls m.old (Hand.Done part.entry) m.new next) }
+) -> Result<Turned, NoMemory>
+    requires { (W : World) × (sub : Standing) × (whole : Answer) × Holds W sub whole m.old (Done m.old.part) }
+    ensures ok { (W : World) → IfOk result (λ next. Turn W m.old (Done m.old.part) m.new next) }
+    ensures less { IfOk result (λ next. Falls m.old (Done m.old.part) m.new next) }
 {
     match m.frames.pop() {
-        None => Ok(Turned::Done(part)),
-        Some(frame) => give(alloc, m, frame, part),
+        None => Ok(Turned::Done),
+        Some(frame) => give(alloc, m, frame),
     }
 }
 
@@ -38,50 +39,52 @@ fn give<'t>(
     alloc: Global,
     m: &mut Machine<'t>,
     frame: Frame<'t>,
-    part: Part<'t>,
-) -> Result<Turned<'t>, NoMemory>
-    requires { IsOfRun frame m.old (Hand.Done part) }
-    ensures ok { (W : World) → IfOk result (λ next. Gives W frame.entry m.old (Hand.Done part.entry) m.new next) }
+) -> Result<Turned, NoMemory>
+    requires { IsOfRun frame m.old (Done m.old.part) }
+    ensures ok { (W : World) → IfOk result (λ next. Gives W frame.entry m.old (Done m.old.part) m.new next) }
     ensures less { IfOk result (λ next. GiveFalls m.old m.new next) }
 {
     match frame {
-        Frame::Then(second, scope) => Ok(Turned::On(Hand::Begin(second, scope, part))),
+        Frame::Then(second, scope) => {
+            m.next = Next::Begin(second, scope);
+            Ok(Turned::On)
+        }
         Frame::Choose(second, _, scope, _, _, _) => {
-            Ok(Turned::On(Hand::Begin(second, scope, part)))
+            m.next = Next::Begin(second, scope);
+            Ok(Turned::On)
         }
         Frame::Restore(saved, edits) => {
             m.trail.cut(edits);
-            Ok(Turned::On(Hand::Done(saved)))
+            m.part = saved;
+            m.next = Next::Done;
+            Ok(Turned::On)
         }
-        Frame::Each(acts, scope, walk) => give_each(alloc, m, acts, scope, walk, part),
+        Frame::Each(acts, scope, walk) => give_each(alloc, m, acts, scope, walk),
         Frame::Leftmost(strategy, scope, walk, mark) => {
-            give_leftmost(alloc, m, strategy, scope, walk, mark, part)
+            give_leftmost(alloc, m, strategy, scope, walk, mark)
         }
         Frame::Those(strategy, scope, walk, mark, any) => {
-            give_those(alloc, m, strategy, scope, walk, mark, any, part)
+            give_those(alloc, m, strategy, scope, walk, mark, any)
         }
-        Frame::Tail(tail, scope, count) => give_tail(alloc, m, tail, scope, count, part),
-        Frame::Rest(node, count, edits) => give_rest(alloc, m, node, count, edits, part),
+        Frame::Tail(tail, scope, count) => give_tail(alloc, m, tail, scope, count),
+        Frame::Rest(node, count, edits) => give_rest(alloc, m, node, count, edits),
         Frame::Leave(scopes) => {
             m.scopes.cut(scopes);
-            Ok(Turned::On(Hand::Done(part)))
+            m.next = Next::Done;
+            Ok(Turned::On)
         }
         Frame::Cut(cells, scopes) => {
             m.cells.close_to(cells);
             m.scopes.cut(scopes);
-            Ok(Turned::On(Hand::Done(part)))
+            m.next = Next::Done;
+            Ok(Turned::On)
         }
     }
 }
 
-// What stands in the places of the children once the child in hand is done.
-fn come_up<'t>(
-    alloc: Global,
-    m: &mut Machine<'t>,
-    walk: Walk<'t>,
-    part: Part<'t>,
-) -> Result<(Part<'t>, Vec<Part<'t>>), NoMemory>
-    ensures { IfOk result (λ up. ComesUp m.old walk.entry part.entry m.new up) }
+// Takes the node in hand again, of which the child in hand is done.
+fn come_up<'t>(alloc: Global, m: &mut Machine<'t>, walk: Walk<'t>) -> Result<(), NoMemory>
+    ensures { OnOk result (ComesUp m.old walk.entry m.old.part m.new (m.new.part, m.new.parts)) }
 {
     let Walk {
         node,
@@ -92,8 +95,10 @@ fn come_up<'t>(
     } = walk;
     m.level = level;
     let changed = m.trail.count != edits;
-    let all = settled(alloc, &node, parts, index, part, changed)?;
-    Ok((node, all))
+    let child = mem::replace(&mut m.part, node);
+    let all = settled(alloc, &m.part, parts, index, child, changed)?;
+    m.parts = all;
+    Ok(())
 }
 
 // The next child's turn comes.
@@ -103,16 +108,16 @@ fn give_each<'t>(
     acts: Acts<'t>,
     scope: usize,
     walk: Walk<'t>,
-    part: Part<'t>,
-) -> Result<Turned<'t>, NoMemory>
-    ensures ok { (W : World) → IfOk result (λ next. Gives W (Frame.Each acts.entry scope walk.entry) m.old (Hand.Done part.entry) m.new next) }
+) -> Result<Turned, NoMemory>
+    ensures ok { (W : World) → IfOk result (λ next. Gives W (Frame.Each acts.entry scope walk.entry) m.old (Done m.old.part) m.new next) }
     ensures less { IfOk result (λ next. GiveFalls m.old m.new next) }
 {
     let Some(next) = walk.index.checked_add(1) else {
         return Err(NoMemory);
     };
-    let (node, parts) = come_up(alloc, m, walk, part)?;
-    Ok(Turned::On(Hand::Each(acts, scope, node, next, parts)))
+    come_up(alloc, m, walk)?;
+    m.next = Next::Each(acts, scope, next);
+    Ok(Turned::On)
 }
 
 // The leftmost child that gives a term has given one.
@@ -123,15 +128,15 @@ fn give_leftmost<'t>(
     scope: usize,
     walk: Walk<'t>,
     mark: Mark,
-    part: Part<'t>,
-) -> Result<Turned<'t>, NoMemory>
-    requires { IsOfRun (Frame.Leftmost strategy scope walk mark) m.old (Hand.Done part) }
-    ensures ok { (W : World) → IfOk result (λ next. Gives W (Frame.Leftmost strategy.entry scope walk.entry mark) m.old (Hand.Done part.entry) m.new next) }
+) -> Result<Turned, NoMemory>
+    requires { IsOfRun (Frame.Leftmost strategy scope walk mark) m.old (Done m.old.part) }
+    ensures ok { (W : World) → IfOk result (λ next. Gives W (Frame.Leftmost strategy.entry scope walk.entry mark) m.old (Done m.old.part) m.new next) }
     ensures less { IfOk result (λ next. GiveFalls m.old m.new next) }
 {
-    let (node, parts) = come_up(alloc, m, walk, part)?;
-    let whole = finished(alloc, node, parts)?;
-    Ok(Turned::On(Hand::Done(whole)))
+    come_up(alloc, m, walk)?;
+    finish(alloc, &mut m.part, &mut m.parts)?;
+    m.next = Next::Done;
+    Ok(Turned::On)
 }
 
 // The next child's turn comes, and one has given a term.
@@ -143,16 +148,16 @@ fn give_those<'t>(
     walk: Walk<'t>,
     mark: Mark,
     any: bool,
-    part: Part<'t>,
-) -> Result<Turned<'t>, NoMemory>
-    ensures ok { (W : World) → IfOk result (λ next. Gives W (Frame.Those strategy.entry scope walk.entry mark any) m.old (Hand.Done part.entry) m.new next) }
+) -> Result<Turned, NoMemory>
+    ensures ok { (W : World) → IfOk result (λ next. Gives W (Frame.Those strategy.entry scope walk.entry mark any) m.old (Done m.old.part) m.new next) }
     ensures less { IfOk result (λ next. GiveFalls m.old m.new next) }
 {
     let Some(next) = walk.index.checked_add(1) else {
         return Err(NoMemory);
     };
-    let (node, parts) = come_up(alloc, m, walk, part)?;
-    Ok(Turned::On(Hand::Those(strategy, scope, node, next, true, parts)))
+    come_up(alloc, m, walk)?;
+    m.next = Next::Those(strategy, scope, next, true);
+    Ok(Turned::On)
 }
 
 // The first elements are done: the list of the others is a part of its own.
@@ -162,16 +167,17 @@ fn give_tail<'t>(
     tail: &'t ResolvedStrategy,
     scope: usize,
     count: usize,
-    part: Part<'t>,
-) -> Result<Turned<'t>, NoMemory>
-    ensures ok { (W : World) → IfOk result (λ next. Gives W (Frame.Tail tail.entry scope count) m.old (Hand.Done part.entry) m.new next) }
+) -> Result<Turned, NoMemory>
+    ensures ok { (W : World) → IfOk result (λ next. Gives W (Frame.Tail tail.entry scope count) m.old (Done m.old.part) m.new next) }
     ensures less { IfOk result (λ next. GiveFalls m.old m.new next) }
 {
-    let list = part.value()?;
+    let list = m.part.value()?;
     let rest = rest_behind(alloc, &list, count)?;
+    let node = mem::replace(&mut m.part, Part::new(rest));
     let edits = m.trail.count;
-    m.frames.push(Frame::Rest(part, count, edits))?;
-    Ok(Turned::On(Hand::Begin(tail, scope, Part::new(rest))))
+    m.frames.push(Frame::Rest(node, count, edits))?;
+    m.next = Next::Begin(tail, scope);
+    Ok(Turned::On)
 }
 
 // The others have become a list, or something else, which fails.
@@ -181,27 +187,28 @@ fn give_rest<'t>(
     node: Part<'t>,
     count: usize,
     edits: usize,
-    part: Part<'t>,
-) -> Result<Turned<'t>, NoMemory>
-    ensures ok { (W : World) → IfOk result (λ next. Gives W (Frame.Rest node.entry count edits) m.old (Hand.Done part.entry) m.new next) }
+) -> Result<Turned, NoMemory>
+    ensures ok { (W : World) → IfOk result (λ next. Gives W (Frame.Rest node.entry count edits) m.old (Done m.old.part) m.new next) }
     ensures less { IfOk result (λ next. GiveFalls m.old m.new next) }
 {
     m.trail.cut(edits);
-    let rest = part.value()?;
+    let rest = m.part.value()?;
     if !is_list(&rest) {
-        return Ok(Turned::On(Hand::Failed));
+        m.next = Next::Failed;
+        return Ok(Turned::On);
     }
     let list = node.value()?;
     let whole = with_rest_behind(alloc, &list, count, &rest)?;
-    let part = replace(alloc, m, whole)?;
-    Ok(Turned::On(Hand::Done(part)))
+    replace(alloc, m, whole)?;
+    m.next = Next::Done;
+    Ok(Turned::On)
 }
 
 /// Gives a failure to the frame that waits.
-pub(crate) fn give_failed<'t>(m: &mut Machine<'t>) -> Result<Turned<'t>, NoMemory>
-    requires { (W : World) × (sub : Standing) × (whole : Answer) × Holds W sub whole m.old Hand.Failed }
-    ensures ok { (W : World) → IfOk result (λ next. Turn W m.old Hand.Failed m.new next) }
-    ensures less { IfOk result (λ next. Falls m.old Hand.Failed m.new next) }
+pub(crate) fn give_failed<'t>(m: &mut Machine<'t>) -> Result<Turned, NoMemory>
+    requires { (W : World) × (sub : Standing) × (whole : Answer) × Holds W sub whole m.old Failed }
+    ensures ok { (W : World) → IfOk result (λ next. Turn W m.old Failed m.new next) }
+    ensures less { IfOk result (λ next. Falls m.old Failed m.new next) }
 {
     match m.frames.pop() {
         None => Ok(Turned::Failed),
@@ -210,26 +217,33 @@ pub(crate) fn give_failed<'t>(m: &mut Machine<'t>) -> Result<Turned<'t>, NoMemor
 }
 
 // Gives it to this frame.
-fn fail<'t>(m: &mut Machine<'t>, frame: Frame<'t>) -> Result<Turned<'t>, NoMemory>
-    requires { IsOfRun frame m.old Hand.Failed }
-    ensures ok { (W : World) → IfOk result (λ next. Gives W frame.entry m.old Hand.Failed m.new next) }
+fn fail<'t>(m: &mut Machine<'t>, frame: Frame<'t>) -> Result<Turned, NoMemory>
+    requires { IsOfRun frame m.old Failed }
+    ensures ok { (W : World) → IfOk result (λ next. Gives W frame.entry m.old Failed m.new next) }
     ensures less { IfOk result (λ next. GiveFalls m.old m.new next) }
 {
     match frame {
-        Frame::Then(_, _) => Ok(Turned::On(Hand::Failed)),
+        Frame::Then(_, _) => {
+            m.next = Next::Failed;
+            Ok(Turned::On)
+        }
         Frame::Choose(_, other, scope, saved, edits, mark) => {
             m.trail.cut(edits);
             m.cells.back_to(mark);
-            Ok(Turned::On(Hand::Begin(other, scope, saved)))
+            m.part = saved;
+            m.next = Next::Begin(other, scope);
+            Ok(Turned::On)
         }
         Frame::Restore(_, edits) => {
             m.trail.cut(edits);
-            Ok(Turned::On(Hand::Failed))
+            m.next = Next::Failed;
+            Ok(Turned::On)
         }
         Frame::Each(_, _, walk) => {
             m.trail.cut(walk.edits);
             m.level = walk.level;
-            Ok(Turned::On(Hand::Failed))
+            m.next = Next::Failed;
+            Ok(Turned::On)
         }
         Frame::Leftmost(strategy, scope, walk, mark) => {
             let Some(next) = walk.index.checked_add(1) else {
@@ -238,7 +252,9 @@ fn fail<'t>(m: &mut Machine<'t>, frame: Frame<'t>) -> Result<Turned<'t>, NoMemor
             m.trail.cut(walk.edits);
             m.level = walk.level;
             m.cells.back_to(mark);
-            Ok(Turned::On(Hand::Leftmost(strategy, scope, walk.node, next)))
+            m.part = walk.node;
+            m.next = Next::Leftmost(strategy, scope, next);
+            Ok(Turned::On)
         }
         Frame::Those(strategy, scope, walk, mark, any) => {
             let Some(next) = walk.index.checked_add(1) else {
@@ -247,21 +263,30 @@ fn fail<'t>(m: &mut Machine<'t>, frame: Frame<'t>) -> Result<Turned<'t>, NoMemor
             m.trail.cut(walk.edits);
             m.level = walk.level;
             m.cells.back_to(mark);
-            Ok(Turned::On(Hand::Those(strategy, scope, walk.node, next, any, walk.parts)))
+            m.part = walk.node;
+            m.parts = walk.parts;
+            m.next = Next::Those(strategy, scope, next, any);
+            Ok(Turned::On)
         }
-        Frame::Tail(_, _, _) => Ok(Turned::On(Hand::Failed)),
+        Frame::Tail(_, _, _) => {
+            m.next = Next::Failed;
+            Ok(Turned::On)
+        }
         Frame::Rest(_, _, edits) => {
             m.trail.cut(edits);
-            Ok(Turned::On(Hand::Failed))
+            m.next = Next::Failed;
+            Ok(Turned::On)
         }
         Frame::Leave(scopes) => {
             m.scopes.cut(scopes);
-            Ok(Turned::On(Hand::Failed))
+            m.next = Next::Failed;
+            Ok(Turned::On)
         }
         Frame::Cut(count, scopes) => {
             m.cells.close_to(count);
             m.scopes.cut(scopes);
-            Ok(Turned::On(Hand::Failed))
+            m.next = Next::Failed;
+            Ok(Turned::On)
         }
     }
 }

@@ -4,14 +4,15 @@ ghost use Rattle.std.specs.Prelude.{◌≡◌, [], slice_get};
 ghost use Rattle.strategy_meaning.specs.Scopes.{cells_in};
 ghost use Rattle.strategy_scopes.specs.Table.{scopes as scopes_of, scope_at};
 
-use crate::frames::Frame;
+use crate::frames::{Frame, Next};
 use crate::trail::Trail;
 use prim_core::{Meaning, Primitives};
 use std::alloc::Global;
 use strategy_scopes::Scopes;
 use strategy_syntax::Resolved;
+use term_core::Term;
 use term_match::{Cells, Places};
-use term_values::Value;
+use term_values::{Part, Value};
 
 /// What the numbers of definitions and primitives stand for.
 #[derive(Drop)]
@@ -20,10 +21,15 @@ pub struct Host<'t, M: Meaning> {
     pub primitives: &'t Primitives<M>,
 }
 
-/// What waits, what variables and names stand for, the edits, the level of what is in hand, and the
-/// steps left. The vectors are used again by all parts of a run.
+/// What is in hand and what comes next for it, what waits, what variables and names stand for, the edits,
+/// the level of what is in hand, and the steps left. The vectors are used again by all parts of a run.
 #[derive(Drop)]
 pub struct Machine<'t> {
+    pub next: Next<'t>,
+    pub part: Part<'t>,
+    /// What stands in the places of the children of the part in hand, or nothing as long as none has
+    /// changed. It counts where strategies for its children come next.
+    pub parts: Vec<Part<'t>>,
     pub frames: Vec<Frame<'t>>,
     pub cells: Cells<'t>,
     pub scopes: Scopes<'t>,
@@ -35,8 +41,14 @@ pub struct Machine<'t> {
 }
 
 impl<'t> Machine<'t> {
-    /// A machine in which nothing waits.
-    pub fn new(alloc: Global, trail: Trail<'t>, level: u64, steps: u64) -> Machine<'t>
+    /// A machine with a term in hand, in which nothing waits.
+    pub fn new(
+        alloc: Global,
+        trail: Trail<'t>,
+        term: &'t Term,
+        level: u64,
+        steps: u64,
+    ) -> Machine<'t>
         ensures frames { result.frames.items ≡ [] }
         ensures cells { result.cells.bindings ≡ [] }
         ensures scopes { scopes_of result.scopes ≡ [] }
@@ -45,6 +57,9 @@ impl<'t> Machine<'t> {
         ensures steps { result.steps ≡ steps }
     {
         Machine {
+            next: Next::Done,
+            part: Part::original(term),
+            parts: Vec::new(alloc),
             frames: Vec::new(alloc),
             cells: Cells::new(alloc),
             scopes: Scopes::new(alloc),

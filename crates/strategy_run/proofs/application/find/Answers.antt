@@ -25,9 +25,9 @@ run_to_end-requires g c =
 
 pub returns-in-Done : goal.returns-in-Done
 returns-in-Done g c = λ s slot h.
-    let E = subst (λ w. Ends (unchanged c.in-Some.term.now) c.run_to_end.new.m c.in_ok-part.field-0 w)
+    let E = subst (λ w. Ends (unchanged c.in-Some.term.now) c.run_to_end.new.m c.in_ok-run_to_end.field-0 w)
     (λ i. run_whole (world_of g.M.Meaning.meaning (c.definitions.ensures i) c.args.primitives.now) ((c.new-m.ensures.level ∙ c.len.ensures) i) c.args.strategy.now (c.new-m.ensures.steps i) c.in-Some.term.now)
-    c.in_ok-part.ensures in
+    c.in_ok-run_to_end.ensures in
     let at_is : at c.args.tree.now c.args.path.now ≡ Some c.in-Some.term.now = sym c.at.ensures ∙ ap (λ o. option_copied o) c.in-Some.is in
     let whole = run_whole (world_of g.M.Meaning.meaning c.args.program.now.bodies c.args.primitives.now) (length c.args.path.now) c.args.strategy.now c.args.steps c.in-Some.term.now in
     finds c.args.listing (world_of g.M.Meaning.meaning c.args.program.now.bodies c.args.primitives.now) c.in-Done.part c.args.path.now c.in_ok-all-in-Done.all.items c.args.tree.now c.in-Some.term.now c.args.strategy.now c.args.steps (state_of c.run_to_end.new.m) s slot at_is
@@ -36,9 +36,9 @@ returns-in-Done g c = λ s slot h.
 
 pub returns-in-Failed : goal.returns-in-Failed
 returns-in-Failed g c = λ s slot h.
-    let E = subst (λ w. Ends (unchanged c.in-Some.term.now) c.run_to_end.new.m c.in_ok-part.field-0 w)
+    let E = subst (λ w. Ends (unchanged c.in-Some.term.now) c.run_to_end.new.m c.in_ok-run_to_end.field-0 w)
     (λ i. run_whole (world_of g.M.Meaning.meaning (c.definitions.ensures i) c.args.primitives.now) ((c.new-m.ensures.level ∙ c.len.ensures) i) c.args.strategy.now (c.new-m.ensures.steps i) c.in-Some.term.now)
-    c.in_ok-part.ensures in
+    c.in_ok-run_to_end.ensures in
     let at_is : at c.args.tree.now c.args.path.now ≡ Some c.in-Some.term.now = sym c.at.ensures ∙ ap (λ o. option_copied o) c.in-Some.is in
     let whole = run_whole (world_of g.M.Meaning.meaning c.args.program.now.bodies c.args.primitives.now) (length c.args.path.now) c.args.strategy.now c.args.steps c.in-Some.term.now in
     let r = subst (λ (e : Ended). Ends (unchanged c.in-Some.term.now) c.run_to_end.new.m e whole) c.in-Failed.is E in
@@ -46,18 +46,18 @@ returns-in-Failed g c = λ s slot h.
 
 pub returns-in-Spent : goal.returns-in-Spent
 returns-in-Spent g c = λ s slot h.
-    let E = subst (λ w. Ends (unchanged c.in-Some.term.now) c.run_to_end.new.m c.in_ok-part.field-0 w)
+    let E = subst (λ w. Ends (unchanged c.in-Some.term.now) c.run_to_end.new.m c.in_ok-run_to_end.field-0 w)
     (λ i. run_whole (world_of g.M.Meaning.meaning (c.definitions.ensures i) c.args.primitives.now) ((c.new-m.ensures.level ∙ c.len.ensures) i) c.args.strategy.now (c.new-m.ensures.steps i) c.in-Some.term.now)
-    c.in_ok-part.ensures in
+    c.in_ok-run_to_end.ensures in
     let at_is : at c.args.tree.now c.args.path.now ≡ Some c.in-Some.term.now = sym c.at.ensures ∙ ap (λ o. option_copied o) c.in-Some.is in
     let whole = run_whole (world_of g.M.Meaning.meaning c.args.program.now.bodies c.args.primitives.now) (length c.args.path.now) c.args.strategy.now c.args.steps c.in-Some.term.now in
     applied_there (world_of g.M.Meaning.meaning c.args.program.now.bodies c.args.primitives.now) c.args.path.now c.args.strategy.now c.args.steps c.args.tree.now c.in-Some.term.now _ at_is (subst (λ (e : Ended). Ends (unchanged c.in-Some.term.now) c.run_to_end.new.m e whole) c.in-Spent.is E)
 
 pub returns : goal.returns
 returns g c = λ s slot h.
-    let E = subst (λ w. Ends (unchanged c.in-Some.term.now) c.run_to_end.new.m c.in_ok-part.field-0 w)
+    let E = subst (λ w. Ends (unchanged c.in-Some.term.now) c.run_to_end.new.m c.in_ok-run_to_end.field-0 w)
     (λ i. run_whole (world_of g.M.Meaning.meaning (c.definitions.ensures i) c.args.primitives.now) ((c.new-m.ensures.level ∙ c.len.ensures) i) c.args.strategy.now (c.new-m.ensures.steps i) c.in-Some.term.now)
-    c.in_ok-part.ensures in
+    c.in_ok-run_to_end.ensures in
     let at_is : at c.args.tree.now c.args.path.now ≡ Some c.in-Some.term.now = sym c.at.ensures ∙ ap (λ o. option_copied o) c.in-Some.is in
     let whole = run_whole (world_of g.M.Meaning.meaning c.args.program.now.bodies c.args.primitives.now) (length c.args.path.now) c.args.strategy.now c.args.steps c.in-Some.term.now in
     applied_there (world_of g.M.Meaning.meaning c.args.program.now.bodies c.args.primitives.now) c.args.path.now c.args.strategy.now c.args.steps c.args.tree.now c.in-Some.term.now _ at_is (subst (λ (e : Ended). Ends (unchanged c.in-Some.term.now) c.run_to_end.new.m e whole) c.in-Big.is E)

@@ -25,6 +25,7 @@ returns c =
           ∙ (λ i. (r.rest.0 i).bindings ++ map Some (r.rest.2 i).items));
       room = λ W sub whole p a x. r.room W sub whole p a x c.open_cells.new.self (scopes c.add_call.new.self) c.in_ok-add_call.ensures.stay
           (subst (λ (C : Contents). Before (mark_of C) (mark_of c.open_cells.new.self)) r.rest.0 later) (subst (λ (C : Contents). Stays (mark_of C) C c.open_cells.new.self) r.rest.0 stays);
+      part = r.part;
       rest = (r.rest.1, r.rest.3, r.rest.4);
       frames = r.frames;
     }

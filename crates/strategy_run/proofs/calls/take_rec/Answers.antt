@@ -2,7 +2,8 @@ use Rattle.std.proofs.Common.{sym, subst, reverse}
 use Rattle.strategy_scopes.specs.Table.{scopes}
 use Rattle.strategy_run.specs.Turns.{State, HoldsIn, state_of}
 use Rattle.strategy_run.specs.Endings.{frames_of}
-use Rattle.strategy_run.specs.declared.frames.Hand.TheVariants.{Begin}
+use Rattle.strategy_run.specs.Hands.{Begin}
+use Rattle.term_changes.specs.Standing.{Standing}
 use Rattle.strategy_run.proofs.TakeLemmas.{take_named}
 use Rattle.strategy_run.proofs.ScopeLemmas.{one_more_starts}
 use Rattle.strategy_run.proofs.calls.take_rec.Goals as goal
@@ -19,9 +20,11 @@ returns-clause-ok c = λ W. record {
       let r = c.in_ok-end_scopes.ensures in
       let mid = c.end_scopes.new.m in
       let es = scopes c.add_name.new.self in
-      subst (λ (S : State). HoldsIn W sub whole S (Begin c.args.body c.in_ok-inner.inner c.args.part))
+      let there = record { cells = mid.cells; scopes = es; trail = mid.trail; level = mid.level; frames = reverse mid.frames.items; steps = mid.steps } in
+      subst (λ (q : Standing). HoldsIn W sub whole there (Begin c.args.body c.in_ok-inner.inner q)) (sym r.part) (
+      subst (λ (S : State). HoldsIn W sub whole S (Begin c.args.body c.in_ok-inner.inner c.args.m.now.part))
       (λ i. record { cells = sym r.rest.0 i; scopes = es; trail = sym r.rest.1 i; level = sym r.rest.3 i; frames = reverse mid.frames.items; steps = sym r.rest.4 i })
-      (take_named W sub whole (state_of c.args.m.now) c.args.whole c.args.body c.args.scope c.in_ok-inner.inner c.args.part (scopes mid.scopes) es (frames_of mid)
+      (take_named W sub whole (state_of c.args.m.now) c.args.whole c.args.body c.args.scope c.in_ok-inner.inner c.args.m.now.part (scopes mid.scopes) es (frames_of mid)
       c.requires.whole c.in_ok-inner.ensures.number r.same c.in_ok-inner.ensures.ok
-      (λ a x. r.room W sub whole c.args.part a x es (one_more_starts _ _ _ c.in_ok-inner.ensures.ok)) h);
+      (λ a x. r.room W sub whole c.args.m.now.part a x es (one_more_starts _ _ _ c.in_ok-inner.ensures.ok)) h));
 }

@@ -16,6 +16,7 @@ returns-in-Some c =
       same = still_same c.args.scope c.needed.result (scopes m.scopes) (scopes c.cut.new.self) c.needed.ensures.scope c.cut.ensures;
       room = λ W sub whole p a h D es st b sy. cut_kept W sub whole (state_of m) p a c.in-Some.left c.needed.result (scopes c.cut.new.self) es D
           (subst (λ (fs : List Frame). LeavesCells (reverse fs) c.in-Some.left) c.deref.ensures.value c.in-Some.ensures) c.needed.ensures.left c.cut.ensures st b sy h;
+      part = refl;
       rest = (refl, refl, refl, refl, refl);
       frames = omega arith;
     }
@@ -30,6 +31,7 @@ returns-in_ok-push-in-None c =
           subst (λ (fs : List Frame). AnswersIn W sub whole (with_those (state_of m) D es fs) p a)
           (sym (pushed _ _ _ c.in_ok-push-in-None.ensures.items ∙ (λ i. Cut (c.count-cells.ensures i) (c.count-scopes.ensures i) ∷ reverse m.frames.items)))
           (cut_pushed W sub whole (state_of m) p a D es st b sy h);
+      part = refl;
       rest = (refl, refl, refl, refl, refl);
       frames = omega (arith, c.in_ok-push-in-None.ensures.len);
     }

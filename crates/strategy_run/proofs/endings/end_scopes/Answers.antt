@@ -16,6 +16,7 @@ returns-in-Some c =
       same = still_same c.args.scope c.needed.result (scopes m.scopes) (scopes c.cut.new.self) c.needed.ensures.scope c.cut.ensures;
       room = λ W sub whole p a h es st. leave_kept W sub whole (state_of m) p a c.in-Some.left c.needed.result (scopes c.cut.new.self) es
           (subst (λ (fs : List Frame). LeavesScopes (reverse fs) c.in-Some.left) c.deref.ensures.value c.in-Some.ensures) c.needed.ensures.left c.cut.ensures st h;
+      part = refl;
       rest = (refl, refl, refl, refl, refl);
       frames = omega arith;
     }
@@ -30,6 +31,7 @@ returns-in_ok-push-in-None c =
           subst (λ (fs : List Frame). AnswersIn W sub whole (with_those (state_of m) m.cells es fs) p a)
           (sym (pushed _ _ _ c.in_ok-push-in-None.ensures.items ∙ (λ i. Leave (c.count-scopes.ensures i) ∷ reverse m.frames.items)))
           (leave_pushed W sub whole (state_of m) p a es st h);
+      part = refl;
       rest = (refl, refl, refl, refl, refl);
       frames = omega (arith, c.in_ok-push-in-None.ensures.len);
     }

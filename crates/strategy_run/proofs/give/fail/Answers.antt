@@ -1,7 +1,7 @@
 use Rattle.std.proofs.Common.{subst}
 use Rattle.strategy_run.proofs.FailLemmas.{fail_then, fail_choice, fail_test, fail_each, fail_leftmost, fail_those, fail_tail, fail_rest, fail_leave, fail_cut}
 use Rattle.strategy_run.specs.Turns.{HoldsIn, under}
-use Rattle.strategy_run.specs.declared.frames.Hand.TheVariants.{Failed}
+use Rattle.strategy_run.specs.Hands.{Failed}
 use Rattle.strategy_run.proofs.give.fail.Goals as goal
 
 pub returns-in-Then-clause-ok : goal.returns-in-Then-clause-ok

@@ -2,7 +2,7 @@ use Rattle.std.proofs.Common.{refl, sym, ◌∙◌}
 use Rattle.strategy_run.proofs.GiveLemmas.{failed_whole}
 use Rattle.strategy_run.proofs.WalkLemmas.{popped, none_waits, nil_of}
 use Rattle.strategy_run.proofs.ResultLemmas.{ok_map}
-use Rattle.strategy_run.specs.declared.frames.Hand.TheVariants.{Failed}
+use Rattle.strategy_run.specs.Hands.{Failed}
 use Rattle.strategy_run.proofs.give.give_failed.Goals as goal
 
 pub returns-in-None-clause-ok : goal.returns-in-None-clause-ok
