@@ -17,9 +17,9 @@ use Rattle.strategy_scopes.specs.Table.{scope_at}
 use Rattle.term_match.specs.Contents.{Contents}
 use Rattle.term_match.specs.Marks.{kept, mark_of}
 use Rattle.term_match.specs.declared.cells.Mark.{Mark}
-use Rattle.strategy_run.specs.Leading.{Leads, Has, node_now, parts_now, PartsStand}
+use Rattle.strategy_run.specs.Leading.{Leads, Has, node_now, parts_now, all_parts, node_with, PartsStand}
 use Rattle.strategy_run.specs.Trails.{Shows, path_of}
-use Rattle.strategy_run.specs.Frames.{Opens, Meets, Inside, acts_list, put_back, walked, after_leftmost, after_those}
+use Rattle.strategy_run.specs.Frames.{Opens, Meets, Inside, acts_list, put_back, walked, walk_parts, after_leftmost, after_those}
 use Rattle.strategy_run.specs.Turns.{State, HoldsIn}
 use Rattle.strategy_run.specs.declared.trail.Trail.{Trail}
 use Rattle.strategy_run.specs.declared.frames.Acts.{Acts}
@@ -65,19 +65,19 @@ pub below_as : (W : World) (sub : Standing) (whole : Answer) (S : State) (f g : 
 below_as W sub whole S f g h k e d x =
     subst (λ (j : Hand). HoldsIn W sub whole (below S g) j) (sym d) (subst (λ (y : Frame). HoldsIn W sub whole (below S y) h) (sym e) x)
 
-child_inside : (S : State) (p : Standing) (parts : Vec Standing Global) (i : ℕ) (q : Standing) (T : Edits) → Has p → PartsStand p parts.items
-    → slice_get (parts_now p parts.items) i ≡ Some q → Shows S.trail T → Inside (S.level + 1) (walk_at p parts i S) q T
+child_inside : (S : State) (p : Standing) (parts : Vec Standing Global) (i : ℕ) (q : Standing) (T : Edits) → Has p → PartsStand p (all_parts p parts.items)
+    → slice_get (parts_now p (all_parts p parts.items)) i ≡ Some q → Shows S.trail T → Inside (S.level + 1) (walk_at p parts i S) q T
 child_inside S p parts i q T h st e sh = record { level = refl; has = h; stand = st; is = e; edits = sh.count }
 
 pub each_begins : (W : World) (sub : Standing) (whole : Answer) (S : State) (acts others : Acts) (s : Bor ResolvedStrategy) (n i k : ℕ) (p q : Standing) (parts : Vec Standing Global)
     → k ≡ length (children (standing_tree p)) - i → acts_list acts k ≡ s.now ∷ acts_list others (k - 1)
-    → slice_get (parts_now p parts.items) i ≡ Some q
+    → slice_get (parts_now p (all_parts p parts.items)) i ≡ Some q
     → HoldsIn W sub whole S (Each acts n p i parts)
     → HoldsIn W sub whole (below S (frames.Each others n (walk_at p parts i S))) (Begin s n q)
 each_begins W sub whole S acts others s n i k p q parts ke ae e h =
     let st = h.in_hand.2 in
     let E = scope_at S.scopes n in
-    let t = standing_tree (node_now p parts.items) in
+    let t = standing_tree (node_with p parts.items) in
     let a = run W E (S.level + 1) s.now S.steps S.cells.bindings (standing_tree q) in
     let left : k - 1 ≡ length (children (standing_tree p)) - (i + 1) = omega (arith, ke) in
     record {
@@ -85,12 +85,12 @@ each_begins W sub whole S acts others s n i k p q parts ke ae e h =
       edits = h.edits;
       shows = h.shows;
       in_hand = (h.in_hand.0, refl);
-      opens = opens_new _ q h.edits a (child_has p parts.items i q st e) (
+      opens = opens_new _ q h.edits a (child_has p (all_parts p parts.items) i q st e) (
         h.in_hand.0,
         child_inside S p parts i q h.edits h.in_hand.1 st e h.shows,
         opens_along _ _ (ap (λ (j : ℕ). each (run W E (S.level + 1)) (acts_list acts j) i S.steps S.cells.bindings t) (sym ke)
             ∙ ap (λ (l : List ResolvedStrategy). each (run W E (S.level + 1)) l i S.steps S.cells.bindings t) ae
-            ∙ (λ j. and_then (on_there W E (S.level + 1) s.now i S.steps S.cells.bindings t (standing_tree q) (node_tree p parts.items i q st e) j)
+            ∙ (λ j. and_then (on_there W E (S.level + 1) s.now i S.steps S.cells.bindings t (standing_tree q) (node_tree p (all_parts p parts.items) i q st e) j)
             (each (run W E (S.level + 1)) (acts_list others (left j)) (i + 1))))
             (subst (λ x. Opens (Meets W sub whole S.cells (mark_of S.cells) S.scopes S.level S.frames) (path_of S.frames) x h.edits (each (run W E (S.level + 1)) (acts_list acts (length (children (standing_tree p)) - i)) i S.steps S.cells.bindings t)) h.in_hand.3 h.opens),
       );
@@ -98,11 +98,11 @@ each_begins W sub whole S acts others s n i k p q parts ke ae e h =
 
 -- none is left
 pub each_over : (W : World) (sub : Standing) (whole : Answer) (S : State) (acts : Acts) (n i k : ℕ) (p q : Standing) (parts : Vec Standing Global)
-    → k ≡ length (children (standing_tree p)) - i → acts_list acts k ≡ [] → q ≡ node_now p parts.items
+    → k ≡ length (children (standing_tree p)) - i → acts_list acts k ≡ [] → q ≡ node_with p parts.items
     → HoldsIn W sub whole S (Each acts n p i parts) → HoldsIn W sub whole S (Done q)
 each_over W sub whole S acts n i k p q parts ke ae e h =
     let E = scope_at S.scopes n in
-    let t = standing_tree (node_now p parts.items) in
+    let t = standing_tree (node_with p parts.items) in
     record {
       now = q;
       edits = h.edits;
@@ -117,11 +117,11 @@ each_over W sub whole S acts n i k p q parts ke ae e h =
 -- there is no such child
 pub each_fails : (W : World) (sub : Standing) (whole : Answer) (S : State) (acts others : Acts) (s : Bor ResolvedStrategy) (n i k : ℕ) (p : Standing) (parts : Vec Standing Global)
     → k ≡ length (children (standing_tree p)) - i → acts_list acts k ≡ s.now ∷ acts_list others (k - 1)
-    → slice_get (parts_now p parts.items) i ≡ None
+    → slice_get (parts_now p (all_parts p parts.items)) i ≡ None
     → HoldsIn W sub whole S (Each acts n p i parts) → HoldsIn W sub whole S Failed
 each_fails W sub whole S acts others s n i k p parts ke ae e h =
     let E = scope_at S.scopes n in
-    let t = standing_tree (node_now p parts.items) in
+    let t = standing_tree (node_with p parts.items) in
     record {
       now = h.now;
       edits = h.edits;
@@ -129,7 +129,7 @@ each_fails W sub whole S acts others s n i k p parts ke ae e h =
       in_hand = tt;
       opens = opens_along _ _ (ap (λ (j : ℕ). each (run W E (S.level + 1)) (acts_list acts j) i S.steps S.cells.bindings t) (sym ke)
           ∙ ap (λ (l : List ResolvedStrategy). each (run W E (S.level + 1)) l i S.steps S.cells.bindings t) ae
-          ∙ ap (λ x. and_then x (each (run W E (S.level + 1)) (acts_list others (k - 1)) (i + 1))) (on_none (run W E (S.level + 1) s.now) i S.steps S.cells.bindings t (no_part p parts.items i h.in_hand.2 e)))
+          ∙ ap (λ x. and_then x (each (run W E (S.level + 1)) (acts_list others (k - 1)) (i + 1))) (on_none (run W E (S.level + 1) s.now) i S.steps S.cells.bindings t (no_part p (all_parts p parts.items) i h.in_hand.2 e)))
           h.opens;
     }
 
@@ -146,16 +146,16 @@ leftmost_begins W sub whole S s n i p q parts none k e h =
     let E = scope_at S.scopes n in
     let act = run W E (S.level + 1) s.now in
     let has = h.in_hand.1 in
-    let st : PartsStand p parts.items = subst (PartsStand p) (sym none) (none_stand p has) in
-    let here : slice_get (parts_now p parts.items) i ≡ Some q = ap (λ ps. slice_get (parts_now p ps) i) none ∙ e in
-    let same : node_now p parts.items ≡ p = ap (node_now p) none in
+    let st : PartsStand p (all_parts p parts.items) = subst (λ l. PartsStand p (all_parts p l)) (sym none) (none_stand p has) in
+    let here : slice_get (parts_now p (all_parts p parts.items)) i ≡ Some q = ap (λ ps. slice_get (parts_now p (all_parts p ps)) i) none ∙ e in
+    let same : node_with p parts.items ≡ p = ap (λ l. node_with p l) none in
     let there : slice_get (children (standing_tree p)) i ≡ Some (standing_tree q) = node_tree p [] i q (none_stand p has) e in
     record {
       now = q;
       edits = h.edits;
       shows = h.shows;
       in_hand = (h.in_hand.0, refl);
-      opens = opens_new _ q h.edits (act S.steps S.cells.bindings (standing_tree q)) (child_has p parts.items i q st here) (
+      opens = opens_new _ q h.edits (act S.steps S.cells.bindings (standing_tree q)) (child_has p (all_parts p parts.items) i q st here) (
         h.in_hand.0,
         child_inside S p parts i q h.edits has st here h.shows,
         before_self (mark_of S.cells),
@@ -188,7 +188,7 @@ leftmost_over W sub whole S s n i p e h =
 
 pub those_begin : (W : World) (sub : Standing) (whole : Answer) (S : State) (s : Bor ResolvedStrategy) (n i : ℕ) (p q : Standing) (any : Bool) (parts : Vec Standing Global)
     → kept S.cells (mark_of S.cells) ≡ S.cells.bindings
-    → slice_get (parts_now p parts.items) i ≡ Some q
+    → slice_get (parts_now p (all_parts p parts.items)) i ≡ Some q
     → HoldsIn W sub whole S (Those s n p i any parts)
     → HoldsIn W sub whole (below S (frames.Those s n (walk_at p parts i S) (mark_of S.cells) any)) (Begin s n q)
 those_begin W sub whole S s n i p q any parts k e h =
@@ -196,16 +196,16 @@ those_begin W sub whole S s n i p q any parts k e h =
     let act = run W E (S.level + 1) s.now in
     let has = h.in_hand.1 in
     let st = h.in_hand.2 in
-    let t = standing_tree (node_now p parts.items) in
-    let there : slice_get (children t) i ≡ Some (standing_tree q) = node_tree p parts.items i q st e in
+    let t = standing_tree (node_with p parts.items) in
+    let there : slice_get (children t) i ≡ Some (standing_tree q) = node_tree p (all_parts p parts.items) i q st e in
     let left : length (children (standing_tree p)) - i ≡ suc (length (children (standing_tree p)) - (i + 1)) =
-    omega (arith, slice_get_within (children t) i (standing_tree q) there, node_count p parts.items st) in
+    omega (arith, slice_get_within (children t) i (standing_tree q) there, node_count p (all_parts p parts.items) st) in
     record {
       now = q;
       edits = h.edits;
       shows = h.shows;
       in_hand = (h.in_hand.0, refl);
-      opens = opens_new _ q h.edits (act S.steps S.cells.bindings (standing_tree q)) (child_has p parts.items i q st e) (
+      opens = opens_new _ q h.edits (act S.steps S.cells.bindings (standing_tree q)) (child_has p (all_parts p parts.items) i q st e) (
         h.in_hand.0,
         child_inside S p parts i q h.edits has st e h.shows,
         before_self (mark_of S.cells),
@@ -223,33 +223,33 @@ those_past : (p : Standing) (parts : List Standing) (i : ℕ) → PartsStand p p
 those_past p parts i st e = omega (arith, none_within (parts_now p parts) i e, part_count p parts st)
 
 pub those_over : (W : World) (sub : Standing) (whole : Answer) (S : State) (s : Bor ResolvedStrategy) (n i : ℕ) (p q : Standing) (any : Bool) (parts : Vec Standing Global)
-    → slice_get (parts_now p parts.items) i ≡ None → any ≡ true → q ≡ node_now p parts.items
+    → slice_get (parts_now p (all_parts p parts.items)) i ≡ None → any ≡ true → q ≡ node_with p parts.items
     → HoldsIn W sub whole S (Those s n p i any parts) → HoldsIn W sub whole S (Done q)
 those_over W sub whole S s n i p q any parts e a is h =
     let act = run W (scope_at S.scopes n) (S.level + 1) s.now in
-    let t = standing_tree (node_now p parts.items) in
+    let t = standing_tree (node_with p parts.items) in
     record {
       now = q;
       edits = h.edits;
       shows = h.shows;
       in_hand = refl;
       opens = subst (λ x. Opens (Meets W sub whole S.cells (mark_of S.cells) S.scopes S.level S.frames) (path_of S.frames) x h.edits (done (standing_tree q) S.cells.bindings S.steps [])) (h.in_hand.3 ∙ sym is)
-          (opens_along _ _ ((λ j. those_done act (those_past p parts.items i h.in_hand.2 e j) (a j) i S.steps S.cells.bindings t)
+          (opens_along _ _ ((λ j. those_done act (those_past p (all_parts p parts.items) i h.in_hand.2 e j) (a j) i S.steps S.cells.bindings t)
           ∙ ap (λ x. done (standing_tree x) S.cells.bindings S.steps []) (sym is)) h.opens);
     }
 
 pub those_none : (W : World) (sub : Standing) (whole : Answer) (S : State) (s : Bor ResolvedStrategy) (n i : ℕ) (p : Standing) (any : Bool) (parts : Vec Standing Global)
-    → slice_get (parts_now p parts.items) i ≡ None → any ≡ false
+    → slice_get (parts_now p (all_parts p parts.items)) i ≡ None → any ≡ false
     → HoldsIn W sub whole S (Those s n p i any parts) → HoldsIn W sub whole S Failed
 those_none W sub whole S s n i p any parts e a h =
     let act = run W (scope_at S.scopes n) (S.level + 1) s.now in
-    let t = standing_tree (node_now p parts.items) in
+    let t = standing_tree (node_with p parts.items) in
     record {
       now = h.now;
       edits = h.edits;
       shows = h.shows;
       in_hand = tt;
-      opens = opens_along _ _ (λ j. those_done act (those_past p parts.items i h.in_hand.2 e j) (a j) i S.steps S.cells.bindings t) h.opens;
+      opens = opens_along _ _ (λ j. those_done act (those_past p (all_parts p parts.items) i h.in_hand.2 e j) (a j) i S.steps S.cells.bindings t) h.opens;
     }
 
 -- ---- a child is done
@@ -270,13 +270,13 @@ unmoved count before e = eqb-true count before (not-false (count == before) e)
 
 settled_by : (changed : Bool) (l : ℕ) (w : Walk) (start q : Standing) (base d T : Edits) (path : List ℕ) (parts : List Standing)
     → (changed ≡ false → d ≡ []) → Inside l w start base → Leads start d q
-    → parts ≡ cond changed (slice_set (parts_now w.node w.parts.items) w.index q) w.parts.items
+    → parts ≡ cond changed (slice_set (parts_now w.node (walk_parts w)) w.index q) (walk_parts w)
     → T ≡ base ++ behind (path ++ w.index ∷ []) d → Settled w T base path d q parts
 settled_by true l w start q base d T path parts f h k e t =
-    let c = leads_child w.node w.parts.items parts w.index start q d h.has h.stand h.is k e in record {
+    let c = leads_child w.node (walk_parts w) parts w.index start q d h.has h.stand h.is k e in record {
       leads = c.0;
       stand = c.1;
-      tree = ap (λ ps. standing_tree (node_now w.node ps)) e ∙ node_written w.node w.parts.items w.index start q h.stand h.is (subst (PartsStand w.node) e c.1);
+      tree = ap (λ ps. standing_tree (node_now w.node ps)) e ∙ node_written w.node (walk_parts w) w.index start q h.stand h.is (subst (PartsStand w.node) e c.1);
       trail = t ∙ ap (λ (x : Edits). base ++ x) (sym (behind-behind path (w.index ∷ []) d));
     }
 settled_by false l w start q base d T path parts f h k e t =
@@ -284,17 +284,17 @@ settled_by false l w start q base d T path parts f h k e t =
     let same : standing_tree start ≡ standing_tree q = leads_same start q (subst (λ x. Leads start x q) none k) in
     record {
       leads = subst (λ x. Leads (walked w) (behind (w.index ∷ []) d) (node_now w.node x)) (sym e)
-          (subst (λ x. Leads (walked w) (behind (w.index ∷ []) x) (walked w)) (sym none) (leads_nothing (walked w) (node_has w.node w.parts.items h.has h.stand)));
+          (subst (λ x. Leads (walked w) (behind (w.index ∷ []) x) (walked w)) (sym none) (leads_nothing (walked w) (node_has w.node (walk_parts w) h.has h.stand)));
       stand = subst (PartsStand w.node) (sym e) h.stand;
       tree = ap (λ ps. standing_tree (node_now w.node ps)) e
-          ∙ sym (with_child-same (standing_tree (walked w)) w.index (standing_tree start) (node_tree w.node w.parts.items w.index start h.stand h.is))
+          ∙ sym (with_child-same (standing_tree (walked w)) w.index (standing_tree start) (node_tree w.node (walk_parts w) w.index start h.stand h.is))
           ∙ ap (λ x. with_child (standing_tree (walked w)) w.index x) same;
       trail = t ∙ ap (λ (x : Edits). base ++ x) (sym (behind-behind path (w.index ∷ []) d));
     }
 
 pub settled_here : (l : ℕ) (w : Walk) (start q : Standing) (base d T : Edits) (trail : Trail) (path : List ℕ) (parts : List Standing)
     → Shows trail T → Inside l w start base → Leads start d q
-    → parts ≡ cond (not (trail.count == w.edits)) (slice_set (parts_now w.node w.parts.items) w.index q) w.parts.items
+    → parts ≡ cond (not (trail.count == w.edits)) (slice_set (parts_now w.node (walk_parts w)) w.index q) (walk_parts w)
     → T ≡ base ++ behind (path ++ w.index ∷ []) d → Settled w T base path d q parts
 settled_here l w start q base d T trail path parts sh h k e t =
     settled_by (not (trail.count == w.edits)) l w start q base d T path parts

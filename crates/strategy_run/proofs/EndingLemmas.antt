@@ -140,7 +140,7 @@ leave_kept W sub whole S p a k m mid es f le e st h = record {
     kept (Leftmost s n w mark ∷ fs) start base b g r = absurd g
     kept (Those s n w mark any ∷ fs) start base b g r = absurd g
     kept (Tail s n j ∷ fs) start base b g r = absurd g
-    kept (Rest node n j ∷ fs) start base b g r = absurd g
+    kept (Rest node ps n j ∷ fs) start base b g r = absurd g
 
 -- ---- cells that end
 
@@ -193,4 +193,4 @@ cut_kept W sub whole S p a k m mid es D f le e st b sy h = record {
     kept (Leftmost s n w mark ∷ fs) start base x g r = absurd g
     kept (Those s n w mark any ∷ fs) start base x g r = absurd g
     kept (Tail s n j ∷ fs) start base x g r = absurd g
-    kept (Rest node n j ∷ fs) start base x g r = absurd g
+    kept (Rest node ps n j ∷ fs) start base x g r = absurd g

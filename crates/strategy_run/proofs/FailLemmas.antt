@@ -1,5 +1,5 @@
 -- What a failure leads to when it is given to the frame that waits.
-use Rattle.std.proofs.Common.{◌≡◌, ℕ, ◌+◌, List, ◌∷◌, length, take, refl, sym, ap, subst, Bool, Bor}
+use Rattle.std.proofs.Common.{◌≡◌, ℕ, ◌+◌, List, ◌∷◌, length, take, refl, sym, ap, subst, Bool, Bor, Vec, Global}
 use Rattle.term_changes.specs.Standing.{Standing, standing_tree}
 use Rattle.strategy_syntax.specs.Resolved.{ResolvedStrategy}
 use Rattle.strategy_meaning.specs.Scopes.{Scope}
@@ -10,7 +10,7 @@ use Rattle.strategy_scopes.specs.Table.{scope_at}
 use Rattle.term_match.specs.Contents.{Contents}
 use Rattle.term_match.specs.Marks.{kept, mark_of, Before, Stays}
 use Rattle.term_match.specs.declared.cells.Mark.{Mark}
-use Rattle.strategy_run.specs.Leading.{node_now}
+use Rattle.strategy_run.specs.Leading.{node_with}
 use Rattle.strategy_run.specs.Trails.{path_of}
 use Rattle.strategy_run.specs.Frames.{left_behind, walked}
 use Rattle.strategy_run.specs.Turns.{HoldsIn}
@@ -89,7 +89,7 @@ pub fail_leftmost : (W : World) (sub : Standing) (whole : Answer) (C D : Content
     → HoldsIn W sub whole (st C es t l c (frames.Leftmost s n w m ∷ fs)) Failed → HoldsIn W sub whole (st D es u w.level c fs) (Leftmost s n w.node i)
 fail_leftmost W sub whole C D es t u l c fs s n i w m ie cu de me sy h =
     let o = h.opens in
-    let same : walked w ≡ w.node = ap (node_now w.node) o.is.3 in
+    let same : walked w ≡ w.node = ap (node_with w.node) o.is.3 in
     let act = run W (scope_at es n) (w.level + 1) s.now in
     rw ie record {
       now = walked w;
@@ -115,16 +115,16 @@ fail_those W sub whole C D es t u l c fs s n i w m any ie cu de me sy h =
           (opens_kept W sub whole C D m (mark_of D) es w.level fs (path_of fs) (walked w) o.base _ (marked m D me) sy o.is.3);
     }
 
-pub fail_rest : (W : World) (sub : Standing) (whole : Answer) (C : Contents) (es : List Scope) (t u : Trail) (l c : ℕ) (fs : List Frame) (node : Standing) (n k : ℕ)
+pub fail_rest : (W : World) (sub : Standing) (whole : Answer) (C : Contents) (es : List Scope) (t u : Trail) (l c : ℕ) (fs : List Frame) (node : Standing) (ps : Vec Standing Global) (n k : ℕ)
     → Cuts k t u
-    → HoldsIn W sub whole (st C es t l c (frames.Rest node n k ∷ fs)) Failed → HoldsIn W sub whole (st C es u l c fs) Failed
-fail_rest W sub whole C es t u l c fs node n k cu h =
+    → HoldsIn W sub whole (st C es t l c (frames.Rest node ps n k ∷ fs)) Failed → HoldsIn W sub whole (st C es u l c fs) Failed
+fail_rest W sub whole C es t u l c fs node ps n k cu h =
     let o = h.opens in record {
-      now = node;
+      now = node_with node ps.items;
       edits = o.base;
-      shows = cut_back h.edits o.base _ cu o.is.1 o.trail h.shows;
+      shows = cut_back h.edits o.base _ cu o.is.2 o.trail h.shows;
       in_hand = tt;
-      opens = o.is.2;
+      opens = o.is.3;
     }
 
 pub fail_leave : (W : World) (sub : Standing) (whole : Answer) (C : Contents) (es fewer : List Scope) (t : Trail) (l c : ℕ) (fs : List Frame) (n : ℕ)

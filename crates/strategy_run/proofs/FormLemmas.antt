@@ -7,7 +7,7 @@ use Rattle.strategy_syntax.specs.Resolved.{ResolvedStrategy}
 use Rattle.strategy_meaning.specs.Answer.{Answer}
 use Rattle.strategy_meaning.specs.Meaning.{World}
 use Rattle.strategy_scopes.specs.Table.{scopes}
-use Rattle.strategy_run.specs.Leading.{PartsStand}
+use Rattle.strategy_run.specs.Leading.{all_parts, PartsStand}
 use Rattle.strategy_run.specs.Turns.{state_of, FormIn, After, Takes, Holds}
 use Rattle.strategy_run.specs.declared.machine.Machine.{Machine}
 use Rattle.strategy_run.specs.declared.frames.Acts.{Acts}
@@ -25,8 +25,8 @@ taken_turn W m {new = new} s r n p next e f = subst (λ (q : ResolvedStrategy). 
 pub begin_there : {W : World} {sub : Standing} {whole : Answer} (m : Machine) {s : Bor ResolvedStrategy} {n : ℕ} {p : Standing} → Holds W sub whole m (Begin s n p) → n < length (scopes m.scopes)
 begin_there m h = h.in_hand.0
 
-pub each_stands : {W : World} {sub : Standing} {whole : Answer} (m : Machine) {acts : Acts} {n i : ℕ} {p : Standing} {parts : Vec Standing Global} → Holds W sub whole m (Each acts n p i parts) → PartsStand p parts.items
+pub each_stands : {W : World} {sub : Standing} {whole : Answer} (m : Machine) {acts : Acts} {n i : ℕ} {p : Standing} {parts : Vec Standing Global} → Holds W sub whole m (Each acts n p i parts) → PartsStand p (all_parts p parts.items)
 each_stands m h = h.in_hand.2
 
-pub those_stand : {W : World} {sub : Standing} {whole : Answer} (m : Machine) {s : Bor ResolvedStrategy} {n i : ℕ} {p : Standing} {any : Bool} {parts : Vec Standing Global} → Holds W sub whole m (Those s n p i any parts) → PartsStand p parts.items
+pub those_stand : {W : World} {sub : Standing} {whole : Answer} (m : Machine) {s : Bor ResolvedStrategy} {n i : ℕ} {p : Standing} {any : Bool} {parts : Vec Standing Global} → Holds W sub whole m (Those s n p i any parts) → PartsStand p (all_parts p parts.items)
 those_stand m h = h.in_hand.2

@@ -13,9 +13,9 @@ use Rattle.strategy_scopes.specs.Table.{scope_at}
 use Rattle.term_match.specs.Contents.{Contents}
 use Rattle.term_match.specs.Marks.{kept, mark_of, Before, Stays}
 use Rattle.term_match.specs.declared.cells.Mark.{Mark}
-use Rattle.strategy_run.specs.Leading.{Leads, node_now, parts_now, PartsStand}
+use Rattle.strategy_run.specs.Leading.{Leads, Has, node_now, parts_now, all_parts, node_with, PartsStand}
 use Rattle.strategy_run.specs.Trails.{Shows, path_of}
-use Rattle.strategy_run.specs.Frames.{Opens, Meets, Inside, acts_list, walked, left_behind}
+use Rattle.strategy_run.specs.Frames.{Opens, Meets, Inside, acts_list, walked, walk_parts, left_behind}
 use Rattle.strategy_run.specs.Turns.{State, HoldsIn, IsDone}
 use Rattle.strategy_run.specs.declared.trail.Trail.{Trail}
 use Rattle.strategy_run.specs.declared.frames.Acts.{Acts}
@@ -82,7 +82,7 @@ give_test W sub whole C es t u l c fs saved p k cu h =
 
 settled : (W : World) (sub : Standing) (whole : Answer) (C : Contents) (es : List Scope) (t : Trail) (l c : ℕ) (fs gs : List Frame) (w : Walk) (p : Standing) (parts : List Standing)
     → path_of gs ≡ path_of fs ++ w.index ∷ []
-    → parts ≡ cond (not (t.count == w.edits)) (slice_set (parts_now w.node w.parts.items) w.index p) w.parts.items
+    → parts ≡ cond (not (t.count == w.edits)) (slice_set (parts_now w.node (walk_parts w)) w.index p) (walk_parts w)
     → (h : HoldsIn W sub whole (st C es t l c gs) (Done p)) → Inside l w h.opens.start h.opens.base
     → Settled w h.edits h.opens.base (path_of fs) h.opens.before p parts
 settled W sub whole C es t l c fs gs w p parts pe e h k =
@@ -92,23 +92,23 @@ settled W sub whole C es t l c fs gs w p parts pe e h k =
 
 pub give_each : (W : World) (sub : Standing) (whole : Answer) (C : Contents) (es : List Scope) (t : Trail) (l c : ℕ) (fs : List Frame) (acts : Acts) (n i : ℕ) (w : Walk) (p : Standing) (parts : Vec Standing Global)
     → i ≡ w.index + 1
-    → parts.items ≡ cond (not (t.count == w.edits)) (slice_set (parts_now w.node w.parts.items) w.index p) w.parts.items
+    → all_parts w.node parts.items ≡ cond (not (t.count == w.edits)) (slice_set (parts_now w.node (walk_parts w)) w.index p) (walk_parts w)
     → HoldsIn W sub whole (st C es t l c (frames.Each acts n w ∷ fs)) (Done p) → HoldsIn W sub whole (st C es t w.level c fs) (Each acts n w.node i parts)
 give_each W sub whole C es t l c fs acts n i w p parts ie e h =
     let o = h.opens in
-    let k = settled W sub whole C es t l c fs (frames.Each acts n w ∷ fs) w p parts.items refl e h o.is.1 in
+    let k = settled W sub whole C es t l c fs (frames.Each acts n w ∷ fs) w p (all_parts w.node parts.items) refl e h o.is.1 in
     rw ie record {
-      now = node_now w.node parts.items;
+      now = node_with w.node parts.items;
       edits = h.edits;
       shows = h.shows;
       in_hand = (o.is.0, o.is.1.has, k.stand, refl);
-      opens = goes_up W sub whole C (mark_of C) es w.level fs w o.base o.before h.edits p parts.items C.bindings c
+      opens = goes_up W sub whole C (mark_of C) es w.level fs w o.base o.before h.edits p (all_parts w.node parts.items) C.bindings c
           (λ a. and_then a (each (run W (scope_at es n) (w.level + 1)) (acts_list acts (left_behind w)) (w.index + 1)))
           (each (run W (scope_at es n) (w.level + 1)) (acts_list acts (left_behind w)) (w.index + 1)) (λ u x. refl) k o.is.2;
     }
 
 pub give_leftmost : (W : World) (sub : Standing) (whole : Answer) (C : Contents) (es : List Scope) (t : Trail) (l c : ℕ) (fs : List Frame) (s : Bor ResolvedStrategy) (n : ℕ) (w : Walk) (m : Mark) (p q : Standing) (parts : List Standing)
-    → parts ≡ cond (not (t.count == w.edits)) (slice_set (parts_now w.node w.parts.items) w.index p) w.parts.items
+    → parts ≡ cond (not (t.count == w.edits)) (slice_set (parts_now w.node (walk_parts w)) w.index p) (walk_parts w)
     → q ≡ node_now w.node parts
     → HoldsIn W sub whole (st C es t l c (frames.Leftmost s n w m ∷ fs)) (Done p) → HoldsIn W sub whole (st C es t w.level c fs) (Done q)
 give_leftmost W sub whole C es t l c fs s n w m p q parts e is h =
@@ -128,35 +128,36 @@ give_leftmost W sub whole C es t l c fs s n w m p q parts e is h =
 
 -- what stands there can be put into the node
 pub leftmost_stand : (W : World) (sub : Standing) (whole : Answer) (C : Contents) (es : List Scope) (t : Trail) (l c : ℕ) (fs : List Frame) (s : Bor ResolvedStrategy) (n : ℕ) (w : Walk) (m : Mark) (p : Standing) (parts : List Standing)
-    → parts ≡ cond (not (t.count == w.edits)) (slice_set (parts_now w.node w.parts.items) w.index p) w.parts.items
+    → parts ≡ cond (not (t.count == w.edits)) (slice_set (parts_now w.node (walk_parts w)) w.index p) (walk_parts w)
     → HoldsIn W sub whole (st C es t l c (frames.Leftmost s n w m ∷ fs)) (Done p) → PartsStand w.node parts
 leftmost_stand W sub whole C es t l c fs s n w m p parts e h =
     (settled W sub whole C es t l c fs (frames.Leftmost s n w m ∷ fs) w p parts refl e h h.opens.is.1).stand
 
 pub give_those : (W : World) (sub : Standing) (whole : Answer) (C : Contents) (es : List Scope) (t : Trail) (l c : ℕ) (fs : List Frame) (s : Bor ResolvedStrategy) (n i : ℕ) (w : Walk) (m : Mark) (any : Bool) (p : Standing) (parts : Vec Standing Global)
     → i ≡ w.index + 1
-    → parts.items ≡ cond (not (t.count == w.edits)) (slice_set (parts_now w.node w.parts.items) w.index p) w.parts.items
+    → all_parts w.node parts.items ≡ cond (not (t.count == w.edits)) (slice_set (parts_now w.node (walk_parts w)) w.index p) (walk_parts w)
     → HoldsIn W sub whole (st C es t l c (frames.Those s n w m any ∷ fs)) (Done p) → HoldsIn W sub whole (st C es t w.level c fs) (Those s n w.node i true parts)
 give_those W sub whole C es t l c fs s n i w m any p parts ie e h =
     let o = h.opens in
-    let k = settled W sub whole C es t l c fs (frames.Those s n w m any ∷ fs) w p parts.items refl e h o.is.1 in
+    let k = settled W sub whole C es t l c fs (frames.Those s n w m any ∷ fs) w p (all_parts w.node parts.items) refl e h o.is.1 in
     let act = run W (scope_at es n) (w.level + 1) s.now in
     rw ie record {
-      now = node_now w.node parts.items;
+      now = node_with w.node parts.items;
       edits = h.edits;
       shows = h.shows;
       in_hand = (o.is.0, o.is.1.has, k.stand, refl);
-      opens = opens_kept W sub whole C C m (mark_of C) es w.level fs (path_of fs) (node_now w.node parts.items) h.edits _ o.is.2 (stays_self m C)
-          (goes_up W sub whole C m es w.level fs w o.base o.before h.edits p parts.items C.bindings c
+      opens = opens_kept W sub whole C C m (mark_of C) es w.level fs (path_of fs) (node_with w.node parts.items) h.edits _ o.is.2 (stays_self m C)
+          (goes_up W sub whole C m es w.level fs w o.base o.before h.edits p (all_parts w.node parts.items) C.bindings c
           (λ a. either a (λ u B b x. with_edits x (those_done act (left_behind w) true (w.index + 1) b B u))
           (λ b. those_done act (left_behind w) any (w.index + 1) b (kept C m) (standing_tree (walked w))))
           (those_done act (left_behind w) true (w.index + 1)) (λ u x. refl) k o.is.3);
     }
 
-pub give_tail : (W : World) (sub : Standing) (whole : Answer) (C : Contents) (es : List Scope) (t : Trail) (l c : ℕ) (fs : List Frame) (s : Bor ResolvedStrategy) (n k : ℕ) (p q : Standing)
-    → q ≡ fresh (rest_of k (standing_tree p))
-    → HoldsIn W sub whole (st C es t l c (frames.Tail s n k ∷ fs)) (Done p) → HoldsIn W sub whole (st C es t l c (frames.Rest p k t.count ∷ fs)) (Begin s n q)
-give_tail W sub whole C es t l c fs s n k p q e h =
+pub give_tail : (W : World) (sub : Standing) (whole : Answer) (C : Contents) (es : List Scope) (t : Trail) (l c : ℕ) (fs : List Frame) (s : Bor ResolvedStrategy) (n k : ℕ) (node q : Standing) (ps : Vec Standing Global)
+    → PartsStand node (all_parts node ps.items) → q ≡ fresh (rest_of k (standing_tree (node_with node ps.items)))
+    → HoldsIn W sub whole (st C es t l c (frames.Tail s n k ∷ fs)) (Done (node_with node ps.items)) → HoldsIn W sub whole (st C es t l c (frames.Rest node ps k t.count ∷ fs)) (Begin s n q)
+give_tail W sub whole C es t l c fs s n k node q ps stand e h =
+    let p = node_with node ps.items in
     let act = run W (scope_at es n) l s.now in
     let o = opens_through {S = Meets W sub whole C (mark_of C) es l fs} _ (on_rest act k c C.bindings (standing_tree p)) (λ start base x r. subst (Meets W sub whole C (mark_of C) es l fs start base) (given x (standing_tree p) C.bindings c (on_rest act k)) r.1) h.opens in
     rw e record {
@@ -165,32 +166,40 @@ give_tail W sub whole C es t l c fs s n k p q e h =
       shows = h.shows;
       in_hand = (h.opens.is.0, refl);
       opens = opens_new _ (fresh (rest_of k (standing_tree p))) h.edits (act c C.bindings (rest_of k (standing_tree p))) tt (
+        stand,
         refl,
         h.shows.count,
         subst (λ x. Opens (Meets W sub whole C (mark_of C) es l fs) (path_of fs) x h.edits (on_rest act k c C.bindings (standing_tree p))) h.in_hand o,
       );
     }
 
-pub give_rest : (W : World) (sub : Standing) (whole : Answer) (C : Contents) (es : List Scope) (t u v : Trail) (l c : ℕ) (fs : List Frame) (node : Standing) (n k : ℕ) (p q : Standing) (x : Tree)
+pub give_rest : (W : World) (sub : Standing) (whole : Answer) (C : Contents) (es : List Scope) (t u v : Trail) (l c : ℕ) (fs : List Frame) (node : Standing) (ps : Vec Standing Global) (n k : ℕ) (p q : Standing) (x : Tree)
     → Cuts k t u → ((T : Edits) → Shows u T → Shows v (T ++ record { path = path_of fs; new = x } ∷ []))
-    → elements (standing_tree p) ≡ Some (children (standing_tree p)) → x ≡ with_rest n (standing_tree node) (children (standing_tree p)) → q ≡ fresh x
-    → HoldsIn W sub whole (st C es t l c (frames.Rest node n k ∷ fs)) (Done p) → HoldsIn W sub whole (st C es v l c fs) (Done q)
-give_rest W sub whole C es t u v l c fs node n k p q x cu sh e is qe h =
+    → elements (standing_tree p) ≡ Some (children (standing_tree p)) → x ≡ with_rest n (standing_tree (node_with node ps.items)) (children (standing_tree p)) → q ≡ fresh x
+    → HoldsIn W sub whole (st C es t l c (frames.Rest node ps n k ∷ fs)) (Done p) → HoldsIn W sub whole (st C es v l c fs) (Done q)
+give_rest W sub whole C es t u v l c fs node ps n k p q x cu sh e is qe h =
     let o = h.opens in
-    puts W sub whole (st C es u l c fs) node q o.base x v qe (sh o.base (cut_back h.edits o.base _ cu o.is.1 o.trail h.shows))
-    (opens_along _ _ (some_is (elements (standing_tree p)) (children (standing_tree p)) c (λ us. done (with_rest n (standing_tree node) us) C.bindings c (at_root (with_rest n (standing_tree node) us))) e
-    ∙ ap (λ y. done y C.bindings c (at_root y)) (sym is)) o.is.2)
+    let old = node_with node ps.items in
+    puts W sub whole (st C es u l c fs) old q o.base x v qe (sh o.base (cut_back h.edits o.base _ cu o.is.2 o.trail h.shows))
+    (opens_along _ _ (some_is (elements (standing_tree p)) (children (standing_tree p)) c (λ us. done (with_rest n (standing_tree old) us) C.bindings c (at_root (with_rest n (standing_tree old) us))) e
+    ∙ ap (λ y. done y C.bindings c (at_root y)) (sym is)) o.is.3)
 
-pub rest_fails : (W : World) (sub : Standing) (whole : Answer) (C : Contents) (es : List Scope) (t u : Trail) (l c : ℕ) (fs : List Frame) (node : Standing) (n k : ℕ) (p : Standing)
+-- what stands there can be put into the node
+pub rest_stands : (W : World) (sub : Standing) (whole : Answer) (C : Contents) (es : List Scope) (t : Trail) (l c : ℕ) (fs : List Frame) (node : Standing) (ps : Vec Standing Global) (n k : ℕ) (p : Standing)
+    → HoldsIn W sub whole (st C es t l c (frames.Rest node ps n k ∷ fs)) (Done p) → PartsStand node (all_parts node ps.items)
+rest_stands W sub whole C es t l c fs node ps n k p h = h.opens.is.0
+
+pub rest_fails : (W : World) (sub : Standing) (whole : Answer) (C : Contents) (es : List Scope) (t u : Trail) (l c : ℕ) (fs : List Frame) (node : Standing) (ps : Vec Standing Global) (n k : ℕ) (p : Standing)
     → Cuts k t u → elements (standing_tree p) ≡ None
-    → HoldsIn W sub whole (st C es t l c (frames.Rest node n k ∷ fs)) (Done p) → HoldsIn W sub whole (st C es u l c fs) Failed
-rest_fails W sub whole C es t u l c fs node n k p cu e h =
-    let o = h.opens in record {
-      now = node;
+    → HoldsIn W sub whole (st C es t l c (frames.Rest node ps n k ∷ fs)) (Done p) → HoldsIn W sub whole (st C es u l c fs) Failed
+rest_fails W sub whole C es t u l c fs node ps n k p cu e h =
+    let o = h.opens in
+    let old = node_with node ps.items in record {
+      now = old;
       edits = o.base;
-      shows = cut_back h.edits o.base _ cu o.is.1 o.trail h.shows;
+      shows = cut_back h.edits o.base _ cu o.is.2 o.trail h.shows;
       in_hand = tt;
-      opens = opens_along _ _ (none_is (elements (standing_tree p)) c (λ us. done (with_rest n (standing_tree node) us) C.bindings c (at_root (with_rest n (standing_tree node) us))) e) o.is.2;
+      opens = opens_along _ _ (none_is (elements (standing_tree p)) c (λ us. done (with_rest n (standing_tree old) us) C.bindings c (at_root (with_rest n (standing_tree old) us))) e) o.is.3;
     }
 
 pub give_leave : (W : World) (sub : Standing) (whole : Answer) (C : Contents) (es fewer : List Scope) (t : Trail) (l c : ℕ) (fs : List Frame) (n : ℕ) (p : Standing)
@@ -217,6 +226,10 @@ give_cut W sub whole C D es fewer t l c fs n k p e de b sy h = rw e record {
       (ap (λ (B : Bindings). done (standing_tree p) B c (x ++ [])) (sym de))
       (meets_kept W sub whole C D (record { count = n; filled = length C.filled }) (mark_of D) (take k es) l fs start base _ b sy r.2)) h.opens;
 }
+
+-- what is done has the places of its change
+pub in_hand_has : (W : World) (sub : Standing) (whole : Answer) (S : State) (p : Standing) → HoldsIn W sub whole S (Done p) → Has p
+in_hand_has W sub whole S p h = subst Has h.in_hand h.opens.leads.has
 
 -- nothing waits
 pub done_whole : (W : World) (sub : Standing) (whole : Answer) (C : Contents) (es : List Scope) (t : Trail) (l c : ℕ) (p : Standing)

@@ -1,6 +1,7 @@
 pub mod PlaceLemmas
 pub mod LeadLemmas
 pub mod NodeLeads
+pub mod PartsLemmas
 pub mod OpenLemmas
 pub mod TakeLemmas
 pub mod ChildLemmas

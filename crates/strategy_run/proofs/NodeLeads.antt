@@ -95,11 +95,11 @@ part_count node parts h =
     length-follow (standing_children node) (parts_now node parts) h.follow
     ∙ sym (length-map_tree (standing_children node)) ∙ ap length (trees_of_children node)
 
-tree_now : (node : Standing) (parts : List Standing) → PartsStand node parts → standing_tree (node_now node parts) ≡ with_children (standing_tree node) (map standing_tree (parts_now node parts))
+pub tree_now : (node : Standing) (parts : List Standing) → PartsStand node parts → standing_tree (node_now node parts) ≡ with_children (standing_tree node) (map standing_tree (parts_now node parts))
 tree_now node [] h = sym (ap (with_children (standing_tree node)) (trees_of_children node) ∙ same_children (standing_tree node))
 tree_now node (q ∷ qs) h = tree_over_children node (q ∷ qs) (parts_can_hold node q qs h)
 
-trees_now : (node : Standing) (parts : List Standing) → PartsStand node parts → children (standing_tree (node_now node parts)) ≡ map standing_tree (parts_now node parts)
+pub trees_now : (node : Standing) (parts : List Standing) → PartsStand node parts → children (standing_tree (node_now node parts)) ≡ map standing_tree (parts_now node parts)
 trees_now node parts h =
     ap children (tree_now node parts h)
     ∙ children-with_children (standing_tree node) (map standing_tree (parts_now node parts)) (length-map_tree (parts_now node parts) ∙ part_count node parts h)
@@ -331,18 +331,3 @@ leads_child node parts new i c r d n h e l is =
     let k = set_stands node parts i c r h e l.follows l.has in
     subst (λ x. Leads (node_now node parts) (behind (i ∷ []) d) (node_now node x) × PartsStand node x) (sym is)
     (set_leads node parts i c r d n h e l k, k)
-
--- the node over some
-pub node_over_some : (node : Standing) (parts : List Standing) (b : Bool) → b ≡ (length parts == 0) → b ≡ false → node_now node parts ≡ with_standing node parts
-node_over_some node [] b e f = absurd (cc)
-node_over_some node (q ∷ qs) b e f = refl
-
--- the node over none
-pub node_over_none : (node : Standing) (parts : List Standing) (b : Bool) → b ≡ (length parts == 0) → b ≡ true → node ≡ node_now node parts
-node_over_none node [] b e f = refl
-node_over_none node (q ∷ qs) b e f = absurd (cc)
-
--- where there are some
-pub some_parts_can_hold : (node : Standing) (parts : List Standing) (b : Bool) → PartsStand node parts → b ≡ (length parts == 0) → b ≡ false → CanHold node parts
-some_parts_can_hold node [] b h e f = absurd (cc)
-some_parts_can_hold node (q ∷ qs) b h e f = parts_can_hold node q qs h

@@ -168,8 +168,8 @@ meets_kept W sub whole C D top up es l (Those s n w m any ∷ fs) start base a b
 )
 meets_kept W sub whole C D top up es l (Tail s n k ∷ fs) start base a b st h =
     (h.0, meets_kept W sub whole C D top up es l fs start base _ b st h.1)
-meets_kept W sub whole C D top up es l (Rest node n k ∷ fs) start base a b st h =
-    (h.0, h.1, opens_map (λ s e x g. meets_kept W sub whole C D top up es l fs s e x b st g) h.2)
+meets_kept W sub whole C D top up es l (Rest node ps n k ∷ fs) start base a b st h =
+    (h.0, h.1, h.2, opens_map (λ s e x g. meets_kept W sub whole C D top up es l fs s e x b st g) h.3)
 meets_kept W sub whole C D top up es l (Leave n ∷ fs) start base a b st h =
     (h.0, meets_kept W sub whole C D top up (take n es) l fs start base a b st h.1)
 meets_kept W sub whole C D top up es l (Cut n k ∷ fs) start base a b st h = (
@@ -196,7 +196,7 @@ meets_stopped W sub whole C top es l (Each acts n v ∷ fs) start base w h = mee
 meets_stopped W sub whole C top es l (Leftmost s n v m ∷ fs) start base w h = meets_stopped W sub whole C m es v.level fs h.4.start h.4.base w h.4.is
 meets_stopped W sub whole C top es l (Those s n v m any ∷ fs) start base w h = meets_stopped W sub whole C m es v.level fs h.3.start h.3.base w h.3.is
 meets_stopped W sub whole C top es l (Tail s n k ∷ fs) start base w h = meets_stopped W sub whole C top es l fs start base w h.1
-meets_stopped W sub whole C top es l (Rest node n k ∷ fs) start base w h = meets_stopped W sub whole C top es l fs h.2.start h.2.base w h.2.is
+meets_stopped W sub whole C top es l (Rest node ps n k ∷ fs) start base w h = meets_stopped W sub whole C top es l fs h.3.start h.3.base w h.3.is
 meets_stopped W sub whole C top es l (Leave n ∷ fs) start base w h = meets_stopped W sub whole C top (take n es) l fs start base w h.1
 meets_stopped W sub whole C top es l (Cut n k ∷ fs) start base w h =
     meets_stopped W sub whole C (record { count = n; filled = top.filled }) (take k es) l fs start base w h.2

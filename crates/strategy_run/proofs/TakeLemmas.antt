@@ -17,7 +17,7 @@ use Rattle.strategy_scopes.specs.Table.{scopes, scope_at, Stands, closure_of}
 use Rattle.strategy_scopes.specs.declared.scopes.Known.{Known}
 use Rattle.term_match.specs.Contents.{Contents}
 use Rattle.term_match.specs.Marks.{kept, mark_of, Before, Stays}
-use Rattle.strategy_run.specs.Leading.{Has, node_now, PartsStand}
+use Rattle.strategy_run.specs.Leading.{Has, node_now, all_parts, PartsStand}
 use Rattle.strategy_run.specs.Trails.{Shows, path_of}
 use Rattle.strategy_run.specs.Frames.{Opens, Meets, acts_list}
 use Rattle.strategy_run.specs.Turns.{State, state_of, HoldsIn, FormIn, Replaced}
@@ -258,7 +258,7 @@ minus_none : (n : ℕ) → n ≡ n - 0
 minus_none n = omega arith
 
 -- a node none of whose children has changed
-over_none : (p : Standing) (parts : List Standing) → parts ≡ [] → Has p → PartsStand p parts × (p ≡ node_now p parts)
+over_none : (p : Standing) (parts : List Standing) → parts ≡ [] → Has p → PartsStand p (all_parts p parts) × (p ≡ node_now p (all_parts p parts))
 over_none p parts e h = rw e (none_stand p h, refl)
 
 pub take_each : (W : World) (sub : Standing) (whole : Answer) (S : State) (r : ResolvedStrategy) (acts : Acts) (n i : ℕ) (p : Standing) (parts : Vec Standing Global)

@@ -22,7 +22,7 @@ path_step (Each acts n w) fs = refl
 path_step (Leftmost s n w m) fs = refl
 path_step (Those s n w m any) fs = refl
 path_step (Tail s n k) fs = sym (append-nil (path_of fs))
-path_step (Rest p n k) fs = sym (append-nil (path_of fs))
+path_step (Rest p ps n k) fs = sym (append-nil (path_of fs))
 path_step (Leave n) fs = sym (append-nil (path_of fs))
 path_step (Cut n k) fs = sym (append-nil (path_of fs))
 

@@ -12,7 +12,7 @@ use Rattle.strategy_scopes.specs.Table.{scope_at}
 use Rattle.term_match.specs.Contents.{Contents}
 use Rattle.term_match.specs.Marks.{kept, Before}
 use Rattle.term_match.specs.declared.cells.Mark.{Mark}
-use Rattle.strategy_run.specs.Leading.{Leads, Has, node_now, parts_now, PartsStand}
+use Rattle.strategy_run.specs.Leading.{Leads, Has, node_now, parts_now, all_parts, node_with, PartsStand}
 use Rattle.strategy_run.specs.Trails.{path_of}
 use Rattle.strategy_run.specs.declared.frames.Acts.{Acts}
 use Rattle.strategy_run.specs.declared.frames.Acts.TheVariants.{Same, List as Listed}
@@ -43,17 +43,21 @@ pub record Opens (R : Becomes) (path : List ℕ) (p : Standing) (T : Edits) (a :
   pub trail : T ≡ base ++ behind path before
   pub is : R start base (with_edits before a)
 
+-- what stands in the places of the children so far
+abbrev pub walk_parts : Walk → List Standing
+walk_parts w = all_parts w.node w.parts.items
+
 -- A child that began as `start`, when there were these edits, is in hand.
 pub record Inside (l : ℕ) (w : Walk) (start : Standing) (base : Edits) : Type 0 where
   pub level : l ≡ w.level + 1
   pub has : Has w.node
-  pub stand : PartsStand w.node w.parts.items
-  pub is : slice_get (parts_now w.node w.parts.items) w.index ≡ Some start
+  pub stand : PartsStand w.node (walk_parts w)
+  pub is : slice_get (parts_now w.node (walk_parts w)) w.index ≡ Some start
   pub edits : w.edits ≡ length base
 
 -- the node of a walk so far
 abbrev pub walked : Walk → Standing
-walked w = node_now w.node w.parts.items
+walked w = node_with w.node w.parts.items
 
 -- how many children stand behind the one in hand
 abbrev pub left_behind : Walk → ℕ
@@ -117,9 +121,10 @@ Meets W sub whole C top es l (Those s n w m any ∷ fs) start base a =
 Meets W sub whole C top es l (Tail s n k ∷ fs) start base a =
     (n < length es)
     × Meets W sub whole C top es l fs start base (and_then a (on_rest (run W (scope_at es n) l s.now) k))
-Meets W sub whole C top es l (Rest node n k ∷ fs) start base a =
-    (start ≡ fresh (rest_of n (standing_tree node))) × (k ≡ length base)
-    × Opens (Meets W sub whole C top es l fs) (path_of fs) node base (after_rest n (standing_tree node) a)
+Meets W sub whole C top es l (Rest node ps n k ∷ fs) start base a =
+    PartsStand node (all_parts node ps.items) × (start ≡ fresh (rest_of n (standing_tree (node_with node ps.items)))) × (k ≡ length base)
+    × Opens (Meets W sub whole C top es l fs) (path_of fs) (node_with node ps.items) base
+    (after_rest n (standing_tree (node_with node ps.items)) a)
 Meets W sub whole C top es l (Leave n ∷ fs) start base a =
     (n ≤ length es) × Meets W sub whole C top (take n es) l fs start base a
 Meets W sub whole C top es l (Cut n k ∷ fs) start base a =

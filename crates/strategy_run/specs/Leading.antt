@@ -1,5 +1,5 @@
 -- How what stands in a place comes from what stood there, by edits.
-use Rattle.std.specs.Prelude.{◌≡◌, ◌⊎◌, ℕ, List, [], ◌∷◌}
+use Rattle.std.specs.Prelude.{◌≡◌, ◌≤◌, ◌⊎◌, ℕ, List, [], ◌∷◌, ◌++◌, length, drop}
 use Rattle.term_core.specs.Tree.{children}
 use Rattle.term_paths.specs.Paths.{LiesWithin}
 use Rattle.term_paths.specs.Edits.{Edits, Replaces}
@@ -49,10 +49,33 @@ abbrev pub parts_now : Standing → List Standing → List Standing
 parts_now p [] = standing_children p
 parts_now p (q ∷ qs) = q ∷ qs
 
+-- what stands in the places of all its children, where these stand in those of the first ones
+abbrev pub all_parts : Standing → List Standing → List Standing
+all_parts p [] = []
+all_parts p (q ∷ qs) = (q ∷ qs) ++ drop (length (q ∷ qs)) (standing_children p)
+
+-- the node with those in the places of its first children
+abbrev pub node_with : Standing → List Standing → Standing
+node_with p qs = node_now p (all_parts p qs)
+
 -- these can stand there
 pub record PartsStand (p : Standing) (qs : List Standing) : Type 0 where
   pub follow : AllFollow (standing_children p) (parts_now p qs)
   pub have : AllHave (parts_now p qs)
+
+-- ---- the parts that are kept
+
+-- qs in the places of the first of cs
+abbrev pub over : List Standing → List Standing → List Standing
+over qs cs = qs ++ drop (length qs) cs
+
+-- qs and more of cs, up to the first n
+pub record Fills (cs qs : List Standing) (n : ℕ) (new : List Standing) : Type 0 where
+  pub same : over new cs ≡ over qs cs
+  pub most : length qs ≤ n → length new ≤ n
+  pub least : (n ≤ length new) ⊎ (length cs ≤ length new)
+
+-- ---- what a part comes from
 
 -- q stands where p stood, after these edits: what it keeps is what was kept, each of its places was one
 -- of p or is that of an edit, and none of these lies outside its places

@@ -17,7 +17,7 @@ path_of (Each acts n w ∷ fs) = path_of fs ++ w.index ∷ []
 path_of (Leftmost s n w m ∷ fs) = path_of fs ++ w.index ∷ []
 path_of (Those s n w m any ∷ fs) = path_of fs ++ w.index ∷ []
 path_of (Tail s n k ∷ fs) = path_of fs
-path_of (Rest p n k ∷ fs) = path_of fs
+path_of (Rest p ps n k ∷ fs) = path_of fs
 path_of (Leave n ∷ fs) = path_of fs
 path_of (Cut n k ∷ fs) = path_of fs
 
@@ -30,7 +30,7 @@ step_of (Each acts n w) = w.index ∷ []
 step_of (Leftmost s n w m) = w.index ∷ []
 step_of (Those s n w m any) = w.index ∷ []
 step_of (Tail s n k) = []
-step_of (Rest p n k) = []
+step_of (Rest p ps n k) = []
 step_of (Leave n) = []
 step_of (Cut n k) = []
 

@@ -1,5 +1,6 @@
 -- What a turn of the machine keeps, and that a run ends.
 use Rattle.std.specs.Prelude.{◌≡◌, ◌<◌, ℕ, ◌+◌, ◌-◌, ◌*◌, ◌==◌, not, cond, List, [], ◌∷◌, ◌++◌, length, reverse, slice_set, vec_len, Vec}
+use Rattle.std.specs.Borrow.{Bor}
 use Rattle.std.specs.Global.{Global}
 use Rattle.std.specs.declared.option.Option.{Option}
 use Rattle.term_core.specs.Tree.{Tree, children}
@@ -15,12 +16,13 @@ use Rattle.strategy_meaning.specs.Meaning.{World, run, form, each, leftmost, tho
 use Rattle.strategy_scopes.specs.Table.{scopes, scope_at}
 use Rattle.term_match.specs.Contents.{Contents}
 use Rattle.term_match.specs.Marks.{mark_of}
-use Rattle.strategy_run.specs.Leading.{Leads, Has, node_now, parts_now, PartsStand}
+use Rattle.strategy_run.specs.Leading.{Leads, Has, node_now, parts_now, all_parts, node_with, PartsStand}
 use Rattle.strategy_run.specs.Trails.{Shows, path_of}
-use Rattle.strategy_run.specs.Frames.{Meets, Opens, acts_list}
+use Rattle.strategy_run.specs.Frames.{Meets, Opens, acts_list, walk_parts}
 use Rattle.strategy_run.specs.declared.trail.Trail.{Trail}
 use Rattle.strategy_run.specs.declared.frames.Walk.{Walk}
 use Rattle.strategy_run.specs.declared.frames.Frame.{Frame}
+use Rattle.strategy_run.specs.declared.frames.Frame.TheVariants.{Tail}
 use Rattle.strategy_run.specs.Hands.{Hand, Begin, Done, Failed, Each, Leftmost, Those, in_hand}
 use Rattle.strategy_run.specs.declared.frames.Turned.{Turned}
 use Rattle.strategy_run.specs.declared.frames.Turned.TheVariants as turns
@@ -52,22 +54,22 @@ coming W S (Done p) = done (standing_tree p) S.cells.bindings S.steps []
 coming W S Failed = failed S.steps
 coming W S (Each acts n p i parts) =
     each (run W (scope_at S.scopes n) (S.level + 1)) (acts_list acts (length (children (standing_tree p)) - i)) i
-    S.steps S.cells.bindings (standing_tree (node_now p parts.items))
+    S.steps S.cells.bindings (standing_tree (node_with p parts.items))
 coming W S (Leftmost s n p i) =
     leftmost (run W (scope_at S.scopes n) (S.level + 1) s.now) (length (children (standing_tree p)) - i) i
     S.steps S.cells.bindings (standing_tree p)
 coming W S (Those s n p i any parts) =
     those_done (run W (scope_at S.scopes n) (S.level + 1) s.now) (length (children (standing_tree p)) - i) any i
-    S.steps S.cells.bindings (standing_tree (node_now p parts.items))
+    S.steps S.cells.bindings (standing_tree (node_with p parts.items))
 
 -- p is what is in hand, and its scope is there
 abbrev pub IsInHand : State → Standing → Hand → Type 0
 IsInHand S p (Begin s n q) = (n < length S.scopes) × (p ≡ q)
 IsInHand S p (Done q) = p ≡ q
 IsInHand S p Failed = Unit {0}
-IsInHand S p (Each acts n q i parts) = (n < length S.scopes) × Has q × PartsStand q parts.items × (p ≡ node_now q parts.items)
+IsInHand S p (Each acts n q i parts) = (n < length S.scopes) × Has q × PartsStand q (all_parts q parts.items) × (p ≡ node_with q parts.items)
 IsInHand S p (Leftmost s n q i) = (n < length S.scopes) × Has q × (p ≡ q)
-IsInHand S p (Those s n q i any parts) = (n < length S.scopes) × Has q × PartsStand q parts.items × (p ≡ node_now q parts.items)
+IsInHand S p (Those s n q i any parts) = (n < length S.scopes) × Has q × PartsStand q (all_parts q parts.items) × (p ≡ node_with q parts.items)
 
 -- The answer of what is in hand, taken through the frames, is the whole answer.
 pub record HoldsIn (W : World) (sub : Standing) (whole : Answer) (S : State) (hand : Hand) : Type 0 where
@@ -181,9 +183,23 @@ GiveFalls m new turns.Failed = Unit {0}
 GiveFalls m new turns.Spent = Unit {0}
 GiveFalls m new turns.Big = Unit {0}
 
+-- what waits for the first elements of a list
+abbrev pub Waits : List Frame → Bor ResolvedStrategy → ℕ → ℕ → Type 0
+Waits [] s n k = ⊥
+Waits (Tail t m j ∷ fs) s n k = (t ≡ s) × (m ≡ n) × (j ≡ k)
+Waits (f ∷ fs) s n k = ⊥
+
+-- less is left to do than where a child was to come
+abbrev pub EndFalls : Machine → Machine → Turned → Type 0
+EndFalls m new turns.On = load new (in_hand new) < 7 * m.steps + 2 * vec_len m.frames + 3
+EndFalls m new turns.Done = Unit {0}
+EndFalls m new turns.Failed = Unit {0}
+EndFalls m new turns.Spent = Unit {0}
+EndFalls m new turns.Big = Unit {0}
+
 -- The child in hand is done with p: where no edit was made since it began, nothing has changed.
 pub record ComesUp (m : Machine) (w : Walk) (p : Standing) (new : Machine) (up : Standing × Vec Standing Global) : Type 0 where
   pub node : up.0 ≡ w.node
-  pub parts : up.1.items ≡ cond (not (m.trail.count == w.edits)) (slice_set (parts_now w.node w.parts.items) w.index p) w.parts.items
+  pub parts : all_parts w.node up.1.items ≡ cond (not (m.trail.count == w.edits)) (slice_set (parts_now w.node (walk_parts w)) w.index p) (walk_parts w)
   pub level : new.level ≡ w.level
   pub rest : (new.frames ≡ m.frames) × (new.cells ≡ m.cells) × (new.scopes ≡ m.scopes) × (new.trail ≡ m.trail) × (new.steps ≡ m.steps)

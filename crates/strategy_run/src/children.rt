@@ -1,15 +1,16 @@
 //! Strategies over children.
 
-ghost use Rattle.std.specs.Prelude.{◌≡◌, ◌<◌, ◌-◌, [], ◌∷◌, cond, length, MatchOption, IfOk, OnOk, slice_get, slice_set};
+ghost use Rattle.std.specs.Prelude.{◌≡◌, ◌-◌, [], ◌∷◌, cond, MatchOption, IfOk, OnOk, slice_get, slice_set};
 ghost use Rattle.term_core.specs.Tree.{children};
 ghost use Rattle.term_changes.specs.Standing.{standing_tree, standing_children};
 ghost use Rattle.strategy_meaning.specs.Meaning.{World};
 ghost use Rattle.strategy_run.specs.Frames.{acts_list};
-ghost use Rattle.strategy_run.specs.Leading.{PartsStand, node_now, parts_now};
+ghost use Rattle.strategy_run.specs.Leading.{PartsStand, Fills, all_parts, node_with, parts_now};
 ghost use Rattle.strategy_run.specs.Hands.{Each, Leftmost, Those};
 ghost use Rattle.strategy_run.specs.Turns.{Turn, Falls};
 
 use crate::frames::{Acts, Frame, Next, Turned, Walk};
+use crate::give::end_each;
 use crate::machine::Machine;
 use std::alloc::Global;
 use std::mem;
@@ -38,65 +39,79 @@ pub(crate) fn next_act<'t>(acts: Acts<'t>, left: usize) -> Option<(&'t ResolvedS
     }
 }
 
-/// What stands in the place of child `i` so far.
+/// What stands in the place of child `i`, where parts stand in those of the first ones.
 pub(crate) fn child_now<'t>(
     node: &Part<'t>,
     parts: &[Part<'t>],
     i: usize,
 ) -> Result<Option<Part<'t>>, NoMemory>
-    ensures { IfOk result (λ child. child ≡ slice_get (parts_now node.now parts.now) i) }
+    ensures { IfOk result (λ child. child ≡ slice_get (parts_now node.now (all_parts node.now parts.now)) i) }
 {
-    if parts.is_empty() {
-        return node.child(i);
-    }
     if i >= parts.len() {
-        return Ok(None);
+        return node.child(i);
     }
     Ok(Some(parts[i].try_clone()?))
 }
 
-/// Puts the node so far in the place of the node.
+// Adds what stands in the places of the other children until there are so many, or all.
+fn fill<'t>(parts: &mut Vec<Part<'t>>, node: &Part<'t>, count: usize) -> Result<(), NoMemory>
+    ensures { OnOk result (Fills (standing_children node.now) parts.old.items count parts.new.items) }
+{
+    'fill: while parts.len() < count {
+        let Some(child) = node.child(parts.len())? else {
+            return Ok(());
+        };
+        parts.push(child)?;
+    }
+    Ok(())
+}
+
+/// Puts the node with these parts in the places of its first children in the place of the node.
 pub(crate) fn finish<'t>(
     alloc: Global,
     node: &mut Part<'t>,
     parts: &mut Vec<Part<'t>>,
 ) -> Result<(), NoMemory>
-    requires { PartsStand node.old parts.old.items }
-    ensures { OnOk result (node.new ≡ node_now node.old parts.old.items) }
+    requires { PartsStand node.old (all_parts node.old parts.old.items) }
+    ensures { OnOk result (node.new ≡ node_with node.old parts.old.items) }
 {
     if parts.is_empty() {
         return Ok(());
     }
-    let all = mem::replace(parts, Vec::new(alloc));
+    let mut all = mem::replace(parts, Vec::new(alloc));
+    fill(&mut all, node, node.child_count())?;
     let whole = node.with_parts(alloc, all)?;
     *node = whole;
     Ok(())
 }
 
-/// What stands in the places of the children, with another part at child `i` where it has changed.
-pub(crate) fn settled<'t>(
-    alloc: Global,
+/// Adds to the parts what stands in the place of child `i` now, where it has changed.
+pub(crate) fn settle<'t>(
+    parts: &mut Vec<Part<'t>>,
     node: &Part<'t>,
-    parts: Vec<Part<'t>>,
     i: usize,
     part: Part<'t>,
     changed: bool,
-) -> Result<Vec<Part<'t>>, NoMemory>
-    ensures { IfOk result (λ all. all.items
-        ≡ cond changed (slice_set (parts_now node.now parts.entry.items) i part.entry) parts.entry.items) }
+) -> Result<(), NoMemory>
+    ensures { OnOk result (all_parts node.now parts.new.items
+        ≡ cond changed (slice_set (parts_now node.now (all_parts node.now parts.old.items)) i part.entry) (all_parts node.now parts.old.items)) }
 {
     if !changed {
-        return Ok(parts);
+        return Ok(());
     }
-    let mut all = if parts.is_empty() {
-        node.parts(alloc)?
-    } else {
-        parts
-    };
-    if i < all.len() {
-        all[i] = part;
+    if i < parts.len() {
+        parts[i] = part;
+        return Ok(());
     }
-    Ok(all)
+    fill(parts, node, i)?;
+    if parts.len() < i {
+        return Ok(());
+    }
+    if i >= node.child_count() {
+        return Ok(());
+    }
+    parts.push(part)?;
+    Ok(())
 }
 
 /// Goes on with the children from this one on.
@@ -107,16 +122,14 @@ pub(crate) fn go_on<'t>(
     scope: usize,
     index: usize,
 ) -> Result<Turned, NoMemory>
-    requires { PartsStand m.old.part m.old.parts.items }
+    requires { PartsStand m.old.part (all_parts m.old.part m.old.parts.items) }
     ensures ok { (W : World) → IfOk result (λ next. Turn W m.old (Each acts.entry scope m.old.part index m.old.parts) m.new next) }
     ensures less { IfOk result (λ next. Falls m.old (Each acts.entry scope m.old.part index m.old.parts) m.new next) }
 {
     let count = m.part.child_count();
     let left = count.saturating_sub(index);
     let Some((strategy, others)) = next_act(acts, left) else {
-        finish(alloc, &mut m.part, &mut m.parts)?;
-        m.next = Next::Done;
-        return Ok(Turned::On);
+        return end_each(alloc, m);
     };
     let Some(child) = child_now(&m.part, &m.parts, index)? else {
         m.next = Next::Failed;
@@ -193,7 +206,7 @@ pub(crate) fn go_over<'t>(
     index: usize,
     any: bool,
 ) -> Result<Turned, NoMemory>
-    requires { PartsStand m.old.part m.old.parts.items }
+    requires { PartsStand m.old.part (all_parts m.old.part m.old.parts.items) }
     ensures ok { (W : World) → IfOk result (λ next. Turn W m.old (Those strategy.entry scope m.old.part index any m.old.parts) m.new next) }
     ensures less { IfOk result (λ next. Falls m.old (Those strategy.entry scope m.old.part index any m.old.parts) m.new next) }
 {

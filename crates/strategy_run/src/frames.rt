@@ -17,7 +17,7 @@ pub enum Acts<'t> {
 #[derive(Drop)]
 pub struct Walk<'t> {
     pub node: Part<'t>,
-    /// What stands in the places of all its children, or nothing as long as none has changed.
+    /// What stands in the places of its first children, up to the last one that has changed.
     pub parts: Vec<Part<'t>>,
     /// The child in hand.
     pub index: usize,
@@ -47,8 +47,9 @@ pub enum Frame<'t> {
     Those(&'t ResolvedStrategy, usize, Walk<'t>, Mark, bool),
     /// Then this strategy on the list of the elements behind the first so many.
     Tail(&'t ResolvedStrategy, usize, usize),
-    /// The list whose elements behind the first so many are in hand as a list of their own, and the edits.
-    Rest(Part<'t>, usize, usize),
+    /// The list whose elements behind the first so many are in hand as a list of their own, what stands
+    /// in the places of its first elements, and the edits.
+    Rest(Part<'t>, Vec<Part<'t>>, usize, usize),
     /// Scopes behind the first so many end.
     Leave(usize),
     /// Cells and scopes behind the first so many end.

@@ -1,17 +1,18 @@
 //! Answers, given to what waits for them.
 
-ghost use Rattle.std.specs.Prelude.{◌≡◌, IfOk, OnOk};
+ghost use Rattle.std.specs.Prelude.{◌≡◌, ◌≤◌, length, reverse, IfOk, IfSome, OnOk};
 ghost use Rattle.strategy_meaning.specs.Answer.{Answer};
 ghost use Rattle.strategy_meaning.specs.Meaning.{World};
 ghost use Rattle.term_changes.specs.Standing.{Standing};
 ghost use Rattle.strategy_run.specs.Hands.{Done, Failed};
-ghost use Rattle.strategy_run.specs.Turns.{Turn, Falls, Holds, Gives, IsOfRun, GiveFalls, ComesUp};
+ghost use Rattle.strategy_run.specs.Leading.{PartsStand, all_parts, node_with};
+ghost use Rattle.strategy_run.specs.Turns.{Turn, Falls, Holds, Gives, IsOfRun, GiveFalls, EndFalls, ComesUp, Waits};
 
-use crate::children::{finish, settled};
+use crate::children::{finish, settle};
 use crate::forms::replace;
 use crate::frames::{Acts, Frame, Next, Turned, Walk};
 use crate::machine::Machine;
-use crate::tails::{is_list, rest_behind, with_rest_behind};
+use crate::tails::{first_values, is_list, rest_behind, with_rest_behind};
 use std::alloc::Global;
 use std::mem;
 use strategy_syntax::ResolvedStrategy;
@@ -59,15 +60,18 @@ fn give<'t>(
             m.next = Next::Done;
             Ok(Turned::On)
         }
-        Frame::Each(acts, scope, walk) => give_each(alloc, m, acts, scope, walk),
+        Frame::Each(acts, scope, walk) => give_each(m, acts, scope, walk),
         Frame::Leftmost(strategy, scope, walk, mark) => {
             give_leftmost(alloc, m, strategy, scope, walk, mark)
         }
         Frame::Those(strategy, scope, walk, mark, any) => {
-            give_those(alloc, m, strategy, scope, walk, mark, any)
+            give_those(m, strategy, scope, walk, mark, any)
         }
-        Frame::Tail(tail, scope, count) => give_tail(alloc, m, tail, scope, count),
-        Frame::Rest(node, count, edits) => give_rest(alloc, m, node, count, edits),
+        Frame::Tail(tail, scope, count) => {
+            m.parts = Vec::new(alloc);
+            begin_tail(alloc, m, tail, scope, count)
+        }
+        Frame::Rest(node, parts, count, edits) => give_rest(alloc, m, node, parts, count, edits),
         Frame::Leave(scopes) => {
             m.scopes.cut(scopes);
             m.next = Next::Done;
@@ -83,7 +87,7 @@ fn give<'t>(
 }
 
 // Takes the node in hand again, of which the child in hand is done.
-fn come_up<'t>(alloc: Global, m: &mut Machine<'t>, walk: Walk<'t>) -> Result<(), NoMemory>
+fn come_up<'t>(m: &mut Machine<'t>, walk: Walk<'t>) -> Result<(), NoMemory>
     ensures { OnOk result (ComesUp m.old walk.entry m.old.part m.new (m.new.part, m.new.parts)) }
 {
     let Walk {
@@ -96,14 +100,13 @@ fn come_up<'t>(alloc: Global, m: &mut Machine<'t>, walk: Walk<'t>) -> Result<(),
     m.level = level;
     let changed = m.trail.count != edits;
     let child = mem::replace(&mut m.part, node);
-    let all = settled(alloc, &m.part, parts, index, child, changed)?;
-    m.parts = all;
+    m.parts = parts;
+    settle(&mut m.parts, &m.part, index, child, changed)?;
     Ok(())
 }
 
 // The next child's turn comes.
 fn give_each<'t>(
-    alloc: Global,
     m: &mut Machine<'t>,
     acts: Acts<'t>,
     scope: usize,
@@ -115,7 +118,7 @@ fn give_each<'t>(
     let Some(next) = walk.index.checked_add(1) else {
         return Err(NoMemory);
     };
-    come_up(alloc, m, walk)?;
+    come_up(m, walk)?;
     m.next = Next::Each(acts, scope, next);
     Ok(Turned::On)
 }
@@ -133,7 +136,7 @@ fn give_leftmost<'t>(
     ensures ok { (W : World) → IfOk result (λ next. Gives W (Frame.Leftmost strategy.entry scope walk.entry mark) m.old (Done m.old.part) m.new next) }
     ensures less { IfOk result (λ next. GiveFalls m.old m.new next) }
 {
-    come_up(alloc, m, walk)?;
+    come_up(m, walk)?;
     finish(alloc, &mut m.part, &mut m.parts)?;
     m.next = Next::Done;
     Ok(Turned::On)
@@ -141,7 +144,6 @@ fn give_leftmost<'t>(
 
 // The next child's turn comes, and one has given a term.
 fn give_those<'t>(
-    alloc: Global,
     m: &mut Machine<'t>,
     strategy: &'t ResolvedStrategy,
     scope: usize,
@@ -155,27 +157,59 @@ fn give_those<'t>(
     let Some(next) = walk.index.checked_add(1) else {
         return Err(NoMemory);
     };
-    come_up(alloc, m, walk)?;
+    come_up(m, walk)?;
     m.next = Next::Those(strategy, scope, next, true);
     Ok(Turned::On)
 }
 
-// The first elements are done: the list of the others is a part of its own.
-fn give_tail<'t>(
+// What waits for the first elements of a list: the strategy for the list of the others, its scope, and how
+// many elements come before.
+fn waiting_tail<'t>(frames: &[Frame<'t>]) -> Option<(&'t ResolvedStrategy, usize, usize)>
+    ensures { IfSome result (λ w. Waits (reverse frames.now) w.0 w.1 w.2) }
+{
+    match frames.last()? {
+        Frame::Tail(tail, scope, count) => Some((*tail, *scope, *count)),
+        _ => None,
+    }
+}
+
+/// Gives the node so far to the frame that waits. Where that waits for the first elements of a list, the
+/// list with these isn't made.
+pub(crate) fn end_each<'t>(alloc: Global, m: &mut Machine<'t>) -> Result<Turned, NoMemory>
+    requires { PartsStand m.old.part (all_parts m.old.part m.old.parts.items) }
+    ensures ok { (W : World) → IfOk result (λ next. Turn W m.old (Done (node_with m.old.part m.old.parts.items)) m.new next) }
+    ensures less { IfOk result (λ next. EndFalls m.old m.new next) }
+{
+    if let Some((tail, scope, count)) = waiting_tail(&m.frames) {
+        if m.parts.len() <= count {
+            m.frames.truncate(m.frames.len() - 1);
+            return begin_tail(alloc, m, tail, scope, count);
+        }
+    }
+    finish(alloc, &mut m.part, &mut m.parts)?;
+    m.next = Next::Done;
+    Ok(Turned::On)
+}
+
+// The first elements are done, and stand among the parts: the list of the others is a part of its own.
+fn begin_tail<'t>(
     alloc: Global,
     m: &mut Machine<'t>,
     tail: &'t ResolvedStrategy,
     scope: usize,
     count: usize,
 ) -> Result<Turned, NoMemory>
-    ensures ok { (W : World) → IfOk result (λ next. Gives W (Frame.Tail tail.entry scope count) m.old (Done m.old.part) m.new next) }
+    requires stand { PartsStand m.old.part (all_parts m.old.part m.old.parts.items) }
+    requires first { length m.old.parts.items ≤ count }
+    ensures ok { (W : World) → IfOk result (λ next. Gives W (Frame.Tail tail.entry scope count) m.old (Done (node_with m.old.part m.old.parts.items)) m.new next) }
     ensures less { IfOk result (λ next. GiveFalls m.old m.new next) }
 {
     let list = m.part.value()?;
     let rest = rest_behind(alloc, &list, count)?;
     let node = mem::replace(&mut m.part, Part::new(rest));
+    let parts = mem::replace(&mut m.parts, Vec::new(alloc));
     let edits = m.trail.count;
-    m.frames.push(Frame::Rest(node, count, edits))?;
+    m.frames.push(Frame::Rest(node, parts, count, edits))?;
     m.next = Next::Begin(tail, scope);
     Ok(Turned::On)
 }
@@ -185,10 +219,11 @@ fn give_rest<'t>(
     alloc: Global,
     m: &mut Machine<'t>,
     node: Part<'t>,
+    parts: Vec<Part<'t>>,
     count: usize,
     edits: usize,
 ) -> Result<Turned, NoMemory>
-    ensures ok { (W : World) → IfOk result (λ next. Gives W (Frame.Rest node.entry count edits) m.old (Done m.old.part) m.new next) }
+    ensures ok { (W : World) → IfOk result (λ next. Gives W (Frame.Rest node.entry parts.entry count edits) m.old (Done m.old.part) m.new next) }
     ensures less { IfOk result (λ next. GiveFalls m.old m.new next) }
 {
     m.trail.cut(edits);
@@ -198,7 +233,8 @@ fn give_rest<'t>(
         return Ok(Turned::On);
     }
     let list = node.value()?;
-    let whole = with_rest_behind(alloc, &list, count, &rest)?;
+    let front = first_values(alloc, &node, &parts, count)?;
+    let whole = with_rest_behind(alloc, &list, front, &rest)?;
     replace(alloc, m, whole)?;
     m.next = Next::Done;
     Ok(Turned::On)
@@ -272,7 +308,7 @@ fn fail<'t>(m: &mut Machine<'t>, frame: Frame<'t>) -> Result<Turned, NoMemory>
             m.next = Next::Failed;
             Ok(Turned::On)
         }
-        Frame::Rest(_, _, edits) => {
+        Frame::Rest(_, _, _, edits) => {
             m.trail.cut(edits);
             m.next = Next::Failed;
             Ok(Turned::On)

@@ -27,8 +27,8 @@ pub struct Host<'t, M: Meaning> {
 pub struct Machine<'t> {
     pub next: Next<'t>,
     pub part: Part<'t>,
-    /// What stands in the places of the children of the part in hand, or nothing as long as none has
-    /// changed. It counts where strategies for its children come next.
+    /// What stands in the places of its first children, up to the last one that has changed. It counts
+    /// where strategies for its children come next.
     pub parts: Vec<Part<'t>>,
     pub frames: Vec<Frame<'t>>,
     pub cells: Cells<'t>,

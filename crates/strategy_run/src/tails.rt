@@ -1,13 +1,16 @@
 //! Lists behind their first elements.
 
-ghost use Rattle.std.specs.Prelude.{◌≡◌, ◌++◌, cond, take, drop, IfOk, Some, None};
-ghost use Rattle.term_core.specs.Tree.{children, list_term};
+ghost use Rattle.std.specs.Prelude.{◌≡◌, ◌++◌, cond, map, take, IfOk, Some, None};
+ghost use Rattle.term_core.specs.Tree.{children, with_children};
+ghost use Rattle.term_changes.specs.Standing.{standing_tree};
 ghost use Rattle.strategy_meaning.specs.Matching.{elements};
-ghost use Rattle.strategy_meaning.specs.Meaning.{rest_of, with_rest};
+ghost use Rattle.strategy_meaning.specs.Meaning.{rest_of};
+ghost use Rattle.strategy_run.specs.Leading.{all_parts, parts_now};
 
+use crate::children::child_now;
 use std::alloc::Global;
 use term_core::{Kind, NoMemory};
-use term_values::Value;
+use term_values::{Part, Value};
 
 /// Whether it is a list.
 pub(crate) fn is_list(value: &Value<'_>) -> bool
@@ -33,39 +36,40 @@ pub(crate) fn rest_behind<'t>(
     value.rest(alloc, count)
 }
 
-/// The same with the children of a list behind the first so many.
+/// The same root over these children and those of a list behind them.
 pub(crate) fn with_rest_behind<'t>(
     alloc: Global,
     value: &Value<'t>,
-    count: usize,
+    front: Vec<Value<'t>>,
     rest: &Value<'t>,
 ) -> Result<Value<'t>, NoMemory>
-    ensures { IfOk result (λ whole. whole ≡ with_rest count value.now (children rest.now)) }
+    ensures { IfOk result (λ whole. whole ≡ with_children value.now (front.entry.items ++ children rest.now)) }
 {
-    let mut front = first_children(alloc, value, count)?;
     if is_list(value) && front.len().checked_add(rest.child_count()).is_some() {
         let list = Value::join(alloc, front, rest)?;
         return list.with_annotations_of(alloc, value);
     }
+    let mut all = front;
     let mut behind = rest.share_children(alloc)?;
-    front.append(&mut behind)?;
-    value.with_children(alloc, front)
+    all.append(&mut behind)?;
+    value.with_children(alloc, all)
 }
 
-// The first so many children, or all where there are no more.
-fn first_children<'t>(
+/// What stands in the places of the first so many children, or of all where there are no more.
+pub(crate) fn first_values<'t>(
     alloc: Global,
-    value: &Value<'t>,
+    node: &Part<'t>,
+    parts: &[Part<'t>],
     count: usize,
 ) -> Result<Vec<Value<'t>>, NoMemory>
-    ensures { IfOk result (λ all. all.items ≡ take count (children value.now)) }
+    ensures { IfOk result (λ all. all.items ≡ take count (map standing_tree (parts_now node.now (all_parts node.now parts.now)))) }
 {
     let mut all = Vec::new(alloc);
     'each: for i in 0..count {
-        let Some(child) = value.child(i)? else {
+        let Some(child) = child_now(node, parts, i)? else {
             return Ok(all);
         };
-        all.push(child)?;
+        all.push(child.value()?)?;
     }
     Ok(all)
 }

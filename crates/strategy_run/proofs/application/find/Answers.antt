@@ -30,9 +30,9 @@ returns-in-Done g c = λ s slot h.
     c.in_ok-run_to_end.ensures in
     let at_is : at c.args.tree.now c.args.path.now ≡ Some c.in-Some.term.now = sym c.at.ensures ∙ ap (λ o. option_copied o) c.in-Some.is in
     let whole = run_whole (world_of g.M.Meaning.meaning c.args.program.now.bodies c.args.primitives.now) (length c.args.path.now) c.args.strategy.now c.args.steps c.in-Some.term.now in
-    finds c.args.listing (world_of g.M.Meaning.meaning c.args.program.now.bodies c.args.primitives.now) c.in-Done.part c.args.path.now c.in_ok-all-in-Done.all.items c.args.tree.now c.in-Some.term.now c.args.strategy.now c.args.steps (state_of c.run_to_end.new.m) s slot at_is
+    finds c.args.listing (world_of g.M.Meaning.meaning c.args.program.now.bodies c.args.primitives.now) c.run_to_end.new.m.part c.args.path.now c.in_ok-all-in-Done.all.items c.args.tree.now c.in-Some.term.now c.args.strategy.now c.args.steps (state_of c.run_to_end.new.m) s slot at_is
     (subst (λ (e : Ended). Ends (unchanged c.in-Some.term.now) c.run_to_end.new.m e whole) c.in-Done.is E)
-    (subst (λ q. Lists c.args.listing c.run_to_end.new.m.trail c.in-Done.part q c.in_ok-all-in-Done.all.items) c.parts.ensures c.in_ok-all-in-Done.ensures) h
+    (subst (λ q. Lists c.args.listing c.run_to_end.new.m.trail c.run_to_end.new.m.part q c.in_ok-all-in-Done.all.items) c.parts.ensures c.in_ok-all-in-Done.ensures) h
 
 pub returns-in-Failed : goal.returns-in-Failed
 returns-in-Failed g c = λ s slot h.

@@ -59,8 +59,8 @@ returns-in-Child-clause-ok g c = taken_form (world_of g.M.Meaning.meaning c.args
 pub returns-in-Rec-clause-ok : goal.returns-in-Rec-clause-ok
 returns-in-Rec-clause-ok g c = taken_form (world_of g.M.Meaning.meaning c.args.host.now.definitions.now c.args.host.now.primitives.now) c.args.m.now c.take_rec.new.m c.args.strategy.now _ c.args.scope c.args.m.now.part c.take_rec.result ((c.form.ensures ∙ ap resolved_of c.in-Rec.is ∙ ap rec (sym c.deref-in-Rec.ensures))) (c.take_rec.ensures.ok (world_of g.M.Meaning.meaning c.args.host.now.definitions.now c.args.host.now.primitives.now))
 
-pub returns-clause-ok : goal.returns-clause-ok
-returns-clause-ok g c = taken_form (world_of g.M.Meaning.meaning c.args.host.now.definitions.now c.args.host.now.primitives.now) c.args.m.now c.take_prim.new.m c.args.strategy.now _ c.args.scope c.args.m.now.part c.take_prim.result ((c.form.ensures ∙ ap resolved_of c.in-Prim.is ∙ ap (λ ps. prim c.in-Prim.primitive (places_of ps)) (sym c.deref-in-Prim.ensures.value))) (c.take_prim.ensures.ok)
+pub returns-in-Prim-clause-ok : goal.returns-in-Prim-clause-ok
+returns-in-Prim-clause-ok g c = taken_form (world_of g.M.Meaning.meaning c.args.host.now.definitions.now c.args.host.now.primitives.now) c.args.m.now c.take_prim.new.m c.args.strategy.now _ c.args.scope c.args.m.now.part c.take_prim.result ((c.form.ensures ∙ ap resolved_of c.in-Prim.is ∙ ap (λ ps. prim c.in-Prim.primitive (places_of ps)) (sym c.deref-in-Prim.ensures.value))) (c.take_prim.ensures.ok)
 
 pub take_rec-requires-clause-whole : goal.take_rec-requires-clause-whole
 take_rec-requires-clause-whole g c = (c.form.ensures ∙ ap resolved_of c.in-Rec.is ∙ ap rec (sym c.deref-in-Rec.ensures))

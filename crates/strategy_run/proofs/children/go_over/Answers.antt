@@ -7,16 +7,16 @@ use Rattle.strategy_run.proofs.GiveLemmas.{st}
 use Rattle.strategy_scopes.specs.Table.{scopes}
 use Rattle.term_match.specs.Marks.{kept, mark_of}
 use Rattle.strategy_run.specs.Hands.{Begin}
-use Rattle.strategy_run.specs.Leading.{parts_now}
+use Rattle.strategy_run.specs.Leading.{parts_now, all_parts}
 use Rattle.std.specs.Prelude.{slice_get}
 use Rattle.strategy_run.specs.declared.frames.Frame.TheVariants.{Those}
 use Rattle.strategy_run.proofs.children.go_over.Goals as goal
 
 pub returns-then-not-any-clause-ok : goal.returns-then-not-any-clause-ok
-returns-then-not-any-clause-ok c = λ W. record { keeps = λ sub whole h. those_none W sub whole (state_of c.args.m.now) c.args.strategy c.args.scope c.args.index c.args.m.now.part c.args.any c.args.m.now.parts (ap (λ ps. slice_get (parts_now c.args.m.now.part ps) c.args.index) (sym c.deref.ensures.value) ∙ sym c.in_ok-child.ensures ∙ c.in_default.is) c.if-not-any.true h }
+returns-then-not-any-clause-ok c = λ W. record { keeps = λ sub whole h. those_none W sub whole (state_of c.args.m.now) c.args.strategy c.args.scope c.args.index c.args.m.now.part c.args.any c.args.m.now.parts (ap (λ ps. slice_get (parts_now c.args.m.now.part (all_parts c.args.m.now.part ps)) c.args.index) (sym c.deref.ensures.value) ∙ sym c.in_ok-child.ensures ∙ c.in_default.is) c.if-not-any.true h }
 
 pub returns-in_default-clause-ok : goal.returns-in_default-clause-ok
-returns-in_default-clause-ok c = λ W. record { keeps = λ sub whole h. those_over W sub whole (state_of c.args.m.now) c.args.strategy c.args.scope c.args.index c.args.m.now.part c.finish.new.node c.args.any c.args.m.now.parts (ap (λ ps. slice_get (parts_now c.args.m.now.part ps) c.args.index) (sym c.deref.ensures.value) ∙ sym c.in_ok-child.ensures ∙ c.in_default.is) c.if-not-any.false c.in_ok-finish-in_default.ensures h }
+returns-in_default-clause-ok c = λ W. record { keeps = λ sub whole h. those_over W sub whole (state_of c.args.m.now) c.args.strategy c.args.scope c.args.index c.args.m.now.part c.finish.new.node c.args.any c.args.m.now.parts (ap (λ ps. slice_get (parts_now c.args.m.now.part (all_parts c.args.m.now.part ps)) c.args.index) (sym c.deref.ensures.value) ∙ sym c.in_ok-child.ensures ∙ c.in_default.is) c.if-not-any.false c.in_ok-finish.ensures h }
 
 pub returns-clause-ok : goal.returns-clause-ok
 returns-clause-ok c = λ W. record {
@@ -26,5 +26,5 @@ returns-clause-ok c = λ W. record {
       (Begin c.args.strategy c.args.scope c.in-Some.child) _
       (λ j. Those c.args.strategy c.args.scope (record { node = c.replace-node.ensures.value j; parts = c.replace-parts.ensures.value j; index = c.args.index; level = c.args.m.now.level; edits = c.args.m.now.trail.count }) (c.mark-mark.ensures.result j) c.args.any)
       (ap (λ q. Begin c.args.strategy c.args.scope q) c.replace-node.ensures.after)
-      (those_begin W sub whole (state_of c.args.m.now) c.args.strategy c.args.scope c.args.index c.args.m.now.part c.in-Some.child c.args.any c.args.m.now.parts (ap (kept c.args.m.now.cells) (sym c.mark-mark.ensures.result) ∙ c.mark-mark.ensures.kept) (ap (λ ps. slice_get (parts_now c.args.m.now.part ps) c.args.index) (sym c.deref.ensures.value) ∙ sym c.in_ok-child.ensures ∙ c.in-Some.is) h));
+      (those_begin W sub whole (state_of c.args.m.now) c.args.strategy c.args.scope c.args.index c.args.m.now.part c.in-Some.child c.args.any c.args.m.now.parts (ap (kept c.args.m.now.cells) (sym c.mark-mark.ensures.result) ∙ c.mark-mark.ensures.kept) (ap (λ ps. slice_get (parts_now c.args.m.now.part (all_parts c.args.m.now.part ps)) c.args.index) (sym c.deref.ensures.value) ∙ sym c.in_ok-child.ensures ∙ c.in-Some.is) h));
 }

@@ -51,8 +51,8 @@ returns-in-Leftmost-clause-ok g c = subst (λ (x : Next). IfOk c.try_on.result (
 pub returns-in-Leftmost-clause-less : goal.returns-in-Leftmost-clause-less
 returns-in-Leftmost-clause-less g c = subst (λ (x : Next). IfOk c.try_on.result (λ next. Falls c.args.m.now (hand_of x c.args.m.now.part c.args.m.now.parts) c.try_on.new.m next)) (sym c.in-Leftmost.is) c.try_on.ensures.less
 
-pub returns-clause-ok : goal.returns-clause-ok
-returns-clause-ok g c = subst (λ (x : Next). IfOk c.go_over.result (λ next. Turn (world_of g.M.Meaning.meaning c.args.host.now.definitions.now c.args.host.now.primitives.now) c.args.m.now (hand_of x c.args.m.now.part c.args.m.now.parts) c.go_over.new.m next)) (sym c.in-Those.is) (c.go_over.ensures.ok (world_of g.M.Meaning.meaning c.args.host.now.definitions.now c.args.host.now.primitives.now))
+pub returns-in-Those-clause-ok : goal.returns-in-Those-clause-ok
+returns-in-Those-clause-ok g c = subst (λ (x : Next). IfOk c.go_over.result (λ next. Turn (world_of g.M.Meaning.meaning c.args.host.now.definitions.now c.args.host.now.primitives.now) c.args.m.now (hand_of x c.args.m.now.part c.args.m.now.parts) c.go_over.new.m next)) (sym c.in-Those.is) (c.go_over.ensures.ok (world_of g.M.Meaning.meaning c.args.host.now.definitions.now c.args.host.now.primitives.now))
 
-pub returns-clause-less : goal.returns-clause-less
-returns-clause-less g c = subst (λ (x : Next). IfOk c.go_over.result (λ next. Falls c.args.m.now (hand_of x c.args.m.now.part c.args.m.now.parts) c.go_over.new.m next)) (sym c.in-Those.is) c.go_over.ensures.less
+pub returns-in-Those-clause-less : goal.returns-in-Those-clause-less
+returns-in-Those-clause-less g c = subst (λ (x : Next). IfOk c.go_over.result (λ next. Falls c.args.m.now (hand_of x c.args.m.now.part c.args.m.now.parts) c.go_over.new.m next)) (sym c.in-Those.is) c.go_over.ensures.less

@@ -22,8 +22,8 @@ returns-in-Big-clause-ok c = λ W. record {
       take_stops W sub whole (state_of c.args.m.now) _ c.args.scope c.args.m.now.part big (big_is c.args.m.now.level c.args.m.now.steps k.0 (build_place c.args.pattern.now (cells_in (scope_at (scopes c.args.m.now.scopes) c.args.scope)) c.args.m.now.cells.bindings) (λ v. done v c.args.m.now.cells.bindings c.args.m.now.steps (at_root v)) k.1 k.2) h;
 }
 
-pub returns-clause-ok : goal.returns-clause-ok
-returns-clause-ok c = λ W. record {
+pub returns-in_ok-replace-in-Value-clause-ok : goal.returns-in_ok-replace-in-Value-clause-ok
+returns-in_ok-replace-in-Value-clause-ok c = λ W. record {
   keeps = λ sub whole h. let k = subst (λ (o : Built). Builds (build_place c.args.pattern.now (cells_in (scope_at (scopes c.args.m.now.scopes) c.args.scope)) c.args.m.now.cells.bindings) c.args.m.now.level o) c.in-Value.is c.in_ok-build.ensures.ok in
       replaced_in W sub whole c.args.m.now (record { next = c.args.m.now.next; part = c.args.m.now.part; parts = c.args.m.now.parts; frames = c.args.m.now.frames; cells = c.build.new.self; scopes = c.args.m.now.scopes; trail = c.args.m.now.trail; arguments = c.args.m.now.arguments; level = c.args.m.now.level; steps = c.args.m.now.steps }) _ (builds c.args.pattern.now) c.args.scope c.args.m.now.part _ (build_place c.args.pattern.now (cells_in (scope_at (scopes c.args.m.now.scopes) c.args.scope)) c.args.m.now.cells.bindings) c.in-Value.value refl refl refl refl refl c.build.ensures.same refl k.0 k.1 c.in_ok-replace-in-Value.ensures h;
 }

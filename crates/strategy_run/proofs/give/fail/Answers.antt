@@ -26,7 +26,7 @@ pub returns-in-Tail-clause-ok : goal.returns-in-Tail-clause-ok
 returns-in-Tail-clause-ok c = λ W. record { keeps = λ sub whole h. fail_tail W sub whole _ _ _ _ _ _ _ _ _ (subst (λ f. HoldsIn W sub whole (under f c.args.m.now) Failed) c.in-Tail.is h) }
 
 pub returns-in-Rest-clause-ok : goal.returns-in-Rest-clause-ok
-returns-in-Rest-clause-ok c = λ W. record { keeps = λ sub whole h. fail_rest W sub whole _ _ _ _ _ _ _ _ _ c.in-Rest.edits c.cut-in-Rest.ensures (subst (λ f. HoldsIn W sub whole (under f c.args.m.now) Failed) c.in-Rest.is h) }
+returns-in-Rest-clause-ok c = λ W. record { keeps = λ sub whole h. fail_rest W sub whole _ _ _ _ _ _ _ _ _ _ c.in-Rest.edits c.cut-in-Rest.ensures (subst (λ f. HoldsIn W sub whole (under f c.args.m.now) Failed) c.in-Rest.is h) }
 
 pub returns-in-Leave-clause-ok : goal.returns-in-Leave-clause-ok
 returns-in-Leave-clause-ok c = λ W. record { keeps = λ sub whole h. fail_leave W sub whole _ _ _ _ _ _ _ c.in-Leave.scopes c.cut-in-Leave.ensures (subst (λ f. HoldsIn W sub whole (under f c.args.m.now) Failed) c.in-Leave.is h) }

@@ -1,12 +1,12 @@
-use Rattle.std.proofs.Common.{ap, ◌∙◌, ◌++◌, Some, None, Bool, cond, take}
+use Rattle.std.proofs.Common.{ap, ◌∙◌, ◌++◌, Some, None, Bool, cond}
 use Rattle.strategy_run.proofs.TailLemmas.{relisted}
 use Rattle.strategy_run.proofs.ResultLemmas.{ok_map}
-use Rattle.term_core.specs.Tree.{children, list_term, annotations, with_annotations, with_children}
+use Rattle.term_core.specs.Tree.{children, annotations, with_annotations, with_children}
 use Rattle.strategy_run.proofs.tails.with_rest_behind.Goals as goal
 
 pub returns-then-is_some : goal.returns-then-is_some
-returns-then-is_some c = ok_map c.with_annotations_of.result (λ whole k. k ∙ ap (λ l. with_annotations l (annotations c.args.value.now)) (c.in_ok-list.ensures ∙ ap (λ us. list_term (us ++ children c.args.rest.now)) c.in_ok-front.ensures)
-    ∙ relisted c.args.value.now (take c.args.count (children c.args.value.now) ++ children c.args.rest.now) (c.is_list.ensures ∙ ap (λ (b : Bool). cond b (Some (children c.args.value.now)) None) c.if-is_list.true)) c.with_annotations_of.ensures
+returns-then-is_some c = ok_map c.with_annotations_of.result (λ whole k. k ∙ ap (λ l. with_annotations l (annotations c.args.value.now)) c.in_ok-list.ensures
+    ∙ relisted c.args.value.now (c.args.front.items ++ children c.args.rest.now) (c.is_list.ensures ∙ ap (λ (b : Bool). cond b (Some (children c.args.value.now)) None) c.if-is_list.true)) c.with_annotations_of.ensures
 
 pub returns : goal.returns
-returns c = ok_map c.with_children.result (λ whole k. k ∙ ap (with_children c.args.value.now) (c.in_ok-append.ensures.items ∙ (λ i. c.in_ok-front.ensures i ++ c.in_ok-behind.ensures i))) c.with_children.ensures
+returns c = ok_map c.with_children.result (λ whole k. k ∙ ap (with_children c.args.value.now) (c.in_ok-append.ensures.items ∙ (λ i. c.args.front.items ++ c.in_ok-behind.ensures i))) c.with_children.ensures
