@@ -124,11 +124,18 @@ impl Bounds {
         }
     }
 
+    // Whether trees of these sizes and heights are larger or higher than the others may be.
+    fn above(self, other: Bounds) -> bool
+        ensures { IsTrue result → (s h : ℕ) → Covers s h self → Covers s h other → ⊥ }
+    {
+        self.exact && (other.size < self.size || other.height < self.height)
+    }
+
     /// Whether trees with these bounds can't be the same, as far as they tell.
     pub(crate) fn excludes(self, other: Bounds) -> bool
         ensures { IsTrue result → (s h : ℕ) → Covers s h self → Covers s h other → ⊥ }
     {
-        self.exact && other.exact && (self.size != other.size || self.height != other.height)
+        self.above(other) || other.above(self)
     }
 
     /// Whether a tree with these bounds fits at the level, as far as they tell.
