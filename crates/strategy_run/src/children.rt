@@ -67,6 +67,7 @@ fn fill<'t>(parts: &mut Vec<Part<'t>>, node: &Part<'t>, count: usize) -> Result<
 }
 
 /// Puts the node with these parts in the places of its first children in the place of the node.
+#[inline(always)]
 pub(crate) fn finish<'t>(
     alloc: Global,
     node: &mut Part<'t>,

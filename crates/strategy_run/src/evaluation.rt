@@ -104,6 +104,7 @@ pub(crate) fn run_to_end<'t, M: Meaning>(
 }
 
 // One turn.
+#[inline(always)]
 fn turn<'t, M: Meaning>(
     alloc: Global,
     host: &Host<'t, M>,

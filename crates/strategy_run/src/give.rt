@@ -87,6 +87,7 @@ fn give<'t>(
 }
 
 // Takes the node in hand again, of which the child in hand is done.
+#[inline(always)]
 fn come_up<'t>(m: &mut Machine<'t>, walk: Walk<'t>) -> Result<(), NoMemory>
     ensures { OnOk result (ComesUp m.old walk.entry m.old.part m.new (m.new.part, m.new.parts)) }
 {
