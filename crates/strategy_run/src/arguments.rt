@@ -30,6 +30,7 @@ pub enum BuiltAll {
 }
 
 /// Builds the instances of the patterns, one by one.
+#[inline(always)]
 pub(crate) fn build_all<'t>(
     alloc: Global,
     cells: &mut Cells<'t>,

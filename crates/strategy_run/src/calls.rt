@@ -64,11 +64,7 @@ pub(crate) fn take_rec<'t>(
 }
 
 /// What a strategy name stands for.
-pub(crate) fn take_param<'t>(
-    m: &mut Machine<'t>,
-    name: usize,
-    scope: usize,
-) -> Turned
+pub(crate) fn take_param<'t>(m: &mut Machine<'t>, name: usize, scope: usize) -> Turned
     requires { scope < length (scopes_of m.old.scopes) }
     ensures ok { (W : World) → Takes W m.old (param name) scope m.old.part m.new result }
     ensures less { TakeFalls m.old m.new result }

@@ -40,6 +40,7 @@ pub(crate) fn next_act<'t>(acts: Acts<'t>, left: usize) -> Option<(&'t ResolvedS
 }
 
 /// What stands in the place of child `i`, where parts stand in those of the first ones.
+#[inline(always)]
 pub(crate) fn child_now<'t>(
     node: &Part<'t>,
     parts: &[Part<'t>],
@@ -87,6 +88,7 @@ pub(crate) fn finish<'t>(
 }
 
 /// Adds to the parts what stands in the place of child `i` now, where it has changed.
+#[inline(always)]
 pub(crate) fn settle<'t>(
     parts: &mut Vec<Part<'t>>,
     node: &Part<'t>,

@@ -21,10 +21,7 @@ use term_match::Mark;
 use term_values::Part;
 
 /// Gives a part that was done to the frame that waits.
-pub(crate) fn give_done<'t>(
-    alloc: Global,
-    m: &mut Machine<'t>,
-) -> Result<Turned, NoMemory>
+pub(crate) fn give_done<'t>(alloc: Global, m: &mut Machine<'t>) -> Result<Turned, NoMemory>
     requires { (W : World) × (sub : Standing) × (whole : Answer) × Holds W sub whole m.old (Done m.old.part) }
     ensures ok { (W : World) → IfOk result (λ next. Turn W m.old (Done m.old.part) m.new next) }
     ensures less { IfOk result (λ next. Falls m.old (Done m.old.part) m.new next) }
@@ -36,11 +33,8 @@ pub(crate) fn give_done<'t>(
 }
 
 // Gives it to this frame.
-fn give<'t>(
-    alloc: Global,
-    m: &mut Machine<'t>,
-    frame: Frame<'t>,
-) -> Result<Turned, NoMemory>
+#[inline(always)]
+fn give<'t>(alloc: Global, m: &mut Machine<'t>, frame: Frame<'t>) -> Result<Turned, NoMemory>
     requires { IsOfRun frame m.old (Done m.old.part) }
     ensures ok { (W : World) → IfOk result (λ next. Gives W frame.entry m.old (Done m.old.part) m.new next) }
     ensures less { IfOk result (λ next. GiveFalls m.old m.new next) }
@@ -254,6 +248,7 @@ pub(crate) fn give_failed<'t>(m: &mut Machine<'t>) -> Result<Turned, NoMemory>
 }
 
 // Gives it to this frame.
+#[inline(always)]
 fn fail<'t>(m: &mut Machine<'t>, frame: Frame<'t>) -> Result<Turned, NoMemory>
     requires { IsOfRun frame m.old Failed }
     ensures ok { (W : World) → IfOk result (λ next. Gives W frame.entry m.old Failed m.new next) }
