@@ -10,7 +10,7 @@ use Rattle.strategy_meaning.specs.Meaning.{World, run, run_whole}
 use Rattle.strategy_scopes.specs.Table.{nowhere, scopes, scope_at}
 use Rattle.term_match.specs.Contents.{Contents}
 use Rattle.strategy_run.specs.Ends.{IsEmpty}
-use Rattle.strategy_run.specs.Turns.{State, HoldsIn, After}
+use Rattle.strategy_run.specs.Turns.{HoldsIn, After}
 use Rattle.strategy_run.specs.declared.machine.Machine.{Machine}
 use Rattle.strategy_run.specs.declared.frames.Turned.{Turned}
 use Rattle.strategy_run.specs.Hands.{Begin}

@@ -1,5 +1,5 @@
 -- A node whose children change one after the other.
-use Rattle.std.proofs.Common.{Bool, false, ◌==◌, ◌≡◌, ℕ, List, [], ◌∷◌, ◌⊎◌, inl, inr, length, map, slice_get, Some, refl, sym, ap, subst, ◌∙◌, zero, suc}
+use Rattle.std.proofs.Common.{◌≡◌, ℕ, List, [], ◌∷◌, ◌⊎◌, inl, inr, length, map, slice_get, Some, refl, sym, ap, subst, ◌∙◌, zero, suc}
 use Rattle.std.proofs.lemmas.Bool.{cases_eq}
 use Rattle.std.specs.Prelude.{slice_set, option_map}
 use Rattle.std.proofs.lemmas.Option.{slice_get-map}

@@ -12,7 +12,7 @@ use Rattle.strategy_scopes.specs.Table.{scope_at}
 use Rattle.term_match.specs.Contents.{Contents}
 use Rattle.term_match.specs.Marks.{kept, Before}
 use Rattle.term_match.specs.declared.cells.Mark.{Mark}
-use Rattle.strategy_run.specs.Leading.{Leads, Has, node_now, parts_now, all_parts, node_with, PartsStand}
+use Rattle.strategy_run.specs.Leading.{Leads, Has, parts_now, all_parts, node_with, PartsStand}
 use Rattle.strategy_run.specs.Trails.{path_of}
 use Rattle.strategy_run.specs.declared.frames.Acts.{Acts}
 use Rattle.strategy_run.specs.declared.frames.Acts.TheVariants.{Same, List as Listed}

@@ -16,7 +16,7 @@ use Rattle.strategy_meaning.specs.Meaning.{World, run, form, each, leftmost, tho
 use Rattle.strategy_scopes.specs.Table.{scopes, scope_at}
 use Rattle.term_match.specs.Contents.{Contents}
 use Rattle.term_match.specs.Marks.{mark_of}
-use Rattle.strategy_run.specs.Leading.{Leads, Has, node_now, parts_now, all_parts, node_with, PartsStand}
+use Rattle.strategy_run.specs.Leading.{Leads, Has, parts_now, all_parts, node_with, PartsStand}
 use Rattle.strategy_run.specs.Trails.{Shows, path_of}
 use Rattle.strategy_run.specs.Frames.{Meets, Opens, acts_list, walk_parts}
 use Rattle.strategy_run.specs.declared.trail.Trail.{Trail}

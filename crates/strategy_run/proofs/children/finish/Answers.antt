@@ -1,4 +1,4 @@
-use Rattle.std.proofs.Common.{◌∙◌, sym, ap, subst, ◌==◌, Vec, Global}
+use Rattle.std.proofs.Common.{◌∙◌, ap, subst, ◌==◌, Vec, Global}
 use Rattle.term_changes.specs.Standing.{Standing, standing_children}
 use Rattle.strategy_run.specs.Leading.{Fills}
 use Rattle.strategy_run.proofs.PartsLemmas.{finished_parts, finished_can_hold, finished_is, unfinished_is}

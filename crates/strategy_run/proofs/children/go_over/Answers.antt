@@ -1,4 +1,4 @@
-use Rattle.std.proofs.Common.{sym, ap, ◌∙◌, ◌∷◌, ◌+◌, reverse}
+use Rattle.std.proofs.Common.{sym, ap, ◌∙◌, ◌+◌, reverse}
 use Rattle.strategy_run.proofs.ChildLemmas.{below_as, those_begin, those_over, those_none}
 use Rattle.strategy_run.proofs.TakeLemmas.{with_frames}
 use Rattle.strategy_run.specs.Turns.{state_of}

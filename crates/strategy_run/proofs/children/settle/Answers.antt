@@ -1,5 +1,4 @@
-use Rattle.std.proofs.Common.{◌∙◌, ap, sym, arith, refl, slice_set}
-use Rattle.term_changes.specs.Standing.{standing_children}
+use Rattle.std.proofs.Common.{◌∙◌, arith, refl}
 use Rattle.strategy_run.proofs.PartsLemmas.{settled_in, settled_next, settled_past, when_changed}
 use Rattle.strategy_run.proofs.children.settle.Goals as goal
 

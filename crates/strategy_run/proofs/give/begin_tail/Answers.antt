@@ -1,4 +1,4 @@
-use Rattle.std.proofs.Common.{ap, subst, ◌∙◌, ◌∷◌, sym, reverse, Vec, Global}
+use Rattle.std.proofs.Common.{ap, ◌∙◌, ◌∷◌, reverse}
 use Rattle.strategy_run.proofs.GiveLemmas.{give_tail}
 use Rattle.strategy_run.proofs.PartsLemmas.{rest_same}
 use Rattle.strategy_run.proofs.TakeLemmas.{with_frames}

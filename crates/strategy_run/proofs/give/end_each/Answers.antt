@@ -1,4 +1,4 @@
-use Rattle.std.proofs.Common.{refl, sym, ap, subst, ◌∙◌, ◌-◌, ◌∷◌, List, reverse}
+use Rattle.std.proofs.Common.{refl, sym, ap, subst, ◌∙◌, ◌-◌, List, reverse}
 use Rattle.strategy_run.proofs.ResultLemmas.{ok_map}
 use Rattle.strategy_run.proofs.TakeLemmas.{with_frames}
 use Rattle.strategy_run.proofs.WalkLemmas.{tail_taken}
@@ -6,7 +6,6 @@ use Rattle.strategy_run.specs.Hands.{Done}
 use Rattle.strategy_run.specs.Leading.{node_with}
 use Rattle.strategy_run.specs.Turns.{HoldsIn, Waits, state_of}
 use Rattle.strategy_run.specs.declared.frames.Frame.{Frame}
-use Rattle.strategy_run.specs.declared.frames.Frame.TheVariants.{Tail}
 use Rattle.strategy_run.proofs.give.end_each.Goals as goal
 
 pub returns-then-len-count-clause-ok : goal.returns-then-len-count-clause-ok
