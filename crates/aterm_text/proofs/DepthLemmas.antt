@@ -8,12 +8,12 @@ use Rattle.term_core.specs.Word.{begins_word, continues_word, first_word}
 use Rattle.term_core.specs.Tree.{Tree}
 use Rattle.aterm_text.specs.Nesting.{greatest_open, outside_quotes, inside_quotes, behind_backslash, open_after}
 use Rattle.aterm_text.specs.Tokens.{is_blank, without_blanks, NextQuoted, NextWord, integer_len, ReadsItems, item_at, escape_at, octal_at, octal_value, is_octal_digit, are_octal_digits}
-use Rattle.aterm_text.specs.Heads.{Begins, beginning_of}
-use Rattle.aterm_text.specs.Stack.{Stack, Group, on_top, with_top, inside, first_closing, closes_first, closes}
+use Rattle.aterm_text.specs.Beginnings.{Begins, beginning_of}
+use Rattle.aterm_text.specs.Stack.{Stack, OpenBracket, on_top, with_top, inside, first_closing, closes_first, closes}
 use Rattle.aterm_text.specs.Depth.{depth, IsTooDeep, IsAsDeep, KeepsDepth}
 use Rattle.aterm_text.specs.declared.TheConstants.{MAX_NESTING}
-use Rattle.aterm_text.specs.declared.reader.head.Head.{Head}
-use Rattle.aterm_text.specs.declared.reader.head.Head.TheVariants.{Integer, Named}
+use Rattle.aterm_text.specs.declared.reader.lexeme.Lexeme.{Lexeme}
+use Rattle.aterm_text.specs.declared.reader.lexeme.Lexeme.TheVariants.{Integer, Named}
 use Rattle.aterm_text.specs.declared.reader.stack.Opening.{Opening}
 use Rattle.aterm_text.specs.declared.reader.stack.Opening.TheVariants.{Round, Square, Curly}
 use Rattle.aterm_text.specs.declared.reader.machine.Step.{Step}
@@ -91,12 +91,12 @@ closes_so Round n x closing e = ap (λ b. Greatest n (b ∷ x)) e
 closes_so Square n x closing e = ap (λ b. Greatest n (b ∷ x)) e
 closes_so Curly n x closing e = ap (λ b. Greatest n (b ∷ x)) e
 
-closing_first : (groups : List Group) (n : ℕ) (x : List ℕ) (closing : ℕ) → closes_first groups ≡ Some closing → Greatest n (closing ∷ x) ≡ max n (Greatest (n - 1) x)
+closing_first : (open_brackets : List OpenBracket) (n : ℕ) (x : List ℕ) (closing : ℕ) → closes_first open_brackets ≡ Some closing → Greatest n (closing ∷ x) ≡ max n (Greatest (n - 1) x)
 closing_first [] n x closing e = absurd (cc)
 closing_first (g ∷ gs) n x closing e = let same : closing ≡ closes g.opening = cc in closes_so g.opening n x closing same
 
 pub closing-byte : (s : Stack) (n : ℕ) (x : List ℕ) (closing : ℕ) → first_closing s ≡ Some closing → Greatest n (closing ∷ x) ≡ max n (Greatest (n - 1) x)
-closing-byte s n x closing e = closing_first s.groups n x closing e
+closing-byte s n x closing e = closing_first s.open_brackets n x closing e
 
 -- ---- quoted bytes
 
@@ -186,22 +186,22 @@ name_so : (n : ℕ) (quoted : Bool) (bytes x y : List ℕ) → MatchBool quoted 
 name_so n true bytes x y h = ap (Greatest n) h.1 ∙ ap (greatest_open n) (items-inside bytes h.0 y h.2)
 name_so n false bytes x y h = word-skipped n (without_blanks x) bytes y h
 
-behind_blanks : (head : Head) (n : ℕ) (x y : List ℕ) → Begins (beginning_of head) x y → Greatest n (without_blanks x) ≡ Greatest n y
+behind_blanks : (lexeme : Lexeme) (n : ℕ) (x y : List ℕ) → Begins (beginning_of lexeme) x y → Greatest n (without_blanks x) ≡ Greatest n y
 behind_blanks (Integer z) n x y h = sym (integer-skipped n (without_blanks x)) ∙ ap (Greatest n) (sym h.1)
 behind_blanks (Named name) n x y h = name_so n name.is_quoted name.text x y h
 
--- a head opens no bracket
-pub behind_head : (head : Head) (n : ℕ) (x y : List ℕ) → Begins (beginning_of head) x y → Greatest n x ≡ Greatest n y
-behind_head head n x y h = sym (blanks-skipped n x) ∙ behind_blanks head n x y h
+-- a lexeme opens no bracket
+pub behind_lexeme : (lexeme : Lexeme) (n : ℕ) (x y : List ℕ) → Begins (beginning_of lexeme) x y → Greatest n x ≡ Greatest n y
+behind_lexeme lexeme n x y h = sym (blanks-skipped n x) ∙ behind_blanks lexeme n x y h
 
 -- ---- the stack
 
-top_so : (t : Tree) (outside : List Tree) (groups : List Group) → depth (on_top t outside groups) ≡ length groups
+top_so : (t : Tree) (outside : List Tree) (open_brackets : List OpenBracket) → depth (on_top t outside open_brackets) ≡ length open_brackets
 top_so t outside [] = refl
 top_so t outside (g ∷ gs) = refl
 
 depth-top : (s s' : Stack) (t : Tree) → s' ≡ with_top t s → depth s' ≡ depth s
-depth-top s s' t e = ap depth e ∙ top_so t s.outside s.groups
+depth-top s s' t e = ap depth e ∙ top_so t s.outside s.open_brackets
 
 pub depth-inside : (s s' : Stack) (o : Opening) (ts : List Tree) → s' ≡ inside o ts s → depth s' ≡ depth s + 1
 depth-inside s s' o ts e = ap depth e ∙ omega arith
@@ -209,12 +209,12 @@ depth-inside s s' o ts e = ap depth e ∙ omega arith
 depth-opened : (s s' : Stack) (t : Tree) (o : Opening) → s' ≡ inside o [] (with_top t s) → depth s' ≡ depth s + 1
 depth-opened s s' t o e = depth-inside (with_top t s) s' o [] e ∙ ap (λ n. n + 1) (depth-top s (with_top t s) t refl)
 
-nothing_so : (groups : List Group) → closes_first groups ≡ None → length groups ≡ 0
+nothing_so : (open_brackets : List OpenBracket) → closes_first open_brackets ≡ None → length open_brackets ≡ 0
 nothing_so [] e = refl
 nothing_so (g ∷ gs) e = absurd (cc)
 
 pub depth-nothing : (s : Stack) → first_closing s ≡ None → depth s ≡ 0
-depth-nothing s e = nothing_so s.groups e
+depth-nothing s e = nothing_so s.open_brackets e
 
 -- closing takes one bracket away
 pub depth-left : (s s1 s' : Stack) (o : Opening) (ts : List Tree) (t : Tree) → s ≡ inside o ts s1 → s' ≡ with_top t s1 → depth s' ≡ depth s - 1

@@ -6,12 +6,12 @@ use Rattle.std.specs.Int.{w64}
 use mir.Val.{to_z, of_z}
 use Rattle.term_core.specs.Tree.{Symbol, Tree, integer_term, application_term, list_term, tuple_term, with_annotations, with_children}
 use Rattle.aterm_text.specs.Tokens.{NextSign, NextName, without_blanks}
-use Rattle.aterm_text.specs.Heads.{an_integer, Begins, NoTerm, beginning_of}
+use Rattle.aterm_text.specs.Beginnings.{an_integer, Begins, NoTerm, beginning_of}
 use Rattle.aterm_text.specs.Level.{Bracket, arguments, elements, components, annotating, Level, closing_of, with_term, new_level}
-use Rattle.aterm_text.specs.Stack.{Stack, Group, no_terms, with_top, inside, first_closing, closes}
+use Rattle.aterm_text.specs.Stack.{Stack, OpenBracket, no_terms, with_top, inside, first_closing, closes}
 use Rattle.aterm_text.specs.Unread.{Reading, expected, entered, base, whole, Continues, IsStuck, IsEnd, Holds, Stands, GoesOn, Goes, Leads, IsLost, IsClosed, opening_of, bearer, closed}
-use Rattle.aterm_text.specs.declared.reader.head.Head.{Head}
-use Rattle.aterm_text.specs.declared.reader.head.Head.TheVariants.{Integer}
+use Rattle.aterm_text.specs.declared.reader.lexeme.Lexeme.{Lexeme}
+use Rattle.aterm_text.specs.declared.reader.lexeme.Lexeme.TheVariants.{Integer}
 use Rattle.aterm_text.specs.declared.reader.stack.Opening.{Opening}
 use Rattle.aterm_text.specs.declared.reader.stack.Opening.TheVariants.{Round, Square, Curly}
 use Rattle.aterm_text.specs.declared.reader.machine.State.{State}
@@ -98,9 +98,9 @@ pub lost-no_term : (s : Stack) (x : List ℕ) → NoTerm x → IsLost Expected s
 lost-no_term s x absent r levels h = subst (λ q. IsStuck q levels x) (sym (at_expected r levels s h).0) (stuck-no_term levels x absent)
 
 module _ (s s' : Stack) (x y : List ℕ) (shorter : length y < length x) where
-  pub leads-integer : (head : Head) (z : ℤ) (t : Tree) → Begins (beginning_of head) x y → head ≡ Integer z → t ≡ integer_term (to_z w64 (of_z w64 z)) → s' ≡ with_top t s
+  pub leads-integer : (lexeme : Lexeme) (z : ℤ) (t : Tree) → Begins (beginning_of lexeme) x y → lexeme ≡ Integer z → t ≡ integer_term (to_z w64 (of_z w64 z)) → s' ≡ with_top t s
       → (r : Reading) (levels : List Level) → Stands r levels Expected s → GoesOn r levels x Base s' y
-  leads-integer head z t h e converted same r levels stands =
+  leads-integer lexeme z t h e converted same r levels stands =
       let at = at_expected r levels s stands in
       let found : Begins (an_integer z) x y = subst (λ k. Begins (beginning_of k) x y) e h in
       let made : t ≡ integer_term z = converted ∙ ap integer_term (to_z-of_z w64 z found.0.2) in
@@ -321,22 +321,22 @@ module _ (s s1 : Stack) (opening : Opening) (terms : List Tree) (left : s ≡ in
   both : inside (opening_of level.opened) level.done (with_top (bearer level.opened) h.0) ≡ inside opening terms s1
   both = sym h.2 ∙ left
 
-  groups : ◌≡◌ {A = List Group} (record { opening = opening_of level.opened; terms = level.done } ∷ (with_top (bearer level.opened) h.0).groups) (record { opening = opening; terms = terms } ∷ s1.groups)
-  groups = ap (λ (k : Stack). k.groups) both
+  open_brackets : ◌≡◌ {A = List OpenBracket} (record { opening = opening_of level.opened; terms = level.done } ∷ (with_top (bearer level.opened) h.0).open_brackets) (record { opening = opening; terms = terms } ∷ s1.open_brackets)
+  open_brackets = ap (λ (k : Stack). k.open_brackets) both
 
-  first : ◌≡◌ {A = Group} (record { opening = opening_of level.opened; terms = level.done }) (record { opening = opening; terms = terms })
-  first = let same = groups in cc
+  first : ◌≡◌ {A = OpenBracket} (record { opening = opening_of level.opened; terms = level.done }) (record { opening = opening; terms = terms })
+  first = let same = open_brackets in cc
 
   pub same_opening : opening_of level.opened ≡ opening
-  same_opening = ap (λ (k : Group). k.opening) first
+  same_opening = ap (λ (k : OpenBracket). k.opening) first
 
   pub same_terms : level.done ≡ terms
-  same_terms = ap (λ (k : Group). k.terms) first
+  same_terms = ap (λ (k : OpenBracket). k.terms) first
 
   pub same_rest : s1 ≡ with_top (bearer level.opened) h.0
   same_rest =
-      let others : (with_top (bearer level.opened) h.0).groups ≡ s1.groups = let same = groups in cc in
-      sym (λ i. record { outside = (ap (λ (k : Stack). k.outside) both) i; groups = others i })
+      let others : (with_top (bearer level.opened) h.0).open_brackets ≡ s1.open_brackets = let same = open_brackets in cc in
+      sym (λ i. record { outside = (ap (λ (k : Stack). k.outside) both) i; open_brackets = others i })
 
 base-stands : (o : Bracket) (done : List Tree) (levels : List Level) (below s' : Stack) → (opening_of o ≡ Curly → ⊥) → s' ≡ with_top (with_children (bearer o) done) below → Holds levels below
     → Stands (closed o done) levels Base s'

@@ -3,10 +3,10 @@ use Rattle.std.proofs.Common.{◌≡◌, ◌≢◌, ℕ, inl, inr, List, refl, s
 use Rattle.term_core.specs.Tree.{application, list, tuple, Tree, Trees, integer, branch, none, more, of_list, to_list}
 use Rattle.term_core.proofs.TreeLemmas.{to_list-of_list}
 use Rattle.aterm_text.specs.Grammar.{Reads, ReadsUntil, ReadsMore, Optional}
-use Rattle.aterm_text.specs.Heads.{an_integer, a_name, a_list, a_tuple}
+use Rattle.aterm_text.specs.Beginnings.{an_integer, a_name, a_list, a_tuple}
 use Rattle.aterm_text.specs.Laws.{OneTerm}
 use Rattle.aterm_text.proofs.TokenLemmas.{class_of, begins_only, no_term-sign}
-use Rattle.aterm_text.proofs.StepLemmas.{sign_only, same_sign, head_is, no_term-reads}
+use Rattle.aterm_text.proofs.StepLemmas.{sign_only, same_sign, beginning_is, no_term-reads}
 
 optional_only : (sign close : ℕ) (ts us : Trees) (a y z : List ℕ) → ((b v w : List ℕ) → ReadsUntil ts close b v → ReadsUntil us close b w → (ts ≡ us) × (v ≡ w))
     → Optional sign (λ u v. ReadsUntil ts close u v) ts a y → Optional sign (λ u v. ReadsUntil us close u v) us a z → (ts ≡ us) × (y ≡ z)
@@ -36,14 +36,14 @@ mutual
 
   pub reads_only : (t u : Tree) (x y z : List ℕ) → Reads t x y → Reads u x z → (t ≡ u) × (y ≡ z)
   reads_only (integer v notes) (integer w others) x y z h k =
-      let heads = begins_only (an_integer v) (an_integer w) x h.0 k.0 h.1 k.1 in
+      let beginnings = begins_only (an_integer v) (an_integer w) x h.0 k.0 h.1 k.1 in
       let same : v ≡ w = cc in
-      let rest = optional_only 123 125 notes others h.0 y z (λ b p q r s. until_only notes others 125 b p q curly r s) h.2 (subst (λ a. Optional 123 (λ p q. ReadsUntil others 125 p q) others a z) (sym heads.1) k.2) in
+      let rest = optional_only 123 125 notes others h.0 y z (λ b p q r s. until_only notes others 125 b p q curly r s) h.2 (subst (λ a. Optional 123 (λ p q. ReadsUntil others 125 p q) others a z) (sym beginnings.1) k.2) in
       ((λ i. integer (same i) (rest.0 i)), rest.1)
   reads_only (branch (application n) kids notes) (branch (application m) children others) x y z h k =
-      let heads = begins_only (a_name n) (a_name m) x h.0 k.0 h.2 k.2 in
+      let beginnings = begins_only (a_name n) (a_name m) x h.0 k.0 h.2 k.2 in
       let same : n ≡ m = cc in
-      let inner = optional_only 40 41 kids children h.0 h.1 k.1 (λ b p q r s. until_only kids children 41 b p q round r s) h.3 (subst (λ a. Optional 40 (λ p q. ReadsUntil children 41 p q) children a k.1) (sym heads.1) k.3) in
+      let inner = optional_only 40 41 kids children h.0 h.1 k.1 (λ b p q r s. until_only kids children 41 b p q round r s) h.3 (subst (λ a. Optional 40 (λ p q. ReadsUntil children 41 p q) children a k.1) (sym beginnings.1) k.3) in
       let rest = optional_only 123 125 notes others h.1 y z (λ b p q r s. until_only notes others 125 b p q curly r s) h.4 (subst (λ a. Optional 123 (λ p q. ReadsUntil others 125 p q) others a z) (sym inner.1) k.4) in
       ((λ i. branch (application (same i)) (inner.0 i) (rest.0 i)), rest.1)
   reads_only (branch list kids notes) (branch list children others) x y z h k =
@@ -54,18 +54,18 @@ mutual
       let inner = until_only kids children 41 h.0 h.1 k.1 round h.3 (subst (λ a. ReadsUntil children 41 a k.1) (sign_only 40 x k.0 h.0 k.2 h.2) k.3) in
       let rest = optional_only 123 125 notes others h.1 y z (λ b p q r s. until_only notes others 125 b p q curly r s) h.4 (subst (λ a. Optional 123 (λ p q. ReadsUntil others 125 p q) others a z) (sym inner.1) k.4) in
       ((λ i. branch tuple (inner.0 i) (rest.0 i)), rest.1)
-  reads_only (integer v notes) (branch (application m) children others) x y z h k = let heads = head_is (an_integer v) (branch (application m) children others) x h.0 z h.1 k in absurd (cc)
-  reads_only (integer v notes) (branch list children others) x y z h k = let heads = head_is (an_integer v) (branch list children others) x h.0 z h.1 k in absurd (cc)
-  reads_only (integer v notes) (branch tuple children others) x y z h k = let heads = head_is (an_integer v) (branch tuple children others) x h.0 z h.1 k in absurd (cc)
-  reads_only (branch (application n) kids notes) (integer w others) x y z h k = let heads = head_is (a_name n) (integer w others) x h.0 z h.2 k in absurd (cc)
-  reads_only (branch (application n) kids notes) (branch list children others) x y z h k = let heads = head_is (a_name n) (branch list children others) x h.0 z h.2 k in absurd (cc)
-  reads_only (branch (application n) kids notes) (branch tuple children others) x y z h k = let heads = head_is (a_name n) (branch tuple children others) x h.0 z h.2 k in absurd (cc)
-  reads_only (branch list kids notes) (integer w others) x y z h k = let heads = head_is a_list (integer w others) x h.0 z h.2 k in absurd (cc)
-  reads_only (branch list kids notes) (branch (application m) children others) x y z h k = let heads = head_is a_list (branch (application m) children others) x h.0 z h.2 k in absurd (cc)
-  reads_only (branch list kids notes) (branch tuple children others) x y z h k = let heads = head_is a_list (branch tuple children others) x h.0 z h.2 k in absurd (cc)
-  reads_only (branch tuple kids notes) (integer w others) x y z h k = let heads = head_is a_tuple (integer w others) x h.0 z h.2 k in absurd (cc)
-  reads_only (branch tuple kids notes) (branch (application m) children others) x y z h k = let heads = head_is a_tuple (branch (application m) children others) x h.0 z h.2 k in absurd (cc)
-  reads_only (branch tuple kids notes) (branch list children others) x y z h k = let heads = head_is a_tuple (branch list children others) x h.0 z h.2 k in absurd (cc)
+  reads_only (integer v notes) (branch (application m) children others) x y z h k = let beginnings = beginning_is (an_integer v) (branch (application m) children others) x h.0 z h.1 k in absurd (cc)
+  reads_only (integer v notes) (branch list children others) x y z h k = let beginnings = beginning_is (an_integer v) (branch list children others) x h.0 z h.1 k in absurd (cc)
+  reads_only (integer v notes) (branch tuple children others) x y z h k = let beginnings = beginning_is (an_integer v) (branch tuple children others) x h.0 z h.1 k in absurd (cc)
+  reads_only (branch (application n) kids notes) (integer w others) x y z h k = let beginnings = beginning_is (a_name n) (integer w others) x h.0 z h.2 k in absurd (cc)
+  reads_only (branch (application n) kids notes) (branch list children others) x y z h k = let beginnings = beginning_is (a_name n) (branch list children others) x h.0 z h.2 k in absurd (cc)
+  reads_only (branch (application n) kids notes) (branch tuple children others) x y z h k = let beginnings = beginning_is (a_name n) (branch tuple children others) x h.0 z h.2 k in absurd (cc)
+  reads_only (branch list kids notes) (integer w others) x y z h k = let beginnings = beginning_is a_list (integer w others) x h.0 z h.2 k in absurd (cc)
+  reads_only (branch list kids notes) (branch (application m) children others) x y z h k = let beginnings = beginning_is a_list (branch (application m) children others) x h.0 z h.2 k in absurd (cc)
+  reads_only (branch list kids notes) (branch tuple children others) x y z h k = let beginnings = beginning_is a_list (branch tuple children others) x h.0 z h.2 k in absurd (cc)
+  reads_only (branch tuple kids notes) (integer w others) x y z h k = let beginnings = beginning_is a_tuple (integer w others) x h.0 z h.2 k in absurd (cc)
+  reads_only (branch tuple kids notes) (branch (application m) children others) x y z h k = let beginnings = beginning_is a_tuple (branch (application m) children others) x h.0 z h.2 k in absurd (cc)
+  reads_only (branch tuple kids notes) (branch list children others) x y z h k = let beginnings = beginning_is a_tuple (branch list children others) x h.0 z h.2 k in absurd (cc)
 
   until_only : (ts us : Trees) (close : ℕ) (x y z : List ℕ) → IsClosing close → ReadsUntil ts close x y → ReadsUntil us close x z → (ts ≡ us) × (y ≡ z)
   until_only none none close x y z c h k = (refl, sign_only close x y z h k)

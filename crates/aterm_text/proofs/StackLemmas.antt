@@ -6,7 +6,7 @@ use Rattle.std.proofs.Math.ListN.{set}
 use Rattle.std.proofs.Math.Seq.{set-append_seam, get_or-append_seam, take-append_seam, drop-append_seam, take-length}
 use Rattle.std.proofs.lemmas.List.{reverse-append, length-reverse, take-append-le, drop-append-le, take-append-drop, length-take, length-take-le, drop_all}
 use Rattle.term_core.specs.Tree.{Tree}
-use Rattle.aterm_text.specs.Stack.{Stack, Group, no_terms, on_top, with_top, inside}
+use Rattle.aterm_text.specs.Stack.{Stack, OpenBracket, no_terms, on_top, with_top, inside}
 use Rattle.aterm_text.specs.StackView.{cut, IsCut}
 use Rattle.aterm_text.specs.declared.reader.stack.Bracket.{Bracket}
 
@@ -56,10 +56,10 @@ still_cut bs bs' b ts h e =
 
 -- ---- the term on top
 
-on_top-bare : (ts outside : List Tree) (groups : List Group) (t : Tree) → ◌≡◌ {A = Stack} (record { outside = ts; groups = [] }) (on_top t outside groups)
-    → (ts ≡ outside ++ t ∷ []) × (groups ≡ [])
+on_top-bare : (ts outside : List Tree) (open_brackets : List OpenBracket) (t : Tree) → ◌≡◌ {A = Stack} (record { outside = ts; open_brackets = [] }) (on_top t outside open_brackets)
+    → (ts ≡ outside ++ t ∷ []) × (open_brackets ≡ [])
 on_top-bare ts outside [] t e = (ap (λ (s : Stack). s.outside) e, refl)
-on_top-bare ts outside (g ∷ gs) t e = let no : ◌≡◌ {A = List Group} [] (record { opening = g.opening; terms = g.terms ++ t ∷ [] } ∷ gs) = ap (λ (s : Stack). s.groups) e in absurd (cc)
+on_top-bare ts outside (g ∷ gs) t e = let no : ◌≡◌ {A = List OpenBracket} [] (record { opening = g.opening; terms = g.terms ++ t ∷ [] } ∷ gs) = ap (λ (s : Stack). s.open_brackets) e in absurd (cc)
 
 -- the terms below the one on top
 pub record Below (bs : List Bracket) (ts : List Tree) (t : Tree) (below : Stack) : Type 0 where
@@ -68,32 +68,32 @@ pub record Below (bs : List Bracket) (ts : List Tree) (t : Tree) (below : Stack)
   pub is_cut : IsCut bs front
   pub is_below : cut bs front ≡ below
 
-group-below : (b : Bracket) (bs : List Bracket) (ts outside : List Tree) (groups : List Group) (t : Tree) → IsCut (b ∷ bs) ts
-    → inside b.opening (drop b.before ts) (cut bs (take b.before ts)) ≡ on_top t outside groups → Below (b ∷ bs) ts t (record { outside = outside; groups = groups })
-group-below b bs ts outside [] t h e =
-    let no : ◌≡◌ {A = List Group} (record { opening = b.opening; terms = drop b.before ts } ∷ (cut bs (take b.before ts)).groups) [] = ap (λ (s : Stack). s.groups) e in absurd (cc)
-group-below b bs ts outside (g ∷ gs) t h e =
+bracket-below : (b : Bracket) (bs : List Bracket) (ts outside : List Tree) (open_brackets : List OpenBracket) (t : Tree) → IsCut (b ∷ bs) ts
+    → inside b.opening (drop b.before ts) (cut bs (take b.before ts)) ≡ on_top t outside open_brackets → Below (b ∷ bs) ts t (record { outside = outside; open_brackets = open_brackets })
+bracket-below b bs ts outside [] t h e =
+    let no : ◌≡◌ {A = List OpenBracket} (record { opening = b.opening; terms = drop b.before ts } ∷ (cut bs (take b.before ts)).open_brackets) [] = ap (λ (s : Stack). s.open_brackets) e in absurd (cc)
+bracket-below b bs ts outside (g ∷ gs) t h e =
     let before = take b.before ts in
-    let groups : ◌≡◌ {A = List Group} (record { opening = b.opening; terms = drop b.before ts } ∷ (cut bs before).groups) (record { opening = g.opening; terms = g.terms ++ t ∷ [] } ∷ gs)
-    = ap (λ (s : Stack). s.groups) e in
-    let first : ◌≡◌ {A = Group} (record { opening = b.opening; terms = drop b.before ts }) (record { opening = g.opening; terms = g.terms ++ t ∷ [] }) = cc in
-    let others : (cut bs before).groups ≡ gs = cc in
+    let open_brackets : ◌≡◌ {A = List OpenBracket} (record { opening = b.opening; terms = drop b.before ts } ∷ (cut bs before).open_brackets) (record { opening = g.opening; terms = g.terms ++ t ∷ [] } ∷ gs)
+    = ap (λ (s : Stack). s.open_brackets) e in
+    let first : ◌≡◌ {A = OpenBracket} (record { opening = b.opening; terms = drop b.before ts }) (record { opening = g.opening; terms = g.terms ++ t ∷ [] }) = cc in
+    let others : (cut bs before).open_brackets ≡ gs = cc in
     let count : length before ≡ b.before = length-take-le b.before ts h.0 in
     let again : take b.before (before ++ g.terms) ≡ before = subst (λ n. take n (before ++ g.terms) ≡ before) count (take-append_seam before g.terms) in
     let rest : drop b.before (before ++ g.terms) ≡ g.terms = subst (λ n. drop n (before ++ g.terms) ≡ g.terms) count (drop-append_seam before g.terms) in
     record {
       front = before ++ g.terms;
-      is = sym (take-append-drop b.before ts) ∙ ap (λ l. before ++ l) (ap (λ (k : Group). k.terms) first) ∙ sym (append_assoc before g.terms (t ∷ []));
+      is = sym (take-append-drop b.before ts) ∙ ap (λ l. before ++ l) (ap (λ (k : OpenBracket). k.terms) first) ∙ sym (append_assoc before g.terms (t ∷ []));
       is_cut = (omega (arith, count, length-append before g.terms), subst (IsCut bs) (sym again) h.1);
       is_below = (λ i. inside b.opening (rest i) (cut bs (again i)))
-          ∙ (λ i. record { outside = (ap (λ (s : Stack). s.outside) e) i; groups = record { opening = (ap (λ (k : Group). k.opening) first) i; terms = g.terms } ∷ others i });
+          ∙ (λ i. record { outside = (ap (λ (s : Stack). s.outside) e) i; open_brackets = record { opening = (ap (λ (k : OpenBracket). k.opening) first) i; terms = g.terms } ∷ others i });
     }
 
 pub below-top : (bs : List Bracket) (ts : List Tree) (t : Tree) (below : Stack) → IsCut bs ts → cut bs ts ≡ with_top t below → Below bs ts t below
 below-top [] ts t below h e =
-    let parts = on_top-bare ts below.outside below.groups t e in
-    record { front = below.outside; is = parts.0; is_cut = tt; is_below = λ i. record { outside = below.outside; groups = sym parts.1 i } }
-below-top (b ∷ bs) ts t below h e = group-below b bs ts below.outside below.groups t h e
+    let parts = on_top-bare ts below.outside below.open_brackets t e in
+    record { front = below.outside; is = parts.0; is_cut = tt; is_below = λ i. record { outside = below.outside; open_brackets = sym parts.1 i } }
+below-top (b ∷ bs) ts t below h e = bracket-below b bs ts below.outside below.open_brackets t h e
 
 pub is_cut-same_length : (bs : List Bracket) (ts us : List Tree) → length ts ≡ length us → IsCut bs ts → IsCut bs us
 is_cut-same_length [] ts us e h = tt
@@ -128,11 +128,11 @@ only_term bs ts t n popped h e len last =
     let at : n - 1 ≡ length b.front = omega (arith, count) in
     last t (omega (arith, count)) ∙ ap Some (ap (λ k. get_or ts k t) at ∙ ap (λ l. get_or l (length b.front) t) b.is ∙ get_or-append_seam b.front t [] t)
 
-groups-cut : (bs : List Bracket) (ts : List Tree) → length (cut bs ts).groups ≡ length bs
-groups-cut [] ts = refl
-groups-cut (b ∷ bs) ts = omega (arith, groups-cut bs (take b.before ts))
+brackets-cut : (bs : List Bracket) (ts : List Tree) → length (cut bs ts).open_brackets ≡ length bs
+brackets-cut [] ts = refl
+brackets-cut (b ∷ bs) ts = omega (arith, brackets-cut bs (take b.before ts))
 
-pub depth-cut : (bs : List Bracket) (ts : List Tree) → length (cut (reverse bs) ts).groups ≡ length bs
-depth-cut bs ts = groups-cut (reverse bs) ts ∙ length-reverse bs
+pub depth-cut : (bs : List Bracket) (ts : List Tree) → length (cut (reverse bs) ts).open_brackets ≡ length bs
+depth-cut bs ts = brackets-cut (reverse bs) ts ∙ length-reverse bs
 
 pub ruleset stack_parts = (reverse-last, cut-push, is_cut-push)

@@ -4,12 +4,12 @@ use Rattle.term_core.specs.Tree.{Symbol, Head, application, list, tuple, Tree, T
 use Rattle.term_core.proofs.TreeLemmas.{of_list-to_list}
 use Rattle.aterm_text.specs.Tokens.{NextSign, NextInteger, NextName, IsBlank}
 use Rattle.aterm_text.specs.Grammar.{Reads, ReadsUntil, ReadsMore, Optional}
-use Rattle.aterm_text.specs.Heads.{Beginning, an_integer, a_name, a_list, a_tuple, Begins, NoTerm}
+use Rattle.aterm_text.specs.Beginnings.{Beginning, an_integer, a_name, a_list, a_tuple, Begins, NoTerm}
 use Rattle.aterm_text.specs.Level.{Bracket, arguments, elements, components, annotating, Level, closing_of, with_term, new_level}
 use Rattle.aterm_text.specs.Unread.{Reading, expected, entered, base, whole, Unread, Continues, IsStuck, IsEnd, BehindBase, BehindClosed, BehindWhole, BeforeTerm, closed}
 use Rattle.aterm_text.proofs.TokenLemmas.{class_of, begins_only, no_term-sign}
 
--- ---- signs and heads
+-- ---- signs and beginnings
 
 pub sign_only : (sign : ℕ) (x y z : List ℕ) → NextSign sign x y → NextSign sign x z → y ≡ z
 sign_only sign x y z h k = let same : ◌≡◌ {A = List ℕ} (sign ∷ y) (sign ∷ z) = sym h ∙ k in cc
@@ -17,25 +17,25 @@ sign_only sign x y z h k = let same : ◌≡◌ {A = List ℕ} (sign ∷ y) (sig
 pub same_sign : (s r : ℕ) (x y z : List ℕ) → NextSign s x y → NextSign r x z → s ≡ r
 same_sign s r x y z h k = let same : ◌≡◌ {A = List ℕ} (s ∷ y) (r ∷ z) = sym h ∙ k in cc
 
-abbrev pub head_of : Tree → Beginning
-head_of (integer z notes) = an_integer z
-head_of (branch (application name) kids notes) = a_name name
-head_of (branch list kids notes) = a_list
-head_of (branch tuple kids notes) = a_tuple
+abbrev pub beginning_at : Tree → Beginning
+beginning_at (integer z notes) = an_integer z
+beginning_at (branch (application name) kids notes) = a_name name
+beginning_at (branch list kids notes) = a_list
+beginning_at (branch tuple kids notes) = a_tuple
 
--- the text from behind the head of a term on
-pub reads-begins : (t : Tree) (x y : List ℕ) → Reads t x y → (a : List ℕ) × Begins (head_of t) x a
+-- the text from behind the beginning of a term on
+pub reads-begins : (t : Tree) (x y : List ℕ) → Reads t x y → (a : List ℕ) × Begins (beginning_at t) x a
 reads-begins (integer z notes) x y h = (h.0, h.1)
 reads-begins (branch (application name) kids notes) x y h = (h.0, h.2)
 reads-begins (branch list kids notes) x y h = (h.0, h.2)
 reads-begins (branch tuple kids notes) x y h = (h.0, h.2)
 
--- a term that begins at x has the head that stands there
-pub head_is : (head : Beginning) (t : Tree) (x y z : List ℕ) → Begins head x y → Reads t x z → head ≡ head_of t
-head_is head t x y z h r = let found = reads-begins t x z r in (begins_only head (head_of t) x y found.0 h found.1).0
+-- a term that begins at x has the beginning that stands there
+pub beginning_is : (beginning : Beginning) (t : Tree) (x y z : List ℕ) → Begins beginning x y → Reads t x z → beginning ≡ beginning_at t
+beginning_is beginning t x y z h r = let found = reads-begins t x z r in (begins_only beginning (beginning_at t) x y found.0 h found.1).0
 
 pub no_term-reads : (t : Tree) (x y : List ℕ) → NoTerm x → Reads t x y → ⊥
-no_term-reads t x y absent r = let found = reads-begins t x y r in absent (head_of t) found.0 found.1
+no_term-reads t x y absent r = let found = reads-begins t x y r in absent (beginning_at t) found.0 found.1
 
 closing-class : (o : Bracket) → class_of (closing_of o) ≡ 0
 closing-class (arguments name) = refl
@@ -66,7 +66,7 @@ from_unread elements us levels x all h = h
 from_unread components us levels x all h = h
 from_unread (annotating t) us levels x all h = h
 
--- ---- a head was read
+-- ---- a beginning was read
 
 pub stuck-no_term : (levels : List Level) (x : List ℕ) → NoTerm x → IsStuck expected levels x
 stuck-no_term levels x absent all h = no_term-reads h.0 x h.1 absent h.2
@@ -84,9 +84,9 @@ module _ (levels : List Level) (x y : List ℕ) where
         subst (λ a. Optional 123 (λ p q. ReadsUntil notes 125 p q) notes a v) (sym only.1) r.2,
         subst (λ t. BehindWhole levels t v all) (λ i. integer (same i) (sym (of_list-to_list notes) i)) b,
       )
-  integer-forth z h all (branch (application name) kids notes) v r b = let no = head_is (an_integer z) (branch (application name) kids notes) x y v h r in absurd (cc)
-  integer-forth z h all (branch list kids notes) v r b = let no = head_is (an_integer z) (branch list kids notes) x y v h r in absurd (cc)
-  integer-forth z h all (branch tuple kids notes) v r b = let no = head_is (an_integer z) (branch tuple kids notes) x y v h r in absurd (cc)
+  integer-forth z h all (branch (application name) kids notes) v r b = let no = beginning_is (an_integer z) (branch (application name) kids notes) x y v h r in absurd (cc)
+  integer-forth z h all (branch list kids notes) v r b = let no = beginning_is (an_integer z) (branch list kids notes) x y v h r in absurd (cc)
+  integer-forth z h all (branch tuple kids notes) v r b = let no = beginning_is (an_integer z) (branch tuple kids notes) x y v h r in absurd (cc)
 
   pub step-integer : (z : ℤ) → NextInteger z x y → Continues expected levels x (base (integer_term z)) levels y
   step-integer z h = record {
@@ -101,9 +101,9 @@ module _ (levels : List Level) (x y : List ℕ) where
     subst (λ a. ReadsUntil kids 93 a r.1) (sign_only 91 x r.0 y r.2 h) r.3,
     (notes, v, r.4, subst (λ t. BehindWhole levels t v all) (rebuilt list kids notes) b),
   )
-  list-forth h all (integer z notes) v r b = let no = head_is a_list (integer z notes) x y v h r in absurd (cc)
-  list-forth h all (branch (application name) kids notes) v r b = let no = head_is a_list (branch (application name) kids notes) x y v h r in absurd (cc)
-  list-forth h all (branch tuple kids notes) v r b = let no = head_is a_list (branch tuple kids notes) x y v h r in absurd (cc)
+  list-forth h all (integer z notes) v r b = let no = beginning_is a_list (integer z notes) x y v h r in absurd (cc)
+  list-forth h all (branch (application name) kids notes) v r b = let no = beginning_is a_list (branch (application name) kids notes) x y v h r in absurd (cc)
+  list-forth h all (branch tuple kids notes) v r b = let no = beginning_is a_list (branch tuple kids notes) x y v h r in absurd (cc)
 
   pub step-list : NextSign 91 x y → Continues expected levels x entered (new_level elements ∷ levels) y
   step-list h = record {
@@ -118,9 +118,9 @@ module _ (levels : List Level) (x y : List ℕ) where
     subst (λ a. ReadsUntil kids 41 a r.1) (sign_only 40 x r.0 y r.2 h) r.3,
     (notes, v, r.4, subst (λ t. BehindWhole levels t v all) (rebuilt tuple kids notes) b),
   )
-  tuple-forth h all (integer z notes) v r b = let no = head_is a_tuple (integer z notes) x y v h r in absurd (cc)
-  tuple-forth h all (branch (application name) kids notes) v r b = let no = head_is a_tuple (branch (application name) kids notes) x y v h r in absurd (cc)
-  tuple-forth h all (branch list kids notes) v r b = let no = head_is a_tuple (branch list kids notes) x y v h r in absurd (cc)
+  tuple-forth h all (integer z notes) v r b = let no = beginning_is a_tuple (integer z notes) x y v h r in absurd (cc)
+  tuple-forth h all (branch (application name) kids notes) v r b = let no = beginning_is a_tuple (branch (application name) kids notes) x y v h r in absurd (cc)
+  tuple-forth h all (branch list kids notes) v r b = let no = beginning_is a_tuple (branch list kids notes) x y v h r in absurd (cc)
 
   pub step-tuple : NextSign 40 x y → Continues expected levels x entered (new_level components ∷ levels) y
   step-tuple h = record {
@@ -132,9 +132,9 @@ module _ (levels : List Level) (x y : List ℕ) where
 
 module _ (levels : List Level) (name : Symbol) (x a : List ℕ) (h : NextName name x a) where
   arguments-forth : (y : List ℕ) → NextSign 40 a y → (all t : Tree) (v : List ℕ) → Reads t x v → BehindWhole levels t v all → Unread entered (new_level (arguments name) ∷ levels) y all
-  arguments-forth y next all (integer z notes) v r b = let no = head_is (a_name name) (integer z notes) x a v h r in absurd (cc)
-  arguments-forth y next all (branch list kids notes) v r b = let no = head_is (a_name name) (branch list kids notes) x a v h r in absurd (cc)
-  arguments-forth y next all (branch tuple kids notes) v r b = let no = head_is (a_name name) (branch tuple kids notes) x a v h r in absurd (cc)
+  arguments-forth y next all (integer z notes) v r b = let no = beginning_is (a_name name) (integer z notes) x a v h r in absurd (cc)
+  arguments-forth y next all (branch list kids notes) v r b = let no = beginning_is (a_name name) (branch list kids notes) x a v h r in absurd (cc)
+  arguments-forth y next all (branch tuple kids notes) v r b = let no = beginning_is (a_name name) (branch tuple kids notes) x a v h r in absurd (cc)
   arguments-forth y next all (branch (application other) kids notes) v r b =
       let only = begins_only (a_name other) (a_name name) x r.0 a r.2 h in
       let same : other ≡ name = cc in
@@ -156,9 +156,9 @@ module _ (levels : List Level) (name : Symbol) (x a : List ℕ) (h : NextName na
   }
 
   constant-forth : ((y : List ℕ) → NextSign 40 a y → ⊥) → (all t : Tree) (v : List ℕ) → Reads t x v → BehindWhole levels t v all → BehindBase (Outside levels) (application_term name []) a all
-  constant-forth no_sign all (integer z notes) v r b = let no = head_is (a_name name) (integer z notes) x a v h r in absurd (cc)
-  constant-forth no_sign all (branch list kids notes) v r b = let no = head_is (a_name name) (branch list kids notes) x a v h r in absurd (cc)
-  constant-forth no_sign all (branch tuple kids notes) v r b = let no = head_is (a_name name) (branch tuple kids notes) x a v h r in absurd (cc)
+  constant-forth no_sign all (integer z notes) v r b = let no = beginning_is (a_name name) (integer z notes) x a v h r in absurd (cc)
+  constant-forth no_sign all (branch list kids notes) v r b = let no = beginning_is (a_name name) (branch list kids notes) x a v h r in absurd (cc)
+  constant-forth no_sign all (branch tuple kids notes) v r b = let no = beginning_is (a_name name) (branch tuple kids notes) x a v h r in absurd (cc)
   constant-forth no_sign all (branch (application other) kids notes) v r b =
       let only = begins_only (a_name other) (a_name name) x r.0 a r.2 h in
       let same : other ≡ name = cc in

@@ -7,11 +7,11 @@ use Rattle.std.specs.Str.Parse.{without_leading_sign}
 use Rattle.std.specs.declared.option.Option.{Option}
 use Rattle.term_core.specs.Word.{begins_word, continues_word, first_word}
 use Rattle.aterm_text.specs.Tokens.{without_blanks, NextSign, NextWord, NextQuoted, IsInteger, integer_len, ReadsItems}
-use Rattle.aterm_text.specs.Heads.{Beginning, an_integer, a_name, a_list, a_tuple, Begins, NoTerm, NoHead}
-use Rattle.aterm_text.specs.declared.reader.head.Head.TheVariants.{Integer, Named}
+use Rattle.aterm_text.specs.Beginnings.{Beginning, an_integer, a_name, a_list, a_tuple, Begins, NoTerm, NoLexeme}
+use Rattle.aterm_text.specs.declared.reader.lexeme.Lexeme.TheVariants.{Integer, Named}
 use Rattle.aterm_text.proofs.ScanLemmas.{items_only, same_pair}
 
--- ---- the first byte tells the kind of head: 0 where no term begins so
+-- ---- the first byte tells the kind of beginning: 0 where no term begins so
 
 abbrev pub class_of : ℕ → ℕ
 class_of b = cond (b == 34) 2 (cond (b == 91) 3 (cond (b == 40) 4 (cond (begins_word b) 1 (cond (is_ascii_digit b || (b == 45)) 5 0))))
@@ -20,11 +20,11 @@ abbrev pub name_class : Bool → ℕ
 name_class true = 2
 name_class false = 1
 
-abbrev pub head_class : Beginning → ℕ
-head_class (an_integer z) = 5
-head_class (a_name name) = name_class name.is_quoted
-head_class a_list = 3
-head_class a_tuple = 4
+abbrev pub beginning_class : Beginning → ℕ
+beginning_class (an_integer z) = 5
+beginning_class (a_name name) = name_class name.is_quoted
+beginning_class a_list = 3
+beginning_class a_tuple = 4
 
 class-word : (b : ℕ) → begins_word b ≡ true → class_of b ≡ 1
 class-word b h = grind (arith, nat_tests)
@@ -32,7 +32,7 @@ class-word b h = grind (arith, nat_tests)
 class-integer : (b : ℕ) → (is_ascii_digit b || (b == 45)) ≡ true → class_of b ≡ 5
 class-integer b h = grind (arith, nat_tests)
 
--- ---- the first byte of each kind of head
+-- ---- the first byte of each kind of beginning
 
 named_not : (quoted : Bool) (n : ℕ) → (n ≢ 2) × (n ≢ 1) → n ≡ name_class quoted → ⊥
 named_not true n h e = h.0 e
@@ -82,7 +82,7 @@ named-begins : (quoted : Bool) (bytes x y : List ℕ) → MatchBool quoted (Next
 named-begins true bytes x y h = record { first = 34; rest = h.0; is = h.1; class = refl }
 named-begins false bytes x y h = word-begins bytes (without_blanks x) y h
 
-pub begins-class : (head : Beginning) (x y : List ℕ) → Begins head x y → BeginsWith (without_blanks x) (head_class head)
+pub begins-class : (beginning : Beginning) (x y : List ℕ) → Begins beginning x y → BeginsWith (without_blanks x) (beginning_class beginning)
 begins-class (an_integer z) x y h = integer-begins (without_blanks x) z h.0
 begins-class (a_name name) x y h = named-begins name.is_quoted name.text x y h
 begins-class a_list x y h = record { first = 91; rest = y; is = h; class = refl }
@@ -95,7 +95,7 @@ no_term-sign sign x y e h (a_name name) w k = named_not name.is_quoted 0 (search
 no_term-sign sign x y e h a_list w k = let no = one_class _ 0 3 (record { first = sign; rest = y; is = h; class = e }) (begins-class a_list x w k) in absurd (omega arith)
 no_term-sign sign x y e h a_tuple w k = let no = one_class _ 0 4 (record { first = sign; rest = y; is = h; class = e }) (begins-class a_tuple x w k) in absurd (omega arith)
 
--- ---- at most one head, and one rest, for a text
+-- ---- at most one beginning, and one rest, for a text
 
 named_only : (q q' : Bool) (bytes bytes' x y z : List ℕ) → name_class q ≡ name_class q'
     → MatchBool q (NextQuoted bytes x y) (NextWord bytes x y) → MatchBool q' (NextQuoted bytes' x z) (NextWord bytes' x z) → (bytes ≡ bytes') × (q ≡ q') × (y ≡ z)
@@ -108,10 +108,10 @@ named_only false false bytes bytes' x y z e h k = let same = same_pair bytes byt
 named_only true false bytes bytes' x y z e h k = absurd (omega arith)
 named_only false true bytes bytes' x y z e h k = absurd (omega arith)
 
-pub same_class : (head other : Beginning) (x y z : List ℕ) → Begins head x y → Begins other x z → head_class head ≡ head_class other
-same_class head other x y z h k = one_class (without_blanks x) (head_class head) (head_class other) (begins-class head x y h) (begins-class other x z k)
+pub same_class : (beginning other : Beginning) (x y z : List ℕ) → Begins beginning x y → Begins other x z → beginning_class beginning ≡ beginning_class other
+same_class beginning other x y z h k = one_class (without_blanks x) (beginning_class beginning) (beginning_class other) (begins-class beginning x y h) (begins-class other x z k)
 
-pub begins_only : (head other : Beginning) (x y z : List ℕ) → Begins head x y → Begins other x z → (head ≡ other) × (y ≡ z)
+pub begins_only : (beginning other : Beginning) (x y z : List ℕ) → Begins beginning x y → Begins other x z → (beginning ≡ other) × (y ≡ z)
 begins_only (an_integer v) (an_integer w) x y z h k = (ap an_integer (sym h.0.1 ∙ k.0.1), h.1 ∙ sym k.1)
 begins_only (a_name n) (a_name m) x y z h k =
     let only = named_only n.is_quoted m.is_quoted n.text m.text x y z (same_class (a_name n) (a_name m) x y z h k) h k in
@@ -131,11 +131,11 @@ begins_only a_tuple (an_integer w) x y z h k = let no = same_class a_tuple (an_i
 begins_only a_tuple (a_name m) x y z h k = absurd (named_not m.is_quoted 4 (search rules, search rules) (same_class a_tuple (a_name m) x y z h k))
 begins_only a_tuple a_list x y z h k = let no = same_class a_tuple a_list x y z h k in absurd (omega arith)
 
--- ---- no head at all
+-- ---- no beginning at all
 
 -- neither an integer nor a name, and no opening bracket
-pub no_term-other : (x : List ℕ) → NoHead x → ((y : List ℕ) → NextSign 91 x y → ⊥) → ((y : List ℕ) → NextSign 40 x y → ⊥) → NoTerm x
-no_term-other x no_head no_list no_tuple (an_integer z) y h = no_head (Integer z) y h
-no_term-other x no_head no_list no_tuple (a_name name) y h = no_head (Named name) y h
-no_term-other x no_head no_list no_tuple a_list y h = no_list y h
-no_term-other x no_head no_list no_tuple a_tuple y h = no_tuple y h
+pub no_term-other : (x : List ℕ) → NoLexeme x → ((y : List ℕ) → NextSign 91 x y → ⊥) → ((y : List ℕ) → NextSign 40 x y → ⊥) → NoTerm x
+no_term-other x no_lexeme no_list no_tuple (an_integer z) y h = no_lexeme (Integer z) y h
+no_term-other x no_lexeme no_list no_tuple (a_name name) y h = no_lexeme (Named name) y h
+no_term-other x no_lexeme no_list no_tuple a_list y h = no_list y h
+no_term-other x no_lexeme no_list no_tuple a_tuple y h = no_tuple y h

@@ -8,7 +8,7 @@ use Rattle.aterm_text.specs.declared.reader.machine.Step.TheVariants.{More, Done
 
 -- how many brackets are open
 abbrev pub depth : Stack → ℕ
-depth s = length s.groups
+depth s = length s.open_brackets
 
 -- too many brackets are open at one place of x, where n are before it
 abbrev pub IsTooDeep : ℕ → List ℕ → Type 0

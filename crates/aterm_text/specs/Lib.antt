@@ -7,7 +7,7 @@ pub mod Level
 pub mod Stack
 pub mod StackView
 pub mod Unread
-pub mod Heads
+pub mod Beginnings
 pub mod Depth
 pub mod NestingPlaces
 pub mod Printing

@@ -10,34 +10,34 @@ use Rattle.aterm_text.specs.declared.reader.stack.Opening.TheVariants.{Round, Sq
 use Rattle.aterm_text.specs.Signs.{close_round, close_square, close_curly}
 
 -- an open bracket, and the terms in it so far
-pub record Group : Type 0 where
+pub record OpenBracket : Type 0 where
   pub opening : Opening
   pub terms : List Tree
 
--- the terms outside of all brackets, and the groups, the innermost first
+-- the terms outside of all brackets, and the open brackets, the innermost first
 pub record Stack : Type 0 where
   pub outside : List Tree
-  pub groups : List Group
+  pub open_brackets : List OpenBracket
 
 abbrev pub no_terms : Stack
-no_terms = record { outside = []; groups = [] }
+no_terms = record { outside = []; open_brackets = [] }
 
 -- one more term, in the innermost bracket
-abbrev pub on_top : Tree → List Tree → List Group → Stack
-on_top t outside [] = record { outside = outside ++ t ∷ []; groups = [] }
+abbrev pub on_top : Tree → List Tree → List OpenBracket → Stack
+on_top t outside [] = record { outside = outside ++ t ∷ []; open_brackets = [] }
 on_top t outside (g ∷ gs) = record {
   outside = outside;
-  groups = record { opening = g.opening; terms = g.terms ++ t ∷ [] } ∷ gs;
+  open_brackets = record { opening = g.opening; terms = g.terms ++ t ∷ [] } ∷ gs;
 }
 
 abbrev pub with_top : Tree → Stack → Stack
-with_top t s = on_top t s.outside s.groups
+with_top t s = on_top t s.outside s.open_brackets
 
 -- one more bracket, with these terms in it
 abbrev pub inside : Opening → List Tree → Stack → Stack
 inside opening ts s = record {
   outside = s.outside;
-  groups = record { opening = opening; terms = ts } ∷ s.groups;
+  open_brackets = record { opening = opening; terms = ts } ∷ s.open_brackets;
 }
 
 abbrev pub closes : Opening → ℕ
@@ -45,13 +45,13 @@ closes Round = close_round
 closes Square = close_square
 closes Curly = close_curly
 
-abbrev pub closes_first : List Group → Option ℕ
+abbrev pub closes_first : List OpenBracket → Option ℕ
 closes_first [] = None
 closes_first (g ∷ gs) = Some (closes g.opening)
 
 -- the bracket that closes the innermost one, where one is open
 abbrev pub first_closing : Stack → Option ℕ
-first_closing s = closes_first s.groups
+first_closing s = closes_first s.open_brackets
 
 -- ---- how the logic stores a stack: as the tuple of its parts
 
@@ -74,12 +74,12 @@ abbrev opening_code : Coded Opening
 opening_code =
     code_by (Option Bool) (coded_option coded_bool) to_parts from_parts from_parts-to_parts
 
-abbrev group_code : Coded Group
-group_code =
+abbrev open_bracket_code : Coded OpenBracket
+open_bracket_code =
     code_by (Opening × List Tree) (coded× opening_code (coded_list tree_code))
     (λ g. (g.opening, g.terms)) (λ p. record { opening = p.0; terms = p.1 }) (λ _. refl)
 
 abbrev pub stack_code : Coded Stack
 stack_code =
-    code_by (List Tree × List Group) (coded× (coded_list tree_code) (coded_list group_code))
-    (λ s. (s.outside, s.groups)) (λ p. record { outside = p.0; groups = p.1 }) (λ _. refl)
+    code_by (List Tree × List OpenBracket) (coded× (coded_list tree_code) (coded_list open_bracket_code))
+    (λ s. (s.outside, s.open_brackets)) (λ p. record { outside = p.0; open_brackets = p.1 }) (λ _. refl)

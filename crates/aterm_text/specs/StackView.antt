@@ -7,7 +7,7 @@ use Rattle.aterm_text.specs.declared.reader.stack.Stack.TheInside.{Inside}
 
 -- the terms, cut where the brackets stand, the innermost bracket first
 abbrev pub cut : List Bracket → List Tree → Stack
-cut [] ts = record { outside = ts; groups = [] }
+cut [] ts = record { outside = ts; open_brackets = [] }
 cut (b ∷ bs) ts = inside b.opening (drop b.before ts) (cut bs (take b.before ts))
 
 -- each bracket stands within the terms before those of the bracket in it

@@ -6,13 +6,13 @@ ghost use Rattle.std.specs.Prelude.{◌≡◌, ◌<◌, ◌≤◌, ◌-◌, ℕ,
 ghost use Rattle.term_core.specs.Tree.{Tree, Symbol};
 ghost use Rattle.aterm_text.specs.Tokens.{NextName, without_blanks};
 ghost use Rattle.aterm_text.specs.Stack.{with_top, inside};
-ghost use Rattle.aterm_text.specs.Heads.{NoHead};
+ghost use Rattle.aterm_text.specs.Beginnings.{NoLexeme};
 ghost use Rattle.aterm_text.specs.Depth.{depth, IsTooDeep, KeepsDepth};
 ghost use Rattle.aterm_text.specs.Unread.{Reading, Unread, Stands, Leads, IsLost, IsClosed};
 
 use crate::MAX_NESTING;
 use crate::reader::ReadFault;
-use crate::reader::head::{Head, first_head};
+use crate::reader::lexeme::{Lexeme, first_lexeme};
 use crate::reader::scan::{after_blanks, after_byte};
 use crate::reader::stack::{Opening, Stack};
 use std::alloc::Global;
@@ -88,27 +88,31 @@ fn expect_term<'a>(alloc: Global, stack: &mut Stack, text: &'a [u8]) -> Result<S
             Err(fault) => Err(fault),
         };
     }
-    expect_head(alloc, stack, text)
+    expect_lexeme(alloc, stack, text)
 }
 
 // A term has to begin with no bracket.
-fn expect_head<'a>(alloc: Global, stack: &mut Stack, text: &'a [u8]) -> Result<Step<'a>, ReadFault>
+fn expect_lexeme<'a>(
+    alloc: Global,
+    stack: &mut Stack,
+    text: &'a [u8],
+) -> Result<Step<'a>, ReadFault>
     requires { without_blanks text.now ≡ text.now }
     ensures leads { IfOk result (λ step. Leads State.Expected stack.old text.now step stack.new) }
-    ensures none { result ≡ Err ReadFault.Term → NoHead text.now }
+    ensures none { result ≡ Err ReadFault.Term → NoLexeme text.now }
     ensures nesting { IfOk result (λ step. KeepsDepth stack.old text.now step stack.new) }
     ensures deep { result ≡ Err ReadFault.Deep → IsTooDeep (depth stack.old) text.now }
 {
-    let (head, rest) = match first_head(alloc, text) {
+    let (lexeme, rest) = match first_lexeme(alloc, text) {
         Ok(found) => found,
         Err(fault) => return Err(fault),
     };
-    match head {
-        Head::Integer(value) => {
+    match lexeme {
+        Lexeme::Integer(value) => {
             stack.push(Term::integer(alloc, value))?;
             Ok(Step::More(State::Base, rest))
         }
-        Head::Named(name) => behind_name(alloc, stack, name, rest),
+        Lexeme::Named(name) => behind_name(alloc, stack, name, rest),
     }
 }
 

@@ -5,7 +5,7 @@ ghost use Rattle.term_core.specs.Tree.{Tree};
 ghost use Rattle.aterm_text.specs.Nesting.{nesting as nesting_of};
 ghost use Rattle.aterm_text.specs.Grammar.{Spells, SpellsAnnotations};
 
-mod head;
+mod lexeme;
 mod machine;
 mod scan;
 mod stack;

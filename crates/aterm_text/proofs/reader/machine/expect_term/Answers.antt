@@ -25,4 +25,4 @@ returns-in-Err-open-clause-deep c = λ e.
 pub returns-clause-none : goal.returns-clause-none
 returns-clause-none c = λ e.
     lost-no_term _ _
-    (no_term-other c.args.text.now (c.expect_head.ensures.none e) (λ y next. c.in_default.ensures.none y (sym c.requires ∙ next)) (λ y next. c.in_default-after_byte.ensures.none y (sym c.requires ∙ next)))
+    (no_term-other c.args.text.now (c.expect_lexeme.ensures.none e) (λ y next. c.in_default.ensures.none y (sym c.requires ∙ next)) (λ y next. c.in_default-after_byte.ensures.none y (sym c.requires ∙ next)))

@@ -4,26 +4,26 @@ ghost use Rattle.std.specs.Prelude.{◌≡◌, ◌<◌, ℕ, List, IfOk, Err, le
 ghost use Rattle.std.specs.Prelude.{Some, None};
 ghost use Rattle.term_core.specs.Word.{first_word};
 ghost use Rattle.aterm_text.specs.Tokens.{without_blanks};
-ghost use Rattle.aterm_text.specs.Heads.{Begins, NoHead, beginning_of};
+ghost use Rattle.aterm_text.specs.Beginnings.{Begins, NoLexeme, beginning_of};
 
 use crate::reader::{ReadFault, scan};
 use std::alloc::Global;
 use term_core::{Name, begins_word};
 
-/// The head of a term that is neither a list nor a tuple: all of an integer, or a name.
+/// What a term begins with that is neither a list nor a tuple: all of an integer, or a name.
 #[derive(Drop)]
-pub enum Head {
+pub enum Lexeme {
     Integer(i64),
     Named(Name),
 }
 
 /// The integer or the name at the front of a text that begins with no white space, and what follows.
-pub fn first_head(alloc: Global, text: &[u8]) -> Result<(Head, &[u8]), ReadFault>
+pub fn first_lexeme(alloc: Global, text: &[u8]) -> Result<(Lexeme, &[u8]), ReadFault>
     requires { without_blanks text.now ≡ text.now }
     ensures found { IfOk result (λ found.
         Begins (beginning_of found.0) text.now found.1.now) }
     ensures shorter { IfOk result (λ found. length found.1.now < length text.now) }
-    ensures none { result ≡ Err ReadFault.Term → NoHead text.now }
+    ensures none { result ≡ Err ReadFault.Term → NoLexeme text.now }
     ensures deep { result ≡ Err ReadFault.Deep → ⊥ }
 {
     let Some((first, rest)) = text.split_first() else {
@@ -32,14 +32,14 @@ pub fn first_head(alloc: Global, text: &[u8]) -> Result<(Head, &[u8]), ReadFault
     match *first {
         b'"' => {
             let (name, rest) = scan::quoted(alloc, rest)?;
-            Ok((Head::Named(name), rest))
+            Ok((Lexeme::Named(name), rest))
         }
         byte if begins_word(byte) => match Name::first_word(alloc, text)? {
-            Some((name, rest)) => Ok((Head::Named(name), rest)),
+            Some((name, rest)) => Ok((Lexeme::Named(name), rest)),
             None => Err(ReadFault::Term),
         },
         _ => match scan::integer(text) {
-            Some((value, rest)) => Ok((Head::Integer(value), rest)),
+            Some((value, rest)) => Ok((Lexeme::Integer(value), rest)),
             None => Err(ReadFault::Term),
         },
     }

@@ -2,8 +2,8 @@
 use Rattle.std.specs.Prelude.{ℕ, ℤ, List}
 use Rattle.term_core.specs.Tree.{Symbol}
 use Rattle.aterm_text.specs.Tokens.{NextSign, NextInteger, NextName}
-use Rattle.aterm_text.specs.declared.reader.head.Head.{Head}
-use Rattle.aterm_text.specs.declared.reader.head.Head.TheVariants.{Integer, Named}
+use Rattle.aterm_text.specs.declared.reader.lexeme.Lexeme.{Lexeme}
+use Rattle.aterm_text.specs.declared.reader.lexeme.Lexeme.TheVariants.{Integer, Named}
 use Rattle.aterm_text.specs.Signs.{open_round, open_square}
 
 -- an integer, a name, or the opening bracket of a list or a tuple
@@ -24,10 +24,10 @@ Begins a_tuple x y = NextSign open_round x y
 abbrev pub NoTerm : List ℕ → Type 0
 NoTerm x = (b : Beginning) (y : List ℕ) → Begins b x y → ⊥
 
-abbrev pub beginning_of : Head → Beginning
+abbrev pub beginning_of : Lexeme → Beginning
 beginning_of (Integer z) = an_integer z
 beginning_of (Named name) = a_name name
 
 -- no integer and no name comes first in x
-abbrev pub NoHead : List ℕ → Type 0
-NoHead x = (head : Head) (y : List ℕ) → Begins (beginning_of head) x y → ⊥
+abbrev pub NoLexeme : List ℕ → Type 0
+NoLexeme x = (lexeme : Lexeme) (y : List ℕ) → Begins (beginning_of lexeme) x y → ⊥
