@@ -5,6 +5,7 @@ use Rattle.std.specs.Int.{w64}
 use Rattle.std.specs.declared.option.Option.{Option}
 use Rattle.std.specs.Char.{is_ascii_digit}
 use Rattle.std.specs.List.{prefix_len}
+use Rattle.std.specs.Option.{option_map}
 use Rattle.std.specs.Str.Parse.{IsNumeral, without_leading_sign, signed_digits_value}
 use Rattle.term_core.specs.Word.{first_word}
 use Rattle.term_core.specs.Tree.{Symbol}
@@ -62,24 +63,34 @@ abbrev pub octal_value : ℕ → ℕ → ℕ → ℕ
 octal_value a b c = 64 * (a - 48) + 8 * (b - 48) + (c - 48)
 
 -- three octal digits of value at most 255 stand for one byte
+abbrev pub octal_byte : ℕ → ℕ → ℕ → Option ℕ
+octal_byte a b c =
+    if (are_octal_digits a b c && nat_lt (octal_value a b c) 256)
+    then Some (octal_value a b c) else None
+
+-- the byte that one of `" \ n t r` stands for behind a backslash
+abbrev pub short_escape : ℕ → Option ℕ
+short_escape b =
+    if (b == quote) then Some quote else
+    if (b == backslash) then Some backslash else
+    if (b == 110) then Some 10 else
+    if (b == 116) then Some 9 else
+    if (b == 114) then Some 13 else None
+
 abbrev pub octal_at : List ℕ → Option (ℕ × List ℕ)
 octal_at [] = None
 octal_at (a ∷ []) = None
 octal_at (a ∷ (b ∷ [])) = None
-octal_at (a ∷ (b ∷ (c ∷ rest))) =
-    if (are_octal_digits a b c && nat_lt (octal_value a b c) 256)
-    then Some (octal_value a b c, rest) else None
+octal_at (a ∷ (b ∷ (c ∷ rest))) = option_map (λ byte. (byte, rest)) (octal_byte a b c)
+
+abbrev pub short_or_octal : Option ℕ → ℕ → List ℕ → Option (ℕ × List ℕ)
+short_or_octal (Some byte) b rest = Some (byte, rest)
+short_or_octal None b rest = octal_at (b ∷ rest)
 
 -- what follows a backslash: one of `" \ n t r`, or three octal digits
 abbrev pub escape_at : List ℕ → Option (ℕ × List ℕ)
 escape_at [] = None
-escape_at (b ∷ rest) =
-    if (b == quote) then Some (quote, rest) else
-    if (b == backslash) then Some (backslash, rest) else
-    if (b == 110) then Some (10, rest) else
-    if (b == 116) then Some (9, rest) else
-    if (b == 114) then Some (13, rest) else
-    octal_at (b ∷ rest)
+escape_at (b ∷ rest) = short_or_octal (short_escape b) b rest
 
 -- the first item between quotes, as the byte that it stands for, and what follows it: any byte but
 -- a quote and a backslash stands for itself

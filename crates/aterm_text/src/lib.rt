@@ -2,11 +2,13 @@
 #![tactic(auto)]
 
 mod brackets;
+mod escapes;
 pub mod laws;
 mod printer;
 mod reader;
 
 pub use brackets::nesting;
+pub use escapes::{octal_byte, short_escape};
 pub use printer::{print, print_name};
 pub use reader::{ReadFault, after_blanks, is_blank, read, read_annotations};
 

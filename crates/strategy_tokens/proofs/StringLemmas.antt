@@ -5,7 +5,8 @@ use Rattle.std.specs.Option.{option_map}
 use Rattle.std.specs.List.{prefix_len}
 use Rattle.std.proofs.lemmas.Grind.{common_steps}
 use Rattle.aterm_text.proofs.ScanLemmas.{prefix_len-rest}
-use Rattle.strategy_tokens.specs.Tokens.{unescaped, behind_backslash, behind_octal, octal_byte, and_byte, and_found}
+use Rattle.aterm_text.specs.Tokens.{octal_byte}
+use Rattle.strategy_tokens.specs.Tokens.{unescaped, behind_backslash, behind_octal, and_byte, and_found}
 use Rattle.strategy_tokens.specs.Pieces.{is_no_backslash}
 
 -- these bytes, and those behind them

@@ -8,7 +8,7 @@ use Rattle.std.specs.Option.{option_map}
 use Rattle.std.specs.Str.{bytes_eq}
 use Rattle.std.specs.Str.Parse.{signed_digits_value}
 use Rattle.aterm_text.specs.Signs.{quote, backslash, minus, comma, open_round, close_round, open_square, close_square, open_curly, close_curly}
-use Rattle.aterm_text.specs.Tokens.{is_blank, are_octal_digits, octal_value}
+use Rattle.aterm_text.specs.Tokens.{is_blank, octal_byte, short_escape}
 use Rattle.strategy_tokens.specs.declared.token.Token.{Token}
 use Rattle.strategy_tokens.specs.declared.token.Token.TheVariants.{Ident, Wildcard, Reserved, Integer, Text, Sign as ASign, Bad}
 use Rattle.strategy_tokens.specs.declared.token.Keyword.{Keyword}
@@ -140,11 +140,10 @@ abbrev pub and_found : Option ℕ → Option (List ℕ) → Option (List ℕ)
 and_found None bytes = None
 and_found (Some b) bytes = and_byte b bytes
 
--- three octal digits of value at most 255 stand for one byte
-abbrev pub octal_byte : ℕ → ℕ → ℕ → Option ℕ
-octal_byte a b c =
-    if (are_octal_digits a b c && nat_lt (octal_value a b c) 256)
-    then Some (octal_value a b c) else None
+-- this byte and those behind it, or else what there is without it
+abbrev pub short_or : Option ℕ → Option (List ℕ) → Option (List ℕ) → Option (List ℕ)
+short_or (Some b) bytes other = and_byte b bytes
+short_or None bytes other = other
 
 -- The bytes that the items between the quotes stand for: any byte but a backslash stands for
 -- itself; behind a backslash stand one of `" \ n t r`, or three octal digits. Nothing, where another
@@ -156,12 +155,7 @@ abbrev mutual
 
   pub behind_backslash : List ℕ → Option (List ℕ)
   behind_backslash [] = None
-  behind_backslash (b ∷ bs) =
-      if (b == quote) then and_byte quote (unescaped bs) else
-      if (b == backslash) then and_byte backslash (unescaped bs) else
-      if (b == 110) then and_byte 10 (unescaped bs) else
-      if (b == 116) then and_byte 9 (unescaped bs) else
-      if (b == 114) then and_byte 13 (unescaped bs) else behind_octal b bs
+  behind_backslash (b ∷ bs) = short_or (short_escape b) (unescaped bs) (behind_octal b bs)
 
   pub behind_octal : ℕ → List ℕ → Option (List ℕ)
   behind_octal a [] = None

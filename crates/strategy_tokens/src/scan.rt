@@ -4,6 +4,7 @@
 ghost use Rattle.std.specs.Prelude.{◌≡◌, ◌≤◌, ◌<◌, ◌==◌, ◌&&◌, ◌∷◌, [], ℕ, length, Some, None, IfSome, List, true, suc, ◌+◌, take};
 ghost use Rattle.std.specs.List.{prefix_len};
 ghost use Rattle.std.specs.Char.{is_ascii_digit};
+ghost use Rattle.aterm_text.specs.Signs.{minus};
 ghost use Rattle.strategy_tokens.specs.Tokens.{is_no_line_feed, comment_len, begins_ident, continues_ident, ident_len, ident_token, quote_at, piece_at, comment_piece, minus_piece, sign_piece, short_signs, sign_in, sign_or_bad, closed_string, integer_token, begins_with};
 ghost use Rattle.std.specs.Str.Parse.{IsNumeral, without_leading_sign};
 ghost use Rattle.strategy_tokens.specs.Pieces.{piece_token, HoldsWord};
@@ -239,10 +240,10 @@ fn number<'a>(text: &'a [u8], first: u8, rest: &'a [u8]) -> (Piece<'a>, usize)
 
 // The integer that begins with a `-`, where a digit follows it.
 fn negative<'a>(text: &'a [u8], digit: u8, behind: &'a [u8]) -> (Piece<'a>, usize)
-    requires front { text.now ≡ 45 ∷ (digit ∷ behind.now) }
+    requires front { text.now ≡ minus ∷ (digit ∷ behind.now) }
     requires digit { is_ascii_digit digit ≡ true }
     ensures token { piece_token result.0 ≡ Some
-        (integer_token (45 ∷ (digit ∷ take (prefix_len is_ascii_digit behind.now) behind.now))) }
+        (integer_token (minus ∷ (digit ∷ take (prefix_len is_ascii_digit behind.now) behind.now))) }
     ensures more { result.1 ≡ suc (prefix_len is_ascii_digit behind.now) }
     ensures bound { result.1 ≤ 1 + length behind.now }
     ensures word { HoldsWord result.0 }
@@ -253,7 +254,7 @@ fn negative<'a>(text: &'a [u8], digit: u8, behind: &'a [u8]) -> (Piece<'a>, usiz
 
 // What begins with a `-`: an arrow, an integer or a bad token.
 fn minus<'a>(text: &'a [u8], rest: &'a [u8]) -> (Piece<'a>, usize)
-    requires { text.now ≡ 45 ∷ rest.now }
+    requires { text.now ≡ minus ∷ rest.now }
     ensures token { piece_token result.0 ≡ (minus_piece rest.now).token }
     ensures more { result.1 ≡ (minus_piece rest.now).more }
     ensures bound { result.1 ≤ length rest.now }

@@ -2,10 +2,10 @@
 
 ghost use Rattle.std.specs.Prelude.{◌≡◌, ◌<◌, ◌≤◌, length, take, drop, IfOk, IfSome, IfNone, MatchOption, Some, None};
 ghost use Rattle.std.specs.List.{prefix_len};
-ghost use Rattle.aterm_text.specs.Tokens.{is_octal_digit};
-ghost use Rattle.strategy_tokens.specs.Tokens.{unescaped, behind_backslash, behind_octal, octal_byte, and_byte};
+ghost use Rattle.strategy_tokens.specs.Tokens.{unescaped, behind_backslash, behind_octal, and_byte};
 ghost use Rattle.strategy_tokens.specs.Pieces.{is_no_backslash};
 
+use aterm_text::{octal_byte, short_escape};
 use std::alloc::Global;
 use term_core::NoMemory;
 
@@ -52,13 +52,9 @@ fn escape(items: &[u8]) -> Option<(u8, &[u8])>
     ensures shorter { IfSome result (λ found. length found.1.now < length items.now) }
 {
     let (first, rest) = items.split_first()?;
-    match *first {
-        b'"' => Some((b'"', rest)),
-        b'\\' => Some((b'\\', rest)),
-        b'n' => Some((b'\n', rest)),
-        b't' => Some((b'\t', rest)),
-        b'r' => Some((b'\r', rest)),
-        _ => octal(*first, rest),
+    match short_escape(*first) {
+        Some(byte) => Some((byte, rest)),
+        None => octal(*first, rest),
     }
 }
 
@@ -73,23 +69,4 @@ fn octal(first: u8, rest: &[u8]) -> Option<(u8, &[u8])>
     let (third, behind) = rest.split_first()?;
     let byte = octal_byte(first, *second, *third)?;
     Some((byte, behind))
-}
-
-fn octal_byte(a: u8, b: u8, c: u8) -> Option<u8>
-    ensures { result ≡ octal_byte a b c }
-{
-    if !(is_octal(a) && is_octal(b) && is_octal(c)) {
-        return None;
-    }
-    let value = 64 * u32::from(a - b'0') + 8 * u32::from(b - b'0') + u32::from(c - b'0');
-    match u8::try_from(value) {
-        Ok(byte) => Some(byte),
-        Err(_) => None,
-    }
-}
-
-fn is_octal(b: u8) -> bool
-    ensures { result ≡ is_octal_digit b }
-{
-    matches!(b, b'0'..=b'7')
 }

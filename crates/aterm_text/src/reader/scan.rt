@@ -3,8 +3,9 @@
 ghost use Rattle.std.specs.Prelude.{◌≡◌, ◌||◌, ◌==◌, ◌+◌, ◌≤◌, ◌∷◌, ◌<◌, ℕ, ℤ, IsTrue, IfOk, IfSome, IfNone, Some, None, Err, true, List, take, drop, length};
 ghost use Rattle.std.specs.List.{prefix_len};
 ghost use Rattle.std.specs.Char.{is_ascii_digit};
-ghost use Rattle.aterm_text.specs.Tokens.{is_blank, without_blanks, integer_len, IsInteger, escape_at, octal_at, octal_value, is_octal_digit, is_plain, ReadsItems};
+ghost use Rattle.aterm_text.specs.Tokens.{is_blank, without_blanks, integer_len, IsInteger, escape_at, octal_at, is_plain, ReadsItems};
 
+use crate::escapes::{octal_byte, short_escape};
 use crate::reader::ReadFault;
 use memchr::memchr2;
 use std::alloc::Global;
@@ -124,12 +125,6 @@ fn few_digits(text: &[u8]) -> Option<i64>
     i64::try_from(value).ok()
 }
 
-fn is_octal(b: u8) -> bool
-    ensures { result ≡ is_octal_digit b }
-{
-    matches!(b, b'0'..=b'7')
-}
-
 // The byte that three octal digits stand for, and what follows them.
 fn octal(text: &[u8]) -> Option<(u8, &[u8])>
     ensures some { IfSome result (λ found. octal_at text.now ≡ Some (found.0, found.1.now)) }
@@ -139,14 +134,8 @@ fn octal(text: &[u8]) -> Option<(u8, &[u8])>
     let [a, b, c, rest @ ..] = text else {
         return None;
     };
-    if !(is_octal(*a) && is_octal(*b) && is_octal(*c)) {
-        return None;
-    }
-    let value = 64 * u32::from(*a - b'0') + 8 * u32::from(*b - b'0') + u32::from(*c - b'0');
-    match u8::try_from(value) {
-        Ok(byte) => Some((byte, rest)),
-        Err(_) => None,
-    }
+    let byte = octal_byte(*a, *b, *c)?;
+    Some((byte, rest))
 }
 
 // The byte that what follows a backslash stands for, and the text behind it.
@@ -156,13 +145,9 @@ fn escape(text: &[u8]) -> Option<(u8, &[u8])>
     ensures shorter { IfSome result (λ found. length found.1.now < length text.now) }
 {
     let (first, rest) = text.split_first()?;
-    match *first {
-        b'"' => Some((b'"', rest)),
-        b'\\' => Some((b'\\', rest)),
-        b'n' => Some((b'\n', rest)),
-        b't' => Some((b'\t', rest)),
-        b'r' => Some((b'\r', rest)),
-        _ => octal(text),
+    match short_escape(*first) {
+        Some(byte) => Some((byte, rest)),
+        None => octal(text),
     }
 }
 
