@@ -11,7 +11,7 @@ use Rattle.strategy_parse.specs.Gives.{GivesModule}
 use Rattle.strategy_check.specs.Tables.{Modules}
 use Rattle.strategy_check.specs.Faults.{Fault, Primitives, faults, first}
 use Rattle.strategy_check.specs.Programs.{Program, program}
-use Rattle.strategy_check.specs.Ranges.{IsSound}
+use Rattle.strategy_check.specs.Ranges.{BodiesInRange}
 use Rattle.change_log.specs.Contents.{Named}
 use Rattle.session_core.specs.declared.refusal.Refusal.{Refusal}
 use Rattle.session_core.specs.declared.refusal.Refusal.TheVariants.{Memory, Deep, Syntax, Check}
@@ -67,7 +67,7 @@ pub record GivesProgram (primitives : Primitives) (texts : Texts) (checked : Pro
 -- It is such a program, and all its numbers are in range.
 pub record IsProgram (primitives : Primitives) (texts : Texts) (checked : Program) : Type 0 where
   pub gives : GivesProgram primitives texts checked
-  pub in_range : IsSound checked primitives
+  pub in_range : BodiesInRange checked primitives
 
 -- A program that is kept is that of these texts.
 abbrev pub IsKept : Primitives → Texts → Option Program → Type 0

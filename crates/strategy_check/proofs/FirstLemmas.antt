@@ -9,9 +9,9 @@ use Rattle.strategy_check.specs.declared.fault.Kind.{Kind}
 use Rattle.strategy_check.specs.declared.fault.Kind.TheVariants.{Parameter, Twice, Clash, Unknown, Undeclared, Wild, Primitive}
 use Rattle.strategy_check.specs.Lists.{is_among, repeated, with_new}
 use Rattle.strategy_check.specs.Binders.{Binder, number_of}
-use Rattle.strategy_check.specs.Tables.{Signature, same_signature, Table, is_defined, is_declared, Modules, signature_of, signatures_of}
-use Rattle.strategy_check.specs.Faults.{Fault, Primitives, is_primitive, fault_if, underscore, repeated_names, head_faults, pattern_faults, faults_of_patterns, name_faults, strategy_faults, faults_of_strategies, definition_head_faults, parameter_names, definition_faults, module_faults, faults_from, first}
-use Rattle.strategy_check.specs.FirstFault.{fault_when, first_repeated, first_in_head, first_in_pattern, first_in_patterns, first_in_name, first_in_strategy, first_in_strategies, first_in_definition_head, first_in_definition, first_in_definitions, first_in_modules}
+use Rattle.strategy_check.specs.Tables.{DefinitionKey, same_key, Table, is_defined, is_declared, Modules, key_of, keys_of}
+use Rattle.strategy_check.specs.Faults.{Fault, Primitives, is_primitive, fault_if, underscore, repeated_names, head_faults, pattern_faults, faults_of_patterns, name_faults, strategy_faults, faults_of_strategies, header_faults, parameter_names, definition_faults, module_faults, faults_from, first}
+use Rattle.strategy_check.specs.FirstFault.{fault_when, first_repeated, first_in_head, first_in_pattern, first_in_patterns, first_in_name, first_in_strategy, first_in_strategies, first_in_header, first_in_definition, first_in_definitions, first_in_modules}
 
 first-append : (fs gs : List Fault) → first (fs ++ gs) ≡ option_or (first fs) (first gs)
 first-append [] gs = refl
@@ -105,34 +105,34 @@ module _ (T : Table) where
       first-strategies names (and_strategy s ss) =
           both (strategy_faults T P names s) (faults_of_strategies T P names ss) (first_in_strategy T P names s) (first_in_strategies T P names ss) (first-strategy names s) (first-strategies names ss)
 
-    first-definition_head : (earlier : List Signature) (d : Definition) → first (definition_head_faults T earlier d) ≡ first_in_definition_head T earlier d
-    first-definition_head earlier d =
+    first-header : (earlier : List DefinitionKey) (d : Definition) → first (header_faults T earlier d) ≡ first_in_header T earlier d
+    first-header earlier d =
         let n = length d.strategy_parameters in
         let m = length d.term_parameters in
-        let twice = is_among same_signature (signature_of d) earlier in
+        let twice = is_among same_key (key_of d) earlier in
         let clash = (m == 0) && is_declared T d.name n in
         both (repeated_names (d.strategy_parameters ++ d.term_parameters)) (fault_if twice Twice d.name n m ++ fault_if clash Clash d.name n 0)
         (first_repeated [] (d.strategy_parameters ++ d.term_parameters)) (option_or (fault_when twice Twice d.name n m) (fault_when clash Clash d.name n 0))
         (first-repeated [] (d.strategy_parameters ++ d.term_parameters))
         (both (fault_if twice Twice d.name n m) (fault_if clash Clash d.name n 0) (fault_when twice Twice d.name n m) (fault_when clash Clash d.name n 0) (first_if twice Twice d.name n m) (first_if clash Clash d.name n 0))
 
-    first-definition : (earlier : List Signature) (d : Definition) → first (definition_faults T P earlier d) ≡ first_in_definition T P earlier d
+    first-definition : (earlier : List DefinitionKey) (d : Definition) → first (definition_faults T P earlier d) ≡ first_in_definition T P earlier d
     first-definition earlier d =
-        both (definition_head_faults T earlier d) (strategy_faults T P (parameter_names d) d.body) (first_in_definition_head T earlier d) (first_in_strategy T P (parameter_names d) d.body)
-        (first-definition_head earlier d) (first-strategy (parameter_names d) d.body)
+        both (header_faults T earlier d) (strategy_faults T P (parameter_names d) d.body) (first_in_header T earlier d) (first_in_strategy T P (parameter_names d) d.body)
+        (first-header earlier d) (first-strategy (parameter_names d) d.body)
 
-    first-definitions : (earlier : List Signature) (ds : List Definition) → first (flat_map (definition_faults T P earlier) ds) ≡ first_in_definitions T P earlier ds
+    first-definitions : (earlier : List DefinitionKey) (ds : List Definition) → first (flat_map (definition_faults T P earlier) ds) ≡ first_in_definitions T P earlier ds
     first-definitions earlier [] = refl
     first-definitions earlier (d ∷ ds) =
         both (definition_faults T P earlier d) (flat_map (definition_faults T P earlier) ds) (first_in_definition T P earlier d) (first_in_definitions T P earlier ds)
         (first-definition earlier d) (first-definitions earlier ds)
 
-    pub first-modules : (earlier : List Signature) (ms : Modules) → first (faults_from T P earlier ms) ≡ first_in_modules T P earlier ms
+    pub first-modules : (earlier : List DefinitionKey) (ms : Modules) → first (faults_from T P earlier ms) ≡ first_in_modules T P earlier ms
     first-modules earlier [] = refl
     first-modules earlier (m ∷ ms) =
-        both (module_faults T P earlier m.1) (faults_from T P (with_new same_signature earlier (signatures_of m.1.definitions)) ms)
-        (first_in_definitions T P earlier m.1.definitions) (first_in_modules T P (with_new same_signature earlier (signatures_of m.1.definitions)) ms)
-        (first-definitions earlier m.1.definitions) (first-modules (with_new same_signature earlier (signatures_of m.1.definitions)) ms)
+        both (module_faults T P earlier m.1) (faults_from T P (with_new same_key earlier (keys_of m.1.definitions)) ms)
+        (first_in_definitions T P earlier m.1.definitions) (first_in_modules T P (with_new same_key earlier (keys_of m.1.definitions)) ms)
+        (first-definitions earlier m.1.definitions) (first-modules (with_new same_key earlier (keys_of m.1.definitions)) ms)
 
 -- without a first fault there is none
 pub none_first : (fs : List Fault) → first fs ≡ None → fs ≡ []

@@ -5,7 +5,7 @@ use Rattle.std.proofs.lemmas.Bool.Decides.{nat_tests}
 use Rattle.std.specs.Prelude.{if◌then◌else◌}
 use Rattle.strategy_syntax.specs.Modules.{Definition}
 use Rattle.strategy_syntax.specs.Resolved.{ResolvedStrategy, id, guard}
-use Rattle.strategy_check.specs.Tables.{Signature, Table, definition_number}
+use Rattle.strategy_check.specs.Tables.{DefinitionKey, Table, definition_number}
 use Rattle.strategy_check.specs.Programs.{is_number, of_number, groups_from, groups, joined}
 use Rattle.strategy_check.specs.Grouping.{with_member, with_numbered, with_definition, with_definitions}
 
@@ -30,7 +30,7 @@ module _ (T : Table) (ds : List Definition) (d : Definition) where
   other : (i : ℕ) → is_number i (number T d) ≡ false → of_number T (ds ++ d ∷ []) i ≡ of_number T ds i
   other i e = of_number-last i false e ∙ append-nil (of_number T ds i)
 
-  others : (i : ℕ) (ks : List Signature) → ((j : ℕ) → is_number (i + j) (number T d) ≡ false) → groups_from T (ds ++ d ∷ []) i ks ≡ groups_from T ds i ks
+  others : (i : ℕ) (ks : List DefinitionKey) → ((j : ℕ) → is_number (i + j) (number T d) ≡ false) → groups_from T (ds ++ d ∷ []) i ks ≡ groups_from T ds i ks
   others i [] none = refl
   others i (k ∷ ks) none = λ l. other i (ap (λ n. is_number n (number T d)) (omega arith) ∙ none 0) l ∷ others (i + 1) ks (λ j. ap (λ n. is_number n (number T d)) (omega arith) ∙ none (1 + j)) l
 
@@ -40,7 +40,7 @@ module _ (T : Table) (ds : List Definition) (d : Definition) where
   more-number : (i j : ℕ) → (i == i + suc j) ≡ false
   more-number i j = grind (arith, nat_tests)
 
-  added : (i j : ℕ) (ks : List Signature) → number T d ≡ Some (i + j) → groups_from T (ds ++ d ∷ []) i ks ≡ with_member j d (groups_from T ds i ks)
+  added : (i j : ℕ) (ks : List DefinitionKey) → number T d ≡ Some (i + j) → groups_from T (ds ++ d ∷ []) i ks ≡ with_member j d (groups_from T ds i ks)
   added i j [] e = refl
   added i zero (k ∷ ks) e = λ l.
       (of_number-last i true (ap (is_number i) e ∙ ap (λ n. i == n) (omega arith) ∙ same-number i)) l
@@ -69,7 +69,7 @@ module _ (T : Table) where
   with_definitions-append gs [] es = refl
   with_definitions-append gs (d ∷ ds) es = with_definitions-append (with_definition T gs d) ds es
 
-  empty_from : (i : ℕ) (ks : List Signature) → groups_from T [] i ks ≡ replicate (length ks) []
+  empty_from : (i : ℕ) (ks : List DefinitionKey) → groups_from T [] i ks ≡ replicate (length ks) []
   empty_from i [] = refl
   empty_from i (k ∷ ks) = ap (λ gs. [] ∷ gs) (empty_from (i + 1) ks)
 

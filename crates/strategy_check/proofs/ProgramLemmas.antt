@@ -10,12 +10,12 @@ use Rattle.strategy_syntax.specs.Resolved.{ResolvedStrategy}
 use Rattle.strategy_syntax.specs.declared.resolved.Resolved.{Resolved}
 use Rattle.strategy_check.specs.Lists.{is_among, first_ones, with_new}
 use Rattle.strategy_check.specs.Binders.{Binder, number_of, bound_from}
-use Rattle.strategy_check.specs.Tables.{Signature, same_signature, Table, definition_number, Modules, signatures_of, definitions_of, table_of}
-use Rattle.strategy_check.specs.Faults.{Primitives, definition_head_faults, definition_faults, parameter_names, module_faults, faults_from, faults, strategy_faults}
+use Rattle.strategy_check.specs.Tables.{DefinitionKey, same_key, Table, definition_number, Modules, keys_of, definitions_of, table_of}
+use Rattle.strategy_check.specs.Faults.{Primitives, header_faults, definition_faults, parameter_names, module_faults, faults_from, faults, strategy_faults}
 use Rattle.strategy_check.specs.Free.{free, free_variables}
 use Rattle.strategy_check.specs.Resolving.{resolved_strategy}
 use Rattle.strategy_check.specs.Programs.{Program, free_of, scope_of, variable_count, resolved_bodies, joined, term_count, joined_definition, is_number, of_number, groups_from, program, faults_of, resolved}
-use Rattle.strategy_check.specs.Ranges.{InRange, IsInRange, IsSound}
+use Rattle.strategy_check.specs.Ranges.{InRange, IsInRange, BodiesInRange}
 use Rattle.strategy_check.proofs.BinderLemmas.{bound_count}
 use Rattle.strategy_check.proofs.FreeLemmas.{bound_number, among-append, or-false}
 use Rattle.strategy_check.proofs.RangeLemmas.{AreBelow, AreBound, below-bound, left-none, right-none, numbered, strategy_range}
@@ -67,13 +67,13 @@ names_below : (xs : List Symbol) → AreBelow (length (bound_from 0 xs [])) (bou
 names_below xs = below-bound (length (bound_from 0 xs [])) 0 xs [] (let e = bound_count 0 xs in omega (arith, e)) tt
 
 module _ (T : Table) (P : Primitives) where
-  -- a definition of this signature without faults in its body
-  pub record Suits (k : Signature) (d : Definition) : Type 0 where
+  -- a definition with this key without faults in its body
+  pub record Suits (k : DefinitionKey) (d : Definition) : Type 0 where
     pub strategies : k.strategies ≡ length d.strategy_parameters
     pub terms : k.terms ≡ length d.term_parameters
     pub faultless : strategy_faults T P (parameter_names d) d.body ≡ []
 
-  abbrev pub AllSuit : Signature → List Definition → Type 0
+  abbrev pub AllSuit : DefinitionKey → List Definition → Type 0
   AllSuit k [] = ⊤
   AllSuit k (d ∷ ds) = Suits k d × AllSuit k ds
 
@@ -81,7 +81,7 @@ module _ (T : Table) (P : Primitives) where
   AllIn n m [] = ⊤
   AllIn n m (r ∷ rs) = InRange T.definitions P n m r × AllIn n m rs
 
-  body_range : (k : Signature) (first count : ℕ) (d : Definition) → Suits k d → first + length (free_of d) ≤ count → k.terms ≤ count
+  body_range : (k : DefinitionKey) (first count : ℕ) (d : Definition) → Suits k d → first + length (free_of d) ≤ count → k.terms ≤ count
       → InRange T.definitions P count k.strategies (resolved_strategy T P (scope_of first count d) d.body)
   body_range k first count d suits free_fit terms_fit =
       let names : length (bound_from 0 d.strategy_parameters []) ≡ k.strategies = bound_count 0 d.strategy_parameters ∙ sym suits.strategies in
@@ -91,7 +91,7 @@ module _ (T : Table) (P : Primitives) where
       (below-bound count 0 d.term_parameters (bound_from first (free_of d) []) fit (below-bound count first (free_of d) [] free_fit tt))
       (names_below d.strategy_parameters) (free_bound d.term_parameters first d.body) suits.faultless)
 
-  bodies_range : (k : Signature) (first count : ℕ) (ds : List Definition) → AllSuit k ds → first + variable_count ds ≤ count → k.terms ≤ count
+  bodies_range : (k : DefinitionKey) (first count : ℕ) (ds : List Definition) → AllSuit k ds → first + variable_count ds ≤ count → k.terms ≤ count
       → AllIn count k.strategies (resolved_bodies T P first count ds)
   bodies_range k first count [] suit fit terms_fit = tt
   bodies_range k first count (d ∷ ds) suit fit terms_fit = (
@@ -104,7 +104,7 @@ module _ (T : Table) (P : Primitives) where
   joined_range n m (r ∷ []) h = h.0
   joined_range n m (r ∷ (q ∷ rs)) h = (h.0, (tt, joined_range n m (q ∷ rs) h.1))
 
-  joined_definition_range : (k : Signature) (ds : List Definition) → AllSuit k ds
+  joined_definition_range : (k : DefinitionKey) (ds : List Definition) → AllSuit k ds
       → InRange T.definitions P (k.terms + variable_count ds) k.strategies (joined (resolved_bodies T P (term_count ds) (term_count ds + variable_count ds) ds))
   joined_definition_range k [] suit = tt
   joined_definition_range k (d ∷ ds) suit =
@@ -121,27 +121,27 @@ module _ (T : Table) (P : Primitives) where
   same_some : {X : Type 0} {x y : X} → Some x ≡ Some y → x ≡ y
   same_some e = cc
 
-  signature_suits : (k : Signature) (i : ℕ) (d : Definition) (o : Option ℕ) → definition_number T d.name (length d.strategy_parameters) (length d.term_parameters) ≡ o → is_number i o ≡ true
+  key_suits : (k : DefinitionKey) (i : ℕ) (d : Definition) (o : Option ℕ) → definition_number T d.name (length d.strategy_parameters) (length d.term_parameters) ≡ o → is_number i o ≡ true
       → slice_get T.definitions i ≡ Some k → strategy_faults T P (parameter_names d) d.body ≡ [] → Suits k d
-  signature_suits k i d None e t there none = absurd (cc)
-  signature_suits k i d (Some j) e t there none =
+  key_suits k i d None e t there none = absurd (cc)
+  key_suits k i d (Some j) e t there none =
       let same : i ≡ j = (Decides-eqb i j).0 t in
       let found = numbered T d.name (length d.strategy_parameters) (length d.term_parameters) (Some j) e in
       let at : IsSomeAnd (Some k) (λ k. (k.strategies ≡ length d.strategy_parameters) × (k.terms ≡ length d.term_parameters)) =
       subst (λ o. IsSomeAnd o (λ k. (k.strategies ≡ length d.strategy_parameters) × (k.terms ≡ length d.term_parameters))) (ap (slice_get T.definitions) (sym same) ∙ there) found in
       record { strategies = at.0; terms = at.1; faultless = none }
 
-  all_suit : (k : Signature) (i : ℕ) (ds : List Definition) → slice_get T.definitions i ≡ Some k → Faultless ds → AllSuit k (of_number T ds i)
+  all_suit : (k : DefinitionKey) (i : ℕ) (ds : List Definition) → slice_get T.definitions i ≡ Some k → Faultless ds → AllSuit k (of_number T ds i)
   all_suit k i [] there none = tt
   all_suit k i (d ∷ ds) there none = by (is_number i (definition_number T d.name (length d.strategy_parameters) (length d.term_parameters))) refl (all_suit k i ds there none.1) where
     by : (b : Bool) → is_number i (definition_number T d.name (length d.strategy_parameters) (length d.term_parameters)) ≡ b → AllSuit k (of_number T ds i)
         → AllSuit k (if b then d ∷ of_number T ds i else of_number T ds i)
-    by true e rest = (signature_suits k i d (definition_number T d.name (length d.strategy_parameters) (length d.term_parameters)) refl e there none.0, rest)
+    by true e rest = (key_suits k i d (definition_number T d.name (length d.strategy_parameters) (length d.term_parameters)) refl e there none.0, rest)
     by false e rest = rest
 
   -- ---- all of them
 
-  at_number : (Q : Resolved → Type 0) (ds : List Definition) (i f : ℕ) (ks : List Signature) (k : Signature) → slice_get ks f ≡ Some k
+  at_number : (Q : Resolved → Type 0) (ds : List Definition) (i f : ℕ) (ks : List DefinitionKey) (k : DefinitionKey) → slice_get ks f ≡ Some k
       → Q (joined_definition T P (of_number T ds (i + f))) → IsSomeAnd (slice_get (map (joined_definition T P) (groups_from T ds i ks)) f) Q
   at_number Q ds i f [] k e q = absurd (cc)
   at_number Q ds i zero (h ∷ ks) k e q = subst (λ n. Q (joined_definition T P (of_number T ds n))) (omega arith) q
@@ -151,23 +151,23 @@ module _ (T : Table) (P : Primitives) where
   faultless-append [] es h k = k
   faultless-append (d ∷ ds) es h k = (h.0, faultless-append ds es h.1 k)
 
-  faultless_definitions : (earlier : List Signature) (ds : List Definition) → flat_map (definition_faults T P earlier) ds ≡ [] → Faultless ds
+  faultless_definitions : (earlier : List DefinitionKey) (ds : List Definition) → flat_map (definition_faults T P earlier) ds ≡ [] → Faultless ds
   faultless_definitions earlier [] e = tt
   faultless_definitions earlier (d ∷ ds) e = (
-    right-none (definition_head_faults T earlier d) (strategy_faults T P (parameter_names d) d.body) (left-none (definition_faults T P earlier d) (flat_map (definition_faults T P earlier) ds) e),
+    right-none (header_faults T earlier d) (strategy_faults T P (parameter_names d) d.body) (left-none (definition_faults T P earlier d) (flat_map (definition_faults T P earlier) ds) e),
     faultless_definitions earlier ds (right-none (definition_faults T P earlier d) (flat_map (definition_faults T P earlier) ds) e),
   )
 
-  faultless_modules : (earlier : List Signature) (ms : Modules) → faults_from T P earlier ms ≡ [] → Faultless (definitions_of ms)
+  faultless_modules : (earlier : List DefinitionKey) (ms : Modules) → faults_from T P earlier ms ≡ [] → Faultless (definitions_of ms)
   faultless_modules earlier [] e = tt
   faultless_modules earlier (m ∷ ms) e =
-      let rest = faults_from T P (with_new same_signature earlier (signatures_of m.1.definitions)) ms in
+      let rest = faults_from T P (with_new same_key earlier (keys_of m.1.definitions)) ms in
       faultless-append m.1.definitions (definitions_of ms)
       (faultless_definitions earlier m.1.definitions (left-none (module_faults T P earlier m.1) rest e))
-      (faultless_modules (with_new same_signature earlier (signatures_of m.1.definitions)) ms (right-none (module_faults T P earlier m.1) rest e))
+      (faultless_modules (with_new same_key earlier (keys_of m.1.definitions)) ms (right-none (module_faults T P earlier m.1) rest e))
 
-pub program_sound : (ms : Modules) (P : Primitives) → faults ms P ≡ [] → IsSound (program ms P) P
-program_sound ms P e f k there =
+pub bodies_in_range : (ms : Modules) (P : Primitives) → faults ms P ≡ [] → BodiesInRange (program ms P) P
+bodies_in_range ms P e f k there =
     at_number (table_of ms) P (λ r. IsInRange (program ms P) P k.terms k.strategies r) (definitions_of ms) 0 f (table_of ms).definitions k there
     (subst (λ n. IsInRange (program ms P) P k.terms k.strategies (joined_definition (table_of ms) P (of_number (table_of ms) (definitions_of ms) n))) (omega arith)
     (joined_definition_range (table_of ms) P k (of_number (table_of ms) (definitions_of ms) f)

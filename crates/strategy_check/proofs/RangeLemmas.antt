@@ -14,7 +14,7 @@ use Rattle.strategy_syntax.specs.Resolved.{Places, ResolvedStrategies, resolved_
 use Rattle.strategy_syntax.specs.Variables.{variables, variables_of_all}
 use Rattle.strategy_check.specs.Lists.{is_among, without}
 use Rattle.strategy_check.specs.Binders.{Binder, number_of, bound_from}
-use Rattle.strategy_check.specs.Tables.{Signature, same_signature, Table, definition_number}
+use Rattle.strategy_check.specs.Tables.{DefinitionKey, same_key, Table, definition_number}
 use Rattle.strategy_check.specs.Faults.{Fault, Primitives, is_primitive, fault_if, repeated_names, name_faults, faults_of_patterns, strategy_faults, faults_of_strategies}
 use Rattle.strategy_check.specs.Free.{free, free_in_all}
 use Rattle.strategy_check.specs.Resolving.{Scope, with_variables, with_name, variable_number, place, places, name_or_other, definition_or_constructor, resolved_strategy, resolved_strategies}
@@ -133,13 +133,13 @@ get_or_same [] i d e lt = absurd (omega arith)
 get_or_same (x ∷ xs) zero d e lt = refl
 get_or_same (x ∷ xs) (suc i) d e lt = get_or_same xs i d e (omega arith)
 
--- the signature that stands at the number of a definition
+-- the key that stands at the number of a definition
 pub numbered : (T : Table) (f : Symbol) (n m : ℕ) (o : Option ℕ) → definition_number T f n m ≡ o
     → IfSome o (λ i. IsSomeAnd (slice_get T.definitions i) (λ k. (k.strategies ≡ n) × (k.terms ≡ m)))
 numbered T f n m None e = tt
 numbered T f n m (Some i) e =
-    let wanted : Signature = record { name = f; strategies = n; terms = m } in
-    let found = position-Some (same_signature wanted) T.definitions i wanted e in
+    let wanted : DefinitionKey = record { name = f; strategies = n; terms = m } in
+    let found = position-Some (same_key wanted) T.definitions i wanted e in
     let k = get_or T.definitions i wanted in
     let there : slice_get T.definitions i ≡ Some k = slice_get_read T.definitions (length T.definitions) i k refl found.0 (get_or_same T.definitions i wanted k found.0) in
     let counts = and-right (same_name f k.name) ((n == k.strategies) && (m == k.terms)) found.1 in

@@ -11,7 +11,7 @@ use Rattle.strategy_check.specs.declared.fault.CheckFault.{CheckFault}
 use Rattle.strategy_check.specs.declared.fault.CheckFault.TheVariants.{Memory, Fault as Told}
 use Rattle.strategy_check.specs.Lists.{is_among, with_new, repeated}
 use Rattle.strategy_check.specs.Binders.{Binder, number_of, bound_from}
-use Rattle.strategy_check.specs.Tables.{Signature, same_signature, Table, is_defined, is_declared, Modules, signature_of, signatures_of, table_of}
+use Rattle.strategy_check.specs.Tables.{DefinitionKey, same_key, Table, is_defined, is_declared, Modules, key_of, keys_of, table_of}
 
 -- a kind, a name and two numbers, as they are printed
 pub record Fault : Type 0 where
@@ -111,31 +111,31 @@ abbrev mutual
 
 -- ---- definitions and modules
 
--- the head of a definition, where earlier modules define these
-abbrev pub definition_head_faults : Table → List Signature → Definition → List Fault
-definition_head_faults T earlier d =
+-- the header of a definition, where earlier modules define these
+abbrev pub header_faults : Table → List DefinitionKey → Definition → List Fault
+header_faults T earlier d =
     let n = length d.strategy_parameters in
     let m = length d.term_parameters in
     repeated_names (d.strategy_parameters ++ d.term_parameters)
-    ++ (fault_if (is_among same_signature (signature_of d) earlier) Twice d.name n m
+    ++ (fault_if (is_among same_key (key_of d) earlier) Twice d.name n m
     ++ fault_if ((m == 0) && is_declared T d.name n) Clash d.name n 0)
 
 -- the strategy parameters of a definition
 abbrev pub parameter_names : Definition → List Binder
 parameter_names d = bound_from 0 d.strategy_parameters []
 
-abbrev pub definition_faults : Table → Primitives → List Signature → Definition → List Fault
+abbrev pub definition_faults : Table → Primitives → List DefinitionKey → Definition → List Fault
 definition_faults T P earlier d =
-    definition_head_faults T earlier d ++ strategy_faults T P (parameter_names d) d.body
+    header_faults T earlier d ++ strategy_faults T P (parameter_names d) d.body
 
-abbrev pub module_faults : Table → Primitives → List Signature → Module → List Fault
+abbrev pub module_faults : Table → Primitives → List DefinitionKey → Module → List Fault
 module_faults T P earlier m = flat_map (definition_faults T P earlier) m.definitions
 
-abbrev pub faults_from : Table → Primitives → List Signature → Modules → List Fault
+abbrev pub faults_from : Table → Primitives → List DefinitionKey → Modules → List Fault
 faults_from T P earlier [] = []
 faults_from T P earlier (m ∷ ms) =
     module_faults T P earlier m.1
-    ++ faults_from T P (with_new same_signature earlier (signatures_of m.1.definitions)) ms
+    ++ faults_from T P (with_new same_key earlier (keys_of m.1.definitions)) ms
 
 -- the faults of the modules, which come in the order of their names
 abbrev pub faults : Modules → Primitives → List Fault

@@ -11,7 +11,7 @@ use Rattle.strategy_check.specs.declared.fault.Kind.TheVariants.{Parameter, Twic
 use Rattle.strategy_check.specs.declared.fault.CheckFault.{CheckFault}
 use Rattle.strategy_check.specs.Lists.{is_among, with_new}
 use Rattle.strategy_check.specs.Binders.{Binder, number_of}
-use Rattle.strategy_check.specs.Tables.{Signature, same_signature, Table, is_defined, is_declared, Modules, signature_of, signatures_of}
+use Rattle.strategy_check.specs.Tables.{DefinitionKey, same_key, Table, is_defined, is_declared, Modules, key_of, keys_of}
 use Rattle.strategy_check.specs.Faults.{Fault, IsTold, Primitives, is_primitive, underscore, parameter_names}
 
 -- What a call tells of the first fault: that there is none, or which it is.
@@ -103,25 +103,25 @@ abbrev mutual
 
 -- ---- definitions and modules
 
-abbrev pub first_in_definition_head : Table → List Signature → Definition → Option Fault
-first_in_definition_head T earlier d =
+abbrev pub first_in_header : Table → List DefinitionKey → Definition → Option Fault
+first_in_header T earlier d =
     let n = length d.strategy_parameters in
     let m = length d.term_parameters in
     option_or (first_repeated [] (d.strategy_parameters ++ d.term_parameters))
-    (option_or (fault_when (is_among same_signature (signature_of d) earlier) Twice d.name n m)
+    (option_or (fault_when (is_among same_key (key_of d) earlier) Twice d.name n m)
     (fault_when ((m == 0) && is_declared T d.name n) Clash d.name n 0))
 
-abbrev pub first_in_definition : Table → Primitives → List Signature → Definition → Option Fault
+abbrev pub first_in_definition : Table → Primitives → List DefinitionKey → Definition → Option Fault
 first_in_definition T P earlier d =
-    option_or (first_in_definition_head T earlier d) (first_in_strategy T P (parameter_names d) d.body)
+    option_or (first_in_header T earlier d) (first_in_strategy T P (parameter_names d) d.body)
 
-abbrev pub first_in_definitions : Table → Primitives → List Signature → List Definition → Option Fault
+abbrev pub first_in_definitions : Table → Primitives → List DefinitionKey → List Definition → Option Fault
 first_in_definitions T P earlier [] = None
 first_in_definitions T P earlier (d ∷ ds) =
     option_or (first_in_definition T P earlier d) (first_in_definitions T P earlier ds)
 
-abbrev pub first_in_modules : Table → Primitives → List Signature → Modules → Option Fault
+abbrev pub first_in_modules : Table → Primitives → List DefinitionKey → Modules → Option Fault
 first_in_modules T P earlier [] = None
 first_in_modules T P earlier (m ∷ ms) =
     option_or (first_in_definitions T P earlier m.1.definitions)
-    (first_in_modules T P (with_new same_signature earlier (signatures_of m.1.definitions)) ms)
+    (first_in_modules T P (with_new same_key earlier (keys_of m.1.definitions)) ms)

@@ -5,14 +5,14 @@ use Rattle.strategy_syntax.specs.Modules.{Constructor, constructor_code}
 use Rattle.strategy_syntax.specs.Resolved.{ResolvedStrategy}
 use Rattle.strategy_syntax.specs.ResolvedCodes.{resolved_code}
 use Rattle.strategy_syntax.specs.declared.resolved.Resolved.{Resolved}
-use Rattle.strategy_check.specs.Tables.{Signature, Table}
-use Rattle.strategy_check.specs.TableCodes.{signature_code}
+use Rattle.strategy_check.specs.Tables.{DefinitionKey, Table}
+use Rattle.strategy_check.specs.TableCodes.{key_code}
 use Rattle.strategy_check.specs.Programs.{Program}
 
 abbrev pub table_code : Coded Table
 table_code =
-    code_by (List Signature × List Constructor)
-    (coded× (coded_list signature_code) (coded_list constructor_code))
+    code_by (List DefinitionKey × List Constructor)
+    (coded× (coded_list key_code) (coded_list constructor_code))
     (λ t. (t.definitions, t.constructors))
     (λ p. record { definitions = p.0; constructors = p.1 }) (λ _. refl)
 

@@ -7,7 +7,7 @@ use Rattle.strategy_syntax.specs.Modules.{Definition}
 use Rattle.strategy_syntax.specs.declared.resolved.Resolved.{Resolved}
 use Rattle.term_core.specs.Tree.{Symbol}
 use Rattle.strategy_check.specs.Binders.{bound_from}
-use Rattle.strategy_check.specs.Tables.{Signature, Table, definition_number, table_of, Modules, definitions_of}
+use Rattle.strategy_check.specs.Tables.{DefinitionKey, Table, definition_number, table_of, Modules, definitions_of}
 use Rattle.strategy_check.specs.Faults.{Fault, Primitives, strategy_faults}
 use Rattle.strategy_check.specs.Free.{free_variables}
 use Rattle.strategy_check.specs.Resolving.{Scope, resolved_strategy}
@@ -32,7 +32,7 @@ scope_of first count d = record {
   names = bound_from 0 d.strategy_parameters [];
 }
 
--- ---- the bodies of one definition, which have the same signature
+-- ---- the bodies of one definition, which have the same key
 
 -- how many free variables they have
 abbrev pub variable_count : List Definition → ℕ
@@ -72,13 +72,13 @@ abbrev pub is_number : ℕ → Option ℕ → Bool
 is_number i None = false
 is_number i (Some j) = i == j
 
--- those with the signature of this number, in the order of the texts
+-- those with the key of this number, in the order of the texts
 abbrev pub of_number : Table → List Definition → ℕ → List Definition
 of_number T ds i =
     filter (λ d. is_number i (definition_number T d.name (length d.strategy_parameters) (length d.term_parameters))) ds
 
--- those of each signature, from number i on
-abbrev pub groups_from : Table → List Definition → ℕ → List Signature → List (List Definition)
+-- those of each key, from number i on
+abbrev pub groups_from : Table → List Definition → ℕ → List DefinitionKey → List (List Definition)
 groups_from T ds i [] = []
 groups_from T ds i (k ∷ ks) = of_number T ds i ∷ groups_from T ds (i + 1) ks
 

@@ -2,7 +2,7 @@
 use Rattle.std.specs.Prelude.{◌≡◌, ℕ, suc, ◌+◌, ◌<◌, List, length, slice_get, IsSomeAnd, Some, ⊤}
 use Rattle.strategy_syntax.specs.Resolved.{Place, wildcard, variable, at, number, compound, with_tail, annotated, Places, no_places, and_place, place_list, ResolvedStrategy, id, fail, matches, builds, seq, guard, test, scope, param, call, congruence, tail_congruence, all, one, some, child, rec, prim, ResolvedStrategies, no_strategies, and_strategy, resolved_list}
 use Rattle.strategy_syntax.specs.declared.resolved.Resolved.{Resolved}
-use Rattle.strategy_check.specs.Tables.{Signature}
+use Rattle.strategy_check.specs.Tables.{DefinitionKey}
 use Rattle.strategy_check.specs.Faults.{Primitives}
 use Rattle.strategy_check.specs.Programs.{Program}
 
@@ -25,7 +25,7 @@ abbrev mutual
 -- below that, a call is of a definition that takes as many strategies and terms, and a primitive is
 -- one that takes as many terms.
 abbrev mutual
-  pub InRange : List Signature → Primitives → ℕ → ℕ → ResolvedStrategy → Type 0
+  pub InRange : List DefinitionKey → Primitives → ℕ → ℕ → ResolvedStrategy → Type 0
   InRange D P n m id = ⊤
   InRange D P n m fail = ⊤
   InRange D P n m (matches p) = PlaceInRange n p
@@ -48,7 +48,7 @@ abbrev mutual
   InRange D P n m (prim f ps) =
       IsSomeAnd (slice_get P f) (λ p. length (place_list ps) ≡ p.arity) × PlacesInRange n ps
 
-  pub AllInRange : List Signature → Primitives → ℕ → ℕ → ResolvedStrategies → Type 0
+  pub AllInRange : List DefinitionKey → Primitives → ℕ → ℕ → ResolvedStrategies → Type 0
   AllInRange D P n m no_strategies = ⊤
   AllInRange D P n m (and_strategy s ss) = InRange D P n m s × AllInRange D P n m ss
 
@@ -58,7 +58,7 @@ IsInRange p P terms strategies r =
     InRange p.table.definitions P (terms + r.variables) strategies r.strategy
 
 -- each definition of the program has a body, which is in range where its parameters are given
-abbrev pub IsSound : Program → Primitives → Type 0
-IsSound p P =
-    (f : ℕ) (k : Signature) → slice_get p.table.definitions f ≡ Some k
+abbrev pub BodiesInRange : Program → Primitives → Type 0
+BodiesInRange p P =
+    (f : ℕ) (k : DefinitionKey) → slice_get p.table.definitions f ≡ Some k
     → IsSomeAnd (slice_get p.bodies f) (λ r. IsInRange p P k.terms k.strategies r)

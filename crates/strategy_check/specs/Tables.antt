@@ -5,29 +5,29 @@ use Rattle.term_core.specs.Tree.{Symbol, same_name}
 use Rattle.strategy_syntax.specs.Modules.{Constructor, Definition, Module}
 use Rattle.strategy_check.specs.Lists.{is_among, first_ones}
 
--- A definition is known by its name and by how many strategies and terms it takes.
-pub record Signature : Type 0 where
+-- What a definition is found by: its name, and how many strategies and terms it takes.
+pub record DefinitionKey : Type 0 where
   pub name : Symbol
   pub strategies : ℕ
   pub terms : ℕ
 
-abbrev pub same_signature : Signature → Signature → Bool
-same_signature a b =
+abbrev pub same_key : DefinitionKey → DefinitionKey → Bool
+same_key a b =
     same_name a.name b.name && ((a.strategies == b.strategies) && (a.terms == b.terms))
 
 abbrev pub same_constructor : Constructor → Constructor → Bool
 same_constructor a b = same_name a.name b.name && (a.arity == b.arity)
 
--- Each signature and each constructor once, where it first stands. The place of a signature is the
+-- Each key and each constructor once, where it first stands. The place of a key is the
 -- number of its definition.
 pub record Table : Type 0 where
-  pub definitions : List Signature
+  pub definitions : List DefinitionKey
   pub constructors : List Constructor
 
 -- the number of the definition of f for so many strategies and terms, if there is one
 abbrev pub definition_number : Table → Symbol → ℕ → ℕ → Option ℕ
 definition_number T f n m =
-    position (same_signature (record { name = f; strategies = n; terms = m })) T.definitions
+    position (same_key (record { name = f; strategies = n; terms = m })) T.definitions
 
 abbrev pub is_defined : Table → Symbol → ℕ → ℕ → Bool
 is_defined T f n m = is_some (definition_number T f n m)
@@ -42,15 +42,15 @@ is_declared T f n = is_among same_constructor (record { name = f; arity = n }) T
 abbrev pub Modules : Type 0
 Modules = List (List ℕ × Module)
 
-abbrev pub signature_of : Definition → Signature
-signature_of d = record {
+abbrev pub key_of : Definition → DefinitionKey
+key_of d = record {
   name = d.name;
   strategies = length d.strategy_parameters;
   terms = length d.term_parameters;
 }
 
-abbrev pub signatures_of : List Definition → List Signature
-signatures_of ds = map signature_of ds
+abbrev pub keys_of : List Definition → List DefinitionKey
+keys_of ds = map key_of ds
 
 abbrev pub definitions_of : Modules → List Definition
 definitions_of ms = flat_map (λ m. m.1.definitions) ms
@@ -60,6 +60,6 @@ constructors_of ms = flat_map (λ m. m.1.constructors) ms
 
 abbrev pub table_of : Modules → Table
 table_of ms = record {
-  definitions = first_ones same_signature [] (signatures_of (definitions_of ms));
+  definitions = first_ones same_key [] (keys_of (definitions_of ms));
   constructors = first_ones same_constructor [] (constructors_of ms);
 }

@@ -12,7 +12,7 @@ use thiserror::Error;
 /// The kinds of faults.
 #[derive(Clone, Copy, Debug, PartialEq, Eq)]
 pub enum Kind {
-    /// A name stands twice in a head or a scope, or a strategy parameter has arguments.
+    /// A name stands twice in a header or a scope, or a strategy parameter has arguments.
     Parameter,
     /// A module before defines the same name with as many parameters.
     Twice,

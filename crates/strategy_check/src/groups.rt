@@ -18,13 +18,13 @@ use std::marker::Model;
 use strategy_syntax::{Definition, Module, Resolved, ResolvedForm, ResolvedStrategy};
 use term_core::{Label, NoMemory};
 
-/// Definitions of one signature, in the order of the texts.
+/// Definitions with one key, in the order of the texts.
 #[derive(Drop)]
-pub struct Group<'a> {
+pub struct DefinitionGroup<'a> {
     definitions: Vec<&'a Definition>,
 }
 
-impl<'a> Model for Group<'a> {
+impl<'a> Model for DefinitionGroup<'a> {
     ghost use Rattle.std.specs.Prelude.{List, map};
     ghost use Rattle.std.specs.Coded.{coded_list};
     ghost use Rattle.strategy_syntax.specs.Modules.{Definition, definition_code};
@@ -36,11 +36,11 @@ impl<'a> Model for Group<'a> {
     ghost view = { λ g. map (λ d. d.now) g.definitions.items };
 }
 
-impl<'a> Group<'a> {
-    fn new(alloc: Global) -> Group<'a>
+impl<'a> DefinitionGroup<'a> {
+    fn new(alloc: Global) -> DefinitionGroup<'a>
         ensures { result ≡ [] }
     {
-        Group {
+        DefinitionGroup {
             definitions: Vec::new(alloc),
         }
     }
@@ -53,12 +53,12 @@ impl<'a> Group<'a> {
     }
 }
 
-/// The definitions of each signature, in the order of the texts.
+/// The definitions with each key, in the order of the texts.
 pub fn group_definitions<'a>(
     alloc: Global,
     table: &Table,
     modules: &'a [(Label, Module)],
-) -> Result<Vec<Group<'a>>, NoMemory>
+) -> Result<Vec<DefinitionGroup<'a>>, NoMemory>
     ensures { IfOk result (λ found. found.items ≡ groups table.now (definitions_of modules.now)) }
 {
     let mut groups = empty_groups(alloc, table.definitions.len())?;
@@ -68,19 +68,19 @@ pub fn group_definitions<'a>(
     Ok(groups)
 }
 
-fn empty_groups<'a>(alloc: Global, count: usize) -> Result<Vec<Group<'a>>, NoMemory>
+fn empty_groups<'a>(alloc: Global, count: usize) -> Result<Vec<DefinitionGroup<'a>>, NoMemory>
     ensures { IfOk result (λ made. made.items ≡ replicate count []) }
 {
     let mut groups = Vec::with_capacity(alloc, count)?;
     for _ in 0..count {
-        groups.push(Group::new(alloc))?;
+        groups.push(DefinitionGroup::new(alloc))?;
     }
     Ok(groups)
 }
 
 fn add_to_groups<'a>(
     table: &Table,
-    groups: &mut Vec<Group<'a>>,
+    groups: &mut Vec<DefinitionGroup<'a>>,
     definitions: &'a [Definition],
 ) -> Result<(), NoMemory>
     ensures { OnOk result (groups.new.items
@@ -94,7 +94,7 @@ fn add_to_groups<'a>(
 
 fn add_to_group<'a>(
     table: &Table,
-    groups: &mut Vec<Group<'a>>,
+    groups: &mut Vec<DefinitionGroup<'a>>,
     definition: &'a Definition,
 ) -> Result<(), NoMemory>
     ensures { OnOk result (groups.new.items
@@ -116,7 +116,7 @@ pub fn join_groups<M: Meaning>(
     alloc: Global,
     table: &Table,
     primitives: &Primitives<M>,
-    groups: &[Group<'_>],
+    groups: &[DefinitionGroup<'_>],
 ) -> Result<Vec<Resolved>, NoMemory>
     ensures { IfOk result (λ bodies. bodies.items
         ≡ map (joined_definition table.now primitives.now) groups.now) }
@@ -132,7 +132,7 @@ fn join_group<M: Meaning>(
     alloc: Global,
     table: &Table,
     primitives: &Primitives<M>,
-    group: &Group<'_>,
+    group: &DefinitionGroup<'_>,
 ) -> Result<Resolved, NoMemory>
     ensures { IfOk result (λ resolved. resolved
         ≡ joined_definition table.now primitives.now group.now) }
@@ -149,7 +149,7 @@ fn join_group<M: Meaning>(
 }
 
 // How many terms the definitions take.
-fn count_terms(group: &Group<'_>) -> usize
+fn count_terms(group: &DefinitionGroup<'_>) -> usize
     ensures { result ≡ term_count group.now }
 {
     match group.definitions.first() {
@@ -159,7 +159,7 @@ fn count_terms(group: &Group<'_>) -> usize
 }
 
 // How many free variables the bodies have.
-fn count_variables(alloc: Global, group: &Group<'_>) -> Result<usize, NoMemory>
+fn count_variables(alloc: Global, group: &DefinitionGroup<'_>) -> Result<usize, NoMemory>
     ensures { IfOk result (λ count. count ≡ variable_count group.now) }
 {
     let mut count: usize = 0;
@@ -185,7 +185,7 @@ fn resolve_bodies<M: Meaning>(
     primitives: &Primitives<M>,
     first: usize,
     count: usize,
-    group: &Group<'_>,
+    group: &DefinitionGroup<'_>,
 ) -> Result<Vec<ResolvedStrategy>, NoMemory>
     ensures { IfOk result (λ bodies. bodies.items
         ≡ resolved_bodies table.now primitives.now first count group.now) }

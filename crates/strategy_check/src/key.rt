@@ -8,33 +8,33 @@ use term_core::{Name, NoMemory};
 
 /// A definition's name and how many strategies and terms it takes, as a key.
 #[derive(Drop, PartialEq, Eq, Hash)]
-pub struct Signature {
+pub struct DefinitionKey {
     name: Name,
     strategies: usize,
     terms: usize,
 }
 
-impl Model for Signature {
-    ghost use Rattle.strategy_check.specs.Tables.{Signature};
-    ghost use Rattle.strategy_check.specs.TableCodes.{signature_code};
+impl Model for DefinitionKey {
+    ghost use Rattle.strategy_check.specs.Tables.{DefinitionKey};
+    ghost use Rattle.strategy_check.specs.TableCodes.{key_code};
 
-    ghost Value = { Signature };
+    ghost Value = { DefinitionKey };
 
-    ghost coded = { signature_code };
+    ghost coded = { key_code };
 
     ghost view = { λ s. record { name = s.name; strategies = s.strategies; terms = s.terms } };
 
     ghost inverse = { λ s. record { name = s.name; strategies = s.strategies; terms = s.terms } };
 }
 
-impl Signature {
-    /// The signature of this name that takes so many strategies and terms.
-    pub fn new(name: &Name, strategies: usize, terms: usize) -> Result<Signature, NoMemory>
-        ensures { IfOk result (λ signature. signature
+impl DefinitionKey {
+    /// The key of this name for a definition that takes so many strategies and terms.
+    pub fn new(name: &Name, strategies: usize, terms: usize) -> Result<DefinitionKey, NoMemory>
+        ensures { IfOk result (λ key. key
             ≡ record { name = name.now; strategies = strategies; terms = terms }) }
     {
         let name = name.try_clone()?;
-        Ok(Signature {
+        Ok(DefinitionKey {
             name,
             strategies,
             terms,

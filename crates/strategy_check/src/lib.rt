@@ -7,7 +7,7 @@ mod bodies;
 mod fault;
 mod free;
 mod groups;
-mod heads;
+mod headers;
 mod key;
 mod modules;
 mod patterns;

@@ -6,8 +6,8 @@ ghost use Rattle.strategy_check.specs.FirstFault.{Tells, first_in_definition, fi
 
 use crate::CheckFault;
 use crate::binders::Binders;
-use crate::heads::check_head;
-use crate::key::Signature;
+use crate::headers::check_header;
+use crate::key::DefinitionKey;
 use crate::strategies::check_strategy;
 use crate::table::{Table, add_definitions};
 use indexmap::IndexSet;
@@ -37,7 +37,7 @@ fn check_definitions<M: Meaning>(
     alloc: Global,
     table: &Table,
     primitives: &Primitives<M>,
-    earlier: &IndexSet<Signature>,
+    earlier: &IndexSet<DefinitionKey>,
     definitions: &[Definition],
 ) -> Result<(), CheckFault>
     ensures { Tells result
@@ -53,13 +53,13 @@ fn check_definition<M: Meaning>(
     alloc: Global,
     table: &Table,
     primitives: &Primitives<M>,
-    earlier: &IndexSet<Signature>,
+    earlier: &IndexSet<DefinitionKey>,
     definition: &Definition,
 ) -> Result<(), CheckFault>
     ensures { Tells result
         (first_in_definition table.now primitives.now earlier.now.keys definition.now) }
 {
-    check_head(alloc, table, earlier, definition)?;
+    check_header(alloc, table, earlier, definition)?;
     let mut names = Binders::new(alloc);
     names.open_all(definition.strategy_parameters(), 0)?;
     check_strategy(alloc, table, primitives, &mut names, definition.body())

@@ -4,7 +4,7 @@
 ghost use Rattle.std.specs.Prelude.{◌≡◌, [], IfOk, IfErr};
 ghost use Rattle.strategy_check.specs.Faults.{faults, first, IsTold};
 ghost use Rattle.strategy_check.specs.Programs.{program, faults_of, resolved};
-ghost use Rattle.strategy_check.specs.Ranges.{IsInRange, IsSound};
+ghost use Rattle.strategy_check.specs.Ranges.{IsInRange, BodiesInRange};
 
 use crate::CheckFault;
 use crate::binders::Binders;
@@ -58,7 +58,7 @@ pub fn check<M: Meaning>(
     ensures faultless { IfOk result (λ _. faults modules.now primitives.now ≡ []) }
     ensures program { IfOk result (λ checked. checked ≡ program modules.now primitives.now) }
     ensures fault { IfErr result (λ told. IsTold told (first (faults modules.now primitives.now))) }
-    ensures in_range { IfOk result (λ checked. IsSound checked primitives.now) }
+    ensures in_range { IfOk result (λ checked. BodiesInRange checked primitives.now) }
 {
     let table = Table::new(alloc, modules)?;
     check_modules(alloc, &table, primitives, modules)?;

@@ -7,7 +7,7 @@ ghost use Rattle.strategy_check.specs.FirstFault.{Tells, first_in_name, first_in
 
 use crate::binders::Binders;
 use crate::fault::fault;
-use crate::heads::check_names;
+use crate::headers::check_names;
 use crate::patterns::{check_pattern, check_patterns};
 use crate::table::Table;
 use crate::{CheckFault, Kind};

@@ -3,19 +3,19 @@
 
 ghost use Rattle.std.specs.Prelude.{◌≡◌, IfOk, OnOk};
 ghost use Rattle.strategy_check.specs.Lists.{with_new};
-ghost use Rattle.strategy_check.specs.Tables.{definition_number, is_declared, same_signature, same_constructor, signatures_of, table_of};
+ghost use Rattle.strategy_check.specs.Tables.{definition_number, is_declared, same_key, same_constructor, keys_of, table_of};
 
-use crate::key::Signature;
+use crate::key::DefinitionKey;
 use indexmap::IndexSet;
 use std::alloc::Global;
 use std::marker::Model;
 use strategy_syntax::{Constructor, Definition, Module};
 use term_core::{Label, Name, NoMemory};
 
-/// The signatures of the definitions, whose places are the numbers of these, and the constructors.
+/// The keys of the definitions, whose places are the numbers of these, and the constructors.
 #[derive(Drop)]
 pub struct Table {
-    pub definitions: IndexSet<Signature>,
+    pub definitions: IndexSet<DefinitionKey>,
     pub constructors: IndexSet<Constructor>,
 }
 
@@ -57,8 +57,8 @@ impl Table {
         ensures { IfOk result (λ found. found
             ≡ definition_number self.now name.now strategies terms) }
     {
-        let signature = Signature::new(name, strategies, terms)?;
-        Ok(self.definitions.get_index_of(&signature))
+        let key = DefinitionKey::new(name, strategies, terms)?;
+        Ok(self.definitions.get_index_of(&key))
     }
 
     /// Whether the constructor of this name and number of arguments is declared.
@@ -70,18 +70,18 @@ impl Table {
     }
 }
 
-/// Adds the signatures of the definitions, each once.
+/// Adds the keys of the definitions, each once.
 pub fn add_definitions(
-    signatures: &mut IndexSet<Signature>,
+    defined: &mut IndexSet<DefinitionKey>,
     definitions: &[Definition],
 ) -> Result<(), NoMemory>
-    ensures { OnOk result (signatures.new.keys
-        ≡ with_new same_signature signatures.old.keys (signatures_of definitions.now)) }
+    ensures { OnOk result (defined.new.keys
+        ≡ with_new same_key defined.old.keys (keys_of definitions.now)) }
 {
     for definition in definitions {
         let strategies = definition.strategy_parameters().len();
         let terms = definition.term_parameters().len();
-        signatures.insert(Signature::new(definition.name(), strategies, terms)?)?;
+        defined.insert(DefinitionKey::new(definition.name(), strategies, terms)?)?;
     }
     Ok(())
 }

@@ -3,10 +3,10 @@ use Rattle.strategy_check.specs.Tables.{table_of, definitions_of}
 use Rattle.strategy_check.specs.Faults.{faults, first, IsTold}
 use Rattle.strategy_check.specs.FirstFault.{first_in_modules}
 use Rattle.strategy_check.specs.Programs.{joined_definition, groups}
-use Rattle.strategy_check.specs.Ranges.{IsSound}
+use Rattle.strategy_check.specs.Ranges.{BodiesInRange}
 use Rattle.strategy_check.proofs.FaultLemmas.{told_err}
 use Rattle.strategy_check.proofs.FirstLemmas.{first-modules, none_first}
-use Rattle.strategy_check.proofs.ProgramLemmas.{program_sound}
+use Rattle.strategy_check.proofs.ProgramLemmas.{bodies_in_range}
 use Rattle.strategy_check.proofs.program.check.Goals as goal
 
 pub returns-clause-faultless : goal.returns-clause-faultless
@@ -29,5 +29,5 @@ returns-clause-in_range g c =
     let P = c.args.primitives.now in
     let bodies = c.in_ok-bodies.ensures ∙ ap (map (joined_definition c.in_ok-table.table P)) (c.as_slice.ensures.value ∙ c.in_ok-groups.ensures)
     ∙ ap (λ T. map (joined_definition T P) (groups T (definitions_of ms))) c.in_ok-table.ensures in
-    subst (λ p. IsSound p P) (sym (λ i. record { table = c.in_ok-table.ensures i; bodies = bodies i }))
-    (program_sound ms P (returns-clause-faultless g c))
+    subst (λ p. BodiesInRange p P) (sym (λ i. record { table = c.in_ok-table.ensures i; bodies = bodies i }))
+    (bodies_in_range ms P (returns-clause-faultless g c))

@@ -1,10 +1,10 @@
 use Rattle.std.proofs.Common.{◌≡◌, drop}
 use Rattle.strategy_check.specs.Lists.{with_new}
-use Rattle.strategy_check.specs.Tables.{same_signature, signatures_of}
+use Rattle.strategy_check.specs.Tables.{same_key, keys_of}
 use Rattle.strategy_check.proofs.table.add_definitions.Given as goal
 
 -- what is left gives what all gave
 abbrev pub invariant-loop-definition : goal.invariant-loop-definition
 invariant-loop-definition l =
-    with_new same_signature l.signatures.keys (signatures_of (drop l.definition-index l.definitions))
-    ≡ with_new same_signature l.fn.signatures.keys (signatures_of l.definitions)
+    with_new same_key l.defined.keys (keys_of (drop l.definition-index l.definitions))
+    ≡ with_new same_key l.fn.defined.keys (keys_of l.definitions)

@@ -1,11 +1,11 @@
 use Rattle.std.proofs.Common.{◌≡◌, [], drop}
 use Rattle.strategy_check.specs.Lists.{with_new}
-use Rattle.strategy_check.specs.Tables.{same_signature, same_constructor, signatures_of, definitions_of, constructors_of}
+use Rattle.strategy_check.specs.Tables.{same_key, same_constructor, keys_of, definitions_of, constructors_of}
 use Rattle.strategy_check.proofs.table.Table.new.Given as goal
 
 -- what is left gives what all gave
 abbrev pub invariant-loop-module : goal.invariant-loop-module
 invariant-loop-module l = record {
-  definitions : with_new same_signature l.definitions.keys (signatures_of (definitions_of (drop l.module-index l.modules))) ≡ with_new same_signature [] (signatures_of (definitions_of l.modules));
+  definitions : with_new same_key l.definitions.keys (keys_of (definitions_of (drop l.module-index l.modules))) ≡ with_new same_key [] (keys_of (definitions_of l.modules));
   constructors : with_new same_constructor l.constructors.keys (constructors_of (drop l.module-index l.modules)) ≡ with_new same_constructor [] (constructors_of l.modules);
 }

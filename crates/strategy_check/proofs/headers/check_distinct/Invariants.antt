@@ -1,6 +1,6 @@
 use Rattle.std.proofs.Common.{◌≡◌, ◌++◌, take, drop}
 use Rattle.strategy_check.specs.FirstFault.{first_repeated}
-use Rattle.strategy_check.proofs.heads.check_distinct.Given as goal
+use Rattle.strategy_check.proofs.headers.check_distinct.Given as goal
 
 -- the first fault of what is left is that of all, and those so far are kept
 abbrev pub invariant-loop-name : goal.invariant-loop-name

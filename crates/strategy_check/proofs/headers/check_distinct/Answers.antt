@@ -2,7 +2,7 @@ use Rattle.std.proofs.Common.{◌++◌, ap, sym, ◌∙◌}
 use Rattle.std.proofs.lemmas.List.{drop_all, take_all}
 use Rattle.strategy_check.specs.FirstFault.{first_repeated}
 use Rattle.strategy_check.proofs.FaultLemmas.{told_on, name_passed, name_told, one_more}
-use Rattle.strategy_check.proofs.heads.check_distinct.Goals as goal
+use Rattle.strategy_check.proofs.headers.check_distinct.Goals as goal
 
 pub loop-name-preserved : goal.loop-name-preserved
 loop-name-preserved c = record {

@@ -1,13 +1,13 @@
-//! The first fault in a list of names and in the head of a definition.
+//! The first fault in a list of names and in the header of a definition.
 #![tactic(auto, using(crate::proofs::FaultLemmas::told))]
 
 ghost use Rattle.std.specs.Prelude.{◌≡◌, ◌∷◌, ◌++◌, [], OnOk};
 ghost use Rattle.indexmap.specs.IndexSet.{insert_key};
 ghost use Rattle.term_core.specs.Tree.{same_name};
-ghost use Rattle.strategy_check.specs.FirstFault.{Tells, first_repeated, first_in_definition_head};
+ghost use Rattle.strategy_check.specs.FirstFault.{Tells, first_repeated, first_in_header};
 
 use crate::fault::fault;
-use crate::key::Signature;
+use crate::key::DefinitionKey;
 use crate::table::Table;
 use crate::{CheckFault, Kind};
 use indexmap::IndexSet;
@@ -52,15 +52,15 @@ fn add_name(seen: &mut IndexSet<Name>, name: Name) -> Result<bool, NoMemory>
     Ok(seen.insert(name)?)
 }
 
-/// The first fault in the head of a definition, where these are defined in modules before.
-pub fn check_head(
+/// The first fault in the header of a definition, where these are defined in modules before.
+pub fn check_header(
     alloc: Global,
     table: &Table,
-    earlier: &IndexSet<Signature>,
+    earlier: &IndexSet<DefinitionKey>,
     definition: &Definition,
 ) -> Result<(), CheckFault>
     ensures { Tells result
-        (first_in_definition_head table.now earlier.now.keys definition.now) }
+        (first_in_header table.now earlier.now.keys definition.now) }
 {
     check_names(
         alloc,
@@ -70,7 +70,7 @@ pub fn check_head(
     let strategies = definition.strategy_parameters().len();
     let terms = definition.term_parameters().len();
     let name = definition.name();
-    if earlier.contains(&Signature::new(name, strategies, terms)?) {
+    if earlier.contains(&DefinitionKey::new(name, strategies, terms)?) {
         return Err(fault(Kind::Twice, name, strategies, terms));
     }
     if terms == 0 && table.declares(name, strategies)? {

@@ -2,7 +2,7 @@ use Rattle.std.proofs.Common.{◌≡◌, [], ◌++◌, None, ap, sym, ◌∙◌,
 use Rattle.strategy_check.specs.Faults.{IsTold}
 use Rattle.strategy_check.specs.FirstFault.{Tells, first_repeated}
 use Rattle.strategy_check.proofs.FaultLemmas.{told_on, told_first, told_behind, first_repeated-append}
-use Rattle.strategy_check.proofs.heads.check_names.Goals as goal
+use Rattle.strategy_check.proofs.headers.check_names.Goals as goal
 
 pub returns-in_err-check_distinct : goal.returns-in_err-check_distinct
 returns-in_err-check_distinct c =
