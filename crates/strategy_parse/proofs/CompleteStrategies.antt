@@ -16,8 +16,8 @@ use Rattle.strategy_parse.specs.declared.parser.state.StrategyFrame.TheVariants.
 use Rattle.strategy_parse.specs.declared.parser.state.PatternFrame.TheVariants.{Match, Build, Applied, Matched, Left as ClosureLeft, Right as ClosureRight, List as Patterns}
 use Rattle.strategy_parse.specs.declared.parser.state.Operator.{Operator}
 use Rattle.strategy_parse.specs.declared.parser.state.Operator.TheVariants.{All, One, Some as SomeChild, Not, Where as WhereOf, Test}
-use Rattle.strategy_parse.specs.declared.parser.state.Group.{Group}
-use Rattle.strategy_parse.specs.declared.parser.state.Group.TheVariants.{Round, Square, Arguments}
+use Rattle.strategy_parse.specs.declared.parser.state.StrategyGroup.{StrategyGroup}
+use Rattle.strategy_parse.specs.declared.parser.state.StrategyGroup.TheVariants.{Round, Square, Arguments}
 use Rattle.strategy_parse.specs.declared.parser.state.PatternGroup.TheVariants.{Terms, Prim}
 use Rattle.strategy_tokens.specs.Marks.{is_mark}
 use Rattle.strategy_parse.specs.Machine.{Next, goes, stuck, begin, behind, behind_arrow, behind_seq, behind_choice, behind_element, closing, grouped, first_strategy, first_pattern, empty_bar, step, resume, at_end, go_on}
@@ -74,35 +74,35 @@ same_accepts f g [] r h k = ap at_end (h Bad) ∙ k
 same_accepts f g (t ∷ ts) r h k = ap (go_on (λ q S. resume (step q S) ts)) (h t) ∙ k
 
 -- a list of strategies begins with no closing sign and no `|`
-closing-begins : (g : Group) (S : List Frame) → Refuses (begin S (ASign (closing g)))
+closing-begins : (g : StrategyGroup) (S : List Frame) → Refuses (begin S (ASign (closing g)))
 closing-begins Round S K = refl
 closing-begins Square S K = refl
 closing-begins (Arguments f) S K = refl
 
-first_in : (g : Group) (S : List Frame) (x : List Token) (r : Strategy) → Accepts (begin (ForStrategy (Strategies g []) ∷ S)) x r → Accepts (first_strategy g S) x r
+first_in : (g : StrategyGroup) (S : List Frame) (x : List Token) (r : Strategy) → Accepts (begin (ForStrategy (Strategies g []) ∷ S)) x r → Accepts (first_strategy g S) x r
 first_in g S x r k =
     passes (closing g) (goes (Read (grouped g [])) S) (λ t. if (is_mark Bar t) then empty_bar g S else begin (ForStrategy (Strategies g []) ∷ S) t) x r
     (bar-first g)
     (passes Bar (empty_bar g S) (begin (ForStrategy (Strategies g []) ∷ S)) x r (λ K. refl) k) where
-      bar-first : (g : Group) → Refuses (if (is_mark Bar (ASign (closing g))) then empty_bar g S else begin (ForStrategy (Strategies g []) ∷ S) (ASign (closing g)))
+      bar-first : (g : StrategyGroup) → Refuses (if (is_mark Bar (ASign (closing g))) then empty_bar g S else begin (ForStrategy (Strategies g []) ∷ S) (ASign (closing g)))
       bar-first Round K = refl
       bar-first Square K = refl
       bar-first (Arguments f) K = refl
 
-comma-closing : (g : Group) → is_mark Comma (ASign (closing g)) ≡ false
+comma-closing : (g : StrategyGroup) → is_mark Comma (ASign (closing g)) ≡ false
 comma-closing Round = refl
 comma-closing Square = refl
 comma-closing (Arguments f) = refl
 
-bar-closing : (g : Group) → is_mark Bar (ASign (closing g)) ≡ false
+bar-closing : (g : StrategyGroup) → is_mark Bar (ASign (closing g)) ≡ false
 bar-closing Round = refl
 bar-closing Square = refl
 bar-closing (Arguments f) = refl
 
-closes_first : (g : Group) (S : List Frame) (y : List Token) (r : Strategy) → Accepts (behind (grouped g []) S) y r → Accepts (first_strategy g S) (ASign (closing g) ∷ y) r
+closes_first : (g : StrategyGroup) (S : List Frame) (y : List Token) (r : Strategy) → Accepts (behind (grouped g []) S) y r → Accepts (first_strategy g S) (ASign (closing g) ∷ y) r
 closes_first g S y r k = rw (mark_self (closing g)) k
 
-closes_more : (g : Group) (done : List Strategy) (S : List Frame) (y : List Token) (r : Strategy) → Accepts (behind (grouped g done) S) y r → Accepts (behind_element g done S) (ASign (closing g) ∷ y) r
+closes_more : (g : StrategyGroup) (done : List Strategy) (S : List Frame) (y : List Token) (r : Strategy) → Accepts (behind (grouped g done) S) y r → Accepts (behind_element g done S) (ASign (closing g) ∷ y) r
 closes_more g done S y r k = rw (comma-closing g, bar-closing g, mark_self (closing g)) k
 
 -- ---- names
@@ -217,7 +217,7 @@ mutual
   prefix_reads (child i a) S x y r h k =
       rw h.1.1 (rw h.1.2.1 (child_reads i S h.1.2.0 r h.0 (choice_reads a (ForStrategy (Child i) ∷ S) h.1.2.0 h.1.2.2.0 r h.1.2.2.1 (rw h.1.2.2.2 k))))
 
-  choices_read : (cs : Choices) (g : Group) (S : List Frame) (x y : List Token) (r : Strategy) → ReadsChoices cs (closing g) x y
+  choices_read : (cs : Choices) (g : StrategyGroup) (S : List Frame) (x y : List Token) (r : Strategy) → ReadsChoices cs (closing g) x y
       → Accepts (behind (grouped g (strategy_list (core_all cs))) S) y r → Accepts (first_strategy g S) x r
   choices_read no_choices g S x y r h k = subst (λ l. Accepts (first_strategy g S) l r) (sym h) (closes_first g S y r k)
   choices_read (and_choice a cs) g S x y r h k =
@@ -235,7 +235,7 @@ mutual
   arguments_read (and_choice a cs) f S x y r h k =
       first_in (Arguments f) S x r (choice_reads a (ForStrategy (Strategies (Arguments f) []) ∷ S) x h.0 r h.1 (arguments_bar_read cs f (core a ∷ []) S h.0 y r h.2 k))
 
-  more_choices_read : (cs : Choices) (g : Group) (done : List Strategy) (S : List Frame) (x y : List Token) (r : Strategy) → ReadsMoreChoices cs (closing g) x y
+  more_choices_read : (cs : Choices) (g : StrategyGroup) (done : List Strategy) (S : List Frame) (x y : List Token) (r : Strategy) → ReadsMoreChoices cs (closing g) x y
       → Accepts (behind (grouped g (done ++ strategy_list (core_all cs))) S) y r → Accepts (behind_element g done S) x r
   more_choices_read no_choices g done S x y r h k =
       subst (λ l. Accepts (behind_element g done S) l r) (sym h) (closes_more g done S y r (subst (λ l. Accepts (behind (grouped g l) S) y r) (append-nil done) k))

@@ -20,8 +20,8 @@ use Rattle.strategy_parse.specs.declared.parser.state.StrategyFrame.{StrategyFra
 use Rattle.strategy_parse.specs.declared.parser.state.StrategyFrame.TheVariants.{Operator as Operated, Rec, Child, Scope, Application, If, Then, Else, Where, List as Strategies, Tail as SquareTail}
 use Rattle.strategy_parse.specs.declared.parser.state.PatternFrame.{PatternFrame}
 use Rattle.strategy_parse.specs.declared.parser.state.PatternFrame.TheVariants.{Match, Build, Applied, Matched, Left as ClosureLeft, Right as ClosureRight, List as Patterns, Tail as PatternTail}
-use Rattle.strategy_parse.specs.declared.parser.state.Group.{Group}
-use Rattle.strategy_parse.specs.declared.parser.state.Group.TheVariants.{Round, Square, Arguments}
+use Rattle.strategy_parse.specs.declared.parser.state.StrategyGroup.{StrategyGroup}
+use Rattle.strategy_parse.specs.declared.parser.state.StrategyGroup.TheVariants.{Round, Square, Arguments}
 use Rattle.strategy_parse.specs.declared.parser.state.PatternGroup.{PatternGroup}
 use Rattle.strategy_parse.specs.declared.parser.state.PatternGroup.TheVariants.{Application as PApplication, List as PList, Tuple as PTuple, Annotations, Terms, Prim}
 use Rattle.strategy_tokens.specs.Marks.{is_mark, is_word}
@@ -81,11 +81,11 @@ or-right true b e = absurd (cc)
 or-right false b e = e
 
 module _ (t u : Token) (k : Quiet u) where
-  element-no : (g : Group) (done : List Strategy) (S : List Frame) → NoEnd (behind_element g done S t)
+  element-no : (g : StrategyGroup) (done : List Strategy) (S : List Frame) → NoEnd (behind_element g done S t)
   element-no g done S =
       if-no (is_mark Comma t) (goes ToStrategy (ForStrategy (Strategies g done) ∷ S)) _ (goes-no ToStrategy (ForStrategy (Strategies g done) ∷ S))
       (if-no (is_mark Bar t) (behind_bar g done S) (close_strategies g done S t) (bar-no g) (only-no (is_mark (closing g) t) (Read (grouped g done)) S)) where
-        bar-no : (h : Group) → NoEnd (behind_bar h done S)
+        bar-no : (h : StrategyGroup) → NoEnd (behind_bar h done S)
         bar-no Round = stuck-no
         bar-no Square = goes-no ToStrategy (ForStrategy (SquareTail done) ∷ S)
         bar-no (Arguments f) = goes-no (FirstPattern (Terms f done)) S
@@ -236,7 +236,7 @@ module _ (t u : Token) (k : Quiet u) where
   step-ends : (q : State) (S : List Frame) (r : Strategy) → step q S t ≡ ends r → step q S u ≡ ends r
   step-ends ToStrategy S r e = absurd (begin-no t S r e)
   step-ends (FirstStrategy g) S r e = absurd (first-no r e) where
-    bar-no : (h : Group) → NoEnd (empty_bar h S)
+    bar-no : (h : StrategyGroup) → NoEnd (empty_bar h S)
     bar-no Round = stuck-no
     bar-no Square = stuck-no
     bar-no (Arguments f) = goes-no (FirstPattern (Terms f [])) S

@@ -18,7 +18,7 @@ pub mod SeenStrategies
 pub mod HiddenLemmas
 pub mod CountLemmas
 pub mod SortLemmas
-pub mod HeadLemmas
+pub mod HeaderLemmas
 pub mod DeclarationLemmas
 pub mod SectionWords
 pub mod SectionItems

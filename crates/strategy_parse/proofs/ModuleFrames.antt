@@ -7,9 +7,9 @@ use Rattle.strategy_tokens.specs.declared.token.Token.{Token}
 use Rattle.strategy_tokens.specs.declared.token.Token.TheVariants.{Ident, Sign as ASign}
 use Rattle.strategy_tokens.specs.declared.token.Keyword.TheVariants.{Where}
 use Rattle.strategy_tokens.specs.declared.token.Sign.TheVariants.{OpenRound, CloseRound, Comma, Colon, Bar, Equals, Arrow as RightArrow, Star}
-use Rattle.strategy_parse.specs.Written.{Sort, sort, Sorts, no_sorts, and_sort, Declaration, constant, function, Head, Defined, definition, rule, rule_where}
+use Rattle.strategy_parse.specs.Written.{Sort, sort, Sorts, no_sorts, and_sort, Declaration, constant, function, Header, Defined, definition, rule, rule_where}
 use Rattle.strategy_parse.specs.Grammar.{Reading, ◌▸◌, Mark, ReadsNames}
-use Rattle.strategy_parse.specs.GrammarModules.{ReadsSort, ReadsMoreSorts, ReadsOptionalName, ReadsDeclaration, ReadsParameters, ReadsHead, ReadsDefined}
+use Rattle.strategy_parse.specs.GrammarModules.{ReadsSort, ReadsMoreSorts, ReadsOptionalName, ReadsDeclaration, ReadsParameters, ReadsHeader, ReadsDefined}
 use Rattle.strategy_parse.proofs.Frames.{Front, Framed, next_framed, word_framed, mark_framed, then_framed, names_framed, pattern_framed, choice_framed}
 
 mutual
@@ -47,10 +47,10 @@ parameters_front ss ts u v (inr h) =
     let f : Front (ReadsNames ss Bar ▸ ReadsNames ts CloseRound) u v = both.frames u v h in
     record { taken = f.taken; splits = f.splits; anywhere = λ z. inr (f.anywhere z) }
 
-abbrev Brackets : Head → Reading
+abbrev Brackets : Header → Reading
 Brackets h x y = (Mark OpenRound ▸ ReadsParameters h.strategies h.terms) x y ⊎ ((y ≡ x) × (h.strategies ≡ []) × (h.terms ≡ []))
 
-brackets_front : (h : Head) (u v : List Token) → Brackets h u v → Front (Brackets h) u v
+brackets_front : (h : Header) (u v : List Token) → Brackets h u v → Front (Brackets h) u v
 brackets_front h u v (inl r) =
     let inside : Framed (ReadsParameters h.strategies h.terms) = record { frames = parameters_front h.strategies h.terms } in
     let both : Framed (Mark OpenRound ▸ ReadsParameters h.strategies h.terms) = then_framed (mark_framed OpenRound) inside in
@@ -58,18 +58,18 @@ brackets_front h u v (inl r) =
     record { taken = f.taken; splits = f.splits; anywhere = λ z. inl (f.anywhere z) }
 brackets_front h u v (inr r) = record { taken = []; splits = sym r.0; anywhere = λ z. inr (refl, r.1, r.2) }
 
-head_framed : (h : Head) → Framed (ReadsHead h)
-head_framed h =
+header_framed : (h : Header) → Framed (ReadsHeader h)
+header_framed h =
     let brackets : Framed (Brackets h) = record { frames = brackets_front h } in
     then_framed (next_framed (Ident h.name)) brackets
 
 defined_framed : (d : Defined) → Framed (ReadsDefined d)
-defined_framed (definition h a) = then_framed (head_framed h) (then_framed (mark_framed Equals) (choice_framed a))
+defined_framed (definition h a) = then_framed (header_framed h) (then_framed (mark_framed Equals) (choice_framed a))
 defined_framed (rule h p q) =
-    then_framed (head_framed h) (then_framed (mark_framed Colon) (then_framed (pattern_framed p)
+    then_framed (header_framed h) (then_framed (mark_framed Colon) (then_framed (pattern_framed p)
     (then_framed (mark_framed RightArrow) (pattern_framed q))))
 defined_framed (rule_where h p q a) =
-    then_framed (head_framed h) (then_framed (mark_framed Colon) (then_framed (pattern_framed p)
+    then_framed (header_framed h) (then_framed (mark_framed Colon) (then_framed (pattern_framed p)
     (then_framed (mark_framed RightArrow) (then_framed (pattern_framed q) (then_framed (word_framed Where) (choice_framed a))))))
 
 -- what doesn't read nothing takes a token

@@ -20,11 +20,11 @@ use Rattle.strategy_parse.specs.Core.{core, core_definition, defined, declared, 
 use Rattle.strategy_parse.specs.Fronts.{Stops}
 use Rattle.strategy_parse.specs.FreeNames.{names_seen}
 use Rattle.strategy_parse.specs.Machine.{begin}
-use Rattle.strategy_parse.specs.ModuleFronts.{behind_mark, head_at, DeclaredLeft}
+use Rattle.strategy_parse.specs.ModuleFronts.{behind_mark, header_at, DeclaredLeft}
 use Rattle.strategy_parse.specs.Definitions.{DefinitionEnds}
 use Rattle.strategy_parse.specs.Gives.{GivesModule}
 use Rattle.strategy_parse.specs.Sections.{IsItem, joined, SectionsLeft, SortsLeft, DeclarationsLeft, DefinitionsLeft, Left}
-use Rattle.strategy_parse.proofs.HeadLemmas.{behind_found, head_named}
+use Rattle.strategy_parse.proofs.HeaderLemmas.{behind_found, header_named}
 use Rattle.strategy_parse.proofs.SortLemmas.{sort_alone}
 use Rattle.strategy_parse.proofs.DeclarationLemmas.{declaration_named}
 use Rattle.strategy_parse.proofs.FrontGives.{choice-front, pattern-front}
@@ -65,17 +65,17 @@ record One (x : List Token) : Type 0 where
 definition_one : (v : Defined) (x y : List Token) → ReadsDefined v x y → DefinitionEnds y → One x
 definition_one (definition h u) x y r e =
     let t : Headed (definition h u) x y = headed (definition h u) x y r in
-    let head : head_at x ≡ Some (h, r.0) = head_named h x r.0 r.1 t.ends in
+    let header : header_at x ≡ Some (h, r.0) = header_named h x r.0 r.1 t.ends in
     let sign : behind_mark Equals r.0 ≡ Some r.2.0 = ap (behind_mark Equals) r.2.1 ∙ behind_found Equals r.2.0 in
     record {
       definition = defined h (core u);
       rest = y;
-      only = body_only x h r.0 head r.2.0 sign (core u) y (defined h (core u))
+      only = body_only x h r.0 header r.2.0 sign (core u) y (defined h (core u))
           (λ w z s k. condition_only r.2.0 (core u) y (choice-front u r.2.0 y r.2.2 e.stops) w z s k) refl;
     }
 definition_one (rule h p q) x y r e =
     let t : Headed (rule h p q) x y = headed (rule h p q) x y r in
-    let head : head_at x ≡ Some (h, r.0) = head_named h x r.0 r.1 t.ends in
+    let header : header_at x ≡ Some (h, r.0) = header_named h x r.0 r.1 t.ends in
     let plain : behind_mark Equals r.0 ≡ None = ap (behind_mark Equals) r.2.1 in
     let colon : behind_mark Colon r.0 ≡ Some r.2.0 = ap (behind_mark Colon) r.2.1 ∙ behind_found Colon r.2.0 in
     let arrow : behind_mark RightArrow r.2.2.0 ≡ Some r.2.2.2.0 = ap (behind_mark RightArrow) r.2.2.2.1 ∙ behind_found RightArrow r.2.2.2.0 in
@@ -83,13 +83,13 @@ definition_one (rule h p q) x y r e =
     record {
       definition = d;
       rest = y;
-      only = ruled_only x h r.0 head plain r.2.0 colon d y
+      only = ruled_only x h r.0 header plain r.2.0 colon d y
           (rule_only r.2.0 p r.2.2.0 (pattern_at r.2.0 p r.2.2.0 r.2.2.1 (subst Stops (sym r.2.2.2.1) refl)) r.2.2.2.0 arrow q y
           (pattern_at r.2.2.2.0 q y r.2.2.2.2 e.stops) h d refl e.no_condition);
     }
 definition_one (rule_where h p q u) x y r e =
     let t : Headed (rule_where h p q u) x y = headed (rule_where h p q u) x y r in
-    let head : head_at x ≡ Some (h, r.0) = head_named h x r.0 r.1 t.ends in
+    let header : header_at x ≡ Some (h, r.0) = header_named h x r.0 r.1 t.ends in
     let plain : behind_mark Equals r.0 ≡ None = ap (behind_mark Equals) r.2.1 in
     let colon : behind_mark Colon r.0 ≡ Some r.2.0 = ap (behind_mark Colon) r.2.1 ∙ behind_found Colon r.2.0 in
     let arrow : behind_mark RightArrow r.2.2.0 ≡ Some r.2.2.2.0 = ap (behind_mark RightArrow) r.2.2.2.1 ∙ behind_found RightArrow r.2.2.2.0 in
@@ -98,7 +98,7 @@ definition_one (rule_where h p q u) x y r e =
     record {
       definition = d;
       rest = y;
-      only = ruled_only x h r.0 head plain r.2.0 colon d y
+      only = ruled_only x h r.0 header plain r.2.0 colon d y
           (where_only r.2.0 p r.2.2.0 (pattern_at r.2.0 p r.2.2.0 r.2.2.1 (subst Stops (sym r.2.2.2.1) refl)) r.2.2.2.0 arrow q r.2.2.2.2.0
           (pattern_at r.2.2.2.0 q r.2.2.2.2.0 r.2.2.2.2.1 (subst Stops (sym r.2.2.2.2.2.1) refl))
           r.2.2.2.2.2.0 r.2.2.2.2.2.1 (core u) y (choice-front u r.2.2.2.2.2.0 y r.2.2.2.2.2.2 e.stops) h names d refl refl);

@@ -10,18 +10,18 @@ use Rattle.strategy_tokens.specs.declared.token.Keyword.TheVariants.{Where}
 use Rattle.strategy_tokens.specs.declared.token.Sign.{Sign}
 use Rattle.strategy_tokens.specs.declared.token.Sign.TheVariants.{OpenRound, Colon, Equals, Arrow as RightArrow}
 use Rattle.strategy_tokens.specs.Marks.{is_mark, is_word}
-use Rattle.strategy_parse.specs.Written.{Choice, Head, Defined, definition, rule, rule_where}
+use Rattle.strategy_parse.specs.Written.{Choice, Header, Defined, definition, rule, rule_where}
 use Rattle.strategy_parse.specs.Grammar.{ReadsPattern, ReadsChoice}
-use Rattle.strategy_parse.specs.GrammarModules.{ReadsHead, ReadsDefined}
+use Rattle.strategy_parse.specs.GrammarModules.{ReadsHeader, ReadsDefined}
 use Rattle.strategy_syntax.specs.Variables.{variables}
 use Rattle.strategy_parse.specs.Core.{core, core_definition, defined, rewrite, rewrite_where, once, without, free_in_choice}
 use Rattle.strategy_parse.specs.Fronts.{FrontGives, Stops}
 use Rattle.strategy_parse.specs.FreeNames.{next_token, names_seen}
 use Rattle.strategy_parse.specs.Machine.{begin, front}
-use Rattle.strategy_parse.specs.ModuleFronts.{behind_mark, head_at, HeadLeft}
-use Rattle.strategy_parse.specs.Definitions.{DefinitionEnds, DefinitionGives, head_of, ReadsRule, RuleGives}
+use Rattle.strategy_parse.specs.ModuleFronts.{behind_mark, header_at, HeaderLeft}
+use Rattle.strategy_parse.specs.Definitions.{DefinitionEnds, DefinitionGives, header_of, ReadsRule, RuleGives}
 use Rattle.strategy_parse.proofs.SeenPatterns.{NoMark}
-use Rattle.strategy_parse.proofs.HeadLemmas.{behind_found, mark_found, head_named, head_found}
+use Rattle.strategy_parse.proofs.HeaderLemmas.{behind_found, mark_found, header_named, header_found}
 use Rattle.strategy_parse.proofs.ConditionLemmas.{ConditionGives, condition_gives, condition_only, condition_none, names_only}
 
 -- ---- a pattern at the front of x, and what is left
@@ -114,19 +114,19 @@ module _ (x : List Token) (p : Pattern) (a : List Token) (at_left : PatternAt x 
       both_are w y t = at_right.only t.right t.behind_right (subst (λ l. ReadsPattern t.right l t.behind_right) (right_is w y t) t.reads_right) t.stops
 
       -- both patterns are read, and no condition follows
-      pub rule_gives : (h : Head) (d : Definition) → d ≡ defined h (scope (once (without h.terms (variables p ++ variables q))) (rewrite p q)) → RuleGives h x d c
+      pub rule_gives : (h : Header) (d : Definition) → d ≡ defined h (scope (once (without h.terms (variables p ++ variables q))) (rewrite p q)) → RuleGives h x d c
       rule_gives h d e = record {
         written = rule h p q;
-        head = refl;
+        header = refl;
         reads = (a, at_left.given, (b, mark_found RightArrow a b arrow, at_right.given));
         is = sym e;
       }
 
-      same_rule : (h k : Head) (l r : Pattern) → k ≡ h → l ≡ p → r ≡ q → core_definition (rule k l r) ≡ core_definition (rule h p q)
+      same_rule : (h k : Header) (l r : Pattern) → k ≡ h → l ≡ p → r ≡ q → core_definition (rule k l r) ≡ core_definition (rule h p q)
       same_rule h k l r e f g = λ i. core_definition (rule (e i) (f i) (g i))
 
-      pub rule_only : (h : Head) (d : Definition) → d ≡ defined h (scope (once (without h.terms (variables p ++ variables q))) (rewrite p q))
-          → is_word Where (next_token c) ≡ false → (w : Defined) (y : List Token) → head_of w ≡ h → ReadsRule w x y → DefinitionEnds y → (core_definition w ≡ d) × (y ≡ c)
+      pub rule_only : (h : Header) (d : Definition) → d ≡ defined h (scope (once (without h.terms (variables p ++ variables q))) (rewrite p q))
+          → is_word Where (next_token c) ≡ false → (w : Defined) (y : List Token) → header_of w ≡ h → ReadsRule w x y → DefinitionEnds y → (core_definition w ≡ d) × (y ≡ c)
       rule_only h d e none (definition k s) y f r ends = absurd r
       rule_only h d e none (rule k l s) y f r ends =
           let t : Patterns (rule k l s) x y = patterns_of (rule k l s) x y r ends in
@@ -155,7 +155,7 @@ module _ (x : List Token) (p : Pattern) (a : List Token) (at_left : PatternAt x 
             let at_z : r.2.2.2.0 ≡ z = rest-is r.2.2.2.0 z (sym (both_are (rule_where k l s u) y t).1 ∙ r.2.2.2.1) word in
             condition_none z none u y (subst (λ m. ReadsChoice u m y) at_z r.2.2.2.2) ends.stops
 
-        module _ (s : Strategy) (v : List Token) (run : front (begin []) z ≡ Some (s, v)) (h : Head) (names : List Symbol) (d : Definition)
+        module _ (s : Strategy) (v : List Token) (run : front (begin []) z ≡ Some (s, v)) (h : Header) (names : List Symbol) (d : Definition)
             (seen : names ≡ (variables p ++ variables q) ++ names_seen (begin []) z)
             (is : d ≡ defined h (scope (once (without h.terms names)) (rewrite_where p q s))) where
           given : ConditionGives z s (names_seen (begin []) z) v
@@ -174,20 +174,20 @@ module _ (x : List Token) (p : Pattern) (a : List Token) (at_left : PatternAt x 
           pub where_gives : RuleGives h x d v
           where_gives = record {
             written = rule_where h p q given.choice;
-            head = refl;
+            header = refl;
             reads = (a, at_left.given, (b, mark_found RightArrow a b arrow, (c, at_right.given, (z, word, given.reads))));
             is = written_is;
           }
 
           -- another choice that reads there has the same core form and the same free names
-          same_where : (k : Head) (l r : Pattern) (u : Choice) → k ≡ h → l ≡ p → r ≡ q → core u ≡ s → free_in_choice u ≡ names_seen (begin []) z → core_definition (rule_where k l r u) ≡ d
+          same_where : (k : Header) (l r : Pattern) (u : Choice) → k ≡ h → l ≡ p → r ≡ q → core u ≡ s → free_in_choice u ≡ names_seen (begin []) z → core_definition (rule_where k l r u) ≡ d
           same_where k l r u e f g o n =
               (λ i. defined (e i) (scope (once (without (e i).terms (variables (f i) ++ (variables (g i) ++ n i)))) (rewrite_where (f i) (g i) (o i))))
               ∙ ap (λ m. defined h (scope (once (without h.terms m)) (rewrite_where p q s)))
               (sym (append_assoc (variables p) (variables q) (names_seen (begin []) z)) ∙ sym seen)
               ∙ sym is
 
-          pub where_only : (w : Defined) (y : List Token) → head_of w ≡ h → ReadsRule w x y → DefinitionEnds y → (core_definition w ≡ d) × (y ≡ v)
+          pub where_only : (w : Defined) (y : List Token) → header_of w ≡ h → ReadsRule w x y → DefinitionEnds y → (core_definition w ≡ d) × (y ≡ v)
           where_only (definition k t) y f r ends = absurd r
           where_only (rule k l t) y f r ends =
               let m : Patterns (rule k l t) x y = patterns_of (rule k l t) x y r ends in
@@ -201,41 +201,41 @@ module _ (x : List Token) (p : Pattern) (a : List Token) (at_left : PatternAt x 
 
 -- ---- definitions
 
-pub record HeadAt (x : List Token) (h : Head) (a : List Token) : Type 0 where
-  pub is : head_at x ≡ Some (h, a)
+pub record HeaderAt (x : List Token) (h : Header) (a : List Token) : Type 0 where
+  pub is : header_at x ≡ Some (h, a)
 
-pub head_stops : (m : Sign) (y z : List Token) → y ≡ ASign m ∷ z → is_mark OpenRound (ASign m) ≡ false → NoMark OpenRound y
-head_stops m y z e h = ap (λ l. is_mark OpenRound (next_token l)) e ∙ h
+pub header_stops : (m : Sign) (y z : List Token) → y ≡ ASign m ∷ z → is_mark OpenRound (ASign m) ≡ false → NoMark OpenRound y
+header_stops m y z e h = ap (λ l. is_mark OpenRound (next_token l)) e ∙ h
 
 abbrev pub NoDefinition : List Token → Type 0
 NoDefinition x = (w : Defined) (y : List Token) → ReadsDefined w x y → DefinitionEnds y → ⊥
 
--- the head of a definition, and the sign behind it
+-- the header of a definition, and the sign behind it
 pub record Headed (w : Defined) (x y : List Token) : Type 0 where
   pub behind : List Token
-  pub reads : ReadsHead (head_of w) x behind
+  pub reads : ReadsHeader (header_of w) x behind
   pub ends : NoMark OpenRound behind
 
 abbrev pub headed : (w : Defined) (x y : List Token) → ReadsDefined w x y → Headed w x y
-headed (definition h a) x y r = record { behind = r.0; reads = r.1; ends = head_stops Equals r.0 r.2.0 r.2.1 refl }
-headed (rule h p q) x y r = record { behind = r.0; reads = r.1; ends = head_stops Colon r.0 r.2.0 r.2.1 refl }
-headed (rule_where h p q a) x y r = record { behind = r.0; reads = r.1; ends = head_stops Colon r.0 r.2.0 r.2.1 refl }
+headed (definition h a) x y r = record { behind = r.0; reads = r.1; ends = header_stops Equals r.0 r.2.0 r.2.1 refl }
+headed (rule h p q) x y r = record { behind = r.0; reads = r.1; ends = header_stops Colon r.0 r.2.0 r.2.1 refl }
+headed (rule_where h p q a) x y r = record { behind = r.0; reads = r.1; ends = header_stops Colon r.0 r.2.0 r.2.1 refl }
 
-pub no_head : (x : List Token) → head_at x ≡ None → NoDefinition x
-no_head x none w y r e =
+pub no_header : (x : List Token) → header_at x ≡ None → NoDefinition x
+no_header x none w y r e =
     let t : Headed w x y = headed w x y r in
-    let no : ◌≡◌ {A = HeadLeft} None (Some (head_of w, t.behind)) = sym none ∙ head_named (head_of w) x t.behind t.reads t.ends in
+    let no : ◌≡◌ {A = HeaderLeft} None (Some (header_of w, t.behind)) = sym none ∙ header_named (header_of w) x t.behind t.reads t.ends in
     cc
 
-module _ (x : List Token) (h : Head) (a : List Token) (at_head : head_at x ≡ Some (h, a)) where
-  both : (w : Defined) (y : List Token) → (t : Headed w x y) → ◌≡◌ {A = Head × List Token} (head_of w, t.behind) (h, a)
-  both w y t = let same : ◌≡◌ {A = HeadLeft} (Some (head_of w, t.behind)) (Some (h, a)) = sym (head_named (head_of w) x t.behind t.reads t.ends) ∙ at_head in cc
+module _ (x : List Token) (h : Header) (a : List Token) (at_header : header_at x ≡ Some (h, a)) where
+  both : (w : Defined) (y : List Token) → (t : Headed w x y) → ◌≡◌ {A = Header × List Token} (header_of w, t.behind) (h, a)
+  both w y t = let same : ◌≡◌ {A = HeaderLeft} (Some (header_of w, t.behind)) (Some (h, a)) = sym (header_named (header_of w) x t.behind t.reads t.ends) ∙ at_header in cc
 
-  head_is : (w : Defined) (y : List Token) → (t : Headed w x y) → head_of w ≡ h
-  head_is w y t = ap (λ (q : Head × List Token). q.0) (both w y t)
+  header_is : (w : Defined) (y : List Token) → (t : Headed w x y) → header_of w ≡ h
+  header_is w y t = ap (λ (q : Header × List Token). q.0) (both w y t)
 
   behind_is : (w : Defined) (y : List Token) → (t : Headed w x y) → t.behind ≡ a
-  behind_is w y t = ap (λ (q : Head × List Token). q.1) (both w y t)
+  behind_is w y t = ap (λ (q : Header × List Token). q.1) (both w y t)
 
   -- a `=` follows
   module _ (b : List Token) (sign : behind_mark Equals a ≡ Some b) where
@@ -248,7 +248,7 @@ module _ (x : List Token) (h : Head) (a : List Token) (at_head : head_at x ≡ S
     pub body_gives : (s : Strategy) (y : List Token) (d : Definition) → FrontGives b s y → d ≡ defined h s → DefinitionGives x d y
     body_gives s y d g e = record {
       written = definition h g.0;
-      reads = (a, head_found x h a at_head, (b, equals_is, g.1));
+      reads = (a, header_found x h a at_header, (b, equals_is, g.1));
       is = ap (defined h) g.2 ∙ sym e;
     }
 
@@ -258,7 +258,7 @@ module _ (x : List Token) (h : Head) (a : List Token) (at_head : head_at x ≡ S
         let t : Headed (definition k u) x y = headed (definition k u) x y r in
         let at_b : r.2.0 ≡ b = same_behind Equals a r.2.0 b sign (sym (behind_is (definition k u) y t) ∙ r.2.1) in
         let o = only u y (subst (λ l. ReadsChoice u l y) at_b r.2.2) ends.stops in
-        ((λ i. defined (head_is (definition k u) y t i) (o.0 i)) ∙ sym e, o.1)
+        ((λ i. defined (header_is (definition k u) y t i) (o.0 i)) ∙ sym e, o.1)
     body_only s v d only e (rule k p q) y r ends = absurd (no_rule (rule k p q) r.2.0 y (headed (rule k p q) x y r) r.2.1)
     body_only s v d only e (rule_where k p q u) y r ends = absurd (no_rule (rule_where k p q u) r.2.0 y (headed (rule_where k p q u) x y r) r.2.1)
 
@@ -283,7 +283,7 @@ module _ (x : List Token) (h : Head) (a : List Token) (at_head : head_at x ≡ S
     module _ (b : List Token) (colon : behind_mark Colon a ≡ Some b) where
       -- the rule behind the colon
       record Ruled (w : Defined) (y : List Token) : Type 0 where
-        pub head : head_of w ≡ h
+        pub header : header_of w ≡ h
         pub reads : ReadsRule w b y
 
       ruled : (w : Defined) (y : List Token) → ReadsDefined w x y → Ruled w y
@@ -291,34 +291,34 @@ module _ (x : List Token) (h : Head) (a : List Token) (at_head : head_at x ≡ S
       ruled (rule k p q) y r =
           let t : Headed (rule k p q) x y = headed (rule k p q) x y r in
           record {
-            head = head_is (rule k p q) y t;
+            header = header_is (rule k p q) y t;
             reads = subst (λ l. ReadsRule (rule k p q) l y) (same_behind Colon a r.2.0 b colon (sym (behind_is (rule k p q) y t) ∙ r.2.1)) r.2.2;
           }
       ruled (rule_where k p q u) y r =
           let t : Headed (rule_where k p q u) x y = headed (rule_where k p q u) x y r in
           record {
-            head = head_is (rule_where k p q u) y t;
+            header = header_is (rule_where k p q u) y t;
             reads = subst (λ l. ReadsRule (rule_where k p q u) l y) (same_behind Colon a r.2.0 b colon (sym (behind_is (rule_where k p q u) y t) ∙ r.2.1)) r.2.2;
           }
 
-      defined_by : (w : Defined) (y : List Token) → head_of w ≡ h → ReadsRule w b y → ReadsDefined w x y
+      defined_by : (w : Defined) (y : List Token) → header_of w ≡ h → ReadsRule w b y → ReadsDefined w x y
       defined_by (definition k u) y e r = absurd r
-      defined_by (rule k p q) y e r = (a, subst (λ l. ReadsHead l x a) (sym e) (head_found x h a at_head), (b, mark_found Colon a b colon, r))
-      defined_by (rule_where k p q u) y e r = (a, subst (λ l. ReadsHead l x a) (sym e) (head_found x h a at_head), (b, mark_found Colon a b colon, r))
+      defined_by (rule k p q) y e r = (a, subst (λ l. ReadsHeader l x a) (sym e) (header_found x h a at_header), (b, mark_found Colon a b colon, r))
+      defined_by (rule_where k p q u) y e r = (a, subst (λ l. ReadsHeader l x a) (sym e) (header_found x h a at_header), (b, mark_found Colon a b colon, r))
 
       pub ruled_gives : (d : Definition) (y : List Token) → RuleGives h b d y → DefinitionGives x d y
-      ruled_gives d y g = record { written = g.written; reads = defined_by g.written y g.head g.reads; is = g.is }
+      ruled_gives d y g = record { written = g.written; reads = defined_by g.written y g.header g.reads; is = g.is }
 
-      pub ruled_only : (d : Definition) (v : List Token) → ((w : Defined) (y : List Token) → head_of w ≡ h → ReadsRule w b y → DefinitionEnds y → (core_definition w ≡ d) × (y ≡ v))
+      pub ruled_only : (d : Definition) (v : List Token) → ((w : Defined) (y : List Token) → header_of w ≡ h → ReadsRule w b y → DefinitionEnds y → (core_definition w ≡ d) × (y ≡ v))
           → (w : Defined) (y : List Token) → ReadsDefined w x y → DefinitionEnds y → (core_definition w ≡ d) × (y ≡ v)
-      ruled_only d v only w y r ends = let t : Ruled w y = ruled w y r in only w y t.head t.reads ends
+      ruled_only d v only w y r ends = let t : Ruled w y = ruled w y r in only w y t.header t.reads ends
 
       pub no_ruled : NoRule b → NoDefinition x
       no_ruled none w y r ends = let t : Ruled w y = ruled w y r in none w y t.reads ends
 
 -- ---- what a rule is made of
 
-pub rule_built : (h : Head) (p q : Pattern) (start names more : List Symbol) (body : Strategy) (d : Definition) → start ≡ [] → names ≡ start ++ variables p → more ≡ names ++ variables q
+pub rule_built : (h : Header) (p q : Pattern) (start names more : List Symbol) (body : Strategy) (d : Definition) → start ≡ [] → names ≡ start ++ variables p → more ≡ names ++ variables q
     → body ≡ rewrite p q → d ≡ defined h (scope (once (without h.terms more)) body) → d ≡ defined h (scope (once (without h.terms (variables p ++ variables q))) (rewrite p q))
 rule_built h p q start names more body d e f g b is =
     let all : more ≡ variables p ++ variables q = g ∙ ap (λ l. l ++ variables q) (f ∙ ap (λ l. l ++ variables p) e) in
@@ -328,6 +328,6 @@ pub seen_built : (p q : Pattern) (start names more all l : List Symbol) → star
     → all ≡ more ++ l → all ≡ (variables p ++ variables q) ++ l
 seen_built p q start names more all l e f g h = h ∙ ap (λ m. m ++ l) (g ∙ ap (λ m. m ++ variables q) (f ∙ ap (λ m. m ++ variables p) e))
 
-pub where_built : (h : Head) (p q : Pattern) (s body : Strategy) (names : List Symbol) (d : Definition) → body ≡ rewrite_where p q s → d ≡ defined h (scope (once (without h.terms names)) body)
+pub where_built : (h : Header) (p q : Pattern) (s body : Strategy) (names : List Symbol) (d : Definition) → body ≡ rewrite_where p q s → d ≡ defined h (scope (once (without h.terms names)) body)
     → d ≡ defined h (scope (once (without h.terms names)) (rewrite_where p q s))
 where_built h p q s body names d b is = is ∙ ap (λ r. defined h (scope (once (without h.terms names)) r)) b

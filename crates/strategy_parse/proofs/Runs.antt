@@ -18,8 +18,8 @@ use Rattle.strategy_parse.specs.declared.parser.state.StrategyFrame.{StrategyFra
 use Rattle.strategy_parse.specs.declared.parser.state.StrategyFrame.TheVariants.{Operator as Operated, Rec, Child, Scope, Application, If, Then, Else, Where, List as Strategies, Tail as SquareTail}
 use Rattle.strategy_parse.specs.declared.parser.state.PatternFrame.{PatternFrame}
 use Rattle.strategy_parse.specs.declared.parser.state.PatternFrame.TheVariants.{Match, Build, Applied, Matched, Left as ClosureLeft, Right as ClosureRight, List as Patterns, Tail as PatternTail}
-use Rattle.strategy_parse.specs.declared.parser.state.Group.{Group}
-use Rattle.strategy_parse.specs.declared.parser.state.Group.TheVariants.{Round, Square, Arguments}
+use Rattle.strategy_parse.specs.declared.parser.state.StrategyGroup.{StrategyGroup}
+use Rattle.strategy_parse.specs.declared.parser.state.StrategyGroup.TheVariants.{Round, Square, Arguments}
 use Rattle.strategy_parse.specs.declared.parser.state.PatternGroup.{PatternGroup}
 use Rattle.strategy_parse.specs.declared.parser.state.PatternGroup.TheVariants.{Application as PApplication, List as PList, Tuple as PTuple, Annotations, Terms, Prim}
 use Rattle.strategy_tokens.specs.Marks.{is_mark, is_word}
@@ -174,7 +174,7 @@ abbrev pub Refuses : Next → Type 0
 Refuses n = (K : State → List Frame → Option Strategy) → go_on K n ≡ None
 
 module _ (t : Token) (h : NoEnd t) where
-  group-stuck : (g : Group) (done : List Strategy) (S : List Frame) → Refuses (behind_element g done S t)
+  group-stuck : (g : StrategyGroup) (done : List Strategy) (S : List Frame) → Refuses (behind_element g done S t)
   group-stuck Round done S K = rw (h.comma, h.bar, h.round) refl
   group-stuck Square done S K = rw (h.comma, h.bar, h.square) refl
   group-stuck (Arguments f) done S K = rw (h.comma, h.bar, h.round) refl

@@ -7,8 +7,8 @@ use Rattle.strategy_tokens.specs.declared.token.Token.{Token}
 use Rattle.strategy_tokens.specs.declared.token.Token.TheVariants.{Reserved}
 use Rattle.strategy_tokens.specs.declared.token.Keyword.{Keyword}
 use Rattle.strategy_tokens.specs.declared.token.Keyword.TheVariants.{Signature as KSignature, Sorts as KSorts, Constructors as KConstructors, Rules, Strategies, Where}
-use Rattle.strategy_parse.specs.Written.{Sort, Declaration, Defined, Signature, sorts, constructors, Section, signature, definitions}
-use Rattle.strategy_parse.specs.GrammarModules.{ReadsSort, ReadsDeclaration, ReadsDefined, ReadsSorts, ReadsDeclarations, ReadsDefinitions, ReadsSignatures, ReadsSections}
+use Rattle.strategy_parse.specs.Written.{Sort, Declaration, Defined, SignaturePart, sorts, constructors, Section, signature, definitions}
+use Rattle.strategy_parse.specs.GrammarModules.{ReadsSort, ReadsDeclaration, ReadsDefined, ReadsSorts, ReadsDeclarations, ReadsDefinitions, ReadsSignatureParts, ReadsSections}
 use Rattle.strategy_parse.specs.Core.{declared, core_definition, core_definitions}
 use Rattle.strategy_tokens.specs.Marks.{is_word}
 use Rattle.strategy_parse.specs.Definitions.{DefinitionEnds}
@@ -26,7 +26,7 @@ sections_item (definitions ds ∷ ss) x (v, (a, (inr k), reads), rest) i = item_
 pub outside_item : (x : List Token) (m : Module) → SectionsLeft x m → IsItem x → ⊥
 outside_item x m l i = sections_item l.sections x l.reads i
 
-signatures_item : (ps : List Signature) (x y : List Token) (m : Module) → ReadsSignatures ps x y → SectionsLeft y m → IsItem x → ⊥
+signatures_item : (ps : List SignaturePart) (x y : List Token) (m : Module) → ReadsSignatureParts ps x y → SectionsLeft y m → IsItem x → ⊥
 signatures_item [] x y m r l i = outside_item y m l (subst IsItem (sym r) i)
 signatures_item (sorts ss ∷ ps) x y m r l i = item_is x r.1.0 KSorts r.1.1 i
 signatures_item (constructors ds ∷ ps) x y m r l i = item_is x r.1.0 KConstructors r.1.1 i
@@ -44,7 +44,7 @@ sections_front (signature ps ∷ ss) x r = inl (KSignature, r.1.0, r.1.1, refl)
 sections_front (definitions ds ∷ ss) x (v, (a, (inl k), reads), rest) = inl (Rules, a, k, refl)
 sections_front (definitions ds ∷ ss) x (v, (a, (inr k), reads), rest) = inl (Strategies, a, k, refl)
 
-signature_front : (ps : List Signature) (x y : List Token) (m : Module) → ReadsSignatures ps x y → SectionsLeft y m → WordOrEnd x
+signature_front : (ps : List SignaturePart) (x y : List Token) (m : Module) → ReadsSignatureParts ps x y → SectionsLeft y m → WordOrEnd x
 signature_front [] x y m r l = subst WordOrEnd r (sections_front l.sections y l.reads)
 signature_front (sorts ss ∷ ps) x y m r l = inl (KSorts, r.1.0, r.1.1, refl)
 signature_front (constructors ds ∷ ps) x y m r l = inl (KConstructors, r.1.0, r.1.1, refl)

@@ -2,7 +2,7 @@
 use Rattle.std.proofs.Common.{◌≡◌, refl, sym, ap, ◌∙◌, subst, List, [], ◌∷◌, ◌++◌, Some, None, Err, append-nil, length, arith}
 use Rattle.std.specs.declared.option.Option.{Option}
 use Rattle.std.specs.declared.result.Result.{Result}
-use Rattle.strategy_parse.specs.declared.parser.fault.Fault.{Fault}
+use Rattle.strategy_parse.specs.declared.parser.fault.SyntaxFault.{SyntaxFault}
 use Rattle.strategy_syntax.specs.Modules.{Module, Constructor, Definition}
 use Rattle.strategy_tokens.specs.declared.token.Token.{Token}
 use Rattle.strategy_tokens.specs.declared.token.Token.TheVariants.{Reserved}
@@ -147,7 +147,7 @@ module _ (cs : List Constructor) (ds : List Definition) (x y : List Token) (m : 
 
 -- ---- as the code has it
 
-pub err_is : {T : Type 0} (a b : Fault) → ◌≡◌ {A = Result T Fault} (Err a) (Err b) → a ≡ b
+pub err_is : {T : Type 0} (a b : SyntaxFault) → ◌≡◌ {A = Result T SyntaxFault} (Err a) (Err b) → a ≡ b
 err_is a b e = cc
 
 module _ (cs ks : List Constructor) (ds : List Definition) (x : List Token) (m : Module) (found : Option Constructor) (y : List Token) (all : ks ≡ cs ++ listed found) (h : declaration_at x ≡ Some (listed found, y)) where

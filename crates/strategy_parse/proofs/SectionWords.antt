@@ -12,8 +12,8 @@ use Rattle.strategy_tokens.specs.declared.token.Keyword.TheVariants.{Signature a
 use Rattle.strategy_tokens.specs.declared.token.Sign.TheVariants.{Colon}
 use Rattle.strategy_parse.specs.declared.modules.sections.Part.{Part}
 use Rattle.strategy_parse.specs.declared.modules.sections.Part.TheVariants.{Outside, Signature as InSignature, Sorts, Constructors, Definitions}
-use Rattle.strategy_parse.specs.Written.{Sort, sort, no_sorts, and_sort, Declaration, constant, function, Defined, definition, rule, rule_where, Signature, sorts, constructors, Section, signature, definitions}
-use Rattle.strategy_parse.specs.GrammarModules.{ReadsSort, ReadsDeclaration, ReadsDefined, ReadsSorts, ReadsDeclarations, ReadsDefinitions, ReadsSignatures, ReadsSections}
+use Rattle.strategy_parse.specs.Written.{Sort, sort, no_sorts, and_sort, Declaration, constant, function, Defined, definition, rule, rule_where, SignaturePart, sorts, constructors, Section, signature, definitions}
+use Rattle.strategy_parse.specs.GrammarModules.{ReadsSort, ReadsDeclaration, ReadsDefined, ReadsSorts, ReadsDeclarations, ReadsDefinitions, ReadsSignatureParts, ReadsSections}
 use Rattle.strategy_parse.specs.Core.{declared, declared_in_part, core_definitions, core_module}
 use Rattle.strategy_parse.specs.Sections.{in_signature, next_part, IsItem, joined, SectionsLeft, SignatureLeft, SortsLeft, DeclarationsLeft, DefinitionsLeft, Left}
 
@@ -118,7 +118,7 @@ sections_step p w x y m e l = from_any p w x m (outside_step l.sections w x m (s
 abbrev IsInSignature : Part → Type 0
 IsInSignature p = (q : Part) → in_signature p q ≡ Some q
 
-signature_step : (p : Part) → IsInSignature p → (ps : List Signature) (w : Keyword) (x y : List Token) (m : Module) → ReadsSignatures ps (Reserved w ∷ x) y → (k : Module) → SectionsLeft y k → joined (flat_map declared_in_part ps) [] k ≡ m → WordStep p w x m
+signature_step : (p : Part) → IsInSignature p → (ps : List SignaturePart) (w : Keyword) (x y : List Token) (m : Module) → ReadsSignatureParts ps (Reserved w ∷ x) y → (k : Module) → SectionsLeft y k → joined (flat_map declared_in_part ps) [] k ≡ m → WordStep p w x m
 signature_step p h [] w x y m r k l e = sections_step p w x y m r (subst (SectionsLeft y) e l)
 signature_step p h (sorts ss ∷ ps) w x y m r k l e = record {
   part = Sorts;
@@ -141,7 +141,7 @@ signature_step p h (constructors ds ∷ ps) w x y m r k l e = record {
 }
 
 in_signature_step : (p : Part) → IsInSignature p → (w : Keyword) (x y : List Token) (m : Module) → y ≡ Reserved w ∷ x → SignatureLeft y m → WordStep p w x m
-in_signature_step p h w x y m e l = signature_step p h l.parts w x l.rest m (subst (λ z. ReadsSignatures l.parts z l.rest) e l.reads) l.behind l.left l.gives
+in_signature_step p h w x y m e l = signature_step p h l.parts w x l.rest m (subst (λ z. ReadsSignatureParts l.parts z l.rest) e l.reads) l.behind l.left l.gives
 
 sorts_step : (ss : List Sort) (w : Keyword) (x y : List Token) (m : Module) → ReadsSorts ss (Reserved w ∷ x) y → SignatureLeft y m → WordStep Sorts w x m
 sorts_step [] w x y m r l = in_signature_step Sorts (λ q. refl) w x y m r l
@@ -257,13 +257,13 @@ sections_end (definitions ds ∷ ss) m (v, (a, (inr k), reads), rest) e = absurd
 sections_done : (x : List Token) (m : Module) → x ≡ [] → SectionsLeft x m → nothing ≡ m
 sections_done x m e l = sections_end l.sections m (subst (λ z. ReadsSections l.sections z) e l.reads) l.gives
 
-signature_end : (ps : List Signature) (y : List Token) (m : Module) → ReadsSignatures ps [] y → (k : Module) → SectionsLeft y k → joined (flat_map declared_in_part ps) [] k ≡ m → nothing ≡ m
+signature_end : (ps : List SignaturePart) (y : List Token) (m : Module) → ReadsSignatureParts ps [] y → (k : Module) → SectionsLeft y k → joined (flat_map declared_in_part ps) [] k ≡ m → nothing ≡ m
 signature_end [] y m r k l e = sections_done y m r (subst (SectionsLeft y) e l)
 signature_end (sorts ss ∷ ps) y m r k l e = let no : ◌≡◌ {A = List Token} [] (Reserved KSorts ∷ r.1.0) = r.1.1 in absurd (cc)
 signature_end (constructors ds ∷ ps) y m r k l e = let no : ◌≡◌ {A = List Token} [] (Reserved KConstructors ∷ r.1.0) = r.1.1 in absurd (cc)
 
 signature_done : (x : List Token) (m : Module) → x ≡ [] → SignatureLeft x m → nothing ≡ m
-signature_done x m e l = signature_end l.parts l.rest m (subst (λ z. ReadsSignatures l.parts z l.rest) e l.reads) l.behind l.left l.gives
+signature_done x m e l = signature_end l.parts l.rest m (subst (λ z. ReadsSignatureParts l.parts z l.rest) e l.reads) l.behind l.left l.gives
 
 sorts_end : (ss : List Sort) (y : List Token) (m : Module) → ReadsSorts ss [] y → SignatureLeft y m → nothing ≡ m
 sorts_end [] y m r l = signature_done y m r l

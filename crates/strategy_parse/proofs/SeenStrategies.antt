@@ -18,8 +18,8 @@ use Rattle.strategy_parse.specs.declared.parser.state.StrategyFrame.TheVariants.
 use Rattle.strategy_parse.specs.declared.parser.state.PatternFrame.TheVariants.{Match, Build, Applied, Matched, Left as ClosureLeft, Right as ClosureRight, List as Patterns}
 use Rattle.strategy_parse.specs.declared.parser.state.Operator.{Operator}
 use Rattle.strategy_parse.specs.declared.parser.state.Operator.TheVariants.{All, One, Some as SomeChild, Not, Where as WhereOf, Test}
-use Rattle.strategy_parse.specs.declared.parser.state.Group.{Group}
-use Rattle.strategy_parse.specs.declared.parser.state.Group.TheVariants.{Round, Square, Arguments}
+use Rattle.strategy_parse.specs.declared.parser.state.StrategyGroup.{StrategyGroup}
+use Rattle.strategy_parse.specs.declared.parser.state.StrategyGroup.TheVariants.{Round, Square, Arguments}
 use Rattle.strategy_parse.specs.declared.parser.state.PatternGroup.TheVariants.{Terms, Prim}
 use Rattle.strategy_tokens.specs.Marks.{is_mark}
 use Rattle.strategy_parse.specs.Machine.{Next, goes, begin, begin_pattern, behind, behind_arrow, behind_seq, behind_choice, in_frame, behind_element, closing, grouped, pattern_in_frame, behind_one, first_strategy, first_pattern, empty_bar, step}
@@ -90,12 +90,12 @@ word_ends k y z h = record {
   less = no_mark_word Less k y z h;
 }
 
-closing_ends : (g : Group) (y z : List Token) → y ≡ ASign (closing g) ∷ z → ChoiceEnds y
+closing_ends : (g : StrategyGroup) (y z : List Token) → y ≡ ASign (closing g) ∷ z → ChoiceEnds y
 closing_ends Round y z h = round_ends y z h
 closing_ends Square y z h = choice_ends CloseSquare y z h refl refl refl refl refl refl refl
 closing_ends (Arguments f) y z h = round_ends y z h
 
-more_ends : (cs : Choices) (g : Group) (x y : List Token) → ReadsMoreChoices cs (closing g) x y → ChoiceEnds x
+more_ends : (cs : Choices) (g : StrategyGroup) (x y : List Token) → ReadsMoreChoices cs (closing g) x y → ChoiceEnds x
 more_ends no_choices g x y h = closing_ends g x y h
 more_ends (and_choice a cs) g x y h = choice_ends Comma x h.0 h.1 refl refl refl refl refl refl refl
 
@@ -146,7 +146,7 @@ choice_begins (sequence a) x y h = seq_begins a x y h
 choice_begins (left_choice a b) x y h = seq_begins a x h.0 h.1
 choice_begins (guarded_choice a b c) x y h = seq_begins a x h.0 h.1
 
-no_closing : (g : Group) (x : List Token) → Begins x → NoMark (closing g) x
+no_closing : (g : StrategyGroup) (x : List Token) → Begins x → NoMark (closing g) x
 no_closing Round x b = b.round
 no_closing Square x b = b.square
 no_closing (Arguments f) x b = b.round
@@ -171,25 +171,25 @@ choice_in s S y bare a b =
 used_in : (f : Symbol) (S : List Frame) (y : List Token) → NoMark OpenRound y → names_seen (step (Used f) S) y ≡ names_seen (behind (syntax.uses f syntax.no_strategies syntax.no_patterns) S) y
 used_in f S y e = names_pass OpenRound (goes (FirstStrategy (Arguments f)) S) (behind (syntax.uses f syntax.no_strategies syntax.no_patterns) S) y e
 
-first_in : (g : Group) (S : List Frame) (x : List Token) → Begins x → names_seen (first_strategy g S) x ≡ names_seen (begin (ForStrategy (Strategies g []) ∷ S)) x
+first_in : (g : StrategyGroup) (S : List Frame) (x : List Token) → Begins x → names_seen (first_strategy g S) x ≡ names_seen (begin (ForStrategy (Strategies g []) ∷ S)) x
 first_in g S x b =
     names_pass (closing g) (goes (Read (grouped g [])) S) (λ t. if (is_mark Bar t) then empty_bar g S else begin (ForStrategy (Strategies g []) ∷ S) t) x (no_closing g x b)
     ∙ names_pass Bar (empty_bar g S) (begin (ForStrategy (Strategies g []) ∷ S)) x b.bar
 
-comma-closing : (g : Group) → is_mark Comma (ASign (closing g)) ≡ false
+comma-closing : (g : StrategyGroup) → is_mark Comma (ASign (closing g)) ≡ false
 comma-closing Round = refl
 comma-closing Square = refl
 comma-closing (Arguments f) = refl
 
-bar-closing : (g : Group) → is_mark Bar (ASign (closing g)) ≡ false
+bar-closing : (g : StrategyGroup) → is_mark Bar (ASign (closing g)) ≡ false
 bar-closing Round = refl
 bar-closing Square = refl
 bar-closing (Arguments f) = refl
 
-closes_first : (g : Group) (S : List Frame) (x y : List Token) → x ≡ ASign (closing g) ∷ y → names_seen (first_strategy g S) x ≡ names_seen (behind (grouped g []) S) y
+closes_first : (g : StrategyGroup) (S : List Frame) (x y : List Token) → x ≡ ASign (closing g) ∷ y → names_seen (first_strategy g S) x ≡ names_seen (behind (grouped g []) S) y
 closes_first g S x y h = rw h (rw (mark_self (closing g)) refl)
 
-closes_more : (g : Group) (done : List Strategy) (S : List Frame) (x y : List Token) → x ≡ ASign (closing g) ∷ y → names_seen (behind_element g done S) x ≡ names_seen (behind (grouped g done) S) y
+closes_more : (g : StrategyGroup) (done : List Strategy) (S : List Frame) (x y : List Token) → x ≡ ASign (closing g) ∷ y → names_seen (behind_element g done S) x ≡ names_seen (behind (grouped g done) S) y
 closes_more g done S x y h = rw h (rw (comma-closing g, bar-closing g, mark_self (closing g)) refl)
 
 -- ---- names
@@ -357,7 +357,7 @@ mutual
       ∙ choice_sees a (ForStrategy (Child i) ∷ S) h.1.2.0 h.1.2.2.0 h.1.2.2.1 (λ s t. refl) (round_ends h.1.2.2.0 y h.1.2.2.2)
       ∙ ap (λ l. free S (free_in_choice a) ++ names_seen (in_frame (core a) (Child i) S) l) h.1.2.2.2))
 
-  choices_see : (cs : Choices) (g : Group) (S : List Frame) (x y : List Token) → ReadsChoices cs (closing g) x y
+  choices_see : (cs : Choices) (g : StrategyGroup) (S : List Frame) (x y : List Token) → ReadsChoices cs (closing g) x y
       → names_seen (first_strategy g S) x ≡ free S (free_in_choices cs) ++ names_seen (behind (grouped g (strategy_list (core_all cs))) S) y
   choices_see no_choices g S x y h = closes_first g S x y h
   choices_see (and_choice a cs) g S x y h =
@@ -384,7 +384,7 @@ mutual
       (choice_sees a (ForStrategy (Strategies (Arguments f) []) ∷ S) x h.0 h.1 (λ s t. refl) (bar_ends cs h.0 y h.2))
       (arguments_bar_see cs f (core a ∷ []) S h.0 y h.2)
 
-  more_choices_see : (cs : Choices) (g : Group) (done : List Strategy) (S : List Frame) (x y : List Token) → ReadsMoreChoices cs (closing g) x y
+  more_choices_see : (cs : Choices) (g : StrategyGroup) (done : List Strategy) (S : List Frame) (x y : List Token) → ReadsMoreChoices cs (closing g) x y
       → names_seen (behind_element g done S) x ≡ free S (free_in_choices cs) ++ names_seen (behind (grouped g (done ++ strategy_list (core_all cs))) S) y
   more_choices_see no_choices g done S x y h =
       closes_more g done S x y h ∙ ap (λ l. names_seen (behind (grouped g l) S) y) (sym (append-nil done))

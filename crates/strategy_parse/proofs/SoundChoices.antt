@@ -12,7 +12,7 @@ use Rattle.strategy_parse.specs.declared.parser.state.Frame.TheVariants.{Operand
 use Rattle.strategy_parse.specs.declared.parser.state.Infix.TheVariants.{Before, Guarded, Otherwise}
 use Rattle.strategy_parse.specs.declared.parser.state.StrategyFrame.{StrategyFrame}
 use Rattle.strategy_parse.specs.declared.parser.state.StrategyFrame.TheVariants.{List as Strategies}
-use Rattle.strategy_parse.specs.declared.parser.state.Group.{Group}
+use Rattle.strategy_parse.specs.declared.parser.state.StrategyGroup.{StrategyGroup}
 use Rattle.strategy_parse.specs.declared.parser.state.PatternGroup.TheVariants.{Prim}
 use Rattle.strategy_tokens.specs.Marks.{is_mark}
 use Rattle.strategy_parse.specs.Machine.{goes, begin, behind, behind_arrow, behind_seq, behind_choice, behind_element, behind_bar, close_strategies, closing, grouped, first_strategy, empty_bar}
@@ -95,7 +95,7 @@ module _ (n : ℕ) (P : PrefixesTo n) where
 
   -- ---- lists
 
-  and_more : (g : Group) (done : List Strategy) (S : List Frame) (x z : List Token) (r : Strategy) → x ≡ ASign Comma ∷ z → (a : FoundChoice (ForStrategy (Strategies g done) ∷ S) z r)
+  and_more : (g : StrategyGroup) (done : List Strategy) (S : List Frame) (x z : List Token) (r : Strategy) → x ≡ ASign Comma ∷ z → (a : FoundChoice (ForStrategy (Strategies g done) ∷ S) z r)
       → MoreOf g (done ++ core a.choice ∷ []) S a.rest r → MoreOf g done S x r
   and_more g done S x z r e a (inl more) =
       let l : length x ≡ suc (length z) = ap length e in
@@ -120,7 +120,7 @@ module _ (n : ℕ) (P : PrefixesTo n) where
         shorter = omega arith;
       })
 
-  more_ends : (g : Group) (done : List Strategy) (S : List Frame) (x : List Token) (r : Strategy) → Accepts (λ t. if (is_mark Bar t) then behind_bar g done S else close_strategies g done S t) x r → MoreOf g done S x r
+  more_ends : (g : StrategyGroup) (done : List Strategy) (S : List Frame) (x : List Token) (r : Strategy) → Accepts (λ t. if (is_mark Bar t) then behind_bar g done S else close_strategies g done S t) x r → MoreOf g done S x r
   more_ends g done S x r k = elim (at_mark Bar (behind_bar g done S) (close_strategies g done S) x r k) [
     | inl bar ↦
         let l : length x ≡ suc (length bar.0) = ap length bar.1 in
@@ -143,7 +143,7 @@ module _ (n : ℕ) (P : PrefixesTo n) where
         })
   ]
 
-  more_found_in : (m : ℕ) → m ≤ n → (g : Group) (done : List Strategy) (S : List Frame) (x : List Token) (r : Strategy) → length x ≤ m → Accepts (behind_element g done S) x r → MoreOf g done S x r
+  more_found_in : (m : ℕ) → m ≤ n → (g : StrategyGroup) (done : List Strategy) (S : List Frame) (x : List Token) (r : Strategy) → length x ≤ m → Accepts (behind_element g done S) x r → MoreOf g done S x r
   more_found_in zero le g done S x r lx k = elim (at_mark Comma (goes ToStrategy (ForStrategy (Strategies g done) ∷ S)) (λ t. if (is_mark Bar t) then behind_bar g done S else close_strategies g done S t) x r k) [
     | inl next ↦ let l : length x ≡ suc (length next.0) = ap length next.1 in absurd (omega arith)
     | inr other ↦ more_ends g done S x r other
@@ -157,7 +157,7 @@ module _ (n : ℕ) (P : PrefixesTo n) where
     | inr other ↦ more_ends g done S x r other
   ]
 
-  first_more : (g : Group) (S : List Frame) (x : List Token) (r : Strategy) → (a : FoundChoice (ForStrategy (Strategies g []) ∷ S) x r) → MoreOf g (core a.choice ∷ []) S a.rest r → ListOf g S x r
+  first_more : (g : StrategyGroup) (S : List Frame) (x : List Token) (r : Strategy) → (a : FoundChoice (ForStrategy (Strategies g []) ∷ S) x r) → MoreOf g (core a.choice ∷ []) S a.rest r → ListOf g S x r
   first_more g S x r a (inl more) =
       let la : length a.rest < length x = a.shorter in
       let lm : length more.rest < length a.rest = more.shorter in
@@ -167,7 +167,7 @@ module _ (n : ℕ) (P : PrefixesTo n) where
       let lm : length more.rest < length a.rest = more.shorter in
       inr (inl (record { first = a.choice; choices = more.choices; rest = more.rest; reads = (a.rest, a.reads, more.reads); goes_on = more.goes_on; shorter = omega arith }))
 
-  pub list_of : (g : Group) (S : List Frame) (x : List Token) (r : Strategy) → length x ≤ n → Accepts (first_strategy g S) x r → ListOf g S x r
+  pub list_of : (g : StrategyGroup) (S : List Frame) (x : List Token) (r : Strategy) → length x ≤ n → Accepts (first_strategy g S) x r → ListOf g S x r
   list_of g S x r le k = elim (at_mark (closing g) (goes (Read (grouped g [])) S) (λ t. if (is_mark Bar t) then empty_bar g S else begin (ForStrategy (Strategies g []) ∷ S) t) x r k) [
     | inl end ↦
         let l : length x ≡ suc (length end.0) = ap length end.1 in

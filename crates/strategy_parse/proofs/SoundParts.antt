@@ -14,7 +14,7 @@ use Rattle.strategy_parse.specs.declared.parser.state.Infix.TheVariants.{Before}
 use Rattle.strategy_parse.specs.declared.parser.state.StrategyFrame.{StrategyFrame}
 use Rattle.strategy_parse.specs.declared.parser.state.StrategyFrame.TheVariants.{Scope}
 use Rattle.strategy_parse.specs.declared.parser.state.PatternFrame.TheVariants.{Matched}
-use Rattle.strategy_parse.specs.declared.parser.state.Group.{Group}
+use Rattle.strategy_parse.specs.declared.parser.state.StrategyGroup.{StrategyGroup}
 use Rattle.strategy_parse.specs.declared.parser.state.PatternGroup.TheVariants.{Prim}
 use Rattle.strategy_tokens.specs.Marks.{is_mark}
 use Rattle.strategy_parse.specs.Machine.{Next, goes, stuck, begin, begin_pattern, behind, behind_arrow, behind_choice, in_frame, behind_bar, closing, grouped, empty_bar, scope_name, step}
@@ -58,7 +58,7 @@ pub record FoundChoice (S : List Frame) (x : List Token) (r : Strategy) : Type 0
   pub shorter : length rest < length x
 
 -- the strategies of a list, behind those done, up to the sign that closes it
-pub record MoreClosed (g : Group) (done : List Strategy) (S : List Frame) (x : List Token) (r : Strategy) : Type 0 where
+pub record MoreClosed (g : StrategyGroup) (done : List Strategy) (S : List Frame) (x : List Token) (r : Strategy) : Type 0 where
   pub choices : Choices
   pub rest : List Token
   pub reads : ReadsMoreChoices choices (closing g) x rest
@@ -66,25 +66,25 @@ pub record MoreClosed (g : Group) (done : List Strategy) (S : List Frame) (x : L
   pub shorter : length rest < length x
 
 -- ... or up to a `|`
-pub record MoreBar (g : Group) (done : List Strategy) (S : List Frame) (x : List Token) (r : Strategy) : Type 0 where
+pub record MoreBar (g : StrategyGroup) (done : List Strategy) (S : List Frame) (x : List Token) (r : Strategy) : Type 0 where
   pub choices : Choices
   pub rest : List Token
   pub reads : ReadsMoreChoices choices Bar x rest
   pub goes_on : Goes (behind_bar g (done ++ strategy_list (core_all choices)) S) rest r
   pub shorter : length rest < length x
 
-abbrev pub MoreOf : Group → List Strategy → List Frame → List Token → Strategy → Type 0
+abbrev pub MoreOf : StrategyGroup → List Strategy → List Frame → List Token → Strategy → Type 0
 MoreOf g done S x r = MoreClosed g done S x r ⊎ MoreBar g done S x r
 
 -- behind the sign that opens a list
-pub record ListClosed (g : Group) (S : List Frame) (x : List Token) (r : Strategy) : Type 0 where
+pub record ListClosed (g : StrategyGroup) (S : List Frame) (x : List Token) (r : Strategy) : Type 0 where
   pub choices : Choices
   pub rest : List Token
   pub reads : ReadsChoices choices (closing g) x rest
   pub accepts : Accepts (behind (grouped g (strategy_list (core_all choices))) S) rest r
   pub shorter : length rest < length x
 
-pub record ListBar (g : Group) (S : List Frame) (x : List Token) (r : Strategy) : Type 0 where
+pub record ListBar (g : StrategyGroup) (S : List Frame) (x : List Token) (r : Strategy) : Type 0 where
   pub first : Choice
   pub choices : Choices
   pub rest : List Token
@@ -92,13 +92,13 @@ pub record ListBar (g : Group) (S : List Frame) (x : List Token) (r : Strategy) 
   pub goes_on : Goes (behind_bar g (core first ∷ strategy_list (core_all choices)) S) rest r
   pub shorter : length rest < length x
 
-pub record EmptyBar (g : Group) (S : List Frame) (x : List Token) (r : Strategy) : Type 0 where
+pub record EmptyBar (g : StrategyGroup) (S : List Frame) (x : List Token) (r : Strategy) : Type 0 where
   pub rest : List Token
   pub reads : x ≡ ASign Bar ∷ rest
   pub goes_on : Goes (empty_bar g S) rest r
   pub shorter : length rest < length x
 
-abbrev pub ListOf : Group → List Frame → List Token → Strategy → Type 0
+abbrev pub ListOf : StrategyGroup → List Frame → List Token → Strategy → Type 0
 ListOf g S x r = ListClosed g S x r ⊎ (ListBar g S x r ⊎ EmptyBar g S x r)
 
 -- a strategy in round brackets

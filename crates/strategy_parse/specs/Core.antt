@@ -7,7 +7,7 @@ use Rattle.strategy_syntax.specs.Modules as syntax
 use Rattle.strategy_syntax.specs.Variables.{variables, variables_of_all}
 use Rattle.strategy_parse.specs.declared.parser.state.Operator.{Operator}
 use Rattle.strategy_parse.specs.declared.parser.state.Operator.TheVariants.{All, One, Some as SomeChild, Not, Where, Test}
-use Rattle.strategy_parse.specs.Written.{Choice, sequence, left_choice, guarded_choice, Seq, last, before, Arrow, arrow, Prefix, question, exclamation, application, identity, failure, operator, if_then, if_then_else, recursion, primitive, local, closure, closure_where, round, square, square_with_tail, name, call, call_with_terms, child, Choices, no_choices, and_choice, Sorts, no_sorts, and_sort, Declaration, constant, function, Head, Defined, definition, rule, rule_where, Signature, sorts, constructors, Section, signature, definitions}
+use Rattle.strategy_parse.specs.Written.{Choice, sequence, left_choice, guarded_choice, Seq, last, before, Arrow, arrow, Prefix, question, exclamation, application, identity, failure, operator, if_then, if_then_else, recursion, primitive, local, closure, closure_where, round, square, square_with_tail, name, call, call_with_terms, child, Choices, no_choices, and_choice, Sorts, no_sorts, and_sort, Declaration, constant, function, Header, Defined, definition, rule, rule_where, SignaturePart, sorts, constructors, Section, signature, definitions}
 
 -- ---- variables
 
@@ -148,7 +148,7 @@ declared (constant f s) = record { name = f; arity = 0 } ∷ []
 declared (function None ss r) = []
 declared (function (Some f) ss r) = record { name = f; arity = sort_count ss } ∷ []
 
-abbrev pub defined : Head → Strategy → syntax.Definition
+abbrev pub defined : Header → Strategy → syntax.Definition
 defined h s = record {
   name = h.name;
   strategy_parameters = h.strategies;
@@ -166,7 +166,7 @@ core_definition (rule_where h p q a) =
     defined h (scope (once (without h.terms (variables p ++ (variables q ++ free_in_choice a))))
     (rewrite_where p q (core a)))
 
-abbrev pub declared_in_part : Signature → List syntax.Constructor
+abbrev pub declared_in_part : SignaturePart → List syntax.Constructor
 declared_in_part (sorts ss) = []
 declared_in_part (constructors ds) = flat_map declared ds
 

@@ -4,7 +4,7 @@ use Rattle.strategy_syntax.specs.Modules.{Definition}
 use Rattle.strategy_tokens.specs.declared.token.Token.{Token}
 use Rattle.strategy_tokens.specs.declared.token.Keyword.TheVariants.{Where}
 use Rattle.strategy_tokens.specs.declared.token.Sign.TheVariants.{Arrow as RightArrow}
-use Rattle.strategy_parse.specs.Written.{Head, Defined, definition, rule, rule_where}
+use Rattle.strategy_parse.specs.Written.{Header, Defined, definition, rule, rule_where}
 use Rattle.strategy_parse.specs.Grammar.{Reading, ◌▸◌, Word, Mark, ReadsPattern, ReadsChoice}
 use Rattle.strategy_parse.specs.GrammarModules.{ReadsDefined}
 use Rattle.strategy_parse.specs.Core.{core_definition}
@@ -25,10 +25,10 @@ pub record DefinitionGives (x : List Token) (d : Definition) (y : List Token) : 
 
 -- ---- rules, behind the colon
 
-abbrev pub head_of : Defined → Head
-head_of (definition h a) = h
-head_of (rule h p q) = h
-head_of (rule_where h p q a) = h
+abbrev pub header_of : Defined → Header
+header_of (definition h a) = h
+header_of (rule h p q) = h
+header_of (rule_where h p q a) = h
 
 abbrev pub ReadsRule : Defined → Reading
 ReadsRule (definition h a) u v = ⊥
@@ -36,9 +36,9 @@ ReadsRule (rule h p q) u v = (ReadsPattern p ▸ Mark RightArrow ▸ ReadsPatter
 ReadsRule (rule_where h p q a) u v =
     (ReadsPattern p ▸ Mark RightArrow ▸ ReadsPattern q ▸ Word Where ▸ ReadsChoice a) u v
 
--- the front of x reads as the rest of a rule with this head
-pub record RuleGives (h : Head) (x : List Token) (d : Definition) (y : List Token) : Type 0 where
+-- the front of x reads as the rest of a rule with this header
+pub record RuleGives (h : Header) (x : List Token) (d : Definition) (y : List Token) : Type 0 where
   pub written : Defined
-  pub head : head_of written ≡ h
+  pub header : header_of written ≡ h
   pub reads : ReadsRule written x y
   pub is : core_definition written ≡ d

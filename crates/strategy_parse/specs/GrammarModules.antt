@@ -4,8 +4,8 @@
 --           | ( "rules" | "strategies" ) { def }
 --   decl    = [ ident ] ":" sort { "*" sort } "->" sort | ident ":" sort
 --   sort    = ident [ "(" sort { "," sort } ")" ]
---   def     = head "=" choice | head ":" pattern "->" pattern [ "where" choice ]
---   head    = ident [ "(" [ ident { "," ident } ] [ "|" [ ident { "," ident } ] ] ")" ]
+--   def     = header "=" choice | header ":" pattern "->" pattern [ "where" choice ]
+--   header  = ident [ "(" [ ident { "," ident } ] [ "|" [ ident { "," ident } ] ] ")" ]
 use Rattle.std.specs.Prelude.{◌≡◌, List, [], ◌∷◌, ◌⊎◌, Some, None}
 use Rattle.std.specs.declared.option.Option.{Option}
 use Rattle.term_core.specs.Tree.{Symbol}
@@ -14,7 +14,7 @@ use Rattle.strategy_tokens.specs.declared.token.Token.TheVariants.{Ident}
 use Rattle.strategy_tokens.specs.declared.token.Keyword.TheVariants.{Module, Signature as KSignature, Sorts as KSorts, Constructors, Rules, Strategies, Where}
 use Rattle.strategy_tokens.specs.declared.token.Sign.{Sign}
 use Rattle.strategy_tokens.specs.declared.token.Sign.TheVariants.{OpenRound, CloseRound, Comma, Colon, Bar, Equals, Arrow as RightArrow, Star}
-use Rattle.strategy_parse.specs.Written.{Sort, sort, Sorts, no_sorts, and_sort, Declaration, constant, function, Head, Defined, definition, rule, rule_where, Signature, sorts, constructors, Section, signature, definitions}
+use Rattle.strategy_parse.specs.Written.{Sort, sort, Sorts, no_sorts, and_sort, Declaration, constant, function, Header, Defined, definition, rule, rule_where, SignaturePart, sorts, constructors, Section, signature, definitions}
 use Rattle.strategy_parse.specs.Grammar.{Reading, ◌▸◌, Next, Word, Mark, ReadsPattern, ReadsNames, ReadsChoice}
 
 -- ---- sorts and declarations
@@ -54,17 +54,17 @@ ReadsParameters ss ts u v =
     ((ts ≡ []) × ReadsNames ss CloseRound u v)
     ⊎ (ReadsNames ss Bar ▸ ReadsNames ts CloseRound) u v
 
-abbrev pub ReadsHead : Head → Reading
-ReadsHead h u v =
+abbrev pub ReadsHeader : Header → Reading
+ReadsHeader h u v =
     (Next (Ident h.name) ▸ (λ x y. (Mark OpenRound ▸ ReadsParameters h.strategies h.terms) x y
     ⊎ ((y ≡ x) × (h.strategies ≡ []) × (h.terms ≡ [])))) u v
 
 abbrev pub ReadsDefined : Defined → Reading
-ReadsDefined (definition h a) u v = (ReadsHead h ▸ Mark Equals ▸ ReadsChoice a) u v
+ReadsDefined (definition h a) u v = (ReadsHeader h ▸ Mark Equals ▸ ReadsChoice a) u v
 ReadsDefined (rule h p q) u v =
-    (ReadsHead h ▸ Mark Colon ▸ ReadsPattern p ▸ Mark RightArrow ▸ ReadsPattern q) u v
+    (ReadsHeader h ▸ Mark Colon ▸ ReadsPattern p ▸ Mark RightArrow ▸ ReadsPattern q) u v
 ReadsDefined (rule_where h p q a) u v =
-    (ReadsHead h ▸ Mark Colon ▸ ReadsPattern p ▸ Mark RightArrow ▸ ReadsPattern q ▸ Word Where
+    (ReadsHeader h ▸ Mark Colon ▸ ReadsPattern p ▸ Mark RightArrow ▸ ReadsPattern q ▸ Word Where
     ▸ ReadsChoice a) u v
 
 -- ---- sections
@@ -77,20 +77,20 @@ abbrev pub ReadsDeclarations : List Declaration → Reading
 ReadsDeclarations [] u v = v ≡ u
 ReadsDeclarations (d ∷ ds) u v = (ReadsDeclaration d ▸ ReadsDeclarations ds) u v
 
-abbrev pub ReadsSignature : Signature → Reading
-ReadsSignature (sorts ss) u v = (Word KSorts ▸ ReadsSorts ss) u v
-ReadsSignature (constructors ds) u v = (Word Constructors ▸ ReadsDeclarations ds) u v
+abbrev pub ReadsSignaturePart : SignaturePart → Reading
+ReadsSignaturePart (sorts ss) u v = (Word KSorts ▸ ReadsSorts ss) u v
+ReadsSignaturePart (constructors ds) u v = (Word Constructors ▸ ReadsDeclarations ds) u v
 
-abbrev pub ReadsSignatures : List Signature → Reading
-ReadsSignatures [] u v = v ≡ u
-ReadsSignatures (s ∷ ss) u v = (ReadsSignature s ▸ ReadsSignatures ss) u v
+abbrev pub ReadsSignatureParts : List SignaturePart → Reading
+ReadsSignatureParts [] u v = v ≡ u
+ReadsSignatureParts (s ∷ ss) u v = (ReadsSignaturePart s ▸ ReadsSignatureParts ss) u v
 
 abbrev pub ReadsDefinitions : List Defined → Reading
 ReadsDefinitions [] u v = v ≡ u
 ReadsDefinitions (d ∷ ds) u v = (ReadsDefined d ▸ ReadsDefinitions ds) u v
 
 abbrev pub ReadsSection : Section → Reading
-ReadsSection (signature ss) u v = (Word KSignature ▸ ReadsSignatures ss) u v
+ReadsSection (signature ss) u v = (Word KSignature ▸ ReadsSignatureParts ss) u v
 ReadsSection (definitions ds) u v =
     ((λ x y. Word Rules x y ⊎ Word Strategies x y) ▸ ReadsDefinitions ds) u v
 

@@ -23,8 +23,8 @@ use Rattle.strategy_parse.specs.declared.parser.state.PatternFrame.{PatternFrame
 use Rattle.strategy_parse.specs.declared.parser.state.PatternFrame.TheVariants.{Match, Build, Applied, Matched, Left as ClosureLeft, Right as ClosureRight, List as Patterns, Tail as PatternTail}
 use Rattle.strategy_parse.specs.declared.parser.state.Operator.{Operator}
 use Rattle.strategy_parse.specs.declared.parser.state.Operator.TheVariants.{All, One, Some as SomeChild, Not, Where as WhereOf, Test}
-use Rattle.strategy_parse.specs.declared.parser.state.Group.{Group}
-use Rattle.strategy_parse.specs.declared.parser.state.Group.TheVariants.{Round, Square, Arguments}
+use Rattle.strategy_parse.specs.declared.parser.state.StrategyGroup.{StrategyGroup}
+use Rattle.strategy_parse.specs.declared.parser.state.StrategyGroup.TheVariants.{Round, Square, Arguments}
 use Rattle.strategy_parse.specs.declared.parser.state.PatternGroup.{PatternGroup}
 use Rattle.strategy_parse.specs.declared.parser.state.PatternGroup.TheVariants.{Application as PApplication, List as PList, Tuple as PTuple, Annotations, Terms, Prim}
 use Rattle.strategy_parse.specs.declared.parser.state.Outcome.{Outcome}
@@ -49,7 +49,7 @@ leads (Ends s) S = ends s
 abbrev pub open_patterns : PatternGroup → List Frame → Next
 open_patterns g S = goes (FirstPattern g) S
 
-abbrev pub open_strategies : Group → List Frame → Next
+abbrev pub open_strategies : StrategyGroup → List Frame → Next
 open_strategies g S = goes (FirstStrategy g) S
 
 abbrev pub open_pattern : List Frame → Sign → Next
@@ -110,29 +110,29 @@ begin S Bad = stuck
 -- ---- behind a strategy
 
 -- the sign that closes a list of strategies
-abbrev pub closing : Group → Sign
+abbrev pub closing : StrategyGroup → Sign
 closing Round = CloseRound
 closing Square = CloseSquare
 closing (Arguments f) = CloseRound
 
 -- what a list of strategies makes
-abbrev pub grouped : Group → List Strategy → Strategy
+abbrev pub grouped : StrategyGroup → List Strategy → Strategy
 grouped Round done = in_brackets (strategies_of done)
 grouped Square done = syntax.congruence list (strategies_of done)
 grouped (Arguments f) done = syntax.uses f (strategies_of done) syntax.no_patterns
 
-abbrev pub close_strategies : Group → List Strategy → List Frame → Token → Next
+abbrev pub close_strategies : StrategyGroup → List Strategy → List Frame → Token → Next
 close_strategies g done S t =
     if (is_mark (closing g) t) then goes (Read (grouped g done)) S else stuck
 
 -- a `|` behind the strategies of a list
-abbrev pub behind_bar : Group → List Strategy → List Frame → Next
+abbrev pub behind_bar : StrategyGroup → List Strategy → List Frame → Next
 behind_bar Round done S = stuck
 behind_bar Square done S = goes ToStrategy (ForStrategy (SquareTail done) ∷ S)
 behind_bar (Arguments f) done S = open_patterns (Terms f done) S
 
 -- behind a strategy of a list, which is among those done
-abbrev pub behind_element : Group → List Strategy → List Frame → Token → Next
+abbrev pub behind_element : StrategyGroup → List Strategy → List Frame → Token → Next
 behind_element g done S t =
     if (is_mark Comma t) then goes ToStrategy (ForStrategy (Strategies g done) ∷ S) else
     if (is_mark Bar t) then behind_bar g done S else close_strategies g done S t
@@ -252,12 +252,12 @@ behind_base p S t =
 -- ---- one token
 
 -- a list of strategies may be empty; before a `|` it may be where it holds arguments
-abbrev pub empty_bar : Group → List Frame → Next
+abbrev pub empty_bar : StrategyGroup → List Frame → Next
 empty_bar (Arguments f) S = open_patterns (Terms f []) S
 empty_bar Round S = stuck
 empty_bar Square S = stuck
 
-abbrev pub first_strategy : Group → List Frame → Token → Next
+abbrev pub first_strategy : StrategyGroup → List Frame → Token → Next
 first_strategy g S t =
     if (is_mark (closing g) t) then goes (Read (grouped g [])) S else
     if (is_mark Bar t) then empty_bar g S else begin (ForStrategy (Strategies g []) ∷ S) t

@@ -1,5 +1,5 @@
 -- What stands at the front of a list of tokens in a module, and what is left, as functions: names,
--- the heads of definitions, sorts and declarations.
+-- the headers of definitions, sorts and declarations.
 use Rattle.std.specs.Prelude.{ℕ, zero, suc, List, [], ◌∷◌, ◌++◌, if◌then◌else◌, Some, None}
 use Rattle.std.specs.declared.option.Option.{Option}
 use Rattle.term_core.specs.Tree.{Symbol}
@@ -13,7 +13,7 @@ use Rattle.strategy_parse.specs.declared.modules.sorts.Place.TheVariants.{Begins
 use Rattle.strategy_parse.specs.declared.modules.sorts.Turn.{Turn}
 use Rattle.strategy_parse.specs.declared.modules.sorts.Turn.TheVariants.{Reads, Ends, Stuck}
 use Rattle.strategy_tokens.specs.Marks.{is_mark}
-use Rattle.strategy_parse.specs.Written.{Head}
+use Rattle.strategy_parse.specs.Written.{Header}
 
 -- what is behind a sign, where it comes first
 abbrev pub behind_mark : Sign → List Token → Option (List Token)
@@ -25,7 +25,7 @@ abbrev pub behind_ident : List Token → Option (List Token)
 behind_ident (Ident f ∷ ts) = Some ts
 behind_ident x = None
 
--- ---- names and heads
+-- ---- names and headers
 
 abbrev pub NamesLeft : Type 0
 NamesLeft = Option (List Symbol × List Token)
@@ -43,43 +43,43 @@ names_at [] = Some ([], [])
 names_at (Ident f ∷ ts) = more_names (f ∷ []) ts
 names_at (t ∷ ts) = Some ([], t ∷ ts)
 
-abbrev pub HeadLeft : Type 0
-HeadLeft = Option (Head × List Token)
+abbrev pub HeaderLeft : Type 0
+HeaderLeft = Option (Header × List Token)
 
-abbrev pub make_head : Symbol → List Symbol → List Symbol → Head
-make_head f ss ts = record { name = f; strategies = ss; terms = ts }
+abbrev pub make_header : Symbol → List Symbol → List Symbol → Header
+make_header f ss ts = record { name = f; strategies = ss; terms = ts }
 
-abbrev pub close_head : Head → Option (List Token) → HeadLeft
-close_head h None = None
-close_head h (Some x) = Some (h, x)
+abbrev pub close_header : Header → Option (List Token) → HeaderLeft
+close_header h None = None
+close_header h (Some x) = Some (h, x)
 
-abbrev pub behind_terms : Symbol → List Symbol → NamesLeft → HeadLeft
+abbrev pub behind_terms : Symbol → List Symbol → NamesLeft → HeaderLeft
 behind_terms f ss None = None
-behind_terms f ss (Some (ts, x)) = close_head (make_head f ss ts) (behind_mark CloseRound x)
+behind_terms f ss (Some (ts, x)) = close_header (make_header f ss ts) (behind_mark CloseRound x)
 
-abbrev pub behind_bar : Symbol → List Symbol → Option (List Token) → HeadLeft
+abbrev pub behind_bar : Symbol → List Symbol → Option (List Token) → HeaderLeft
 behind_bar f ss None = None
 behind_bar f ss (Some x) = behind_terms f ss (names_at x)
 
-abbrev pub without_terms : Symbol → List Symbol → List Token → Option (List Token) → HeadLeft
-without_terms f ss x (Some y) = Some (make_head f ss [], y)
+abbrev pub without_terms : Symbol → List Symbol → List Token → Option (List Token) → HeaderLeft
+without_terms f ss x (Some y) = Some (make_header f ss [], y)
 without_terms f ss x None = behind_bar f ss (behind_mark Bar x)
 
-abbrev pub behind_strategies : Symbol → NamesLeft → HeadLeft
+abbrev pub behind_strategies : Symbol → NamesLeft → HeaderLeft
 behind_strategies f None = None
 behind_strategies f (Some (ss, x)) = without_terms f ss x (behind_mark CloseRound x)
 
 -- the parameters behind the bracket that opens them
-abbrev pub parameters_at : Symbol → List Token → HeadLeft
+abbrev pub parameters_at : Symbol → List Token → HeaderLeft
 parameters_at f x = behind_strategies f (names_at x)
 
-abbrev pub behind_name : Symbol → List Token → Option (List Token) → HeadLeft
+abbrev pub behind_name : Symbol → List Token → Option (List Token) → HeaderLeft
 behind_name f x (Some y) = parameters_at f y
-behind_name f x None = Some (make_head f [] [], x)
+behind_name f x None = Some (make_header f [] [], x)
 
-abbrev pub head_at : List Token → HeadLeft
-head_at (Ident f ∷ ts) = behind_name f ts (behind_mark OpenRound ts)
-head_at x = None
+abbrev pub header_at : List Token → HeaderLeft
+header_at (Ident f ∷ ts) = behind_name f ts (behind_mark OpenRound ts)
+header_at x = None
 
 -- ---- sorts
 

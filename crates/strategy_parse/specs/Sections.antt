@@ -9,8 +9,8 @@ use Rattle.strategy_tokens.specs.declared.token.Keyword.{Keyword}
 use Rattle.strategy_tokens.specs.declared.token.Keyword.TheVariants.{Signature as KSignature, Sorts as KSorts, Constructors as KConstructors, Rules, Strategies}
 use Rattle.strategy_parse.specs.declared.modules.sections.Part.{Part}
 use Rattle.strategy_parse.specs.declared.modules.sections.Part.TheVariants.{Outside, Signature as InSignature, Sorts, Constructors, Definitions}
-use Rattle.strategy_parse.specs.Written.{Sort, Declaration, Defined, Signature, Section}
-use Rattle.strategy_parse.specs.GrammarModules.{ReadsSorts, ReadsDeclarations, ReadsDefinitions, ReadsSignatures, ReadsSections}
+use Rattle.strategy_parse.specs.Written.{Sort, Declaration, Defined, SignaturePart, Section}
+use Rattle.strategy_parse.specs.GrammarModules.{ReadsSorts, ReadsDeclarations, ReadsDefinitions, ReadsSignatureParts, ReadsSections}
 use Rattle.strategy_parse.specs.Core.{declared, declared_in_part, core_definitions, core_module}
 
 -- ---- words
@@ -50,9 +50,9 @@ pub record SectionsLeft (x : List Token) (m : Module) : Type 0 where
 
 -- parts of a signature, and sections
 pub record SignatureLeft (x : List Token) (m : Module) : Type 0 where
-  pub parts : List Signature
+  pub parts : List SignaturePart
   pub rest : List Token
-  pub reads : ReadsSignatures parts x rest
+  pub reads : ReadsSignatureParts parts x rest
   pub behind : Module
   pub left : SectionsLeft rest behind
   pub gives : joined (flat_map declared_in_part parts) [] behind ≡ m

@@ -77,23 +77,23 @@ pub data Declaration : Type 0 where
   function : Option Symbol → Sorts → Sort → Declaration
 
 -- `ident`, `ident ( ident, .. )` or `ident ( ident, .. | ident, .. )`
-pub record Head : Type 0 where
+pub record Header : Type 0 where
   pub name : Symbol
   pub strategies : List Symbol
   pub terms : List Symbol
 
--- `head = choice`, or `head : pattern -> pattern`, and with `where choice`
+-- `header = choice`, or `header : pattern -> pattern`, and with `where choice`
 pub data Defined : Type 0 where
-  definition : Head → Choice → Defined
-  rule : Head → Pattern → Pattern → Defined
-  rule_where : Head → Pattern → Pattern → Choice → Defined
+  definition : Header → Choice → Defined
+  rule : Header → Pattern → Pattern → Defined
+  rule_where : Header → Pattern → Pattern → Choice → Defined
 
 -- what stands behind `sorts` and behind `constructors`
-pub data Signature : Type 0 where
-  sorts : List Sort → Signature
-  constructors : List Declaration → Signature
+pub data SignaturePart : Type 0 where
+  sorts : List Sort → SignaturePart
+  constructors : List Declaration → SignaturePart
 
 -- `signature` and its parts; or `rules` or `strategies`, and definitions
 pub data Section : Type 0 where
-  signature : List Signature → Section
+  signature : List SignaturePart → Section
   definitions : List Defined → Section

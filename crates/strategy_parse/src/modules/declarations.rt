@@ -6,7 +6,7 @@ ghost use Rattle.strategy_parse.specs.ModuleFronts.{behind_arguments, declaratio
 
 use crate::modules::sorts::{skip_sort, skip_sorts};
 use crate::modules::tokens::{behind_mark, expect_mark};
-use crate::parser::Fault;
+use crate::parser::SyntaxFault;
 use strategy_syntax::Constructor;
 use strategy_tokens::{Sign, Token};
 use term_core::Name;
@@ -15,9 +15,9 @@ use term_core::Name;
 /// and the tokens behind it.
 pub fn read_declaration<'a>(
     tokens: &'a [Token],
-) -> Result<(Option<Constructor>, &'a [Token]), Fault>
+) -> Result<(Option<Constructor>, &'a [Token]), SyntaxFault>
     ensures ok { IfOk result (λ r. declaration_at tokens.now ≡ Some (listed r.0, r.1.now)) }
-    ensures none { result ≡ Err Fault.Syntax → declaration_at tokens.now ≡ None }
+    ensures none { result ≡ Err SyntaxFault.Syntax → declaration_at tokens.now ≡ None }
 {
     match tokens.split_first() {
         Some((Token::Ident(name), left)) => {
@@ -37,10 +37,10 @@ pub fn read_declaration<'a>(
 fn read_named<'a>(
     name: &Name,
     tokens: &'a [Token],
-) -> Result<(Option<Constructor>, &'a [Token]), Fault>
+) -> Result<(Option<Constructor>, &'a [Token]), SyntaxFault>
     ensures ok { IfOk result (λ r.
         behind_arguments (Some name.now) (sorts_at tokens.now) ≡ Some (listed r.0, r.1.now)) }
-    ensures none { result ≡ Err Fault.Syntax →
+    ensures none { result ≡ Err SyntaxFault.Syntax →
         behind_arguments (Some name.now) (sorts_at tokens.now) ≡ None }
 {
     let (count, left) = skip_sorts(tokens)?;
@@ -49,16 +49,16 @@ fn read_named<'a>(
         return Ok((Some(Constructor::new(name.try_clone()?, count)), behind));
     }
     if count != 1 {
-        return Err(Fault::Syntax);
+        return Err(SyntaxFault::Syntax);
     }
     Ok((Some(Constructor::new(name.try_clone()?, 0)), left))
 }
 
 // The sorts of a declaration without a name, which has an arrow.
-fn skip_nameless<'a>(tokens: &'a [Token]) -> Result<&'a [Token], Fault>
+fn skip_nameless<'a>(tokens: &'a [Token]) -> Result<&'a [Token], SyntaxFault>
     ensures ok { IfOk result (λ rest.
         behind_arguments None (sorts_at tokens.now) ≡ Some ([], rest.now)) }
-    ensures none { result ≡ Err Fault.Syntax → behind_arguments None (sorts_at tokens.now) ≡ None }
+    ensures none { result ≡ Err SyntaxFault.Syntax → behind_arguments None (sorts_at tokens.now) ≡ None }
 {
     let (_, left) = skip_sorts(tokens)?;
     let rest = expect_mark(left, Sign::Arrow)?;

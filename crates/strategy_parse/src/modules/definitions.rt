@@ -7,10 +7,10 @@ ghost use Rattle.strategy_parse.specs.GrammarModules.{ReadsDefined};
 ghost use Rattle.strategy_parse.specs.Written.{Defined};
 ghost use Rattle.strategy_tokens.specs.declared.token.Token.{Token};
 
-use crate::modules::heads::{Head, read_head};
+use crate::modules::headers::{Header, read_header};
 use crate::modules::rules::{make_definition, read_rule};
 use crate::modules::tokens::{behind_mark, expect_mark};
-use crate::parser::{Fault, read_strategy};
+use crate::parser::{SyntaxFault, read_strategy};
 use std::alloc::Global;
 use strategy_syntax::Definition;
 use strategy_tokens::{Sign, Token};
@@ -19,20 +19,20 @@ use strategy_tokens::{Sign, Token};
 pub fn read_definition<'a>(
     alloc: Global,
     tokens: &'a [Token],
-) -> Result<(Definition, &'a [Token]), Fault>
+) -> Result<(Definition, &'a [Token]), SyntaxFault>
     ensures given { IfOk result (λ r. DefinitionGives tokens.now r.0 r.1.now) }
     ensures only { IfOk result (λ r. (w : Defined) (y : List Token) → ReadsDefined w tokens.now y
         → DefinitionEnds y → (core_definition w ≡ r.0) × (y ≡ r.1.now)) }
-    ensures none { result ≡ Err Fault.Syntax → (w : Defined) (y : List Token)
+    ensures none { result ≡ Err SyntaxFault.Syntax → (w : Defined) (y : List Token)
         → ReadsDefined w tokens.now y → DefinitionEnds y → ⊥ }
 {
-    let (head, left) = read_head(alloc, tokens)?;
+    let (header, left) = read_header(alloc, tokens)?;
     if let Some(rest) = behind_mark(left, Sign::Equals) {
         let (body, behind) = read_strategy(alloc, rest)?;
-        return Ok((make_definition(head, body), behind));
+        return Ok((make_definition(header, body), behind));
     }
     let rest = expect_mark(left, Sign::Colon)?;
-    match read_rule(alloc, head, rest) {
+    match read_rule(alloc, header, rest) {
         Ok(read) => Ok(read),
         Err(fault) => Err(fault),
     }

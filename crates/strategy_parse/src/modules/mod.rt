@@ -4,7 +4,7 @@
 
 mod declarations;
 mod definitions;
-mod heads;
+mod headers;
 mod parse;
 mod rules;
 mod sections;

@@ -9,7 +9,7 @@ ghost use Rattle.strategy_tokens.specs.Tokens.{tokens};
 use crate::ParseFault;
 use crate::modules::sections::{Part, read_sections};
 use crate::modules::tokens::{behind_ident, behind_word};
-use crate::parser::Fault;
+use crate::parser::SyntaxFault;
 use std::alloc::Global;
 use strategy_syntax::Module;
 use strategy_tokens::{Keyword, MAX_TOKENS, Token, read_tokens};
@@ -34,19 +34,19 @@ pub fn parse_module(alloc: Global, text: &[u8]) -> Result<Module, ParseFault>
 }
 
 // The tokens behind the word `module` and a name, where these come first.
-fn behind_title<'a>(tokens: &'a [Token]) -> Result<&'a [Token], Fault>
+fn behind_title<'a>(tokens: &'a [Token]) -> Result<&'a [Token], SyntaxFault>
     ensures back { IfOk result (λ rest. (m : syntax.Module) → Left Part.Outside rest.now m
         → GivesModule tokens.now m) }
     ensures forth { IfOk result (λ rest. (m : syntax.Module) → GivesModule tokens.now m
         → Left Part.Outside rest.now m) }
-    ensures none { result ≡ Err Fault.Syntax → (m : syntax.Module) → GivesModule tokens.now m → ⊥ }
-    ensures memory { result ≡ Err Fault.Memory → ⊥ }
+    ensures none { result ≡ Err SyntaxFault.Syntax → (m : syntax.Module) → GivesModule tokens.now m → ⊥ }
+    ensures memory { result ≡ Err SyntaxFault.Memory → ⊥ }
 {
     let Some(rest) = behind_word(tokens, Keyword::Module) else {
         return Ok(tokens);
     };
     match behind_ident(rest) {
         Some(left) => Ok(left),
-        None => Err(Fault::Syntax),
+        None => Err(SyntaxFault::Syntax),
     }
 }

@@ -3,15 +3,15 @@
 ghost use Rattle.std.specs.Prelude.{◌≡◌, List, IfOk, Err};
 ghost use Rattle.strategy_syntax.specs.Syntax.{scope};
 ghost use Rattle.strategy_parse.specs.Core.{core_definition, defined, once, without};
-ghost use Rattle.strategy_parse.specs.Definitions.{DefinitionEnds, head_of, ReadsRule, RuleGives};
-ghost use Rattle.strategy_parse.specs.ModuleFronts.{make_head};
+ghost use Rattle.strategy_parse.specs.Definitions.{DefinitionEnds, header_of, ReadsRule, RuleGives};
+ghost use Rattle.strategy_parse.specs.ModuleFronts.{make_header};
 ghost use Rattle.strategy_parse.specs.Written.{Defined};
 ghost use Rattle.strategy_tokens.specs.declared.token.Token.{Token};
 
-use crate::modules::heads::Head;
+use crate::modules::headers::Header;
 use crate::modules::tokens::{behind_word, expect_mark};
 use crate::parser::{
-    Condition, Fault, NameList, add_variables, make_rewrite, make_rewrite_where, make_scope,
+    Condition, NameList, SyntaxFault, add_variables, make_rewrite, make_rewrite_where, make_scope,
     once_without, read_condition, read_pattern,
 };
 use std::alloc::Global;
@@ -19,18 +19,18 @@ use strategy_syntax::{Definition, Pattern, Strategy};
 use strategy_tokens::{Keyword, Sign, Token};
 use term_core::NoMemory;
 
-/// The rule with this head, whose patterns stand at the front of the tokens, and those behind it.
+/// The rule with this header, whose patterns stand at the front of the tokens, and those behind it.
 pub fn read_rule<'a>(
     alloc: Global,
-    head: Head,
+    header: Header,
     tokens: &'a [Token],
-) -> Result<(Definition, &'a [Token]), Fault>
+) -> Result<(Definition, &'a [Token]), SyntaxFault>
     ensures given { IfOk result (λ r. RuleGives
-        (make_head head.name head.strategies head.terms) tokens.now r.0 r.1.now) }
+        (make_header header.name header.strategies header.terms) tokens.now r.0 r.1.now) }
     ensures only { IfOk result (λ r. (w : Defined) (y : List Token)
-        → head_of w ≡ make_head head.name head.strategies head.terms → ReadsRule w tokens.now y
+        → header_of w ≡ make_header header.name header.strategies header.terms → ReadsRule w tokens.now y
         → DefinitionEnds y → (core_definition w ≡ r.0) × (y ≡ r.1.now)) }
-    ensures none { result ≡ Err Fault.Syntax → (w : Defined) (y : List Token)
+    ensures none { result ≡ Err SyntaxFault.Syntax → (w : Defined) (y : List Token)
         → ReadsRule w tokens.now y → DefinitionEnds y → ⊥ }
 {
     let (before, left) = read_pattern(alloc, tokens)?;
@@ -40,40 +40,40 @@ pub fn read_rule<'a>(
     let names = add_variables(&after, names)?;
     let Some(rest) = behind_word(left, Keyword::Where) else {
         let body = make_rewrite(alloc, before, after)?;
-        let rule = make_rule(alloc, head, &names, body)?;
+        let rule = make_rule(alloc, header, &names, body)?;
         return Ok((rule, left));
     };
     let (condition, behind) = read_condition(alloc, names, rest)?;
     let Condition { strategy, names } = condition;
     let body = make_rewrite_where(alloc, before, after, strategy)?;
-    let rule = make_rule(alloc, head, &names, body)?;
+    let rule = make_rule(alloc, header, &names, body)?;
     Ok((rule, behind))
 }
 
 // The definition of a rule: a scope of the names that are no term parameters round its body.
 fn make_rule(
     alloc: Global,
-    head: Head,
+    header: Header,
     names: &NameList,
     body: Strategy,
 ) -> Result<Definition, NoMemory>
     ensures { IfOk result (λ made. made
-        ≡ defined (make_head head.name head.strategies head.terms)
-        (scope (once (without head.terms names.now)) body)) }
+        ≡ defined (make_header header.name header.strategies header.terms)
+        (scope (once (without header.terms names.now)) body)) }
 {
-    let scope = once_without(alloc, names.as_slice(), head.terms.as_slice())?;
+    let scope = once_without(alloc, names.as_slice(), header.terms.as_slice())?;
     let body = make_scope(alloc, scope, body)?;
-    Ok(make_definition(head, body))
+    Ok(make_definition(header, body))
 }
 
-/// The definition with this head and this body.
-pub fn make_definition(head: Head, body: Strategy) -> Definition
-    ensures { result ≡ defined (make_head head.name head.strategies head.terms) body }
+/// The definition with this header and this body.
+pub fn make_definition(header: Header, body: Strategy) -> Definition
+    ensures { result ≡ defined (make_header header.name header.strategies header.terms) body }
 {
-    let Head {
+    let Header {
         name,
         strategies,
         terms,
-    } = head;
+    } = header;
     Definition::new(name, strategies.into_vec(), terms.into_vec(), body)
 }

@@ -7,7 +7,7 @@ ghost use Rattle.strategy_parse.specs.Sections.{IsItem, Left, Stands, in_signatu
 use crate::modules::declarations::read_declaration;
 use crate::modules::definitions::read_definition;
 use crate::modules::sorts::skip_sort;
-use crate::parser::Fault;
+use crate::parser::SyntaxFault;
 use std::alloc::Global;
 use strategy_syntax::{Constructor, Definition, Module};
 use strategy_tokens::{Keyword, Token};
@@ -37,10 +37,10 @@ pub struct Built {
 }
 
 /// The module of the sections that the tokens are.
-pub fn read_sections(alloc: Global, tokens: &[Token]) -> Result<Module, Fault>
+pub fn read_sections(alloc: Global, tokens: &[Token]) -> Result<Module, SyntaxFault>
     ensures given { IfOk result (λ m. Left Part.Outside tokens.now m) }
     ensures only { IfOk result (λ m. (r : syntax.Module) → Left Part.Outside tokens.now r → r ≡ m) }
-    ensures none { result ≡ Err Fault.Syntax → (r : syntax.Module)
+    ensures none { result ≡ Err SyntaxFault.Syntax → (r : syntax.Module)
         → Left Part.Outside tokens.now r → ⊥ }
 {
     let mut built = Built {
@@ -70,7 +70,7 @@ fn read_next<'a>(
     tokens: &'a [Token],
     rest: &'a [Token],
     built: &mut Built,
-) -> Result<(Part, &'a [Token]), Fault>
+) -> Result<(Part, &'a [Token]), SyntaxFault>
     requires { tokens.now ≡ token.now ∷ rest.now }
     ensures forth { IfOk result (λ r. (m : syntax.Module)
         → Stands part built.old.constructors.items built.old.definitions.items tokens.now m
@@ -78,14 +78,14 @@ fn read_next<'a>(
     ensures back { IfOk result (λ r. (m : syntax.Module)
         → Stands r.0 built.new.constructors.items built.new.definitions.items r.1.now m
         → Stands part built.old.constructors.items built.old.definitions.items tokens.now m) }
-    ensures none { result ≡ Err Fault.Syntax → (m : syntax.Module)
+    ensures none { result ≡ Err SyntaxFault.Syntax → (m : syntax.Module)
         → Stands part built.old.constructors.items built.old.definitions.items tokens.now m → ⊥ }
     ensures shorter { IfOk result (λ r. length r.1.now < length tokens.now) }
 {
     if let Token::Reserved(word) = token {
         return match next_part(part, *word) {
             Some(next) => Ok((next, rest)),
-            None => Err(Fault::Syntax),
+            None => Err(SyntaxFault::Syntax),
         };
     }
     match read_item(alloc, part, tokens, built) {
@@ -126,7 +126,7 @@ fn read_item<'a>(
     part: Part,
     tokens: &'a [Token],
     built: &mut Built,
-) -> Result<&'a [Token], Fault>
+) -> Result<&'a [Token], SyntaxFault>
     requires { IsItem tokens.now }
     ensures forth { IfOk result (λ rest. (m : syntax.Module)
         → Stands part built.old.constructors.items built.old.definitions.items tokens.now m
@@ -134,7 +134,7 @@ fn read_item<'a>(
     ensures back { IfOk result (λ rest. (m : syntax.Module)
         → Stands part built.new.constructors.items built.new.definitions.items rest.now m
         → Stands part built.old.constructors.items built.old.definitions.items tokens.now m) }
-    ensures none { result ≡ Err Fault.Syntax → (m : syntax.Module)
+    ensures none { result ≡ Err SyntaxFault.Syntax → (m : syntax.Module)
         → Stands part built.old.constructors.items built.old.definitions.items tokens.now m → ⊥ }
     ensures shorter { IfOk result (λ rest. length rest.now < length tokens.now) }
 {
@@ -151,12 +151,12 @@ fn read_item<'a>(
             Ok(rest) => Ok(rest),
             Err(fault) => Err(fault),
         },
-        _ => Err(Fault::Syntax),
+        _ => Err(SyntaxFault::Syntax),
     }
 }
 
 // Takes a declaration.
-fn add_declaration<'a>(tokens: &'a [Token], built: &mut Built) -> Result<&'a [Token], Fault>
+fn add_declaration<'a>(tokens: &'a [Token], built: &mut Built) -> Result<&'a [Token], SyntaxFault>
     requires { IsItem tokens.now }
     ensures forth { IfOk result (λ rest. (m : syntax.Module)
         → Stands Part.Constructors built.old.constructors.items built.old.definitions.items
@@ -168,7 +168,7 @@ fn add_declaration<'a>(tokens: &'a [Token], built: &mut Built) -> Result<&'a [To
         rest.now m
         → Stands Part.Constructors built.old.constructors.items built.old.definitions.items
         tokens.now m) }
-    ensures none { result ≡ Err Fault.Syntax → (m : syntax.Module)
+    ensures none { result ≡ Err SyntaxFault.Syntax → (m : syntax.Module)
         → Stands Part.Constructors built.old.constructors.items built.old.definitions.items
         tokens.now m → ⊥ }
     ensures shorter { IfOk result (λ rest. length rest.now < length tokens.now) }
@@ -191,7 +191,7 @@ fn add_definition<'a>(
     alloc: Global,
     tokens: &'a [Token],
     built: &mut Built,
-) -> Result<&'a [Token], Fault>
+) -> Result<&'a [Token], SyntaxFault>
     requires { IsItem tokens.now }
     ensures forth { IfOk result (λ rest. (m : syntax.Module)
         → Stands Part.Definitions built.old.constructors.items built.old.definitions.items
@@ -203,7 +203,7 @@ fn add_definition<'a>(
         rest.now m
         → Stands Part.Definitions built.old.constructors.items built.old.definitions.items
         tokens.now m) }
-    ensures none { result ≡ Err Fault.Syntax → (m : syntax.Module)
+    ensures none { result ≡ Err SyntaxFault.Syntax → (m : syntax.Module)
         → Stands Part.Definitions built.old.constructors.items built.old.definitions.items
         tokens.now m → ⊥ }
     ensures shorter { IfOk result (λ rest. length rest.now < length tokens.now) }

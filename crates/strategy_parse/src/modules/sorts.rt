@@ -4,7 +4,7 @@
 ghost use Rattle.std.specs.Prelude.{◌≡◌, ◌<◌, ◌^◌, length, IfOk, Err, Some, None};
 ghost use Rattle.strategy_parse.specs.ModuleFronts.{sort_step, behind_sort, sorts_at, sort_at};
 
-use crate::parser::Fault;
+use crate::parser::SyntaxFault;
 use strategy_tokens::{Sign, Token, is_mark};
 
 /// What was read last of a sort.
@@ -67,10 +67,10 @@ fn behind_sort(depth: usize, token: &Token) -> Turn
 
 /// How many sorts stand at the front of the tokens with a `*` between, at least one, and the tokens
 /// behind them.
-pub fn skip_sorts<'a>(tokens: &'a [Token]) -> Result<(usize, &'a [Token]), Fault>
+pub fn skip_sorts<'a>(tokens: &'a [Token]) -> Result<(usize, &'a [Token]), SyntaxFault>
     ensures ok { IfOk result (λ r. sorts_at tokens.now ≡ Some (r.0, r.1.now)) }
-    ensures none { result ≡ Err Fault.Syntax → sorts_at tokens.now ≡ None }
-    ensures memory { result ≡ Err Fault.Memory → ⊥ }
+    ensures none { result ≡ Err SyntaxFault.Syntax → sorts_at tokens.now ≡ None }
+    ensures memory { result ≡ Err SyntaxFault.Memory → ⊥ }
 {
     let mut count = 1usize;
     let mut place = Place::Begins;
@@ -89,25 +89,25 @@ pub fn skip_sorts<'a>(tokens: &'a [Token]) -> Result<(usize, &'a [Token]), Fault
                 count += 1;
                 place = Place::Begins;
             }
-            Turn::Stuck => return Err(Fault::Syntax),
+            Turn::Stuck => return Err(SyntaxFault::Syntax),
         }
         left = rest;
     }
     match sort_step(place, depth, &Token::Bad) {
         Turn::Ends => Ok((count, left)),
-        _ => Err(Fault::Syntax),
+        _ => Err(SyntaxFault::Syntax),
     }
 }
 
 /// The tokens behind the sort at the front.
-pub fn skip_sort<'a>(tokens: &'a [Token]) -> Result<&'a [Token], Fault>
+pub fn skip_sort<'a>(tokens: &'a [Token]) -> Result<&'a [Token], SyntaxFault>
     ensures ok { IfOk result (λ rest. sort_at tokens.now ≡ Some rest.now) }
-    ensures none { result ≡ Err Fault.Syntax → sort_at tokens.now ≡ None }
-    ensures memory { result ≡ Err Fault.Memory → ⊥ }
+    ensures none { result ≡ Err SyntaxFault.Syntax → sort_at tokens.now ≡ None }
+    ensures memory { result ≡ Err SyntaxFault.Memory → ⊥ }
 {
     let (count, rest) = skip_sorts(tokens)?;
     if count != 1 {
-        return Err(Fault::Syntax);
+        return Err(SyntaxFault::Syntax);
     }
     Ok(rest)
 }

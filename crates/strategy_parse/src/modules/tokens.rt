@@ -6,7 +6,7 @@ ghost use Rattle.strategy_parse.specs.FreeNames.{next_token};
 ghost use Rattle.strategy_tokens.specs.Marks.{is_word};
 ghost use Rattle.strategy_parse.specs.ModuleFronts.{behind_ident, behind_mark};
 
-use crate::parser::Fault;
+use crate::parser::SyntaxFault;
 use strategy_tokens::{Keyword, Sign, Token, is_mark, is_word};
 
 /// The tokens behind the sign, where it comes first.
@@ -23,13 +23,13 @@ pub fn behind_mark<'a>(tokens: &'a [Token], sign: Sign) -> Option<&'a [Token]>
 }
 
 /// The tokens behind the sign, which has to come first.
-pub fn expect_mark<'a>(tokens: &'a [Token], sign: Sign) -> Result<&'a [Token], Fault>
+pub fn expect_mark<'a>(tokens: &'a [Token], sign: Sign) -> Result<&'a [Token], SyntaxFault>
     ensures ok { IfOk result (λ rest. behind_mark sign tokens.now ≡ Some rest.now) }
-    ensures none { result ≡ Err Fault.Syntax → behind_mark sign tokens.now ≡ None }
+    ensures none { result ≡ Err SyntaxFault.Syntax → behind_mark sign tokens.now ≡ None }
 {
     match behind_mark(tokens, sign) {
         Some(rest) => Ok(rest),
-        None => Err(Fault::Syntax),
+        None => Err(SyntaxFault::Syntax),
     }
 }
 

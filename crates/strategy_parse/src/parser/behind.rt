@@ -7,7 +7,7 @@ ghost use Rattle.strategy_parse.specs.Machine as machine;
 ghost use Rattle.strategy_parse.specs.Machine.{no_operand};
 
 use crate::parser::expect::{expect, expect_word};
-use crate::parser::fault::Fault;
+use crate::parser::fault::SyntaxFault;
 use crate::parser::group::{closing_of, make_group};
 use crate::parser::lists::StrategyList;
 use crate::parser::make::{
@@ -16,7 +16,7 @@ use crate::parser::make::{
 };
 use crate::parser::stack::Stack;
 use crate::parser::state::{
-    Frame, Group, Infix, Outcome, PatternFrame, PatternGroup, State, StrategyFrame,
+    Frame, Infix, Outcome, PatternFrame, PatternGroup, State, StrategyFrame, StrategyGroup,
 };
 use std::alloc::Global;
 use strategy_syntax::Strategy;
@@ -28,10 +28,10 @@ pub fn behind(
     strategy: Strategy,
     stack: &mut Stack,
     token: &Token,
-) -> Result<Outcome, Fault>
+) -> Result<Outcome, SyntaxFault>
     ensures ok { IfOk result (λ o.
         machine.behind strategy (forms stack.old) token.now ≡ machine.leads o (forms stack.new)) }
-    ensures none { result ≡ Err Fault.Syntax →
+    ensures none { result ≡ Err SyntaxFault.Syntax →
         machine.behind strategy (forms stack.old) token.now ≡ machine.stuck }
 {
     if is_mark(token, Sign::FatArrow) {
@@ -53,10 +53,10 @@ fn behind_arrow(
     last: Strategy,
     stack: &mut Stack,
     token: &Token,
-) -> Result<Outcome, Fault>
+) -> Result<Outcome, SyntaxFault>
     ensures ok { IfOk result (λ o.
         machine.behind_arrow last (forms stack.old) token.now ≡ machine.leads o (forms stack.new)) }
-    ensures none { result ≡ Err Fault.Syntax →
+    ensures none { result ≡ Err SyntaxFault.Syntax →
         machine.behind_arrow last (forms stack.old) token.now ≡ machine.stuck }
 {
     let mut strategy = last;
@@ -77,11 +77,11 @@ fn behind_seq(
     strategy: Strategy,
     stack: &mut Stack,
     token: &Token,
-) -> Result<Outcome, Fault>
+) -> Result<Outcome, SyntaxFault>
     ensures ok { IfOk result (λ o.
         machine.behind_seq strategy (forms stack.old) token.now
         ≡ machine.leads o (forms stack.new)) }
-    ensures none { result ≡ Err Fault.Syntax →
+    ensures none { result ≡ Err SyntaxFault.Syntax →
         machine.behind_seq strategy (forms stack.old) token.now ≡ machine.stuck }
 {
     if is_mark(token, Sign::LeftChoice) {
@@ -103,17 +103,17 @@ fn behind_choice(
     last: Strategy,
     stack: &mut Stack,
     token: &Token,
-) -> Result<Outcome, Fault>
+) -> Result<Outcome, SyntaxFault>
     ensures ok { IfOk result (λ o.
         machine.behind_choice last (forms stack.old) token.now
         ≡ machine.leads o (forms stack.new)) }
-    ensures none { result ≡ Err Fault.Syntax →
+    ensures none { result ≡ Err SyntaxFault.Syntax →
         machine.behind_choice last (forms stack.old) token.now ≡ machine.stuck }
 {
     let mut strategy = last;
     while let Some(second) = stack.pop_operand(Infix::Otherwise) {
         let Some(first) = stack.pop_operand(Infix::Guarded) else {
-            return Err(Fault::Syntax);
+            return Err(SyntaxFault::Syntax);
         };
         strategy = make_guard(alloc, first, second, strategy)?;
     }
@@ -126,19 +126,19 @@ fn leave_choice(
     strategy: Strategy,
     stack: &mut Stack,
     token: &Token,
-) -> Result<Outcome, Fault>
+) -> Result<Outcome, SyntaxFault>
     requires { no_operand Infix.Otherwise (forms stack.old) }
     ensures ok { IfOk result (λ o.
         machine.behind_choice strategy (forms stack.old) token.now
         ≡ machine.leads o (forms stack.new)) }
-    ensures none { result ≡ Err Fault.Syntax →
+    ensures none { result ≡ Err SyntaxFault.Syntax →
         machine.behind_choice strategy (forms stack.old) token.now ≡ machine.stuck }
 {
     match stack.pop() {
         Some(Frame::Strategy(frame)) => in_frame(alloc, strategy, frame, stack, token),
         Some(other) => {
             drop(other);
-            Err(Fault::Syntax)
+            Err(SyntaxFault::Syntax)
         }
         None => Ok(Outcome::Ends(strategy)),
     }
@@ -151,11 +151,11 @@ fn in_frame(
     frame: StrategyFrame,
     stack: &mut Stack,
     token: &Token,
-) -> Result<Outcome, Fault>
+) -> Result<Outcome, SyntaxFault>
     ensures ok { IfOk result (λ o.
         machine.in_frame strategy frame (forms stack.old) token.now
         ≡ machine.leads o (forms stack.new)) }
-    ensures none { result ≡ Err Fault.Syntax →
+    ensures none { result ≡ Err SyntaxFault.Syntax →
         machine.in_frame strategy frame (forms stack.old) token.now ≡ machine.stuck }
 {
     match frame {
@@ -210,11 +210,11 @@ fn behind_then(
     strategy: Strategy,
     stack: &mut Stack,
     token: &Token,
-) -> Result<Outcome, Fault>
+) -> Result<Outcome, SyntaxFault>
     ensures ok { IfOk result (λ o.
         machine.in_frame strategy (StrategyFrame.Then tested) (forms stack.old) token.now
         ≡ machine.leads o (forms stack.new)) }
-    ensures none { result ≡ Err Fault.Syntax →
+    ensures none { result ≡ Err SyntaxFault.Syntax →
         machine.in_frame strategy (StrategyFrame.Then tested) (forms stack.old) token.now
         ≡ machine.stuck }
 {
@@ -229,15 +229,15 @@ fn behind_then(
 // A strategy of a list is read, and is among those done.
 fn behind_element(
     alloc: Global,
-    group: Group,
+    group: StrategyGroup,
     done: StrategyList,
     stack: &mut Stack,
     token: &Token,
-) -> Result<Outcome, Fault>
+) -> Result<Outcome, SyntaxFault>
     ensures ok { IfOk result (λ o.
         machine.behind_element group done (forms stack.old) token.now
         ≡ machine.leads o (forms stack.new)) }
-    ensures none { result ≡ Err Fault.Syntax →
+    ensures none { result ≡ Err SyntaxFault.Syntax →
         machine.behind_element group done (forms stack.old) token.now ≡ machine.stuck }
 {
     if is_mark(token, Sign::Comma) {
@@ -252,19 +252,23 @@ fn behind_element(
 }
 
 // A `|` behind the strategies of a list.
-fn behind_bar(group: Group, done: StrategyList, stack: &mut Stack) -> Result<Outcome, Fault>
+fn behind_bar(
+    group: StrategyGroup,
+    done: StrategyList,
+    stack: &mut Stack,
+) -> Result<Outcome, SyntaxFault>
     ensures ok { IfOk result (λ o.
         machine.behind_bar group done (forms stack.old) ≡ machine.leads o (forms stack.new)) }
-    ensures none { result ≡ Err Fault.Syntax →
+    ensures none { result ≡ Err SyntaxFault.Syntax →
         machine.behind_bar group done (forms stack.old) ≡ machine.stuck }
 {
     match group {
-        Group::Round => Err(Fault::Syntax),
-        Group::Square => {
+        StrategyGroup::Round => Err(SyntaxFault::Syntax),
+        StrategyGroup::Square => {
             stack.push(Frame::Strategy(StrategyFrame::Tail(done)))?;
             Ok(Outcome::Goes(State::Strategy))
         }
-        Group::Arguments(name) => {
+        StrategyGroup::Arguments(name) => {
             Ok(Outcome::Goes(State::FirstPattern(PatternGroup::Terms(name, done))))
         }
     }

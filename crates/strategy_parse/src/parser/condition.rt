@@ -6,7 +6,7 @@ ghost use Rattle.strategy_parse.specs.Forms.{forms};
 ghost use Rattle.strategy_parse.specs.FreeNames.{seen, names_seen};
 ghost use Rattle.strategy_parse.specs.Machine.{front, begin};
 
-use crate::parser::fault::Fault;
+use crate::parser::fault::SyntaxFault;
 use crate::parser::lists::NameList;
 use crate::parser::stack::Stack;
 use crate::parser::state::{Outcome, State};
@@ -32,11 +32,11 @@ pub fn read_condition<'a>(
     alloc: Global,
     before: NameList,
     tokens: &'a [Token],
-) -> Result<(Condition, &'a [Token]), Fault>
+) -> Result<(Condition, &'a [Token]), SyntaxFault>
     ensures ok { IfOk result (λ r.
         front (begin []) tokens.now ≡ Some (r.0.strategy, r.1.now)) }
     ensures names { IfOk result (λ r. r.0.names ≡ before ++ names_seen (begin []) tokens.now) }
-    ensures none { result ≡ Err Fault.Syntax → front (begin []) tokens.now ≡ None }
+    ensures none { result ≡ Err SyntaxFault.Syntax → front (begin []) tokens.now ≡ None }
 {
     let mut names = before;
     let mut state = State::Strategy;
@@ -55,7 +55,7 @@ pub fn read_condition<'a>(
         Outcome::Ends(strategy) => Ok((Condition { strategy, names }, left)),
         Outcome::Goes(next) => {
             drop(next);
-            Err(Fault::Syntax)
+            Err(SyntaxFault::Syntax)
         }
     }
 }

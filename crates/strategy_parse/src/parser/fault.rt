@@ -6,56 +6,56 @@ use term_core::NoMemory;
 
 /// Why a token was not taken.
 #[derive(Clone, Copy)]
-pub enum Fault {
+pub enum SyntaxFault {
     /// No form goes on with it.
     Syntax,
     /// A growth of memory was refused.
     Memory,
 }
 
-impl<T: Drop> From<AllocFailed<T>> for Fault {
+impl<T: Drop> From<AllocFailed<T>> for SyntaxFault {
     ghost use Rattle.std.specs.Prelude.{◌≡◌};
-    ghost use Rattle.strategy_parse.specs.declared.parser.fault.Fault.{Fault};
+    ghost use Rattle.strategy_parse.specs.declared.parser.fault.SyntaxFault.{SyntaxFault};
 
-    ghost from_gives = { λ _ e. e ≡ Fault.Memory };
+    ghost from_gives = { λ _ e. e ≡ SyntaxFault.Memory };
 
-    fn from(_refused: AllocFailed<T>) -> Fault {
-        Fault::Memory
+    fn from(_refused: AllocFailed<T>) -> SyntaxFault {
+        SyntaxFault::Memory
     }
 }
 
-impl From<AllocError> for Fault {
+impl From<AllocError> for SyntaxFault {
     ghost use Rattle.std.specs.Prelude.{◌≡◌};
-    ghost use Rattle.strategy_parse.specs.declared.parser.fault.Fault.{Fault};
+    ghost use Rattle.strategy_parse.specs.declared.parser.fault.SyntaxFault.{SyntaxFault};
 
-    ghost from_gives = { λ _ e. e ≡ Fault.Memory };
+    ghost from_gives = { λ _ e. e ≡ SyntaxFault.Memory };
 
-    fn from(_refused: AllocError) -> Fault {
-        Fault::Memory
+    fn from(_refused: AllocError) -> SyntaxFault {
+        SyntaxFault::Memory
     }
 }
 
-impl From<NoMemory> for Fault {
+impl From<NoMemory> for SyntaxFault {
     ghost use Rattle.std.specs.Prelude.{◌≡◌};
-    ghost use Rattle.strategy_parse.specs.declared.parser.fault.Fault.{Fault};
+    ghost use Rattle.strategy_parse.specs.declared.parser.fault.SyntaxFault.{SyntaxFault};
 
-    ghost from_gives = { λ _ e. e ≡ Fault.Memory };
+    ghost from_gives = { λ _ e. e ≡ SyntaxFault.Memory };
 
-    fn from(_refused: NoMemory) -> Fault {
-        Fault::Memory
+    fn from(_refused: NoMemory) -> SyntaxFault {
+        SyntaxFault::Memory
     }
 }
 
-impl From<Fault> for ParseFault {
+impl From<SyntaxFault> for ParseFault {
     ghost use Rattle.std.specs.Prelude.{◌≡◌};
     ghost use Rattle.strategy_parse.specs.Faults.{text_fault};
 
     ghost from_gives = { λ fault e. e ≡ text_fault fault };
 
-    fn from(fault: Fault) -> ParseFault {
+    fn from(fault: SyntaxFault) -> ParseFault {
         match fault {
-            Fault::Syntax => ParseFault::Syntax,
-            Fault::Memory => ParseFault::Memory,
+            SyntaxFault::Syntax => ParseFault::Syntax,
+            SyntaxFault::Memory => ParseFault::Memory,
         }
     }
 }

@@ -7,31 +7,34 @@ ghost use Rattle.strategy_parse.specs.Core.{in_brackets};
 ghost use Rattle.strategy_parse.specs.Machine as machine;
 
 use crate::parser::lists::{PatternList, StrategyList};
-use crate::parser::state::{Group, PatternGroup, State};
+use crate::parser::state::{PatternGroup, State, StrategyGroup};
 use std::alloc::Global;
 use strategy_syntax::{Head, Pattern, PatternForm, Strategy, StrategyForm};
 use strategy_tokens::Sign;
 use term_core::{Name, NoMemory};
 
 /// The sign that closes a list of strategies.
-pub fn closing_of(group: &Group) -> Sign
+pub fn closing_of(group: &StrategyGroup) -> Sign
     ensures { result ≡ machine.closing group.now }
 {
     match group {
-        Group::Round => Sign::CloseRound,
-        Group::Square => Sign::CloseSquare,
-        Group::Arguments(_) => Sign::CloseRound,
+        StrategyGroup::Round => Sign::CloseRound,
+        StrategyGroup::Square => Sign::CloseSquare,
+        StrategyGroup::Arguments(_) => Sign::CloseRound,
     }
 }
 
 /// What a list of strategies makes.
-pub fn make_group(alloc: Global, group: Group, done: StrategyList) -> Strategy
+pub fn make_group(alloc: Global, group: StrategyGroup, done: StrategyList) -> Strategy
     ensures { result ≡ machine.grouped group done }
 {
     match group {
-        Group::Round => make_round(done),
-        Group::Square => Strategy::new(StrategyForm::Congruence(Head::List, done.into_vec())),
-        Group::Arguments(name) => {
+        StrategyGroup::Round => make_round(done),
+        StrategyGroup::Square => Strategy::new(StrategyForm::Congruence(
+            Head::List,
+            done.into_vec(),
+        )),
+        StrategyGroup::Arguments(name) => {
             Strategy::new(StrategyForm::Use(name, done.into_vec(), Vec::new(alloc)))
         }
     }

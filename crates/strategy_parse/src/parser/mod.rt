@@ -19,7 +19,7 @@ mod strategies;
 
 pub use closure::add_variables;
 pub use condition::{Condition, read_condition};
-pub use fault::Fault;
+pub use fault::SyntaxFault;
 pub use lists::NameList;
 pub use make::{make_rewrite, make_rewrite_where, make_scope};
 pub use once::once_without;

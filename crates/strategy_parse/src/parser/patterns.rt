@@ -9,7 +9,7 @@ ghost use Rattle.strategy_parse.specs.declared.parser.state.Frame.{Frame};
 
 use crate::parser::behind::behind;
 use crate::parser::expect::{expect, expect_word};
-use crate::parser::fault::Fault;
+use crate::parser::fault::SyntaxFault;
 use crate::parser::group::{close_patterns, closing_sign_of};
 use crate::parser::lists::PatternList;
 use crate::parser::make::{make_build, make_closure, make_match, make_seq};
@@ -21,10 +21,10 @@ use strategy_tokens::{Keyword, Sign, Token, is_mark};
 use term_core::{Name, NoMemory};
 
 /// A pattern has to begin.
-pub fn begin_pattern(alloc: Global, token: &Token) -> Result<Outcome, Fault>
+pub fn begin_pattern(alloc: Global, token: &Token) -> Result<Outcome, SyntaxFault>
     ensures ok { IfOk result (λ o. (S : List Frame) →
         machine.begin_pattern S token.now ≡ machine.leads o S) }
-    ensures none { result ≡ Err Fault.Syntax → (S : List Frame) →
+    ensures none { result ≡ Err SyntaxFault.Syntax → (S : List Frame) →
         machine.begin_pattern S token.now ≡ machine.stuck }
 {
     match token {
@@ -39,21 +39,21 @@ pub fn begin_pattern(alloc: Global, token: &Token) -> Result<Outcome, Fault>
             Ok(Outcome::Goes(State::Base(pattern)))
         }
         Token::Sign(sign) => open_pattern(*sign),
-        _ => Err(Fault::Syntax),
+        _ => Err(SyntaxFault::Syntax),
     }
 }
 
 // A list or a tuple of patterns has to be opened.
-fn open_pattern(sign: Sign) -> Result<Outcome, Fault>
+fn open_pattern(sign: Sign) -> Result<Outcome, SyntaxFault>
     ensures ok { IfOk result (λ o. (S : List Frame) →
         machine.open_pattern S sign ≡ machine.leads o S) }
-    ensures none { result ≡ Err Fault.Syntax → (S : List Frame) →
+    ensures none { result ≡ Err SyntaxFault.Syntax → (S : List Frame) →
         machine.open_pattern S sign ≡ machine.stuck }
 {
     match sign {
         Sign::OpenSquare => Ok(Outcome::Goes(State::FirstPattern(PatternGroup::List))),
         Sign::OpenRound => Ok(Outcome::Goes(State::FirstPattern(PatternGroup::Tuple))),
-        _ => Err(Fault::Syntax),
+        _ => Err(SyntaxFault::Syntax),
     }
 }
 
@@ -63,11 +63,11 @@ pub fn first_pattern(
     group: PatternGroup,
     stack: &mut Stack,
     token: &Token,
-) -> Result<Outcome, Fault>
+) -> Result<Outcome, SyntaxFault>
     ensures ok { IfOk result (λ o.
         machine.first_pattern group (forms stack.old) token.now
         ≡ machine.leads o (forms stack.new)) }
-    ensures none { result ≡ Err Fault.Syntax →
+    ensures none { result ≡ Err SyntaxFault.Syntax →
         machine.first_pattern group (forms stack.old) token.now ≡ machine.stuck }
 {
     if is_mark(token, closing_sign_of(&group)) {
@@ -83,11 +83,11 @@ pub fn behind_base(
     pattern: Pattern,
     stack: &mut Stack,
     token: &Token,
-) -> Result<Outcome, Fault>
+) -> Result<Outcome, SyntaxFault>
     ensures ok { IfOk result (λ o.
         machine.behind_base pattern (forms stack.old) token.now
         ≡ machine.leads o (forms stack.new)) }
-    ensures none { result ≡ Err Fault.Syntax →
+    ensures none { result ≡ Err SyntaxFault.Syntax →
         machine.behind_base pattern (forms stack.old) token.now ≡ machine.stuck }
 {
     if is_mark(token, Sign::OpenCurly) {
@@ -104,11 +104,11 @@ pub fn behind_pattern(
     last: Pattern,
     stack: &mut Stack,
     token: &Token,
-) -> Result<Outcome, Fault>
+) -> Result<Outcome, SyntaxFault>
     ensures ok { IfOk result (λ o.
         machine.behind_pattern last (forms stack.old) token.now
         ≡ machine.leads o (forms stack.new)) }
-    ensures none { result ≡ Err Fault.Syntax →
+    ensures none { result ≡ Err SyntaxFault.Syntax →
         machine.behind_pattern last (forms stack.old) token.now ≡ machine.stuck }
 {
     let mut pattern = last;
@@ -131,21 +131,21 @@ fn leave_pattern(
     pattern: Pattern,
     stack: &mut Stack,
     token: &Token,
-) -> Result<Outcome, Fault>
+) -> Result<Outcome, SyntaxFault>
     requires { no_at (forms stack.old) }
     ensures ok { IfOk result (λ o.
         machine.behind_pattern pattern (forms stack.old) token.now
         ≡ machine.leads o (forms stack.new)) }
-    ensures none { result ≡ Err Fault.Syntax →
+    ensures none { result ≡ Err SyntaxFault.Syntax →
         machine.behind_pattern pattern (forms stack.old) token.now ≡ machine.stuck }
 {
     match stack.pop() {
         Some(Frame::Pattern(frame)) => pattern_in_frame(alloc, pattern, frame, stack, token),
         Some(other) => {
             drop(other);
-            Err(Fault::Syntax)
+            Err(SyntaxFault::Syntax)
         }
-        None => Err(Fault::Syntax),
+        None => Err(SyntaxFault::Syntax),
     }
 }
 
@@ -156,11 +156,11 @@ fn pattern_in_frame(
     frame: PatternFrame,
     stack: &mut Stack,
     token: &Token,
-) -> Result<Outcome, Fault>
+) -> Result<Outcome, SyntaxFault>
     ensures ok { IfOk result (λ o.
         machine.pattern_in_frame pattern frame (forms stack.old) token.now
         ≡ machine.leads o (forms stack.new)) }
-    ensures none { result ≡ Err Fault.Syntax →
+    ensures none { result ≡ Err SyntaxFault.Syntax →
         machine.pattern_in_frame pattern frame (forms stack.old) token.now ≡ machine.stuck }
 {
     match frame {
@@ -199,11 +199,11 @@ fn behind_closure(
     right: Pattern,
     stack: &mut Stack,
     token: &Token,
-) -> Result<Outcome, Fault>
+) -> Result<Outcome, SyntaxFault>
     ensures ok { IfOk result (λ o.
         machine.pattern_in_frame right (PatternFrame.Right left) (forms stack.old) token.now
         ≡ machine.leads o (forms stack.new)) }
-    ensures none { result ≡ Err Fault.Syntax →
+    ensures none { result ≡ Err SyntaxFault.Syntax →
         machine.pattern_in_frame right (PatternFrame.Right left) (forms stack.old) token.now
         ≡ machine.stuck }
 {
@@ -222,11 +222,11 @@ fn behind_one(
     done: PatternList,
     stack: &mut Stack,
     token: &Token,
-) -> Result<Outcome, Fault>
+) -> Result<Outcome, SyntaxFault>
     ensures ok { IfOk result (λ o.
         machine.behind_one group done (forms stack.old) token.now
         ≡ machine.leads o (forms stack.new)) }
-    ensures none { result ≡ Err Fault.Syntax →
+    ensures none { result ≡ Err SyntaxFault.Syntax →
         machine.behind_one group done (forms stack.old) token.now ≡ machine.stuck }
 {
     if is_mark(token, Sign::Comma) {
@@ -242,6 +242,6 @@ fn behind_one(
             stack.push(Frame::Pattern(PatternFrame::Tail(done)))?;
             Ok(Outcome::Goes(State::Pattern))
         }
-        _ => Err(Fault::Syntax),
+        _ => Err(SyntaxFault::Syntax),
     }
 }

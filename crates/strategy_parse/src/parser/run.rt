@@ -10,7 +10,7 @@ ghost use Rattle.strategy_parse.specs.Machine.{front, step as step_of};
 ghost use Rattle.strategy_parse.specs.Written.{Choice};
 ghost use Rattle.strategy_tokens.specs.declared.token.Token.{Token};
 
-use crate::parser::fault::Fault;
+use crate::parser::fault::SyntaxFault;
 use crate::parser::stack::Stack;
 use crate::parser::state::{Frame, Outcome, PatternFrame, State};
 use crate::parser::step::step;
@@ -22,11 +22,11 @@ use strategy_tokens::Token;
 pub fn read_strategy<'a>(
     alloc: Global,
     tokens: &'a [Token],
-) -> Result<(Strategy, &'a [Token]), Fault>
+) -> Result<(Strategy, &'a [Token]), SyntaxFault>
     ensures given { IfOk result (λ r. FrontGives tokens.now r.0 r.1.now) }
     ensures only { IfOk result (λ r. (a : Choice) (y : List Token) → ReadsChoice a tokens.now y
         → Stops y → (core a ≡ r.0) × (y ≡ r.1.now)) }
-    ensures none { result ≡ Err Fault.Syntax → (a : Choice) (y : List Token)
+    ensures none { result ≡ Err SyntaxFault.Syntax → (a : Choice) (y : List Token)
         → ReadsChoice a tokens.now y → Stops y → ⊥ }
 {
     match run(alloc, State::Strategy, Stack::new(alloc), tokens) {
@@ -36,11 +36,14 @@ pub fn read_strategy<'a>(
 }
 
 /// The pattern at the front of the tokens, and those behind it. It goes on as long as it can.
-pub fn read_pattern<'a>(alloc: Global, tokens: &'a [Token]) -> Result<(Pattern, &'a [Token]), Fault>
+pub fn read_pattern<'a>(
+    alloc: Global,
+    tokens: &'a [Token],
+) -> Result<(Pattern, &'a [Token]), SyntaxFault>
     ensures given { IfOk result (λ r. ReadsPattern r.0 tokens.now r.1.now) }
     ensures only { IfOk result (λ r. (p : syntax.Pattern) (y : List Token)
         → ReadsPattern p tokens.now y → Stops y → (p ≡ r.0) × (y ≡ r.1.now)) }
-    ensures none { result ≡ Err Fault.Syntax → (p : syntax.Pattern) (y : List Token)
+    ensures none { result ≡ Err SyntaxFault.Syntax → (p : syntax.Pattern) (y : List Token)
         → ReadsPattern p tokens.now y → Stops y → ⊥ }
 {
     let mut stack = Stack::new(alloc);
@@ -53,7 +56,7 @@ pub fn read_pattern<'a>(alloc: Global, tokens: &'a [Token]) -> Result<(Pattern, 
         StrategyForm::Match(pattern) => Ok((pattern, left)),
         other => {
             drop(other);
-            Err(Fault::Syntax)
+            Err(SyntaxFault::Syntax)
         }
     }
 }
@@ -64,10 +67,10 @@ fn run<'a>(
     first: State,
     bottom: Stack,
     tokens: &'a [Token],
-) -> Result<(Strategy, &'a [Token]), Fault>
+) -> Result<(Strategy, &'a [Token]), SyntaxFault>
     ensures ok { IfOk result (λ r.
         front (step_of first (forms bottom)) tokens.now ≡ Some (r.0, r.1.now)) }
-    ensures none { result ≡ Err Fault.Syntax →
+    ensures none { result ≡ Err SyntaxFault.Syntax →
         front (step_of first (forms bottom)) tokens.now ≡ None }
 {
     let mut state = first;
@@ -84,7 +87,7 @@ fn run<'a>(
         Outcome::Ends(strategy) => Ok((strategy, left)),
         Outcome::Goes(next) => {
             drop(next);
-            Err(Fault::Syntax)
+            Err(SyntaxFault::Syntax)
         }
     }
 }

@@ -10,7 +10,7 @@ pub enum State {
     /// A strategy has to begin.
     Strategy,
     /// A list of strategies was opened: one may begin, or the list may end.
-    FirstStrategy(Group),
+    FirstStrategy(StrategyGroup),
     /// A strategy, which may go on.
     Read(Strategy),
     /// An identifier that uses a strategy. Its arguments may come.
@@ -89,7 +89,7 @@ pub enum StrategyFrame {
     /// `\ l -> r where`
     Where(Pattern, Pattern),
     /// A list of strategies
-    List(Group, StrategyList),
+    List(StrategyGroup, StrategyList),
     /// `[ s, .. |`
     Tail(StrategyList),
 }
@@ -134,7 +134,7 @@ pub enum Operator {
 
 /// What a list of strategies stands in.
 #[derive(Drop)]
-pub enum Group {
+pub enum StrategyGroup {
     /// `( s, .. )`
     Round,
     /// `[ s, .. ]`, or `[ s, .. | s ]`

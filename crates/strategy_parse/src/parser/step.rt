@@ -8,12 +8,12 @@ ghost use Rattle.strategy_syntax.specs.Syntax as syntax;
 
 use crate::parser::behind::behind;
 use crate::parser::expect::expect;
-use crate::parser::fault::Fault;
+use crate::parser::fault::SyntaxFault;
 use crate::parser::lists::{NameList, PatternList};
 use crate::parser::patterns::{begin_pattern, behind_base, behind_pattern, first_pattern};
 use crate::parser::stack::Stack;
 use crate::parser::state::{
-    Frame, Group, Outcome, PatternFrame, PatternGroup, State, StrategyFrame,
+    Frame, Outcome, PatternFrame, PatternGroup, State, StrategyFrame, StrategyGroup,
 };
 use crate::parser::strategies::{begin, first_strategy};
 use std::alloc::Global;
@@ -22,10 +22,15 @@ use strategy_tokens::{Sign, Token, is_mark};
 use term_core::Name;
 
 /// Takes one token.
-pub fn step(alloc: Global, state: State, stack: &mut Stack, token: &Token) -> Result<Outcome, Fault>
+pub fn step(
+    alloc: Global,
+    state: State,
+    stack: &mut Stack,
+    token: &Token,
+) -> Result<Outcome, SyntaxFault>
     ensures ok { IfOk result (λ o.
         machine.step state (forms stack.old) token.now ≡ machine.leads o (forms stack.new)) }
-    ensures none { result ≡ Err Fault.Syntax →
+    ensures none { result ≡ Err SyntaxFault.Syntax →
         machine.step state (forms stack.old) token.now ≡ machine.stuck }
 {
     match state {
@@ -73,45 +78,45 @@ fn behind_used(
     name: Name,
     stack: &mut Stack,
     token: &Token,
-) -> Result<Outcome, Fault>
+) -> Result<Outcome, SyntaxFault>
     ensures ok { IfOk result (λ o.
         machine.step (State.Used name) (forms stack.old) token.now
         ≡ machine.leads o (forms stack.new)) }
-    ensures none { result ≡ Err Fault.Syntax →
+    ensures none { result ≡ Err SyntaxFault.Syntax →
         machine.step (State.Used name) (forms stack.old) token.now ≡ machine.stuck }
 {
     if is_mark(token, Sign::OpenRound) {
-        return Ok(Outcome::Goes(State::FirstStrategy(Group::Arguments(name))));
+        return Ok(Outcome::Goes(State::FirstStrategy(StrategyGroup::Arguments(name))));
     }
     let form = StrategyForm::Use(name, Vec::new(alloc), Vec::new(alloc));
     behind(alloc, Strategy::new(form), stack, token)
 }
 
 // The name behind `rec` has to come.
-fn rec_name(token: &Token) -> Result<Outcome, Fault>
+fn rec_name(token: &Token) -> Result<Outcome, SyntaxFault>
     ensures ok { IfOk result (λ o. (S : List Frame) →
         machine.rec_name S token.now ≡ machine.leads o S) }
-    ensures none { result ≡ Err Fault.Syntax → (S : List Frame) →
+    ensures none { result ≡ Err SyntaxFault.Syntax → (S : List Frame) →
         machine.rec_name S token.now ≡ machine.stuck }
 {
     match token {
         Token::Ident(name) => Ok(Outcome::Goes(State::Opening(StrategyFrame::Rec(
             name.try_clone()?,
         )))),
-        _ => Err(Fault::Syntax),
+        _ => Err(SyntaxFault::Syntax),
     }
 }
 
 // The name of a primitive has to come.
-fn prim_name(token: &Token) -> Result<Outcome, Fault>
+fn prim_name(token: &Token) -> Result<Outcome, SyntaxFault>
     ensures ok { IfOk result (λ o. (S : List Frame) →
         machine.prim_name S token.now ≡ machine.leads o S) }
-    ensures none { result ≡ Err Fault.Syntax → (S : List Frame) →
+    ensures none { result ≡ Err SyntaxFault.Syntax → (S : List Frame) →
         machine.prim_name S token.now ≡ machine.stuck }
 {
     match token {
         Token::Text(name) => Ok(Outcome::Goes(State::PrimNamed(name.try_clone()?))),
-        _ => Err(Fault::Syntax),
+        _ => Err(SyntaxFault::Syntax),
     }
 }
 
@@ -121,11 +126,11 @@ fn behind_prim(
     name: Name,
     stack: &mut Stack,
     token: &Token,
-) -> Result<Outcome, Fault>
+) -> Result<Outcome, SyntaxFault>
     ensures ok { IfOk result (λ o.
         machine.step (State.PrimNamed name) (forms stack.old) token.now
         ≡ machine.leads o (forms stack.new)) }
-    ensures none { result ≡ Err Fault.Syntax →
+    ensures none { result ≡ Err SyntaxFault.Syntax →
         machine.step (State.PrimNamed name) (forms stack.old) token.now ≡ machine.stuck }
 {
     if is_mark(token, Sign::Comma) {
@@ -141,10 +146,10 @@ fn behind_prim(
 }
 
 // A name of a scope has to come.
-fn scope_name(names: NameList, token: &Token) -> Result<Outcome, Fault>
+fn scope_name(names: NameList, token: &Token) -> Result<Outcome, SyntaxFault>
     ensures ok { IfOk result (λ o. (S : List Frame) →
         machine.scope_name names S token.now ≡ machine.leads o S) }
-    ensures none { result ≡ Err Fault.Syntax → (S : List Frame) →
+    ensures none { result ≡ Err SyntaxFault.Syntax → (S : List Frame) →
         machine.scope_name names S token.now ≡ machine.stuck }
 {
     match token {
@@ -152,15 +157,15 @@ fn scope_name(names: NameList, token: &Token) -> Result<Outcome, Fault>
             let names = names.with(name.try_clone()?)?;
             Ok(Outcome::Goes(State::ScopeNamed(names)))
         }
-        _ => Err(Fault::Syntax),
+        _ => Err(SyntaxFault::Syntax),
     }
 }
 
 // The names of a scope are read.
-fn begin_scope(names: NameList, stack: &mut Stack) -> Result<Outcome, Fault>
+fn begin_scope(names: NameList, stack: &mut Stack) -> Result<Outcome, SyntaxFault>
     ensures ok { IfOk result (λ o. machine.begin_scope names (forms stack.old)
         ≡ machine.leads o (forms stack.new)) }
-    ensures none { result ≡ Err Fault.Syntax →
+    ensures none { result ≡ Err SyntaxFault.Syntax →
         machine.begin_scope names (forms stack.old) ≡ machine.stuck }
 {
     stack.push(Frame::Strategy(StrategyFrame::Scope(names)))?;
@@ -173,11 +178,11 @@ fn behind_named(
     name: Name,
     stack: &mut Stack,
     token: &Token,
-) -> Result<Outcome, Fault>
+) -> Result<Outcome, SyntaxFault>
     ensures ok { IfOk result (λ o.
         machine.step (State.Named name) (forms stack.old) token.now
         ≡ machine.leads o (forms stack.new)) }
-    ensures none { result ≡ Err Fault.Syntax →
+    ensures none { result ≡ Err SyntaxFault.Syntax →
         machine.step (State.Named name) (forms stack.old) token.now ≡ machine.stuck }
 {
     if is_mark(token, Sign::OpenRound) {

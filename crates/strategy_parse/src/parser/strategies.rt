@@ -6,22 +6,22 @@ ghost use Rattle.strategy_syntax.specs.Syntax as syntax;
 ghost use Rattle.strategy_parse.specs.Forms.{forms};
 ghost use Rattle.strategy_parse.specs.Machine as machine;
 
-use crate::parser::fault::Fault;
+use crate::parser::fault::SyntaxFault;
 use crate::parser::group::{closing_of, make_group};
 use crate::parser::lists::StrategyList;
 use crate::parser::make::{make_fail, make_id};
 use crate::parser::stack::Stack;
 use crate::parser::state::{
-    Frame, Group, Operator, Outcome, PatternFrame, PatternGroup, State, StrategyFrame,
+    Frame, Operator, Outcome, PatternFrame, PatternGroup, State, StrategyFrame, StrategyGroup,
 };
 use std::alloc::Global;
 use strategy_tokens::{Keyword, Sign, Token, is_mark};
 
 /// A strategy has to begin.
-pub fn begin(stack: &mut Stack, token: &Token) -> Result<Outcome, Fault>
+pub fn begin(stack: &mut Stack, token: &Token) -> Result<Outcome, SyntaxFault>
     ensures ok { IfOk result (λ o. machine.begin (forms stack.old) token.now
         ≡ machine.leads o (forms stack.new)) }
-    ensures none { result ≡ Err Fault.Syntax → machine.begin (forms stack.old) token.now
+    ensures none { result ≡ Err SyntaxFault.Syntax → machine.begin (forms stack.old) token.now
         ≡ machine.stuck }
 {
     match token {
@@ -29,14 +29,14 @@ pub fn begin(stack: &mut Stack, token: &Token) -> Result<Outcome, Fault>
         Token::Reserved(word) => begin_word(stack, *word),
         Token::Ident(name) => Ok(Outcome::Goes(State::Used(name.try_clone()?))),
         Token::Integer(index) => begin_child(*index),
-        _ => Err(Fault::Syntax),
+        _ => Err(SyntaxFault::Syntax),
     }
 }
 
-fn begin_sign(stack: &mut Stack, sign: Sign) -> Result<Outcome, Fault>
+fn begin_sign(stack: &mut Stack, sign: Sign) -> Result<Outcome, SyntaxFault>
     ensures ok { IfOk result (λ o. machine.begin_sign (forms stack.old) sign
         ≡ machine.leads o (forms stack.new)) }
-    ensures none { result ≡ Err Fault.Syntax → machine.begin_sign (forms stack.old) sign
+    ensures none { result ≡ Err SyntaxFault.Syntax → machine.begin_sign (forms stack.old) sign
         ≡ machine.stuck }
 {
     match sign {
@@ -57,16 +57,16 @@ fn begin_sign(stack: &mut Stack, sign: Sign) -> Result<Outcome, Fault>
             Ok(Outcome::Goes(State::Strategy))
         }
         Sign::OpenCurly => Ok(Outcome::Goes(State::ScopeOpen)),
-        Sign::OpenRound => Ok(Outcome::Goes(State::FirstStrategy(Group::Round))),
-        Sign::OpenSquare => Ok(Outcome::Goes(State::FirstStrategy(Group::Square))),
-        _ => Err(Fault::Syntax),
+        Sign::OpenRound => Ok(Outcome::Goes(State::FirstStrategy(StrategyGroup::Round))),
+        Sign::OpenSquare => Ok(Outcome::Goes(State::FirstStrategy(StrategyGroup::Square))),
+        _ => Err(SyntaxFault::Syntax),
     }
 }
 
-fn begin_word(stack: &mut Stack, word: Keyword) -> Result<Outcome, Fault>
+fn begin_word(stack: &mut Stack, word: Keyword) -> Result<Outcome, SyntaxFault>
     ensures ok { IfOk result (λ o. machine.begin_word (forms stack.old) word
         ≡ machine.leads o (forms stack.new)) }
-    ensures none { result ≡ Err Fault.Syntax → machine.begin_word (forms stack.old) word
+    ensures none { result ≡ Err SyntaxFault.Syntax → machine.begin_word (forms stack.old) word
         ≡ machine.stuck }
 {
     match word {
@@ -86,19 +86,19 @@ fn begin_word(stack: &mut Stack, word: Keyword) -> Result<Outcome, Fault>
         }
         Keyword::Rec => Ok(Outcome::Goes(State::Rec)),
         Keyword::Prim => Ok(Outcome::Goes(State::Prim)),
-        _ => Err(Fault::Syntax),
+        _ => Err(SyntaxFault::Syntax),
     }
 }
 
 // A number before a strategy in brackets: children are counted from 1.
-fn begin_child(index: i64) -> Result<Outcome, Fault>
+fn begin_child(index: i64) -> Result<Outcome, SyntaxFault>
     ensures ok { IfOk result (λ o. (S : List Frame) → machine.begin_child S index
         ≡ machine.leads o S) }
-    ensures none { result ≡ Err Fault.Syntax → (S : List Frame) → machine.begin_child S index
+    ensures none { result ≡ Err SyntaxFault.Syntax → (S : List Frame) → machine.begin_child S index
         ≡ machine.stuck }
 {
     if index < 1 {
-        return Err(Fault::Syntax);
+        return Err(SyntaxFault::Syntax);
     }
     Ok(Outcome::Goes(State::Opening(StrategyFrame::Child(index as usize))))
 }
@@ -106,14 +106,14 @@ fn begin_child(index: i64) -> Result<Outcome, Fault>
 /// A list of strategies was opened: it ends, or a strategy has to begin.
 pub fn first_strategy(
     alloc: Global,
-    group: Group,
+    group: StrategyGroup,
     stack: &mut Stack,
     token: &Token,
-) -> Result<Outcome, Fault>
+) -> Result<Outcome, SyntaxFault>
     ensures ok { IfOk result (λ o.
         machine.first_strategy group (forms stack.old) token.now
         ≡ machine.leads o (forms stack.new)) }
-    ensures none { result ≡ Err Fault.Syntax →
+    ensures none { result ≡ Err SyntaxFault.Syntax →
         machine.first_strategy group (forms stack.old) token.now ≡ machine.stuck }
 {
     if is_mark(token, closing_of(&group)) {
@@ -128,17 +128,17 @@ pub fn first_strategy(
 }
 
 // A `|` behind an opening bracket.
-fn empty_bar(alloc: Global, group: Group) -> Result<Outcome, Fault>
+fn empty_bar(alloc: Global, group: StrategyGroup) -> Result<Outcome, SyntaxFault>
     ensures ok { IfOk result (λ o. (S : List Frame) →
         machine.empty_bar group S ≡ machine.leads o S) }
-    ensures none { result ≡ Err Fault.Syntax → (S : List Frame) →
+    ensures none { result ≡ Err SyntaxFault.Syntax → (S : List Frame) →
         machine.empty_bar group S ≡ machine.stuck }
 {
     match group {
-        Group::Arguments(name) => {
+        StrategyGroup::Arguments(name) => {
             let terms = PatternGroup::Terms(name, StrategyList::new(alloc));
             Ok(Outcome::Goes(State::FirstPattern(terms)))
         }
-        _ => Err(Fault::Syntax),
+        _ => Err(SyntaxFault::Syntax),
     }
 }

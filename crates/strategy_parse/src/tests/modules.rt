@@ -117,7 +117,7 @@ fn declarations(rt: HostRuntime) {
 }
 
 #[test]
-fn heads(rt: HostRuntime) {
+fn headers(rt: HostRuntime) {
     for (text, expected) in [
         ("strategies f() = id", "f(|) = Id\n"),
         ("strategies f(|) = id", "f(|) = Id\n"),
@@ -220,6 +220,14 @@ fn deepest_modules(rt: HostRuntime) -> Result<(), Fail> {
         ("rules R : ", 1995, "[", "x", "]", " -> x"),
         ("rules R : x -> x where ", 1992, "(", "?x", ")", ""),
         ("rules R : x -> x where ", 797, "{x:", "?y", "}", ""),
+        (
+            "rules R : x -> x where ",
+            665,
+            "\\ x -> x where ",
+            "id",
+            "\\",
+            "",
+        ),
         (
             "rules R : x -> x where \\ ",
             1993,

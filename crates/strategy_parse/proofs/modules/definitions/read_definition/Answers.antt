@@ -1,53 +1,53 @@
 use Rattle.std.proofs.Common.{ap, sym, Err}
-use Rattle.strategy_parse.specs.ModuleFronts.{make_head}
-use Rattle.strategy_parse.proofs.RuleLemmas.{no_head, body_gives, body_only, no_body, no_colon, ruled_gives, ruled_only, no_ruled}
+use Rattle.strategy_parse.specs.ModuleFronts.{make_header}
+use Rattle.strategy_parse.proofs.RuleLemmas.{no_header, body_gives, body_only, no_body, no_colon, ruled_gives, ruled_only, no_ruled}
 use Rattle.strategy_parse.proofs.modules.definitions.read_definition.Goals as goal
 
-pub returns-in_err-head-clause-none : goal.returns-in_err-head-clause-none
-returns-in_err-head-clause-none c = λ e.
+pub returns-in_err-header-clause-none : goal.returns-in_err-header-clause-none
+returns-in_err-header-clause-none c = λ e.
     let h = rw e at c.from_residual.ensures in
-    no_head c.args.tokens.now (c.in_err-head.ensures.none (ap Err (sym h.1)))
+    no_header c.args.tokens.now (c.in_err-header.ensures.none (ap Err (sym h.1)))
 
 pub returns-in_err-body-clause-none : goal.returns-in_err-body-clause-none
 returns-in_err-body-clause-none c = λ e.
     let h = rw e at c.from_residual-in_err-body.ensures in
-    let head = make_head c.in_ok-head.head.name c.in_ok-head.head.strategies c.in_ok-head.head.terms in
-    no_body c.args.tokens.now head c.in_ok-head.left.now c.in_ok-head.ensures.ok c.in-Some.rest.now c.in-Some.ensures.some
+    let header = make_header c.in_ok-header.header.name c.in_ok-header.header.strategies c.in_ok-header.header.terms in
+    no_body c.args.tokens.now header c.in_ok-header.left.now c.in_ok-header.ensures.ok c.in-Some.rest.now c.in-Some.ensures.some
     (c.in_err-body.ensures.none (ap Err (sym h.1)))
 
 pub returns-in-Some-clause-given : goal.returns-in-Some-clause-given
 returns-in-Some-clause-given c =
-    let head = make_head c.in_ok-head.head.name c.in_ok-head.head.strategies c.in_ok-head.head.terms in
-    body_gives c.args.tokens.now head c.in_ok-head.left.now c.in_ok-head.ensures.ok c.in-Some.rest.now c.in-Some.ensures.some
+    let header = make_header c.in_ok-header.header.name c.in_ok-header.header.strategies c.in_ok-header.header.terms in
+    body_gives c.args.tokens.now header c.in_ok-header.left.now c.in_ok-header.ensures.ok c.in-Some.rest.now c.in-Some.ensures.some
     c.in_ok-body.body c.in_ok-body.behind.now c.make_definition.result c.in_ok-body.ensures.given c.make_definition.ensures
 
 pub returns-in-Some-clause-only : goal.returns-in-Some-clause-only
 returns-in-Some-clause-only c =
-    let head = make_head c.in_ok-head.head.name c.in_ok-head.head.strategies c.in_ok-head.head.terms in
-    body_only c.args.tokens.now head c.in_ok-head.left.now c.in_ok-head.ensures.ok c.in-Some.rest.now c.in-Some.ensures.some
+    let header = make_header c.in_ok-header.header.name c.in_ok-header.header.strategies c.in_ok-header.header.terms in
+    body_only c.args.tokens.now header c.in_ok-header.left.now c.in_ok-header.ensures.ok c.in-Some.rest.now c.in-Some.ensures.some
     c.in_ok-body.body c.in_ok-body.behind.now c.make_definition.result c.in_ok-body.ensures.only c.make_definition.ensures
 
 pub returns-in_err-rest-clause-none : goal.returns-in_err-rest-clause-none
 returns-in_err-rest-clause-none c = λ e.
     let h = rw e at c.from_residual-in_err-rest.ensures in
-    let head = make_head c.in_ok-head.head.name c.in_ok-head.head.strategies c.in_ok-head.head.terms in
-    no_colon c.args.tokens.now head c.in_ok-head.left.now c.in_ok-head.ensures.ok c.in_default.ensures.none
+    let header = make_header c.in_ok-header.header.name c.in_ok-header.header.strategies c.in_ok-header.header.terms in
+    no_colon c.args.tokens.now header c.in_ok-header.left.now c.in_ok-header.ensures.ok c.in_default.ensures.none
     (c.in_err-rest.ensures.none (ap Err (sym h.1)))
 
 pub returns-in-Ok-clause-given : goal.returns-in-Ok-clause-given
 returns-in-Ok-clause-given c =
-    let head = make_head c.in_ok-head.head.name c.in_ok-head.head.strategies c.in_ok-head.head.terms in
-    ruled_gives c.args.tokens.now head c.in_ok-head.left.now c.in_ok-head.ensures.ok c.in_default.ensures.none c.in_ok-rest.rest.now c.in_ok-rest.ensures.ok
+    let header = make_header c.in_ok-header.header.name c.in_ok-header.header.strategies c.in_ok-header.header.terms in
+    ruled_gives c.args.tokens.now header c.in_ok-header.left.now c.in_ok-header.ensures.ok c.in_default.ensures.none c.in_ok-rest.rest.now c.in_ok-rest.ensures.ok
     c.in-Ok.read.0 c.in-Ok.read.1.now c.in-Ok.ensures.given
 
 pub returns-in-Ok-clause-only : goal.returns-in-Ok-clause-only
 returns-in-Ok-clause-only c =
-    let head = make_head c.in_ok-head.head.name c.in_ok-head.head.strategies c.in_ok-head.head.terms in
-    ruled_only c.args.tokens.now head c.in_ok-head.left.now c.in_ok-head.ensures.ok c.in_default.ensures.none c.in_ok-rest.rest.now c.in_ok-rest.ensures.ok
+    let header = make_header c.in_ok-header.header.name c.in_ok-header.header.strategies c.in_ok-header.header.terms in
+    ruled_only c.args.tokens.now header c.in_ok-header.left.now c.in_ok-header.ensures.ok c.in_default.ensures.none c.in_ok-rest.rest.now c.in_ok-rest.ensures.ok
     c.in-Ok.read.0 c.in-Ok.read.1.now c.in-Ok.ensures.only
 
 pub returns-in-Err-clause-none : goal.returns-in-Err-clause-none
 returns-in-Err-clause-none c = λ e.
-    let head = make_head c.in_ok-head.head.name c.in_ok-head.head.strategies c.in_ok-head.head.terms in
-    no_ruled c.args.tokens.now head c.in_ok-head.left.now c.in_ok-head.ensures.ok c.in_default.ensures.none c.in_ok-rest.rest.now c.in_ok-rest.ensures.ok
+    let header = make_header c.in_ok-header.header.name c.in_ok-header.header.strategies c.in_ok-header.header.terms in
+    no_ruled c.args.tokens.now header c.in_ok-header.left.now c.in_ok-header.ensures.ok c.in_default.ensures.none c.in_ok-rest.rest.now c.in_ok-rest.ensures.ok
     (c.in-Err.ensures.none e)

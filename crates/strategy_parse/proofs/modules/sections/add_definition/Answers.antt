@@ -1,6 +1,6 @@
 use Rattle.std.proofs.Common.{ap, sym, subst, Err}
 use Rattle.strategy_parse.specs.declared.modules.sections.Part.TheVariants.{Definitions}
-use Rattle.strategy_parse.specs.declared.parser.fault.Fault.TheVariants.{Syntax}
+use Rattle.strategy_parse.specs.declared.parser.fault.SyntaxFault.TheVariants.{Syntax}
 use Rattle.strategy_parse.specs.Definitions.{DefinitionGives}
 use Rattle.strategy_parse.specs.Sections.{Stands}
 use Rattle.strategy_parse.proofs.ModuleFrames.{defined_shorter}

@@ -1,5 +1,5 @@
 use Rattle.std.proofs.Common.{ap, sym, Err}
-use Rattle.strategy_parse.specs.declared.parser.fault.Fault.TheVariants.{Syntax}
+use Rattle.strategy_parse.specs.declared.parser.fault.SyntaxFault.TheVariants.{Syntax}
 use Rattle.strategy_parse.proofs.SectionLemmas.{err_is, word_comes, word_goes, word_forth, word_behind, word_none}
 use Rattle.strategy_parse.proofs.modules.sections.read_next.Goals as goal
 

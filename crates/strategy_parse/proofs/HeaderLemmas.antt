@@ -1,4 +1,4 @@
--- The heads of definitions, by the grammar and as they are found.
+-- The headers of definitions, by the grammar and as they are found.
 use Rattle.std.proofs.Common.{◌≡◌, Bool, true, false, refl, sym, ap, ◌∙◌, subst, inl, inr, List, [], ◌∷◌, ◌++◌, Some, None, append_assoc, append-nil}
 use Rattle.std.specs.Prelude.{if◌then◌else◌, ◌⊎◌}
 use Rattle.std.specs.declared.option.Option.{Option}
@@ -8,10 +8,10 @@ use Rattle.strategy_tokens.specs.declared.token.Token.TheVariants.{Ident, Wildca
 use Rattle.strategy_tokens.specs.declared.token.Sign.{Sign}
 use Rattle.strategy_tokens.specs.declared.token.Sign.TheVariants.{OpenRound, CloseRound, Comma, Bar}
 use Rattle.strategy_tokens.specs.Marks.{is_mark}
-use Rattle.strategy_parse.specs.Written.{Head}
+use Rattle.strategy_parse.specs.Written.{Header}
 use Rattle.strategy_parse.specs.Grammar.{◌▸◌, Mark, ReadsNames, ReadsMoreNames}
-use Rattle.strategy_parse.specs.GrammarModules.{ReadsParameters, ReadsHead}
-use Rattle.strategy_parse.specs.ModuleFronts.{behind_mark, NamesLeft, more_names, names_at, HeadLeft, make_head, close_head, behind_terms, behind_bar, without_terms, behind_strategies, parameters_at, behind_name, head_at}
+use Rattle.strategy_parse.specs.GrammarModules.{ReadsParameters, ReadsHeader}
+use Rattle.strategy_parse.specs.ModuleFronts.{behind_mark, NamesLeft, more_names, names_at, HeaderLeft, make_header, close_header, behind_terms, behind_bar, without_terms, behind_strategies, parameters_at, behind_name, header_at}
 use Rattle.strategy_tokens.proofs.MarkLemmas.{mark_self, mark_is}
 use Rattle.strategy_parse.proofs.SeenPatterns.{NoMark}
 
@@ -118,23 +118,23 @@ names_found (Text f ∷ ts) fs y z m h e = no_names (Text f ∷ ts) fs y z m h e
 names_found (ASign s ∷ ts) fs y z m h e = no_names (ASign s ∷ ts) fs y z m h e
 names_found (Bad ∷ ts) fs y z m h e = no_names (Bad ∷ ts) fs y z m h e
 
--- ---- heads
+-- ---- headers
 
 -- what the grammar reads is found
-parameters_named : (h : Head) (x y : List Token) → ReadsParameters h.strategies h.terms x y → parameters_at h.name x ≡ Some (h, y)
+parameters_named : (h : Header) (x y : List Token) → ReadsParameters h.strategies h.terms x y → parameters_at h.name x ≡ Some (h, y)
 parameters_named h x y (inl (none, reads)) =
     ap (behind_strategies h.name) (names_named h.strategies CloseRound x y refl reads)
     ∙ ap (without_terms h.name h.strategies (ASign CloseRound ∷ y)) (behind_found CloseRound y)
-    ∙ ap (λ l. Some (make_head h.name h.strategies l, y)) (sym none)
+    ∙ ap (λ l. Some (make_header h.name h.strategies l, y)) (sym none)
 parameters_named h x y (inr r) =
     ap (behind_strategies h.name) (names_named h.strategies Bar x r.0 refl r.1)
     ∙ ap (without_terms h.name h.strategies (ASign Bar ∷ r.0)) (behind_none CloseRound (ASign Bar ∷ r.0) refl)
     ∙ ap (behind_bar h.name h.strategies) (behind_found Bar r.0)
     ∙ ap (behind_terms h.name h.strategies) (names_named h.terms CloseRound r.0 y refl r.2)
-    ∙ ap (close_head (make_head h.name h.strategies h.terms)) (behind_found CloseRound y)
+    ∙ ap (close_header (make_header h.name h.strategies h.terms)) (behind_found CloseRound y)
 
-pub head_named : (h : Head) (x y : List Token) → ReadsHead h x y → NoMark OpenRound y → head_at x ≡ Some (h, y)
-head_named h x y r e = rw r.1 (behind r.2) where
+pub header_named : (h : Header) (x y : List Token) → ReadsHeader h x y → NoMark OpenRound y → header_at x ≡ Some (h, y)
+header_named h x y r e = rw r.1 (behind r.2) where
   behind : ((Mark OpenRound ▸ ReadsParameters h.strategies h.terms) r.0 y ⊎ ((y ≡ r.0) × (h.strategies ≡ []) × (h.terms ≡ []))) → behind_name h.name r.0 (behind_mark OpenRound r.0) ≡ Some (h, y)
   behind (inl p) =
       ap (λ l. behind_name h.name l (behind_mark OpenRound l)) p.1
@@ -142,74 +142,74 @@ head_named h x y r e = rw r.1 (behind r.2) where
       ∙ parameters_named h p.0 y p.2
   behind (inr p) =
       ap (behind_name h.name r.0) (behind_none OpenRound r.0 (subst (NoMark OpenRound) p.0 e))
-      ∙ (λ i. Some (make_head h.name (sym p.1 i) (sym p.2 i), sym p.0 i))
+      ∙ (λ i. Some (make_header h.name (sym p.1 i) (sym p.2 i), sym p.0 i))
 
 -- what is found the grammar reads
-head-left : (h k : Head) (x y : List Token) → ◌≡◌ {A = HeadLeft} (Some (h, x)) (Some (k, y)) → h ≡ k
-head-left h k x y e = let pair : ◌≡◌ {A = Head × List Token} (h, x) (k, y) = cc in ap (λ (q : Head × List Token). q.0) pair
+header-left : (h k : Header) (x y : List Token) → ◌≡◌ {A = HeaderLeft} (Some (h, x)) (Some (k, y)) → h ≡ k
+header-left h k x y e = let pair : ◌≡◌ {A = Header × List Token} (h, x) (k, y) = cc in ap (λ (q : Header × List Token). q.0) pair
 
-head-right : (h k : Head) (x y : List Token) → ◌≡◌ {A = HeadLeft} (Some (h, x)) (Some (k, y)) → x ≡ y
-head-right h k x y e = let pair : ◌≡◌ {A = Head × List Token} (h, x) (k, y) = cc in ap (λ (q : Head × List Token). q.1) pair
+header-right : (h k : Header) (x y : List Token) → ◌≡◌ {A = HeaderLeft} (Some (h, x)) (Some (k, y)) → x ≡ y
+header-right h k x y e = let pair : ◌≡◌ {A = Header × List Token} (h, x) (k, y) = cc in ap (λ (q : Header × List Token). q.1) pair
 
--- the parameters of a head, with a name before them
-record ParametersFound (f : Symbol) (x : List Token) (h : Head) (y : List Token) : Type 0 where
+-- the parameters of a header, with a name before them
+record ParametersFound (f : Symbol) (x : List Token) (h : Header) (y : List Token) : Type 0 where
   pub name : f ≡ h.name
   pub reads : ReadsParameters h.strategies h.terms x y
 
-terms_closed : (f : Symbol) (ss ts : List Symbol) (x a b : List Token) (h : Head) (y : List Token) → ReadsNames ss Bar x a → names_at a ≡ Some (ts, b)
-    → (c : Option (List Token)) → behind_mark CloseRound b ≡ c → close_head (make_head f ss ts) c ≡ Some (h, y) → ParametersFound f x h y
+terms_closed : (f : Symbol) (ss ts : List Symbol) (x a b : List Token) (h : Header) (y : List Token) → ReadsNames ss Bar x a → names_at a ≡ Some (ts, b)
+    → (c : Option (List Token)) → behind_mark CloseRound b ≡ c → close_header (make_header f ss ts) c ≡ Some (h, y) → ParametersFound f x h y
 terms_closed f ss ts x a b h y reads e None m k = absurd (cc)
 terms_closed f ss ts x a b h y reads e (Some z) m k =
-    let same : make_head f ss ts ≡ h = head-left (make_head f ss ts) h z y k in
-    let end : z ≡ y = head-right (make_head f ss ts) h z y k in
+    let same : make_header f ss ts ≡ h = header-left (make_header f ss ts) h z y k in
+    let end : z ≡ y = header-right (make_header f ss ts) h z y k in
     subst (λ l. ParametersFound f x l y) same (record {
       name = refl;
       reads = inr (a, reads, names_found a ts b y CloseRound e (mark_found CloseRound b z m ∙ ap (λ l. ASign CloseRound ∷ l) end));
     })
 
-terms_found : (f : Symbol) (ss : List Symbol) (x a : List Token) (h : Head) (y : List Token) → ReadsNames ss Bar x a
+terms_found : (f : Symbol) (ss : List Symbol) (x a : List Token) (h : Header) (y : List Token) → ReadsNames ss Bar x a
     → (n : NamesLeft) → names_at a ≡ n → behind_terms f ss n ≡ Some (h, y) → ParametersFound f x h y
 terms_found f ss x a h y reads None e k = absurd (cc)
 terms_found f ss x a h y reads (Some (ts, b)) e k = terms_closed f ss ts x a b h y reads e (behind_mark CloseRound b) refl k
 
-bar_found : (f : Symbol) (ss : List Symbol) (x b : List Token) (h : Head) (y : List Token) → names_at x ≡ Some (ss, b)
+bar_found : (f : Symbol) (ss : List Symbol) (x b : List Token) (h : Header) (y : List Token) → names_at x ≡ Some (ss, b)
     → (c : Option (List Token)) → behind_mark Bar b ≡ c → behind_bar f ss c ≡ Some (h, y) → ParametersFound f x h y
 bar_found f ss x b h y e None m k = absurd (cc)
 bar_found f ss x b h y e (Some z) m k = terms_found f ss x z h y (names_found x ss b z Bar e (mark_found Bar b z m)) (names_at z) refl k
 
-closed_found : (f : Symbol) (ss : List Symbol) (x b : List Token) (h : Head) (y : List Token) → names_at x ≡ Some (ss, b)
+closed_found : (f : Symbol) (ss : List Symbol) (x b : List Token) (h : Header) (y : List Token) → names_at x ≡ Some (ss, b)
     → (c : Option (List Token)) → behind_mark CloseRound b ≡ c → without_terms f ss b c ≡ Some (h, y) → ParametersFound f x h y
 closed_found f ss x b h y e (Some z) m k =
-    let same : make_head f ss [] ≡ h = head-left (make_head f ss []) h z y k in
-    let end : z ≡ y = head-right (make_head f ss []) h z y k in
+    let same : make_header f ss [] ≡ h = header-left (make_header f ss []) h z y k in
+    let end : z ≡ y = header-right (make_header f ss []) h z y k in
     subst (λ l. ParametersFound f x l y) same (record {
       name = refl;
       reads = inl (refl, names_found x ss b y CloseRound e (mark_found CloseRound b z m ∙ ap (λ l. ASign CloseRound ∷ l) end));
     })
 closed_found f ss x b h y e None m k = bar_found f ss x b h y e (behind_mark Bar b) refl k
 
-parameters_found : (f : Symbol) (x : List Token) (h : Head) (y : List Token) → (n : NamesLeft) → names_at x ≡ n → behind_strategies f n ≡ Some (h, y) → ParametersFound f x h y
+parameters_found : (f : Symbol) (x : List Token) (h : Header) (y : List Token) → (n : NamesLeft) → names_at x ≡ n → behind_strategies f n ≡ Some (h, y) → ParametersFound f x h y
 parameters_found f x h y None e k = absurd (cc)
 parameters_found f x h y (Some (ss, b)) e k = closed_found f ss x b h y e (behind_mark CloseRound b) refl k
 
-name_found : (f : Symbol) (ts : List Token) (h : Head) (y : List Token) → (c : Option (List Token)) → behind_mark OpenRound ts ≡ c → behind_name f ts c ≡ Some (h, y) → ReadsHead h (Ident f ∷ ts) y
+name_found : (f : Symbol) (ts : List Token) (h : Header) (y : List Token) → (c : Option (List Token)) → behind_mark OpenRound ts ≡ c → behind_name f ts c ≡ Some (h, y) → ReadsHeader h (Ident f ∷ ts) y
 name_found f ts h y (Some z) m k =
     let found : ParametersFound f z h y = parameters_found f z h y (names_at z) refl k in
     (ts, ap (λ l. Ident l ∷ ts) found.name, inl (z, mark_found OpenRound ts z m, found.reads))
 name_found f ts h y None m k =
-    let same : make_head f [] [] ≡ h = head-left (make_head f [] []) h ts y k in
-    let end : ts ≡ y = head-right (make_head f [] []) h ts y k in
-    subst (λ l. ReadsHead l (Ident f ∷ ts) y) same (ts, refl, inr (sym end, refl, refl))
+    let same : make_header f [] [] ≡ h = header-left (make_header f [] []) h ts y k in
+    let end : ts ≡ y = header-right (make_header f [] []) h ts y k in
+    subst (λ l. ReadsHeader l (Ident f ∷ ts) y) same (ts, refl, inr (sym end, refl, refl))
 
-pub head_found : (x : List Token) (h : Head) (y : List Token) → head_at x ≡ Some (h, y) → ReadsHead h x y
-head_found [] h y k = absurd (cc)
-head_found (Ident f ∷ ts) h y k = name_found f ts h y (behind_mark OpenRound ts) refl k
-head_found (Wildcard ∷ ts) h y k = absurd (cc)
-head_found (Reserved w ∷ ts) h y k = absurd (cc)
-head_found (Integer z ∷ ts) h y k = absurd (cc)
-head_found (Text f ∷ ts) h y k = absurd (cc)
-head_found (ASign s ∷ ts) h y k = absurd (cc)
-head_found (Bad ∷ ts) h y k = absurd (cc)
+pub header_found : (x : List Token) (h : Header) (y : List Token) → header_at x ≡ Some (h, y) → ReadsHeader h x y
+header_found [] h y k = absurd (cc)
+header_found (Ident f ∷ ts) h y k = name_found f ts h y (behind_mark OpenRound ts) refl k
+header_found (Wildcard ∷ ts) h y k = absurd (cc)
+header_found (Reserved w ∷ ts) h y k = absurd (cc)
+header_found (Integer z ∷ ts) h y k = absurd (cc)
+header_found (Text f ∷ ts) h y k = absurd (cc)
+header_found (ASign s ∷ ts) h y k = absurd (cc)
+header_found (Bad ∷ ts) h y k = absurd (cc)
 
 -- one more name behind a comma
 pub more_step : (done : List Symbol) (x rest : List Token) (f : Symbol) (ts : List Token) → behind_mark Comma x ≡ Some rest → rest ≡ Ident f ∷ ts → more_names (done ++ f ∷ []) ts ≡ more_names done x
@@ -243,4 +243,4 @@ more_end done (t ∷ ts) e = at_end (is_mark Comma t) refl e ts where
   at_end false h e (ASign s ∷ us) = rw h refl
   at_end false h e (Bad ∷ us) = rw h refl
 
-pub ruleset head_rules = (more_step, more_stop, more_end)
+pub ruleset header_rules = (more_step, more_stop, more_end)

@@ -1,6 +1,6 @@
 use Rattle.std.proofs.Common.{◌≡◌, length}
 use Rattle.strategy_parse.specs.ModuleFronts.{more_names}
-use Rattle.strategy_parse.proofs.modules.heads.read_more_names.Given as goal
+use Rattle.strategy_parse.proofs.modules.headers.read_more_names.Given as goal
 
 -- what is left gives what all gave
 abbrev pub invariant-loop-rest : goal.invariant-loop-rest

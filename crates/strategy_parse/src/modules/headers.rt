@@ -1,19 +1,19 @@
-//! The heads of definitions.
-#![tactic(auto, using(crate::proofs::HeadLemmas::head_rules))]
+//! The headers of definitions.
+#![tactic(auto, using(crate::proofs::HeaderLemmas::header_rules))]
 
 ghost use Rattle.std.specs.Prelude.{◌≡◌, [], ◌∷◌, IfOk, Err, Some, None};
 ghost use Rattle.strategy_parse.specs.ModuleFronts.{names_at, more_names};
-ghost use Rattle.strategy_parse.specs.ModuleFronts.{make_head, parameters_at, head_at};
+ghost use Rattle.strategy_parse.specs.ModuleFronts.{make_header, parameters_at, header_at};
 
 use crate::modules::tokens::{behind_mark, expect_mark};
-use crate::parser::{Fault, NameList};
+use crate::parser::{NameList, SyntaxFault};
 use std::alloc::Global;
 use strategy_tokens::{Sign, Token, is_mark};
 use term_core::Name;
 
 /// The name of a definition, and its parameters: strategies, and terms.
 #[derive(Drop)]
-pub struct Head {
+pub struct Header {
     /// The name.
     pub name: Name,
     /// The names that stand for strategies.
@@ -22,14 +22,17 @@ pub struct Head {
     pub terms: NameList,
 }
 
-/// The head at the front of the tokens, and those behind it.
-pub fn read_head<'a>(alloc: Global, tokens: &'a [Token]) -> Result<(Head, &'a [Token]), Fault>
-    ensures ok { IfOk result (λ r. head_at tokens.now ≡ Some
-        (make_head r.0.name r.0.strategies r.0.terms, r.1.now)) }
-    ensures none { result ≡ Err Fault.Syntax → head_at tokens.now ≡ None }
+/// The header at the front of the tokens, and those behind it.
+pub fn read_header<'a>(
+    alloc: Global,
+    tokens: &'a [Token],
+) -> Result<(Header, &'a [Token]), SyntaxFault>
+    ensures ok { IfOk result (λ r. header_at tokens.now ≡ Some
+        (make_header r.0.name r.0.strategies r.0.terms, r.1.now)) }
+    ensures none { result ≡ Err SyntaxFault.Syntax → header_at tokens.now ≡ None }
 {
     let Some((Token::Ident(name), left)) = tokens.split_first() else {
-        return Err(Fault::Syntax);
+        return Err(SyntaxFault::Syntax);
     };
     let name = name.try_clone()?;
     match behind_mark(left, Sign::OpenRound) {
@@ -38,7 +41,7 @@ pub fn read_head<'a>(alloc: Global, tokens: &'a [Token]) -> Result<(Head, &'a [T
             let strategies = NameList::new(alloc);
             let terms = NameList::new(alloc);
             Ok((
-                Head {
+                Header {
                     name,
                     strategies,
                     terms,
@@ -54,16 +57,16 @@ fn read_parameters<'a>(
     alloc: Global,
     name: Name,
     tokens: &'a [Token],
-) -> Result<(Head, &'a [Token]), Fault>
+) -> Result<(Header, &'a [Token]), SyntaxFault>
     ensures ok { IfOk result (λ r. parameters_at name tokens.now ≡ Some
-        (make_head r.0.name r.0.strategies r.0.terms, r.1.now)) }
-    ensures none { result ≡ Err Fault.Syntax → parameters_at name tokens.now ≡ None }
+        (make_header r.0.name r.0.strategies r.0.terms, r.1.now)) }
+    ensures none { result ≡ Err SyntaxFault.Syntax → parameters_at name tokens.now ≡ None }
 {
     let (strategies, left) = read_names(alloc, tokens)?;
     if let Some(rest) = behind_mark(left, Sign::CloseRound) {
         let terms = NameList::new(alloc);
         return Ok((
-            Head {
+            Header {
                 name,
                 strategies,
                 terms,
@@ -75,7 +78,7 @@ fn read_parameters<'a>(
     let (terms, left) = read_names(alloc, rest)?;
     let rest = expect_mark(left, Sign::CloseRound)?;
     Ok((
-        Head {
+        Header {
             name,
             strategies,
             terms,
@@ -85,9 +88,12 @@ fn read_parameters<'a>(
 }
 
 // The identifiers at the front, with commas between, and the tokens behind them.
-fn read_names<'a>(alloc: Global, tokens: &'a [Token]) -> Result<(NameList, &'a [Token]), Fault>
+fn read_names<'a>(
+    alloc: Global,
+    tokens: &'a [Token],
+) -> Result<(NameList, &'a [Token]), SyntaxFault>
     ensures ok { IfOk result (λ r. names_at tokens.now ≡ Some (r.0, r.1.now)) }
-    ensures none { result ≡ Err Fault.Syntax → names_at tokens.now ≡ None }
+    ensures none { result ≡ Err SyntaxFault.Syntax → names_at tokens.now ≡ None }
 {
     let names = NameList::new(alloc);
     match tokens.split_first() {
@@ -100,15 +106,15 @@ fn read_names<'a>(alloc: Global, tokens: &'a [Token]) -> Result<(NameList, &'a [
 fn read_more_names<'a>(
     first: NameList,
     tokens: &'a [Token],
-) -> Result<(NameList, &'a [Token]), Fault>
+) -> Result<(NameList, &'a [Token]), SyntaxFault>
     ensures ok { IfOk result (λ r. more_names first tokens.now ≡ Some (r.0, r.1.now)) }
-    ensures none { result ≡ Err Fault.Syntax → more_names first tokens.now ≡ None }
+    ensures none { result ≡ Err SyntaxFault.Syntax → more_names first tokens.now ≡ None }
 {
     let mut names = first;
     let mut left = tokens;
     while let Some(rest) = behind_mark(left, Sign::Comma) {
         let Some((Token::Ident(name), behind)) = rest.split_first() else {
-            return Err(Fault::Syntax);
+            return Err(SyntaxFault::Syntax);
         };
         names = names.with(name.try_clone()?)?;
         left = behind;
