@@ -7,7 +7,7 @@ use Rattle.strategy_scopes.specs.Table.{Widening, nowhere, scope_at, scope_from,
 use Rattle.strategy_scopes.specs.declared.scopes.Adds.{Adds}
 use Rattle.strategy_scopes.specs.declared.scopes.Adds.TheVariants.{Variables, Name}
 use Rattle.strategy_scopes.specs.declared.scopes.Entry.{Entry}
-use Rattle.strategy_scopes.specs.Entries.{names_in, closure_count, addition_of, widening_of, AddsFit, IsSound, AreSound}
+use Rattle.strategy_scopes.specs.Entries.{names_in, closure_count, addition_of, widening_of, AddsFit, RestsOnOlder, RestOnOlder}
 
 pub length-scopes : (known : List Scope) (ws : List Widening) → length (scopes_behind known ws) ≡ length ws
 length-scopes known [] = refl
@@ -46,12 +46,12 @@ addition-more : (known more : List Scope) (a : Adds) (E : Scope) → AddsFit (le
 addition-more known more (Variables first n) E h = refl
 addition-more known more (Name k) E h = ap (with_name E k.strategy.now) (get_or_append_left known more nowhere k.inside h)
 
-widened-more : (known more : List Scope) (e : Entry) → IsSound known (length known) e → widened (known ++ more) (widening_of e) ≡ widened known (widening_of e)
+widened-more : (known more : List Scope) (e : Entry) → RestsOnOlder known (length known) e → widened (known ++ more) (widening_of e) ≡ widened known (widening_of e)
 widened-more known more e s =
     ap (with_addition (known ++ more) (addition_of e.adds)) (scope_from-append known more e.outer s.outer)
     ∙ addition-more known more e.adds (scope_from known e.outer) s.adds
 
-sound-more : (known more : List Scope) (e : Entry) → IsSound known (length known) e → IsSound (known ++ more) (length known) e
+sound-more : (known more : List Scope) (e : Entry) → RestsOnOlder known (length known) e → RestsOnOlder (known ++ more) (length known) e
 sound-more known more e s =
     let same : scope_from (known ++ more) e.outer ≡ scope_from known e.outer = scope_from-append known more e.outer s.outer in
     record {
@@ -65,14 +65,14 @@ sound-more known more e s =
 
 -- entry e is the n-th, and all is known
 pub record IsAt (all : List Scope) (b : ℕ) (E : Scope) (e : Entry) : Type 0 where
-  pub sound : IsSound all b e
+  pub sound : RestsOnOlder all b e
   pub scope : E ≡ widened all (widening_of e)
 
-at_first : (known more : List Scope) (b : ℕ) (e : Entry) → b ≡ length known → IsSound known (length known) e
+at_first : (known more : List Scope) (b : ℕ) (e : Entry) → b ≡ length known → RestsOnOlder known (length known) e
     → IsAt (known ++ more) b (widened known (widening_of e)) e
 at_first known more b e i s = record { sound = rw i (sound-more known more e s); scope = sym (widened-more known more e s) }
 
-pub at : (known : List Scope) (es : List Entry) (n b : ℕ) (e : Entry) → AreSound known es → n < length es → e ≡ get_or es n e → b ≡ length known + n
+pub at : (known : List Scope) (es : List Entry) (n b : ℕ) (e : Entry) → RestOnOlder known es → n < length es → e ≡ get_or es n e → b ≡ length known + n
     → IsAt (known ++ scopes_behind known (map widening_of es)) b (scope_at (scopes_behind known (map widening_of es)) n) e
 at known [] n b e o h is i = absurd (omega (arith, h))
 at known (f ∷ es) zero b e o h is i =
@@ -85,15 +85,15 @@ at known (f ∷ es) (suc n) b e o h is i =
     (append_assoc known (widened known (widening_of f) ∷ []) (scopes_behind more (map widening_of es)))
     (at more es n b e o.1 (omega (arith, h)) is (omega (arith, i, l)))
 
-pub sound-take : (known : List Scope) (n : ℕ) (es : List Entry) → AreSound known es → AreSound known (take n es)
+pub sound-take : (known : List Scope) (n : ℕ) (es : List Entry) → RestOnOlder known es → RestOnOlder known (take n es)
 sound-take known zero es o = tt
 sound-take known (suc n) [] o = tt
 sound-take known (suc n) (e ∷ es) o = (o.0, sound-take (known ++ widened known (widening_of e) ∷ []) n es o.1)
 
-pub sound-append : (known all : List Scope) (es : List Entry) (e : Entry) → AreSound known es
-    → all ≡ known ++ scopes_behind known (map widening_of es) → IsSound all (length all) e → AreSound known (es ++ e ∷ [])
+pub sound-append : (known all : List Scope) (es : List Entry) (e : Entry) → RestOnOlder known es
+    → all ≡ known ++ scopes_behind known (map widening_of es) → RestsOnOlder all (length all) e → RestOnOlder known (es ++ e ∷ [])
 sound-append known all [] e o i s =
-    let same : all ≡ known = i ∙ append-nil known in (subst (λ (l : List Scope). IsSound l (length l) e) same s, tt)
+    let same : all ≡ known = i ∙ append-nil known in (subst (λ (l : List Scope). RestsOnOlder l (length l) e) same s, tt)
 sound-append known all (f ∷ es) e o i s =
     let more : List Scope = known ++ widened known (widening_of f) ∷ [] in (
       o.0,
@@ -110,7 +110,7 @@ length-map f (x ∷ xs) = ap suc (length-map f xs)
 pub length-table : (es : List Entry) (ws : List Widening) → map widening_of es ≡ ws → length (scopes ws) ≡ length es
 length-table es ws v = ap (λ l. length (scopes l)) (sym v) ∙ length-scopes [] (map widening_of es) ∙ length-map widening_of es
 
-pub at_vector : (es : List Entry) (ws : List Widening) (n : ℕ) (e : Entry) → map widening_of es ≡ ws → AreSound [] es
+pub at_vector : (es : List Entry) (ws : List Widening) (n : ℕ) (e : Entry) → map widening_of es ≡ ws → RestOnOlder [] es
     → n < length es → e ≡ get_or es n e → IsAt (scopes ws) n (scope_at (scopes ws) n) e
 at_vector es ws n e v o h is =
     subst (λ (l : List Widening). IsAt (scopes l) n (scope_at (scopes l) n) e) v (at [] es n n e o h is (omega arith))
@@ -118,8 +118,8 @@ at_vector es ws n e v o h is =
 pub past_vector : (es : List Entry) (ws : List Widening) (n : ℕ) → map widening_of es ≡ ws → length es ≤ n → scope_at (scopes ws) n ≡ nowhere
 past_vector es ws n v h = get_or_past (scopes ws) n nowhere (omega (arith, h, length-table es ws v))
 
-pub sound_vector : (es : List Entry) (ws : List Widening) (e : Entry) → map widening_of es ≡ ws → AreSound [] es
-    → IsSound (scopes ws) (length (scopes ws)) e → AreSound [] (es ++ e ∷ [])
+pub sound_vector : (es : List Entry) (ws : List Widening) (e : Entry) → map widening_of es ≡ ws → RestOnOlder [] es
+    → RestsOnOlder (scopes ws) (length (scopes ws)) e → RestOnOlder [] (es ++ e ∷ [])
 sound_vector es ws e v o s = sound-append [] (scopes ws) es e o (ap scopes (sym v)) s
 
 pub added : (es new : List Entry) (ws : List Widening) (e : Entry) → map widening_of es ≡ ws → new ≡ es ++ e ∷ []

@@ -40,16 +40,16 @@ added_names (Variables first n) = []
 added_names (Name k) = k ∷ []
 
 -- An entry that stands behind b scopes, and all that it speaks of is among these.
-pub record IsSound (known : List Scope) (b : ℕ) (e : Entry) : Type 0 where
+pub record RestsOnOlder (known : List Scope) (b : ℕ) (e : Entry) : Type 0 where
   pub outer : IsThere b e.outer
   pub variables : e.variables ≡ length (cells_in (scope_from known e.outer))
   pub names : e.names ≡ closure_count (names_in (scope_from known e.outer))
   pub adds : AddsFit b e.adds
 
-abbrev pub AreSound : List Scope → List Entry → Type 0
-AreSound known [] = Unit {0}
-AreSound known (e ∷ es) =
-    IsSound known (length known) e × AreSound (known ++ widened known (widening_of e) ∷ []) es
+abbrev pub RestOnOlder : List Scope → List Entry → Type 0
+RestOnOlder known [] = Unit {0}
+RestOnOlder known (e ∷ es) =
+    RestsOnOlder known (length known) e × RestOnOlder (known ++ widened known (widening_of e) ∷ []) es
 
 -- they are the names from i on, in order
 abbrev pub AreNames : ℕ → List ResolvedStrategy → Type 0

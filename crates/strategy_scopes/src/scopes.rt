@@ -47,7 +47,7 @@ impl<'t> Model for Scopes<'t> {
     ghost use Rattle.std.specs.Coded.{coded_list};
     ghost use Rattle.strategy_scopes.specs.Table.{Widening};
     ghost use Rattle.strategy_scopes.specs.TableCode.{widening_code};
-    ghost use Rattle.strategy_scopes.specs.Entries.{widening_of, AreSound};
+    ghost use Rattle.strategy_scopes.specs.Entries.{widening_of, RestOnOlder};
 
     ghost Value = { List Widening };
 
@@ -55,7 +55,7 @@ impl<'t> Model for Scopes<'t> {
 
     ghost view = { λ s. map widening_of s.entries.items };
 
-    ghost invariant = { λ s. AreSound [] s.entries.items };
+    ghost invariant = { λ s. RestOnOlder [] s.entries.items };
 }
 
 impl<'t> Scopes<'t> {
@@ -138,9 +138,9 @@ impl<'t> Scopes<'t> {
         self.add_variables(names, first, count)
     }
 
-    // Whether these strategies are the names of this scope, all of them in their order, and it has no
-    // variables: what they stand for in a scope of their own is what they stand for there.
-    fn hands_all_on(&self, scope: usize, strategies: &[ResolvedStrategy]) -> bool
+    /// Whether these strategies are the names of this scope, all of them in their order, and it has no
+    /// variables: what they stand for in a scope of their own is what they stand for there.
+    pub fn hands_all_on(&self, scope: usize, strategies: &[ResolvedStrategy]) -> bool
         requires { scope < length (scopes self.now) }
         ensures { OnTrue result (scope_at (scopes self.now) scope
             ≡ inside [] (arguments (scope_at (scopes self.now) scope) (resolveds_of strategies.now))) }
