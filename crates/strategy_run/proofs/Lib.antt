@@ -18,3 +18,5 @@ pub mod EndLemmas
 pub mod ResultLemmas
 pub mod ArgumentLemmas
 pub mod ApplyLemmas
+pub mod HeadLemmas
+pub mod LengthLemmas

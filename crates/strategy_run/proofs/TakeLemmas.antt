@@ -10,7 +10,7 @@ use Rattle.strategy_syntax.specs.Resolved.{Place, ResolvedStrategy, matches, seq
 use Rattle.strategy_syntax.proofs.ResolvedLemmas.{resolved_list-resolveds_of}
 use Rattle.strategy_meaning.specs.Scopes.{Scope, cells_in, stands_for, with_name}
 use Rattle.strategy_meaning.specs.Matching.{Bindings, match_place, elements}
-use Rattle.strategy_meaning.specs.Answer.{Stop, Answer, done, failed, stopped, spent, big, either, with_edits, and_then, at_root}
+use Rattle.strategy_meaning.specs.Answer.{Stop, Answer, Act, done, failed, stopped, spent, big, either, with_edits, and_then, at_root}
 use Rattle.strategy_meaning.specs.Meaning.{World, run, form, with_some, built, each, leftmost, those_done, on_rest, is_over, is_list_from, on_child, cut, opened}
 use Rattle.strategy_meaning.proofs.StepLemmas.{one_step_is_one_form}
 use Rattle.strategy_scopes.specs.Table.{scopes, scope_at, Stands, closure_of}
@@ -21,7 +21,7 @@ use Rattle.strategy_run.specs.Leading.{Has, node_now, all_parts, PartsStand}
 use Rattle.strategy_run.specs.Trails.{Shows, path_of}
 use Rattle.strategy_run.specs.Frames.{Opens, Meets, acts_list}
 use Rattle.strategy_run.specs.Turns.{State, state_of, HoldsIn, FormIn, Replaced}
-use Rattle.strategy_run.specs.Endings.{AnswersIn, with_those}
+use Rattle.strategy_run.specs.Endings.{AnswersIn, HasCells, with_those}
 use Rattle.strategy_run.specs.declared.machine.Machine.{Machine}
 use Rattle.strategy_run.specs.declared.trail.Trail.{Trail}
 use Rattle.strategy_run.specs.declared.frames.Acts.{Acts}
@@ -32,8 +32,9 @@ use Rattle.strategy_run.specs.Hands.{Hand, Begin, Done, Failed, Each, Leftmost, 
 use Rattle.strategy_run.proofs.LeadLemmas.{leads_fresh}
 use Rattle.strategy_run.proofs.NodeLeads.{none_stand}
 use Rattle.strategy_run.proofs.ScopeLemmas.{one_more_there, one_more_is}
+use Rattle.strategy_run.proofs.LengthLemmas.{run_has}
 use Rattle.strategy_run.proofs.EndingLemmas.{form_answers, begun, along}
-use Rattle.strategy_run.proofs.OpenLemmas.{with_edits-and_then, and_then-done, opens_along, opens_through, opens_on, opens_new, before_self, opens_kept, meets_stopped}
+use Rattle.strategy_run.proofs.OpenLemmas.{with_edits-none, with_edits-and_then, and_then-done, opens_along, opens_through, opens_on, opens_new, before_self, opens_kept, meets_stopped}
 
 -- the same with other frames
 abbrev pub framed : State → List Frame → State
@@ -44,12 +45,12 @@ with_frames W sub whole S hand fs gs e h = subst (λ (x : List Frame). HoldsIn W
 
 -- ---- a step is paid
 
-run_step : (W : World) (E : Scope) (l : ℕ) (s : ResolvedStrategy) (b c : ℕ) (B : Bindings) (t : Tree) → b ≡ c + 1 → run W E l s b B t ≡ form W (run W) E l s c B t
+pub run_step : (W : World) (E : Scope) (l : ℕ) (s : ResolvedStrategy) (b c : ℕ) (B : Bindings) (t : Tree) → b ≡ c + 1 → run W E l s b B t ≡ form W (run W) E l s c B t
 run_step W E l s zero c B t e = absurd (omega (arith, e))
 run_step W E l s (suc b) c B t e =
     let same : b ≡ c = omega (arith, e) in rw same (one_step_is_one_form W E l s c B t)
 
-abbrev paid : State → ℕ → State
+abbrev pub paid : State → ℕ → State
 paid S c = record { cells = S.cells; scopes = S.scopes; trail = S.trail; level = S.level; frames = S.frames; steps = c }
 
 pub pays : (W : World) (sub : Standing) (whole : Answer) (S : State) (s : Bor ResolvedStrategy) (n : ℕ) (p : Standing) (c : ℕ)
@@ -184,6 +185,49 @@ take_then W sub whole S s1 s2 n p h = record {
       h.opens;
 }
 
+-- a match, whose step is paid with that of the whole, and a strategy after it
+match_spent : (W : World) (E : Scope) (l : ℕ) (q : Place) (s : ResolvedStrategy) (b : ℕ) (B : Bindings) (t : Tree) → b ≡ 0
+    → form W (run W) E l (seq (matches q) s) b B t ≡ stopped spent
+match_spent W E l q s b B t e = ap (λ (a : Answer). and_then a (run W E l s)) (no_steps W E l (matches q) b B t e)
+
+pub take_match_spent : (W : World) (sub : Standing) (whole : Answer) (S : State) (q : Place) (s : ResolvedStrategy) (n : ℕ) (p : Standing)
+    → S.steps ≡ 0 → FormIn W sub whole S (seq (matches q) s) n p → whole ≡ stopped spent
+take_match_spent W sub whole S q s n p e h =
+    take_stops W sub whole S (seq (matches q) s) n p spent (match_spent W (scope_at S.scopes n) S.level q s S.steps S.cells.bindings (standing_tree p) e) h
+
+pub take_matched_first : (W : World) (sub : Standing) (whole : Answer) (S : State) (q : Place) (s : Bor ResolvedStrategy) (n : ℕ) (p : Standing) (D : Contents) (c : ℕ)
+    → S.steps ≡ c + 1 → Before (mark_of S.cells) (mark_of D) → Stays (mark_of S.cells) S.cells D
+    → match_place q (standing_tree p) (cells_in (scope_at S.scopes n)) S.cells.bindings ≡ Some D.bindings
+    → FormIn W sub whole S (seq (matches q) s.now) n p → HoldsIn W sub whole (celled (paid S c) D) (Begin s n p)
+take_matched_first W sub whole S q s n p D c e b st m h =
+    let E = scope_at S.scopes n in
+    let t = standing_tree p in
+    let then : Act = run W E S.level s.now in
+    record {
+      now = p;
+      edits = h.edits;
+      shows = h.shows;
+      in_hand = (h.there, refl);
+      opens = opens_along _ _ (ap (λ (a : Answer). and_then a then) (run_step W E S.level (matches q) S.steps c S.cells.bindings t e ∙ some_is _ D.bindings c (λ B1. done t B1 c []) m) ∙ with_edits-none (then c D.bindings t))
+          (opens_kept W sub whole S.cells D (mark_of S.cells) (mark_of D) S.scopes S.level S.frames (path_of S.frames) p h.edits _ b st h.opens);
+    }
+
+pub take_unmatched_first : (W : World) (sub : Standing) (whole : Answer) (S : State) (q : Place) (s : ResolvedStrategy) (n : ℕ) (p : Standing) (D : Contents) (c : ℕ)
+    → S.steps ≡ c + 1 → Before (mark_of S.cells) (mark_of D) → Stays (mark_of S.cells) S.cells D
+    → match_place q (standing_tree p) (cells_in (scope_at S.scopes n)) S.cells.bindings ≡ None
+    → FormIn W sub whole S (seq (matches q) s) n p → HoldsIn W sub whole (celled (paid S c) D) Failed
+take_unmatched_first W sub whole S q s n p D c e b st m h =
+    let E = scope_at S.scopes n in
+    let t = standing_tree p in
+    record {
+      now = p;
+      edits = h.edits;
+      shows = h.shows;
+      in_hand = tt;
+      opens = opens_along _ _ (ap (λ (a : Answer). and_then a (run W E S.level s)) (run_step W E S.level (matches q) S.steps c S.cells.bindings t e ∙ none_is _ c (λ B1. done t B1 c []) m))
+          (opens_kept W sub whole S.cells D (mark_of S.cells) (mark_of D) S.scopes S.level S.frames (path_of S.frames) p h.edits _ b st h.opens);
+    }
+
 pub take_choice : (W : World) (sub : Standing) (whole : Answer) (S : State) (s1 s2 s3 : Bor ResolvedStrategy) (n : ℕ) (p : Standing)
     → kept S.cells (mark_of S.cells) ≡ S.cells.bindings
     → FormIn W sub whole S (guard s1.now s2.now s3.now) n p
@@ -220,11 +264,11 @@ take_test W sub whole S s1 n p h = record {
 pub take_opened : (W : World) (sub : Standing) (whole : Answer) (S : State) (r : ResolvedStrategy) (s : Bor ResolvedStrategy) (n inner : ℕ) (p : Standing) (E : Scope) (new : Bindings) (D : Contents) (es : List Scope) (fs : List Frame)
     → answers W S r n p ≡ opened (run W) E new S.level s.now S.steps S.cells.bindings (standing_tree p)
     → inner < length es → scope_at es inner ≡ E → D.bindings ≡ S.cells.bindings ++ new
-    → ((a : Answer) → AnswersIn W sub whole S p (cut (length S.cells.bindings) a) → AnswersIn W sub whole (with_those S D es fs) p a)
+    → ((a : Answer) → HasCells (length D.bindings) a → AnswersIn W sub whole S p (cut (length S.cells.bindings) a) → AnswersIn W sub whole (with_those S D es fs) p a)
     → FormIn W sub whole S r n p → HoldsIn W sub whole (with_those S D es fs) (Begin s inner p)
 take_opened W sub whole S r s n inner p E new D es fs a lt is de room h =
     begun W sub whole (with_those S D es fs) s inner p lt
-    (room _ (along W sub whole S p _ _ (a ∙ (λ i. cut (length S.cells.bindings) (run W ((sym is) i) S.level s.now S.steps ((sym de) i) (standing_tree p)))) (form_answers W sub whole S r n p h)))
+    (room _ (run_has W (scope_at es inner) S.level s.now S.steps D.bindings (standing_tree p)) (along W sub whole S p _ _ (a ∙ (λ i. cut (length S.cells.bindings) (run W ((sym is) i) S.level s.now S.steps ((sym de) i) (standing_tree p)))) (form_answers W sub whole S r n p h)))
 
 -- `rec`: room for a scope, which ends behind the strategy
 pub take_named : (W : World) (sub : Standing) (whole : Answer) (S : State) (s body : Bor ResolvedStrategy) (n inner : ℕ) (p : Standing) (mid es : List Scope) (fs : List Frame)

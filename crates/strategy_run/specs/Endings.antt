@@ -5,7 +5,7 @@ use Rattle.term_changes.specs.Standing.{Standing}
 use Rattle.strategy_syntax.specs.Resolved.{ResolvedStrategies}
 use Rattle.strategy_syntax.specs.declared.resolved.Resolved.{Resolved}
 use Rattle.strategy_meaning.specs.Scopes.{Scope, inside, numbers_from, arguments}
-use Rattle.strategy_meaning.specs.Answer.{Answer}
+use Rattle.strategy_meaning.specs.Answer.{Answer, IfDone}
 use Rattle.strategy_meaning.specs.Meaning.{World, cut}
 use Rattle.strategy_scopes.specs.Table.{scopes, scope_at, Starts}
 use Rattle.term_match.specs.Contents.{Contents}
@@ -36,6 +36,10 @@ pub record AnswersIn (W : World) (sub : Standing) (whole : Answer) (S : State) (
   pub shows : Shows S.trail edits
   pub opens : Opens (Meets W sub whole S.cells (mark_of S.cells) S.scopes S.level S.frames) (path_of S.frames) p edits a
 
+-- where it gives a term, there are so many cells
+abbrev pub HasCells : ℕ → Answer → Type 0
+HasCells n a = IfDone a (λ t B b e. length B ≡ n)
+
 -- the same with other cells, scopes and frames
 abbrev pub with_those : State → Contents → List Scope → List Frame → State
 with_those S C es fs = record { cells = C; scopes = es; trail = S.trail; level = S.level; frames = fs; steps = S.steps }
@@ -65,13 +69,14 @@ pub record CellsEnd (m : Machine) (n : ℕ) (new : Machine) : Type 0 where
   pub frames : vec_len new.frames ≤ vec_len m.frames + 1
 
 -- The body of a definition was entered, whose strategies were written in scope n: cells hold the
--- arguments, others are empty, and the frames end cells and scopes.
+-- arguments, others are empty, and the frames end cells and scopes, where there are new ones.
 pub record Enters (m : Machine) (ss : ResolvedStrategies) (d : Resolved) (n : ℕ) (new : Machine) (inner : ℕ) : Type 0 where
   pub there : inner < length (scopes new.scopes)
   pub scope : scope_at (scopes new.scopes) inner
       ≡ inside (numbers_from (length m.cells.bindings) (length m.arguments.items + d.variables)) (arguments (scope_at (scopes m.scopes) n) ss)
   pub cells : new.cells.bindings ≡ (m.cells.bindings ++ map Some m.arguments.items) ++ replicate d.variables None
-  pub room : (W : World) (sub : Standing) (whole : Answer) (p : Standing) (a : Answer) → AnswersIn W sub whole (state_of m) p (cut (length m.cells.bindings) a)
+  pub room : (W : World) (sub : Standing) (whole : Answer) (p : Standing) (a : Answer) → HasCells (length new.cells.bindings) a
+      → AnswersIn W sub whole (state_of m) p (cut (length m.cells.bindings) a)
       → AnswersIn W sub whole (with_those (state_of m) new.cells (scopes new.scopes) (frames_of new)) p a
   pub part : new.part ≡ m.part
   pub rest : (new.trail ≡ m.trail) × (new.level ≡ m.level) × (new.steps ≡ m.steps)

@@ -7,3 +7,4 @@ pub mod Turns
 pub mod Ends
 pub mod Applies
 pub mod Endings
+pub mod Missing

@@ -59,8 +59,8 @@ fn take<'t, M: Meaning>(
         }
         Form::Match(pattern) => take_match(alloc, m, pattern, scope),
         Form::Build(pattern) => take_build(alloc, m, pattern, scope),
-        Form::Seq(parts) => take_seq(m, &parts.0, &parts.1, scope),
-        Form::Guard(parts) => take_guard(m, &parts.0, &parts.1, &parts.2, scope),
+        Form::Seq(parts) => take_seq(alloc, m, &parts.0, &parts.1, scope),
+        Form::Guard(parts) => take_guard(host, m, &parts.0, &parts.1, &parts.2, scope),
         Form::Test(inner) => take_test(m, inner, scope),
         Form::Scope(count, inner) => take_scope(m, *count, inner, scope),
         Form::Param(name) => Ok(take_param(m, *name, scope)),

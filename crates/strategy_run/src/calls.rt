@@ -125,7 +125,8 @@ pub(crate) fn take_call<'t, M: Meaning>(
     }
 }
 
-// Opens the cells and the scope of a definition's body; the arguments are those that were built.
+// Opens the cells and the scope of a definition's body; the arguments are those that were built. Where
+// there are no cells to open, and what it takes is what this one took, that stays.
 fn enter<'t>(
     m: &mut Machine<'t>,
     strategies: &'t [ResolvedStrategy],
@@ -136,6 +137,9 @@ fn enter<'t>(
     ensures { IfOk result (λ inner. Enters m.old (resolveds_of strategies.entry.now) body.now scope m.new inner) }
 {
     let first = m.cells.count();
+    if m.arguments.len() == 0 && body.variables == 0 && m.scopes.hands_all_on(scope, strategies) {
+        return Ok(scope);
+    }
     let Some(count) = m.arguments.len().checked_add(body.variables) else {
         return Err(NoMemory);
     };

@@ -9,7 +9,7 @@ ghost use Rattle.strategy_run.specs.Leading.{PartsStand, Fills, all_parts, node_
 ghost use Rattle.strategy_run.specs.Hands.{Each, Leftmost, Those};
 ghost use Rattle.strategy_run.specs.Turns.{Turn, Falls};
 
-use crate::frames::{Acts, Frame, Next, Turned, Walk};
+use crate::frames::{Acts, Frame, Next, Turned, Walk, wait};
 use crate::give::end_each;
 use crate::machine::Machine;
 use std::alloc::Global;
@@ -145,17 +145,20 @@ pub(crate) fn go_on<'t>(
     let node = mem::replace(&mut m.part, child);
     let parts = mem::replace(&mut m.parts, Vec::new(alloc));
     let edits = m.trail.count;
-    m.frames.push(Frame::Each(
-        others,
-        scope,
-        Walk {
-            node,
-            parts,
-            index,
-            level,
-            edits,
-        },
-    ))?;
+    wait(
+        &mut m.frames,
+        Frame::Each(
+            others,
+            scope,
+            Walk {
+                node,
+                parts,
+                index,
+                level,
+                edits,
+            },
+        ),
+    )?;
     m.level += 1;
     m.next = Next::Begin(strategy, scope);
     Ok(Turned::On)
@@ -183,18 +186,21 @@ pub(crate) fn try_on<'t>(
     let mark = m.cells.mark();
     let node = mem::replace(&mut m.part, child);
     let edits = m.trail.count;
-    m.frames.push(Frame::Leftmost(
-        strategy,
-        scope,
-        Walk {
-            node,
-            parts: Vec::new(alloc),
-            index,
-            level,
-            edits,
-        },
-        mark,
-    ))?;
+    wait(
+        &mut m.frames,
+        Frame::Leftmost(
+            strategy,
+            scope,
+            Walk {
+                node,
+                parts: Vec::new(alloc),
+                index,
+                level,
+                edits,
+            },
+            mark,
+        ),
+    )?;
     m.level += 1;
     m.next = Next::Begin(strategy, scope);
     Ok(Turned::On)
@@ -230,19 +236,22 @@ pub(crate) fn go_over<'t>(
     let node = mem::replace(&mut m.part, child);
     let parts = mem::replace(&mut m.parts, Vec::new(alloc));
     let edits = m.trail.count;
-    m.frames.push(Frame::Those(
-        strategy,
-        scope,
-        Walk {
-            node,
-            parts,
-            index,
-            level,
-            edits,
-        },
-        mark,
-        any,
-    ))?;
+    wait(
+        &mut m.frames,
+        Frame::Those(
+            strategy,
+            scope,
+            Walk {
+                node,
+                parts,
+                index,
+                level,
+                edits,
+            },
+            mark,
+            any,
+        ),
+    )?;
     m.level += 1;
     m.next = Next::Begin(strategy, scope);
     Ok(Turned::On)

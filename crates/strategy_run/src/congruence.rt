@@ -10,7 +10,7 @@ ghost use Rattle.strategy_syntax.specs.Resolved.{congruence, tail_congruence, ch
 ghost use Rattle.term_changes.specs.Standing.{standing_tree};
 ghost use Rattle.strategy_run.specs.Turns.{Takes, TakeFalls};
 
-use crate::frames::{Acts, Frame, Next, Turned};
+use crate::frames::{Acts, Frame, Next, Turned, wait};
 use crate::machine::Machine;
 use std::alloc::Global;
 use strategy_syntax::{Head, ResolvedStrategy};
@@ -70,7 +70,7 @@ pub(crate) fn take_tail<'t>(
         m.next = Next::Failed;
         return Ok(Turned::On);
     }
-    m.frames.push(Frame::Tail(tail, scope, count))?;
+    wait(&mut m.frames, Frame::Tail(tail, scope, count))?;
     m.parts = Vec::new(alloc);
     m.next = Next::Each(Acts::List(strategies), scope, 0);
     Ok(Turned::On)

@@ -7,7 +7,7 @@ ghost use Rattle.std.specs.Prelude.{◌≡◌, ◌<◌, ◌≤◌, ◌-◌, ◌^
 ghost use Rattle.strategy_scopes.specs.Table.{scopes as scopes_of};
 ghost use Rattle.strategy_run.specs.Endings.{LeavesScopes, LeavesCells, ScopesEnd, CellsEnd};
 
-use crate::frames::Frame;
+use crate::frames::{Frame, wait};
 use crate::machine::Machine;
 use term_core::NoMemory;
 
@@ -53,7 +53,7 @@ pub(crate) fn end_scopes<'t>(m: &mut Machine<'t>, scope: usize) -> Result<(), No
             Ok(())
         }
         None => {
-            m.frames.push(Frame::Leave(scopes))?;
+            wait(&mut m.frames, Frame::Leave(scopes))?;
             Ok(())
         }
     }
@@ -73,7 +73,7 @@ pub(crate) fn end_cells<'t>(m: &mut Machine<'t>, scope: usize) -> Result<(), NoM
             Ok(())
         }
         None => {
-            m.frames.push(Frame::Cut(cells, scopes))?;
+            wait(&mut m.frames, Frame::Cut(cells, scopes))?;
             Ok(())
         }
     }

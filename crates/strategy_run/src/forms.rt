@@ -3,12 +3,14 @@
 ghost use Rattle.std.specs.Prelude.{◌≡◌, IfOk, OnOk};
 ghost use Rattle.strategy_syntax.specs.Resolved.{matches, builds, seq, guard, test};
 ghost use Rattle.strategy_meaning.specs.Meaning.{World};
-ghost use Rattle.strategy_run.specs.Turns.{Takes, TakeFalls, Replaced};
+ghost use Rattle.strategy_run.specs.Turns.{Takes, TakeFalls, Replaced, world_of};
 
-use crate::frames::{Frame, Next, Turned};
-use crate::machine::{InTable, Machine};
+use crate::frames::{Frame, Next, Turned, wait};
+use crate::heads::{MOST, left_by_failure};
+use crate::machine::{Host, InTable, Machine};
+use prim_core::Meaning;
 use std::alloc::Global;
-use strategy_syntax::{Place, ResolvedStrategy};
+use strategy_syntax::{Place, ResolvedForm as Form, ResolvedStrategy};
 use term_core::NoMemory;
 use term_match::Built;
 use term_values::{Part, Value};
@@ -78,8 +80,9 @@ pub(crate) fn replace<'t>(
     Ok(())
 }
 
-/// One strategy after the other.
+/// One strategy after the other. Where the first one is a match, it is done at once.
 pub(crate) fn take_seq<'t>(
+    alloc: Global,
     m: &mut Machine<'t>,
     first: &'t ResolvedStrategy,
     second: &'t ResolvedStrategy,
@@ -88,27 +91,80 @@ pub(crate) fn take_seq<'t>(
     ensures ok { (W : World) → IfOk result (λ next. Takes W m.old (seq first.entry.now second.entry.now) scope m.old.part m.new next) }
     ensures less { IfOk result (λ next. TakeFalls m.old m.new next) }
 {
-    m.frames.push(Frame::Then(second, scope))?;
-    m.next = Next::Begin(first, scope);
-    Ok(Turned::On)
+    match first.form() {
+        Form::Match(pattern) => match_first(alloc, m, pattern, second, scope),
+        _ => {
+            wait(&mut m.frames, Frame::Then(second, scope))?;
+            m.next = Next::Begin(first, scope);
+            Ok(Turned::On)
+        }
+    }
 }
 
-/// A strategy after the first one, or in its place where that fails.
-pub(crate) fn take_guard<'t>(
+// A match, which costs a step of its own, and a strategy after it.
+fn match_first<'t>(
+    alloc: Global,
+    m: &mut Machine<'t>,
+    pattern: &'t Place,
+    second: &'t ResolvedStrategy,
+    scope: usize,
+) -> Result<Turned, NoMemory>
+    ensures ok { (W : World) → IfOk result (λ next. Takes W m.old (seq (matches pattern.entry.now) second.entry.now) scope m.old.part m.new next) }
+    ensures less { IfOk result (λ next. TakeFalls m.old m.new next) }
+{
+    if m.steps == 0 {
+        return Ok(Turned::Spent);
+    }
+    m.steps -= 1;
+    let value = m.part.value()?;
+    let places = InTable {
+        scopes: &m.scopes,
+        scope,
+    };
+    if m.cells.matches(alloc, &places, pattern, &value)? {
+        m.next = Next::Begin(second, scope);
+        Ok(Turned::On)
+    } else {
+        m.next = Next::Failed;
+        Ok(Turned::On)
+    }
+}
+
+/// A strategy after the first one, or in its place where that fails. Where it is told ahead that the first
+/// one fails, its steps are paid, and nothing waits for it.
+pub(crate) fn take_guard<'t, M: Meaning>(
+    host: &Host<'t, M>,
     m: &mut Machine<'t>,
     first: &'t ResolvedStrategy,
     second: &'t ResolvedStrategy,
     other: &'t ResolvedStrategy,
     scope: usize,
 ) -> Result<Turned, NoMemory>
-    ensures ok { (W : World) → IfOk result (λ next. Takes W m.old (guard first.entry.now second.entry.now other.entry.now) scope m.old.part m.new next) }
+    ensures ok { IfOk result (λ next. Takes (world_of M.meaning host.now.definitions.now host.now.primitives.now)
+        m.old (guard first.entry.now second.entry.now other.entry.now) scope m.old.part m.new next) }
     ensures less { IfOk result (λ next. TakeFalls m.old m.new next) }
 {
+    let ahead = left_by_failure(
+        host.definitions,
+        &m.scopes,
+        first,
+        Some(scope),
+        &m.part,
+        m.steps,
+        MOST,
+    );
+    if let Some(left) = ahead {
+        m.steps = left;
+        m.next = Next::Begin(other, scope);
+        return Ok(Turned::On);
+    }
     let saved = m.part.try_clone()?;
     let mark = m.cells.mark();
     let edits = m.trail.count;
-    m.frames
-        .push(Frame::Choose(second, other, scope, saved, edits, mark))?;
+    wait(
+        &mut m.frames,
+        Frame::Choose(second, other, scope, saved, edits, mark),
+    )?;
     m.next = Next::Begin(first, scope);
     Ok(Turned::On)
 }
@@ -124,7 +180,7 @@ pub(crate) fn take_test<'t>(
 {
     let saved = m.part.try_clone()?;
     let edits = m.trail.count;
-    m.frames.push(Frame::Restore(saved, edits))?;
+    wait(&mut m.frames, Frame::Restore(saved, edits))?;
     m.next = Next::Begin(inner, scope);
     Ok(Turned::On)
 }

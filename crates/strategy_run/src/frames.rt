@@ -1,6 +1,9 @@
 //! What waits for an answer, and what comes next.
 
+ghost use Rattle.std.specs.Prelude.{◌≡◌, ◌+◌, ◌++◌, ◌∷◌, [], vec_len, OnOk};
+
 use strategy_syntax::ResolvedStrategy;
+use term_core::NoMemory;
 use term_match::Mark;
 use term_values::Part;
 
@@ -82,4 +85,16 @@ pub enum Turned {
     Failed,
     Spent,
     Big,
+}
+
+/// Has a frame wait for the answer of the part in hand, the innermost one.
+#[inline(always)]
+pub(crate) fn wait<'t>(frames: &mut Vec<Frame<'t>>, frame: Frame<'t>) -> Result<(), NoMemory>
+    ensures items { OnOk result (frames.new.items ≡ frames.old.items ++ frame.entry ∷ []) }
+    ensures len { OnOk result (vec_len frames.new ≡ vec_len frames.old + 1) }
+{
+    // a push hands the frame back where it is refused, which costs a copy
+    frames.reserve(1)?;
+    frames.push_reserved(frame);
+    Ok(())
 }

@@ -10,7 +10,7 @@ ghost use Rattle.strategy_run.specs.Turns.{Turn, Falls, Holds, Gives, IsOfRun, G
 
 use crate::children::{finish, settle};
 use crate::forms::replace;
-use crate::frames::{Acts, Frame, Next, Turned, Walk};
+use crate::frames::{Acts, Frame, Next, Turned, Walk, wait};
 use crate::machine::Machine;
 use crate::tails::{first_values, is_list, rest_behind, with_rest_behind};
 use std::alloc::Global;
@@ -204,7 +204,7 @@ fn begin_tail<'t>(
     let node = mem::replace(&mut m.part, Part::new(rest));
     let parts = mem::replace(&mut m.parts, Vec::new(alloc));
     let edits = m.trail.count;
-    m.frames.push(Frame::Rest(node, parts, count, edits))?;
+    wait(&mut m.frames, Frame::Rest(node, parts, count, edits))?;
     m.next = Next::Begin(tail, scope);
     Ok(Turned::On)
 }

@@ -12,6 +12,7 @@ mod evaluation;
 mod forms;
 mod frames;
 mod give;
+mod heads;
 mod machine;
 mod tails;
 mod trail;

@@ -30,6 +30,6 @@ returns-clause-ok c = λ W. record {
       (one_more_there _ _ _ c.in_ok-inner.ensures.number c.in_ok-inner.ensures.ok)
       (one_more_is _ _ _ c.in_ok-inner.ensures.number c.in_ok-inner.ensures.ok ∙ (λ i. with_variables (r.same i) (c.count-first.ensures i) c.args.count))
       (c.in_ok-open_cells.ensures.ok ∙ ap (λ (C : Contents). C.bindings ++ replicate c.args.count None) r.rest.0)
-      (λ a x. r.room W sub whole c.args.m.now.part a x D es (one_more_starts _ _ _ c.in_ok-inner.ensures.ok)
+      (λ a k x. r.room W sub whole c.args.m.now.part a x D es (one_more_starts _ _ _ c.in_ok-inner.ensures.ok)
       (subst (λ (C : Contents). Before (mark_of C) (mark_of D)) r.rest.0 c.open_cells.ensures.later) (subst (λ (C : Contents). Stays (mark_of C) C D) r.rest.0 c.open_cells.ensures.stays)) h));
 }

@@ -6,7 +6,7 @@ use Rattle.strategy_run.proofs.congruence.take_tail.Goals as goal
 
 pub returns-clause-ok : goal.returns-clause-ok
 returns-clause-ok c = λ W. record {
-  keeps = λ sub whole h. with_frames W sub whole (state_of c.args.m.now) _ _ _ (pushed _ _ _ c.in_ok-push.ensures.items)
+  keeps = λ sub whole h. with_frames W sub whole (state_of c.args.m.now) _ _ _ (pushed _ _ _ c.in_ok-wait.ensures.items)
       (take_tailed W sub whole (state_of c.args.m.now) c.args.strategies c.args.tail c.args.scope (length c.args.strategies.now) c.args.m.now.part c.new.result c.new.ensures.items refl (sym c.is_list_from.ensures ∙ c.if-not-is_list_from.false) h);
 }
 

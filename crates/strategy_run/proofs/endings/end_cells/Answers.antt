@@ -21,17 +21,17 @@ returns-in-Some c =
       frames = omega arith;
     }
 
-pub returns-in_ok-push-in-None : goal.returns-in_ok-push-in-None
-returns-in_ok-push-in-None c =
+pub returns-in_ok-wait-in-None : goal.returns-in_ok-wait-in-None
+returns-in_ok-wait-in-None c =
     let m = c.args.m.now in
     record {
       there = c.requires;
       same = refl;
       room = λ W sub whole p a h D es st b sy.
           subst (λ (fs : List Frame). AnswersIn W sub whole (with_those (state_of m) D es fs) p a)
-          (sym (pushed _ _ _ c.in_ok-push-in-None.ensures.items ∙ (λ i. Cut (c.count-cells.ensures i) (c.count-scopes.ensures i) ∷ reverse m.frames.items)))
+          (sym (pushed _ _ _ c.in_ok-wait-in-None.ensures.items ∙ (λ i. Cut (c.count-cells.ensures i) (c.count-scopes.ensures i) ∷ reverse m.frames.items)))
           (cut_pushed W sub whole (state_of m) p a D es st b sy h);
       part = refl;
       rest = (refl, refl, refl, refl, refl);
-      frames = omega (arith, c.in_ok-push-in-None.ensures.len);
+      frames = omega (arith, c.in_ok-wait-in-None.ensures.len);
     }

@@ -21,17 +21,17 @@ returns-in-Some c =
       frames = omega arith;
     }
 
-pub returns-in_ok-push-in-None : goal.returns-in_ok-push-in-None
-returns-in_ok-push-in-None c =
+pub returns-in_ok-wait-in-None : goal.returns-in_ok-wait-in-None
+returns-in_ok-wait-in-None c =
     let m = c.args.m.now in
     record {
       there = c.requires;
       same = refl;
       room = λ W sub whole p a h es st.
           subst (λ (fs : List Frame). AnswersIn W sub whole (with_those (state_of m) m.cells es fs) p a)
-          (sym (pushed _ _ _ c.in_ok-push-in-None.ensures.items ∙ (λ i. Leave (c.count-scopes.ensures i) ∷ reverse m.frames.items)))
+          (sym (pushed _ _ _ c.in_ok-wait-in-None.ensures.items ∙ (λ i. Leave (c.count-scopes.ensures i) ∷ reverse m.frames.items)))
           (leave_pushed W sub whole (state_of m) p a es st h);
       part = refl;
       rest = (refl, refl, refl, refl, refl);
-      frames = omega (arith, c.in_ok-push-in-None.ensures.len);
+      frames = omega (arith, c.in_ok-wait-in-None.ensures.len);
     }
