@@ -1,2 +1,3 @@
 pub mod FlagLemmas
+pub mod LibraryLemmas
 pub mod LineRows

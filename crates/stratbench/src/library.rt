@@ -1,9 +1,10 @@
 //! The library: the usual traversals, as a module that is loaded by a command like any other.
 
-ghost use Rattle.std.specs.Prelude.{◌≡◌, IfErr};
+ghost use Rattle.std.specs.Prelude.{◌≡◌, IfErr, None, OnErr, OnOk};
+ghost use Rattle.stratbench.specs.Library.{LoadsLibrary};
 
 use prim_core::Meaning;
-use script_core::{Bytes, Held, RunFault, Settings, Summary, run};
+use script_core::{Bytes, Failed, RunFault, Settings, Sink, Summary, run};
 use session_core::{MAX_STEPS, Session};
 use std::alloc::Global;
 
@@ -26,19 +27,44 @@ pub const LIBRARY: &[u8] = b"module library
   map(s) = [] <+ [s | map(s)]
 ";
 
-/// Loads the library, as the first step of a new session. Its answer is shown nowhere.
+// Where the answer goes, which is shown nowhere: it takes all bytes and keeps none, so no write fails.
+#[derive(Drop)]
+struct Unseen;
+
+impl Sink for Unseen {
+    ghost held = { λ _. None };
+
+    ghost failed = { λ _. 0 };
+
+    fn write(&mut self, bytes: &[u8]) -> Result<usize, Failed> {
+        Ok(bytes.len())
+    }
+
+    fn flush(&mut self) -> Result<(), Failed> {
+        Ok(())
+    }
+
+    fn failures(&self) -> u64 {
+        0
+    }
+}
+
+/// Loads the library, as the first step of a new session: runs the command of `LIBRARY`. Its answer is shown
+/// nowhere.
 ///
-/// Errors: `Memory` where it isn't accepted, since only want of memory can refuse it.
+/// Errors: `Memory` where the command isn't accepted, since only want of memory can refuse it on a new
+/// session. The session is as before then.
 pub fn load_library<M: Meaning>(alloc: Global, session: &mut Session<M>) -> Result<(), RunFault>
-    ensures { IfErr result (λ fault. fault ≡ RunFault.Memory) }
+    ensures loaded { OnOk result (LoadsLibrary session.old session.new) }
+    ensures refused { OnErr result (session.new ≡ session.old) }
+    ensures memory { IfErr result (λ fault. fault ≡ RunFault.Memory) }
 {
     let mut source = Bytes::new(LIBRARY);
-    let mut sink = Held::new(alloc);
     let settings = Settings {
         steps: MAX_STEPS,
-        stop: true,
+        stop: false,
     };
-    match run(alloc, session, &mut source, &mut sink, settings) {
+    match run(alloc, session, &mut source, &mut Unseen, settings) {
         Ok(Summary { accepted: 1, .. }) => Ok(()),
         _ => Err(RunFault::Memory),
     }
