@@ -11,6 +11,3 @@ pub use fault::ParseFault;
 pub use modules::parse_module;
 pub use strategy::parse_strategy;
 pub use strategy_tokens::{MAX_TOKENS, token_count};
-
-#[cfg(test)]
-mod tests;

@@ -1,6 +1,6 @@
 use Rattle.std.proofs.Common.{arith}
 use Rattle.strategy_parse.proofs.VariableLemmas.{item-depth}
-use Rattle.strategy_parse.proofs.tests.show.+show_pattern.Goals as goal
+use Rattle.text_tests.proofs.show.+show_pattern.Goals as goal
 
 pub show_patterns-show_pattern-requires : goal.show_patterns-show_pattern-requires
 show_patterns-show_pattern-requires t c =

@@ -1,9 +1,9 @@
 //! Rows of strategies as texts.
 
-use crate::tests::show::shown;
-use crate::{ParseFault, parse_strategy};
+use crate::show::shown;
 use std::alloc::Global;
 use std::test::Fail;
+use strategy_parse::{ParseFault, parse_strategy};
 
 fn is_shown(alloc: Global, text: &str, expected: &str) -> bool {
     match parse_strategy(alloc, text.as_bytes()) {

@@ -1,7 +1,7 @@
 use Rattle.std.proofs.Common.{◌+◌, ◌*◌}
 use Rattle.strategy_syntax.specs.Syntax.{patterns_of}
 use Rattle.strategy_syntax.specs.PatternView.{pattern_depth, patterns_depth}
-use Rattle.strategy_parse.proofs.tests.show.+show_pattern.Given as goal
+use Rattle.text_tests.proofs.show.+show_pattern.Given as goal
 
 abbrev pub decreases-show_pattern : goal.decreases-show_pattern
 decreases-show_pattern l = 2 * pattern_depth l.pattern.now

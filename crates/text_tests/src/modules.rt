@@ -1,10 +1,10 @@
 //! Rows of modules as texts.
 
-use crate::tests::show::shown;
-use crate::tests::strategies::nested;
-use crate::{ParseFault, parse_module};
+use crate::show::shown;
+use crate::strategies::nested;
 use std::alloc::Global;
 use std::test::Fail;
+use strategy_parse::{ParseFault, parse_module};
 use strategy_syntax::{Constructor, Definition, Module};
 use term_core::Name;
 

@@ -1,7 +1,7 @@
 use Rattle.std.proofs.Common.{◌+◌, ◌*◌}
 use Rattle.strategy_syntax.specs.Syntax.{strategies_of}
 use Rattle.strategy_syntax.specs.StrategyView.{depth, depths}
-use Rattle.strategy_parse.proofs.tests.show.+show.Given as goal
+use Rattle.text_tests.proofs.show.+show.Given as goal
 
 abbrev pub decreases-show : goal.decreases-show
 decreases-show l = 2 * depth l.strategy.now

@@ -1,5 +1,0 @@
-//! Rows of the calls on texts.
-
-mod modules;
-mod show;
-mod strategies;

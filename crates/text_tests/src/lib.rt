@@ -1,0 +1,10 @@
+//! Rows of texts: what strategies and modules are read. The crate holds tests alone, so that the crates
+//! that read texts are proved once and not again with their tests.
+#![tactic(auto)]
+
+#[cfg(test)]
+mod modules;
+#[cfg(test)]
+mod show;
+#[cfg(test)]
+mod strategies;
