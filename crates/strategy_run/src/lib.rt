@@ -19,8 +19,3 @@ mod trail;
 
 pub use application::{Outcome, apply, apply_outermost, is_low_enough};
 pub use evaluation::{Evaluated, evaluate};
-
-#[cfg(test)]
-mod application_tests;
-#[cfg(test)]
-mod tests;

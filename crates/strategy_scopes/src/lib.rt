@@ -4,6 +4,3 @@
 mod scopes;
 
 pub use scopes::{Known, Scopes};
-
-#[cfg(test)]
-mod tests;

@@ -1,10 +1,10 @@
 //! Strategies on the pair of 1 and 2, with ample memory.
 
-use crate::{Evaluated, evaluate};
 use prim_core::{NoPrimitives, Primitives};
 use std::alloc::Global;
 use std::test::Fail;
 use strategy_check::{Program, check};
+use strategy_run::{Evaluated, evaluate};
 use strategy_syntax::{Place, PlaceForm, Resolved, ResolvedForm, ResolvedStrategy};
 use term_core::{MAX_HEIGHT, NoMemory, Term};
 

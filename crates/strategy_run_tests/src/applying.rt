@@ -1,12 +1,12 @@
 //! Strategies applied to the pair of 1 and 2 in a slot, with ample memory.
 
-use crate::tests::{builds, pair};
-use crate::{Outcome, apply, apply_outermost, is_low_enough};
+use crate::evaluating::{builds, pair};
 use change_log::{Entry, Log, Store};
 use prim_core::{NoPrimitives, Primitives};
 use std::alloc::Global;
 use std::test::Fail;
 use strategy_check::{Program, check};
+use strategy_run::{Outcome, apply, apply_outermost, is_low_enough};
 use strategy_syntax::{Head, Resolved, ResolvedForm, ResolvedStrategy};
 use term_core::{Label, NoMemory};
 use term_paths::Path;

@@ -1,7 +1,7 @@
 //! Scopes in one another, with ample memory.
 
-use crate::{Known, Scopes};
 use std::test::Fail;
+use strategy_scopes::{Known, Scopes};
 use strategy_syntax::{ResolvedForm, ResolvedStrategy};
 use term_core::NoMemory;
 
