@@ -9,8 +9,6 @@ mod running;
 mod sink;
 mod source;
 mod splitter;
-#[cfg(test)]
-mod tests;
 mod write;
 
 pub use answer::{ANSWER_ROOM, answer_text};

@@ -2,8 +2,8 @@
 
 ghost use Rattle.session_core.specs.Steps.{AreSteps};
 
-use crate::{Counted, Held, RunFault, Settings, Summary, run};
 use prim_core::{NoPrimitives, Primitives};
+use script_core::{Counted, Held, RunFault, Settings, Summary, run};
 use session_core::{MAX_STEPS, Session};
 use std::alloc::Global;
 use std::io::{self, Error, ErrorKind, Read};

@@ -1,6 +1,6 @@
 //! Rows in which strategies are applied, in pieces of 1, 2 and 4,096 bytes.
 
-use super::pieces::expect_rows;
+use crate::pieces::expect_rows;
 use std::alloc::Global;
 use std::test::Fail;
 

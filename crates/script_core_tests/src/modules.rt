@@ -1,6 +1,6 @@
 //! Rows with modules, in pieces of 1, 2 and 4,096 bytes.
 
-use super::pieces::{ends, expect_rows, is_row};
+use crate::pieces::{ends, expect_rows, is_row};
 use std::alloc::Global;
 use std::test::Fail;
 

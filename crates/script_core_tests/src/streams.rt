@@ -1,9 +1,9 @@
 //! Readers and writers that fail, and the order of reads and flushes.
 
-ghost use Rattle.std.specs.Prelude.{◌≡◌};
-
-use super::pieces::{Outcome, PieceReader, ends, is_answered, new_session, settings};
-use crate::{Bytes, Counted, RunFault, Sink, Source, run};
+use crate::pieces::{Outcome, PieceReader, ends, is_answered, new_session, settings};
+use prim_core::NoPrimitives;
+use script_core::{Bytes, Counted, RunFault, Sink, Source, run};
+use session_core::Session;
 use std::alloc::Global;
 use std::cell::Cell;
 use std::io::{self, Error, ErrorKind, Read, Write};
@@ -55,13 +55,13 @@ fn stops_before_a_read_fault(rt: HostRuntime) -> Result<(), Fail> {
 
 // Takes at most two bytes a write, and where it has no more room it fails or takes none.
 #[derive(Drop)]
-struct NarrowWriter {
-    held: Vec<u8>,
+struct NarrowWriter<'a> {
+    held: &'a mut Vec<u8>,
     room: usize,
     fails: bool,
 }
 
-impl Write for NarrowWriter {
+impl Write for NarrowWriter<'_> {
     fn write(&mut self, buf: &[u8]) -> io::Result<usize> {
         if self.room == 0 && self.fails {
             return Err(Error::from(ErrorKind::Other));
@@ -77,26 +77,35 @@ impl Write for NarrowWriter {
     }
 }
 
+// How a run into the writer ends: with so many failures of the writer, or with a fault.
+fn ends_into(
+    alloc: Global,
+    session: &mut Session<NoPrimitives>,
+    writer: NarrowWriter<'_>,
+) -> Result<u64, RunFault> {
+    let mut source = Bytes::new(b"tree t a\ntree t b\nshow t\n");
+    let mut sink = Counted::new(writer);
+    match run(alloc, session, &mut source, &mut sink, settings(false)) {
+        Ok(_) => Ok(sink.failures()),
+        Err(fault) => Err(fault),
+    }
+}
+
 // How many steps the session has after a run whose writer has so much room, whether the writer holds the
 // front of the answers, and how the run ended.
 fn steps_behind(alloc: Global, room: usize, fails: bool) -> (u64, bool, Result<u64, RunFault>) {
     let mut session = new_session(alloc);
-    let mut source = Bytes::new(b"tree t a\ntree t b\nshow t\n");
-    let mut sink = Counted::new(NarrowWriter {
-        held: Vec::new(alloc),
+    let mut held = Vec::new(alloc);
+    let writer = NarrowWriter {
+        held: &mut held,
         room,
         fails,
-    });
-    let outcome = run(alloc, &mut session, &mut source, &mut sink, settings(false));
+    };
+    let ended = ends_into(alloc, &mut session, writer);
     let answers: &[u8] = b"ok\nok\nb\n";
-    let held = sink.inner.held.as_slice();
-    let is_front = held.len() == room && answers.starts_with(held);
-    let failures = sink.failures();
+    let is_front = held.len() == room && answers.starts_with(&held);
     let (past, _) = session.counts();
-    match outcome {
-        Ok(_) => (past, is_front, Ok(failures)),
-        Err(fault) => (past, is_front, Err(fault)),
-    }
+    (past, is_front, ended)
 }
 
 // The session is the one behind the command whose answer couldn't be written whole.
@@ -206,16 +215,13 @@ fn flushes_before_reads(rt: HostRuntime) -> Result<(), Fail> {
     Ok(())
 }
 
-// Is interrupted at its first read or write and then at every other. Its flush fails where that is wanted.
-#[derive(Drop)]
-struct Interrupted<'a> {
-    rest: &'a [u8],
-    held: Vec<u8>,
+// Interrupts the first read or write and then every other.
+#[derive(Clone, Copy)]
+struct Turns {
     interrupts: bool,
-    flush_fails: bool,
 }
 
-impl Interrupted<'_> {
+impl Turns {
     fn turn(&mut self) -> io::Result<()> {
         self.interrupts = !self.interrupts;
         if self.interrupts {
@@ -225,9 +231,17 @@ impl Interrupted<'_> {
     }
 }
 
-impl Read for Interrupted<'_> {
+const FIRST: Turns = Turns { interrupts: false };
+
+#[derive(Drop)]
+struct InterruptedReader<'a> {
+    rest: &'a [u8],
+    turns: Turns,
+}
+
+impl Read for InterruptedReader<'_> {
     fn read(&mut self, buf: &mut [u8]) -> io::Result<usize> {
-        self.turn()?;
+        self.turns.turn()?;
         let given = self.rest.len().min(buf.len()).min(3);
         let (front, rest) = self.rest.split_at(given);
         buf[..given].copy_from_slice(front);
@@ -236,9 +250,17 @@ impl Read for Interrupted<'_> {
     }
 }
 
-impl Write for Interrupted<'_> {
+// Its flush fails where that is wanted.
+#[derive(Drop)]
+struct InterruptedWriter<'a> {
+    held: &'a mut Vec<u8>,
+    turns: Turns,
+    flush_fails: bool,
+}
+
+impl Write for InterruptedWriter<'_> {
     fn write(&mut self, buf: &[u8]) -> io::Result<usize> {
-        self.turn()?;
+        self.turns.turn()?;
         self.held.extend_from_slice(buf)?;
         Ok(buf.len())
     }
@@ -251,24 +273,28 @@ impl Write for Interrupted<'_> {
     }
 }
 
-fn counted(alloc: Global, script: &[u8], flush_fails: bool) -> Counted<Interrupted<'_>>
-    ensures { result.failures ≡ 0 }
-{
-    Counted::new(Interrupted {
-        rest: script,
-        held: Vec::new(alloc),
-        interrupts: false,
-        flush_fails,
-    })
+// How a run between an interrupted reader and this writer ends, and how often a read failed.
+fn ends_between(alloc: Global, writer: InterruptedWriter<'_>) -> (Outcome, u64) {
+    let mut session = new_session(alloc);
+    let mut source = Counted::new(InterruptedReader {
+        rest: b"tree t a\nshow t\n",
+        turns: FIRST,
+    });
+    let mut sink = Counted::new(writer);
+    let ended = run(alloc, &mut session, &mut source, &mut sink, settings(false));
+    (ended, source.failures())
 }
 
 // Whether a run between an interrupted reader and writer ends so and has written this.
 fn is_tried_again(alloc: Global, flush_fails: bool, answers: &[u8], outcome: Outcome) -> bool {
-    let mut session = new_session(alloc);
-    let mut source = counted(alloc, b"tree t a\nshow t\n", false);
-    let mut sink = counted(alloc, b"", flush_fails);
-    let ended = run(alloc, &mut session, &mut source, &mut sink, settings(false));
-    ended == outcome && sink.inner.held.as_slice() == answers && source.failures == 0
+    let mut held = Vec::new(alloc);
+    let writer = InterruptedWriter {
+        held: &mut held,
+        turns: FIRST,
+        flush_fails,
+    };
+    let (ended, failures) = ends_between(alloc, writer);
+    ended == outcome && held.as_slice() == answers && failures == 0
 }
 
 // Interrupted reads and writes are tried again and don't count as failures; a flush that fails does.
