@@ -11,6 +11,3 @@ pub use building::Built;
 pub use cells::{Cells, Mark};
 pub use terms::BuiltTerm;
 pub use variables::{InSlice, Places};
-
-#[cfg(test)]
-mod tests;

@@ -6,11 +6,11 @@
 //! y, z and w are variables, `_` is the wildcard, `@` binds x to what the pattern before it matches, and
 //! `|` is a list with the last part as its tail.
 
-use crate::{Built, BuiltTerm, Cells, InSlice};
 use std::alloc::Global;
 use std::test::Fail;
 use strategy_syntax::{Head, Place, PlaceForm};
 use term_core::{Name, NoMemory, Term};
+use term_match::{Built, BuiltTerm, Cells, InSlice};
 use term_values::Value;
 
 // The cells of x, y, z and w. There is no cell for w.
