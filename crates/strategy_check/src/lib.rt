@@ -19,6 +19,3 @@ mod table;
 
 pub use fault::{CheckFault, Kind};
 pub use program::{Program, check, resolve};
-
-#[cfg(test)]
-mod tests;

@@ -16,6 +16,3 @@ pub use pattern::{Pattern, PatternForm};
 pub use place::{Place, PlaceForm};
 pub use resolved::{Resolved, ResolvedForm, ResolvedStrategy};
 pub use strategy::{Strategy, StrategyForm};
-
-#[cfg(test)]
-mod tests;

@@ -1,9 +1,9 @@
 //! The calls with ample memory: a program, a resolved strategy, and a fault of each.
 
-use crate::{CheckFault, Kind, check, resolve};
 use prim_core::{NoPrimitives, Primitives};
 use std::alloc::Global;
 use std::test::Fail;
+use strategy_check::{CheckFault, Kind, check, resolve};
 use strategy_syntax::{Definition, Module, Resolved, ResolvedForm, Strategy, StrategyForm};
 use term_core::{Label, Name};
 

@@ -1,11 +1,11 @@
 //! The calls on syntax, with ample memory, and its depth.
 
-use crate::{
+use std::alloc::Global;
+use std::test::Fail;
+use strategy_syntax::{
     Constructor, Definition, Head, Module, Pattern, PatternForm, Place, PlaceForm, Resolved,
     ResolvedForm, ResolvedStrategy, Strategy, StrategyForm,
 };
-use std::alloc::Global;
-use std::test::Fail;
 use term_core::{Kind, Name};
 
 // More levels of syntax than 4,000 tokens can spell: a closure with a condition takes six tokens
