@@ -54,23 +54,3 @@ pub fn nesting(text: &[u8]) -> u64
     }
     greatest
 }
-
-#[cfg(test)]
-mod tests {
-    use super::nesting;
-
-    #[test]
-    fn counts_open_brackets(rt: HostRuntime) {
-        let table: [(&[u8], u64); 6] = [
-            (b"", 0),
-            (b"[[", 2),
-            (b"\"[[\"[", 1),
-            (b")))(", 1),
-            (b"\"\\\"[", 0),
-            (b"([]{()})", 3),
-        ];
-        for (text, depth) in table {
-            assert_eq!(rt; nesting(text), depth);
-        }
-    }
-}

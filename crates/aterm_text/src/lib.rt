@@ -14,6 +14,3 @@ pub use reader::{ReadFault, after_blanks, is_blank, read, read_annotations};
 
 /// The greatest number of brackets that may be open at one place of a text.
 pub const MAX_NESTING: u64 = 1000;
-
-#[cfg(test)]
-mod tests;

@@ -19,6 +19,3 @@ pub use token::{Keyword, Sign, Token};
 
 /// The greatest number of tokens of a text that is read.
 pub const MAX_TOKENS: u64 = 4000;
-
-#[cfg(test)]
-mod tests;

@@ -1,8 +1,8 @@
 //! Rows of the tokens of texts.
 
-use crate::{Keyword, Sign, Token, TokensFault, read_tokens, token_count};
 use std::alloc::Global;
 use std::test::Fail;
+use strategy_tokens::{Keyword, Sign, Token, TokensFault, read_tokens, token_count};
 
 #[test]
 fn tokens_counted(rt: HostRuntime) -> Result<(), Fail> {

@@ -1,6 +1,6 @@
 //! Texts that are read, and printed again.
 
-use crate::{ReadFault, after_blanks, is_blank, print, read, read_annotations};
+use aterm_text::{ReadFault, after_blanks, is_blank, nesting, print, read, read_annotations};
 use std::alloc::Global;
 use std::test::Fail;
 use term_core::Term;
@@ -108,6 +108,21 @@ fn white_space(rt: HostRuntime) {
     // A vertical tab is none.
     assert!(rt; !is_blank(11));
     assert_eq!(rt; after_blanks(b" \t\r\n a "), b"a ".as_slice());
+}
+
+#[test]
+fn counts_open_brackets(rt: HostRuntime) {
+    let table: [(&[u8], u64); 6] = [
+        (b"", 0),
+        (b"[[", 2),
+        (b"\"[[\"[", 1),
+        (b")))(", 1),
+        (b"\"\\\"[", 0),
+        (b"([]{()})", 3),
+    ];
+    for (text, depth) in table {
+        assert_eq!(rt; nesting(text), depth);
+    }
 }
 
 // Brackets that are open at one place: 1,000 are read and printed again, on a stack of 8 MiB, and
