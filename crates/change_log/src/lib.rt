@@ -25,6 +25,3 @@ pub use slots::Slots;
 pub use store::Store;
 #[doc(hidden)]
 pub use text::Text;
-
-#[cfg(test)]
-mod tests;

@@ -6,6 +6,3 @@ pub mod laws;
 mod replacement;
 
 pub use replacement::{Replacement, put_in_place};
-
-#[cfg(test)]
-mod tests;

@@ -18,6 +18,3 @@ pub const MAX_HEIGHT: u64 = 1000;
 
 /// The greatest size of a term that fits, in terms.
 pub const MAX_SIZE: u64 = 100_000;
-
-#[cfg(test)]
-mod tests;

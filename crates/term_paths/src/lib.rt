@@ -12,6 +12,3 @@ pub use subterm::{
     swap_annotations_at_parts, swap_at, swap_at_parts,
 };
 pub use text::{PathFault, read_number, read_path};
-
-#[cfg(test)]
-mod tests;

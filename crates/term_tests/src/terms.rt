@@ -1,11 +1,11 @@
 //! The calls on names, terms and labels, with ample memory.
 
-use crate::{Kind, Label, LabelFault, Name, Term};
 use std::alloc::Global;
 use std::cmp::Ordering;
 use std::collections::HashSet;
 use std::mem::size_of;
 use std::test::Fail;
+use term_core::{Kind, Label, LabelFault, Name, Term};
 
 // A list in a list, as high as told.
 fn nested_lists(alloc: Global, height: u32) -> Result<Term, Fail> {

@@ -1,6 +1,6 @@
 //! Rows of calls on a store and its log, with ample memory, and what is so after them.
 
-use crate::{Entry, Log, Store, laws};
+use change_log::{Entry, Log, Store, laws};
 use std::alloc::Global;
 use std::test::Fail;
 use term_core::{Kind, Label, Name, Term};

@@ -1,13 +1,13 @@
 //! The calls on paths, with ample memory.
 
-use crate::{
+use std::alloc::Global;
+use std::test::Fail;
+use term_core::{Kind, Term};
+use term_paths::{
     Path, PathFault, at, at_mut, at_parts, at_parts_mut, change_at, change_at_parts, laws,
     parts_lie_within, read_path, swap_annotations_at, swap_annotations_at_parts, swap_at,
     swap_at_parts,
 };
-use std::alloc::Global;
-use std::test::Fail;
-use term_core::{Kind, Term};
 
 fn path(alloc: Global, parts: &[usize]) -> Result<Path, Fail> {
     Ok(Path::from_parts(Vec::from_slice(alloc, parts)?))

@@ -1,9 +1,9 @@
 //! Replaced places in a store, and back.
 
-use crate::{Replacement, laws, put_in_place};
 use change_log::{Entry, Log, Store};
 use std::alloc::Global;
 use std::test::Fail;
+use term_changes::{Replacement, laws, put_in_place};
 use term_core::{Label, Term};
 
 fn pair(alloc: Global, first: i64, second: i64) -> Result<Term, Fail> {

@@ -1,0 +1,12 @@
+//! Terms, places in them, and their changes in stores. The crate holds tests alone, so that the crates
+//! of terms are proved once and not again with their tests.
+#![tactic(auto)]
+
+#[cfg(test)]
+mod changes;
+#[cfg(test)]
+mod logs;
+#[cfg(test)]
+mod paths;
+#[cfg(test)]
+mod terms;
