@@ -1,0 +1,78 @@
+//! Numbers that stand for nothing: the parts that have them fail. Texts give none.
+
+use super::rows::{Case, Wanted, is_so};
+use prim_core::{NoPrimitives, Primitives};
+use std::alloc::Global;
+use std::test::Fail;
+use strategy_check::{Program, check};
+use strategy_syntax::{Place, PlaceForm, Resolved, ResolvedForm, ResolvedStrategy};
+use term_core::NoMemory;
+
+// Something unknown.
+#[derive(Clone, Copy, Debug)]
+enum Unknown {
+    Matched,
+    Built,
+    Name,
+    Definition,
+    Primitive,
+    ChildZero,
+}
+
+fn form(alloc: Global, unknown: Unknown) -> Result<ResolvedForm, NoMemory> {
+    let place = Place::new(PlaceForm::Variable(1));
+    match unknown {
+        Unknown::Matched => Ok(ResolvedForm::Match(place)),
+        Unknown::Built => Ok(ResolvedForm::Build(place)),
+        Unknown::Name => Ok(ResolvedForm::Param(0)),
+        Unknown::Definition => Ok(ResolvedForm::Call(0, Vec::new(alloc), Vec::new(alloc))),
+        Unknown::Primitive => Ok(ResolvedForm::Prim(0, Vec::new(alloc))),
+        Unknown::ChildZero => {
+            let id = ResolvedStrategy::new(ResolvedForm::Id);
+            Ok(ResolvedForm::Child(0, Box::new(alloc, id)?))
+        }
+    }
+}
+
+// Whether it fails in a step, where there is one variable and no definition.
+fn fails(alloc: Global, unknown: Unknown) -> Result<bool, Fail> {
+    let primitives: Primitives<NoPrimitives> = Primitives::new(Vec::new(alloc));
+    match check(alloc, &[], &primitives) {
+        Ok(program) => fails_beside(alloc, &program, &primitives, unknown),
+        Err(_) => Err("a fault".into()),
+    }
+}
+
+fn fails_beside(
+    alloc: Global,
+    program: &Program,
+    primitives: &Primitives<NoPrimitives>,
+    unknown: Unknown,
+) -> Result<bool, Fail> {
+    let strategy = Resolved {
+        variables: 1,
+        strategy: ResolvedStrategy::new(form(alloc, unknown)?),
+    };
+    let case = Case {
+        term: "[0]",
+        level: 2,
+        steps: 1,
+        wanted: Wanted::Fails,
+    };
+    is_so(alloc, program, primitives, &strategy, &case)
+}
+
+#[test]
+fn unknown_numbers_fail(rt: HostRuntime) -> Result<(), Fail> {
+    for unknown in [
+        Unknown::Matched,
+        Unknown::Built,
+        Unknown::Name,
+        Unknown::Definition,
+        Unknown::Primitive,
+        Unknown::ChildZero,
+    ] {
+        assert!(rt; fails(rt.alloc(), unknown)?, "{unknown:?}");
+    }
+    Ok(())
+}
