@@ -1,6 +1,7 @@
 //! Tables of rows, with ample memory.
 
 mod applying;
+mod bounds;
 mod calls;
 mod congruences;
 mod evaluating;
