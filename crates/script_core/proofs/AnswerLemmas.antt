@@ -8,10 +8,10 @@ use Rattle.aterm_text.specs.declared.reader.ReadFault.{ReadFault}
 use Rattle.aterm_text.specs.declared.reader.ReadFault.TheVariants.{Deep as DeepText, Term as NoTerm, Memory as NoMemory}
 use Rattle.aterm_text.specs.Nesting.{nesting}
 use Rattle.session_core.specs.Applying.{Meaning}
-use Rattle.session_core.specs.History.{Group, History, undone, redone}
+use Rattle.session_core.specs.History.{HistoryGroup, History, undone, redone}
 use Rattle.session_core.specs.Step.{Outcome, Passing, Holding, Given, Leaves, Place}
 use Rattle.session_core.specs.declared.refusal.Refusal.{Refusal}
-use Rattle.session_core.specs.declared.refusal.Refusal.TheVariants.{Memory, NoUndo, NoRedo, Group as InGroup, NoGroup}
+use Rattle.session_core.specs.declared.refusal.Refusal.TheVariants.{Memory, NoUndo, NoRedo, Group, NoGroup}
 use Rattle.script_core.specs.Machine.{Reply, ReadAs, Told, done, ok_with}
 use Rattle.script_core.specs.Handed.{Handed, text as handed_text, long}
 use Rattle.script_core.specs.Form.{Form, is_without_memory, undo, redo, begin, abandon, checked, form_with, is_same, last_steps, has_word, front_word, behind_word, takes_no_memory, takes_no_memory_with}
@@ -146,16 +146,16 @@ tells_fault (Err refusal) = is_fault refusal
 same_told : (outcome known : Outcome) → outcome ≡ known → tells_fault (done known) ≡ false → tells_fault (done outcome) ≡ false
 same_told outcome known is e = ap (λ (o : Outcome). tells_fault (done o)) is ∙ e
 
-going : (group : Option Group) (o : Option History) (miss : Refusal) → is_fault miss ≡ false → (outcome : Outcome) → Holding (is_none group) InGroup (Passing (ok_or o miss) Leaves) outcome → tells_fault (done outcome) ≡ false
+going : (group : Option HistoryGroup) (o : Option History) (miss : Refusal) → is_fault miss ≡ false → (outcome : Outcome) → Holding (is_none group) Group (Passing (ok_or o miss) Leaves) outcome → tells_fault (done outcome) ≡ false
 going None None miss e outcome p = same_told outcome (Err miss) p e
 going None (Some g) miss e outcome p = same_told outcome (Ok g) p refl
-going (Some g) o miss e outcome p = same_told outcome (Err InGroup) p refl
+going (Some g) o miss e outcome p = same_told outcome (Err Group) p refl
 
-beginning : (group : Option Group) (h : History) (outcome : Outcome) → Holding (is_none group) InGroup (Leaves h) outcome → tells_fault (done outcome) ≡ false
+beginning : (group : Option HistoryGroup) (h : History) (outcome : Outcome) → Holding (is_none group) Group (Leaves h) outcome → tells_fault (done outcome) ≡ false
 beginning None h outcome p = same_told outcome (Ok h) p refl
-beginning (Some g) h outcome p = same_told outcome (Err InGroup) p refl
+beginning (Some g) h outcome p = same_told outcome (Err Group) p refl
 
-leaving : (group : Option Group) (next : Group → History) (outcome : Outcome) → Passing (ok_or group NoGroup) (λ g. Leaves (next g)) outcome → tells_fault (done outcome) ≡ false
+leaving : (group : Option HistoryGroup) (next : HistoryGroup → History) (outcome : Outcome) → Passing (ok_or group NoGroup) (λ g. Leaves (next g)) outcome → tells_fault (done outcome) ≡ false
 leaving None next outcome p = same_told outcome (Err NoGroup) p refl
 leaving (Some g) next outcome p = same_told outcome (Ok (next g)) p refl
 

@@ -20,11 +20,11 @@ use Rattle.strategy_check.specs.Faults.{Fault, Primitives, faults, first}
 use Rattle.strategy_check.specs.Programs.{Program, program}
 use Rattle.change_log.specs.Contents.{Contents, with_tree, with_module}
 use Rattle.session_core.specs.Modules.{Texts, Finds, GivesProgram, Checks}
-use Rattle.session_core.specs.History.{Group, History, changed, stepped}
+use Rattle.session_core.specs.History.{HistoryGroup, History, changed, stepped}
 use Rattle.session_core.specs.Step.{Passing, Holding, Given, Leaves, ChangesTo, ChangesModules, committed}
 use Rattle.session_core.specs.Dump.{tree_line, module_line, dumped}
 use Rattle.session_core.specs.declared.refusal.Refusal.{Refusal}
-use Rattle.session_core.specs.declared.refusal.Refusal.TheVariants.{Big, Group as InGroup, NoGroup}
+use Rattle.session_core.specs.declared.refusal.Refusal.TheVariants.{Big, Group, NoGroup}
 use Rattle.script_core.specs.declared.TheConstants.{MAX_COMMAND}
 use Rattle.script_core.specs.Script.{commands}
 use Rattle.script_core.specs.Form.{Form, tree, set_module, begin, commit, command_of}
@@ -45,24 +45,24 @@ IsShort command = length command ≤ MAX_COMMAND
 now-changed : (c : Contents) (h : History) → (changed c h).now ≡ c
 now-changed c h = at h.group
   where
-    at : (o : Option Group) → (option_map_or (λ g. record h { now = c; group = Some (record g { changed = true }) }) o (record (stepped h.now h) { now = c })).now ≡ c
+    at : (o : Option HistoryGroup) → (option_map_or (λ g. record h { now = c; group = Some (record g { changed = true }) }) o (record (stepped h.now h) { now = c })).now ≡ c
     at None = refl
     at (Some g) = refl
 
 primitives-changed : (c : Contents) (h : History) → (changed c h).primitives ≡ h.primitives
 primitives-changed c h = at h.group
   where
-    at : (o : Option Group) → (option_map_or (λ g. record h { now = c; group = Some (record g { changed = true }) }) o (record (stepped h.now h) { now = c })).primitives ≡ h.primitives
+    at : (o : Option HistoryGroup) → (option_map_or (λ g. record h { now = c; group = Some (record g { changed = true }) }) o (record (stepped h.now h) { now = c })).primitives ≡ h.primitives
     at None = refl
     at (Some g) = refl
 
 outside-changed : (c : Contents) (h : History) → h.group ≡ None → (changed c h).group ≡ None
 outside-changed c h none =
-    ap (λ (o : Option Group). (option_map_or (λ g. record h { now = c; group = Some (record g { changed = true }) }) o (record (stepped h.now h) { now = c })).group) none ∙ none
+    ap (λ (o : Option HistoryGroup). (option_map_or (λ g. record h { now = c; group = Some (record g { changed = true }) }) o (record (stepped h.now h) { now = c })).group) none ∙ none
 
-inside-changed : (c : Contents) (h : History) (g : Group) → h.group ≡ Some g → (changed c h).group ≡ Some (record g { changed = true })
+inside-changed : (c : Contents) (h : History) (g : HistoryGroup) → h.group ≡ Some g → (changed c h).group ≡ Some (record g { changed = true })
 inside-changed c h g some =
-    ap (λ (o : Option Group). (option_map_or (λ g. record h { now = c; group = Some (record g { changed = true }) }) o (record (stepped h.now h) { now = c })).group) some
+    ap (λ (o : Option HistoryGroup). (option_map_or (λ g. record h { now = c; group = Some (record g { changed = true }) }) o (record (stepped h.now h) { now = c })).group) some
 
 -- what the trees leave, one after another
 abbrev trees_after : History → List TreeEntry → History
@@ -93,10 +93,10 @@ modules_after h (e ∷ es) = modules_after (changed (with_module h.now e.0 e.1) 
 record HasModules (es : List TextEntry) (h k : History) : Type 0 where
   now : k.now ≡ record h.now { modules = inserted h.now.modules es }
   primitives : k.primitives ≡ h.primitives
-  open_group : Group
+  open_group : HistoryGroup
   group : k.group ≡ Some open_group
 
-has_modules : (es : List TextEntry) (h : History) (g : Group) → h.group ≡ Some g → HasModules es h (modules_after h es)
+has_modules : (es : List TextEntry) (h : History) (g : HistoryGroup) → h.group ≡ Some g → HasModules es h (modules_after h es)
 has_modules [] h g some = record { now = refl; primitives = refl; open_group = g; group = some }
 has_modules (e ∷ es) h g some =
     let c : Contents = with_module h.now e.0 e.1 in
@@ -108,7 +108,7 @@ has_modules (e ∷ es) h g some =
       group = rest.group;
     }
 
-now-committed : (g : Group) (h : History) → (committed g h).now ≡ h.now
+now-committed : (g : HistoryGroup) (h : History) → (committed g h).now ≡ h.now
 now-committed g h = at g.changed
   where
     at : (b : Bool) → (if b then record (stepped g.begun h) { group = None } else record h { group = None }).now ≡ h.now
@@ -207,13 +207,13 @@ module _ (meaning : Meaning) (steps : ℕ) where
   abbrev module_commands : List TextEntry → List (List ℕ)
   module_commands es = map (λ e. module_command e.0 e.1) es
 
-  module_said : (e : TextEntry) → IsTold e → (h : History) (g : Group) → h.group ≡ Some g → ReplyTo meaning steps (text (module_command e.0 e.1)) h (Ok (ok_with (changed (with_module h.now e.0 e.1) h)))
+  module_said : (e : TextEntry) → IsTold e → (h : History) (g : HistoryGroup) → h.group ≡ Some g → ReplyTo meaning steps (text (module_command e.0 e.1)) h (Ok (ok_with (changed (with_module h.now e.0 e.1) h)))
   module_said e t h g some =
       let k : History = changed (with_module h.now e.0 e.1) h in
       said (module_command e.0 e.1) (set_module e.0 e.1) h (Ok (ok_with k)) (module_command-is steps e.0 e.1 t.label t.text)
-      (Ok k, (Ok t.reads.0, t.reads.1, subst (λ (o : Option Group). ChangesModules o (with_module h.now e.0 e.1) h (Ok k)) (sym some) refl), refl)
+      (Ok k, (Ok t.reads.0, t.reads.1, subst (λ (o : Option HistoryGroup). ChangesModules o (with_module h.now e.0 e.1) h (Ok k)) (sym some) refl), refl)
 
-  modules_said : (es : List TextEntry) → AllByRecursion IsTold es → (h : History) (g : Group) → h.group ≡ Some g → Oks (module_commands es) h (modules_after h es)
+  modules_said : (es : List TextEntry) → AllByRecursion IsTold es → (h : History) (g : HistoryGroup) → h.group ≡ Some g → Oks (module_commands es) h (modules_after h es)
   modules_said [] t h g some = refl
   modules_said (e ∷ es) t h g some =
       let c : Contents = with_module h.now e.0 e.1 in
@@ -222,15 +222,15 @@ module _ (meaning : Meaning) (steps : ℕ) where
   begin_said : (h : History) → h.group ≡ None → ReplyTo meaning steps (text (codes "begin")) h (Ok (ok_with (record h { group = Some (record { begun = h.now; changed = false }) })))
   begin_said h none =
       let k : History = record h { group = Some (record { begun = h.now; changed = false }) } in
-      said (codes "begin") begin h (Ok (ok_with k)) refl (Ok k, subst (λ (o : Option Group). Holding (is_none o) InGroup (Leaves k) (Ok k)) (sym none) refl, refl)
+      said (codes "begin") begin h (Ok (ok_with k)) refl (Ok k, subst (λ (o : Option HistoryGroup). Holding (is_none o) Group (Leaves k) (Ok k)) (sym none) refl, refl)
 
-  commit_said : (h : History) (g : Group) → h.group ≡ Some g → Finds h.primitives h.now.modules None → ReplyTo meaning steps (text (codes "commit")) h (Ok (ok_with (committed g h)))
+  commit_said : (h : History) (g : HistoryGroup) → h.group ≡ Some g → Finds h.primitives h.now.modules None → ReplyTo meaning steps (text (codes "commit")) h (Ok (ok_with (committed g h)))
   commit_said h g some finds =
       let k : History = committed g h in
       let checked = gives h.primitives h.now.modules finds in
       said (codes "commit") commit h (Ok (ok_with k)) refl (
         Ok k,
-        subst (λ (o : Option Group). Passing (ok_or o NoGroup) (λ g. Given (Checks h.primitives h.now.modules) (λ p. Leaves (committed g h))) (Ok k)) (sym some) (Ok checked.0, checked.1, refl),
+        subst (λ (o : Option HistoryGroup). Passing (ok_or o NoGroup) (λ g. Given (Checks h.primitives h.now.modules) (λ p. Leaves (committed g h))) (Ok k)) (sym some) (Ok checked.0, checked.1, refl),
         refl,
       )
 
@@ -247,7 +247,7 @@ module _ (meaning : Meaning) (steps : ℕ) where
   group_said : (es : List TextEntry) → AllByRecursion IsTold es → (h : History) → h.group ≡ None → Finds h.primitives (inserted h.now.modules es) None → IsGrouped es h
   group_said [] t h none finds = record { last = h; oks = refl; now = refl }
   group_said (e ∷ es) t h none finds =
-      let g : Group = record { begun = h.now; changed = false } in
+      let g : HistoryGroup = record { begun = h.now; changed = false } in
       let begun : History = record h { group = Some g } in
       let left = has_modules (e ∷ es) begun g refl in
       let k : History = modules_after begun (e ∷ es) in

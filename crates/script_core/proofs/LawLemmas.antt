@@ -29,10 +29,10 @@ use Rattle.change_log.specs.Contents.{Contents, with_tree, without_tree, with_mo
 use Rattle.strategy_meaning.specs.Applied.{applied}
 use Rattle.session_core.specs.Applying.{Meaning, ReadsAsStrategy, resolved_in, world_in, given_by}
 use Rattle.session_core.specs.Modules.{Texts, ReadsBy, ReadsAsModule, AreRead, Finds, GivesProgram, Checks, refusal_of}
-use Rattle.session_core.specs.History.{Group, History, changed, undone, redone}
+use Rattle.session_core.specs.History.{HistoryGroup, History, changed, undone, redone}
 use Rattle.session_core.specs.Step.{Act, set_tree as set_tree_act, copy_tree, drop_tree as drop_tree_act, put as put_act, annotate as annotate_act, set_module as set_module_act, unload as unload_act, apply as apply_act, undo as undo_act, redo as redo_act, begin as begin_act, commit as commit_act, abandon as abandon_act, Outcome, Passing, Holding, Given, Leaves, ChangesTo, ChangesModules, PutsAt, AnnotatesAt, AppliesAt, Place, ComesTo, committed, tree_of, text_of, place_of}
 use Rattle.session_core.specs.declared.refusal.Refusal.{Refusal}
-use Rattle.session_core.specs.declared.refusal.Refusal.TheVariants.{Deep, Term, Syntax, Big, NoUndo, NoRedo, Group as InGroup, NoGroup}
+use Rattle.session_core.specs.declared.refusal.Refusal.TheVariants.{Deep, Term, Syntax, Big, NoUndo, NoRedo, Group, NoGroup}
 use Rattle.script_core.specs.Form.{Form, tree, copy, drop_tree, put, annotate, set_module, unload, apply, undo, redo, begin, commit, abandon, show, trees, modules, module_text, history, dump, command_of}
 use Rattle.script_core.specs.Handed.{Handed, text, long}
 use Rattle.script_core.specs.Machine.{ReadAs, Told, done, Reply, Replies, history_after}
@@ -155,7 +155,7 @@ module _ (one : OneModule) where
       let same : a.0 ≡ b.0 = same_fault a.0 b.0 (Finds-one primitives texts (Some a.0) (Some b.0) a.1 b.1) in
       ap Err (a.2 ∙ ap refusal_of same ∙ sym b.2)
 
-  ChangesModules-one : (o : Option Group) (c : Contents) (h : History) (a b : Outcome) → ChangesModules o c h a → ChangesModules o c h b → a ≡ b
+  ChangesModules-one : (o : Option HistoryGroup) (c : Contents) (h : History) (a b : Outcome) → ChangesModules o c h a → ChangesModules o c h b → a ≡ b
   ChangesModules-one None c h a b p q = Given-one (Checks h.primitives c.modules) (λ program. ChangesTo c h) (Checks-one h.primitives c.modules) (λ program. Leaves-one (changed c h)) a b p q
   ChangesModules-one (Some g) c h a b p q = p ∙ sym q
 
@@ -176,11 +176,11 @@ module _ (one : OneModule) where
       (λ place. Given-one (ReadsAsStrategy x) (Checked place) (ReadsBy-one GivesStrategy strategies x)
       (λ s. Given-one (Checks h.primitives h.now.modules) (Resolves place s) (Checks-one h.primitives h.now.modules)
       (λ program. Passing-one (resolved_in program h.primitives s) (AppliesAt meaning name path n h place program) (AppliesAt-one meaning name path n h place program))))
-  ComesTo-one strategies (undo_act k) h = Holding-one (is_none h.group) InGroup (Passing (ok_or (undone k h) NoUndo) Leaves) (Passing-one (ok_or (undone k h) NoUndo) Leaves Leaves-one)
-  ComesTo-one strategies (redo_act k) h = Holding-one (is_none h.group) InGroup (Passing (ok_or (redone k h) NoRedo) Leaves) (Passing-one (ok_or (redone k h) NoRedo) Leaves Leaves-one)
+  ComesTo-one strategies (undo_act k) h = Holding-one (is_none h.group) Group (Passing (ok_or (undone k h) NoUndo) Leaves) (Passing-one (ok_or (undone k h) NoUndo) Leaves Leaves-one)
+  ComesTo-one strategies (redo_act k) h = Holding-one (is_none h.group) Group (Passing (ok_or (redone k h) NoRedo) Leaves) (Passing-one (ok_or (redone k h) NoRedo) Leaves Leaves-one)
   ComesTo-one strategies begin_act h =
       let begun : History = record h { group = Some (record { begun = h.now; changed = false }) } in
-      Holding-one (is_none h.group) InGroup (Leaves begun) (Leaves-one begun)
+      Holding-one (is_none h.group) Group (Leaves begun) (Leaves-one begun)
   ComesTo-one strategies commit_act h =
       Passing-one (ok_or h.group NoGroup) (λ g. Given (Checks h.primitives h.now.modules) (λ program. Leaves (committed g h)))
       (λ g. Given-one (Checks h.primitives h.now.modules) (λ program. Leaves (committed g h)) (Checks-one h.primitives h.now.modules) (λ program. Leaves-one (committed g h)))

@@ -12,13 +12,13 @@ use Rattle.change_log.specs.Contents.{Contents, with_tree, without_tree}
 use Rattle.change_log.specs.Slots.{Store, AreApart, contents, content, named, slot_of}
 use Rattle.change_log.specs.Entries.{Entry, slot_tree, subterm, subterm_annotations, subterm_in, before, put}
 use Rattle.change_log.proofs.ContentsLemmas.{tree_put, tree_taken, tree_of_name, subterm_put, annotations_put}
-use Rattle.session_core.specs.History.{Group, History, changed, HasSoundContents}
+use Rattle.session_core.specs.History.{HistoryGroup, History, changed, HasSoundContents}
 use Rattle.session_core.specs.Step.{Act, set_tree, copy_tree, drop_tree, put as put_act, annotate, Outcome, Passing, Holding, Leaves, ChangesTo, PutsAt, AnnotatesAt, Place, ComesTo, committed, place_of, tree_of}
 use Rattle.session_core.specs.Modules.{Texts, IsKept}
 use Rattle.session_core.specs.Unfolded.{unfolded, IsPlaceOf}
 use Rattle.session_core.specs.declared.timeline.Timeline.{Timeline}
 use Rattle.session_core.specs.declared.refusal.Refusal.{Refusal}
-use Rattle.session_core.specs.declared.refusal.Refusal.TheVariants.{Memory, NoTree, Path, Big, Group as InGroup, NoGroup}
+use Rattle.session_core.specs.declared.refusal.Refusal.TheVariants.{Memory, NoTree, Path, Big, Group, NoGroup}
 use Rattle.session_core.proofs.StepLemmas.{place_there, place_missing, place_none, passed, held, missed, stopped}
 use Rattle.session_core.proofs.SoundLemmas.{StandsOn, act_sound, step_sound, LeavesModules, step_leaves, committed_leaves}
 
@@ -105,10 +105,10 @@ module _ (ps : List Signature) (old new : Timeline) (kept : Option Program) wher
   kept_said act (Err e) leaves ok err k = kept_same err k
 
   -- and where a group was closed
-  pub kept_closed : (group : Group) → (unfolded ps old).group ≡ Some group → IsSomeAnd (unfolded ps old).group (λ g. unfolded ps new ≡ committed g (unfolded ps old))
+  pub kept_closed : (group : HistoryGroup) → (unfolded ps old).group ≡ Some group → IsSomeAnd (unfolded ps old).group (λ g. unfolded ps new ≡ committed g (unfolded ps old))
       → IsKept ps (contents old.store).modules kept → IsKept ps (contents new.store).modules kept
   kept_closed group there closes k =
-      let left : unfolded ps new ≡ committed group (unfolded ps old) = subst (λ (o : Option Group). IsSomeAnd o (λ g. unfolded ps new ≡ committed g (unfolded ps old))) there closes in
+      let left : unfolded ps new ≡ committed group (unfolded ps old) = subst (λ (o : Option HistoryGroup). IsSomeAnd o (λ g. unfolded ps new ≡ committed g (unfolded ps old))) there closes in
       let same : (unfolded ps new).now ≡ (unfolded ps old).now = ap (λ (h : History). h.now) left ∙ committed_leaves group (unfolded ps old) in
       subst (λ (c : Contents). IsKept ps c.modules kept) (sym same) k
 
@@ -279,19 +279,19 @@ some_isnt_none (Some x) h = refl
 
 -- an act that needs an end of the group, and one that needs a group
 module _ (h : History) (Next : Outcome → Type 0) where
-  pub outside : (outcome : Outcome) → h.group ≡ None → Next outcome → Holding (is_none h.group) InGroup Next outcome
-  outside outcome closed p = held (is_none h.group) InGroup Next outcome (ap is_none closed) p
+  pub outside : (outcome : Outcome) → h.group ≡ None → Next outcome → Holding (is_none h.group) Group Next outcome
+  outside outcome closed p = held (is_none h.group) Group Next outcome (ap is_none closed) p
 
-  pub refused_inside : is_some h.group ≡ true → Holding (is_none h.group) InGroup Next (Err InGroup)
-  refused_inside there = missed (is_none h.group) InGroup Next (some_isnt_none h.group there)
+  pub refused_inside : is_some h.group ≡ true → Holding (is_none h.group) Group Next (Err Group)
+  refused_inside there = missed (is_none h.group) Group Next (some_isnt_none h.group there)
 
-pub refused_outside : (h : History) (next : Group → Outcome → Type 0) → h.group ≡ None → Passing (ok_or h.group NoGroup) next (Err NoGroup)
-refused_outside h next closed = stopped (ok_or h.group NoGroup) next NoGroup (ap (λ (o : Option Group). ok_or o NoGroup) closed)
+pub refused_outside : (h : History) (next : HistoryGroup → Outcome → Type 0) → h.group ≡ None → Passing (ok_or h.group NoGroup) next (Err NoGroup)
+refused_outside h next closed = stopped (ok_or h.group NoGroup) next NoGroup (ap (λ (o : Option HistoryGroup). ok_or o NoGroup) closed)
 
 -- going so many places
 module _ (h : History) (o : Option History) (refusal : Refusal) where
   abbrev Goes : Outcome → Type 0
-  Goes = Holding (is_none h.group) InGroup (Passing (ok_or o refusal) Leaves)
+  Goes = Holding (is_none h.group) Group (Passing (ok_or o refusal) Leaves)
 
   pub goes_to : (g : History) → h.group ≡ None → o ≡ Some g → Goes (Ok g)
   goes_to g closed there =
@@ -301,5 +301,5 @@ module _ (h : History) (o : Option History) (refusal : Refusal) where
   goes_nowhere closed none =
       outside h (Passing (ok_or o refusal) Leaves) (Err refusal) closed (stopped (ok_or o refusal) Leaves refusal (ap (λ (o : Option History). ok_or o refusal) none))
 
-  pub goes_not : is_some h.group ≡ true → Goes (Err InGroup)
+  pub goes_not : is_some h.group ≡ true → Goes (Err Group)
   goes_not there = refused_inside h (Passing (ok_or o refusal) Leaves) there

@@ -22,7 +22,7 @@ use Rattle.prim_core.specs.Signature.{Signature}
 use Rattle.session_core.specs.Unfolded.{unfolded}
 use Rattle.session_core.specs.declared.timeline.Timeline.{Timeline}
 use Rattle.session_core.specs.declared.timeline.OpenGroup.{OpenGroup}
-use Rattle.session_core.specs.History.{Group, History, changed}
+use Rattle.session_core.specs.History.{HistoryGroup, History, changed}
 use Rattle.session_core.specs.Step.{set_module, unload, commit, Outcome, Given, Leaves, ChangesModules, ComesTo, committed, text_of}
 use Rattle.session_core.specs.Modules.{Texts, ReadsAsModule, AreReadable, AreRead, AreModules, GivesProgram, IsProgram, IsKept, Checks, IsUnread, AreRefused}
 use Rattle.session_core.specs.declared.refusal.Refusal.{Refusal}
@@ -117,13 +117,13 @@ module _ (texts : Texts) (name text : List ℕ) (is : finmap.get texts name ≡ 
 
 module _ (c : Contents) (h : History) where
   becomes_found : (g : History) (p : Program) → h.group ≡ None → GivesProgram h.primitives c.modules p → g ≡ changed c h → ChangesModules h.group c h (Ok g)
-  becomes_found g p outside gives is = subst (λ (o : Option Group). ChangesModules o c h (Ok g)) (sym outside) (Ok p, gives, ap Ok is)
+  becomes_found g p outside gives is = subst (λ (o : Option HistoryGroup). ChangesModules o c h (Ok g)) (sym outside) (Ok p, gives, ap Ok is)
 
   becomes_refused : (refusal : Refusal) → h.group ≡ None → Checks h.primitives c.modules (Err refusal) → ChangesModules h.group c h (Err refusal)
-  becomes_refused refusal outside checks = subst (λ (o : Option Group). ChangesModules o c h (Err refusal)) (sym outside) (Err refusal, checks, refl)
+  becomes_refused refusal outside checks = subst (λ (o : Option HistoryGroup). ChangesModules o c h (Err refusal)) (sym outside) (Err refusal, checks, refl)
 
-  becomes_inside : (g : History) (group : Group) → h.group ≡ Some group → g ≡ changed c h → ChangesModules h.group c h (Ok g)
-  becomes_inside g group inside is = subst (λ (o : Option Group). ChangesModules o c h (Ok g)) (sym inside) (ap Ok is)
+  becomes_inside : (g : History) (group : HistoryGroup) → h.group ≡ Some group → g ≡ changed c h → ChangesModules h.group c h (Ok g)
+  becomes_inside g group inside is = subst (λ (o : Option HistoryGroup). ChangesModules o c h (Ok g)) (sym inside) (ap Ok is)
 
 module _ (h : History) (name text : List ℕ) where
   abbrev with_text : Contents
@@ -150,7 +150,7 @@ module _ (h : History) (name text : List ℕ) where
       let m = given finds.modules finds.are in
       inr (set_read m.0 (Err refusal) m.1 (becomes_refused with_text h refusal outside (fault, finds, is)))
 
-  pub set_inside : (g : History) (group : Group) (m : Module) → h.group ≡ Some group → ReadsAsModule text (Ok m) → g ≡ changed with_text h → ComesTo (set_module name text) h (Ok g)
+  pub set_inside : (g : History) (group : HistoryGroup) (m : Module) → h.group ≡ Some group → ReadsAsModule text (Ok m) → g ≡ changed with_text h → ComesTo (set_module name text) h (Ok g)
   set_inside g group m inside reads is = set_read m (Ok g) reads (becomes_inside with_text h g group inside is)
 
   module _ (there : finmap.get h.now.modules name ≡ Some text) where
@@ -167,7 +167,7 @@ module _ (h : History) (name text : List ℕ) where
         absurd (none_unread (finmap.remove h.now.modules name) refusal (readable_without h.now.modules name readable) unread)
     unload_refused refusal outside readable (inr checks) = inr (unloads_by (Err refusal) (becomes_refused (without_module h.now name) h refusal outside checks))
 
-    pub unload_inside : (g : History) (group : Group) → h.group ≡ Some group → g ≡ changed (without_module h.now name) h → ComesTo (unload name) h (Ok g)
+    pub unload_inside : (g : History) (group : HistoryGroup) → h.group ≡ Some group → g ≡ changed (without_module h.now name) h → ComesTo (unload name) h (Ok g)
     unload_inside g group inside is = unloads_by (Ok g) (becomes_inside (without_module h.now name) h g group inside is)
 
 pub unload_none : (h : History) (name : List ℕ) → finmap.get h.now.modules name ≡ None → ComesTo (unload name) h (Err NoModule)
@@ -175,25 +175,25 @@ unload_none h name none =
     stopped (text_of h.now name) (λ text. ChangesModules h.group (without_module h.now name) h) NoModule (ap (λ (o : Option (List ℕ)). ok_or o NoModule) none)
 
 module _ (h : History) where
-  abbrev Closes : Group → Outcome → Type 0
+  abbrev Closes : HistoryGroup → Outcome → Type 0
   Closes g = Given (Checks h.primitives h.now.modules) (λ p. Leaves (committed g h))
 
-  commits_by : (group : Group) (outcome : Outcome) → h.group ≡ Some group → Closes group outcome → ComesTo commit h outcome
-  commits_by group outcome inside closes = passed (ok_or h.group NoGroup) Closes group outcome (ap (λ (o : Option Group). ok_or o NoGroup) inside) closes
+  commits_by : (group : HistoryGroup) (outcome : Outcome) → h.group ≡ Some group → Closes group outcome → ComesTo commit h outcome
+  commits_by group outcome inside closes = passed (ok_or h.group NoGroup) Closes group outcome (ap (λ (o : Option HistoryGroup). ok_or o NoGroup) inside) closes
 
-  pub commit_found : (group : Group) (g : History) (kept : Option Program) → h.group ≡ Some group → IsSomeAnd kept (IsProgram h.primitives h.now.modules) → IsSomeAnd h.group (λ k. g ≡ committed k h) → ComesTo commit h (Ok g)
+  pub commit_found : (group : HistoryGroup) (g : History) (kept : Option Program) → h.group ≡ Some group → IsSomeAnd kept (IsProgram h.primitives h.now.modules) → IsSomeAnd h.group (λ k. g ≡ committed k h) → ComesTo commit h (Ok g)
   commit_found group g None there is closes = absurd is
   commit_found group g (Some p) there is closes =
-      let left : g ≡ committed group h = subst (λ (o : Option Group). IsSomeAnd o (λ k. g ≡ committed k h)) there closes in
+      let left : g ≡ committed group h = subst (λ (o : Option HistoryGroup). IsSomeAnd o (λ k. g ≡ committed k h)) there closes in
       commits_by group (Ok g) there (Ok p, is.gives, ap Ok left)
 
-  pub commit_refused : (group : Group) (refusal : Refusal) → h.group ≡ Some group → AreReadable h.now.modules → AreRefused h.primitives h.now.modules refusal → (refusal ≡ Memory) ⊎ ComesTo commit h (Err refusal)
+  pub commit_refused : (group : HistoryGroup) (refusal : Refusal) → h.group ≡ Some group → AreReadable h.now.modules → AreRefused h.primitives h.now.modules refusal → (refusal ≡ Memory) ⊎ ComesTo commit h (Err refusal)
   commit_refused group refusal inside readable (inl (inl memory)) = inl memory
   commit_refused group refusal inside readable (inl (inr unread)) = absurd (none_unread h.now.modules refusal readable unread)
   commit_refused group refusal inside readable (inr checks) = inr (commits_by group (Err refusal) inside (Err refusal, checks, refl))
 
   pub commit_outside : h.group ≡ None → ComesTo commit h (Err NoGroup)
-  commit_outside none = stopped (ok_or h.group NoGroup) Closes NoGroup (ap (λ (o : Option Group). ok_or o NoGroup) none)
+  commit_outside none = stopped (ok_or h.group NoGroup) Closes NoGroup (ap (λ (o : Option HistoryGroup). ok_or o NoGroup) none)
 
 -- ---- the modules of names, one after another
 
@@ -213,10 +213,10 @@ read_all texts all ms before = subst (AreRead texts all) (append-nil ms) (before
 
 -- ---- an open group
 
-pub group_of : (t : Timeline) (ps : List Signature) → IsSome t.group → (g : Group) × ((unfolded ps t).group ≡ Some g)
+pub group_of : (t : Timeline) (ps : List Signature) → IsSome t.group → (g : HistoryGroup) × ((unfolded ps t).group ≡ Some g)
 group_of t ps h = by t.group h
   where
-    by : (o : Option OpenGroup) → IsSome o → (g : Group) × (option_map {U = Group} (λ g. record { begun = contents (before t.current t.store); changed = g.changed }) o ≡ Some g)
+    by : (o : Option OpenGroup) → IsSome o → (g : HistoryGroup) × (option_map {U = HistoryGroup} (λ g. record { begun = contents (before t.current t.store); changed = g.changed }) o ≡ Some g)
     by None h = absurd (cc)
     by (Some g) h = (record { begun = contents (before t.current t.store); changed = g.changed }, refl)
 

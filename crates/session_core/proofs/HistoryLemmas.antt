@@ -3,11 +3,11 @@ use Rattle.std.proofs.Common.{◌≡◌, ◌<◌, ℕ, zero, suc, List, [], ◌�
 use Rattle.std.specs.Option.{option_map_or}
 use Rattle.change_log.specs.Contents.{Contents}
 use Rattle.session_core.specs.Modules.{Checks}
-use Rattle.session_core.specs.History.{Group, History, stepped, newest, older, back_to, forward_to, step_back, step_forward, undone, redone}
+use Rattle.session_core.specs.History.{HistoryGroup, History, stepped, newest, older, back_to, forward_to, step_back, step_forward, undone, redone}
 use Rattle.session_core.specs.Step.{Outcome, Passing, Holding, Given, Leaves, ComesTo, committed, undo, redo}
 use Rattle.session_core.specs.Laws.{ChangeIsUndone, GroupIsUndone, RedoTakesUndoBack, UndoTakesRedoBack}
 use Rattle.session_core.specs.declared.refusal.Refusal.{Refusal}
-use Rattle.session_core.specs.declared.refusal.Refusal.TheVariants.{NoUndo, NoRedo, Group as InGroup, NoGroup}
+use Rattle.session_core.specs.declared.refusal.Refusal.TheVariants.{NoUndo, NoRedo, Group, NoGroup}
 use Rattle.session_core.proofs.StepLemmas.{same_Ok, passing_Ok, holding_Ok, given_Ok, passed, held, ok_or-Ok, none_of}
 
 -- ---- the last of a row
@@ -141,16 +141,16 @@ redone_group (suc k) h g e = by (step_forward h) refl (λ m. redone_group k m g)
 -- going so many places, which are there, outside a group
 module _ (h g : History) (o : Option History) (refusal : Refusal) where
   abbrev Goes : Outcome → Type 0
-  Goes = Holding (is_none h.group) InGroup (Passing (ok_or o refusal) Leaves)
+  Goes = Holding (is_none h.group) Group (Passing (ok_or o refusal) Leaves)
 
   pub goes : h.group ≡ None → o ≡ Some g → Goes (Ok g)
   goes outside there =
-      held (is_none h.group) InGroup (Passing (ok_or o refusal) Leaves) (Ok g) (ap is_none outside)
+      held (is_none h.group) Group (Passing (ok_or o refusal) Leaves) (Ok g) (ap is_none outside)
       (passed (ok_or o refusal) Leaves g (Ok g) (ap (λ (o : Option History). ok_or o refusal) there) refl)
 
   pub went : Goes (Ok g) → (h.group ≡ None) × (o ≡ Some g)
   went done =
-      let outside = holding_Ok (is_none h.group) InGroup (Passing (ok_or o refusal) Leaves) g done in
+      let outside = holding_Ok (is_none h.group) Group (Passing (ok_or o refusal) Leaves) g done in
       let there = passing_Ok (ok_or o refusal) Leaves g outside.1 in
       (none_of h.group outside.0, ok_or-Ok o refusal there.0 there.1 ∙ ap (λ (x : History). Some x) (sym (same_Ok there.0 g there.2)))
 
@@ -186,7 +186,7 @@ group_is_undone group h g is was done =
     let there = passing_Ok (ok_or h.group NoGroup) (λ group. Given (Checks h.primitives h.now.modules) (λ p. Leaves (committed group h))) g done in
     let checked = given_Ok (Checks h.primitives h.now.modules) (λ p. Leaves (committed there.0 h)) g there.2 in
     let same : there.0 ≡ group = same_group there.0 group (sym (ok_or-Ok h.group NoGroup there.0 there.1) ∙ is) in
-    let left : committed group h ≡ g = ap (λ (x : Group). committed x h) (sym same) ∙ sym (same_Ok (committed there.0 h) g checked.2) in
+    let left : committed group h ≡ g = ap (λ (x : HistoryGroup). committed x h) (sym same) ∙ sym (same_Ok (committed there.0 h) g checked.2) in
     let stepped_from : record (stepped group.begun (record h { group = None })) { now = h.now } ≡ g =
     ap (λ b. cond b (record (stepped group.begun h) { group = None }) (record h { group = None })) (sym was) ∙ left in
     let undone = step_is_undone group.begun h.now (record h { group = None }) refl g stepped_from in
@@ -195,5 +195,5 @@ group_is_undone group h g is was done =
       subst (λ (x : Contents). ComesTo (redo 1) (record h { now = group.begun; later = x ∷ []; group = None }) (Ok g)) now undone.1,
     )
   where
-    same_group : (a b : Group) → Some a ≡ Some b → a ≡ b
+    same_group : (a b : HistoryGroup) → Some a ≡ Some b → a ≡ b
     same_group a b e = cc

@@ -12,7 +12,7 @@ use Rattle.change_log.specs.Slots.{Slots, Store, contents, slot_of}
 use Rattle.change_log.specs.Entries.{Entry, HasPlace, put, found, before, after, flipped_back, flipped_forward, Fits}
 use Rattle.change_log.proofs.EntryLemmas.{before-append, pushed_fits, pushed_leads_back}
 use Rattle.change_log.proofs.FlipLemmas.{flipped_back_is_compact, flipped_forward_is_compact}
-use Rattle.session_core.specs.History.{Group, History, stepped, changed, back_to, forward_to, step_back, step_forward}
+use Rattle.session_core.specs.History.{HistoryGroup, History, stepped, changed, back_to, forward_to, step_back, step_forward}
 use Rattle.std.specs.Prelude.{IsSomeAnd}
 use Rattle.session_core.specs.Step.{committed}
 use Rattle.session_core.specs.Unfolded.{past_of, later_of, FitBack, FitForward, AllCompact, unfolded, IsCurrent, IsPlaced, AddsStep, AddsEntries}
@@ -367,8 +367,8 @@ some_group None h = absurd (cc)
 some_group (Some g) h = (g, refl)
 
 -- the group as the history has it
-group_seen : (o : Option OpenGroup) (g : OpenGroup) (c : Contents) → o ≡ Some g → option_map {U = Group} (λ g. record { begun = c; changed = g.changed }) o ≡ Some (record { begun = c; changed = g.changed })
-group_seen o g c e = ap (option_map {U = Group} (λ g. record { begun = c; changed = g.changed })) e
+group_seen : (o : Option OpenGroup) (g : OpenGroup) (c : Contents) → o ≡ Some g → option_map {U = HistoryGroup} (λ g. record { begun = c; changed = g.changed }) o ≡ Some (record { begun = c; changed = g.changed })
+group_seen o g c e = ap (option_map {U = HistoryGroup} (λ g. record { begun = c; changed = g.changed })) e
 
 flag_of : (o : Option OpenGroup) (g : OpenGroup) (b : Bool) → o ≡ Some g → b ≡ option_map_or (λ g. g.changed) o false → g.changed ≡ b
 flag_of o g b e h = sym (h ∙ ap (λ o. option_map_or (λ g. g.changed) o false) e)
@@ -390,7 +390,7 @@ module _ (t : Timeline) (changed : Bool) (there : IsSome t.group) (flag : change
 
   committing : (ps : List Signature) (g : History) → closing ps changed ≡ g → IsSomeAnd (unfolded ps t).group (λ k. g ≡ committed k (unfolded ps t))
   committing ps g e =
-      subst (λ (o : Option Group). IsSomeAnd o (λ k. g ≡ committed k (unfolded ps t))) (sym (group_seen t.group opened (contents (before t.current t.store)) is_open)) (sym (ap (closing ps) flagged ∙ e))
+      subst (λ (o : Option HistoryGroup). IsSomeAnd o (λ k. g ≡ committed k (unfolded ps t))) (sym (group_seen t.group opened (contents (before t.current t.store)) is_open)) (sym (ap (closing ps) flagged ∙ e))
 
   pub kept_placed : changed ≡ false → IsPlaced (record t { group = None })
   kept_placed none = record {

@@ -22,12 +22,12 @@ use Rattle.strategy_syntax.specs.Syntax.{Strategy}
 use Rattle.strategy_meaning.specs.Applied.{Outcome as Ending, gives, fails, stops, IfGiven, applied}
 use Rattle.strategy_meaning.specs.Laws.{AppliedKeepsHeights}
 use Rattle.session_core.specs.Modules.{Texts, ReadsAsModule, AreReadable, AreRead, Finds, GivesProgram, Checks}
-use Rattle.session_core.specs.History.{Group, History, stepped, changed, newest, older, back_to, forward_to, step_back, step_forward, undone, redone, AreLow, AreFormed, AreSound, IsSoundNow, HasSoundContents}
+use Rattle.session_core.specs.History.{HistoryGroup, History, stepped, changed, newest, older, back_to, forward_to, step_back, step_forward, undone, redone, AreLow, AreFormed, AreSound, IsSoundNow, HasSoundContents}
 use Rattle.session_core.specs.Step.{Act, set_tree, copy_tree, drop_tree, put, annotate, set_module, unload, apply, undo, redo, begin, commit, abandon, Passing, Leaves, ChangesTo, ChangesModules, Given, PutsAt, AnnotatesAt, AppliesAt, Place, Outcome, ComesTo, tree_of, text_of, place_of, committed}
 use Rattle.session_core.specs.Applying.{ReadsAsStrategy, resolved_in, world_in, given_by}
 use Rattle.session_core.specs.Laws.{ChangeIsToContents}
 use Rattle.session_core.specs.declared.refusal.Refusal.{Refusal}
-use Rattle.session_core.specs.declared.refusal.Refusal.TheVariants.{NoTree, Big, NoUndo, NoRedo, Group as InGroup, NoGroup}
+use Rattle.session_core.specs.declared.refusal.Refusal.TheVariants.{NoTree, Big, NoUndo, NoRedo, Group, NoGroup}
 use Rattle.session_core.proofs.MapLemmas.{no_keys}
 use Rattle.session_core.proofs.StepLemmas.{same_Ok, passing_Ok, holding_Ok, given_Ok, ok_or-Ok, none_of, place_tree}
 
@@ -159,20 +159,20 @@ module _ (P : Contents → Type 0) where
   All-newest c (d ∷ ds) h = All-newest d ds h.1
 
 -- the contents now are well formed, and outside a group they are sound
-pub formed_now : (ps : Primitives) (c : Contents) (o : Option Group) → IsSoundNow ps c o → AreFormed c
+pub formed_now : (ps : Primitives) (c : Contents) (o : Option HistoryGroup) → IsSoundNow ps c o → AreFormed c
 formed_now ps c None s = s.0
 formed_now ps c (Some g) s = s.0
 
 pub sound_outside : (h : History) → HasSoundContents h → h.group ≡ None → AreSound h.primitives h.now
 sound_outside h s closed = subst (IsSoundNow h.primitives h.now) closed s.1
 
-pub sound_begun : (h : History) (group : Group) → HasSoundContents h → h.group ≡ Some group → AreSound h.primitives group.begun
+pub sound_begun : (h : History) (group : HistoryGroup) → HasSoundContents h → h.group ≡ Some group → AreSound h.primitives group.begun
 sound_begun h group s e = (subst (IsSoundNow h.primitives h.now) e s.1).1
 
 pub sound_changed : (c : Contents) (h : History) → HasSoundContents h → AreFormed c → (h.group ≡ None → Finds h.primitives c.modules None) → HasSoundContents (changed c h)
 sound_changed c h s k f = by h.group refl s.1
   where
-    by : (o : Option Group) → h.group ≡ o → IsSoundNow h.primitives h.now o
+    by : (o : Option HistoryGroup) → h.group ≡ o → IsSoundNow h.primitives h.now o
         → HasSoundContents (option_map_or (λ g. record h { now = c; group = Some (record g { changed = true }) }) o (record (stepped h.now h) { now = c }))
     by None e n = (All-push (AreSound h.primitives) h.past h.now s.0 n, subst (IsSoundNow h.primitives c) (sym e) (k, f e), tt)
     by (Some group) e n = (s.0, (k, n.1, tt), s.2)
@@ -217,7 +217,7 @@ whole_redone (suc k) h g w e = by (step_forward h) refl (λ m. whole_redone k m 
 
 -- ---- acts
 
-pub sound_committed : (group : Group) (h : History) → HasSoundContents h → h.group ≡ Some group → Finds h.primitives h.now.modules None → HasSoundContents (committed group h)
+pub sound_committed : (group : HistoryGroup) (h : History) → HasSoundContents h → h.group ≡ Some group → Finds h.primitives h.now.modules None → HasSoundContents (committed group h)
 sound_committed group h s inside found = by group.changed
   where
     now : AreSound h.primitives h.now
@@ -230,7 +230,7 @@ sound_committed group h s inside found = by group.changed
 pub now_changed : (c : Contents) (h : History) → (changed c h).now ≡ c
 now_changed c h = by h.group
   where
-    by : (o : Option Group) → (option_map_or (λ g. record h { now = c; group = Some (record g { changed = true }) }) o (record (stepped h.now h) { now = c })).now ≡ c
+    by : (o : Option HistoryGroup) → (option_map_or (λ g. record h { now = c; group = Some (record g { changed = true }) }) o (record (stepped h.now h) { now = c })).now ≡ c
     by None = refl
     by (Some g) = refl
 
@@ -355,7 +355,7 @@ trees_leave act h g only done =
 
 -- ---- acts that change the modules
 
-modules_change : (o : Option Group) (c : Contents) (h g : History) → ChangesModules o c h (Ok g) → (g ≡ changed c h) × (o ≡ None → Finds h.primitives c.modules None)
+modules_change : (o : Option HistoryGroup) (c : Contents) (h g : History) → ChangesModules o c h (Ok g) → (g ≡ changed c h) × (o ≡ None → Finds h.primitives c.modules None)
 modules_change None c h g done =
     let checked = given_Ok (Checks h.primitives c.modules) (λ p. ChangesTo c h) g done in
     (same_Ok (changed c h) g checked.2, λ _. program_finds h.primitives c.modules checked.0 checked.1)
@@ -389,14 +389,14 @@ step_sound (unload name) h g stands s done =
     modules_sound (without_module h.now name) h g s (formed.0, readable_without h.now.modules name formed.1) there.2
 step_sound (apply meaning name path steps text) h g stands s done = trees_sound (apply meaning name path steps text) h g tt stands s done
 step_sound (undo k) h g stands s done =
-    let there = holding_Ok (is_none h.group) InGroup (Passing (ok_or (undone k h) NoUndo) Leaves) g done in
+    let there = holding_Ok (is_none h.group) Group (Passing (ok_or (undone k h) NoUndo) Leaves) g done in
     sound_whole g (whole_undone k h g (whole h s (none_of h.group there.0)) (moved h g (undone k h) NoUndo there.1))
 step_sound (redo k) h g stands s done =
-    let there = holding_Ok (is_none h.group) InGroup (Passing (ok_or (redone k h) NoRedo) Leaves) g done in
+    let there = holding_Ok (is_none h.group) Group (Passing (ok_or (redone k h) NoRedo) Leaves) g done in
     sound_whole g (whole_redone k h g (whole h s (none_of h.group there.0)) (moved h g (redone k h) NoRedo there.1))
 step_sound begin h g stands s done =
     let begun : History = record h { group = Some (record { begun = h.now; changed = false }) } in
-    let there = holding_Ok (is_none h.group) InGroup (Leaves begun) g done in
+    let there = holding_Ok (is_none h.group) Group (Leaves begun) g done in
     let now = sound_outside h s (none_of h.group there.0) in
     subst HasSoundContents (sym (same_Ok begun g there.1)) (s.0, (now.0, now, refl), s.2)
 step_sound commit h g stands s done =
@@ -463,12 +463,12 @@ step_leaves (undo k) h g leaves done = absurd leaves
 step_leaves (redo k) h g leaves done = absurd leaves
 step_leaves begin h g leaves done =
     let begun : History = record h { group = Some (record { begun = h.now; changed = false }) } in
-    ap (λ (x : History). x.now.modules) (same_Ok begun g (holding_Ok (is_none h.group) InGroup (Leaves begun) g done).1)
+    ap (λ (x : History). x.now.modules) (same_Ok begun g (holding_Ok (is_none h.group) Group (Leaves begun) g done).1)
 step_leaves commit h g leaves done = absurd leaves
 step_leaves abandon h g leaves done = absurd leaves
 
 -- and so does the end of a group
-pub committed_leaves : (group : Group) (h : History) → (committed group h).now ≡ h.now
+pub committed_leaves : (group : HistoryGroup) (h : History) → (committed group h).now ≡ h.now
 committed_leaves group h = by group.changed
   where
     by : (b : Bool) → (cond b (record (stepped group.begun h) { group = None }) (record h { group = None })).now ≡ h.now

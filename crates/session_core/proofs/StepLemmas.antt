@@ -4,7 +4,7 @@ use Rattle.std.specs.FinMap as finmap
 use Rattle.term_core.specs.Tree.{Tree}
 use Rattle.term_paths.specs.Paths.{at}
 use Rattle.change_log.specs.Contents.{Contents}
-use Rattle.session_core.specs.History.{Group, History}
+use Rattle.session_core.specs.History.{HistoryGroup, History}
 use Rattle.session_core.specs.Step.{Outcome, Passing, Holding, Given, Place, place_in, place_of}
 use Rattle.session_core.specs.declared.refusal.Refusal.{Refusal}
 use Rattle.session_core.specs.declared.refusal.Refusal.TheVariants.{NoTree, Path}
@@ -52,7 +52,7 @@ pub ok_or-Ok : {X : Type 0} (o : Option X) (r : Refusal) (x : X) → ◌≡◌ {
 ok_or-Ok None r x e = absurd (cc)
 ok_or-Ok (Some y) r x e = cc
 
-pub none_of : (o : Option Group) → is_none o ≡ true → o ≡ None
+pub none_of : (o : Option HistoryGroup) → is_none o ≡ true → o ≡ None
 none_of None e = refl
 none_of (Some g) e = absurd (cc)
 

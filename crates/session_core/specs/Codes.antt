@@ -5,21 +5,21 @@ use Rattle.std.specs.Coded.{Coded, code_by, coded×, coded_ℕ, coded_bool, code
 use Rattle.prim_core.specs.Signature.{Signature}
 use Rattle.change_log.specs.Contents.{Contents}
 use Rattle.change_log.specs.Codes.{contents_code}
-use Rattle.session_core.specs.History.{Group, History}
+use Rattle.session_core.specs.History.{HistoryGroup, History}
 
 abbrev pub signature_code : Coded Signature
 signature_code =
     code_by (List ℕ × ℕ) (coded× (coded_list coded_ℕ) coded_ℕ) (λ s. (s.name, s.arity))
     (λ p. record { name = p.0; arity = p.1 }) (λ _. refl)
 
-abbrev pub group_code : Coded Group
+abbrev pub group_code : Coded HistoryGroup
 group_code =
     code_by (Contents × Bool) (coded× contents_code coded_bool) (λ g. (g.begun, g.changed))
     (λ p. record { begun = p.0; changed = p.1 }) (λ _. refl)
 
 -- the past and the later contents, those now, the primitives, and the group
 abbrev Parts : Type 0
-Parts = ((List Contents × List Contents) × Contents) × (List Signature × Option Group)
+Parts = ((List Contents × List Contents) × Contents) × (List Signature × Option HistoryGroup)
 
 abbrev pub history_code : Coded History
 history_code =

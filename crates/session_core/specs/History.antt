@@ -15,7 +15,7 @@ use Rattle.strategy_check.specs.Faults.{Primitives}
 use Rattle.session_core.specs.Modules.{AreReadable, Finds}
 
 -- An open group: the contents where it began, and whether a change was accepted since.
-pub record Group : Type 0 where
+pub record HistoryGroup : Type 0 where
   pub begun : Contents
   pub changed : Bool
 
@@ -26,7 +26,7 @@ pub record History : Type 0 where
   pub past : List Contents
   pub now : Contents
   pub later : List Contents
-  pub group : Option Group
+  pub group : Option HistoryGroup
 
 -- a new session with these primitives
 abbrev pub empty_history : List Signature → History
@@ -99,7 +99,7 @@ AreSound primitives c = AreFormed c × Finds primitives c.modules None
 
 -- The contents now are sound outside a group. Inside one they are well formed, and those where it
 -- began are sound; these are still those now where nothing was changed.
-abbrev pub IsSoundNow : Primitives → Contents → Option Group → Type 0
+abbrev pub IsSoundNow : Primitives → Contents → Option HistoryGroup → Type 0
 IsSoundNow primitives c None = AreSound primitives c
 IsSoundNow primitives c (Some g) =
     AreFormed c × AreSound primitives g.begun × OnFalse g.changed (c ≡ g.begun)

@@ -1,7 +1,7 @@
 -- Undo and redo take each other back.
 use Rattle.std.specs.Prelude.{◌≡◌, ℕ, true, [], ◌∷◌, Some, None, Ok}
 use Rattle.change_log.specs.Contents.{Contents}
-use Rattle.session_core.specs.History.{Group, History, changed}
+use Rattle.session_core.specs.History.{HistoryGroup, History, changed}
 use Rattle.session_core.specs.Step.{Act, undo, redo, commit, ComesTo, IsChange}
 
 -- An accepted change gives some contents by a change.
@@ -18,7 +18,7 @@ ChangeIsUndone = (c : Contents) (h g : History) → g ≡ changed c h → h.grou
 
 -- And so after a group with a change was committed: undo gives the contents where it began.
 abbrev pub GroupIsUndone : Type 0
-GroupIsUndone = (group : Group) (h g : History) → h.group ≡ Some group → group.changed ≡ true
+GroupIsUndone = (group : HistoryGroup) (h g : History) → h.group ≡ Some group → group.changed ≡ true
     → ComesTo commit h (Ok g) →
     ComesTo (undo 1) g (Ok (record h { now = group.begun; later = h.now ∷ []; group = None }))
     × ComesTo (redo 1) (record h { now = group.begun; later = h.now ∷ []; group = None }) (Ok g)

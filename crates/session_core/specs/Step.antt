@@ -14,9 +14,9 @@ use Rattle.strategy_check.specs.Programs.{Program}
 use Rattle.strategy_meaning.specs.Applied.{applied}
 use Rattle.session_core.specs.Modules.{ReadsAsModule, Checks}
 use Rattle.session_core.specs.Applying.{Meaning, ReadsAsStrategy, resolved_in, world_in, given_by}
-use Rattle.session_core.specs.History.{Group, History, stepped, changed, undone, redone}
+use Rattle.session_core.specs.History.{HistoryGroup, History, stepped, changed, undone, redone}
 use Rattle.session_core.specs.declared.refusal.Refusal.{Refusal}
-use Rattle.session_core.specs.declared.refusal.Refusal.TheVariants.{NoTree, NoModule, Path, Big, NoUndo, NoRedo, Group as InGroup, NoGroup}
+use Rattle.session_core.specs.declared.refusal.Refusal.TheVariants.{NoTree, NoModule, Path, Big, NoUndo, NoRedo, Group, NoGroup}
 
 pub data Act : Type 0 where
   -- gives the label this tree
@@ -102,7 +102,7 @@ place_of c name path = place_in path (tree_of c name)
 
 -- Modules become those of these contents, by a change. Outside a group the checker has to find no fault
 -- in them.
-abbrev pub ChangesModules : Option Group → Contents → History → Outcome → Type 0
+abbrev pub ChangesModules : Option HistoryGroup → Contents → History → Outcome → Type 0
 ChangesModules None c h = Given (Checks h.primitives c.modules) (λ program. ChangesTo c h)
 ChangesModules (Some g) c h = ChangesTo c h
 
@@ -125,7 +125,7 @@ AppliesAt meaning name path steps h place program strategy =
     (λ tree. ChangesTo (with_tree h.now name tree) h)
 
 -- What an open group changed becomes one step, where something was changed in it.
-abbrev pub committed : Group → History → History
+abbrev pub committed : HistoryGroup → History → History
 committed g h =
     if g.changed then record (stepped g.begun h) { group = None } else record h { group = None }
 
@@ -150,11 +150,11 @@ ComesTo (apply meaning name path steps text) h =
     Given (Checks h.primitives h.now.modules) (λ program.
     Passing (resolved_in program h.primitives s) (AppliesAt meaning name path steps h place program))))
 ComesTo (undo k) h =
-    Holding (is_none h.group) InGroup (Passing (ok_or (undone k h) NoUndo) Leaves)
+    Holding (is_none h.group) Group (Passing (ok_or (undone k h) NoUndo) Leaves)
 ComesTo (redo k) h =
-    Holding (is_none h.group) InGroup (Passing (ok_or (redone k h) NoRedo) Leaves)
+    Holding (is_none h.group) Group (Passing (ok_or (redone k h) NoRedo) Leaves)
 ComesTo begin h =
-    Holding (is_none h.group) InGroup
+    Holding (is_none h.group) Group
     (Leaves (record h { group = Some (record { begun = h.now; changed = false }) }))
 ComesTo commit h =
     Passing (ok_or h.group NoGroup)
