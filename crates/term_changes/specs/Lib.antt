@@ -4,5 +4,6 @@ pub mod Standing
 pub mod Follows
 pub mod Putting
 pub mod Edits
+pub mod StepsView
 pub use Rattle.term_core.specs.Tree
 pub use Rattle.term_paths.specs.Paths

@@ -1,18 +1,40 @@
 //! Places that were replaced.
 
-ghost use Rattle.std.specs.Prelude.{◌≡◌, ◌++◌, OnOk, OnErr, [], ◌∷◌};
+ghost use Rattle.std.specs.Prelude.{◌≡◌, ◌++◌, OnOk, OnErr, [], ◌∷◌, IfOk};
 ghost use Rattle.change_log.specs.Entries.{put, found, before, after, flipped_forward, Fits, FitsForward};
 ghost use Rattle.term_changes.specs.Putting.{entry_at, entries_at};
+ghost use Rattle.term_changes.specs.StepsView.{steps_list};
 
 use change_log::{Entry, Log, Store};
+use std::alloc::Global;
 use std::marker::Model;
 use term_core::{NoMemory, Term};
 
 /// A place that was replaced: its path, and the term that stands there now.
 #[derive(Drop)]
 pub struct Replacement {
-    path: Vec<usize>,
+    path: Steps,
     term: Term,
+}
+
+/// The steps of a path, of which one or two lie in the replacement itself.
+#[derive(Drop)]
+enum Steps {
+    One([usize; 1]),
+    Two([usize; 2]),
+    Many(Vec<usize>),
+}
+
+impl Steps {
+    fn as_slice(&self) -> &[usize]
+        ensures { result.now ≡ steps_list self.now }
+    {
+        match self {
+            Steps::One(steps) => steps,
+            Steps::Two(steps) => steps,
+            Steps::Many(steps) => steps,
+        }
+    }
 }
 
 impl Model for Replacement {
@@ -23,14 +45,32 @@ impl Model for Replacement {
 
     ghost coded = { edit_code };
 
-    ghost view = { λ a. record { path = a.path.items; new = a.term } };
+    ghost use Rattle.term_changes.specs.StepsView.{steps_list};
+
+    ghost view = { λ a. record { path = steps_list a.path; new = a.term } };
 }
 
 impl Replacement {
     pub fn new(path: Vec<usize>, term: Term) -> Replacement
         ensures { result ≡ record { path = path.items; new = term } }
     {
-        Replacement { path, term }
+        Replacement {
+            path: Steps::Many(path),
+            term,
+        }
+    }
+
+    /// The same for a path that is borrowed. A path of one or two steps takes no memory.
+    #[inline(always)]
+    pub fn at(alloc: Global, path: &[usize], term: Term) -> Result<Replacement, NoMemory>
+        ensures { IfOk result (λ r. r ≡ record { path = path.now; new = term }) }
+    {
+        let path = match path.len() {
+            1 => Steps::One([path[0]]),
+            2 => Steps::Two([path[0], path[1]]),
+            _ => Steps::Many(Vec::from_slice(alloc, path)?),
+        };
+        Ok(Replacement { path, term })
     }
 }
 
@@ -77,5 +117,5 @@ fn put_one(
     ensures store_err { OnErr result (store.new ≡ store.old) }
 {
     let Replacement { path, term } = replacement;
-    log.push(store, Entry::subterm(slot, &path, term))
+    log.push(store, Entry::subterm(slot, path.as_slice(), term))
 }
