@@ -91,3 +91,8 @@ drop_behind (u ∷ us) vs (suc k) h =
 
 pub rest_of_behind : (us vs : List Tree) (t : Tree) (k : ℕ) → list_term (us ++ vs) ≡ t → length us ≤ k → list_term (drop (k - length us) vs) ≡ list_term (drop k (children t))
 rest_of_behind us vs t k e h = ap list_term (drop_behind us vs k h ∙ ap (drop k) (sym (list_children (us ++ vs) t (sym e))))
+
+-- one element in front of a list
+pub one_in_front : (us rest ch : List Tree) (v : Tree) → us ≡ rest ++ v ∷ [] → length us ≡ 1 → list_term (v ∷ ch) ≡ list_term (us ++ ch)
+one_in_front us [] ch v e h = ap (λ l. list_term (l ++ ch)) (sym e)
+one_in_front us (r ∷ rest) ch v e h = absurd (omega (arith, h, ap length e, length-append rest (v ∷ [])))

@@ -1,5 +1,5 @@
 -- Sizes and heights of parts.
-use Rattle.std.proofs.Common.{◌≡◌, ℕ, ◌+◌, ◌<◌, ◌≤◌, max, List, [], ◌∷◌, ◌++◌, length, drop, slice_get, Some, zero, suc, ap, subst, arith}
+use Rattle.std.proofs.Common.{◌≡◌, ℕ, ◌+◌, ◌<◌, ◌≤◌, max, List, [], ◌∷◌, ◌++◌, length, drop, slice_get, Some, zero, suc, refl, sym, ap, subst, arith}
 use Rattle.term_core.specs.Tree.{Tree, integer, branch, of_list, children, annotations, with_annotations, bare, list_term}
 use Rattle.term_core.specs.Size.{height, heights, size, sizes}
 use Rattle.term_core.proofs.TreeLemmas.{of_list-to_list, size_pos}
@@ -70,6 +70,20 @@ node_bounded t us ns b e f h =
     let k : max (heights (of_list us)) (heights (of_list ns)) + 1 ≡ height t =
     omega (arith, height_parts t, ap (λ l. heights (of_list l)) e, ap (λ l. heights (of_list l)) f) in
     covers_along _ _ _ _ b s k h
+
+pub nothing : (us : List Tree) → length us ≡ 0 → us ≡ []
+nothing [] e = refl
+nothing (u ∷ us) e = absurd (omega (arith, e))
+
+-- a node without annotations
+pub bare_bounded : (t : Tree) (us : List Tree) (b : Bounds) → us ≡ children t → length (annotations t) ≡ 0
+    → Covers (sizes (of_list us) + 1) (heights (of_list us) + 1) b → Bounded t b
+bare_bounded t us b e f h =
+    node_bounded t us [] b e (sym (nothing (annotations t) f)) (covers_along _ _ _ _ b (omega arith) (omega arith) h)
+
+-- a node without children and annotations
+pub leaf_bounded : (t : Tree) (b : Bounds) → length (children t) ≡ 0 → length (annotations t) ≡ 0 → Covers 1 1 b → Bounded t b
+leaf_bounded t b e f h = node_bounded t [] [] b (sym (nothing (children t) e)) (sym (nothing (annotations t) f)) h
 
 -- ---- the nodes that are made
 

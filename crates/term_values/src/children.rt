@@ -7,13 +7,27 @@ ghost use Rattle.term_values.specs.Bounded.{AllWithin};
 
 use crate::bounds::Bounds;
 use crate::elements::Elements;
-use crate::value::Value;
+use crate::value::{Form, Value};
 use std::alloc::Global;
-use term_core::NoMemory;
+use term_core::{NoMemory, Term};
 
 impl<'t> Value<'t> {
     /// Child `i`, counted from 0, or `None` where there are no more than `i`. It takes no memory.
     pub fn child(&self, i: usize) -> Result<Option<Value<'t>>, NoMemory>
+        ensures { IfOk result (λ child. child ≡ slice_get (children self.now) i) }
+    {
+        match &self.form {
+            Form::Original(term) => {
+                let term: &'t Term = *term;
+                Ok(original_at(term.children(), i, self.bounds_below(term.child_count())))
+            }
+            Form::Built(made) => shared_at(made.items.as_slice(), i),
+            _ => self.other_child(i),
+        }
+    }
+
+    // The same for any form.
+    fn other_child(&self, i: usize) -> Result<Option<Value<'t>>, NoMemory>
         ensures { IfOk result (λ child. child ≡ slice_get (children self.now) i) }
     {
         let within = self.child_bounds();
@@ -47,8 +61,39 @@ impl<'t> Value<'t> {
     fn child_bounds(&self) -> Bounds
         ensures { AllWithin (children self.now) result }
     {
-        self.bounds.less(self.child_count(), 1)
+        self.bounds_below(self.child_count())
     }
+
+    // The same where it is known how many children there are.
+    fn bounds_below(&self, count: usize) -> Bounds
+        requires { count ≡ length (children self.now) }
+        ensures { AllWithin (children self.now) result }
+    {
+        self.bounds.less(count, 1)
+    }
+}
+
+// Term `i`, counted from 0, of those that keep within these bounds.
+#[inline(always)]
+fn original_at<'t>(terms: &'t [Term], i: usize, within: Bounds) -> Option<Value<'t>>
+    requires { AllWithin terms.now within }
+    ensures { result ≡ slice_get terms.now i }
+{
+    if i >= terms.len() {
+        return None;
+    }
+    Some(Value::original_bounded(&terms[i], within))
+}
+
+// Another holder of value `i`.
+#[inline(always)]
+fn shared_at<'t>(values: &[Value<'t>], i: usize) -> Result<Option<Value<'t>>, NoMemory>
+    ensures { IfOk result (λ value. value ≡ slice_get values.now i) }
+{
+    if i >= values.len() {
+        return Ok(None);
+    }
+    Ok(Some(values[i].try_clone()?))
 }
 
 impl<'a, 't> Elements<'a, 't> {

@@ -1,7 +1,7 @@
 //! Walks over children and annotations, which take no memory and no holder.
 #![tactic(auto, using(crate::proofs::KindLemmas::node_parts))]
 
-ghost use Rattle.std.specs.Prelude.{◌≡◌, [], ◌∷◌, ◌++◌, ◌≤◌, ◌<◌, ◌↔◌, IsTrue, length, drop, map, IfOk, MatchOption, slice_get, Some, None};
+ghost use Rattle.std.specs.Prelude.{◌≡◌, [], ◌∷◌, ◌++◌, ◌≤◌, ◌<◌, ◌↔◌, IsTrue, length, drop, map, IfOk, IfSome, MatchOption, slice_get, Some, None};
 ghost use Rattle.term_core.specs.Tree.{children, annotations};
 ghost use Rattle.term_core.specs.Kind.{made_of};
 ghost use Rattle.term_changes.specs.Standing.{after, standing_tree};
@@ -83,12 +83,32 @@ impl<'a, 't> Seen<'a, 't> {
     pub(crate) fn notes(self) -> Elements<'a, 't>
         ensures { result ≡ annotations (seen_tree self.entry) }
     {
-        let run = match self {
+        Elements::alone(self.note_run())
+    }
+
+    /// The annotations, side by side.
+    pub(crate) fn note_run(self) -> Run<'a, 't>
+        ensures { run_list result ≡ annotations (seen_tree self.entry) }
+    {
+        match self {
             Seen::Term(term) => Run::Terms(term.annotations()),
             Seen::Value(value) => value.notes(),
             Seen::Part(part) => part.notes(),
-        };
-        Elements::alone(run)
+        }
+    }
+
+    /// The term where it is a subterm of the borrowed term.
+    pub(crate) fn term(self) -> Option<&'t Term>
+        ensures { IfSome result (λ term. term.now ≡ seen_tree self.entry) }
+    {
+        match self {
+            Seen::Term(term) => Some(term),
+            Seen::Value(value) => match &value.form {
+                Form::Original(term) => Some(*term),
+                _ => None,
+            },
+            Seen::Part(_) => None,
+        }
     }
 
     /// The bounds that are kept with the reference.
@@ -108,10 +128,7 @@ impl<'a, 't> Seen<'a, 't> {
         ensures { IfOk result (λ value. value ≡ seen_tree self.entry) }
     {
         match self {
-            Seen::Term(term) => Ok(Value {
-                form: Form::Original(term),
-                bounds: within,
-            }),
+            Seen::Term(term) => Ok(Value::original_bounded(term, within)),
             Seen::Value(value) => value.try_clone(),
             Seen::Part(part) => part.value(),
         }
@@ -203,7 +220,7 @@ impl<'a, 't> Run<'a, 't> {
         }
     }
 
-    fn is_empty(self) -> bool
+    pub(crate) fn is_empty(self) -> bool
         ensures { IsTrue result ↔ (run_list self.entry ≡ []) }
     {
         match self {

@@ -19,7 +19,7 @@ use term_core::{Kind, NoMemory, Term};
 pub(crate) const CHUNK: usize = 64;
 
 /// How many single elements follow one another before they are gathered into a chunk.
-const RUN: usize = 8;
+const RUN: usize = 63;
 
 impl<'t> Value<'t> {
     /// The list of the children without the first `skipped`, and without annotations.
@@ -56,13 +56,23 @@ impl<'t> Value<'t> {
         requires { length (children behind.now) + 1 < 2 ^ 64 }
         ensures { IfOk result (λ value. value ≡ list_term (first.entry ∷ children behind.now)) }
     {
-        let list = behind.rest(alloc, 0)?;
+        let list = behind.as_list(alloc)?;
         if list.run() < RUN {
             return link(alloc, first, list);
         }
         let mut front = Vec::with_capacity(alloc, RUN + 1)?;
         front.push(first)?;
         gathered(alloc, front, &list)
+    }
+
+    // The list of the children without annotations.
+    fn as_list(&self, alloc: Global) -> Result<Value<'t>, NoMemory>
+        ensures { IfOk result (λ value. value ≡ list_term (children self.now)) }
+    {
+        if let Form::Joined(_) = &self.form {
+            return self.try_clone();
+        }
+        self.rest(alloc, 0)
     }
 
     /// The list of these elements in front of the children of another value.
@@ -74,7 +84,10 @@ impl<'t> Value<'t> {
         requires { length front.items + length (children behind.now) < 2 ^ 64 }
         ensures { IfOk result (λ value. value ≡ list_term (front.entry.items ++ children behind.now)) }
     {
-        let list = behind.rest(alloc, 0)?;
+        if front.len() == 1 {
+            return join_one(alloc, front, behind);
+        }
+        let list = behind.as_list(alloc)?;
         if front.is_empty() {
             return Ok(list);
         }
@@ -147,6 +160,23 @@ fn joined_rest<'t>(alloc: Global, list: &Joined<'t>, skipped: usize) -> Result<V
     Ok(rest)
 }
 
+// The list of the only one of these elements in front of the children of another value.
+fn join_one<'t>(
+    alloc: Global,
+    front: Vec<Value<'t>>,
+    behind: &Value<'t>,
+) -> Result<Value<'t>, NoMemory>
+    requires one { length front.items ≡ 1 }
+    requires room { length (children behind.now) + 1 < 2 ^ 64 }
+    ensures { IfOk result (λ value. value ≡ list_term (front.entry.items ++ children behind.now)) }
+{
+    let mut left = front;
+    match left.pop() {
+        None => behind.as_list(alloc),
+        Some(first) => Value::cons(alloc, first, behind),
+    }
+}
+
 // The list of the values behind the first `skipped` in front of another list, in chunks.
 pub(crate) fn chunked<'t>(
     alloc: Global,
@@ -199,7 +229,8 @@ fn add_all<'t>(all: &mut Vec<Value<'t>>, values: &[Value<'t>]) -> Result<(), NoM
     ensures { OnOk result (all.new.items ≡ all.old.items ++ values.now) }
 {
     for value in values {
-        all.push(value.try_clone()?)?;
+        all.reserve(1)?;
+        all.push_reserved(value.try_clone()?);
     }
     Ok(())
 }
@@ -211,7 +242,21 @@ fn link<'t>(alloc: Global, first: Value<'t>, list: Value<'t>) -> Result<Value<'t
     ensures { IfOk result (λ value. value ≡ list_term (first.entry ∷ children list.entry)) }
 {
     let run = list.run().saturating_add(1);
-    joined(alloc, Items::One(Single { items: [first] }), list, run)
+    let bounds = first.bounds.before(list.bounds);
+    let count = list.child_count() + 1;
+    let joined = Rc::new(
+        alloc,
+        Joined {
+            front: Items::One(Single { items: [first] }),
+            behind: list,
+            count,
+            run,
+        },
+    )?;
+    Ok(Value {
+        form: Form::Joined(joined),
+        bounds,
+    })
 }
 
 // The list of these elements in front of those of another list.

@@ -10,7 +10,7 @@ ghost use Rattle.term_values.specs.Walk.{seen_tree};
 use crate::bounds::Bounds;
 use crate::elements::{Elements, Seen};
 use crate::value::Value;
-use term_core::MAX_SIZE;
+use term_core::{MAX_SIZE, Term};
 
 impl<'t> Value<'t> {
     /// Whether the bounds that are known tell that the value fits at the level. It looks at nothing
@@ -79,6 +79,9 @@ fn measured_within(seen: Seen<'_, '_>, left: &mut u64) -> Option<Bounds>
         *left -= size;
         return Some(known);
     }
+    if let Some(term) = seen.term() {
+        return term_measured(term, left);
+    }
     if *left == 0 {
         return None;
     }
@@ -98,6 +101,42 @@ fn all_measured(elements: Elements<'_, '_>, left: &mut u64) -> Option<Bounds>
     let mut all = Bounds::of_none();
     while let Some(seen) = rest.next() {
         let Some(bounds) = measured_within(seen, left) else {
+            return None;
+        };
+        all = all.and(bounds);
+    }
+    Some(all)
+}
+
+// The same for a term.
+#[cycle(term_measured)]
+fn term_measured(term: &Term, left: &mut u64) -> Option<Bounds>
+    ensures some { IfSome result (λ bounds. Measures term.now bounds
+        × (left.new + size_of term.now ≡ left.old)) }
+    ensures none { IfNone result (left.old < size_of term.now) }
+{
+    if *left == 0 {
+        return None;
+    }
+    *left -= 1;
+    let children = terms_measured(term.children(), left)?;
+    let notes = term.annotations();
+    if notes.is_empty() {
+        return Some(children.over());
+    }
+    let notes = terms_measured(notes, left)?;
+    Some(children.and(notes).over())
+}
+
+#[cycle(term_measured)]
+fn terms_measured(terms: &[Term], left: &mut u64) -> Option<Bounds>
+    ensures some { IfSome result (λ bounds. MeasuresAll terms.now bounds
+        × (left.new + sizes (of_list terms.now) ≡ left.old)) }
+    ensures none { IfNone result (left.old < sizes (of_list terms.now)) }
+{
+    let mut all = Bounds::of_none();
+    for i in 0..terms.len() {
+        let Some(bounds) = term_measured(&terms[i], left) else {
             return None;
         };
         all = all.and(bounds);

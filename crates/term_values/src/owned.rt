@@ -1,14 +1,14 @@
 //! Values made into terms of their own, and of other terms.
 #![tactic(auto, using(crate::proofs::KindLemmas::node_parts))]
 
-ghost use Rattle.std.specs.Prelude.{◌≡◌, List, IfOk};
+ghost use Rattle.std.specs.Prelude.{◌≡◌, [], List, IfOk};
 ghost use Rattle.term_core.specs.Tree.{Tree};
 ghost use Rattle.term_core.specs.Kind.{made_of};
 ghost use Rattle.term_values.specs.ValueView.{top_tree};
 ghost use Rattle.term_values.specs.Walk.{seen_tree};
 
 use crate::elements::{Elements, Seen};
-use crate::value::{Top, Value};
+use crate::value::{Form, Top, Value};
 use std::alloc::Global;
 use std::rc::Rc;
 use term_core::{Kind, NoMemory, Term};
@@ -68,12 +68,27 @@ fn own_top<'t>(alloc: Global, kind: Kind<'_>) -> Result<Top<'t>, NoMemory>
 fn owned(alloc: Global, seen: Seen<'_, '_>) -> Result<Term, NoMemory>
     ensures { IfOk result (λ term. term ≡ seen_tree seen.entry) }
 {
-    if let Seen::Term(term) = seen {
-        return term.try_clone();
+    match seen {
+        Seen::Term(term) => return term.try_clone(),
+        Seen::Value(value) => {
+            if let Form::Leaf(kind) = &value.form {
+                return node(alloc, *kind, Vec::new(alloc));
+            }
+            if let Form::Original(term) = &value.form {
+                let term: &Term = *term;
+                return term.try_clone();
+            }
+        }
+        Seen::Part(_) => (),
     }
     let children = all_owned(alloc, seen.elements())?;
-    let notes = all_owned(alloc, seen.notes())?;
-    node(alloc, seen.kind(), children, notes)
+    let bare = node(alloc, seen.kind(), children)?;
+    let notes = seen.note_run();
+    if notes.is_empty() {
+        return Ok(bare);
+    }
+    let notes = all_owned(alloc, Elements::alone(notes))?;
+    Ok(bare.with_annotations(notes))
 }
 
 #[cycle(owned)]
@@ -81,27 +96,22 @@ fn all_owned(alloc: Global, elements: Elements<'_, '_>) -> Result<Vec<Term>, NoM
     ensures { IfOk result (λ all. all.items ≡ elements.entry) }
 {
     let mut left = elements;
-    let mut all = Vec::new(alloc);
+    let mut all = Vec::with_capacity(alloc, left.room())?;
     while let Some(seen) = left.next() {
-        all.push(owned(alloc, seen)?)?;
+        all.reserve(1)?;
+        all.push_reserved(owned(alloc, seen)?);
     }
     Ok(all)
 }
 
-/// A term of this kind with these children and annotations.
-fn node(
-    alloc: Global,
-    kind: Kind<'_>,
-    children: Vec<Term>,
-    notes: Vec<Term>,
-) -> Result<Term, NoMemory>
-    ensures { IfOk result (λ term. term ≡ made_of kind.entry children.items notes.items) }
+/// A term of this kind with these children and no annotations.
+fn node(alloc: Global, kind: Kind<'_>, children: Vec<Term>) -> Result<Term, NoMemory>
+    ensures { IfOk result (λ term. term ≡ made_of kind.entry children.items []) }
 {
-    let bare = match kind {
-        Kind::Integer(value) => Term::integer(alloc, value),
-        Kind::Application(name) => Term::application(alloc, name.try_clone()?, children),
-        Kind::List => Term::list(alloc, children),
-        Kind::Tuple => Term::tuple(alloc, children),
-    };
-    Ok(bare.with_annotations(notes))
+    match kind {
+        Kind::Integer(value) => Ok(Term::integer(alloc, value)),
+        Kind::Application(name) => Ok(Term::application(alloc, name.try_clone()?, children)),
+        Kind::List => Ok(Term::list(alloc, children)),
+        Kind::Tuple => Ok(Term::tuple(alloc, children)),
+    }
 }

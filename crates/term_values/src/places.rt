@@ -9,7 +9,7 @@ ghost use Rattle.term_values.specs.ValueView.{parts_list};
 
 use crate::bounds::Bounds;
 use crate::part::{Changed, Part, PartForm, Parts};
-use crate::value::{Items, Pair, Single, Value};
+use crate::value::{Items, Pair, Single, Value, bounds_of};
 use std::alloc::Global;
 use std::rc::Rc;
 use term_core::{NoMemory, Term};
@@ -149,7 +149,7 @@ fn same<'t>(term: &'t Term, within: Bounds) -> Part<'t>
     ensures { result ≡ unchanged term.now }
 {
     Part {
-        form: PartForm::Same(term, within),
+        form: PartForm::Same(term, bounds_of(term, within)),
     }
 }
 

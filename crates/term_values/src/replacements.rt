@@ -43,7 +43,8 @@ impl<'t> Part<'t> {
             PartForm::Inside(changed, _) => changed.add_places(alloc, path, all),
             PartForm::New(value) => {
                 let term = value.to_term(alloc)?;
-                all.push(Replacement::new(Vec::from_slice(alloc, path)?, term))?;
+                all.reserve(1)?;
+                all.push_reserved(Replacement::at(alloc, path, term)?);
                 Ok(())
             }
         }

@@ -6,6 +6,7 @@ ghost use Rattle.std.specs.Prelude.{◌≡◌, ◌≤◌, List, [], length, IfOk
 ghost use Rattle.term_core.specs.Tree.{Tree, children, annotations};
 ghost use Rattle.term_core.specs.Kind.{made_of};
 ghost use Rattle.term_core.specs.Size.{height as height_of};
+ghost use Rattle.term_values.specs.Bounded.{Bounded};
 ghost use Rattle.term_values.specs.ValueView.{top_tree, form_tree, form_shape};
 
 use crate::bounds::Bounds;
@@ -132,10 +133,7 @@ impl<'t> Value<'t> {
     pub fn original(term: &'t Term) -> Value<'t>
         ensures { result ≡ term.now }
     {
-        Value {
-            form: Form::Original(term),
-            bounds: Bounds::unknown(),
-        }
+        Value::original_bounded(term, Bounds::unknown())
     }
 
     /// A subterm that is known to be at most so high.
@@ -146,6 +144,18 @@ impl<'t> Value<'t> {
         Value {
             form: Form::Original(term),
             bounds: Bounds::of_height(height),
+        }
+    }
+
+    /// A subterm of which these bounds are known.
+    #[inline(always)]
+    pub(crate) fn original_bounded(term: &'t Term, within: Bounds) -> Value<'t>
+        requires { Bounded term.now within }
+        ensures { result ≡ term.now }
+    {
+        Value {
+            form: Form::Original(term),
+            bounds: bounds_of(term, within),
         }
     }
 
@@ -208,6 +218,21 @@ impl<'t> Value<'t> {
             Form::Noted(noted) => noted.node.child_count(),
         }
     }
+}
+
+/// The bounds of a term that is known to keep within these. A term without parts tells its own.
+#[inline(always)]
+pub(crate) fn bounds_of(term: &Term, within: Bounds) -> Bounds
+    requires { Bounded term.now within }
+    ensures { Bounded term.now result }
+{
+    if !term.children().is_empty() {
+        return within;
+    }
+    if !term.annotations().is_empty() {
+        return within;
+    }
+    Bounds::of_leaf()
 }
 
 impl<'t> Top<'t> {

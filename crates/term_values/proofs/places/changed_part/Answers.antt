@@ -1,4 +1,4 @@
-use Rattle.std.proofs.Common.{List, map, ap, sym, ◌∙◌, subst}
+use Rattle.std.proofs.Common.{List, map, ap, sym, subst}
 use Rattle.term_core.specs.Tree.{Tree, of_list, annotations}
 use Rattle.term_core.specs.Size.{heights, sizes}
 use Rattle.term_changes.specs.Standing.{after, standing_tree}

@@ -1,5 +1,5 @@
 use Rattle.std.proofs.Common.{◌≡◌, take, map}
-use Rattle.term_changes.specs.Standing.{fresh, unchanged, standing_tree}
+use Rattle.term_changes.specs.Standing.{standing_tree}
 use Rattle.term_values.proofs.places.part_values.Given as goal
 
 abbrev pub invariant-loop-part : goal.invariant-loop-part

@@ -1,5 +1,4 @@
-use Rattle.std.proofs.Common.{◌≡◌, take, map}
-use Rattle.term_changes.specs.Standing.{fresh, unchanged, standing_tree}
+use Rattle.std.proofs.Common.{◌≡◌, take}
 use Rattle.term_values.proofs.places.share_parts.Given as goal
 
 abbrev pub invariant-loop-part : goal.invariant-loop-part

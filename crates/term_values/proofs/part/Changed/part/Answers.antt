@@ -1,4 +1,4 @@
-use Rattle.std.proofs.Common.{◌≡◌, List, IfOk, ap, ◌∙◌, subst}
+use Rattle.std.proofs.Common.{◌≡◌, List, IfOk, ◌∙◌, subst}
 use Rattle.std.specs.List.{slice_get}
 use Rattle.term_changes.specs.Standing.{Standing}
 use Rattle.term_values.specs.ValueView.{parts_list}
