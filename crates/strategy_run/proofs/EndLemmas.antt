@@ -7,7 +7,7 @@ use Rattle.strategy_syntax.specs.declared.resolved.Resolved.{Resolved}
 use Rattle.strategy_meaning.specs.Scopes.{Scope, inside, no_closures, numbers_from, with_variables}
 use Rattle.strategy_meaning.specs.Answer.{Answer}
 use Rattle.strategy_meaning.specs.Meaning.{World, run, run_whole}
-use Rattle.strategy_scopes.specs.Table.{nowhere, scopes, scope_at}
+use Rattle.strategy_scopes.specs.Table.{nowhere, scope_at}
 use Rattle.term_match.specs.Contents.{Contents}
 use Rattle.strategy_run.specs.Ends.{IsEmpty}
 use Rattle.strategy_run.specs.Turns.{HoldsIn, After}
@@ -22,21 +22,21 @@ use Rattle.strategy_run.proofs.LeadLemmas.{leads_nothing}
 use Rattle.strategy_run.proofs.OpenLemmas.{with_edits-none}
 use Rattle.strategy_run.proofs.ScopeLemmas.{one_more_there, one_more_is}
 
-pub starts : (W : World) (m : Machine) (D : Contents) (es : List Scope) (r : Resolved) (s : Bor ResolvedStrategy) (t : Tree) (n : ℕ) (p : Standing)
-    → IsEmpty m → D.bindings ≡ m.cells.bindings ++ replicate r.variables None → n ≡ length (scopes m.scopes)
-    → es ≡ scopes m.scopes ++ with_variables nowhere 0 r.variables ∷ [] → p ≡ unchanged t → s.now ≡ r.strategy
+pub starts : (W : World) (m : Machine) (D : Contents) (bs es : List Scope) (r : Resolved) (s : Bor ResolvedStrategy) (t : Tree) (n : ℕ) (p : Standing)
+    → IsEmpty m → D.bindings ≡ m.cells.bindings ++ replicate r.variables None → n ≡ length bs
+    → es ≡ bs ++ with_variables nowhere 0 r.variables ∷ [] → p ≡ unchanged t → s.now ≡ r.strategy
     → HoldsIn W (unchanged t) (run_whole W m.level r m.steps t)
     (record { cells = D; scopes = es; trail = m.trail; level = m.level; frames = reverse m.frames.items; steps = m.steps }) (Begin s n p)
-starts W m D es r s t n p k de ne ee pe se =
+starts W m D bs es r s t n p k de ne ee pe se =
     let E = inside (numbers_from 0 r.variables) no_closures in
-    let there = one_more_is (scopes m.scopes) es (with_variables nowhere 0 r.variables) ne ee in
+    let there = one_more_is bs es (with_variables nowhere 0 r.variables) ne ee in
     let B : D.bindings ≡ replicate r.variables None = de ∙ ap (λ x. x ++ replicate r.variables None) k.cells in
     let a = run W (scope_at es n) m.level s.now m.steps D.bindings (standing_tree p) in
     record {
       now = p;
       edits = [];
       shows = k.trail;
-      in_hand = (one_more_there (scopes m.scopes) es (with_variables nowhere 0 r.variables) ne ee, refl);
+      in_hand = (one_more_there bs es (with_variables nowhere 0 r.variables) ne ee, refl);
       opens = record {
         start = p;
         base = [];

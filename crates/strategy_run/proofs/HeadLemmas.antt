@@ -1,19 +1,18 @@
 -- Failures that the root of a term tells, form by form.
 use Rattle.std.proofs.Common.{◌≡◌, ℕ, ◌+◌, List, [], ◌∷◌, ◌++◌, length, map, replicate, refl, sym, ap, ◌∙◌, subst, arith, Some, None, false, Bor, slice_get}
 use Rattle.std.specs.declared.option.Option.{Option}
-use Rattle.std.specs.Prelude.{IfSome}
 use Rattle.term_core.specs.Tree.{Head, Tree}
 use Rattle.term_changes.specs.Standing.{Standing, standing_tree}
-use Rattle.strategy_syntax.specs.Resolved.{Place, no_places, ResolvedStrategy, seq, guard, test, scope, param, call, congruence, tail_congruence, ResolvedStrategies, resolved_list, resolveds_of, places_of}
+use Rattle.strategy_syntax.specs.Resolved.{Place, no_places, ResolvedStrategy, fail, matches, seq, guard, test, scope, param, call, congruence, tail_congruence, ResolvedStrategies, resolved_list, resolveds_of, places_of}
 use Rattle.strategy_syntax.proofs.ResolvedLemmas.{resolved_list-resolveds_of}
 use Rattle.strategy_syntax.specs.declared.resolved.Resolved.{Resolved}
-use Rattle.strategy_meaning.specs.Scopes.{Scope, inside, Closure, stands_for, with_variables, arguments, numbers_from}
+use Rattle.strategy_meaning.specs.Scopes.{Scope, inside, Closure, cells_in, stands_for, with_variables, arguments, numbers_from}
 use Rattle.strategy_meaning.specs.Matching.{Bindings, elements}
 use Rattle.strategy_meaning.specs.Answer.{Answer, failed, either, if_done, with_edits, and_then, done}
 use Rattle.strategy_meaning.specs.Meaning.{World, run, form, with_some, cut, is_over, is_list_from, enter}
 use Rattle.strategy_scopes.specs.Table.{scope_at, closure_of}
 use Rattle.strategy_scopes.specs.declared.scopes.Known.{Known}
-use Rattle.strategy_run.specs.Missing.{HasNames, FailsAhead}
+use Rattle.strategy_run.specs.Missing.{Misses, HasNames, FailsAhead}
 use Rattle.strategy_run.specs.Turns.{State, HoldsIn, FormIn}
 use Rattle.strategy_run.specs.Hands.{Begin}
 use Rattle.strategy_run.proofs.OpenLemmas.{opens_along}
@@ -26,6 +25,12 @@ module _ (ds : List Resolved) (known : List Scope) (n : Option ℕ) (t : Tree) w
       → ((W : World) → W.bodies ≡ ds → (E : Scope) → HasNames known n E → (l : ℕ) (B : Bindings) → form W (run W) E l s c B t ≡ failed d)
       → FailsAhead ds known n s b t d
   ahead s b c d e f = record { fails = λ W i E k l B. run_step W E l s b c B t e ∙ f W i E k l B }
+
+  pub fails_fail : (b c : ℕ) → b ≡ c + 1 → FailsAhead ds known n fail b t c
+  fails_fail b c e = ahead fail b c c e (λ W i E k l B. refl)
+
+  pub fails_match : (p : Place) (b c : ℕ) → b ≡ c + 1 → Misses p t → FailsAhead ds known n (matches p) b t c
+  fails_match p b c e m = ahead (matches p) b c c e (λ W i E k l B. ap (λ (o : Option Bindings). with_some o c (λ B1. done t B1 c [])) (m.never (cells_in E) B))
 
   pub fails_seq : (s1 s2 : ResolvedStrategy) (b c d : ℕ) → b ≡ c + 1 → FailsAhead ds known n s1 c t d → FailsAhead ds known n (seq s1 s2) b t d
   fails_seq s1 s2 b c d e h = ahead (seq s1 s2) b c d e (λ W i E k l B. ap (λ (a : Answer). and_then a (run W E l s2)) (h.fails W i E k l B))
@@ -84,17 +89,7 @@ take_other W sub whole S ds s1 s2 s3 n p c i f h = record {
       (λ b. run W (scope_at S.scopes n) S.level s3.now b S.cells.bindings (standing_tree p))) (f.fails W i (scope_at S.scopes n) (λ x. refl) S.level S.cells.bindings)) h.opens;
 }
 
--- ---- what is known of steps that are left, where it is known
-
-pub ahead_map : (ds : List Resolved) (known : List Scope) (n m : Option ℕ) (s r : ResolvedStrategy) (b c : ℕ) (t : Tree) (o : Option ℕ)
-    → ((d : ℕ) → FailsAhead ds known n s b t d → FailsAhead ds known m r c t d)
-    → IfSome o (λ d. FailsAhead ds known n s b t d) → IfSome o (λ d. FailsAhead ds known m r c t d)
-ahead_map ds known n m s r b c t None f h = tt
-ahead_map ds known n m s r b c t (Some d) f h = f d h
-
-pub ahead_form : (ds : List Resolved) (known : List Scope) (n : Option ℕ) (s r : ResolvedStrategy) (b : ℕ) (t : Tree) (o : Option ℕ) → s ≡ r
-    → IfSome o (λ d. FailsAhead ds known n r b t d) → IfSome o (λ d. FailsAhead ds known n s b t d)
-ahead_form ds known n s r b t o e h = subst (λ (x : ResolvedStrategy). IfSome o (λ d. FailsAhead ds known n x b t d)) (sym e) h
+-- ---- on the way inward
 
 pub ahead_is : (ds : List Resolved) (known : List Scope) (n : Option ℕ) (s r : ResolvedStrategy) (b : ℕ) (t : Tree) (d : ℕ) → s ≡ r
     → FailsAhead ds known n r b t d → FailsAhead ds known n s b t d

@@ -137,8 +137,15 @@ fn enter<'t>(
     ensures { IfOk result (λ inner. Enters m.old (resolveds_of strategies.entry.now) body.now scope m.new inner) }
 {
     let first = m.cells.count();
-    if m.arguments.len() == 0 && body.variables == 0 && m.scopes.hands_all_on(scope, strategies) {
-        return Ok(scope);
+    if m.arguments.len() == 0 && body.variables == 0 {
+        if strategies.is_empty() {
+            if let Some(nowhere) = m.scopes.nowhere() {
+                return Ok(nowhere);
+            }
+        }
+        if m.scopes.hands_all_on(scope, strategies) {
+            return Ok(scope);
+        }
     }
     let Some(count) = m.arguments.len().checked_add(body.variables) else {
         return Err(NoMemory);

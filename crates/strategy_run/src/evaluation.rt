@@ -86,6 +86,8 @@ pub(crate) fn run_to_end<'t, M: Meaning>(
     ensures { IfOk result (λ ended. Ends (unchanged term.entry.now) m.new ended
         (run_whole (world_of M.meaning host.now.definitions.now host.now.primitives.now) m.old.level strategy.entry.now m.old.steps term.entry.now)) }
 {
+    // whoever is called with nothing finds a scope with nothing
+    m.scopes.add_variables(None, 0, 0)?;
     m.cells.open_cells(strategy.variables)?;
     let scope = m.scopes.add_variables(None, 0, strategy.variables)?;
     let part = Part::original_within(term, MAX_HEIGHT - m.level);

@@ -33,69 +33,65 @@ pub(crate) fn left_by_failure<'t>(
     ensures less { IfSome result (λ left. left < steps) }
     ensures fails { IfSome result (λ left. FailsAhead definitions.entry.now (scopes_of scopes.now) scope strategy.entry.now steps (standing_tree part.now) left) }
 {
-    if most == 0 || steps == 0 {
-        return None;
-    }
-    let left = steps - 1;
-    let most = most - 1;
-    match strategy.form() {
-        Form::Fail => Some(left),
-        Form::Match(pattern) => {
-            if !misses(pattern, part) {
-                return None;
+    let mut strategy = strategy;
+    let mut scope = scope;
+    let mut left = steps;
+    let mut most = most;
+    'inward: loop {
+        if most == 0 || left == 0 {
+            return None;
+        }
+        most -= 1;
+        left -= 1;
+        match strategy.form() {
+            Form::Fail => return Some(left),
+            Form::Match(pattern) => {
+                if !misses(pattern, part) {
+                    return None;
+                }
+                return Some(left);
             }
-            Some(left)
-        }
-        Form::Congruence(head, strategies) => {
-            if is_over(head, strategies.len(), part) {
-                return None;
+            Form::Congruence(head, strategies) => {
+                if is_over(head, strategies.len(), part) {
+                    return None;
+                }
+                return Some(left);
             }
-            Some(left)
-        }
-        Form::TailCongruence(strategies, _) => {
-            if is_list_from(strategies.len(), part) {
-                return None;
+            Form::TailCongruence(strategies, _) => {
+                if is_list_from(strategies.len(), part) {
+                    return None;
+                }
+                return Some(left);
             }
-            Some(left)
-        }
-        Form::Seq(parts) => {
-            left_by_failure(definitions, scopes, &parts.0, scope, part, left, most)
-        }
-        Form::Guard(parts) => {
-            let between = left_by_failure(definitions, scopes, &parts.0, scope, part, left, most)?;
-            left_by_failure(definitions, scopes, &parts.2, scope, part, between, most)
-        }
-        Form::Test(inner) => left_by_failure(definitions, scopes, inner, scope, part, left, most),
-        Form::Scope(_, inner) => {
-            left_by_failure(definitions, scopes, inner, scope, part, left, most)
-        }
-        Form::Param(name) => {
-            let Some(inside) = scope else {
-                return None;
-            };
-            let Some(known) = scopes.named(inside, *name) else {
-                return None;
-            };
-            left_by_failure(
-                definitions,
-                scopes,
-                known.strategy,
-                Some(known.inside),
-                part,
-                left,
-                most,
-            )
-        }
-        Form::Call(definition, _, patterns) => {
-            if patterns.len() != 0 {
-                return None;
+            Form::Seq(parts) => strategy = &parts.0,
+            Form::Guard(parts) => {
+                left = left_by_failure(definitions, scopes, &parts.0, scope, part, left, most)?;
+                strategy = &parts.2;
             }
-            let Some(body) = definitions.get(*definition) else {
-                return None;
-            };
-            left_by_failure(definitions, scopes, &body.strategy, None, part, left, most)
+            Form::Test(inner) => strategy = inner,
+            Form::Scope(_, inner) => strategy = inner,
+            Form::Param(name) => {
+                let Some(inside) = scope else {
+                    return None;
+                };
+                let Some(known) = scopes.named(inside, *name) else {
+                    return None;
+                };
+                strategy = known.strategy;
+                scope = Some(known.inside);
+            }
+            Form::Call(definition, _, patterns) => {
+                if patterns.len() != 0 {
+                    return None;
+                }
+                let Some(body) = definitions.get(*definition) else {
+                    return None;
+                };
+                strategy = &body.strategy;
+                scope = None;
+            }
+            _ => return None,
         }
-        _ => None,
     }
 }
 

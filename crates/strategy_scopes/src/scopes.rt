@@ -4,7 +4,7 @@ ghost use Rattle.std.specs.Prelude.{◌≡◌, ◌≤◌, ◌<◌, ◌+◌, ◌�
 ghost use Rattle.strategy_meaning.specs.Scopes.{inside, cells_in, stands_for, with_variables, with_name, numbers_from, argument, arguments};
 ghost use Rattle.std.specs.Bool.{OnTrue};
 ghost use Rattle.strategy_syntax.specs.Resolved.{param, resolveds_of};
-ghost use Rattle.strategy_scopes.specs.Table.{scopes, scope_at, scope_from, with_addition, IsThere, Stands, Starts, closure_of};
+ghost use Rattle.strategy_scopes.specs.Table.{nowhere, scopes, scope_at, scope_from, with_addition, IsThere, Stands, Starts, closure_of};
 ghost use Rattle.strategy_scopes.specs.Entries.{AreNames, names_in, closure_count, addition_of, AddsFit, AddsRoom, added_cells, added_names};
 
 use std::alloc::Global;
@@ -152,6 +152,18 @@ impl<'t> Scopes<'t> {
             return false;
         }
         counts.names == strategies.len() && are_names(strategies)
+    }
+
+    /// A scope without variables and names, if the oldest one is so.
+    pub fn nowhere(&self) -> Option<usize>
+        ensures there { IfSome result (λ n. n < length (scopes self.now)) }
+        ensures empty { IfSome result (λ n. scope_at (scopes self.now) n ≡ nowhere) }
+    {
+        let oldest = self.entries.first()?;
+        match (oldest.outer, oldest.adds) {
+            (None, Adds::Variables(_, 0)) => Some(0),
+            _ => None,
+        }
     }
 
     // A scope without variables, whose names stand for strategies written in this scope; none where

@@ -23,7 +23,7 @@ returns c =
     let stays = stays_on mid.cells c.open_arguments.new.cells c.open_cells.new.self c.open_arguments.ensures.later c.open_arguments.ensures.stays c.open_cells.ensures.stays in
     record {
       there = c.in_ok-add_call.ensures.number;
-      scope = c.in_ok-add_call.ensures.ok ∙ (λ i. inside (numbers_from (c.count-first.ensures i) ((c.in-Some.ensures.1 ∙ ap (λ x. x + c.args.body.now.variables) (c.len-2.ensures ∙ m.arguments.ok.0)) i)) (arguments (r.same i) (resolveds_of c.args.strategies.now)));
+      scope = c.in_ok-add_call.ensures.ok ∙ (λ i. inside (numbers_from (c.count-first.ensures i) ((c.in-Some-checked_add.ensures.1 ∙ ap (λ x. x + c.args.body.now.variables) (c.len-2.ensures ∙ m.arguments.ok.0)) i)) (arguments (r.same i) (resolveds_of c.args.strategies.now)));
       cells = c.in_ok-open_cells.ensures.ok ∙ ap (λ x. x ++ replicate c.args.body.now.variables None)
           (c.in_ok-open_arguments.ensures.cells ∙ ap (λ us. mid.cells.bindings ++ map Some us) c.deref.ensures.value
           ∙ (λ i. (r.rest.0 i).bindings ++ map Some (r.rest.2 i).items));

@@ -5,7 +5,7 @@ use Rattle.strategy_run.specs.Turns.{world_of}
 use Rattle.strategy_run.proofs.evaluation.run_to_end.Goals as goal
 
 pub run-init : goal.run-init
-run-init g c = starts (world_of g.M.Meaning.meaning c.args.host.now.definitions.now c.args.host.now.primitives.now) c.args.m.now c.open_cells.new.self (scopes c.add_variables.new.self) c.args.strategy.now _ c.args.term.now c.in_ok-scope.scope c.original_within-part.result c.requires.empty c.in_ok-open_cells.ensures.ok c.in_ok-scope.ensures.number c.in_ok-scope.ensures.ok c.original_within-part.ensures refl
+run-init g c = starts (world_of g.M.Meaning.meaning c.args.host.now.definitions.now c.args.host.now.primitives.now) c.args.m.now c.open_cells.new.self (scopes c.add_variables.new.self) (scopes c.add_variables-2.new.self) c.args.strategy.now _ c.args.term.now c.in_ok-scope.scope c.original_within-part.result c.requires.empty c.in_ok-open_cells.ensures.ok c.in_ok-scope.ensures.number c.in_ok-scope.ensures.ok c.original_within-part.ensures refl
 
 pub run-preserved : goal.run-preserved
 run-preserved g c = after_is (world_of g.M.Meaning.meaning c.args.host.now.definitions.now c.args.host.now.primitives.now) _ _ c.turn.new.m c.in-On.is (c.in_ok-turned.ensures.ok.keeps _ _ c.run.invariant)
