@@ -3,13 +3,13 @@
 //! Bounds of sizes are kept with the terms in the cells. Only where they don't tell that the instance
 //! fits, its variables are measured, small terms first, and what is found stays in the cells.
 
-ghost use Rattle.std.specs.Prelude.{◌≡◌, List, [], ◌++◌, IfOk, is_some, option_map, option_and_then};
+ghost use Rattle.std.specs.Prelude.{◌≡◌, ℕ, List, [], ◌++◌, IfOk, IfSome, Some, is_some, option_map, option_and_then};
 ghost use Rattle.std.specs.Option.{option_copied};
 ghost use Rattle.term_core.specs.Kind.{made_of};
 ghost use Rattle.term_core.specs.Tree.{Tree, branch, of_list, none, children, list_term};
 ghost use Rattle.strategy_syntax.specs.Resolved.{places_of};
 ghost use Rattle.strategy_syntax.specs.Heads.{head_of};
-ghost use Rattle.strategy_meaning.specs.Matching.{build_place, build_places, bound_to, elements};
+ghost use Rattle.strategy_meaning.specs.Matching.{Bindings, build_place, build_places, bound_to, elements};
 ghost use Rattle.term_match.specs.Building.{Builds};
 
 use crate::cells::Cells;
@@ -48,6 +48,11 @@ impl<'t> Cells<'t> {
         ensures same { self.new ≡ self.old }
         ensures ok { IfOk result (λ built. Builds (build_place pattern.now (P.places places.now) self.old.bindings) level built) }
     {
+        if let Some(value) = constant(pattern) {
+            if value.surely_fits(level) {
+                return Ok(Built::Value(value));
+            }
+        }
         if !self.has_instance(places, pattern) {
             return Ok(Built::Nothing);
         }
@@ -304,6 +309,22 @@ impl<'t> Cells<'t> {
         if let Some(value) = &mut self.cells[i] {
             let _small = value.measure(limit);
         }
+    }
+}
+
+// The instance of a pattern without parts, whatever variables are bound to.
+fn constant<'t>(pattern: &'t Place) -> Option<Value<'t>>
+    ensures { IfSome result (λ value. (e : List ℕ) (B : Bindings) → build_place pattern.entry.now e B ≡ Some value) }
+{
+    match pattern.form() {
+        PlaceForm::Integer(number) => Some(Value::leaf(Kind::Integer(*number))),
+        PlaceForm::Compound(head, parts) => {
+            if !parts.is_empty() {
+                return None;
+            }
+            Some(Value::leaf(kind_of(head)))
+        }
+        _ => None,
     }
 }
 

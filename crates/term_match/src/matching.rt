@@ -134,11 +134,31 @@ impl<'t> Cells<'t> {
             let Some(child) = value.child(i)? else {
                 return Ok(false);
             };
-            if !self.match_part(alloc, places, &patterns[i], &child)? {
+            if !self.match_child(alloc, places, &patterns[i], child)? {
                 return Ok(false);
             }
         }
         Ok(true)
+    }
+
+    // The same as `match_part` for a value that is given away.
+    #[cycle(match_part)]
+    fn match_child<P: Places>(
+        &mut self,
+        alloc: Global,
+        places: &P,
+        pattern: &Place,
+        value: Value<'t>,
+    ) -> Result<bool, NoMemory>
+        ensures ok { IfOk result (λ yes. match_place pattern.now value.entry (P.places places.now) self.old.bindings
+            ≡ cond yes (Some self.new.bindings) None) }
+        ensures grows { Grows self.old self.new }
+    {
+        match pattern.form() {
+            PlaceForm::Wildcard => Ok(true),
+            PlaceForm::Variable(x) => self.bind_owned(places, *x, value),
+            _ => self.match_part(alloc, places, pattern, &value),
+        }
     }
 
     // Matches all annotations, one with each pattern.
@@ -187,6 +207,30 @@ impl<'t> Cells<'t> {
             return Ok(bound.equals(value));
         }
         self.fill(i, value.try_clone()?)?;
+        Ok(true)
+    }
+
+    // The same for a value that is given away.
+    fn bind_owned<P: Places>(
+        &mut self,
+        places: &P,
+        variable: usize,
+        value: Value<'t>,
+    ) -> Result<bool, NoMemory>
+        ensures ok { IfOk result (λ yes. bind (P.places places.now) variable value.entry self.old.bindings
+            ≡ cond yes (Some self.new.bindings) None) }
+        ensures grows { Grows self.old self.new }
+    {
+        let Some(i) = places.cell(variable) else {
+            return Ok(false);
+        };
+        if i >= self.cells.len() {
+            return Ok(false);
+        }
+        if let Some(bound) = self.get(i) {
+            return Ok(bound.equals(&value));
+        }
+        self.fill(i, value)?;
         Ok(true)
     }
 }

@@ -20,8 +20,8 @@ match_children-returns-in_default-clause-ok g t c =
     (slice_get_front us (length ps) c.loop-i.i within ∙ sym c.in_ok-child.ensures ∙ c.in_default.is)
     c.loop-i.invariant.matched
 
-pub match_children-match_part-requires : goal.match_children-match_part-requires
-match_children-match_part-requires g t c =
+pub match_children-match_child-requires : goal.match_children-match_child-requires
+match_children-match_child-requires g t c =
     let within : c.loop-i.i < length c.args.patterns.now = omega arith in
     let d = depth_read c.args.patterns.now c.loop-i.i c.index-patterns-i.result within c.index-patterns-i.is in search rules
 
@@ -31,9 +31,9 @@ match_children-returns-then-not-branch-clause-ok g t c =
     let us = children c.args.value.now in
     let within : c.loop-i.i < length ps = omega arith in
     matched_no ps (take (length ps) us) (g.P.Places.places c.args.places.now) _ c.loop-i.i c.loop-i.self.bindings _
-    c.index-patterns-i.result c.in-Some.child c.in_ok-match_part.field-0 within c.index-patterns-i.is
+    c.index-patterns-i.result c.in-Some.child c.in_ok-match_child.field-0 within c.index-patterns-i.is
     (slice_get_front us (length ps) c.loop-i.i within ∙ sym c.in_ok-child.ensures ∙ c.in-Some.is)
-    c.loop-i.invariant.matched c.in_ok-match_part.ensures.ok c.if-not-branch.true
+    c.loop-i.invariant.matched c.in_ok-match_child.ensures.ok c.if-not-branch.true
 
 pub match_children-loop-i-preserved : goal.match_children-loop-i-preserved
 match_children-loop-i-preserved g t c =
@@ -42,10 +42,10 @@ match_children-loop-i-preserved g t c =
     let within : c.loop-i.i < length ps = omega arith in
     record {
       matched = matched_next ps (take (length ps) us) (g.P.Places.places c.args.places.now) _ c.loop-i.i c.loop-i.self.bindings _
-          c.index-patterns-i.result c.in-Some.child c.in_ok-match_part.field-0 within c.index-patterns-i.is
+          c.index-patterns-i.result c.in-Some.child c.in_ok-match_child.field-0 within c.index-patterns-i.is
           (slice_get_front us (length ps) c.loop-i.i within ∙ sym c.in_ok-child.ensures ∙ c.in-Some.is)
-          c.loop-i.invariant.matched c.in_ok-match_part.ensures.ok c.if-not-branch.false;
-      grows = grows_then c.args.self.now c.loop-i.self c.match_part.new.self c.loop-i.invariant.grows c.in_ok-match_part.ensures.grows;
+          c.loop-i.invariant.matched c.in_ok-match_child.ensures.ok c.if-not-branch.false;
+      grows = grows_then c.args.self.now c.loop-i.self c.match_child.new.self c.loop-i.invariant.grows c.in_ok-match_child.ensures.grows;
     }
 
 pub match_notes-returns-then-annotation_count-patterns-clause-ok : goal.match_notes-returns-then-annotation_count-patterns-clause-ok

@@ -8,16 +8,19 @@ use Rattle.term_match.proofs.MatchLemmas.{matched_from}
 use Rattle.term_match.proofs.cells.Cells.+match_part.Given as goal
 
 abbrev pub decreases-match_part : goal.decreases-match_part
-decreases-match_part g l = 2 * place_depth l.pattern.now
+decreases-match_part g l = 3 * place_depth l.pattern.now
 
 abbrev pub decreases-match_rest : goal.decreases-match_rest
-decreases-match_rest g l = 2 * place_depth l.pattern.now + 1
+decreases-match_rest g l = 3 * place_depth l.pattern.now + 1
+
+abbrev pub decreases-match_child : goal.decreases-match_child
+decreases-match_child g l = 3 * place_depth l.pattern.now + 1
 
 abbrev pub decreases-match_children : goal.decreases-match_children
-decreases-match_children g l = 2 * places_depth (places_of l.patterns.now) + 1
+decreases-match_children g l = 3 * places_depth (places_of l.patterns.now) + 2
 
 abbrev pub decreases-match_notes : goal.decreases-match_notes
-decreases-match_notes g l = 2 * places_depth (places_of l.patterns.now) + 1
+decreases-match_notes g l = 3 * places_depth (places_of l.patterns.now) + 2
 
 abbrev pub invariant-match_children-loop-i : goal.invariant-match_children-loop-i
 invariant-match_children-loop-i g l = record {
