@@ -20,3 +20,4 @@ pub mod ArgumentLemmas
 pub mod ApplyLemmas
 pub mod HeadLemmas
 pub mod LengthLemmas
+pub mod RuleLemmas

@@ -62,7 +62,7 @@ fn take<'t, M: Meaning>(
         Form::Seq(parts) => take_seq(alloc, m, &parts.0, &parts.1, scope),
         Form::Guard(parts) => take_guard(host, m, &parts.0, &parts.1, &parts.2, scope),
         Form::Test(inner) => take_test(m, inner, scope),
-        Form::Scope(count, inner) => take_scope(m, *count, inner, scope),
+        Form::Scope(count, inner) => take_scope(alloc, m, *count, inner, scope),
         Form::Param(name) => Ok(take_param(m, *name, scope)),
         Form::Call(definition, strategies, patterns) => {
             take_call(alloc, host, m, *definition, strategies, patterns, scope)
@@ -70,6 +70,10 @@ fn take<'t, M: Meaning>(
         Form::Congruence(head, strategies) => take_congruence(alloc, m, head, strategies, scope),
         Form::TailCongruence(strategies, tail) => take_tail(alloc, m, strategies, tail, scope),
         Form::All(inner) => {
+            if m.part.child_count() == 0 {
+                m.next = Next::Done;
+                return Ok(Turned::On);
+            }
             m.parts = Vec::new(alloc);
             m.next = Next::Each(Acts::Same(inner), scope, 0);
             Ok(Turned::On)

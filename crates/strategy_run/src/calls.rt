@@ -12,15 +12,17 @@ use crate::endings::{end_cells, end_scopes};
 use crate::forms::replace;
 use crate::frames::{Next, Turned};
 use crate::machine::{Host, Machine};
+use crate::rules::take_rule;
 use prim_core::Meaning;
 use std::alloc::Global;
 use strategy_scopes::Known;
-use strategy_syntax::{Place, Resolved, ResolvedStrategy};
+use strategy_syntax::{Place, Resolved, ResolvedForm as Form, ResolvedStrategy};
 use term_core::{NoMemory, Term};
 use term_values::Value;
 
-/// So many new variables in a strategy.
+/// So many new variables in a strategy. Where that is a rule, it is done at once.
 pub(crate) fn take_scope<'t>(
+    alloc: Global,
     m: &mut Machine<'t>,
     count: usize,
     strategy: &'t ResolvedStrategy,
@@ -30,6 +32,13 @@ pub(crate) fn take_scope<'t>(
     ensures ok { (W : World) → IfOk result (λ next. Takes W m.old (scope_form count strategy.entry.now) scope m.old.part m.new next) }
     ensures less { IfOk result (λ next. TakeFalls m.old m.new next) }
 {
+    if let Form::Seq(parts) = strategy.form() {
+        if let Form::Match(left) = parts.0.form() {
+            if let Form::Build(right) = parts.1.form() {
+                return take_rule(alloc, m, count, left, right, scope);
+            }
+        }
+    }
     let first = m.cells.count();
     if first.checked_add(count).is_none() {
         return Err(NoMemory);

@@ -14,6 +14,7 @@ mod frames;
 mod give;
 mod heads;
 mod machine;
+mod rules;
 mod tails;
 mod trail;
 

@@ -44,8 +44,8 @@ returns-in-Congruence-clause-ok g c = taken_form (world_of g.M.Meaning.meaning c
 pub returns-in-TailCongruence-clause-ok : goal.returns-in-TailCongruence-clause-ok
 returns-in-TailCongruence-clause-ok g c = taken_form (world_of g.M.Meaning.meaning c.args.host.now.definitions.now c.args.host.now.primitives.now) c.args.m.now c.take_tail.new.m c.args.strategy.now _ c.args.scope c.args.m.now.part c.take_tail.result ((c.form.ensures ∙ ap resolved_of c.in-TailCongruence.is ∙ (λ i. tail_congruence (resolveds_of (sym c.deref-in-TailCongruence.ensures.value i)) (sym c.deref-in-TailCongruence-2.ensures i)))) (c.take_tail.ensures.ok (world_of g.M.Meaning.meaning c.args.host.now.definitions.now c.args.host.now.primitives.now))
 
-pub returns-in-All-clause-ok : goal.returns-in-All-clause-ok
-returns-in-All-clause-ok g c = taken_turn (world_of g.M.Meaning.meaning c.args.host.now.definitions.now c.args.host.now.primitives.now) c.args.m.now c.args.strategy.now _ c.args.scope c.args.m.now.part _ ((c.form.ensures ∙ ap resolved_of c.in-All.is ∙ ap all (sym c.deref-in-All.ensures))) (λ sub whole h. take_each (world_of g.M.Meaning.meaning c.args.host.now.definitions.now c.args.host.now.primitives.now) sub whole (state_of c.args.m.now) _ (Same c.deref-in-All.result) c.args.scope 0 c.args.m.now.part c.new.result c.new.ensures.items (all_is (world_of g.M.Meaning.meaning c.args.host.now.definitions.now c.args.host.now.primitives.now) (state_of c.args.m.now) c.deref-in-All.result c.args.scope c.args.m.now.part) h)
+pub returns-else-child_count-eq0-clause-ok : goal.returns-else-child_count-eq0-clause-ok
+returns-else-child_count-eq0-clause-ok g c = taken_turn (world_of g.M.Meaning.meaning c.args.host.now.definitions.now c.args.host.now.primitives.now) c.args.m.now c.args.strategy.now _ c.args.scope c.args.m.now.part _ ((c.form.ensures ∙ ap resolved_of c.in-All.is ∙ ap all (sym c.deref-in-All.ensures))) (λ sub whole h. take_each (world_of g.M.Meaning.meaning c.args.host.now.definitions.now c.args.host.now.primitives.now) sub whole (state_of c.args.m.now) _ (Same c.deref-in-All.result) c.args.scope 0 c.args.m.now.part c.new.result c.new.ensures.items (all_is (world_of g.M.Meaning.meaning c.args.host.now.definitions.now c.args.host.now.primitives.now) (state_of c.args.m.now) c.deref-in-All.result c.args.scope c.args.m.now.part) h)
 
 pub returns-in-One-clause-ok : goal.returns-in-One-clause-ok
 returns-in-One-clause-ok g c = taken_turn (world_of g.M.Meaning.meaning c.args.host.now.definitions.now c.args.host.now.primitives.now) c.args.m.now c.args.strategy.now _ c.args.scope c.args.m.now.part _ ((c.form.ensures ∙ ap resolved_of c.in-One.is ∙ ap one (sym c.deref-in-One.ensures))) (λ sub whole h. take_leftmost (world_of g.M.Meaning.meaning c.args.host.now.definitions.now c.args.host.now.primitives.now) sub whole (state_of c.args.m.now) c.deref-in-One.result c.args.scope c.args.m.now.part h)
