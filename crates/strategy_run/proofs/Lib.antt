@@ -21,3 +21,4 @@ pub mod ApplyLemmas
 pub mod HeadLemmas
 pub mod LengthLemmas
 pub mod RuleLemmas
+pub mod TryLemmas

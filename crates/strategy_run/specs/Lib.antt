@@ -8,3 +8,4 @@ pub mod Ends
 pub mod Applies
 pub mod Endings
 pub mod Missing
+pub mod Tries

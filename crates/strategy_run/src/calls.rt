@@ -13,6 +13,7 @@ use crate::forms::replace;
 use crate::frames::{Next, Turned};
 use crate::machine::{Host, Machine};
 use crate::rules::take_rule;
+use crate::tries::{take_try, tried};
 use prim_core::Meaning;
 use std::alloc::Global;
 use strategy_scopes::Known;
@@ -90,7 +91,7 @@ pub(crate) fn take_param<'t>(m: &mut Machine<'t>, name: usize, scope: usize) -> 
     }
 }
 
-/// A call of a definition.
+/// A call of a definition. Where it tries a strategy, the choice begins at once.
 pub(crate) fn take_call<'t, M: Meaning>(
     alloc: Global,
     host: &Host<'t, M>,
@@ -105,6 +106,9 @@ pub(crate) fn take_call<'t, M: Meaning>(
         (call definition (resolveds_of strategies.entry.now) (places_of patterns.entry.now)) scope m.old.part m.new next) }
     ensures less { IfOk result (λ next. TakeFalls m.old m.new next) }
 {
+    if let Some(tried) = tried(host.definitions, definition, strategies, patterns) {
+        return take_try(host, m, tried, scope);
+    }
     let built = build_all(
         alloc,
         &mut m.cells,

@@ -132,6 +132,7 @@ fn match_first<'t>(
 
 /// A strategy after the first one, or in its place where that fails. Where it is told ahead that the first
 /// one fails, its steps are paid, and nothing waits for it.
+#[inline(always)]
 pub(crate) fn take_guard<'t, M: Meaning>(
     host: &Host<'t, M>,
     m: &mut Machine<'t>,

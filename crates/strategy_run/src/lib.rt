@@ -17,6 +17,7 @@ mod machine;
 mod rules;
 mod tails;
 mod trail;
+mod tries;
 
 pub use application::{Outcome, apply, apply_outermost, is_low_enough};
 pub use evaluation::{Evaluated, evaluate};
