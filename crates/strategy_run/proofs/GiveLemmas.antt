@@ -1,6 +1,7 @@
 -- What an answer leads to when it is given to the frame that waits.
-use Rattle.std.proofs.Common.{◌≡◌, ℕ, ◌+◌, List, [], ◌∷◌, ◌++◌, length, take, refl, sym, ap, ◌∙◌, subst, Some, None, Bool, true, cond, not, ◌==◌, Bor, Vec, Global, slice_set}
+use Rattle.std.proofs.Common.{◌≡◌, ℕ, suc, ◌+◌, ◌-◌, List, [], ◌∷◌, ◌++◌, length, take, refl, sym, ap, ◌∙◌, subst, arith, Some, None, Bool, true, cond, not, ◌==◌, Bor, Vec, Global, slice_set}
 use Rattle.std.proofs.lemmas.List.{append-nil}
+use Rattle.std.proofs.lemmas.Option.{slice_get_within}
 use Rattle.term_core.specs.Tree.{Tree, children}
 use Rattle.term_paths.specs.Edits.{Edits, behind}
 use Rattle.term_changes.specs.Standing.{Standing, fresh, standing_tree}
@@ -15,7 +16,7 @@ use Rattle.term_match.specs.Marks.{kept, mark_of, Before, Stays}
 use Rattle.term_match.specs.declared.cells.Mark.{Mark}
 use Rattle.strategy_run.specs.Leading.{Leads, Has, node_now, parts_now, all_parts, node_with, PartsStand}
 use Rattle.strategy_run.specs.Trails.{Shows, path_of}
-use Rattle.strategy_run.specs.Frames.{Opens, Meets, Inside, acts_list, walked, walk_parts, left_behind}
+use Rattle.strategy_run.specs.Frames.{Opens, Meets, Inside, StepsOn, GoesOn, with_acts, acts_list, walked, walk_parts, left_behind}
 use Rattle.strategy_run.specs.Turns.{State, HoldsIn, IsDone}
 use Rattle.strategy_run.specs.declared.trail.Trail.{Trail}
 use Rattle.strategy_run.specs.declared.frames.Acts.{Acts}
@@ -24,7 +25,8 @@ use Rattle.strategy_run.specs.declared.frames.Frame.{Frame}
 use Rattle.strategy_run.specs.declared.frames.Frame.TheVariants as frames
 use Rattle.strategy_run.specs.Hands.{Begin, Done, Failed, Each, Those}
 use Rattle.strategy_run.proofs.OpenLemmas.{with_edits-done, opens_along, opens_through, opens_on, opens_new, behind-nothing, stays_self, meets_kept, opens_kept}
-use Rattle.strategy_run.proofs.ChildLemmas.{Settled, settled_here, goes_up}
+use Rattle.strategy_run.proofs.NodeLeads.{part_count}
+use Rattle.strategy_run.proofs.ChildLemmas.{Settled, settled_here, goes_up, each_begins}
 use Rattle.strategy_run.proofs.TakeLemmas.{puts, some_is, none_is}
 
 abbrev pub st : Contents → List Scope → Trail → ℕ → ℕ → List Frame → State
@@ -106,6 +108,37 @@ give_each W sub whole C es t l c fs acts n i w p parts ie e h =
           (λ a. and_then a (each (run W (scope_at es n) (w.level + 1)) (acts_list acts (left_behind w)) (w.index + 1)))
           (each (run W (scope_at es n) (w.level + 1)) (acts_list acts (left_behind w)) (w.index + 1)) (λ u x. refl) k o.is.2;
     }
+
+-- the walk goes on in its frame
+pub steps_on : (W : World) (sub : Standing) (whole : Answer) (C : Contents) (es : List Scope) (t : Trail) (l c : ℕ) (fs : List Frame) (acts others : Acts) (n : ℕ) (w v : Walk) (s : Bor ResolvedStrategy) (p q : Standing)
+    → ((k : ℕ) → acts_list acts (suc k) ≡ s.now ∷ acts_list others k)
+    → StepsOn w p t.count v q
+    → HoldsIn W sub whole (st C es t l c (frames.Each acts n w ∷ fs)) (Done p) → HoldsIn W sub whole (st C es t l c (frames.Each others n v ∷ fs)) (Begin s n q)
+steps_on W sub whole C es t l c fs acts others n w v s p q a k h =
+    let up = give_each W sub whole C es t l c fs acts n v.index w p v.parts k.index k.parts h in
+    let many : ℕ = length (children (standing_tree w.node)) - v.index in
+    let left : many ≡ suc (many - 1) =
+    omega (arith, slice_get_within (parts_now w.node (all_parts w.node v.parts.items)) v.index q k.child, part_count w.node (all_parts w.node v.parts.items) up.in_hand.2) in
+    subst (λ (S : State). HoldsIn W sub whole S (Begin s n q))
+    (λ i. st C es t (sym h.opens.is.1.level i) c (frames.Each others n (record { node = sym k.node i; parts = v.parts; index = v.index; level = sym k.level i; edits = sym k.edits i }) ∷ fs))
+    (each_begins W sub whole (st C es t w.level c fs) acts others s n v.index many w.node q v.parts refl (ap (acts_list acts) left ∙ a (many - 1)) k.child up)
+
+-- so does the frame
+pub goes_on : (W : World) (sub : Standing) (whole : Answer) (C : Contents) (es : List Scope) (t : Trail) (l c : ℕ) (fs : List Frame) (f g : Frame) (s : Bor ResolvedStrategy) (n : ℕ) (p q : Standing)
+    → GoesOn f p t.count s n g q → HoldsIn W sub whole (st C es t l c (f ∷ fs)) (Done p) → HoldsIn W sub whole (st C es t l c (g ∷ fs)) (Begin s n q)
+goes_on W sub whole C es t l c fs (frames.Each acts m w) g s n p q (others, h, next, walks, is) x =
+    subst (λ (k : ℕ). HoldsIn W sub whole (st C es t l c (g ∷ fs)) (Begin s k q)) (sym next.0)
+    (subst (λ (y : Frame). HoldsIn W sub whole (st C es t l c (y ∷ fs)) (Begin s m q)) (sym (is ∙ ap (λ (y : Frame). with_acts y others) walks.1))
+    (steps_on W sub whole C es t l c fs acts others m w walks.0 s p q next.1 walks.2 x))
+goes_on W sub whole C es t l c fs (frames.Then r m) g s n p q k x = absurd k.2
+goes_on W sub whole C es t l c fs (frames.Choose r2 r3 m saved e mark) g s n p q k x = absurd k.2
+goes_on W sub whole C es t l c fs (frames.Restore saved e) g s n p q k x = absurd k.2
+goes_on W sub whole C es t l c fs (frames.Leftmost r m w mark) g s n p q k x = absurd k.2
+goes_on W sub whole C es t l c fs (frames.Those r m w mark any) g s n p q k x = absurd k.2
+goes_on W sub whole C es t l c fs (frames.Tail r m e) g s n p q k x = absurd k.2
+goes_on W sub whole C es t l c fs (frames.Rest node ps m e) g s n p q k x = absurd k.2
+goes_on W sub whole C es t l c fs (frames.Leave m) g s n p q k x = absurd k.2
+goes_on W sub whole C es t l c fs (frames.Cut m e) g s n p q k x = absurd k.2
 
 pub give_leftmost : (W : World) (sub : Standing) (whole : Answer) (C : Contents) (es : List Scope) (t : Trail) (l c : ℕ) (fs : List Frame) (s : Bor ResolvedStrategy) (n : ℕ) (w : Walk) (m : Mark) (p q : Standing) (parts : List Standing)
     → parts ≡ cond (not (t.count == w.edits)) (slice_set (parts_now w.node (walk_parts w)) w.index p) (walk_parts w)

@@ -22,3 +22,4 @@ pub mod HeadLemmas
 pub mod LengthLemmas
 pub mod RuleLemmas
 pub mod TryLemmas
+pub mod StepLemmas

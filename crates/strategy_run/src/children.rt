@@ -1,6 +1,6 @@
 //! Strategies over children.
 
-ghost use Rattle.std.specs.Prelude.{◌≡◌, ◌-◌, [], ◌∷◌, cond, MatchOption, IfOk, OnOk, slice_get, slice_set};
+ghost use Rattle.std.specs.Prelude.{◌≡◌, ℕ, suc, ◌-◌, [], ◌∷◌, cond, MatchOption, IfOk, IfSome, OnOk, slice_get, slice_set};
 ghost use Rattle.term_core.specs.Tree.{children};
 ghost use Rattle.term_changes.specs.Standing.{standing_tree, standing_children};
 ghost use Rattle.strategy_meaning.specs.Meaning.{World};
@@ -30,6 +30,22 @@ pub(crate) fn next_act<'t>(acts: Acts<'t>, left: usize) -> Option<(&'t ResolvedS
             }
             Some((strategy, Acts::Same(strategy)))
         }
+        Acts::List(strategies) => {
+            if strategies.is_empty() {
+                return None;
+            }
+            Some((&strategies[0], Acts::List(&strategies[1..])))
+        }
+    }
+}
+
+/// The strategy for the next child and those behind it, where a child is left.
+#[inline(always)]
+pub(crate) fn first_act<'t>(acts: Acts<'t>) -> Option<(&'t ResolvedStrategy, Acts<'t>)>
+    ensures { IfSome result (λ found. (k : ℕ) → acts_list acts.entry (suc k) ≡ found.0.now ∷ acts_list found.1 k) }
+{
+    match acts {
+        Acts::Same(strategy) => Some((strategy, Acts::Same(strategy))),
         Acts::List(strategies) => {
             if strategies.is_empty() {
                 return None;

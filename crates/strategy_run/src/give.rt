@@ -1,14 +1,15 @@
 //! Answers, given to what waits for them.
 
-ghost use Rattle.std.specs.Prelude.{◌≡◌, ◌≤◌, length, reverse, IfOk, IfSome, OnOk};
+ghost use Rattle.std.specs.Prelude.{◌≡◌, ◌≤◌, cond, length, reverse, IfOk, IfSome, MatchOption, OnOk};
 ghost use Rattle.strategy_meaning.specs.Answer.{Answer};
 ghost use Rattle.strategy_meaning.specs.Meaning.{World};
 ghost use Rattle.term_changes.specs.Standing.{Standing};
 ghost use Rattle.strategy_run.specs.Hands.{Done, Failed};
 ghost use Rattle.strategy_run.specs.Leading.{PartsStand, all_parts, node_with};
+ghost use Rattle.strategy_run.specs.Frames.{HasNext, StepsOn, WalksOn, GoesOn, with_acts};
 ghost use Rattle.strategy_run.specs.Turns.{Turn, Falls, Holds, Gives, IsOfRun, GiveFalls, EndFalls, ComesUp, Waits};
 
-use crate::children::{finish, settle};
+use crate::children::{child_now, finish, first_act, settle};
 use crate::forms::replace;
 use crate::frames::{Acts, Frame, Next, Turned, Walk, wait};
 use crate::machine::Machine;
@@ -26,9 +27,113 @@ pub(crate) fn give_done<'t>(alloc: Global, m: &mut Machine<'t>) -> Result<Turned
     ensures ok { (W : World) → IfOk result (λ next. Turn W m.old (Done m.old.part) m.new next) }
     ensures less { IfOk result (λ next. Falls m.old (Done m.old.part) m.new next) }
 {
+    if let Some(frame) = m.frames.last_mut() {
+        if let Some((strategy, scope)) = next_in(frame, &mut m.part, m.trail.count)? {
+            m.next = Next::Begin(strategy, scope);
+            return Ok(Turned::On);
+        }
+        return give_last(alloc, m);
+    }
+    Ok(Turned::Done)
+}
+
+// Gives it to the innermost frame, which is taken off.
+#[inline(always)]
+fn give_last<'t>(alloc: Global, m: &mut Machine<'t>) -> Result<Turned, NoMemory>
+    requires { (W : World) × (sub : Standing) × (whole : Answer) × Holds W sub whole m.old (Done m.old.part) }
+    ensures ok { (W : World) → IfOk result (λ next. Turn W m.old (Done m.old.part) m.new next) }
+    ensures less { IfOk result (λ next. Falls m.old (Done m.old.part) m.new next) }
+{
     match m.frames.pop() {
         None => Ok(Turned::Done),
         Some(frame) => give(alloc, m, frame),
+    }
+}
+
+// The next child's turn comes in the place of the one that is done, where the frame has strategies for children
+// and one is left; else all stays.
+#[inline(always)]
+fn next_in<'t>(
+    frame: &mut Frame<'t>,
+    part: &mut Part<'t>,
+    edits: usize,
+) -> Result<Option<(&'t ResolvedStrategy, usize)>, NoMemory>
+    ensures { IfOk result (λ next. MatchOption next
+        ((frame.new ≡ frame.old) × (part.new ≡ part.old))
+        (λ x. GoesOn frame.old part.old edits x.0 x.1 frame.new part.new)) }
+{
+    let Some((strategy, scope, others)) = next_of(frame) else {
+        return Ok(None);
+    };
+    if !walk_on(frame, part, edits)? {
+        return Ok(None);
+    }
+    set_acts(frame, others);
+    Ok(Some((strategy, scope)))
+}
+
+// The strategy for the child behind the one in hand, if there is one, its scope and the strategies behind it,
+// if the frame has one.
+#[inline(always)]
+fn next_of<'t>(frame: &Frame<'t>) -> Option<(&'t ResolvedStrategy, usize, Acts<'t>)>
+    ensures { IfSome result (λ x. HasNext frame.now x.0 x.1 x.2) }
+{
+    match frame {
+        Frame::Each(acts, scope, _) => {
+            let (strategy, others) = first_act(*acts)?;
+            Some((strategy, *scope, others))
+        }
+        _ => None,
+    }
+}
+
+// Whether the walk of the frame has a next child, which is in hand then in the place of the one that is done.
+#[inline(always)]
+fn walk_on<'t>(frame: &mut Frame<'t>, part: &mut Part<'t>, edits: usize) -> Result<bool, NoMemory>
+    ensures { IfOk result (λ yes. cond yes (WalksOn frame.old part.old edits frame.new part.new)
+        ((frame.new ≡ frame.old) × (part.new ≡ part.old))) }
+{
+    match frame {
+        Frame::Each(_, _, walk) => to_next(walk, part, edits),
+        _ => Ok(false),
+    }
+}
+
+#[inline(always)]
+fn to_next<'t>(walk: &mut Walk<'t>, part: &mut Part<'t>, edits: usize) -> Result<bool, NoMemory>
+    ensures { IfOk result (λ yes. cond yes (StepsOn walk.old part.old edits walk.new part.new)
+        ((walk.new ≡ walk.old) × (part.new ≡ part.old))) }
+{
+    let Some(index) = walk.index.checked_add(1) else {
+        return Err(NoMemory);
+    };
+    if index >= walk.node.child_count() {
+        return Ok(false);
+    }
+    let Some(child) = child_now(&walk.node, &walk.parts, index)? else {
+        return Ok(false);
+    };
+    let done = mem::replace(part, child);
+    settle(
+        &mut walk.parts,
+        &walk.node,
+        walk.index,
+        done,
+        edits != walk.edits,
+    )?;
+    walk.index = index;
+    walk.edits = edits;
+    Ok(true)
+}
+
+// Has these strategies for the children to come.
+#[inline(always)]
+fn set_acts<'t>(frame: &mut Frame<'t>, others: Acts<'t>)
+    ensures { frame.new ≡ with_acts frame.old others.entry }
+{
+    match frame {
+        Frame::Each(acts, _, _) => *acts = others,
+        _ => (),
     }
 }
 
