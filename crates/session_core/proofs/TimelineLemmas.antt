@@ -2,8 +2,8 @@
 use Rattle.std.proofs.Common.{◌≡◌, ℕ, zero, suc, ◌+◌, ◌<◌, ◌≤◌, List, [], ◌∷◌, ◌++◌, length, take, drop, set, slice_get, Some, refl, sym, ap, subst, ◌∙◌, arith}
 use Rattle.std.proofs.lemmas.List.{length-append, length-take, drop_all, take_all, take-set}
 use Rattle.change_log.specs.Slots.{Store, contents, with_tree_slot, with_module_slot}
-use Rattle.change_log.specs.Entries.{Entry, HasPlace, put, found, before, after, flipped_back, flipped_forward, Fits, FitsForward}
-use Rattle.change_log.proofs.EntryLemmas.{before-append, pushed_leads_back, store_from_after, store_from_before, flipped_back_fits, flipped_forward_fits, pushed_fits}
+use Rattle.change_log.specs.Entries.{Entry, HasPlace, before, after, flipped_back, flipped_forward, Fits, FitsForward}
+use Rattle.change_log.proofs.EntryLemmas.{before-append, store_from_after, store_from_before, flipped_back_fits, flipped_forward_fits}
 use Rattle.change_log.proofs.ContentsLemmas.{new_slots_are_empty, fits_with_more, fits_forward_with_more, fits_with_more_modules, fits_forward_with_more_modules}
 use Rattle.change_log.specs.Compact.{IsCompact}
 use Rattle.session_core.specs.Unfolded.{rewound, past_of, later_of, FitBack, FitForward, AllCompact}

@@ -1,4 +1,4 @@
-use Rattle.std.proofs.Common.{◌≡◌, ℕ, arith, refl, sym, ap, ◌∙◌, ◌-◌, ◌+◌, Some, None, subst}
+use Rattle.std.proofs.Common.{ℕ, arith, sym, ap, ◌∙◌, ◌-◌, subst}
 use Rattle.std.specs.declared.option.Option.{Option}
 use Rattle.term_changes.specs.Standing.{standing_tree}
 use Rattle.strategy_syntax.specs.Heads.{head_of}

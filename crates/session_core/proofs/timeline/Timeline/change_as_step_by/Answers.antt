@@ -1,4 +1,4 @@
-use Rattle.std.proofs.Common.{refl, sym, ap, subst, ◌∙◌, ◌++◌, ◌+◌, ◌∷◌, [], take}
+use Rattle.std.proofs.Common.{refl, sym, ap, subst, ◌∙◌, ◌+◌, take}
 use Rattle.change_log.specs.Slots.{Store, contents}
 use Rattle.session_core.specs.History.{changed}
 use Rattle.session_core.specs.Unfolded.{unfolded, IsPlaced, AddsStep}

@@ -1,4 +1,4 @@
-use Rattle.std.proofs.Common.{◌≡◌, refl, sym, ap, subst, ◌∙◌, ◌++◌, ◌+◌, ◌∷◌, [], take, None}
+use Rattle.std.proofs.Common.{◌≡◌, refl, sym, subst, ◌∙◌, ◌+◌, take, None}
 use Rattle.std.specs.Prelude.{IsSomeAnd}
 use Rattle.session_core.specs.Step.{committed}
 use Rattle.session_core.specs.declared.timeline.Timeline.{Timeline}
