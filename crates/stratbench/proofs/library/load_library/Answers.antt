@@ -1,4 +1,4 @@
-use Rattle.std.proofs.Common.{◌∙◌, ◌+◌, ◌≡◌, ℕ, Err, ap, arith}
+use Rattle.std.proofs.Common.{◌∙◌, ◌+◌, ◌≡◌, Err, ap, arith}
 use Rattle.stratbench.proofs.LibraryLemmas.{loads, stays_else, stays_at_fault}
 use Rattle.stratbench.proofs.library.load_library.Goals as goal
 
