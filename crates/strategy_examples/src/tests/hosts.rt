@@ -73,9 +73,9 @@ fn first_wrong_by<M: Meaning>(
     first_wrong_beside(alloc, &[], &Primitives::new(primitives), &[0, 3], rows)
 }
 
-#[test]
-fn hosts_have_primitives_of_their_own(rt: HostRuntime) -> Result<(), Fail> {
-    let alloc = rt.alloc();
+// The first row that isn't so, through a closure that owns its choices.
+fn first_wrong_row(alloc: Global, rows: &[Row<'_>]) -> Result<Option<usize>, Fail> {
+    let wants: BoxedOperation = Box::new(alloc, want)?;
     let choices = vec![in alloc;
         constant(alloc, b"a")?,
         constant(alloc, b"b")?,
@@ -88,8 +88,12 @@ fn hosts_have_primitives_of_their_own(rt: HostRuntime) -> Result<(), Fail> {
             requires one { length arguments.now ≡ 1 }
         { pick(&choices, arguments) },
     )?;
-    let wants: BoxedOperation = Box::new(alloc, want)?;
-    let wrong = first_wrong_by::<Picking>(alloc, picks, wants, &ROWS)?;
+    first_wrong_by::<Picking>(alloc, picks, wants, rows)
+}
+
+#[test]
+fn hosts_have_primitives_of_their_own(rt: HostRuntime) -> Result<(), Fail> {
+    let wrong = first_wrong_row(rt.alloc(), &ROWS)?;
     assert_eq!(rt; wrong, None);
     Ok(())
 }
