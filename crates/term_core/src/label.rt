@@ -3,9 +3,10 @@
 ghost use Rattle.std.specs.Prelude.{◌≡◌, ◌↔◌, IfOk, Some, None, Err, is_err};
 ghost use Rattle.term_core.specs.Word.{label_of};
 
-use crate::{NoMemory, is_word};
+use crate::{Name, NoMemory, is_word};
 use std::alloc::{AllocError, Global};
 use std::cmp::Ordering;
+use std::fmt::{self, Debug, Formatter};
 use std::hash::{Hash, Hasher};
 use std::marker::Model;
 use thiserror::Error;
@@ -13,10 +14,11 @@ use thiserror::Error;
 /// The greatest length of a label, in bytes.
 pub const MAX_LABEL: usize = 64;
 
-/// A word of at most 64 bytes that names a tree or a module. Labels compare by their bytes.
-#[derive(Debug, Drop)]
+/// A word of at most 64 bytes that names a tree or a module. Labels compare by their bytes. One of at most
+/// 13 bytes takes no memory.
+#[derive(Drop)]
 pub struct Label {
-    text: Vec<u8>,
+    name: Name,
 }
 
 impl Model for Label {
@@ -25,9 +27,9 @@ impl Model for Label {
 
     ghost Value = { List ℕ };
 
-    ghost view = { λ l. l.text.items };
+    ghost view = { λ l. l.name.text };
 
-    ghost invariant = { λ l. label_of l.text.items ≡ Some l.text.items };
+    ghost invariant = { λ l. label_of l.name.text ≡ Some l.name.text };
 }
 
 /// Why a text is no label.
@@ -52,6 +54,17 @@ impl From<AllocError> for LabelFault {
     }
 }
 
+impl From<NoMemory> for LabelFault {
+    ghost use Rattle.std.specs.Prelude.{◌≡◌};
+    ghost use Rattle.term_core.specs.declared.label.LabelFault.{LabelFault};
+
+    ghost from_gives = { λ _ e. e ≡ LabelFault.Memory };
+
+    fn from(_refused: NoMemory) -> LabelFault {
+        LabelFault::Memory
+    }
+}
+
 impl Label {
     /// The label of these bytes.
     pub fn read(alloc: Global, text: &[u8]) -> Result<Label, LabelFault>
@@ -61,8 +74,8 @@ impl Label {
         if text.len() > MAX_LABEL || !is_word(text) {
             return Err(LabelFault::Name);
         }
-        let text = Vec::from_slice(alloc, text)?;
-        Ok(Label { text })
+        let name = Name::of_word(alloc, text)?;
+        Ok(Label { name })
     }
 
     /// The bytes of the label.
@@ -70,15 +83,21 @@ impl Label {
         ensures value { result.now ≡ self.now }
         ensures label { label_of self.now ≡ Some self.now }
     {
-        self.text.as_slice()
+        self.name.bytes()
     }
 
     /// An equal label.
     pub fn try_clone(&self) -> Result<Label, NoMemory>
         ensures { IfOk result (λ label. label ≡ self.now) }
     {
-        let text = Vec::from_slice(*self.text.allocator(), &self.text)?;
-        Ok(Label { text })
+        let name = self.name.try_clone()?;
+        Ok(Label { name })
+    }
+}
+
+impl Debug for Label {
+    fn fmt<W: fmt::Write>(&self, f: &mut Formatter<W>) -> fmt::Result {
+        self.bytes().fmt(f)
     }
 }
 
@@ -93,7 +112,7 @@ impl PartialEq for Label {
     ghost laws = { Prim.search (comparing, rules) };
 
     fn eq(&self, other: &Label) -> bool {
-        self.text == other.text
+        self.bytes() == other.bytes()
     }
 }
 
@@ -118,7 +137,7 @@ impl Ord for Label {
     ghost matches_eq = { Prim.search (comparing, rules) };
 
     fn cmp(&self, other: &Label) -> Ordering {
-        self.text.cmp(&other.text)
+        self.bytes().cmp(other.bytes())
     }
 }
 
@@ -148,6 +167,6 @@ impl Hash for Label {
     ghost respects_eq = { Prim.search (hashing, rules) };
 
     fn hash<H: Hasher>(&self, state: &mut H) {
-        self.text.hash(state);
+        self.bytes().hash(state);
     }
 }

@@ -167,6 +167,15 @@ impl Name {
         Ok(Some(Name { text }))
     }
 
+    /// The word of these bytes, which are one.
+    pub(crate) fn of_word(alloc: Global, text: &[u8]) -> Result<Name, NoMemory>
+        requires { is_word text.now ≡ true }
+        ensures { IfOk result (λ name. name ≡ record { text = text.now; is_quoted = false }) }
+    {
+        let text = Text::new(alloc, false, text)?;
+        Ok(Name { text })
+    }
+
     /// The word that the text begins with, as long as it can be, and what follows it; `None` where
     /// the text begins with no word.
     pub fn first_word(alloc: Global, text: &[u8]) -> Result<Option<(Name, &[u8])>, NoMemory>
