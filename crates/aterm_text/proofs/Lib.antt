@@ -1,6 +1,7 @@
 pub mod RunLemmas
 pub mod ScanLemmas
 pub mod TokenLemmas
+pub mod BracketLemmas
 pub mod StackLemmas
 pub mod TrimLemmas
 pub mod StepLemmas

@@ -1,17 +1,14 @@
 -- The reader's stack: its terms, cut where the brackets stand.
-use Rattle.std.proofs.Common.{◌≡◌, ℕ, ◌+◌, ◌<◌, List, [], ◌∷◌, ◌++◌, ◌-◌, min, length, take, drop, get_or, refl, sym, ap, ◌∙◌, subst, arith, append_assoc, length-append, Some}
-use Rattle.std.specs.Prelude.{reverse}
+use Rattle.std.proofs.Common.{◌≡◌, ℕ, ◌+◌, ◌<◌, List, [], ◌∷◌, ◌++◌, ◌-◌, min, length, take, drop, get_or, refl, sym, ap, ◌∙◌, subst, arith, append_assoc, length-append, Some, option_map}
 use Rattle.std.specs.declared.option.Option.{Option}
 use Rattle.std.proofs.Math.ListN.{set}
 use Rattle.std.proofs.Math.Seq.{set-append_seam, get_or-append_seam, take-append_seam, drop-append_seam, take-length}
-use Rattle.std.proofs.lemmas.List.{reverse-append, length-reverse, take-append-le, drop-append-le, take-append-drop, length-take, length-take-le, drop_all}
+use Rattle.std.proofs.lemmas.List.{take-append-le, drop-append-le, take-append-drop, length-take, length-take-le, drop_all}
 use Rattle.term_core.specs.Tree.{Tree}
-use Rattle.aterm_text.specs.Stack.{Stack, OpenBracket, no_terms, on_top, with_top, inside}
+use Rattle.aterm_text.specs.Stack.{Stack, OpenBracket, no_terms, on_top, with_top, inside, closes, closes_first}
+use Rattle.aterm_text.specs.BracketsView.{innermost_of}
 use Rattle.aterm_text.specs.StackView.{cut, IsCut}
-use Rattle.aterm_text.specs.declared.reader.stack.Bracket.{Bracket}
-
-pub reverse-last : (bs : List Bracket) (b : Bracket) → reverse (bs ++ b ∷ []) ≡ b ∷ reverse bs
-reverse-last bs b = reverse-append bs (b ∷ [])
+use Rattle.aterm_text.specs.declared.reader.open_brackets.Bracket.{Bracket}
 
 -- ---- one more term
 
@@ -49,10 +46,10 @@ is_cut-longer (b ∷ bs) ts k h =
     )
 
 -- the brackets that are left stand within all terms
-pub still_cut : (bs bs' : List Bracket) (b : Bracket) (ts : List Tree) → IsCut (reverse bs) ts → bs ≡ bs' ++ b ∷ [] → IsCut (reverse bs') ts
+pub still_cut : (bs bs' : List Bracket) (b : Bracket) (ts : List Tree) → IsCut bs ts → bs ≡ b ∷ bs' → IsCut bs' ts
 still_cut bs bs' b ts h e =
-    let whole : IsCut (b ∷ reverse bs') ts = subst (λ l. IsCut l ts) (ap reverse e ∙ reverse-last bs' b) h in
-    is_cut-longer (reverse bs') ts b.before whole.1
+    let whole : IsCut (b ∷ bs') ts = subst (λ l. IsCut l ts) e h in
+    is_cut-longer bs' ts b.before whole.1
 
 -- ---- the term on top
 
@@ -128,11 +125,13 @@ only_term bs ts t n popped h e len last =
     let at : n - 1 ≡ length b.front = omega (arith, count) in
     last t (omega (arith, count)) ∙ ap Some (ap (λ k. get_or ts k t) at ∙ ap (λ l. get_or l (length b.front) t) b.is ∙ get_or-append_seam b.front t [] t)
 
-brackets-cut : (bs : List Bracket) (ts : List Tree) → length (cut bs ts).open_brackets ≡ length bs
-brackets-cut [] ts = refl
-brackets-cut (b ∷ bs) ts = omega (arith, brackets-cut bs (take b.before ts))
+pub depth-cut : (bs : List Bracket) (ts : List Tree) → length (cut bs ts).open_brackets ≡ length bs
+depth-cut [] ts = refl
+depth-cut (b ∷ bs) ts = omega (arith, depth-cut bs (take b.before ts))
 
-pub depth-cut : (bs : List Bracket) (ts : List Tree) → length (cut (reverse bs) ts).open_brackets ≡ length bs
-depth-cut bs ts = brackets-cut (reverse bs) ts ∙ length-reverse bs
+-- the innermost bracket closes first
+pub closes_innermost : (bs : List Bracket) (ts : List Tree) → closes_first (cut bs ts).open_brackets ≡ option_map (λ (b : Bracket). closes b.opening) (innermost_of bs)
+closes_innermost [] ts = refl
+closes_innermost (b ∷ bs) ts = refl
 
-pub ruleset stack_parts = (reverse-last, cut-push, is_cut-push)
+pub ruleset stack_parts = (cut-push, is_cut-push, closes_innermost)

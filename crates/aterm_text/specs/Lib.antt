@@ -5,6 +5,7 @@ pub mod Nesting
 pub mod Printed
 pub mod Level
 pub mod Stack
+pub mod BracketsView
 pub mod StackView
 pub mod Unread
 pub mod Beginnings

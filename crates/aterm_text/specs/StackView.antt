@@ -1,8 +1,8 @@
 -- What the fields of the reader's stack stand for.
-use Rattle.std.specs.Prelude.{◌≤◌, List, [], ◌∷◌, length, take, drop, reverse}
+use Rattle.std.specs.Prelude.{◌≤◌, List, [], ◌∷◌, length, take, drop}
 use Rattle.term_core.specs.Tree.{Tree}
 use Rattle.aterm_text.specs.Stack.{Stack, inside}
-use Rattle.aterm_text.specs.declared.reader.stack.Bracket.{Bracket}
+use Rattle.aterm_text.specs.declared.reader.open_brackets.Bracket.{Bracket}
 use Rattle.aterm_text.specs.declared.reader.stack.Stack.TheInside.{Inside}
 
 -- the terms, cut where the brackets stand, the innermost bracket first
@@ -15,9 +15,8 @@ abbrev pub IsCut : List Bracket → List Tree → Type 0
 IsCut [] ts = Unit {0}
 IsCut (b ∷ bs) ts = (b.before ≤ length ts) × IsCut bs (take b.before ts)
 
--- the bracket that was opened last is the innermost
 abbrev pub stack_of : Inside → Stack
-stack_of a = cut (reverse a.brackets.items) a.terms.items
+stack_of a = cut a.brackets a.terms.items
 
 abbrev pub IsStack : Inside → Type 0
-IsStack a = IsCut (reverse a.brackets.items) a.terms.items
+IsStack a = IsCut a.brackets a.terms.items

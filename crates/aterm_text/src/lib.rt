@@ -10,7 +10,7 @@ mod reader;
 pub use brackets::nesting;
 pub use escapes::{octal_byte, short_escape};
 pub use printer::{print, print_name};
-pub use reader::{ReadFault, after_blanks, is_blank, read, read_annotations};
+pub use reader::{ReadFault, after_blanks, after_byte, is_blank, read, read_annotations};
 
 /// The greatest number of brackets that may be open at one place of a text.
 pub const MAX_NESTING: u64 = 1000;

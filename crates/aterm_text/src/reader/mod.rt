@@ -7,12 +7,13 @@ ghost use Rattle.aterm_text.specs.Grammar.{Spells, SpellsAnnotations};
 
 mod lexeme;
 mod machine;
+mod open_brackets;
 mod scan;
 mod stack;
 
 use crate::{MAX_NESTING, nesting};
 use machine::{State, read_from};
-pub use scan::{after_blanks, is_blank};
+pub use scan::{after_blanks, after_byte, is_blank};
 use stack::Stack;
 use std::alloc::{AllocError, AllocFailed, Global};
 use term_core::{NoMemory, Term};

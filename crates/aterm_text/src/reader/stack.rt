@@ -6,6 +6,7 @@ ghost use Rattle.term_core.specs.Tree.{Tree, with_annotations, with_children};
 ghost use Rattle.aterm_text.specs.Stack.{Stack as Terms, no_terms, with_top, inside, first_closing};
 ghost use Rattle.aterm_text.specs.Depth.{depth};
 
+use crate::reader::open_brackets::{Bracket, OpenBrackets};
 use std::alloc::Global;
 use std::marker::Model;
 use term_core::{NoMemory, Term};
@@ -22,19 +23,12 @@ pub enum Opening {
     Curly,
 }
 
-// An open bracket, and how many terms stand before it.
-#[derive(Clone, Copy)]
-struct Bracket {
-    opening: Opening,
-    before: usize,
-}
-
 /// All terms that were read, the last on top, and the brackets that are open. A closing bracket
 /// takes off the terms behind its opening one. A name, a list or a tuple stands on the stack before
 /// its bracket is opened, without children.
 #[derive(Drop)]
 pub struct Stack {
-    brackets: Vec<Bracket>,
+    brackets: OpenBrackets,
     terms: Vec<Term>,
 }
 
@@ -58,7 +52,7 @@ impl Stack {
         ensures { result ≡ no_terms }
     {
         Stack {
-            brackets: Vec::new(alloc),
+            brackets: OpenBrackets::new(alloc),
             terms: Vec::new(alloc),
         }
     }
@@ -76,22 +70,21 @@ impl Stack {
         ensures ok { OnOk result (self.new ≡ inside opening [] self.old) }
     {
         let before = self.terms.len();
-        self.brackets.push(Bracket { opening, before })?;
-        Ok(())
+        self.brackets.open(Bracket { opening, before })
     }
 
     /// How many brackets are open.
     pub fn depth(&self) -> usize
         ensures { result ≡ depth self.now }
     {
-        self.brackets.len()
+        self.brackets.count()
     }
 
     /// The bracket that closes the innermost one, or `None` where none is open.
     pub fn closing(&self) -> Option<u8>
         ensures { result ≡ first_closing self.now }
     {
-        let bracket = self.brackets.last()?;
+        let bracket = self.brackets.innermost()?;
         match bracket.opening {
             Opening::Round => Some(b')'),
             Opening::Square => Some(b']'),
@@ -106,7 +99,7 @@ impl Stack {
         ensures none { IfOk result (λ left. IfNone left ((first_closing self.old ≡ None)
             × (self.new ≡ self.old))) }
     {
-        let Some(Bracket { opening, before }) = self.brackets.pop() else {
+        let Some(Bracket { opening, before }) = self.brackets.close() else {
             return Ok(None);
         };
         let terms = taken_from(&mut self.terms, before)?;

@@ -20,4 +20,4 @@ returns-clause-top c = λ t below e.
 
 pub returns-clause-depth : goal.returns-clause-depth
 returns-clause-depth c =
-    depth-cut c.self.inside.brackets.items _ ∙ sym (depth-cut c.self.inside.brackets.items c.self.inside.terms.items) ∙ ap depth c.self.view_is
+    depth-cut c.self.inside.brackets _ ∙ sym (depth-cut c.self.inside.brackets c.self.inside.terms.items) ∙ ap depth c.self.view_is
