@@ -8,5 +8,6 @@ pub mod Relations
 pub mod Laws
 pub mod Codes
 pub mod LogView
+pub mod StepView
 pub use Rattle.term_core.specs.Tree
 pub use Rattle.term_paths.specs.Paths

@@ -9,6 +9,7 @@ mod log;
 mod merge;
 mod relation;
 mod slots;
+mod step;
 mod store;
 mod text;
 
@@ -22,6 +23,9 @@ pub use log::Replaced;
 pub use relation::Relation;
 #[doc(hidden)]
 pub use slots::Slots;
+pub use step::Step;
+#[doc(hidden)]
+pub use step::{Changes, Whole};
 pub use store::Store;
 #[doc(hidden)]
 pub use text::Text;

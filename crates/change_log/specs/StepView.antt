@@ -1,0 +1,16 @@
+-- What the fields of a step stand for.
+use Rattle.std.specs.Prelude.{List, [], ◌∷◌}
+use Rattle.change_log.specs.Entries.{Entry}
+use Rattle.change_log.specs.LogView.{entry_of}
+use Rattle.change_log.specs.declared.step.Whole.{Whole}
+use Rattle.change_log.specs.declared.step.Changes.{Changes}
+use Rattle.change_log.specs.declared.step.Changes.TheVariants.{One, Logged}
+
+-- the entry of a change of a whole tree or module text
+abbrev pub whole_entry : Whole → Entry
+whole_entry w = entry_of w.slot [] w.kept
+
+-- the entries of a step's changes
+abbrev pub entries_of : Changes → List Entry
+entries_of (One w) = whole_entry w ∷ []
+entries_of (Logged log) = log

@@ -1,0 +1,142 @@
+//! Steps: the changes that are taken back and made again together.
+
+ghost use Rattle.std.specs.Prelude.{◌≡◌, ◌∷◌, [], IfOk, OnOk, OnErr};
+ghost use Rattle.change_log.specs.Slots.{Store};
+ghost use Rattle.change_log.specs.Entries.{put, found, before, after, flipped_back, flipped_forward, Fits, has_text};
+ghost use Rattle.change_log.specs.Compact.{IsCompact};
+ghost use Rattle.change_log.specs.StepView.{whole_entry};
+
+use crate::{Entry, Kept, Log, Store};
+use std::alloc::Global;
+use std::marker::Model;
+use term_core::NoMemory;
+
+/// What the changes of a step replaced, the oldest first. A step of one change of a whole tree or module text
+/// takes no memory.
+#[derive(Drop)]
+pub struct Step {
+    changes: Changes,
+}
+
+/// The changes of a step.
+#[derive(Drop)]
+pub enum Changes {
+    /// One, of a whole tree or module text.
+    One(Whole),
+    /// Others.
+    Logged(Log),
+}
+
+/// What a change of a whole tree or module text replaced.
+#[derive(Drop)]
+pub struct Whole {
+    pub(crate) slot: usize,
+    pub(crate) kept: Kept,
+}
+
+impl Model for Step {
+    ghost use Rattle.std.specs.Prelude.{List};
+    ghost use Rattle.std.specs.Coded.{coded_list};
+    ghost use Rattle.change_log.specs.Entries.{Entry};
+    ghost use Rattle.change_log.specs.Codes.{entry_code};
+
+    ghost Value = { List Entry };
+
+    ghost coded = { coded_list entry_code };
+
+    ghost use Rattle.change_log.specs.StepView.{entries_of};
+
+    ghost view = { λ a. entries_of a.changes };
+}
+
+impl Step {
+    /// Makes the change, as `Log::push` does, and a step of it. Where a growth of memory is refused, the store
+    /// stays as it was, and the change is dropped.
+    pub fn make(alloc: Global, store: &mut Store, change: Entry<'_>) -> Result<Step, NoMemory>
+        ensures step { IfOk result (λ step. step ≡ found change.entry store.old ∷ []) }
+        ensures store { OnOk result (store.new ≡ put change.entry store.old) }
+        ensures err { OnErr result (store.new ≡ store.old) }
+    {
+        if !change.path.is_empty() {
+            return logged(alloc, store, change);
+        }
+        let Entry {
+            slot,
+            path,
+            mut kept,
+        } = change;
+        store.exchange(slot, path, &mut kept);
+        Ok(Step {
+            changes: Changes::One(Whole { slot, kept }),
+        })
+    }
+
+    /// The step of what is in the log, once it is compact.
+    pub fn of(log: Log) -> Step
+        ensures before { (s : Store) → before result s ≡ before log s }
+        ensures fits { (s : Store) → Fits log s → Fits result s }
+        ensures compact { IsCompact result }
+    {
+        let mut log = log;
+        log.compact();
+        Step {
+            changes: Changes::Logged(log),
+        }
+    }
+
+    /// Whether a change is of a module text.
+    pub fn has_text(&self) -> bool
+        ensures { result ≡ has_text self.now }
+    {
+        match &self.changes {
+            Changes::One(whole) => whole.kept.texts() > 0,
+            Changes::Logged(log) => log.has_text(),
+        }
+    }
+
+    /// Takes all changes back, the newest first. The step then leads forward again: `flip_forward` makes them
+    /// once more. It takes no memory.
+    pub fn flip_back(&mut self, store: &mut Store)
+        ensures step { self.new ≡ flipped_back self.old store.old }
+        ensures store { store.new ≡ before self.old store.old }
+    {
+        match &mut self.changes {
+            Changes::One(whole) => whole.exchange(store),
+            Changes::Logged(log) => log.flip_back(store),
+        }
+    }
+
+    /// Makes all changes again, the oldest first, after `flip_back`. It takes no memory.
+    pub fn flip_forward(&mut self, store: &mut Store)
+        ensures step { self.new ≡ flipped_forward self.old store.old }
+        ensures store { store.new ≡ after self.old store.old }
+    {
+        match &mut self.changes {
+            Changes::One(whole) => whole.exchange(store),
+            Changes::Logged(log) => log.flip_forward(store),
+        }
+    }
+}
+
+// Makes the change by a log of its own.
+fn logged(alloc: Global, store: &mut Store, change: Entry<'_>) -> Result<Step, NoMemory>
+    ensures step { IfOk result (λ step. step ≡ found change.entry store.old ∷ []) }
+    ensures store { OnOk result (store.new ≡ put change.entry store.old) }
+    ensures err { OnErr result (store.new ≡ store.old) }
+{
+    let mut log = Log::new(alloc);
+    log.push(store, change)?;
+    Ok(Step {
+        changes: Changes::Logged(log),
+    })
+}
+
+impl Whole {
+    // Swaps what is kept for what stands in the slot.
+    fn exchange(&mut self, store: &mut Store)
+        ensures store { store.new ≡ put (whole_entry self.old) store.old }
+        ensures kept { whole_entry self.new ≡ found (whole_entry self.old) store.old }
+    {
+        store.exchange(self.slot, &[], &mut self.kept);
+    }
+}
