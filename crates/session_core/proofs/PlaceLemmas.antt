@@ -9,6 +9,7 @@ use Rattle.std.specs.Cmp.Lexicographic.{pointwise}
 use Rattle.prim_core.specs.Signature.{Signature}
 use Rattle.change_log.specs.Contents.{Contents}
 use Rattle.change_log.specs.Slots.{Slots, Store, contents, slot_of}
+use Rattle.change_log.specs.Compact.{IsCompact}
 use Rattle.change_log.specs.Entries.{Entry, HasPlace, put, found, before, after, flipped_back, flipped_forward, Fits}
 use Rattle.change_log.proofs.EntryLemmas.{before-append, pushed_fits, pushed_leads_back}
 use Rattle.change_log.proofs.FlipLemmas.{flipped_back_is_compact, flipped_forward_is_compact}
@@ -136,6 +137,16 @@ adds_one e s t l m place store log = record {
   behind = log;
   back = ap (before (found e s ∷ [])) store ∙ pushed_leads_back [] e s;
   fits = subst (Fits (found e s ∷ [])) (sym store) (pushed_fits [] e s tt place);
+}
+
+-- an entry alone is a compact step
+pub adds_alone : (logs new : List (List Entry)) (step : List Entry) (e : Entry) → new ≡ logs ++ step ∷ [] → step ≡ e ∷ [] → AddsStep logs step new
+adds_alone logs new step e all one = record {
+  left = step;
+  all = all;
+  back = λ s. refl;
+  fits = λ s h. h;
+  compact = subst IsCompact (sym one) (λ i j d before within. absurd (omega (arith, before, within)));
 }
 
 -- ---- a change of many entries in a group

@@ -16,7 +16,7 @@ ghost use Rattle.session_core.specs.Unfolded.{unfolded, IsPlaced, AddsStep, Adds
 
 use crate::Refusal;
 use crate::modules::check_modules;
-use change_log::{Entry, Log, Store};
+use change_log::{Entry, Log, Step, Store};
 use prim_core::{Meaning, Primitives};
 use std::alloc::Global;
 use std::mem;
@@ -27,9 +27,9 @@ use term_core::{Label, NoMemory, Term};
 #[derive(Drop)]
 pub struct Timeline {
     pub(crate) store: Store,
-    // One log for each step, the oldest first. Those before the position lead back, the others were
-    // undone and lead forward.
-    logs: Vec<Log>,
+    // The steps, the oldest first. Those before the position lead back, the others were undone and lead
+    // forward.
+    logs: Vec<Step>,
     position: usize,
     group: Option<OpenGroup>,
     // What was changed since the open group began; nothing outside a group.
@@ -191,9 +191,8 @@ impl Timeline {
             ≡ unfolded ps self.old) }
     {
         self.logs.reserve(1)?;
-        let mut log = Log::new(*self.logs.allocator());
-        log.push(&mut self.store, entry)?;
-        self.add_step(log);
+        let step = Step::make(*self.logs.allocator(), &mut self.store, entry)?;
+        self.add(step);
         Ok(())
     }
 
@@ -330,7 +329,7 @@ impl Timeline {
     }
 
     // Adds a step of the log, made compact, where there is room for it. Those that were undone are dropped.
-    fn add_step(&mut self, mut log: Log)
+    fn add_step(&mut self, log: Log)
         requires within { self.old.position ≤ length self.old.logs.items }
         requires room { length self.old.logs.items < vec_capacity self.old.logs }
         ensures logs { AddsStep (take self.old.position self.old.logs.items) log self.new.logs.items }
@@ -339,9 +338,21 @@ impl Timeline {
         ensures group { self.new.group ≡ self.old.group }
         ensures current { self.new.current ≡ self.old.current }
     {
-        log.compact();
+        self.add(Step::of(log));
+    }
+
+    // Adds a step where there is room for it. Those that were undone are dropped.
+    fn add(&mut self, step: Step)
+        requires within { self.old.position ≤ length self.old.logs.items }
+        requires room { length self.old.logs.items < vec_capacity self.old.logs }
+        ensures logs { self.new.logs.items ≡ take self.old.position self.old.logs.items ++ step ∷ [] }
+        ensures position { self.new.position ≡ self.old.position + 1 }
+        ensures store { self.new.store ≡ self.old.store }
+        ensures group { self.new.group ≡ self.old.group }
+        ensures current { self.new.current ≡ self.old.current }
+    {
         self.logs.truncate(self.position);
-        self.logs.push_reserved(log);
+        self.logs.push_reserved(step);
         self.position += 1;
     }
 
@@ -358,9 +369,9 @@ impl Timeline {
             ≡ Some (unfolded ps self.new) }
     {
         self.position -= 1;
-        let log = &mut self.logs[self.position];
-        let texts = log.has_text();
-        log.flip_back(&mut self.store);
+        let step = &mut self.logs[self.position];
+        let texts = step.has_text();
+        step.flip_back(&mut self.store);
         texts
     }
 
@@ -398,9 +409,9 @@ impl Timeline {
         ensures value { (ps : List Signature) → step_forward (unfolded ps self.old)
             ≡ Some (unfolded ps self.new) }
     {
-        let log = &mut self.logs[self.position];
-        let texts = log.has_text();
-        log.flip_forward(&mut self.store);
+        let step = &mut self.logs[self.position];
+        let texts = step.has_text();
+        step.flip_forward(&mut self.store);
         self.position += 1;
         texts
     }

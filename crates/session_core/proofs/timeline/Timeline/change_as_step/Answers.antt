@@ -1,25 +1,26 @@
-use Rattle.std.proofs.Common.{sym, ap, subst, ◌∙◌, ◌+◌, take}
+use Rattle.std.proofs.Common.{refl, sym, ap, subst, ◌∙◌, ◌++◌, ◌∷◌, [], ◌+◌, take}
 use Rattle.change_log.specs.Slots.{Store, contents}
+use Rattle.change_log.specs.Entries.{found}
 use Rattle.session_core.specs.History.{changed}
-use Rattle.session_core.specs.Unfolded.{unfolded, IsPlaced, AddsStep}
-use Rattle.session_core.proofs.PlaceLemmas.{adds_one, many_placed, many_unfolded, same_timeline}
+use Rattle.session_core.specs.Unfolded.{unfolded, IsPlaced}
+use Rattle.session_core.proofs.PlaceLemmas.{adds_one, adds_alone, many_placed, many_unfolded, same_timeline}
 use Rattle.session_core.proofs.timeline.Timeline.change_as_step.Goals as goal
 
 pub returns-clause-placed : goal.returns-clause-placed
 returns-clause-placed c =
     let t = c.args.self.now in
-    subst IsPlaced (sym (same_timeline c.add_step.new.self c.push.new.store (t.position + 1) t.group t.current c.add_step.ensures.store c.add_step.ensures.position c.add_step.ensures.group c.add_step.ensures.current))
-    (many_placed t c.push.new.store c.add_step.new.self.logs c.push.new.self c.new-log.result c.requires.outside c.new-log.ensures
-    (adds_one c.args.entry t.store c.push.new.store c.new-log.result c.push.new.self c.requires.place c.in_ok-push.ensures.store c.in_ok-push.ensures.log)
-    (subst (λ l. AddsStep (take t.position l) c.push.new.self c.add_step.new.self.logs.items) c.in_ok-reserve.ensures.items c.add_step.ensures.logs)
+    subst IsPlaced (sym (same_timeline c.add.new.self c.make.new.store (t.position + 1) t.group t.current c.add.ensures.store c.add.ensures.position c.add.ensures.group c.add.ensures.current))
+    (many_placed t c.make.new.store c.add.new.self.logs c.in_ok-step.step [] c.requires.outside refl
+    (adds_one c.args.entry t.store c.make.new.store [] c.in_ok-step.step c.requires.place c.in_ok-step.ensures.store c.in_ok-step.ensures.step)
+    (adds_alone (take t.position t.logs.items) c.add.new.self.logs.items c.in_ok-step.step (found c.args.entry t.store) (c.add.ensures.logs ∙ ap (λ l. take t.position l ++ c.in_ok-step.step ∷ []) c.in_ok-reserve.ensures.items) c.in_ok-step.ensures.step)
     c.requires.placed)
 
 pub returns-clause-ok : goal.returns-clause-ok
 returns-clause-ok c = λ ps.
     let t = c.args.self.now in
-    ap (unfolded ps) (same_timeline c.add_step.new.self c.push.new.store (t.position + 1) t.group t.current c.add_step.ensures.store c.add_step.ensures.position c.add_step.ensures.group c.add_step.ensures.current)
-    ∙ many_unfolded t c.push.new.store c.add_step.new.self.logs c.push.new.self c.new-log.result c.requires.outside c.new-log.ensures
-    (adds_one c.args.entry t.store c.push.new.store c.new-log.result c.push.new.self c.requires.place c.in_ok-push.ensures.store c.in_ok-push.ensures.log)
-    (subst (λ l. AddsStep (take t.position l) c.push.new.self c.add_step.new.self.logs.items) c.in_ok-reserve.ensures.items c.add_step.ensures.logs)
+    ap (unfolded ps) (same_timeline c.add.new.self c.make.new.store (t.position + 1) t.group t.current c.add.ensures.store c.add.ensures.position c.add.ensures.group c.add.ensures.current)
+    ∙ many_unfolded t c.make.new.store c.add.new.self.logs c.in_ok-step.step [] c.requires.outside refl
+    (adds_one c.args.entry t.store c.make.new.store [] c.in_ok-step.step c.requires.place c.in_ok-step.ensures.store c.in_ok-step.ensures.step)
+    (adds_alone (take t.position t.logs.items) c.add.new.self.logs.items c.in_ok-step.step (found c.args.entry t.store) (c.add.ensures.logs ∙ ap (λ l. take t.position l ++ c.in_ok-step.step ∷ []) c.in_ok-reserve.ensures.items) c.in_ok-step.ensures.step)
     c.requires.placed ps
-    ∙ ap (λ (s : Store). changed (contents s) (unfolded ps t)) c.in_ok-push.ensures.store
+    ∙ ap (λ (s : Store). changed (contents s) (unfolded ps t)) c.in_ok-step.ensures.store

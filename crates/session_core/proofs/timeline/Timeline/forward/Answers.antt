@@ -8,15 +8,15 @@ use Rattle.session_core.proofs.timeline.Timeline.forward.Goals as goal
 
 pub returns-clause-placed : goal.returns-clause-placed
 returns-clause-placed c =
-    placed_forward c.args.self.now c.args.self.now.position c.flip_forward.new.store (with_item c.args.self.now.logs c.args.self.now.position c.flip_forward.new.self) c.index_mut-log.result.now c.requires.outside c.requires.some
-    (slice_get-get_or c.args.self.now.logs.items c.args.self.now.position c.index_mut-log.result.now c.requires.some ∙ ap Some (sym c.index_mut-log.ensures.value)) c.requires.placed
-    refl c.flip_forward.ensures.store (ap (set c.args.self.now.logs.items c.args.self.now.position) c.flip_forward.ensures.log)
+    placed_forward c.args.self.now c.args.self.now.position c.flip_forward.new.store (with_item c.args.self.now.logs c.args.self.now.position c.flip_forward.new.self) c.index_mut-step.result.now c.requires.outside c.requires.some
+    (slice_get-get_or c.args.self.now.logs.items c.args.self.now.position c.index_mut-step.result.now c.requires.some ∙ ap Some (sym c.index_mut-step.ensures.value)) c.requires.placed
+    refl c.flip_forward.ensures.store (ap (set c.args.self.now.logs.items c.args.self.now.position) c.flip_forward.ensures.step)
 
 pub returns-clause-value : goal.returns-clause-value
 returns-clause-value c = λ ps.
-    unfolded_forward c.args.self.now c.args.self.now.position c.flip_forward.new.store (with_item c.args.self.now.logs c.args.self.now.position c.flip_forward.new.self) c.index_mut-log.result.now c.requires.outside c.requires.some
-    (slice_get-get_or c.args.self.now.logs.items c.args.self.now.position c.index_mut-log.result.now c.requires.some ∙ ap Some (sym c.index_mut-log.ensures.value)) c.requires.placed
-    refl c.flip_forward.ensures.store (ap (set c.args.self.now.logs.items c.args.self.now.position) c.flip_forward.ensures.log) ps
+    unfolded_forward c.args.self.now c.args.self.now.position c.flip_forward.new.store (with_item c.args.self.now.logs c.args.self.now.position c.flip_forward.new.self) c.index_mut-step.result.now c.requires.outside c.requires.some
+    (slice_get-get_or c.args.self.now.logs.items c.args.self.now.position c.index_mut-step.result.now c.requires.some ∙ ap Some (sym c.index_mut-step.ensures.value)) c.requires.placed
+    refl c.flip_forward.ensures.store (ap (set c.args.self.now.logs.items c.args.self.now.position) c.flip_forward.ensures.step) ps
 
 pub returns-clause-texts : goal.returns-clause-texts
-returns-clause-texts c = λ none. ap (λ (s : Store). s.modules) c.flip_forward.ensures.store ∙ after_keeps_texts c.index_mut-log.result.now c.args.self.now.store (sym c.has_text-texts.ensures ∙ none)
+returns-clause-texts c = λ none. ap (λ (s : Store). s.modules) c.flip_forward.ensures.store ∙ after_keeps_texts c.index_mut-step.result.now c.args.self.now.store (sym c.has_text-texts.ensures ∙ none)
