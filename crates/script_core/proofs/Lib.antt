@@ -12,3 +12,4 @@ pub mod DumpContents
 pub mod DumpLemmas
 pub mod DumpRows
 pub mod DefinitionRows
+pub mod FormLemmas

@@ -1,16 +1,16 @@
 //! The forms of commands.
 
-ghost use Rattle.std.specs.Prelude.{◌≡◌, ◌≤◌, length, ◌⊎◌, ℕ, List, false, IfOk, IfErr, IfSome, Ok, Err, Some, None, option_copied};
+ghost use Rattle.std.specs.Prelude.{◌≡◌, ◌≤◌, length, ◌⊎◌, ℕ, List, true, false, codes, IfOk, IfErr, IfSome, Ok, Err, Some, None, option_copied};
 ghost use Rattle.std.specs.List.{prefix_len, suffix_len, position_or_len};
 ghost use Rattle.term_core.specs.Word.{label_of};
 ghost use Rattle.aterm_text.specs.Tokens.{is_blank, without_blanks};
 ghost use Rattle.script_core.specs.Script.{without_end};
 ghost use Rattle.session_core.specs.Steps.{AreSteps};
-ghost use Rattle.script_core.specs.Form.{Form, command_of, checked, tree_form, copy_form, drop_form, put_form, annotate_form, module_form, unload_form, apply_form, text_form, show_form, last_name, last_steps, last_text, option_word, behind_option, path_or_root, steps_or, steps_of, ended, form_with, HasBudget, is_without_memory, takes_no_memory, takes_no_memory_with, front_word, behind_word, has_word};
+ghost use Rattle.script_core.specs.Form.{Form, tree, command_of, checked, tree_form, copy_form, drop_form, put_form, annotate_form, module_form, unload_form, apply_form, text_form, show_form, last_name, last_steps, last_text, option_word, behind_option, path_or_root, steps_or, steps_of, ended, form_with, HasBudget, is_without_memory, takes_no_memory, takes_no_memory_with, front_word, behind_word, has_word};
 ghost use Rattle.term_paths.specs.PathText.{path_of};
 ghost use Rattle.script_core.specs.CommandView.{form as form_seen};
 
-use aterm_text::{after_blanks, is_blank};
+use aterm_text::{after_blanks, after_byte, is_blank};
 use session_core::{MAX_STEPS, Refusal};
 use std::alloc::Global;
 use term_core::Label;
@@ -148,12 +148,51 @@ fn read_tree(alloc: Global, rest: &[u8]) -> Result<Command<'_>, Refusal>
     ensures refused { IfErr result (λ refusal. (refusal ≡ Refusal.Memory)
         ⊎ (checked (tree_form rest.now) ≡ Err refusal)) }
 {
+    let (name, text) = read_name_and_text(alloc, rest)?;
+    Ok(Command::Tree(name, text))
+}
+
+/// The name and the text of a command `tree`, whose keyword stands before `rest`.
+///
+/// Errors: those of `Command::read`.
+pub(crate) fn read_name_and_text(alloc: Global, rest: &[u8]) -> Result<(Label, &[u8]), Refusal>
+    ensures ok { IfOk result (λ read. checked (tree_form rest.now) ≡ Ok (tree read.0 read.1.now)) }
+    ensures refused { IfErr result (λ refusal. (refusal ≡ Refusal.Memory)
+        ⊎ (checked (tree_form rest.now) ≡ Err refusal)) }
+{
     let (name, rest) = split_word(rest);
     if name.is_empty() {
         return Err(Refusal::Line);
     }
     let name = read_label(alloc, name)?;
-    Ok(Command::Tree(name, after_blanks(rest)))
+    Ok((name, after_blanks(rest)))
+}
+
+/// What stands behind the keyword `tree`, where the command begins with it.
+pub(crate) fn behind_tree(command: &[u8]) -> Option<&[u8]>
+    ensures { IfSome result (λ rest.
+        (front_word (without_end is_blank command.now) ≡ codes "tree")
+        × (behind_word (without_end is_blank command.now) ≡ rest.now)) }
+{
+    let text = after_blanks(without_last_blanks(command));
+    let behind_t = after_byte(b't', text)?;
+    let behind_tr = after_byte(b'r', behind_t)?;
+    let behind_tre = after_byte(b'e', behind_tr)?;
+    let rest = after_byte(b'e', behind_tre)?;
+    if !ends_word(rest) {
+        return None;
+    }
+    Some(rest)
+}
+
+// Whether no word goes on with this text.
+fn ends_word(rest: &[u8]) -> bool
+    ensures { result ≡ true → position_or_len is_blank rest.now ≡ 0 }
+{
+    match rest.first() {
+        Some(byte) => is_blank(*byte),
+        None => true,
+    }
 }
 
 fn read_copy<'a>(alloc: Global, rest: &[u8]) -> Result<Command<'a>, Refusal>
