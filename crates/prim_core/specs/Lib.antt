@@ -1,3 +1,4 @@
+-- What a reader has to believe.
 pub mod Signature
 pub mod Computes
 pub mod Values
@@ -5,4 +6,5 @@ pub mod Integers
 pub mod Strings
 pub mod Standard
 pub mod StandardTable
+-- What tests use.
 pub mod Pick

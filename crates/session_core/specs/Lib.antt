@@ -1,9 +1,9 @@
+-- What a reader has to believe.
 pub mod Refusal
 pub mod Steps
 pub mod Modules
 pub mod Applying
 pub mod History
-pub mod Codes
 pub mod Unfolded
 pub mod Step
 pub mod Dump
@@ -11,3 +11,5 @@ pub mod Laws
 pub use Rattle.term_core.specs.Tree
 pub use Rattle.term_core.specs.Size
 pub use Rattle.change_log.specs.Contents
+-- What serves private clauses and proofs.
+pub mod Codes

@@ -12,7 +12,7 @@ use Rattle.strategy_syntax.proofs.StrategyLemmas.{strategy_list-strategies_of, d
 use Rattle.strategy_check.specs.declared.fault.Kind.TheVariants.{Parameter}
 use Rattle.strategy_check.specs.declared.fault.CheckFault.{CheckFault}
 use Rattle.strategy_check.specs.declared.fault.CheckFault.TheVariants.{Memory, Fault as Told}
-use Rattle.strategy_check.specs.Lists.{is_among}
+use Rattle.strategy_syntax.specs.Lists.{is_among}
 use Rattle.strategy_check.specs.Faults.{Fault, IsTold}
 use Rattle.strategy_check.specs.FirstFault.{Tells, first_repeated}
 

@@ -7,7 +7,7 @@ use Rattle.strategy_syntax.specs.Syntax.{Pattern, wildcard, variable, at, number
 use Rattle.strategy_syntax.specs.Modules.{Definition}
 use Rattle.strategy_check.specs.declared.fault.Kind.{Kind}
 use Rattle.strategy_check.specs.declared.fault.Kind.TheVariants.{Parameter, Twice, Clash, Unknown, Undeclared, Wild, Primitive}
-use Rattle.strategy_check.specs.Lists.{is_among, repeated, with_new}
+use Rattle.strategy_syntax.specs.Lists.{is_among, repeated, with_new}
 use Rattle.strategy_check.specs.Binders.{Binder, number_of}
 use Rattle.strategy_check.specs.Tables.{DefinitionKey, same_key, Table, is_defined, is_declared, Modules, key_of, keys_of}
 use Rattle.strategy_check.specs.Faults.{Fault, Primitives, is_primitive, fault_if, underscore, repeated_names, head_faults, pattern_faults, faults_of_patterns, name_faults, strategy_faults, faults_of_strategies, header_faults, parameter_names, definition_faults, module_faults, faults_from, first}

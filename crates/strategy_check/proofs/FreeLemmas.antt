@@ -7,7 +7,7 @@ use Rattle.strategy_syntax.specs.Syntax.{Pattern, wildcard, variable, at, number
 use Rattle.strategy_syntax.specs.Variables.{variables, variables_of_all}
 use Rattle.strategy_syntax.proofs.PatternLemmas.{patterns_depth-item}
 use Rattle.strategy_syntax.proofs.StrategyLemmas.{depths-item}
-use Rattle.strategy_check.specs.Lists.{is_among, first_ones, without}
+use Rattle.strategy_syntax.specs.Lists.{is_among, first_ones, without}
 use Rattle.strategy_check.specs.Binders.{Binder, number_of, bound_from}
 use Rattle.strategy_check.specs.Free.{free, free_in_all, free_variables}
 use Rattle.strategy_check.specs.Met.{met, met_names, met_in_pattern, met_in_patterns, met_in_strategy, met_in_strategies}

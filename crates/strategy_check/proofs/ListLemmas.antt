@@ -3,7 +3,7 @@ use Rattle.std.proofs.Common.{◌≡◌, ℕ, suc, ◌+◌, ◌<◌, ◌≤◌, 
 use Rattle.std.proofs.lemmas.List.{drop_all}
 use Rattle.std.specs.Prelude.{if◌then◌else◌}
 use Rattle.indexmap.specs.IndexSet.{insert_key}
-use Rattle.strategy_check.specs.Lists.{is_among, first_ones, with_new}
+use Rattle.strategy_syntax.specs.Lists.{is_among, first_ones, with_new}
 
 module _ {X : Type 0} (same : X → X → Bool) where
   -- the first goes in as into a set

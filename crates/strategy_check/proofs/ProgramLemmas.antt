@@ -8,7 +8,7 @@ use Rattle.strategy_syntax.specs.Modules.{Definition}
 use Rattle.strategy_syntax.specs.Syntax.{Strategy}
 use Rattle.strategy_syntax.specs.Resolved.{ResolvedStrategy}
 use Rattle.strategy_syntax.specs.declared.resolved.Resolved.{Resolved}
-use Rattle.strategy_check.specs.Lists.{is_among, first_ones, with_new}
+use Rattle.strategy_syntax.specs.Lists.{is_among, first_ones, with_new}
 use Rattle.strategy_check.specs.Binders.{Binder, number_of, bound_from}
 use Rattle.strategy_check.specs.Tables.{DefinitionKey, same_key, Table, definition_number, Modules, keys_of, definitions_of, table_of}
 use Rattle.strategy_check.specs.Faults.{Primitives, header_faults, definition_faults, parameter_names, module_faults, faults_from, faults, strategy_faults}

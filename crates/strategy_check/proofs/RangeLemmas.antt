@@ -12,7 +12,7 @@ use Rattle.prim_core.proofs.SignatureLemmas.{index_of-there}
 use Rattle.strategy_syntax.specs.Syntax.{Pattern, wildcard, variable, at, number, compound, with_tail, annotated, Patterns, no_patterns, and_pattern, pattern_list, Strategy, id, fail, matches, builds, seq, guard, test, scope, uses, congruence, tail_congruence, all, one, some, child, rec, prim, Strategies, no_strategies, and_strategy, strategy_list}
 use Rattle.strategy_syntax.specs.Resolved.{Places, ResolvedStrategies, resolved_list, place_list}
 use Rattle.strategy_syntax.specs.Variables.{variables, variables_of_all}
-use Rattle.strategy_check.specs.Lists.{is_among, without}
+use Rattle.strategy_syntax.specs.Lists.{is_among, without}
 use Rattle.strategy_check.specs.Binders.{Binder, number_of, bound_from}
 use Rattle.strategy_check.specs.Tables.{DefinitionKey, same_key, Table, definition_number}
 use Rattle.strategy_check.specs.Faults.{Fault, Primitives, is_primitive, fault_if, repeated_names, name_faults, faults_of_patterns, strategy_faults, faults_of_strategies}

@@ -3,7 +3,7 @@ use Rattle.std.specs.Prelude.{List, [], ◌++◌}
 use Rattle.term_core.specs.Tree.{Symbol, same_name}
 use Rattle.strategy_syntax.specs.Syntax.{Strategy, id, fail, matches, builds, seq, guard, test, scope, uses, congruence, tail_congruence, all, one, some, child, rec, prim, Strategies, no_strategies, and_strategy}
 use Rattle.strategy_syntax.specs.Variables.{variables, variables_of_all}
-use Rattle.strategy_check.specs.Lists.{first_ones, without}
+use Rattle.strategy_syntax.specs.Lists.{first_ones, without}
 
 -- Each time that a variable stands in a pattern and no scope round it names it, from left to right
 -- in the core form: that of `<?x> y` is `!y; ?x`, in which y comes first. Strategy arguments belong

@@ -3,7 +3,7 @@ use Rattle.std.specs.Prelude.{ℕ, Bool, ◌&&◌, ◌==◌, List, [], length, m
 use Rattle.std.specs.declared.option.Option.{Option}
 use Rattle.term_core.specs.Tree.{Symbol, same_name}
 use Rattle.strategy_syntax.specs.Modules.{Constructor, Definition, Module}
-use Rattle.strategy_check.specs.Lists.{is_among, first_ones}
+use Rattle.strategy_syntax.specs.Lists.{is_among, first_ones}
 
 -- What a definition is found by: its name, and how many strategies and terms it takes.
 pub record DefinitionKey : Type 0 where

@@ -2,7 +2,7 @@
 #![tactic(auto)]
 
 ghost use Rattle.std.specs.Prelude.{◌≡◌, IfOk, OnOk};
-ghost use Rattle.strategy_check.specs.Lists.{with_new};
+ghost use Rattle.strategy_syntax.specs.Lists.{with_new};
 ghost use Rattle.strategy_check.specs.Tables.{definition_number, is_declared, same_key, same_constructor, keys_of, table_of};
 
 use crate::key::DefinitionKey;

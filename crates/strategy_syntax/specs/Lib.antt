@@ -1,15 +1,18 @@
+-- What a reader has to believe.
 pub mod Syntax
 pub mod Resolved
 pub mod Modules
 pub mod Variables
-pub mod Codes
-pub mod ResolvedCodes
+pub mod Lists
 pub mod Heads
 pub mod PatternView
-pub mod PatternFalls
 pub mod StrategyView
-pub mod StrategyFalls
 pub mod PlaceView
-pub mod PlaceFalls
 pub mod ResolvedView
+-- What serves private clauses and proofs.
+pub mod Codes
+pub mod ResolvedCodes
+pub mod PatternFalls
+pub mod StrategyFalls
+pub mod PlaceFalls
 pub mod ResolvedFalls

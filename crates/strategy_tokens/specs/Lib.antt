@@ -1,3 +1,5 @@
+-- What a reader has to believe.
 pub mod Tokens
-pub mod Pieces
 pub mod Marks
+-- What serves private clauses and proofs.
+pub mod Pieces

@@ -1,9 +1,11 @@
+-- What a reader has to believe.
 pub mod Word
 pub mod Tree
-pub mod TreeCode
-pub mod NameView
 pub mod Kind
 pub mod Size
-pub mod TermView
 pub mod Lending
 pub mod Terms
+-- What serves private clauses and proofs.
+pub mod TreeCode
+pub mod NameView
+pub mod TermView

@@ -1,6 +1,6 @@
 use Rattle.std.proofs.Common.{◌≡◌, ◌+◌, drop, length, ap, ◌∙◌}
 use Rattle.indexmap.specs.IndexSet.{insert_key}
-use Rattle.strategy_check.specs.Lists.{with_new}
+use Rattle.strategy_syntax.specs.Lists.{with_new}
 use Rattle.strategy_check.specs.Tables.{same_key, key_of, keys_of}
 use Rattle.strategy_check.proofs.ListLemmas.{with_new-next, turn}
 use Rattle.strategy_check.proofs.table.add_definitions.Goals as goal

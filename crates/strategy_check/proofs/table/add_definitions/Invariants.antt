@@ -1,5 +1,5 @@
 use Rattle.std.proofs.Common.{◌≡◌, drop}
-use Rattle.strategy_check.specs.Lists.{with_new}
+use Rattle.strategy_syntax.specs.Lists.{with_new}
 use Rattle.strategy_check.specs.Tables.{same_key, keys_of}
 use Rattle.strategy_check.proofs.table.add_definitions.Given as goal
 

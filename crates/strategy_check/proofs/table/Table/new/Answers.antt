@@ -1,6 +1,6 @@
 use Rattle.std.proofs.Common.{◌+◌, [], drop, ap, ◌∙◌}
 use Rattle.std.proofs.lemmas.List.{map-append}
-use Rattle.strategy_check.specs.Lists.{with_new}
+use Rattle.strategy_syntax.specs.Lists.{with_new}
 use Rattle.strategy_check.specs.Tables.{same_key, same_constructor, key_of, keys_of, definitions_of, constructors_of}
 use Rattle.strategy_check.proofs.ListLemmas.{with_new-append, turn}
 use Rattle.strategy_check.proofs.table.Table.new.Goals as goal
