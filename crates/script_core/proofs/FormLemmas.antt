@@ -1,16 +1,16 @@
 -- A command's keyword, as its bytes come one by one.
-use Rattle.std.proofs.Common.{◌≡◌, ◌+◌, List, [], ◌∷◌, ℕ, take, drop, sym, ap, ◌∙◌}
+use Rattle.std.proofs.Common.{◌≡◌, ◌+◌, List, ◌∷◌, ℕ, take, drop, ap, ◌∙◌}
 use Rattle.std.specs.Prelude.{codes}
-use Rattle.std.specs.List.{before_first, position_or_len}
-use Rattle.aterm_text.specs.Tokens.{is_blank, without_blanks}
+use Rattle.std.specs.List.{position_or_len}
+use Rattle.aterm_text.specs.Tokens.{is_blank}
 use Rattle.script_core.specs.Form.{front_word, behind_word}
 
 -- the word `tree` in front of a text, and what stands behind it
-pub tree_in_front : (text t r e f rest : List ℕ) → t ≡ without_blanks text → t ≡ 116 ∷ r → r ≡ 114 ∷ e → e ≡ 101 ∷ f → f ≡ 101 ∷ rest → position_or_len is_blank rest ≡ 0
+pub tree_in_front : (text r e f rest : List ℕ) → text ≡ 116 ∷ r → r ≡ 114 ∷ e → e ≡ 101 ∷ f → f ≡ 101 ∷ rest → position_or_len is_blank rest ≡ 0
     → (front_word text ≡ codes "tree") × (behind_word text ≡ rest)
-tree_in_front text t r e f rest is first second third fourth end =
-    let all : without_blanks text ≡ 116 ∷ 114 ∷ 101 ∷ 101 ∷ rest =
-    sym is ∙ first ∙ ap (λ (l : List ℕ). 116 ∷ l) (second ∙ ap (λ (l : List ℕ). 114 ∷ l) (third ∙ ap (λ (l : List ℕ). 101 ∷ l) fourth)) in (
-      ap (before_first is_blank) all ∙ ap (λ (n : ℕ). take (1 + (1 + (1 + (1 + n)))) (116 ∷ 114 ∷ 101 ∷ 101 ∷ rest)) end,
-      ap (λ (l : List ℕ). drop (position_or_len is_blank l) l) all ∙ ap (λ (n : ℕ). drop (1 + (1 + (1 + (1 + n)))) (116 ∷ 114 ∷ 101 ∷ 101 ∷ rest)) end,
+tree_in_front text r e f rest first second third fourth end =
+    let all : text ≡ 116 ∷ 114 ∷ 101 ∷ 101 ∷ rest =
+    first ∙ ap (λ (l : List ℕ). 116 ∷ l) (second ∙ ap (λ (l : List ℕ). 114 ∷ l) (third ∙ ap (λ (l : List ℕ). 101 ∷ l) fourth)) in (
+      ap front_word all ∙ ap (λ (n : ℕ). take (1 + (1 + (1 + (1 + n)))) (116 ∷ 114 ∷ 101 ∷ 101 ∷ rest)) end,
+      ap behind_word all ∙ ap (λ (n : ℕ). drop (1 + (1 + (1 + (1 + n)))) (116 ∷ 114 ∷ 101 ∷ 101 ∷ rest)) end,
     )

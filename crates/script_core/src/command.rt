@@ -168,14 +168,15 @@ pub(crate) fn read_name_and_text(alloc: Global, rest: &[u8]) -> Result<(Label, &
     Ok((name, after_blanks(rest)))
 }
 
-/// What stands behind the keyword `tree`, where the command begins with it.
+/// What stands behind the keyword `tree`, where the command begins with it, and not with blanks. Most other
+/// commands are told by their first byte.
 pub(crate) fn behind_tree(command: &[u8]) -> Option<&[u8]>
     ensures { IfSome result (λ rest.
         (front_word (without_end is_blank command.now) ≡ codes "tree")
         × (behind_word (without_end is_blank command.now) ≡ rest.now)) }
 {
-    let text = after_blanks(without_last_blanks(command));
-    let behind_t = after_byte(b't', text)?;
+    after_byte(b't', command)?;
+    let behind_t = after_byte(b't', without_last_blanks(command))?;
     let behind_tr = after_byte(b'r', behind_t)?;
     let behind_tre = after_byte(b'e', behind_tr)?;
     let rest = after_byte(b'e', behind_tre)?;
