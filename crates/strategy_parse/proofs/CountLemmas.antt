@@ -9,7 +9,7 @@ use Rattle.strategy_parse.specs.declared.parser.state.Frame.TheVariants.{Operand
 use Rattle.strategy_parse.specs.declared.parser.state.StrategyFrame.TheVariants.{Operator as Operated, Rec, Child, Scope, Application, If, Then, Else, Where, List as Strategies, Tail as SquareTail}
 use Rattle.strategy_parse.specs.declared.parser.state.PatternFrame.TheVariants.{Match, Build, Applied, Matched, Left as ClosureLeft, Right as ClosureRight, List as Patterns, Tail as PatternTail}
 use Rattle.strategy_syntax.specs.Variables.{variables}
-use Rattle.strategy_parse.specs.Core.{is_among}
+use Rattle.strategy_syntax.specs.Lists.{is_among}
 use Rattle.strategy_parse.specs.FreeNames.{hides, is_hidden}
 use Rattle.strategy_parse.specs.Counts.{Counts, count, occurrences, Raised, named, lefts_of, occurrences_in, lefts_in, IsCounted}
 use Rattle.strategy_parse.proofs.HiddenLemmas.{hidden-reverse}
@@ -74,14 +74,14 @@ positive-one : (b : Bool) → positive (cond b 1 0) ≡ b
 positive-one true = refl
 positive-one false = refl
 
-among-counted : (f : Symbol) (xs : List Symbol) → is_among f xs ≡ positive (occurrences f xs)
+among-counted : (f : Symbol) (xs : List Symbol) → is_among same_name f xs ≡ positive (occurrences f xs)
 among-counted f [] = refl
 among-counted f (x ∷ xs) =
     (λ i. same_name-sym f x i || among-counted f xs i)
     ∙ ap (λ b. b || positive (occurrences f xs)) (sym (positive-one (same_name x f)))
     ∙ sym (positive-or (cond (same_name x f) 1 0) (occurrences f xs))
 
-named-counted : (f : Symbol) (xs : List Symbol) → is_among f xs ≡ positive (0 + occurrences f xs)
+named-counted : (f : Symbol) (xs : List Symbol) → is_among same_name f xs ≡ positive (0 + occurrences f xs)
 named-counted f xs = let e : occurrences f xs ≡ 0 + occurrences f xs = omega arith in among-counted f xs ∙ ap (positive) e
 
 hides-counted : (f : Symbol) (F : Frame) → hides F f ≡ positive (lefts_of F + occurrences f (named F))

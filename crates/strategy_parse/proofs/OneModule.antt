@@ -1,7 +1,7 @@
 -- A list of tokens gives at most one module.
 use Rattle.std.proofs.Common.{◌≡◌, ℕ, zero, suc, ◌<◌, ◌≤◌, refl, sym, ap, ◌∙◌, subst, List, [], ◌∷◌, ◌++◌, Some, None, length, arith}
 use Rattle.std.specs.declared.option.Option.{Option}
-use Rattle.term_core.specs.Tree.{Symbol}
+use Rattle.term_core.specs.Tree.{Symbol, same_name}
 use Rattle.strategy_syntax.specs.Syntax as syntax
 use Rattle.strategy_syntax.specs.Syntax.{Pattern, Strategy, scope}
 use Rattle.strategy_syntax.specs.Modules.{Module, Constructor, Definition}
@@ -16,7 +16,8 @@ use Rattle.strategy_parse.specs.Written.{Defined, definition, rule, rule_where}
 use Rattle.strategy_parse.specs.Grammar.{ReadsPattern}
 use Rattle.strategy_parse.specs.GrammarModules.{ReadsDefined}
 use Rattle.strategy_syntax.specs.Variables.{variables}
-use Rattle.strategy_parse.specs.Core.{core, core_definition, defined, declared, rewrite, rewrite_where, once, without}
+use Rattle.strategy_syntax.specs.Lists.{first_ones}
+use Rattle.strategy_parse.specs.Core.{core, core_definition, defined, declared, rewrite, rewrite_where}
 use Rattle.strategy_parse.specs.Fronts.{Stops}
 use Rattle.strategy_parse.specs.FreeNames.{names_seen}
 use Rattle.strategy_parse.specs.Machine.{begin}
@@ -79,7 +80,7 @@ definition_one (rule h p q) x y r e =
     let plain : behind_mark Equals r.0 ≡ None = ap (behind_mark Equals) r.2.1 in
     let colon : behind_mark Colon r.0 ≡ Some r.2.0 = ap (behind_mark Colon) r.2.1 ∙ behind_found Colon r.2.0 in
     let arrow : behind_mark RightArrow r.2.2.0 ≡ Some r.2.2.2.0 = ap (behind_mark RightArrow) r.2.2.2.1 ∙ behind_found RightArrow r.2.2.2.0 in
-    let d : Definition = defined h (scope (once (without h.terms (variables p ++ variables q))) (rewrite p q)) in
+    let d : Definition = defined h (scope (first_ones same_name h.terms (variables p ++ variables q)) (rewrite p q)) in
     record {
       definition = d;
       rest = y;
@@ -94,7 +95,7 @@ definition_one (rule_where h p q u) x y r e =
     let colon : behind_mark Colon r.0 ≡ Some r.2.0 = ap (behind_mark Colon) r.2.1 ∙ behind_found Colon r.2.0 in
     let arrow : behind_mark RightArrow r.2.2.0 ≡ Some r.2.2.2.0 = ap (behind_mark RightArrow) r.2.2.2.1 ∙ behind_found RightArrow r.2.2.2.0 in
     let names : List Symbol = (variables p ++ variables q) ++ names_seen (begin []) r.2.2.2.2.2.0 in
-    let d : Definition = defined h (scope (once (without h.terms names)) (rewrite_where p q (core u))) in
+    let d : Definition = defined h (scope (first_ones same_name h.terms names) (rewrite_where p q (core u))) in
     record {
       definition = d;
       rest = y;

@@ -1,7 +1,7 @@
 -- Rules and definitions, by the grammar and as they are read.
 use Rattle.std.proofs.Common.{◌≡◌, true, false, refl, sym, ap, ◌∙◌, subst, List, [], ◌∷◌, ◌++◌, Some, None, append_assoc}
 use Rattle.std.specs.declared.option.Option.{Option}
-use Rattle.term_core.specs.Tree.{Symbol}
+use Rattle.term_core.specs.Tree.{Symbol, same_name}
 use Rattle.strategy_syntax.specs.Syntax.{Pattern, Strategy, scope}
 use Rattle.strategy_syntax.specs.Modules.{Definition}
 use Rattle.strategy_tokens.specs.declared.token.Token.{Token}
@@ -14,7 +14,8 @@ use Rattle.strategy_parse.specs.Written.{Choice, Header, Defined, definition, ru
 use Rattle.strategy_parse.specs.Grammar.{ReadsPattern, ReadsChoice}
 use Rattle.strategy_parse.specs.GrammarModules.{ReadsHeader, ReadsDefined}
 use Rattle.strategy_syntax.specs.Variables.{variables}
-use Rattle.strategy_parse.specs.Core.{core, core_definition, defined, rewrite, rewrite_where, once, without, free_in_choice}
+use Rattle.strategy_syntax.specs.Lists.{first_ones}
+use Rattle.strategy_parse.specs.Core.{core, core_definition, defined, rewrite, rewrite_where, free_in_choice}
 use Rattle.strategy_parse.specs.Fronts.{FrontGives, Stops}
 use Rattle.strategy_parse.specs.FreeNames.{next_token, names_seen}
 use Rattle.strategy_parse.specs.Machine.{begin, front}
@@ -114,7 +115,7 @@ module _ (x : List Token) (p : Pattern) (a : List Token) (at_left : PatternAt x 
       both_are w y t = at_right.only t.right t.behind_right (subst (λ l. ReadsPattern t.right l t.behind_right) (right_is w y t) t.reads_right) t.stops
 
       -- both patterns are read, and no condition follows
-      pub rule_gives : (h : Header) (d : Definition) → d ≡ defined h (scope (once (without h.terms (variables p ++ variables q))) (rewrite p q)) → RuleGives h x d c
+      pub rule_gives : (h : Header) (d : Definition) → d ≡ defined h (scope (first_ones same_name h.terms (variables p ++ variables q)) (rewrite p q)) → RuleGives h x d c
       rule_gives h d e = record {
         written = rule h p q;
         header = refl;
@@ -125,7 +126,7 @@ module _ (x : List Token) (p : Pattern) (a : List Token) (at_left : PatternAt x 
       same_rule : (h k : Header) (l r : Pattern) → k ≡ h → l ≡ p → r ≡ q → core_definition (rule k l r) ≡ core_definition (rule h p q)
       same_rule h k l r e f g = λ i. core_definition (rule (e i) (f i) (g i))
 
-      pub rule_only : (h : Header) (d : Definition) → d ≡ defined h (scope (once (without h.terms (variables p ++ variables q))) (rewrite p q))
+      pub rule_only : (h : Header) (d : Definition) → d ≡ defined h (scope (first_ones same_name h.terms (variables p ++ variables q)) (rewrite p q))
           → is_word Where (next_token c) ≡ false → (w : Defined) (y : List Token) → header_of w ≡ h → ReadsRule w x y → DefinitionEnds y → (core_definition w ≡ d) × (y ≡ c)
       rule_only h d e none (definition k s) y f r ends = absurd r
       rule_only h d e none (rule k l s) y f r ends =
@@ -157,7 +158,7 @@ module _ (x : List Token) (p : Pattern) (a : List Token) (at_left : PatternAt x 
 
         module _ (s : Strategy) (v : List Token) (run : front (begin []) z ≡ Some (s, v)) (h : Header) (names : List Symbol) (d : Definition)
             (seen : names ≡ (variables p ++ variables q) ++ names_seen (begin []) z)
-            (is : d ≡ defined h (scope (once (without h.terms names)) (rewrite_where p q s))) where
+            (is : d ≡ defined h (scope (first_ones same_name h.terms names) (rewrite_where p q s))) where
           given : ConditionGives z s (names_seen (begin []) z) v
           given = condition_gives z s v run
 
@@ -168,8 +169,8 @@ module _ (x : List Token) (p : Pattern) (a : List Token) (at_left : PatternAt x 
 
           written_is : core_definition (rule_where h p q given.choice) ≡ d
           written_is =
-              ap (λ l. defined h (scope (once (without h.terms l)) (rewrite_where p q (core given.choice)))) (sym all_names)
-              ∙ ap (λ l. defined h (scope (once (without h.terms names)) (rewrite_where p q l))) given.is ∙ sym is
+              ap (λ l. defined h (scope (first_ones same_name h.terms l) (rewrite_where p q (core given.choice)))) (sym all_names)
+              ∙ ap (λ l. defined h (scope (first_ones same_name h.terms names) (rewrite_where p q l))) given.is ∙ sym is
 
           pub where_gives : RuleGives h x d v
           where_gives = record {
@@ -182,8 +183,8 @@ module _ (x : List Token) (p : Pattern) (a : List Token) (at_left : PatternAt x 
           -- another choice that reads there has the same core form and the same free names
           same_where : (k : Header) (l r : Pattern) (u : Choice) → k ≡ h → l ≡ p → r ≡ q → core u ≡ s → free_in_choice u ≡ names_seen (begin []) z → core_definition (rule_where k l r u) ≡ d
           same_where k l r u e f g o n =
-              (λ i. defined (e i) (scope (once (without (e i).terms (variables (f i) ++ (variables (g i) ++ n i)))) (rewrite_where (f i) (g i) (o i))))
-              ∙ ap (λ m. defined h (scope (once (without h.terms m)) (rewrite_where p q s)))
+              (λ i. defined (e i) (scope (first_ones same_name (e i).terms (variables (f i) ++ (variables (g i) ++ n i))) (rewrite_where (f i) (g i) (o i))))
+              ∙ ap (λ m. defined h (scope (first_ones same_name h.terms m) (rewrite_where p q s)))
               (sym (append_assoc (variables p) (variables q) (names_seen (begin []) z)) ∙ sym seen)
               ∙ sym is
 
@@ -319,15 +320,15 @@ module _ (x : List Token) (h : Header) (a : List Token) (at_header : header_at x
 -- ---- what a rule is made of
 
 pub rule_built : (h : Header) (p q : Pattern) (start names more : List Symbol) (body : Strategy) (d : Definition) → start ≡ [] → names ≡ start ++ variables p → more ≡ names ++ variables q
-    → body ≡ rewrite p q → d ≡ defined h (scope (once (without h.terms more)) body) → d ≡ defined h (scope (once (without h.terms (variables p ++ variables q))) (rewrite p q))
+    → body ≡ rewrite p q → d ≡ defined h (scope (first_ones same_name h.terms more) body) → d ≡ defined h (scope (first_ones same_name h.terms (variables p ++ variables q)) (rewrite p q))
 rule_built h p q start names more body d e f g b is =
     let all : more ≡ variables p ++ variables q = g ∙ ap (λ l. l ++ variables q) (f ∙ ap (λ l. l ++ variables p) e) in
-    is ∙ (λ i. defined h (scope (once (without h.terms (all i))) (b i)))
+    is ∙ (λ i. defined h (scope (first_ones same_name h.terms (all i)) (b i)))
 
 pub seen_built : (p q : Pattern) (start names more all l : List Symbol) → start ≡ [] → names ≡ start ++ variables p → more ≡ names ++ variables q
     → all ≡ more ++ l → all ≡ (variables p ++ variables q) ++ l
 seen_built p q start names more all l e f g h = h ∙ ap (λ m. m ++ l) (g ∙ ap (λ m. m ++ variables q) (f ∙ ap (λ m. m ++ variables p) e))
 
-pub where_built : (h : Header) (p q : Pattern) (s body : Strategy) (names : List Symbol) (d : Definition) → body ≡ rewrite_where p q s → d ≡ defined h (scope (once (without h.terms names)) body)
-    → d ≡ defined h (scope (once (without h.terms names)) (rewrite_where p q s))
-where_built h p q s body names d b is = is ∙ ap (λ r. defined h (scope (once (without h.terms names)) r)) b
+pub where_built : (h : Header) (p q : Pattern) (s body : Strategy) (names : List Symbol) (d : Definition) → body ≡ rewrite_where p q s → d ≡ defined h (scope (first_ones same_name h.terms names) body)
+    → d ≡ defined h (scope (first_ones same_name h.terms names) (rewrite_where p q s))
+where_built h p q s body names d b is = is ∙ ap (λ r. defined h (scope (first_ones same_name h.terms names) r)) b

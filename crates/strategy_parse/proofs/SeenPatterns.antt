@@ -1,7 +1,7 @@
 -- The names that are seen while the machine reads a pattern are its variables.
 use Rattle.std.proofs.Common.{◌≡◌, Bool, true, false, ◌||◌, refl, sym, ap, ◌∙◌, inl, inr, List, [], ◌∷◌, ◌++◌, append_assoc, append-nil}
 use Rattle.std.specs.Prelude.{if◌then◌else◌, cond, ◌⊎◌}
-use Rattle.term_core.specs.Tree.{Symbol, application as applied, list, tuple}
+use Rattle.term_core.specs.Tree.{Symbol, same_name, application as applied, list, tuple}
 use Rattle.strategy_syntax.specs.Syntax as syntax
 use Rattle.strategy_syntax.specs.Syntax.{Pattern, wildcard, variable, at, number, compound, with_tail, annotated, no_patterns, and_pattern, pattern_list, patterns_of, Strategy, strategy_list, strategies_of}
 use Rattle.strategy_tokens.specs.declared.token.Token.{Token}
@@ -21,7 +21,7 @@ use Rattle.strategy_parse.specs.Grammar.{IsBase, ReadsPattern, ReadsPatterns, Re
 use Rattle.strategy_tokens.proofs.MarkLemmas.{mark_self}
 use Rattle.strategy_parse.specs.FreeNames.{is_hidden, shown, seen, next_token, names_seen}
 use Rattle.strategy_syntax.specs.Variables.{variables, variables_of_all}
-use Rattle.strategy_parse.specs.Core.{is_among, without}
+use Rattle.strategy_syntax.specs.Lists.{is_among, without}
 use Rattle.strategy_parse.proofs.CompletePatterns.{patterns_of-list}
 unfoldable use Rattle.strategy_parse.proofs.CompletePatterns.{behind_read}
 
@@ -54,9 +54,9 @@ keep_one : (b : Bool) (h : Symbol → Bool) (f : Symbol) (w k : List Symbol) →
 keep_one true h f w k e = e
 keep_one false h f w k e = ap (λ l. (if h f then [] else f ∷ []) ++ l) e
 
-pub keep-without : (xs : List Symbol) (h : Symbol → Bool) (fs : List Symbol) → keep h (without xs fs) ≡ keep (λ f. is_among f xs || h f) fs
+pub keep-without : (xs : List Symbol) (h : Symbol → Bool) (fs : List Symbol) → keep h (without same_name xs fs) ≡ keep (λ f. is_among same_name f xs || h f) fs
 keep-without xs h [] = refl
-keep-without xs h (f ∷ fs) = keep_one (is_among f xs) h f (without xs fs) (keep (λ g. is_among g xs || h g) fs) (keep-without xs h fs)
+keep-without xs h (f ∷ fs) = keep_one (is_among same_name f xs) h f (without same_name xs fs) (keep (λ g. is_among same_name g xs || h g) fs) (keep-without xs h fs)
 
 -- what is seen first, and what is seen then
 pub chain : (S : List Frame) (a b l m n : List Symbol) → l ≡ free S a ++ m → m ≡ free S b ++ n → l ≡ free S (a ++ b) ++ n

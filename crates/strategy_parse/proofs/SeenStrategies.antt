@@ -1,7 +1,7 @@
 -- The names that are seen while the machine reads a strategy are those that stand free in it.
 use Rattle.std.proofs.Common.{◌≡◌, ℕ, zero, suc, pos, false, refl, sym, ap, ◌∙◌, subst, List, [], ◌∷◌, ◌++◌, ◌≤◌, arith, append_assoc, append-nil}
 use Rattle.std.specs.Prelude.{if◌then◌else◌}
-use Rattle.term_core.specs.Tree.{Symbol, list}
+use Rattle.term_core.specs.Tree.{Symbol, same_name, list}
 use Rattle.strategy_syntax.specs.Syntax as syntax
 use Rattle.strategy_syntax.specs.Syntax.{Pattern, wildcard, variable, at, number, compound, with_tail, annotated, no_patterns, and_pattern, pattern_list, patterns_of, Strategy, strategy_list, strategies_of}
 use Rattle.strategy_tokens.specs.declared.token.Token.{Token}
@@ -28,7 +28,8 @@ use Rattle.strategy_tokens.proofs.MarkLemmas.{mark_self}
 use Rattle.strategy_parse.specs.FreeNames.{is_hidden, seen, next_token, seen_behind, names_seen}
 use Rattle.strategy_parse.specs.Written.{Choice, sequence, left_choice, guarded_choice, Seq, last, before, Arrow, arrow, Prefix, question, exclamation, application, identity, failure, operator, if_then, if_then_else, recursion, primitive, local, closure, closure_where, round, square, square_with_tail, name, call, call_with_terms, child, Choices, no_choices, and_choice}
 use Rattle.strategy_syntax.specs.Variables.{variables, variables_of_all}
-use Rattle.strategy_parse.specs.Core.{without, then_matched, in_brackets, core, core_seq, core_arrow, core_prefix, core_all, free_in_choice, free_in_seq, free_in_arrow, free_in_prefix, free_in_choices}
+use Rattle.strategy_syntax.specs.Lists.{without}
+use Rattle.strategy_parse.specs.Core.{then_matched, in_brackets, core, core_seq, core_arrow, core_prefix, core_all, free_in_choice, free_in_seq, free_in_arrow, free_in_prefix, free_in_choices}
 use Rattle.strategy_parse.proofs.CompletePatterns.{patterns_of-list}
 use Rattle.strategy_parse.proofs.CompleteStrategies.{strategies_of-list, Bare}
 use Rattle.strategy_parse.proofs.SeenPatterns.{free, keep-none, keep-all, keep-without, chain, NoMark, no_mark, no_mark_word, names_pass, NameEnds, name_ends, Begins, begins_with, pattern_seen, list_seen, rest_seen}
@@ -320,12 +321,12 @@ mutual
       rw h.1 (names_in fs S h.0 h.2.0 h.2.1
       ∙ choice_sees a (ForStrategy (Scope fs) ∷ S) h.2.0 h.2.2.0 h.2.2.1 (λ s t. refl) (choice_ends CloseCurly h.2.2.0 y h.2.2.2 refl refl refl refl refl refl refl)
       ∙ ap (λ l. l ++ names_seen (in_frame (core a) (Scope fs) S) h.2.2.0) (sym (keep-without fs (λ f. is_hidden f S) (free_in_choice a)))
-      ∙ ap (λ l. free S (without fs (free_in_choice a)) ++ names_seen (in_frame (core a) (Scope fs) S) l) h.2.2.2)
+      ∙ ap (λ l. free S (without same_name fs (free_in_choice a)) ++ names_seen (in_frame (core a) (Scope fs) S) l) h.2.2.2)
   prefix_sees (closure p q) S x y h e =
       rw h.1 (left_sees p S h.0 h.2.0 h.2.2.0 h.2.1 h.2.2.1
       ∙ right_sees p q S h.2.2.0 h.2.2.2.0 h.2.2.2.1 (prefix_ends Backslash h.2.2.2.0 y h.2.2.2.2 refl refl refl)
       ∙ ap (λ l. l ++ names_seen (pattern_in_frame q (ClosureRight p) S) h.2.2.2.0) (sym (keep-without (variables p) (λ f. is_hidden f S) (variables q)))
-      ∙ ap (λ l. free S (without (variables p) (variables q)) ++ names_seen (pattern_in_frame q (ClosureRight p) S) l) h.2.2.2.2)
+      ∙ ap (λ l. free S (without same_name (variables p) (variables q)) ++ names_seen (pattern_in_frame q (ClosureRight p) S) l) h.2.2.2.2)
   prefix_sees (closure_where p q a) S x y h e =
       rw h.1 (left_sees p S h.0 h.2.0 h.2.2.0 h.2.1 h.2.2.1
       ∙ chain (ForPattern (ClosureRight p) ∷ S) (variables q) (free_in_choice a) (names_seen (begin_pattern (ForPattern (ClosureRight p) ∷ S)) h.2.2.0) (names_seen (pattern_in_frame q (ClosureRight p) S) h.2.2.2.0)
@@ -333,7 +334,7 @@ mutual
       (right_sees p q S h.2.2.0 h.2.2.2.0 h.2.2.2.1 (word_ends KWhere h.2.2.2.0 h.2.2.2.2.0 h.2.2.2.2.1).seq.arrow.prefix)
       (rw h.2.2.2.2.1 (choice_sees a (ForStrategy (Where p q) ∷ S) h.2.2.2.2.0 h.2.2.2.2.2.0 h.2.2.2.2.2.1 (λ s t. refl) (choice_ends Backslash h.2.2.2.2.2.0 y h.2.2.2.2.2.2 refl refl refl refl refl refl refl)))
       ∙ ap (λ l. l ++ names_seen (in_frame (core a) (Where p q) S) h.2.2.2.2.2.0) (sym (keep-without (variables p) (λ f. is_hidden f S) (variables q ++ free_in_choice a)))
-      ∙ ap (λ l. free S (without (variables p) (variables q ++ free_in_choice a)) ++ names_seen (in_frame (core a) (Where p q) S) l) h.2.2.2.2.2.2)
+      ∙ ap (λ l. free S (without same_name (variables p) (variables q ++ free_in_choice a)) ++ names_seen (in_frame (core a) (Where p q) S) l) h.2.2.2.2.2.2)
   prefix_sees (round cs) S x y h e =
       rw h.1 (choices_see cs Round S h.0 y h.2 ∙ ap (λ l. free S (free_in_choices cs) ++ names_seen (behind (in_brackets l) S) y) (strategies_of-list (core_all cs)))
   prefix_sees (square cs) S x y h e =

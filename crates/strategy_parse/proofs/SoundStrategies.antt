@@ -1,7 +1,7 @@
 -- What the machine reads as a strategy, the grammar reads.
 use Rattle.std.proofs.Common.{◌≡◌, ℕ, zero, suc, ℤ, pos, negsuc, refl, ap, subst, inl, inr, List, [], ◌∷◌, length, ◌≤◌, ◌<◌, arith}
 use Rattle.std.specs.Prelude.{if◌then◌else◌}
-use Rattle.term_core.specs.Tree.{Symbol, list}
+use Rattle.term_core.specs.Tree.{Symbol, same_name, list}
 use Rattle.strategy_syntax.specs.Syntax as syntax
 use Rattle.strategy_syntax.specs.Syntax.{Pattern, wildcard, variable, at, number, compound, with_tail, annotated, no_patterns, and_pattern, pattern_list, patterns_of, Strategy, strategy_list, strategies_of}
 use Rattle.strategy_tokens.specs.declared.token.Token.{Token}
@@ -26,7 +26,8 @@ use Rattle.strategy_parse.specs.Machine.{goes, stuck, begin, begin_sign, begin_w
 use Rattle.strategy_parse.specs.Grammar.{word_of, ReadsChoice, ReadsChoices}
 use Rattle.strategy_parse.specs.Written.{Choice, question, exclamation, application, identity, failure, operator, if_then, if_then_else, recursion, primitive, local, closure, closure_where, round, square, square_with_tail, name, call, call_with_terms, child, Choices, no_choices, and_choice}
 use Rattle.strategy_syntax.specs.Variables.{variables}
-use Rattle.strategy_parse.specs.Core.{operated, in_brackets, rewrite, rewrite_where, core, core_all, once}
+use Rattle.strategy_syntax.specs.Lists.{first_ones}
+use Rattle.strategy_parse.specs.Core.{operated, in_brackets, rewrite, rewrite_where, core, core_all}
 use Rattle.strategy_parse.proofs.Runs.{Accepts, Goes, at_mark, only_mark, at_word, only_word}
 use Rattle.strategy_parse.proofs.CompletePatterns.{patterns_of-list}
 use Rattle.strategy_parse.proofs.CompleteStrategies.{strategies_of-list, Bare}
@@ -199,7 +200,7 @@ module _ (n : ℕ) (P : PrefixesTo n) where
       let l : length p.rest ≡ suc (length to.0) = ap length to.1 in
       let q : FoundPattern (ForPattern (ClosureRight p.pattern) ∷ S) to.0 r = pattern_at (ForPattern (ClosureRight p.pattern) ∷ S) to.0 r to.2 in
       let lq : length q.rest < length to.0 = q.shorter in
-      elim (at_mark Backslash (goes (Read (syntax.scope (once (variables p.pattern)) (rewrite p.pattern q.pattern))) S) (λ t. if (is_word KWhere t) then goes ToStrategy (ForStrategy (Where p.pattern q.pattern) ∷ S) else stuck) q.rest r q.accepts) [
+      elim (at_mark Backslash (goes (Read (syntax.scope (first_ones same_name [] (variables p.pattern)) (rewrite p.pattern q.pattern))) S) (λ t. if (is_word KWhere t) then goes ToStrategy (ForStrategy (Where p.pattern q.pattern) ∷ S) else stuck) q.rest r q.accepts) [
         | inl end ↦
             let l' : length q.rest ≡ suc (length end.0) = ap length end.1 in
             record { prefix = closure p.pattern q.pattern; rest = end.0; reads = (ts, refl, (p.rest, p.reads, (to.0, to.1, (q.rest, q.reads, end.1)))); accepts = end.2; shorter = omega arith }
@@ -208,7 +209,7 @@ module _ (n : ℕ) (P : PrefixesTo n) where
             let lw : length q.rest ≡ suc (length where_at.0) = ap length where_at.1 in
             let a : FoundChoice (ForStrategy (Where p.pattern q.pattern) ∷ S) where_at.0 r = framed n P (Where p.pattern q.pattern) S where_at.0 r (omega arith) where_at.2 in
             let la : length a.rest < length where_at.0 = a.shorter in
-            let end = only_mark Backslash (goes (Read (syntax.scope (once (variables p.pattern)) (rewrite_where p.pattern q.pattern (core a.choice)))) S) a.rest r a.accepts in
+            let end = only_mark Backslash (goes (Read (syntax.scope (first_ones same_name [] (variables p.pattern)) (rewrite_where p.pattern q.pattern (core a.choice)))) S) a.rest r a.accepts in
             let l' : length a.rest ≡ suc (length end.0) = ap length end.1 in
             record {
               prefix = closure_where p.pattern q.pattern a.choice;

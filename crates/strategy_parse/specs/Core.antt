@@ -1,29 +1,16 @@
 -- The translation of what is written into core forms.
-use Rattle.std.specs.Prelude.{ℕ, suc, Bool, false, ◌||◌, cond, List, [], ◌∷◌, ◌++◌, Some, None}
+use Rattle.std.specs.Prelude.{ℕ, suc, List, [], ◌∷◌, ◌++◌, Some, None}
 use Rattle.std.specs.List.{flat_map}
 use Rattle.term_core.specs.Tree.{Symbol, same_name, list, tuple}
 use Rattle.strategy_syntax.specs.Syntax.{Pattern, Patterns, no_patterns, and_pattern, Strategy, id, fail, matches, builds, seq, guard, test, scope, uses, congruence, tail_congruence, all, one, some, child as nth_child, rec, prim, Strategies, no_strategies, and_strategy}
 use Rattle.strategy_syntax.specs.Modules as syntax
+use Rattle.strategy_syntax.specs.Lists.{first_ones, without}
 use Rattle.strategy_syntax.specs.Variables.{variables, variables_of_all}
 use Rattle.strategy_parse.specs.declared.parser.state.Operator.{Operator}
 use Rattle.strategy_parse.specs.declared.parser.state.Operator.TheVariants.{All, One, Some as SomeChild, Not, Where, Test}
 use Rattle.strategy_parse.specs.Written.{Choice, sequence, left_choice, guarded_choice, Seq, last, before, Arrow, arrow, Prefix, question, exclamation, application, identity, failure, operator, if_then, if_then_else, recursion, primitive, local, closure, closure_where, round, square, square_with_tail, name, call, call_with_terms, child, Choices, no_choices, and_choice, Sorts, no_sorts, and_sort, Declaration, constant, function, Header, Defined, definition, rule, rule_where, SignaturePart, sorts, constructors, Section, signature, definitions}
 
 -- ---- variables
-
-abbrev pub is_among : Symbol → List Symbol → Bool
-is_among f [] = false
-is_among f (g ∷ gs) = same_name f g || is_among f gs
-
--- the names that aren't among the others
-abbrev pub without : List Symbol → List Symbol → List Symbol
-without others [] = []
-without others (f ∷ fs) = cond (is_among f others) (without others fs) (f ∷ without others fs)
-
--- each name once, where it first stands
-abbrev pub once : List Symbol → List Symbol
-once [] = []
-once (f ∷ fs) = f ∷ without (f ∷ []) (once fs)
 
 -- The variables that stand free in a strategy, in the order of the text: in a pattern, where no
 -- scope round it names them. A closure is a scope of the variables of its left side.
@@ -52,10 +39,10 @@ abbrev mutual
       free_in_choice a ++ (free_in_choice b ++ free_in_choice c)
   free_in_prefix (recursion f a) = free_in_choice a
   free_in_prefix (primitive n ps) = variables_of_all ps
-  free_in_prefix (local fs a) = without fs (free_in_choice a)
-  free_in_prefix (closure p q) = without (variables p) (variables q)
+  free_in_prefix (local fs a) = without same_name fs (free_in_choice a)
+  free_in_prefix (closure p q) = without same_name (variables p) (variables q)
   free_in_prefix (closure_where p q a) =
-      without (variables p) (variables q ++ free_in_choice a)
+      without same_name (variables p) (variables q ++ free_in_choice a)
   free_in_prefix (round cs) = free_in_choices cs
   free_in_prefix (square cs) = free_in_choices cs
   free_in_prefix (square_with_tail cs a) = free_in_choices cs ++ free_in_choice a
@@ -122,8 +109,8 @@ abbrev mutual
   core_prefix (recursion f a) = rec f (core a)
   core_prefix (primitive n ps) = prim n ps
   core_prefix (local fs a) = scope fs (core a)
-  core_prefix (closure p q) = scope (once (variables p)) (rewrite p q)
-  core_prefix (closure_where p q a) = scope (once (variables p)) (rewrite_where p q (core a))
+  core_prefix (closure p q) = scope (first_ones same_name [] (variables p)) (rewrite p q)
+  core_prefix (closure_where p q a) = scope (first_ones same_name [] (variables p)) (rewrite_where p q (core a))
   core_prefix (round cs) = in_brackets (core_all cs)
   core_prefix (square cs) = congruence list (core_all cs)
   core_prefix (square_with_tail cs a) = tail_congruence (core_all cs) (core a)
@@ -161,9 +148,10 @@ defined h s = record {
 abbrev pub core_definition : Defined → syntax.Definition
 core_definition (definition h a) = defined h (core a)
 core_definition (rule h p q) =
-    defined h (scope (once (without h.terms (variables p ++ variables q))) (rewrite p q))
+    defined h (scope (first_ones same_name h.terms (variables p ++ variables q)) (rewrite p q))
 core_definition (rule_where h p q a) =
-    defined h (scope (once (without h.terms (variables p ++ (variables q ++ free_in_choice a))))
+    defined h
+    (scope (first_ones same_name h.terms (variables p ++ (variables q ++ free_in_choice a)))
     (rewrite_where p q (core a)))
 
 abbrev pub declared_in_part : SignaturePart → List syntax.Constructor

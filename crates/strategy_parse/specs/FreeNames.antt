@@ -1,7 +1,7 @@
 -- The names that stand free in the part of a text that the machine reads, in the order of the text:
 -- each is seen where a variable of a pattern is read, unless an open scope names it.
 use Rattle.std.specs.Prelude.{Bool, true, false, ◌||◌, List, [], ◌∷◌, ◌++◌, if◌then◌else◌}
-use Rattle.term_core.specs.Tree.{Symbol}
+use Rattle.term_core.specs.Tree.{Symbol, same_name}
 use Rattle.strategy_tokens.specs.declared.token.Token.{Token}
 use Rattle.strategy_tokens.specs.declared.token.Token.TheVariants.{Bad}
 use Rattle.strategy_tokens.specs.declared.token.Sign.TheVariants.{OpenRound}
@@ -12,17 +12,17 @@ use Rattle.strategy_parse.specs.declared.parser.state.Frame.TheVariants.{Strateg
 use Rattle.strategy_parse.specs.declared.parser.state.StrategyFrame.TheVariants.{Scope, Where}
 use Rattle.strategy_parse.specs.declared.parser.state.PatternFrame.TheVariants.{Left as ClosureLeft, Right as ClosureRight}
 use Rattle.strategy_syntax.specs.Variables.{variables}
-use Rattle.strategy_parse.specs.Core.{is_among}
+use Rattle.strategy_syntax.specs.Lists.{is_among}
 use Rattle.strategy_tokens.specs.Marks.{is_mark}
 use Rattle.strategy_parse.specs.Machine.{Next, goes, step}
 
 -- Whether the form names it: a scope, or a closure by its left side. What stands in the left side
 -- of a closure is named by it.
 abbrev pub hides : Frame → Symbol → Bool
-hides (ForStrategy (Scope xs)) f = is_among f xs
-hides (ForStrategy (Where l r)) f = is_among f (variables l)
+hides (ForStrategy (Scope xs)) f = is_among same_name f xs
+hides (ForStrategy (Where l r)) f = is_among same_name f (variables l)
 hides (ForPattern ClosureLeft) f = true
-hides (ForPattern (ClosureRight l)) f = is_among f (variables l)
+hides (ForPattern (ClosureRight l)) f = is_among same_name f (variables l)
 hides F f = false
 
 -- whether one of the open forms does

@@ -2,7 +2,7 @@
 -- and the next token. At the end of a text it takes a bad token, with which no form goes on.
 use Rattle.std.specs.Prelude.{◌≡◌, ℤ, suc, pos, List, [], ◌∷◌, ◌++◌, if◌then◌else◌, Some, None}
 use Rattle.std.specs.declared.option.Option.{Option}
-use Rattle.term_core.specs.Tree.{Symbol, application as applied, list, tuple}
+use Rattle.term_core.specs.Tree.{Symbol, same_name, application as applied, list, tuple}
 use Rattle.strategy_syntax.specs.Syntax as syntax
 use Rattle.strategy_syntax.specs.Syntax.{Pattern, patterns_of, Strategy, strategies_of}
 use Rattle.strategy_tokens.specs.declared.token.Token.{Token}
@@ -31,7 +31,8 @@ use Rattle.strategy_parse.specs.declared.parser.state.Outcome.{Outcome}
 use Rattle.strategy_parse.specs.declared.parser.state.Outcome.TheVariants.{Goes, Ends}
 use Rattle.strategy_tokens.specs.Marks.{is_mark, is_word}
 use Rattle.strategy_syntax.specs.Variables.{variables}
-use Rattle.strategy_parse.specs.Core.{operated, in_brackets, rewrite, rewrite_where, once}
+use Rattle.strategy_syntax.specs.Lists.{first_ones}
+use Rattle.strategy_parse.specs.Core.{operated, in_brackets, rewrite, rewrite_where}
 
 -- Where a token leads to: it is taken, or a whole strategy ended before it, or nothing goes on with
 -- it.
@@ -157,7 +158,7 @@ in_frame s (Else a b) S t =
     if (is_word KEnd t) then goes (Read (syntax.guard (syntax.test a) b s)) S else stuck
 in_frame s (Where p q) S t =
     if (is_mark Backslash t)
-    then goes (Read (syntax.scope (once (variables p)) (rewrite_where p q s))) S else stuck
+    then goes (Read (syntax.scope (first_ones same_name [] (variables p)) (rewrite_where p q s))) S else stuck
 in_frame s (Strategies g done) S t = behind_element g (done ++ s ∷ []) S t
 in_frame s (SquareTail done) S t =
     if (is_mark CloseSquare t)
@@ -233,7 +234,7 @@ pattern_in_frame p ClosureLeft S t =
     if (is_mark RightArrow t) then goes ToPattern (ForPattern (ClosureRight p) ∷ S) else stuck
 pattern_in_frame p (ClosureRight l) S t =
     if (is_mark Backslash t)
-    then goes (Read (syntax.scope (once (variables l)) (rewrite l p))) S else
+    then goes (Read (syntax.scope (first_ones same_name [] (variables l)) (rewrite l p))) S else
     if (is_word KWhere t) then goes ToStrategy (ForStrategy (Where l p) ∷ S) else stuck
 pattern_in_frame p (Patterns g ps) S t = behind_one g (ps ++ p ∷ []) S t
 pattern_in_frame p (PatternTail ps) S t =

@@ -1,18 +1,20 @@
 //! Rules, which are definitions with a scope of their variables.
 
 ghost use Rattle.std.specs.Prelude.{◌≡◌, List, IfOk, Err};
+ghost use Rattle.strategy_syntax.specs.Lists.{first_ones};
 ghost use Rattle.strategy_syntax.specs.Syntax.{scope};
-ghost use Rattle.strategy_parse.specs.Core.{core_definition, defined, once, without};
+ghost use Rattle.strategy_parse.specs.Core.{core_definition, defined};
 ghost use Rattle.strategy_parse.specs.Definitions.{DefinitionEnds, header_of, ReadsRule, RuleGives};
 ghost use Rattle.strategy_parse.specs.ModuleFronts.{make_header};
 ghost use Rattle.strategy_parse.specs.Written.{Defined};
 ghost use Rattle.strategy_tokens.specs.declared.token.Token.{Token};
+ghost use Rattle.term_core.specs.Tree.{same_name};
 
 use crate::modules::headers::Header;
 use crate::modules::tokens::{behind_word, expect_mark};
 use crate::parser::{
-    Condition, NameList, SyntaxFault, add_variables, make_rewrite, make_rewrite_where, make_scope,
-    once_without, read_condition, read_pattern,
+    Condition, NameList, SyntaxFault, add_variables, first_ones, make_rewrite, make_rewrite_where,
+    make_scope, read_condition, read_pattern,
 };
 use std::alloc::Global;
 use strategy_syntax::{Definition, Pattern, Strategy};
@@ -59,9 +61,9 @@ fn make_rule(
 ) -> Result<Definition, NoMemory>
     ensures { IfOk result (λ made. made
         ≡ defined (make_header header.name header.strategies header.terms)
-        (scope (once (without header.terms names.now)) body)) }
+        (scope (first_ones same_name header.terms names.now) body)) }
 {
-    let scope = once_without(alloc, names.as_slice(), header.terms.as_slice())?;
+    let scope = first_ones(alloc, names.as_slice(), header.terms.as_slice())?;
     let body = make_scope(alloc, scope, body)?;
     Ok(make_definition(header, body))
 }

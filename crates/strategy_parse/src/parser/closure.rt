@@ -3,21 +3,22 @@
 
 ghost use Rattle.std.specs.Prelude.{◌≡◌, ◌++◌, [], IfOk};
 ghost use Rattle.strategy_syntax.specs.Variables.{variables, variables_of_all};
-ghost use Rattle.strategy_parse.specs.Core.{once};
+ghost use Rattle.strategy_syntax.specs.Lists.{first_ones};
 ghost use Rattle.strategy_syntax.specs.Syntax.{patterns_of};
+ghost use Rattle.term_core.specs.Tree.{same_name};
 
 use crate::parser::lists::NameList;
-use crate::parser::once::once_without;
+use crate::parser::names::first_ones;
 use std::alloc::Global;
 use strategy_syntax::{Pattern, PatternForm};
 use term_core::NoMemory;
 
 /// The variables of a pattern, each once, in the order in which they first stand in it.
 pub fn scope_of(alloc: Global, left: &Pattern) -> Result<NameList, NoMemory>
-    ensures { IfOk result (λ names. names ≡ once (variables left.now)) }
+    ensures { IfOk result (λ names. names ≡ first_ones same_name [] (variables left.now)) }
 {
     let names = add_variables(left, NameList::new(alloc))?;
-    let kept = once_without(alloc, names.as_slice(), &[])?;
+    let kept = first_ones(alloc, names.as_slice(), &[])?;
     Ok(kept)
 }
 

@@ -1,9 +1,11 @@
 //! Strategies from their parts.
 
-ghost use Rattle.std.specs.Prelude.{◌≡◌, IfOk};
+ghost use Rattle.std.specs.Prelude.{◌≡◌, [], IfOk};
+ghost use Rattle.strategy_syntax.specs.Lists.{first_ones};
 ghost use Rattle.strategy_syntax.specs.Syntax as syntax;
 ghost use Rattle.strategy_syntax.specs.Variables.{variables};
-ghost use Rattle.strategy_parse.specs.Core.{operated, rewrite, rewrite_where, once};
+ghost use Rattle.strategy_parse.specs.Core.{operated, rewrite, rewrite_where};
+ghost use Rattle.term_core.specs.Tree.{same_name};
 
 use crate::parser::closure::scope_of;
 use crate::parser::lists::{NameList, StrategyList};
@@ -157,7 +159,7 @@ pub fn make_rewrite_where(
 /// `\ l -> r \`
 pub fn make_closure(alloc: Global, left: Pattern, right: Pattern) -> Result<Strategy, NoMemory>
     ensures { IfOk result (λ made. made
-        ≡ syntax.scope (once (variables left)) (rewrite left right)) }
+        ≡ syntax.scope (first_ones same_name [] (variables left)) (rewrite left right)) }
 {
     let names = scope_of(alloc, &left)?;
     let body = make_rewrite(alloc, left, right)?;
@@ -171,8 +173,8 @@ pub fn make_closure_where(
     right: Pattern,
     condition: Strategy,
 ) -> Result<Strategy, NoMemory>
-    ensures { IfOk result (λ made.
-        made ≡ syntax.scope (once (variables left)) (rewrite_where left right condition)) }
+    ensures { IfOk result (λ made. made ≡ syntax.scope
+        (first_ones same_name [] (variables left)) (rewrite_where left right condition)) }
 {
     let names = scope_of(alloc, &left)?;
     let body = make_rewrite_where(alloc, left, right, condition)?;

@@ -1,7 +1,7 @@
 use Rattle.std.proofs.Common.{◌++◌, take}
 use Rattle.std.specs.HashSet.{contains}
 use Rattle.strategy_parse.proofs.NameLemmas.{Kept, Saw, same_referred}
-use Rattle.strategy_parse.proofs.parser.once.once_without.Given as goal
+use Rattle.strategy_parse.proofs.parser.names.first_ones.Given as goal
 
 -- the set holds the others so far
 abbrev pub invariant-loop-other : goal.invariant-loop-other

@@ -2,7 +2,8 @@
 #![tactic(auto)]
 
 ghost use Rattle.std.specs.Prelude.{◌≡◌, IfOk};
-ghost use Rattle.strategy_parse.specs.Core.{without, once};
+ghost use Rattle.strategy_syntax.specs.Lists.{first_ones};
+ghost use Rattle.term_core.specs.Tree.{same_name};
 
 use crate::parser::lists::NameList;
 use std::alloc::Global;
@@ -10,8 +11,8 @@ use std::collections::HashSet;
 use term_core::{Name, NoMemory};
 
 /// Each of the names once, where it first stands, without the others. Its time is linear.
-pub fn once_without(alloc: Global, names: &[Name], others: &[Name]) -> Result<NameList, NoMemory>
-    ensures { IfOk result (λ kept. kept ≡ once (without others.now names.now)) }
+pub fn first_ones(alloc: Global, names: &[Name], others: &[Name]) -> Result<NameList, NoMemory>
+    ensures { IfOk result (λ kept. kept ≡ first_ones same_name others.now names.now) }
 {
     let mut seen = HashSet::new(alloc);
     for other in others {

@@ -2,10 +2,11 @@ use Rattle.std.proofs.Common.{◌≡◌, ◌++◌, [], ◌∷◌, take, refl, sy
 use Rattle.std.proofs.lemmas.List.{take_all}
 use Rattle.std.specs.HashSet.{contains}
 use Rattle.std.specs.Prelude.{not}
-use Rattle.strategy_parse.specs.Core.{is_among}
+use Rattle.term_core.specs.Tree.{same_name}
+use Rattle.strategy_syntax.specs.Lists.{is_among}
 use Rattle.strategy_parse.proofs.NameLemmas.{same_referred, Kept, saw-more, seen-next, kept-start, kept-end, step-kept, step-skipped}
-use Rattle.strategy_parse.proofs.parser.once.once_without.Goals as goal
-use Rattle.strategy_parse.proofs.parser.once.once_without.Goals.{then-branch+in_ok-try_clone+in_ok-kept, else-branch}
+use Rattle.strategy_parse.proofs.parser.names.first_ones.Goals as goal
+use Rattle.strategy_parse.proofs.parser.names.first_ones.Goals.{then-branch+in_ok-try_clone+in_ok-kept, else-branch}
 
 pub loop-other-init : goal.loop-other-init
 loop-other-init c = λ q. rw c.new-seen.ensures.empty refl
@@ -20,13 +21,13 @@ pub loop-name-init : goal.loop-name-init
 loop-name-init c =
     let all : take c.loop-other.other-index c.args.others.now ≡ c.args.others.now ++ c.new-kept.result =
     take_all c.loop-other.other-index c.args.others.now c.loop-other-test.false ∙ sym (ap (λ l. c.args.others.now ++ l) c.new-kept.ensures ∙ append-nil c.args.others.now) in (
-      λ q. c.loop-other.invariant q ∙ ap (is_among q.now) all,
+      λ q. c.loop-other.invariant q ∙ ap (is_among same_name q.now) all,
       subst (λ l. Kept c.args.others.now l c.args.names.now 0) (sym c.new-kept.ensures) (kept-start c.args.others.now c.args.names.now),
     )
 
 pub loop-name-preserved : goal.loop-name-preserved
 loop-name-preserved c =
-    let told : c.in_ok-insert-2.field-0 ≡ not (is_among c.name-item.result (c.args.others.now ++ c.loop-name.kept)) =
+    let told : c.in_ok-insert-2.field-0 ≡ not (is_among same_name c.name-item.result (c.args.others.now ++ c.loop-name.kept)) =
     c.in_ok-insert-2.ensures.added ∙ ap not (c.loop-name.invariant.0 (record { ref_ptr = c.args.names.ref_ptr; now = c.name-item.result })) in
     elim c.if-branch.branch [
       | then-branch+in_ok-try_clone+in_ok-kept w ↦
