@@ -257,10 +257,6 @@ mutual
       rw h.1 (choice_reads a (ForStrategy (Strategies (Arguments f) done) ∷ S) h.0 h.2.0 r h.2.1
       (arguments_bar_read cs f (done ++ core a ∷ []) S h.2.0 y r h.2.2 (subst (λ l. Accepts (first_pattern (Terms f l) S) y r) (sym (append_assoc done (core a ∷ []) (strategy_list (core_all cs)))) k)))
 
--- what reads as a choice, where the rest is accepted behind it
-pub choice_read : (a : Choice) (S : List Frame) (x y : List Token) (r : Strategy) → ReadsChoice a x y → Accepts (behind_choice (core a) S) y r → Accepts (begin S) x r
-choice_read a S x y r h k = choice_reads a S x y r h k
-
 -- the one result
 pub reads_all : (a : Choice) (x : List Token) → ReadsChoice a x [] → Accepts (begin []) x (core a)
 reads_all a x h = choice_reads a [] x [] (core a) h refl

@@ -1,5 +1,5 @@
 -- The free names of what the machine reads at the front of some tokens.
-use Rattle.std.proofs.Common.{◌≡◌, ◌+◌, ◌≤◌, Bool, true, false, ◌||◌, refl, sym, ap, ◌∙◌, subst, List, [], ◌∷◌, ◌++◌, Some, None, length, length-append, append_assoc, append-nil, arith}
+use Rattle.std.proofs.Common.{◌≡◌, ◌+◌, ◌≤◌, Bool, true, false, ◌||◌, refl, sym, ap, ◌∙◌, subst, List, [], ◌∷◌, ◌++◌, Some, None, length, length-append, append-nil, arith}
 use Rattle.std.specs.Prelude.{if◌then◌else◌}
 use Rattle.std.specs.declared.option.Option.{Option}
 use Rattle.std.proofs.lemmas.List.{append_cancel_right}
@@ -192,24 +192,5 @@ front_over q r S R x h e = ap (front (step q S)) h ∙ ap (front_of (λ p P. Non
 
 pub front_lost : (q : State) (S : List Frame) (x : List Token) → x ≡ [] → step q S Bad ≡ stuck → front (step q S) x ≡ None
 front_lost q S x h e = ap (front (step q S)) h ∙ ap (front_of (λ p P. None) []) e
-
-module _ (q : State) (S : List Frame) (names more total : List Symbol) (x : List Token) (so_far : names ++ SeenFrom q S x ≡ total) where
-  pub seen_goes : (r : State) (R : List Frame) (t : Token) (ts : List Token) → x ≡ t ∷ ts → more ≡ names ++ seen q S t → step q S t ≡ goes r R → more ++ SeenFrom r R ts ≡ total
-  seen_goes r R t ts h m e =
-      ap (λ l. l ++ SeenFrom r R ts) m
-      ∙ append_assoc names (seen q S t) (SeenFrom r R ts)
-      ∙ ap (λ n. names ++ (seen q S t ++ seen_behind (λ p P. SeenFrom p P ts) n)) (sym e)
-      ∙ ap (λ l. names ++ SeenFrom q S l) (sym h) ∙ so_far
-
-  pub seen_ends : (t : Token) (ts : List Token) (s : Strategy) → x ≡ t ∷ ts → more ≡ names ++ seen q S t → step q S t ≡ ends s → more ≡ total
-  seen_ends t ts s h m e =
-      m ∙ ap (λ l. names ++ l) (sym (append-nil (seen q S t)))
-      ∙ ap (λ n. names ++ (seen q S t ++ seen_behind (λ p P. SeenFrom p P ts) n)) (sym e)
-      ∙ ap (λ l. names ++ SeenFrom q S l) (sym h) ∙ so_far
-
-  pub seen_last : x ≡ [] → more ≡ names ++ seen q S Bad → more ≡ total
-  seen_last h m =
-      m ∙ ap (λ l. names ++ l) (sym (append-nil (seen q S Bad)))
-      ∙ ap (λ l. names ++ SeenFrom q S l) (sym h) ∙ so_far
 
 pub ruleset condition_rules = (front_goes, front_ends, front_last, front_stuck, front_over, front_lost)

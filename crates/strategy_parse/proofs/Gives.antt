@@ -6,13 +6,9 @@ use Rattle.strategy_tokens.specs.declared.token.Token.{Token}
 use Rattle.strategy_parse.specs.Gives.{GivesStrategy}
 use Rattle.strategy_parse.specs.Machine.{begin, resume}
 use Rattle.strategy_parse.proofs.CompleteStrategies.{reads_all}
-use Rattle.strategy_parse.proofs.SoundStrategies.{read_all}
 
 pub gives-accepted : (ts : List Token) (s : Strategy) → GivesStrategy ts s → resume (begin []) ts ≡ Some s
 gives-accepted ts s h = reads_all h.0 ts h.1 ∙ ap Some h.2
-
-pub accepted-gives : (ts : List Token) (s : Strategy) → resume (begin []) ts ≡ Some s → GivesStrategy ts s
-accepted-gives ts s h = read_all ts s h
 
 pub one_given : (ts : List Token) (s r : Strategy) → GivesStrategy ts s → GivesStrategy ts r → s ≡ r
 one_given ts s r h k = let same : ◌≡◌ {A = Option Strategy} (Some s) (Some r) = sym (gives-accepted ts s h) ∙ gives-accepted ts r k in cc

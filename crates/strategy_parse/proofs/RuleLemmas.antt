@@ -31,9 +31,6 @@ pub record PatternAt (x : List Token) (p : Pattern) (a : List Token) : Type 0 wh
   pub given : ReadsPattern p x a
   pub only : (q : Pattern) (y : List Token) → ReadsPattern q x y → Stops y → (q ≡ p) × (y ≡ a)
 
-abbrev pub NoPattern : List Token → Type 0
-NoPattern x = (p : Pattern) (y : List Token) → ReadsPattern p x y → Stops y → ⊥
-
 arrow_stops : (y z : List Token) → y ≡ ASign RightArrow ∷ z → Stops y
 arrow_stops y z e = subst Stops (sym e) refl
 
@@ -87,28 +84,13 @@ patterns_of (rule_where h p q a) x y r e = record {
 abbrev pub NoRule : List Token → Type 0
 NoRule x = (w : Defined) (y : List Token) → ReadsRule w x y → DefinitionEnds y → ⊥
 
-pub no_left : (x : List Token) → NoPattern x → NoRule x
-no_left x none w y r e =
-    let p : Patterns w x y = patterns_of w x y r e in
-    none p.left p.behind_left p.reads_left (arrow_stops p.behind_left p.right_at p.arrow)
-
 module _ (x : List Token) (p : Pattern) (a : List Token) (at_left : PatternAt x p a) where
   left_is : (w : Defined) (y : List Token) → (t : Patterns w x y) → (t.left ≡ p) × (t.behind_left ≡ a)
   left_is w y t = at_left.only t.left t.behind_left t.reads_left (arrow_stops t.behind_left t.right_at t.arrow)
 
-  pub no_arrow : behind_mark RightArrow a ≡ None → NoRule x
-  no_arrow none w y r e =
-      let t : Patterns w x y = patterns_of w x y r e in
-      no_behind RightArrow a t.right_at none (sym (left_is w y t).1 ∙ t.arrow)
-
   module _ (b : List Token) (arrow : behind_mark RightArrow a ≡ Some b) where
     right_is : (w : Defined) (y : List Token) → (t : Patterns w x y) → t.right_at ≡ b
     right_is w y t = same_behind RightArrow a t.right_at b arrow (sym (left_is w y t).1 ∙ t.arrow)
-
-    pub no_right : NoPattern b → NoRule x
-    no_right none w y r e =
-        let t : Patterns w x y = patterns_of w x y r e in
-        none t.right t.behind_right (subst (λ l. ReadsPattern t.right l t.behind_right) (right_is w y t) t.reads_right) t.stops
 
     module _ (q : Pattern) (c : List Token) (at_right : PatternAt b q c) where
       both_are : (w : Defined) (y : List Token) → (t : Patterns w x y) → (t.right ≡ q) × (t.behind_right ≡ c)

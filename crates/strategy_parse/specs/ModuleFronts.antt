@@ -102,10 +102,6 @@ sort_step Closed n t = behind_sort n t
 abbrev pub SortsLeft : Type 0
 SortsLeft = Option (ℕ × List Token)
 
--- a sort ended, which is number n: another one follows behind a `*`
-abbrev pub behind_sorts : (List Token → SortsLeft) → ℕ → Token → List Token → SortsLeft
-behind_sorts k n t ts = if (is_mark Star t) then k ts else Some (n, t ∷ ts)
-
 abbrev pub sort_goes : (Place → ℕ → SortsLeft) → SortsLeft → Turn → SortsLeft
 sort_goes k end (Reads p d) = k p d
 sort_goes k end Ends = end
