@@ -13,6 +13,29 @@ pub length-entries : (rs : List Replaced) (ps : List ℕ) → length (entries rs
 length-entries [] ps = refl
 length-entries (r ∷ rs) ps = ap suc (length-entries rs (drop r.depth ps))
 
+-- ---- entries behind others
+
+pub depths-both : (rs qs : List Replaced) → depths (rs ++ qs) ≡ depths rs + depths qs
+depths-both [] qs = omega arith
+depths-both (r ∷ rs) qs = let rest = depths-both rs qs in omega (arith, rest)
+
+pub entries-both : (rs qs : List Replaced) (ps ts : List ℕ) → depths rs ≡ length ps → entries (rs ++ qs) (ps ++ ts) ≡ entries rs ps ++ entries qs ts
+entries-both [] qs [] ts h = refl
+entries-both [] qs (p ∷ ps) ts h = absurd (omega (arith, h))
+entries-both (r ∷ rs) qs ps ts h =
+    let inside : r.depth ≤ length ps = omega (arith, h) in
+    let rest : depths rs ≡ length (drop r.depth ps) = omega (arith, h, length-drop r.depth ps) in
+    λ i. entry_of r.slot (take-append-le r.depth ps ts inside i) r.kept
+    ∷ (ap (entries (rs ++ qs)) (drop-append-le r.depth ps ts inside) ∙ entries-both rs qs (drop r.depth ps) ts rest) i
+
+module _ (rs qs now all : List Replaced) (ps ts us : List ℕ) (h : depths rs ≡ length ps) (k : depths qs ≡ length ts) (d : depths now ≡ depths qs)
+    (a : all ≡ rs ++ now) (u : us ≡ ps ++ ts) where
+  pub made_depths : depths all ≡ length us
+  made_depths = ap depths a ∙ depths-both rs now ∙ (λ i. h i + (d ∙ k) i) ∙ sym (length-append ps ts) ∙ sym (ap length u)
+
+  pub made_entries : (es : List Entry) → entries now ts ≡ es → entries all us ≡ entries rs ps ++ es
+  made_entries es e = (λ i. entries (a i) (u i)) ∙ entries-both rs now ps ts h ∙ ap (λ l. entries rs ps ++ l) e
+
 -- ---- the newest entry
 
 pub depths-append : (rs : List Replaced) (r : Replaced) → depths (rs ++ r ∷ []) ≡ depths rs + r.depth

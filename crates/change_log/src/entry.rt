@@ -69,6 +69,7 @@ impl<'a> Entry<'a> {
     }
 
     /// The subterm that the path leads to in a slot's tree.
+    #[inline(always)]
     pub fn subterm(slot: usize, path: &'a [usize], term: Term) -> Entry<'a>
         ensures { result ≡ subterm slot path.now term }
     {

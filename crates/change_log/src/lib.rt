@@ -7,6 +7,7 @@ mod entry;
 pub mod laws;
 mod log;
 mod merge;
+mod plan;
 mod relation;
 mod slots;
 mod step;
@@ -19,6 +20,7 @@ pub use entry::Kept;
 pub use log::Log;
 #[doc(hidden)]
 pub use log::Replaced;
+pub use plan::Plan;
 #[doc(hidden)]
 pub use relation::Relation;
 #[doc(hidden)]

@@ -7,7 +7,7 @@ ghost use Rattle.change_log.specs.Compact.{IsCompact};
 ghost use Rattle.change_log.specs.LogView.{entry_of, entries, depths};
 
 use crate::compact::compact;
-use crate::{Entry, Kept, Store};
+use crate::{Entry, Kept, Plan, Store};
 use std::alloc::Global;
 use std::marker::Model;
 use term_core::NoMemory;
@@ -104,7 +104,7 @@ impl Log {
             mut kept,
         } = change;
         reserve_one(&mut self.replaced)?;
-        make_space(&mut self.space, self.replaced.len())?;
+        make_space(&mut self.space, self.replaced.len() + 1)?;
         self.paths.extend_from_slice(path)?;
         store.exchange(slot, path, &mut kept);
         self.text_count += kept.texts();
@@ -113,6 +113,25 @@ impl Log {
             depth: path.len(),
             kept,
         });
+        Ok(())
+    }
+
+    /// Makes the changes of a plan, the first one first, each as `push` makes one.
+    ///
+    /// Where a growth of memory is refused, log and store stay as they were, and the plan is dropped.
+    pub fn make(&mut self, store: &mut Store, plan: Plan) -> Result<(), NoMemory>
+        ensures log { OnOk result (self.new ≡ self.old ++ flipped_forward plan store.old) }
+        ensures store { OnOk result (store.new ≡ after plan store.old) }
+        ensures log_err { OnErr result (self.new ≡ self.old) }
+        ensures store_err { OnErr result (store.new ≡ store.old) }
+    {
+        let Plan { mut changes, paths } = plan;
+        self.replaced.reserve(changes.len())?;
+        make_space(&mut self.space, self.replaced.len() + changes.len())?;
+        self.paths.extend_from_slice(&paths)?;
+        self.text_count += count_texts(&changes);
+        flip_forward(&mut changes, &paths, store);
+        add_all(&mut self.replaced, changes);
         Ok(())
     }
 
@@ -197,17 +216,34 @@ fn count_texts(replaced: &[Replaced]) -> usize
     count
 }
 
-// Makes space for one entry more than this many; for one alone there is none.
+// Makes space for so many entries; for one alone there is none.
 fn make_space(space: &mut Vec<usize>, count: usize) -> Result<(), NoMemory>
-    ensures room { OnOk result (0 < count → 3 * (count + 1) ≤ vec_len space.new) }
+    ensures room { OnOk result (1 < count → 3 * count ≤ vec_len space.new) }
     ensures kept { vec_len space.old ≤ vec_len space.new }
 {
-    if count > 0 {
-        while space.len() / 3 <= count {
-            space.extend_from_slice(&[0; 3])?;
-        }
+    if count <= 1 {
+        return Ok(());
+    }
+    let Some(all) = count.checked_mul(3) else {
+        return Err(NoMemory);
+    };
+    if space.len() < all {
+        space.resize(all, 0)?;
     }
     Ok(())
+}
+
+// Puts these behind the others, for which there is room.
+fn add_all(to: &mut Vec<Replaced>, from: Vec<Replaced>)
+    requires { vec_len to.old + vec_len from ≤ vec_capacity to.old }
+    ensures { to.new.items ≡ to.old.items ++ from.items }
+{
+    if to.is_empty() {
+        *to = from;
+        return;
+    }
+    let mut from = from;
+    let _added = to.append(&mut from);
 }
 
 // Puts what was replaced at the path back, and drops what takes its place now.

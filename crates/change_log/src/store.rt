@@ -110,7 +110,21 @@ impl Store {
     }
 
     // Swaps what stands at a place for what is kept; nothing where the store doesn't have the place.
+    #[inline(always)]
     pub(crate) fn exchange(&mut self, slot: usize, path: &[usize], kept: &mut Kept)
+        ensures store { self.new ≡ put (entry_of slot path.now kept.old) self.old }
+        ensures kept { entry_of slot path.now kept.new
+            ≡ found (entry_of slot path.now kept.old) self.old }
+    {
+        match kept {
+            Kept::Subterm(term) => self.trees.swap_subterm(slot, path, term),
+            _ => self.exchange_other(slot, path, kept),
+        }
+    }
+
+    // The same for what is no subterm.
+    #[inline(never)]
+    fn exchange_other(&mut self, slot: usize, path: &[usize], kept: &mut Kept)
         ensures store { self.new ≡ put (entry_of slot path.now kept.old) self.old }
         ensures kept { entry_of slot path.now kept.new
             ≡ found (entry_of slot path.now kept.old) self.old }

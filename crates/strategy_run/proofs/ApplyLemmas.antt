@@ -82,10 +82,10 @@ applied_nowhere W p r b t k = ap (λ o. option_map_or (λ x. placed t p (run_who
 pub low_part : (p : List ℕ) (t u : Tree) → at t p ≡ Some u → IfSome (at t p) (λ x. length p + height x ≤ MAX_HEIGHT) → length p + height u ≤ MAX_HEIGHT
 low_part p t u k low = subst (λ o. IfSome o (λ x. length p + height x ≤ MAX_HEIGHT)) k low
 
-pub finds : (listing : Listing) (W : World) (p : Standing) (path : List ℕ) (ps : Edits) (t u : Tree) (r : Resolved) (b : ℕ) (S : State) (s : Store) (slot : ℕ)
-    → at t path ≡ Some u → IsDone (unchanged u) (run_whole W (length path) r b u) S p → Lists listing S.trail p path ps
-    → content s.trees slot ≡ Some t → FindsAll listing s slot (applied W path r b t) ps
-finds Outermost W p path ps t u r b S s slot k d l h =
+pub finds : (listing : Listing) (W : World) (p : Standing) (path : List ℕ) (es : List Entry) (t u : Tree) (r : Resolved) (b : ℕ) (S : State) (s : Store) (slot : ℕ)
+    → at t path ≡ Some u → IsDone (unchanged u) (run_whole W (length path) r b u) S p → Lists listing S.trail p slot path es
+    → content s.trees slot ≡ Some t → FindsAll listing s slot (applied W path r b t) es
+finds Outermost W p path es t u r b S s slot k d l h =
     let c = standing_change p in
     let all = behind path (places c) in
     let v = standing_tree p in
@@ -97,39 +97,46 @@ finds Outermost W p path ps t u r b S s slot k d l h =
       set_at t path v,
       behind path d.edits,
       applied_there W path r b t u _ k d.is,
-      subst (λ x. AreOutermost x (behind path d.edits)) (sym l.0) (outermost path u d.edits p d.leads),
-      subst (λ x. Makes slot x (set_at t path v) s) (sym l.0) (record { tree = made; places = there }),
+      all,
+      outermost path u d.edits p d.leads,
+      l.0,
+      record { tree = made; places = there },
     )
-finds Each W p path ps t u r b S s slot k d l h =
+finds Each W p path es t u r b S s slot k d l h =
     let v = standing_tree p in
     let is = l d.edits d.shows in (
       set_at t path v,
       behind path d.edits,
       applied_there W path r b t u _ k d.is,
+      behind path d.edits,
+      refl,
       is,
-      subst (λ x. Makes slot x (set_at t path v) s) (sym is) (edits_make (behind path d.edits) t (set_at t path v) slot s h (edits_of_a_subterm d.edits t u v path k d.leads.made)),
+      edits_make (behind path d.edits) t (set_at t path v) slot s h (edits_of_a_subterm d.edits t u v path k d.leads.made),
     )
 
 -- ---- what was found is put in place
 
-pub puts : (listing : Listing) (whole : Outcome) (ps : Edits) (slot : ℕ) (s t : Store) (log longer : List Entry)
-    → FindsAll listing s slot whole ps → t ≡ after (entries_at slot ps) s → longer ≡ log ++ flipped_forward (entries_at slot ps) s
+pub puts : (listing : Listing) (whole : Outcome) (es : List Entry) (slot : ℕ) (s t : Store) (log longer : List Entry)
+    → FindsAll listing s slot whole es → t ≡ after es s → longer ≡ log ++ flipped_forward es s
     → Applies (λ e u. PutsListed listing slot e u s log t longer) (Stay s log t longer) whole Done
-puts listing whole ps slot s t log longer f te le = (
-  f.0,
-  f.1,
-  f.2,
-  (
-    ps,
-    f.3,
-    record {
-      tree = te ∙ f.4.tree;
-      behind = le;
-      back = ap (before (flipped_forward (entries_at slot ps) s)) te ∙ store_from_before (entries_at slot ps) s;
-      fits = subst (Fits (flipped_forward (entries_at slot ps) s)) (sym te) (flipped_forward_fits (entries_at slot ps) s f.4.places);
-    },
-  ),
-)
+puts listing whole es slot s t log longer f te le =
+    let ps = f.3 in
+    let is : es ≡ entries_at slot ps = f.5 in
+    let store : t ≡ after (entries_at slot ps) s = te ∙ ap (λ x. after x s) is in (
+      f.0,
+      f.1,
+      f.2,
+      (
+        ps,
+        f.4,
+        record {
+          tree = store ∙ f.6.tree;
+          behind = le ∙ ap (λ x. log ++ flipped_forward x s) is;
+          back = ap (before (flipped_forward (entries_at slot ps) s)) store ∙ store_from_before (entries_at slot ps) s;
+          fits = subst (Fits (flipped_forward (entries_at slot ps) s)) (sym store) (flipped_forward_fits (entries_at slot ps) s f.6.places);
+        },
+      ),
+    )
 
 -- the condition, for the tree that is in the slot
 pub low_there : (s : Store) (slot : ℕ) (p : List ℕ) (t : Tree) → content s.trees slot ≡ Some t

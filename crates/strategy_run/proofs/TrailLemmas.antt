@@ -1,8 +1,10 @@
 -- The path through frames that come outermost first, and trails.
 use Rattle.std.proofs.Common.{◌≡◌, ◌<◌, ◌≤◌, ℕ, ◌+◌, List, [], ◌∷◌, ◌++◌, length, take, reverse, refl, sym, ap, ◌∙◌, arith, get_or, suc}
-use Rattle.std.proofs.lemmas.List.{append-nil, take_all}
+use Rattle.std.proofs.lemmas.List.{append-nil, take_all, map-append}
 use Rattle.std.proofs.Math.Seq.{take-suc}
 use Rattle.term_paths.specs.Edits.{Edit, Edits, behind}
+use Rattle.change_log.specs.Entries.{Entry}
+use Rattle.term_changes.specs.Putting.{entry_at, entries_at}
 use Rattle.strategy_run.specs.Trails.{path_of, step_of}
 use Rattle.strategy_run.specs.declared.frames.Frame.{Frame}
 use Rattle.strategy_run.specs.declared.frames.Frame.TheVariants.{Then, Choose, Restore, Each, Leftmost, Those, Tail, Rest, Leave, Cut}
@@ -41,11 +43,13 @@ behind-append p [] d = refl
 behind-append p (x ∷ e) d = ap (λ l. record { path = p ++ x.path; new = x.new } ∷ l) (behind-append p e d)
 
 -- one edit more
-pub replaced_more : (p : List ℕ) (es : Edits) (i : ℕ) (x : Edit) (old new : Edits) (r : Edit) → i < length es → x ≡ get_or es i x → old ≡ behind p (take i es)
-    → r ≡ record { path = p ++ x.path; new = x.new } → new ≡ old ++ r ∷ [] → new ≡ behind p (take (i + 1) es)
-replaced_more p es i x old new r lt e o is n =
-    n ∙ (λ k. o k ++ is k ∷ []) ∙ sym (behind-append p (take i es) (x ∷ []))
-    ∙ ap (behind p) (sym (ap (λ k. take k es) (next i) ∙ take-suc es i x lt ∙ ap (λ y. take i es ++ y ∷ []) (sym e)))
+pub planned_more : (slot : ℕ) (p : List ℕ) (es : Edits) (i : ℕ) (x : Edit) (old new : List Entry) → i < length es → x ≡ get_or es i x → old ≡ entries_at slot (behind p (take i es))
+    → new ≡ old ++ entry_at slot (record { path = p ++ x.path; new = x.new }) ∷ [] → new ≡ entries_at slot (behind p (take (i + 1) es))
+planned_more slot p es i x old new lt e o n =
+    let one : Edits = record { path = p ++ x.path; new = x.new } ∷ [] in
+    n ∙ ap (λ l. l ++ entries_at slot one) o ∙ sym (map-append (entry_at slot) (behind p (take i es)) one)
+    ∙ ap (entries_at slot) (sym (behind-append p (take i es) (x ∷ []))
+    ∙ ap (behind p) (sym (ap (λ k. take k es) (next i) ∙ take-suc es i x lt ∙ ap (λ y. take i es ++ y ∷ []) (sym e))))
 
-pub replaced_whole : (p : List ℕ) (es T : Edits) (i : ℕ) (all : Edits) → length es ≤ i → all ≡ behind p (take i es) → es ≡ T → all ≡ behind p T
-replaced_whole p es T i all le e t = e ∙ ap (behind p) (take_all i es le ∙ t)
+pub planned_whole : (slot : ℕ) (p : List ℕ) (es T : Edits) (i : ℕ) (plan : List Entry) → length es ≤ i → plan ≡ entries_at slot (behind p (take i es)) → es ≡ T → plan ≡ entries_at slot (behind p T)
+planned_whole slot p es T i plan le e t = e ∙ ap (λ l. entries_at slot (behind p l)) (take_all i es le ∙ t)

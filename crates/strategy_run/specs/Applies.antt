@@ -67,18 +67,20 @@ pub record Makes (slot : ℕ) (ps : Edits) (u : Tree) (s : Store) : Type 0 where
   pub tree : after (entries_at slot ps) s ≡ put (slot_tree slot (Some u)) s
   pub places : FitsForward (entries_at slot ps) s
 
-abbrev pub FindsAll : Listing → Store → ℕ → Outcome → Edits → Type 0
-FindsAll listing s slot whole ps = (u : Tree) × (e : Edits) × (whole ≡ gives u e) × AreListed listing ps e × Makes slot ps u s
+-- What is planned for the slot puts them in place.
+abbrev pub FindsAll : Listing → Store → ℕ → Outcome → List Entry → Type 0
+FindsAll listing s slot whole es =
+    (u : Tree) × (e : Edits) × (whole ≡ gives u e) × (ps : Edits) × AreListed listing ps e × (es ≡ entries_at slot ps) × Makes slot ps u s
 
 -- What applying comes to, before anything is put in place.
 abbrev pub Finds : Listing → Store → ℕ → Outcome → Found → Type 0
-Finds listing s slot whole (founds.Replaced ps) = FindsAll listing s slot whole ps.items
+Finds listing s slot whole (founds.Replaced es) = FindsAll listing s slot whole es
 Finds listing s slot whole founds.Failed = whole ≡ fails
 Finds listing s slot whole founds.Spent = whole ≡ stops spent
 Finds listing s slot whole founds.Big = whole ≡ stops big
 
--- What is listed of a run that ended with p, at the path.
-abbrev pub Lists : Listing → Trail → Standing → List ℕ → Edits → Type 0
-Lists Outermost trail p path ps =
-    (ps ≡ behind path (places (standing_change p))) × ((t : Tree) → Suits t p → HasPlaces t (standing_change p))
-Lists Each trail p path ps = (e : Edits) → Shows trail e → ps ≡ behind path e
+-- What is planned for a run that ended with p, at the path in the tree of the slot.
+abbrev pub Lists : Listing → Trail → Standing → ℕ → List ℕ → List Entry → Type 0
+Lists Outermost trail p slot path es =
+    (es ≡ entries_at slot (behind path (places (standing_change p)))) × ((t : Tree) → Suits t p → HasPlaces t (standing_change p))
+Lists Each trail p slot path es = (e : Edits) → Shows trail e → es ≡ entries_at slot (behind path e)

@@ -13,12 +13,12 @@ ghost use Rattle.strategy_run.specs.Applies.{Applies, PutsAll, PutsOutermost, Pu
 use crate::evaluation::{Ended, run_to_end};
 use crate::machine::{Host, Machine};
 use crate::trail::Trail;
-use change_log::{Log, Store};
+use change_log::{Log, Plan, Store};
 use prim_core::{Meaning, Primitives};
 use std::alloc::Global;
 use strategy_check::Program;
 use strategy_syntax::Resolved;
-use term_changes::{Replacement, put_in_place};
+use term_changes::put_in_place;
 use term_core::{MAX_HEIGHT, NoMemory, Term};
 use term_paths::{Path, at};
 use term_values::Part;
@@ -46,7 +46,7 @@ pub(crate) enum Listing {
 // What applying comes to, before anything is put in place.
 #[derive(Drop)]
 pub(crate) enum Found {
-    Replaced(Vec<Replacement>),
+    Replaced(Plan),
     Failed,
     Spent,
     Big,
@@ -165,10 +165,10 @@ fn apply_listing<M: Meaning>(
         return Ok(Outcome::Failed);
     };
     match find(
-        alloc, program, primitives, tree, path, strategy, steps, listing,
+        alloc, program, primitives, tree, slot, path, strategy, steps, listing,
     )? {
-        Found::Replaced(all) => {
-            put_in_place(all, slot, store, log)?;
+        Found::Replaced(plan) => {
+            put_in_place(plan, store, log)?;
             Ok(Outcome::Done)
         }
         Found::Failed => Ok(Outcome::Failed),
@@ -183,13 +183,14 @@ fn find<M: Meaning>(
     program: &Program,
     primitives: &Primitives<M>,
     tree: &Term,
+    slot: usize,
     path: &Path,
     strategy: &Resolved,
     steps: u64,
     listing: Listing,
 ) -> Result<Found, NoMemory>
     requires low { IfSome (found_at tree.now path.now) (λ u. length path.now + height u ≤ MAX_HEIGHT) }
-    ensures { IfOk result (λ found. (s : Store) (slot : ℕ) → content s.trees slot ≡ Some tree.now → Finds listing s slot
+    ensures { IfOk result (λ found. (s : Store) → content s.trees slot ≡ Some tree.now → Finds listing s slot
         (applied (world_of M.meaning program.now.bodies primitives.now) path.now strategy.now steps tree.now) found) }
 {
     let Some(term) = at(tree, path) else {
@@ -203,8 +204,8 @@ fn find<M: Meaning>(
     let mut m = Machine::new(alloc, trail, term, path.len() as u64, steps);
     match run_to_end(alloc, &host, &mut m, strategy, term)? {
         Ended::Done => {
-            let all = replacements(alloc, listing, &m.trail, &m.part, path.parts())?;
-            Ok(Found::Replaced(all))
+            let plan = replacements(alloc, listing, &m.trail, &m.part, slot, path.parts())?;
+            Ok(Found::Replaced(plan))
         }
         Ended::Failed => Ok(Found::Failed),
         Ended::Spent => Ok(Found::Spent),
@@ -222,18 +223,19 @@ fn trail_for<'t>(alloc: Global, listing: Listing) -> Trail<'t>
     }
 }
 
-// What is to be put in place, as terms of their own.
+// What is to be put in place in the tree of the slot, as terms of their own.
 fn replacements(
     alloc: Global,
     listing: Listing,
     trail: &Trail<'_>,
     part: &Part<'_>,
+    slot: usize,
     path: &[usize],
-) -> Result<Vec<Replacement>, NoMemory>
-    ensures { IfOk result (λ all. Lists listing trail.now part.now path.now all.items) }
+) -> Result<Plan, NoMemory>
+    ensures { IfOk result (λ plan. Lists listing trail.now part.now slot path.now plan) }
 {
     match listing {
-        Listing::Outermost => part.replacements(alloc, path),
-        Listing::Each => trail.replacements(alloc, path),
+        Listing::Outermost => part.replacements(alloc, slot, path),
+        Listing::Each => trail.replacements(alloc, slot, path),
     }
 }

@@ -2,12 +2,13 @@
 
 ghost use Rattle.std.specs.Prelude.{◌≡◌, ◌++◌, ◌∷◌, [], length, reverse, IfOk, OnOk};
 ghost use Rattle.term_paths.specs.Edits.{Edits, behind};
+ghost use Rattle.term_changes.specs.Putting.{entry_at, entries_at};
 ghost use Rattle.strategy_run.specs.Trails.{Shows, path_of, step_of};
 
 use crate::frames::Frame;
+use change_log::{Entry, Plan};
 use std::alloc::Global;
 use std::marker::Model;
-use term_changes::Replacement;
 use term_core::NoMemory;
 use term_values::Value;
 
@@ -30,13 +31,19 @@ impl<'t> Model for Made<'t> {
 }
 
 impl<'t> Made<'t> {
-    // With the path in front, as a term of its own.
-    fn replacement(&self, alloc: Global, path: &[usize]) -> Result<Replacement, NoMemory>
-        ensures { IfOk result (λ r. r ≡ record { path = path.now ++ self.now.path; new = self.now.new }) }
+    // Adds it to the plan, with the path in front, as a term of its own.
+    fn add_to(
+        &self,
+        alloc: Global,
+        slot: usize,
+        path: &[usize],
+        plan: &mut Plan,
+    ) -> Result<(), NoMemory>
+        ensures { OnOk result (plan.new ≡ plan.old ++ entry_at slot (record { path = path.now ++ self.now.path; new = self.now.new }) ∷ []) }
     {
         let mut whole = Vec::from_slice(alloc, path)?;
         whole.extend_from_slice(&self.path)?;
-        Ok(Replacement::new(whole, self.value.to_term(alloc)?))
+        plan.add(Entry::subterm(slot, &whole, self.value.to_term(alloc)?))
     }
 }
 
@@ -79,6 +86,7 @@ impl<'t> Trail<'t> {
     }
 
     /// One edit more, at the place that the frames lead to.
+    #[inline(always)]
     pub fn push(
         &mut self,
         alloc: Global,
@@ -92,30 +100,44 @@ impl<'t> Trail<'t> {
             return Err(NoMemory);
         };
         if let Some(made) = &mut self.made {
-            let path = path_through(alloc, frames)?;
-            made.push(Made {
-                path,
-                value: value.try_clone()?,
-            })?;
+            keep(alloc, made, frames, value)?;
         }
         self.count = count;
         Ok(())
     }
 
-    /// The edits as terms of their own, in their order, with the path in front of theirs. Where they
-    /// weren't kept, there is no memory of them.
-    pub fn replacements(&self, alloc: Global, path: &[usize]) -> Result<Vec<Replacement>, NoMemory>
-        ensures { IfOk result (λ all. (T : Edits) → Shows self.now T → all.items ≡ behind path.now T) }
+    /// The edits in the tree of a slot as terms of their own, in their order, with the path in front of
+    /// theirs. Where they weren't kept, there is no memory of them.
+    pub fn replacements(&self, alloc: Global, slot: usize, path: &[usize]) -> Result<Plan, NoMemory>
+        ensures { IfOk result (λ plan. (T : Edits) → Shows self.now T → plan ≡ entries_at slot (behind path.now T)) }
     {
         let Some(made) = &self.made else {
             return Err(NoMemory);
         };
-        let mut all = Vec::with_capacity(alloc, made.len())?;
+        let mut plan = Plan::new(alloc);
         for edit in made {
-            all.push(edit.replacement(alloc, path)?)?;
+            edit.add_to(alloc, slot, path, &mut plan)?;
         }
-        Ok(all)
+        Ok(plan)
     }
+}
+
+// One edit more.
+#[inline(never)]
+fn keep<'t>(
+    alloc: Global,
+    made: &mut Vec<Made<'t>>,
+    frames: &[Frame<'t>],
+    value: &Value<'t>,
+) -> Result<(), NoMemory>
+    ensures { OnOk result (made.new.items ≡ made.old.items ++ record { path = path_of (reverse frames.now); new = value.now } ∷ []) }
+{
+    let path = path_through(alloc, frames)?;
+    made.push(Made {
+        path,
+        value: value.try_clone()?,
+    })?;
+    Ok(())
 }
 
 // The path that the frames lead to, the outermost first.

@@ -1,9 +1,10 @@
+-- What a reader has to believe.
 pub mod Change
-pub mod ChangeCode
 pub mod Standing
 pub mod Follows
 pub mod Putting
 pub mod Edits
-pub mod StepsView
 pub use Rattle.term_core.specs.Tree
 pub use Rattle.term_paths.specs.Paths
+-- What serves private clauses and proofs.
+pub mod ChangeCode

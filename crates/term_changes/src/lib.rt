@@ -2,7 +2,7 @@
 //! places are put into a store.
 #![tactic(auto)]
 
+mod in_place;
 pub mod laws;
-mod replacement;
 
-pub use replacement::{Replacement, put_in_place};
+pub use in_place::put_in_place;

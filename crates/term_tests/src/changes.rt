@@ -1,9 +1,9 @@
 //! Replaced places in a store, and back.
 
-use change_log::{Entry, Log, Store};
+use change_log::{Entry, Log, Plan, Store};
 use std::alloc::Global;
 use std::test::Fail;
-use term_changes::{Replacement, laws, put_in_place};
+use term_changes::{laws, put_in_place};
 use term_core::{Label, Term};
 
 fn pair(alloc: Global, first: i64, second: i64) -> Result<Term, Fail> {
@@ -21,10 +21,11 @@ fn places_are_put_and_taken_back(rt: HostRuntime) -> Result<(), Fail> {
     let slot = store.tree_slot(&Label::read(alloc, b"t").map_err(|_| "no label")?)?;
     log.push(&mut store, Entry::tree(slot, Some(pair(alloc, 1, 2)?)))?;
     let mark = log.mark();
-    let mut all = Vec::new(alloc);
-    all.push(Replacement::new(vec![in alloc; 0usize]?, Term::integer(alloc, 3)))?;
-    all.push(Replacement::new(vec![in alloc; 1usize]?, Term::integer(alloc, 4)))?;
-    put_in_place(all, slot, &mut store, &mut log)?;
+    let mut plan = Plan::new(alloc);
+    plan.reserve(2)?;
+    plan.add(Entry::subterm(slot, &[0], Term::integer(alloc, 3)))?;
+    plan.add_child(slot, &[], 1, Term::integer(alloc, 4))?;
+    put_in_place(plan, &mut store, &mut log)?;
     assert_eq!(rt; log.count(), 3);
     assert!(rt;
         store

@@ -8,7 +8,8 @@ use Rattle.term_core.specs.Size.{height, heights}
 use Rattle.term_paths.specs.Edits.{Edits, behind}
 use Rattle.term_changes.specs.Change.{below, places, places_from, changed_all}
 use Rattle.term_changes.specs.Standing.{Altered, after, Standing, unchanged, Suits, SuitAll, stand_all, standing_tree, standing_change, standing_changes}
-use Rattle.term_changes.specs.Putting.{HasPlaces, HaveAllPlaces}
+use Rattle.change_log.specs.Entries.{Entry}
+use Rattle.term_changes.specs.Putting.{entry_at, entries_at, HasPlaces, HaveAllPlaces}
 use Rattle.term_changes.proofs.NodeLemmas.{annotations-with_children}
 use Rattle.term_changes.proofs.StandingLemmas.{suits_stand_all, altered_children}
 use Rattle.term_values.specs.declared.bounds.Bounds.{Bounds}
@@ -81,20 +82,18 @@ no_places q k zero (x ∷ ps) h = absurd (omega (arith, h))
 no_places q k (suc i) (x ∷ ps) h = no_places q k i ps (omega (arith, h))
 
 -- one child more
-pub gathered : (q here : List ℕ) (i : ℕ) (ps : List Standing) (p : Standing) (all next total : Edits) → i < length ps → p ≡ get_or ps i p
-    → here ≡ q ++ i ∷ []
-    → next ≡ all ++ behind here (places (standing_change p))
-    → all ++ behind q (places_from i (standing_changes (drop i ps))) ≡ total
-    → next ++ behind q (places_from (i + 1) (standing_changes (drop (i + 1) ps))) ≡ total
-gathered q here i ps p all next total l e h n t =
-    let m = behind (q ++ i ∷ []) (places (standing_change p)) in
-    let r = behind q (places_from (i + 1) (standing_changes (drop (suc i) ps))) in
-    let more : next ≡ all ++ m = n ∙ ap (λ x. all ++ behind x (places (standing_change p))) h in
+pub gathered : (slot : ℕ) (q : List ℕ) (i : ℕ) (ps : List Standing) (p : Standing) (all next total : List Entry) → i < length ps → p ≡ get_or ps i p
+    → next ≡ all ++ entries_at slot (behind (q ++ i ∷ []) (places (standing_change p)))
+    → all ++ entries_at slot (behind q (places_from i (standing_changes (drop i ps)))) ≡ total
+    → next ++ entries_at slot (behind q (places_from (i + 1) (standing_changes (drop (i + 1) ps)))) ≡ total
+gathered slot q i ps p all next total l e n t =
+    let first = behind (q ++ i ∷ []) (places (standing_change p)) in
+    let others = behind q (places_from (i + 1) (standing_changes (drop (suc i) ps))) in
     let one : i + 1 ≡ suc i = omega arith in
     let rest = ap (λ k. drop k ps) one in
-    (λ j. more j ++ behind q (places_from (i + 1) (standing_changes (rest j))))
-    ∙ append_assoc all m r
-    ∙ ap (λ x. all ++ x) (sym (next_places q i i ps p l e))
+    (λ j. n j ++ entries_at slot (behind q (places_from (i + 1) (standing_changes (rest j)))))
+    ∙ append_assoc all (entries_at slot first) (entries_at slot others)
+    ∙ ap (λ x. all ++ x) (sym (ap (entries_at slot) (next_places q i i ps p l e) ∙ map-append (entry_at slot) first others))
     ∙ t
 
 pub popped : (xs old new : List ℕ) (i n : ℕ) → old ≡ xs ++ i ∷ [] → n ≡ length old → new ≡ take (n - 1) old → new ≡ xs

@@ -16,19 +16,19 @@ pub returns-in-Failed-clause-applies : goal.returns-in-Failed-clause-applies
 returns-in-Failed-clause-applies g c =
     let there : content c.args.store.now.trees c.args.slot ≡ Some c.in-Some.tree.now = sym c.tree.ensures ∙ ap (λ o. option_copied o) c.in-Some.is in
     let into = in_tree (world_of g.M.Meaning.meaning c.args.program.now.bodies c.args.primitives.now) c.args.store.now c.args.slot c.args.path.now c.args.strategy.now c.args.steps c.in-Some.tree.now there in
-    (into ∙ (subst (λ (f : Found). Finds c.args.listing c.args.store.now c.args.slot (applied (world_of g.M.Meaning.meaning c.args.program.now.bodies c.args.primitives.now) c.args.path.now c.args.strategy.now c.args.steps c.in-Some.tree.now) f) c.in-Failed.is (c.in_ok-all.ensures c.args.store.now c.args.slot there)), record { store = refl; log = refl })
+    (into ∙ (subst (λ (f : Found). Finds c.args.listing c.args.store.now c.args.slot (applied (world_of g.M.Meaning.meaning c.args.program.now.bodies c.args.primitives.now) c.args.path.now c.args.strategy.now c.args.steps c.in-Some.tree.now) f) c.in-Failed.is (c.in_ok-plan.ensures c.args.store.now there)), record { store = refl; log = refl })
 
 pub returns-in-Spent-clause-applies : goal.returns-in-Spent-clause-applies
 returns-in-Spent-clause-applies g c =
     let there : content c.args.store.now.trees c.args.slot ≡ Some c.in-Some.tree.now = sym c.tree.ensures ∙ ap (λ o. option_copied o) c.in-Some.is in
     let into = in_tree (world_of g.M.Meaning.meaning c.args.program.now.bodies c.args.primitives.now) c.args.store.now c.args.slot c.args.path.now c.args.strategy.now c.args.steps c.in-Some.tree.now there in
-    (into ∙ (subst (λ (f : Found). Finds c.args.listing c.args.store.now c.args.slot (applied (world_of g.M.Meaning.meaning c.args.program.now.bodies c.args.primitives.now) c.args.path.now c.args.strategy.now c.args.steps c.in-Some.tree.now) f) c.in-Spent.is (c.in_ok-all.ensures c.args.store.now c.args.slot there)), record { store = refl; log = refl })
+    (into ∙ (subst (λ (f : Found). Finds c.args.listing c.args.store.now c.args.slot (applied (world_of g.M.Meaning.meaning c.args.program.now.bodies c.args.primitives.now) c.args.path.now c.args.strategy.now c.args.steps c.in-Some.tree.now) f) c.in-Spent.is (c.in_ok-plan.ensures c.args.store.now there)), record { store = refl; log = refl })
 
 pub returns-in-Big-clause-applies : goal.returns-in-Big-clause-applies
 returns-in-Big-clause-applies g c =
     let there : content c.args.store.now.trees c.args.slot ≡ Some c.in-Some.tree.now = sym c.tree.ensures ∙ ap (λ o. option_copied o) c.in-Some.is in
     let into = in_tree (world_of g.M.Meaning.meaning c.args.program.now.bodies c.args.primitives.now) c.args.store.now c.args.slot c.args.path.now c.args.strategy.now c.args.steps c.in-Some.tree.now there in
-    (into ∙ (subst (λ (f : Found). Finds c.args.listing c.args.store.now c.args.slot (applied (world_of g.M.Meaning.meaning c.args.program.now.bodies c.args.primitives.now) c.args.path.now c.args.strategy.now c.args.steps c.in-Some.tree.now) f) c.in-Big.is (c.in_ok-all.ensures c.args.store.now c.args.slot there)), record { store = refl; log = refl })
+    (into ∙ (subst (λ (f : Found). Finds c.args.listing c.args.store.now c.args.slot (applied (world_of g.M.Meaning.meaning c.args.program.now.bodies c.args.primitives.now) c.args.path.now c.args.strategy.now c.args.steps c.in-Some.tree.now) f) c.in-Big.is (c.in_ok-plan.ensures c.args.store.now there)), record { store = refl; log = refl })
 
 pub find-requires : goal.find-requires
 find-requires g c =
@@ -39,7 +39,7 @@ pub returns-in_ok-put_in_place-in-Replaced-clause-applies : goal.returns-in_ok-p
 returns-in_ok-put_in_place-in-Replaced-clause-applies g c =
     let there : content c.args.store.now.trees c.args.slot ≡ Some c.in-Some.tree.now = sym c.tree.ensures ∙ ap (λ o. option_copied o) c.in-Some.is in
     let into = in_tree (world_of g.M.Meaning.meaning c.args.program.now.bodies c.args.primitives.now) c.args.store.now c.args.slot c.args.path.now c.args.strategy.now c.args.steps c.in-Some.tree.now there in
-    let f = subst (λ (f : Found). Finds c.args.listing c.args.store.now c.args.slot (applied (world_of g.M.Meaning.meaning c.args.program.now.bodies c.args.primitives.now) c.args.path.now c.args.strategy.now c.args.steps c.in-Some.tree.now) f) c.in-Replaced.is (c.in_ok-all.ensures c.args.store.now c.args.slot there) in
-    puts c.args.listing (applied_in (world_of g.M.Meaning.meaning c.args.program.now.bodies c.args.primitives.now) c.args.store.now.trees c.args.slot c.args.path.now c.args.strategy.now c.args.steps) c.in-Replaced.all.items c.args.slot c.args.store.now c.put_in_place.new.store c.args.log.now c.put_in_place.new.log
-    (subst (λ w. FindsAll c.args.listing c.args.store.now c.args.slot w c.in-Replaced.all.items) (sym into) f)
+    let f = subst (λ (f : Found). Finds c.args.listing c.args.store.now c.args.slot (applied (world_of g.M.Meaning.meaning c.args.program.now.bodies c.args.primitives.now) c.args.path.now c.args.strategy.now c.args.steps c.in-Some.tree.now) f) c.in-Replaced.is (c.in_ok-plan.ensures c.args.store.now there) in
+    puts c.args.listing (applied_in (world_of g.M.Meaning.meaning c.args.program.now.bodies c.args.primitives.now) c.args.store.now.trees c.args.slot c.args.path.now c.args.strategy.now c.args.steps) c.in-Replaced.plan c.args.slot c.args.store.now c.put_in_place.new.store c.args.log.now c.put_in_place.new.log
+    (subst (λ w. FindsAll c.args.listing c.args.store.now c.args.slot w c.in-Replaced.plan) (sym into) f)
     c.in_ok-put_in_place-in-Replaced.ensures.store c.in_ok-put_in_place-in-Replaced.ensures.log

@@ -12,7 +12,7 @@ use Rattle.strategy_run.proofs.ApplyLemmas.{finds, applied_there, applied_nowher
 use Rattle.strategy_run.proofs.application.find.Goals as goal
 
 pub returns-in_default : goal.returns-in_default
-returns-in_default g c = λ s slot h. applied_nowhere (world_of g.M.Meaning.meaning c.args.program.now.bodies c.args.primitives.now) c.args.path.now c.args.strategy.now c.args.steps c.args.tree.now (sym c.at.ensures ∙ ap (λ o. option_copied o) c.in_default.is)
+returns-in_default g c = λ s h. applied_nowhere (world_of g.M.Meaning.meaning c.args.program.now.bodies c.args.primitives.now) c.args.path.now c.args.strategy.now c.args.steps c.args.tree.now (sym c.at.ensures ∙ ap (λ o. option_copied o) c.in_default.is)
 
 pub run_to_end-requires : goal.run_to_end-requires
 run_to_end-requires g c =
@@ -24,18 +24,18 @@ run_to_end-requires g c =
     }
 
 pub returns-in-Done : goal.returns-in-Done
-returns-in-Done g c = λ s slot h.
+returns-in-Done g c = λ s h.
     let E = subst (λ w. Ends (unchanged c.in-Some.term.now) c.run_to_end.new.m c.in_ok-run_to_end.field-0 w)
     (λ i. run_whole (world_of g.M.Meaning.meaning (c.definitions.ensures i) c.args.primitives.now) ((c.new-m.ensures.level ∙ c.len.ensures) i) c.args.strategy.now (c.new-m.ensures.steps i) c.in-Some.term.now)
     c.in_ok-run_to_end.ensures in
     let at_is : at c.args.tree.now c.args.path.now ≡ Some c.in-Some.term.now = sym c.at.ensures ∙ ap (λ o. option_copied o) c.in-Some.is in
     let whole = run_whole (world_of g.M.Meaning.meaning c.args.program.now.bodies c.args.primitives.now) (length c.args.path.now) c.args.strategy.now c.args.steps c.in-Some.term.now in
-    finds c.args.listing (world_of g.M.Meaning.meaning c.args.program.now.bodies c.args.primitives.now) c.run_to_end.new.m.part c.args.path.now c.in_ok-all-in-Done.all.items c.args.tree.now c.in-Some.term.now c.args.strategy.now c.args.steps (state_of c.run_to_end.new.m) s slot at_is
+    finds c.args.listing (world_of g.M.Meaning.meaning c.args.program.now.bodies c.args.primitives.now) c.run_to_end.new.m.part c.args.path.now c.in_ok-plan-in-Done.plan c.args.tree.now c.in-Some.term.now c.args.strategy.now c.args.steps (state_of c.run_to_end.new.m) s c.args.slot at_is
     (subst (λ (e : Ended). Ends (unchanged c.in-Some.term.now) c.run_to_end.new.m e whole) c.in-Done.is E)
-    (subst (λ q. Lists c.args.listing c.run_to_end.new.m.trail c.run_to_end.new.m.part q c.in_ok-all-in-Done.all.items) c.parts.ensures c.in_ok-all-in-Done.ensures) h
+    (subst (λ q. Lists c.args.listing c.run_to_end.new.m.trail c.run_to_end.new.m.part c.args.slot q c.in_ok-plan-in-Done.plan) c.parts.ensures c.in_ok-plan-in-Done.ensures) h
 
 pub returns-in-Failed : goal.returns-in-Failed
-returns-in-Failed g c = λ s slot h.
+returns-in-Failed g c = λ s h.
     let E = subst (λ w. Ends (unchanged c.in-Some.term.now) c.run_to_end.new.m c.in_ok-run_to_end.field-0 w)
     (λ i. run_whole (world_of g.M.Meaning.meaning (c.definitions.ensures i) c.args.primitives.now) ((c.new-m.ensures.level ∙ c.len.ensures) i) c.args.strategy.now (c.new-m.ensures.steps i) c.in-Some.term.now)
     c.in_ok-run_to_end.ensures in
@@ -45,7 +45,7 @@ returns-in-Failed g c = λ s slot h.
     applied_there (world_of g.M.Meaning.meaning c.args.program.now.bodies c.args.primitives.now) c.args.path.now c.args.strategy.now c.args.steps c.args.tree.now c.in-Some.term.now _ at_is r.1
 
 pub returns-in-Spent : goal.returns-in-Spent
-returns-in-Spent g c = λ s slot h.
+returns-in-Spent g c = λ s h.
     let E = subst (λ w. Ends (unchanged c.in-Some.term.now) c.run_to_end.new.m c.in_ok-run_to_end.field-0 w)
     (λ i. run_whole (world_of g.M.Meaning.meaning (c.definitions.ensures i) c.args.primitives.now) ((c.new-m.ensures.level ∙ c.len.ensures) i) c.args.strategy.now (c.new-m.ensures.steps i) c.in-Some.term.now)
     c.in_ok-run_to_end.ensures in
@@ -54,7 +54,7 @@ returns-in-Spent g c = λ s slot h.
     applied_there (world_of g.M.Meaning.meaning c.args.program.now.bodies c.args.primitives.now) c.args.path.now c.args.strategy.now c.args.steps c.args.tree.now c.in-Some.term.now _ at_is (subst (λ (e : Ended). Ends (unchanged c.in-Some.term.now) c.run_to_end.new.m e whole) c.in-Spent.is E)
 
 pub returns : goal.returns
-returns g c = λ s slot h.
+returns g c = λ s h.
     let E = subst (λ w. Ends (unchanged c.in-Some.term.now) c.run_to_end.new.m c.in_ok-run_to_end.field-0 w)
     (λ i. run_whole (world_of g.M.Meaning.meaning (c.definitions.ensures i) c.args.primitives.now) ((c.new-m.ensures.level ∙ c.len.ensures) i) c.args.strategy.now (c.new-m.ensures.steps i) c.in-Some.term.now)
     c.in_ok-run_to_end.ensures in
