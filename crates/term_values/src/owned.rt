@@ -1,7 +1,7 @@
 //! Values made into terms of their own, and of other terms.
 #![tactic(auto, using(crate::proofs::KindLemmas::node_parts))]
 
-ghost use Rattle.std.specs.Prelude.{◌≡◌, [], List, IfOk};
+ghost use Rattle.std.specs.Prelude.{◌≡◌, [], List, IfOk, IfSome};
 ghost use Rattle.term_core.specs.Tree.{Tree};
 ghost use Rattle.term_core.specs.Kind.{made_of};
 ghost use Rattle.term_values.specs.ValueView.{top_tree};
@@ -15,10 +15,18 @@ use term_core::{Kind, NoMemory, Term};
 
 impl<'t> Value<'t> {
     /// A term of its own with the same tree.
+    #[inline(always)]
     pub fn to_term(&self, alloc: Global) -> Result<Term, NoMemory>
         ensures { IfOk result (λ term. term ≡ self.now) }
     {
-        owned(alloc, Seen::Value(self))
+        match &self.form {
+            Form::Leaf(kind) => node(alloc, *kind, Vec::new(alloc)),
+            Form::Original(term) => {
+                let term: &Term = *term;
+                term.try_clone()
+            }
+            _ => owned(alloc, Seen::Value(self)),
+        }
     }
 }
 
@@ -27,6 +35,11 @@ impl<'t> Value<'t> {
     pub fn from_term(alloc: Global, term: &Term) -> Result<Value<'t>, NoMemory>
         ensures { IfOk result (λ value. value ≡ term.now) }
     {
+        if let Kind::Integer(number) = term.kind() {
+            if term.annotations().is_empty() {
+                return Ok(Value::leaf(Kind::Integer(number)));
+            }
+        }
         copied(alloc, term)
     }
 }
@@ -68,19 +81,6 @@ fn own_top<'t>(alloc: Global, kind: Kind<'_>) -> Result<Top<'t>, NoMemory>
 fn owned(alloc: Global, seen: Seen<'_, '_>) -> Result<Term, NoMemory>
     ensures { IfOk result (λ term. term ≡ seen_tree seen.entry) }
 {
-    match seen {
-        Seen::Term(term) => return term.try_clone(),
-        Seen::Value(value) => {
-            if let Form::Leaf(kind) = &value.form {
-                return node(alloc, *kind, Vec::new(alloc));
-            }
-            if let Form::Original(term) = &value.form {
-                let term: &Term = *term;
-                return term.try_clone();
-            }
-        }
-        Seen::Part(_) => (),
-    }
     let children = all_owned(alloc, seen.elements())?;
     let bare = node(alloc, seen.kind(), children)?;
     let notes = seen.note_run();
@@ -99,12 +99,36 @@ fn all_owned(alloc: Global, elements: Elements<'_, '_>) -> Result<Vec<Term>, NoM
     let mut all = Vec::with_capacity(alloc, left.room())?;
     while let Some(seen) = left.next() {
         all.reserve(1)?;
-        all.push_reserved(owned(alloc, seen)?);
+        let term = match plain(alloc, seen)? {
+            Some(term) => term,
+            None => owned(alloc, seen)?,
+        };
+        all.push_reserved(term);
     }
     Ok(all)
 }
 
+// A term of its own, where it is a subterm of the borrowed term or a node without children.
+#[inline(always)]
+fn plain(alloc: Global, seen: Seen<'_, '_>) -> Result<Option<Term>, NoMemory>
+    ensures { IfOk result (λ found. IfSome found (λ term. term ≡ seen_tree seen.entry)) }
+{
+    match seen {
+        Seen::Term(term) => Ok(Some(term.try_clone()?)),
+        Seen::Value(value) => match &value.form {
+            Form::Leaf(kind) => Ok(Some(node(alloc, *kind, Vec::new(alloc))?)),
+            Form::Original(term) => {
+                let term: &Term = *term;
+                Ok(Some(term.try_clone()?))
+            }
+            _ => Ok(None),
+        },
+        Seen::Part(_) => Ok(None),
+    }
+}
+
 /// A term of this kind with these children and no annotations.
+#[inline(always)]
 fn node(alloc: Global, kind: Kind<'_>, children: Vec<Term>) -> Result<Term, NoMemory>
     ensures { IfOk result (λ term. term ≡ made_of kind.entry children.items []) }
 {

@@ -160,6 +160,7 @@ impl<'t> Part<'t> {
     }
 
     /// How many children the tree has that stands there.
+    #[inline(always)]
     pub fn child_count(&self) -> usize
         ensures { result ≡ length (children (standing_tree self.now)) }
     {

@@ -17,7 +17,22 @@ use term_core::{NoMemory, Term};
 impl<'t> Part<'t> {
     /// What stands in the place of child `i`, counted from 0, or `None` where there are no more than
     /// `i`. It takes no memory.
+    #[inline(always)]
     pub fn child(&self, i: usize) -> Result<Option<Part<'t>>, NoMemory>
+        ensures { IfOk result (λ child. child ≡ slice_get (standing_children self.now) i) }
+    {
+        match &self.form {
+            PartForm::Same(term, bounds) => {
+                let term: &'t Term = *term;
+                Ok(same_at(term.children(), i, child_bounds(term, *bounds)))
+            }
+            _ => self.other_child(i),
+        }
+    }
+
+    // The same where it isn't the subterm itself.
+    #[inline(never)]
+    fn other_child(&self, i: usize) -> Result<Option<Part<'t>>, NoMemory>
         ensures { IfOk result (λ child. child ≡ slice_get (standing_children self.now) i) }
     {
         match &self.form {
