@@ -38,6 +38,7 @@ const LIMITS: [u64; 5] = [32, 256, 2048, 16384, MAX_SIZE];
 impl<'t> Cells<'t> {
     /// The instance of the pattern, where it fits below `level` terms. It shares the terms in the cells,
     /// and names with the pattern. No memory is taken where there is no instance.
+    #[inline(always)]
     pub fn build<P: Places>(
         &mut self,
         alloc: Global,
@@ -48,12 +49,48 @@ impl<'t> Cells<'t> {
         ensures same { self.new ≡ self.old }
         ensures ok { IfOk result (λ built. Builds (build_place pattern.now (P.places places.now) self.old.bindings) level built) }
     {
-        if let Some(value) = constant(pattern) {
+        if let Some(value) = self.at_once(places, pattern)? {
             if value.surely_fits(level) {
                 return Ok(Built::Value(value));
             }
         }
-        if !self.has_instance(places, pattern) {
+        self.build_measured(alloc, places, pattern, level)
+    }
+
+    // The instance of a variable or of a pattern without parts, if there is one.
+    #[inline(always)]
+    fn at_once<P: Places>(
+        &self,
+        places: &P,
+        pattern: &'t Place,
+    ) -> Result<Option<Value<'t>>, NoMemory>
+        ensures { IfOk result (λ found. IfSome found (λ value. build_place pattern.now (P.places places.now) self.now.bindings ≡ Some value)) }
+    {
+        match pattern.form() {
+            PlaceForm::Variable(x) => {
+                let Some(value) = self.bound(places, *x) else {
+                    return Ok(None);
+                };
+                let held = value.try_clone()?;
+                Ok(Some(held))
+            }
+            _ => Ok(constant(pattern)),
+        }
+    }
+
+    // The instance, where it fits, once the terms of its variables are measured as far as it needs.
+    #[inline(never)]
+    fn build_measured<P: Places>(
+        &mut self,
+        alloc: Global,
+        places: &P,
+        pattern: &'t Place,
+        level: u64,
+    ) -> Result<Built<'t>, NoMemory>
+        ensures same { self.new ≡ self.old }
+        ensures ok { IfOk result (λ built. Builds (build_place pattern.now (P.places places.now) self.old.bindings) level built) }
+    {
+        if !is_flat(pattern) && !self.has_instance(places, pattern) {
             return Ok(Built::Nothing);
         }
         'measure: for limit in LIMITS {
@@ -309,6 +346,25 @@ impl<'t> Cells<'t> {
         if let Some(value) = &mut self.cells[i] {
             let _small = value.measure(limit);
         }
+    }
+}
+
+// Whether the parts of a pattern, at most two, have none themselves: then memory is taken only where all
+// have an instance.
+fn is_flat(pattern: &Place) -> bool {
+    match pattern.form() {
+        PlaceForm::Compound(_, parts) => parts.len() <= 2 && parts.iter().all(|p| has_no_parts(p)),
+        _ => false,
+    }
+}
+
+// Whether it is a variable, an integer or a head over nothing.
+fn has_no_parts(pattern: &Place) -> bool {
+    match pattern.form() {
+        PlaceForm::Variable(_) => true,
+        PlaceForm::Integer(_) => true,
+        PlaceForm::Compound(_, parts) => parts.is_empty(),
+        _ => false,
     }
 }
 
