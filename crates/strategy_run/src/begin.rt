@@ -16,6 +16,7 @@ use strategy_syntax::{ResolvedForm as Form, ResolvedStrategy};
 use term_core::NoMemory;
 
 /// Begins with a strategy, which costs a step.
+#[inline(always)]
 pub(crate) fn begin<'t, M: Meaning>(
     alloc: Global,
     host: &Host<'t, M>,
@@ -36,6 +37,7 @@ pub(crate) fn begin<'t, M: Meaning>(
 }
 
 // Goes on with a strategy by its form.
+#[inline(always)]
 fn take<'t, M: Meaning>(
     alloc: Global,
     host: &Host<'t, M>,

@@ -71,7 +71,24 @@ pub(crate) fn child_now<'t>(
 }
 
 // Adds what stands in the places of the other children until there are so many, or all.
+#[inline(always)]
 fn fill<'t>(parts: &mut Vec<Part<'t>>, node: &Part<'t>, count: usize) -> Result<(), NoMemory>
+    ensures { OnOk result (Fills (standing_children node.now) parts.old.items count parts.new.items) }
+{
+    if parts.len() >= count {
+        return Ok(());
+    }
+    fill_missing(parts, node, count)?;
+    Ok(())
+}
+
+// The same, one after the other.
+#[inline(never)]
+fn fill_missing<'t>(
+    parts: &mut Vec<Part<'t>>,
+    node: &Part<'t>,
+    count: usize,
+) -> Result<(), NoMemory>
     ensures { OnOk result (Fills (standing_children node.now) parts.old.items count parts.new.items) }
 {
     'fill: while parts.len() < count {
@@ -129,7 +146,8 @@ pub(crate) fn settle<'t>(
     if i >= node.child_count() {
         return Ok(());
     }
-    parts.push(part)?;
+    parts.reserve(1)?;
+    parts.push_reserved(part);
     Ok(())
 }
 

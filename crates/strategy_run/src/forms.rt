@@ -40,6 +40,7 @@ pub(crate) fn take_match<'t>(
 }
 
 /// A pattern that is built.
+#[inline(always)]
 pub(crate) fn take_build<'t>(
     alloc: Global,
     m: &mut Machine<'t>,
@@ -68,6 +69,7 @@ pub(crate) fn take_build<'t>(
 }
 
 /// Puts a value in the place that is in hand, which is an edit.
+#[inline(always)]
 pub(crate) fn replace<'t>(
     alloc: Global,
     m: &mut Machine<'t>,
@@ -81,6 +83,7 @@ pub(crate) fn replace<'t>(
 }
 
 /// One strategy after the other. Where the first one is a match, it is done at once.
+#[inline(always)]
 pub(crate) fn take_seq<'t>(
     alloc: Global,
     m: &mut Machine<'t>,
@@ -102,6 +105,7 @@ pub(crate) fn take_seq<'t>(
 }
 
 // A match, which costs a step of its own, and a strategy after it.
+#[inline(never)]
 fn match_first<'t>(
     alloc: Global,
     m: &mut Machine<'t>,

@@ -1,4 +1,4 @@
-use Rattle.std.proofs.Common.{◌∙◌, arith, refl}
+use Rattle.std.proofs.Common.{◌∙◌, ◌++◌, ◌∷◌, [], ap, arith, refl}
 use Rattle.strategy_run.proofs.PartsLemmas.{settled_in, settled_next, settled_past, when_changed}
 use Rattle.strategy_run.proofs.children.settle.Goals as goal
 
@@ -19,5 +19,5 @@ returns-then-i-child_count c = settled_past c.args.node.now c.args.parts.now.ite
 pub returns : goal.returns
 returns c = settled_next c.args.node.now c.args.parts.now.items c.args.i c.args.part c.fill.new.parts.items _ c.in_ok-fill.ensures
     (omega (arith, c.if-len-i.false, c.len-2.ensures, c.fill.new.parts.ok.0, c.in_ok-fill.ensures.most (omega (arith, c.if-i-len.false, c.len.ensures, c.args.parts.now.ok.0))))
-    (omega (arith, c.if-i-child_count.false, c.child_count.ensures)) c.in_ok-push.ensures.items
+    (omega (arith, c.if-i-child_count.false, c.child_count.ensures)) (c.push_reserved.ensures.items ∙ ap (λ l. l ++ c.args.part ∷ []) c.in_ok-reserve.ensures.items)
     ∙ when_changed c.args.changed _ _ c.if-not-changed.false
