@@ -1,3 +1,6 @@
+-- What a reader has to believe.
+pub mod Applies
+-- What serves private clauses and proofs. Public ones also name `world_of` of Turns and `IsAnswered` of Ends.
 pub mod Trails
 pub mod Leading
 pub mod Frames
@@ -5,7 +8,6 @@ pub mod Arguments
 pub mod Hands
 pub mod Turns
 pub mod Ends
-pub mod Applies
 pub mod Endings
 pub mod Missing
 pub mod Tries

@@ -1,3 +1,4 @@
+-- All of these serve private clauses and proofs: public ones see the plain trees of the crates below.
 pub mod Bounded
 pub mod Shape
 pub mod ValueView
