@@ -14,7 +14,7 @@ use Rattle.session_core.specs.declared.refusal.Refusal.{Refusal}
 use Rattle.session_core.specs.declared.refusal.Refusal.TheVariants.{Memory, NoUndo, NoRedo, Group, NoGroup}
 use Rattle.script_core.specs.Machine.{Reply, ReadAs, Told, done, ok_with}
 use Rattle.script_core.specs.Handed.{Handed, text as handed_text, long}
-use Rattle.script_core.specs.Form.{Form, is_without_memory, tree, undo, redo, begin, abandon, tree_form, command_of, checked, form_with, is_same, last_steps, has_word, front_word, behind_word, takes_no_memory, takes_no_memory_with}
+use Rattle.script_core.specs.Form.{Form, is_without_memory, undo, redo, begin, abandon, tree_form, put_form, command_of, checked, form_with, is_same, last_steps, has_word, front_word, behind_word, takes_no_memory, takes_no_memory_with}
 use Rattle.script_core.specs.declared.command.Command.{Command}
 use Rattle.script_core.specs.CommandView.{form}
 use Rattle.script_core.specs.Script.{without_end}
@@ -111,36 +111,40 @@ module _ (meaning : Meaning) (command known : Command) (h : History) (r outcome 
       subst (λ (c : Command). IfErr r (Refuses (Replies meaning (form c) h) (is_without_memory (form c)))) (sym is)
       (subst (λ (x : Result (Unit {0}) Refusal). IfErr x (Refuses (Replies meaning (form known) h) (is_without_memory (form known)))) (sym same) refused)
 
--- a command `tree`
-module _ (meaning : Meaning) (steps : ℕ) (command rest : List ℕ) (h : History) (word : front_word (without_end is_blank command) ≡ codes "tree") (behind : behind_word (without_end is_blank command) ≡ rest) where
-  command_is : command_of steps command ≡ checked (tree_form rest)
-  command_is = λ i. checked (form_with steps (word i) (behind i))
+-- the commands that are read and answered apart: what they ask for
+told_by : (steps : ℕ) (command word rest : List ℕ) → front_word (without_end is_blank command) ≡ word → behind_word (without_end is_blank command) ≡ rest → command_of steps command ≡ checked (form_with steps word rest)
+told_by steps command word rest front behind = λ i. checked (form_with steps (front i) (behind i))
 
-  may_take_memory : takes_no_memory command ≡ false
-  may_take_memory = ap takes_no_memory_with word
+pub tree_told : (steps : ℕ) (command rest : List ℕ) → front_word (without_end is_blank command) ≡ codes "tree" → behind_word (without_end is_blank command) ≡ rest → command_of steps command ≡ checked (tree_form rest)
+tree_told steps command rest front behind = told_by steps command (codes "tree") rest front behind
 
-  abbrev SaysTree : Result Form Refusal → Reply → Type 0
-  SaysTree said reply = MatchResult said (λ f. Replies meaning f h reply) (λ refusal. reply ≡ Err refusal)
+pub put_told : (steps : ℕ) (command rest : List ℕ) → front_word (without_end is_blank command) ≡ codes "put" → behind_word (without_end is_blank command) ≡ rest → command_of steps command ≡ checked (put_form rest)
+put_told steps command rest front behind = told_by steps command (codes "put") rest front behind
 
-  module _ (name text : List ℕ) (is : checked (tree_form rest) ≡ Ok (tree name text)) (r outcome : Result (Unit {0}) Refusal) (same : r ≡ outcome) where
-    pub tree_answered : (new : History) (before after : List ℕ) → OnOk outcome (Replies meaning (tree name text) h (Ok (ok_with new))) → OnOk r (after ≡ before ++ line (codes "ok")) → OnOk r (Accepts (ReplyToText meaning steps command h) new before after)
-    tree_answered new before after ok written =
-        subst (λ (said : Result Form Refusal). OnOk r (Accepts (SaysTree said) new before after)) (sym (command_is ∙ is))
-        (by r (subst (λ (x : Result (Unit {0}) Refusal). OnOk x (Replies meaning (tree name text) h (Ok (ok_with new)))) (sym same) ok) written)
+-- such a command, which may take memory
+module _ (meaning : Meaning) (steps : ℕ) (command : List ℕ) (h : History) (asked : Option Form) (command_is : command_of steps command ≡ checked asked) (may_take_memory : takes_no_memory command ≡ false) where
+  abbrev SaysApart : Result Form Refusal → Reply → Type 0
+  SaysApart said reply = MatchResult said (λ f. Replies meaning f h reply) (λ refusal. reply ≡ Err refusal)
+
+  module _ (f : Form) (is : checked asked ≡ Ok f) (r outcome : Result (Unit {0}) Refusal) (same : r ≡ outcome) where
+    pub apart_answered : (new : History) (before after : List ℕ) → OnOk outcome (Replies meaning f h (Ok (ok_with new))) → OnOk r (after ≡ before ++ line (codes "ok")) → OnOk r (Accepts (ReplyToText meaning steps command h) new before after)
+    apart_answered new before after ok written =
+        subst (λ (said : Result Form Refusal). OnOk r (Accepts (SaysApart said) new before after)) (sym (command_is ∙ is))
+        (by r (subst (λ (x : Result (Unit {0}) Refusal). OnOk x (Replies meaning f h (Ok (ok_with new)))) (sym same) ok) written)
       where
-        by : (r : Result (Unit {0}) Refusal) → OnOk r (Replies meaning (tree name text) h (Ok (ok_with new))) → OnOk r (after ≡ before ++ line (codes "ok")) → OnOk r (Accepts (Replies meaning (tree name text) h) new before after)
+        by : (r : Result (Unit {0}) Refusal) → OnOk r (Replies meaning f h (Ok (ok_with new))) → OnOk r (after ≡ before ++ line (codes "ok")) → OnOk r (Accepts (Replies meaning f h) new before after)
         by (Ok x) ok written = record { text = line (codes "ok"); reply = ok; answer = written }
         by (Err refusal) ok written = tt
 
-    pub tree_refused : IfErr outcome (Refuses (Replies meaning (tree name text) h) false) → IfErr r (Refuses (ReplyToText meaning steps command h) (takes_no_memory command))
-    tree_refused refused =
+    pub apart_refused : IfErr outcome (Refuses (Replies meaning f h) false) → IfErr r (Refuses (ReplyToText meaning steps command h) (takes_no_memory command))
+    apart_refused refused =
         subst (λ (none : Bool). IfErr r (Refuses (ReplyToText meaning steps command h) none)) (sym may_take_memory)
-        (subst (λ (said : Result Form Refusal). IfErr r (Refuses (SaysTree said) false)) (sym (command_is ∙ is))
-        (subst (λ (x : Result (Unit {0}) Refusal). IfErr x (Refuses (Replies meaning (tree name text) h) false)) (sym same) refused))
+        (subst (λ (said : Result Form Refusal). IfErr r (Refuses (SaysApart said) false)) (sym (command_is ∙ is))
+        (subst (λ (x : Result (Unit {0}) Refusal). IfErr x (Refuses (Replies meaning f h) false)) (sym same) refused))
 
-  pub tree_unread : (refusal : Refusal) → (refusal ≡ Memory) ⊎ (checked (tree_form rest) ≡ Err refusal) → Refuses (ReplyToText meaning steps command h) (takes_no_memory command) refusal
-  tree_unread refusal (inl memory) = inl (memory, may_take_memory)
-  tree_unread refusal (inr e) = inr (subst (λ (said : Result Form Refusal). SaysTree said (Err refusal)) (sym (command_is ∙ e)) refl)
+  pub apart_unread : (refusal : Refusal) → (refusal ≡ Memory) ⊎ (checked asked ≡ Err refusal) → Refuses (ReplyToText meaning steps command h) (takes_no_memory command) refusal
+  apart_unread refusal (inl memory) = inl (memory, may_take_memory)
+  apart_unread refusal (inr e) = inr (subst (λ (said : Result Form Refusal). SaysApart said (Err refusal)) (sym (command_is ∙ e)) refl)
 
 pub if_err_weaker : {T E : Type 0} {P Q : E → Type 0} (r : Result T E) → ((d : E) → P d → Q d) → IfErr r P → IfErr r Q
 if_err_weaker (Ok x) f p = p

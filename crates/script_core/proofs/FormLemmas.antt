@@ -14,3 +14,12 @@ tree_in_front text r e f rest first second third fourth end =
       ap front_word all ∙ ap (λ (n : ℕ). take (1 + (1 + (1 + (1 + n)))) (116 ∷ 114 ∷ 101 ∷ 101 ∷ rest)) end,
       ap behind_word all ∙ ap (λ (n : ℕ). drop (1 + (1 + (1 + (1 + n)))) (116 ∷ 114 ∷ 101 ∷ 101 ∷ rest)) end,
     )
+
+-- the word `put`
+pub put_in_front : (text u t rest : List ℕ) → text ≡ 112 ∷ u → u ≡ 117 ∷ t → t ≡ 116 ∷ rest → position_or_len is_blank rest ≡ 0
+    → (front_word text ≡ codes "put") × (behind_word text ≡ rest)
+put_in_front text u t rest first second third end =
+    let all : text ≡ 112 ∷ 117 ∷ 116 ∷ rest = first ∙ ap (λ (l : List ℕ). 112 ∷ l) (second ∙ ap (λ (l : List ℕ). 117 ∷ l) third) in (
+      ap front_word all ∙ ap (λ (n : ℕ). take (1 + (1 + (1 + n))) (112 ∷ 117 ∷ 116 ∷ rest)) end,
+      ap behind_word all ∙ ap (λ (n : ℕ). drop (1 + (1 + (1 + n))) (112 ∷ 117 ∷ 116 ∷ rest)) end,
+    )

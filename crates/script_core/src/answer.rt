@@ -16,7 +16,7 @@ ghost use Rattle.script_core.specs.Machine.{ReadAs, Replies, ReplyTo, ReplyToTex
 ghost use Rattle.script_core.specs.Answer.{Accepts, Answered, Refuses, ReplyInRun, is_fault, reading_refusal, takes_none};
 ghost use Rattle.script_core.specs.CommandView.{form as form_seen};
 
-use crate::command::{behind_tree, read_name_and_text};
+use crate::command::{behind_put, behind_tree, read_name_and_text, read_put_parts};
 use crate::{Command, Piece};
 use aterm_text::{ReadFault, print, print_name, read, read_annotations};
 use itoa::Buffer;
@@ -104,7 +104,10 @@ fn answer_line<M: Meaning>(
     ensures room { vec_capacity answer.old ≤ vec_capacity answer.new }
 {
     let Some(rest) = behind_tree(command) else {
-        return answer_form(alloc, session, command, steps, answer);
+        return match command.first() {
+            Some(byte) if *byte == b'p' => answer_put(alloc, session, command, steps, answer),
+            _ => answer_form(alloc, session, command, steps, answer),
+        };
     };
     match read_name_and_text(alloc, rest) {
         Ok((name, text)) => say_ok(set_tree(alloc, session, &name, text), answer),
@@ -112,7 +115,37 @@ fn answer_line<M: Meaning>(
     }
 }
 
-// A command of any form. It isn't inlined, so that a command `tree` doesn't pay for its variables.
+// A command `put` is read and answered apart as well. It isn't inlined, so that the others don't pay for its
+// variables.
+#[inline(never)]
+fn answer_put<M: Meaning>(
+    alloc: Global,
+    session: &mut Session<M>,
+    command: &[u8],
+    steps: u32,
+    answer: &mut Vec<u8>,
+) -> Result<(), Refusal>
+    requires steps { AreSteps steps }
+    requires room { vec_len answer.old + ANSWER_ROOM ≤ vec_capacity answer.old }
+    ensures ok { OnOk result (Accepts (ReplyToText M.meaning steps command.now session.old) session.new
+        answer.old.items answer.new.items) }
+    ensures refused { IfErr result (Refuses (ReplyToText M.meaning steps command.now session.old)
+        (takes_no_memory command.now)) }
+    ensures err { OnErr result ((session.new ≡ session.old)
+        × (answer.new.items ≡ answer.old.items)) }
+    ensures len { OnErr result (vec_len answer.new ≡ vec_len answer.old) }
+    ensures room { vec_capacity answer.old ≤ vec_capacity answer.new }
+{
+    let Some(rest) = behind_put(command) else {
+        return answer_form(alloc, session, command, steps, answer);
+    };
+    match read_put_parts(alloc, rest) {
+        Ok((name, path, text)) => say_ok(put(alloc, session, &name, &path, text), answer),
+        Err(refusal) => Err(refusal),
+    }
+}
+
+// A command of any form. It isn't inlined, so that those two don't pay for its variables.
 #[inline(never)]
 fn answer_form<M: Meaning>(
     alloc: Global,

@@ -6,7 +6,7 @@ ghost use Rattle.term_core.specs.Word.{label_of};
 ghost use Rattle.aterm_text.specs.Tokens.{is_blank, without_blanks};
 ghost use Rattle.script_core.specs.Script.{without_end};
 ghost use Rattle.session_core.specs.Steps.{AreSteps};
-ghost use Rattle.script_core.specs.Form.{Form, tree, command_of, checked, tree_form, copy_form, drop_form, put_form, annotate_form, module_form, unload_form, apply_form, text_form, show_form, last_name, last_steps, last_text, option_word, behind_option, path_or_root, steps_or, steps_of, ended, form_with, HasBudget, is_without_memory, takes_no_memory, takes_no_memory_with, front_word, behind_word, has_word};
+ghost use Rattle.script_core.specs.Form.{Form, tree, put, command_of, checked, tree_form, copy_form, drop_form, put_form, annotate_form, module_form, unload_form, apply_form, text_form, show_form, last_name, last_steps, last_text, option_word, behind_option, path_or_root, steps_or, steps_of, ended, form_with, HasBudget, is_without_memory, takes_no_memory, takes_no_memory_with, front_word, behind_word, has_word, is_same};
 ghost use Rattle.term_paths.specs.PathText.{path_of};
 ghost use Rattle.script_core.specs.CommandView.{form as form_seen};
 
@@ -85,13 +85,15 @@ impl<'a> Command<'a> {
             read_ended(Command::Begin, rest)
         } else if keyword == b"abandon".as_slice() {
             read_ended(Command::Abandon, rest)
+        } else if keyword == b"commit".as_slice() {
+            read_ended(Command::Commit, rest)
         } else {
             read_other(alloc, keyword, rest, steps)
         }
     }
 }
 
-// The forms that may take memory. The steps are the budget of one that names none.
+// The other forms. The steps are the budget of one that names none.
 fn read_other<'a>(
     alloc: Global,
     keyword: &[u8],
@@ -99,6 +101,7 @@ fn read_other<'a>(
     steps: u32,
 ) -> Result<Command<'a>, Refusal>
     requires memory { takes_no_memory_with keyword.now ≡ false }
+    requires commit { is_same keyword.now (codes "commit") ≡ false }
     requires steps { AreSteps steps }
     ensures ok { IfOk result (λ read. checked (form_with steps keyword.now rest.now) ≡ Ok (form_seen read)) }
     ensures may_take_memory { IfOk result (λ read. is_without_memory (form_seen read) ≡ false) }
@@ -126,8 +129,6 @@ fn read_other<'a>(
         Ok(Command::Text(read_last_name(alloc, rest)?))
     } else if keyword == b"show".as_slice() {
         read_show(alloc, rest)
-    } else if keyword == b"commit".as_slice() {
-        read_ended(Command::Commit, rest)
     } else if keyword == b"trees".as_slice() {
         read_ended(Command::Trees, rest)
     } else if keyword == b"modules".as_slice() {
@@ -220,6 +221,18 @@ fn read_put(alloc: Global, rest: &[u8]) -> Result<Command<'_>, Refusal>
     ensures refused { IfErr result (λ refusal. (refusal ≡ Refusal.Memory)
         ⊎ (checked (put_form rest.now) ≡ Err refusal)) }
 {
+    let (name, path, text) = read_put_parts(alloc, rest)?;
+    Ok(Command::Put(name, path, text))
+}
+
+/// The name, the path and the text of a command `put`, whose keyword stands before `rest`.
+///
+/// Errors: those of `Command::read`.
+pub(crate) fn read_put_parts(alloc: Global, rest: &[u8]) -> Result<(Label, Path, &[u8]), Refusal>
+    ensures ok { IfOk result (λ read. checked (put_form rest.now) ≡ Ok (put read.0 read.1 read.2.now)) }
+    ensures refused { IfErr result (λ refusal. (refusal ≡ Refusal.Memory)
+        ⊎ (checked (put_form rest.now) ≡ Err refusal)) }
+{
     let (name, rest) = split_word(rest);
     if name.is_empty() {
         return Err(Refusal::Line);
@@ -227,7 +240,23 @@ fn read_put(alloc: Global, rest: &[u8]) -> Result<Command<'_>, Refusal>
     let (path, rest) = split_word(rest);
     let path = read_path_word(alloc, path)?;
     let name = read_label(alloc, name)?;
-    Ok(Command::Put(name, path, after_blanks(rest)))
+    Ok((name, path, after_blanks(rest)))
+}
+
+/// What stands behind the keyword `put`, where the command begins with it, and not with blanks.
+pub(crate) fn behind_put(command: &[u8]) -> Option<&[u8]>
+    ensures { IfSome result (λ rest.
+        (front_word (without_end is_blank command.now) ≡ codes "put")
+        × (behind_word (without_end is_blank command.now) ≡ rest.now)) }
+{
+    after_byte(b'p', command)?;
+    let behind_p = after_byte(b'p', without_last_blanks(command))?;
+    let behind_pu = after_byte(b'u', behind_p)?;
+    let rest = after_byte(b't', behind_pu)?;
+    if !ends_word(rest) {
+        return None;
+    }
+    Some(rest)
 }
 
 fn read_annotate(alloc: Global, rest: &[u8]) -> Result<Command<'_>, Refusal>

@@ -1,14 +1,16 @@
-use Rattle.script_core.proofs.AnswerLemmas.{tree_answered, tree_refused, tree_unread}
+use Rattle.std.proofs.Common.{ap}
+use Rattle.script_core.specs.Form.{tree_form, takes_no_memory_with}
+use Rattle.script_core.proofs.AnswerLemmas.{tree_told, apart_answered, apart_refused, apart_unread}
 use Rattle.script_core.proofs.answer.answer_line.Goals as goal
 
 pub returns-in-Ok-clause-ok : goal.returns-in-Ok-clause-ok
 returns-in-Ok-clause-ok g c =
-    tree_answered g.M.Meaning.meaning c.args.steps c.args.command.now c.in-Some.rest.now c.args.session.now c.in-Some.ensures.0 c.in-Some.ensures.1 _ _ c.in-Ok.ensures.ok c.say_ok.result c.set_tree.result c.say_ok.ensures.same c.set_tree.new.session c.args.answer.now.items c.say_ok.new.answer.items c.set_tree.ensures.ok c.say_ok.ensures.ok
+    apart_answered g.M.Meaning.meaning c.args.steps c.args.command.now c.args.session.now (tree_form c.in-Some.rest.now) (tree_told c.args.steps c.args.command.now c.in-Some.rest.now c.in-Some.ensures.0 c.in-Some.ensures.1) (ap takes_no_memory_with c.in-Some.ensures.0) _ c.in-Ok.ensures.ok c.say_ok.result c.set_tree.result c.say_ok.ensures.same c.set_tree.new.session c.args.answer.now.items c.say_ok.new.answer.items c.set_tree.ensures.ok c.say_ok.ensures.ok
 
 pub returns-in-Ok-clause-refused : goal.returns-in-Ok-clause-refused
 returns-in-Ok-clause-refused g c =
-    tree_refused g.M.Meaning.meaning c.args.steps c.args.command.now c.in-Some.rest.now c.args.session.now c.in-Some.ensures.0 c.in-Some.ensures.1 _ _ c.in-Ok.ensures.ok c.say_ok.result c.set_tree.result c.say_ok.ensures.same c.set_tree.ensures.refused
+    apart_refused g.M.Meaning.meaning c.args.steps c.args.command.now c.args.session.now (tree_form c.in-Some.rest.now) (tree_told c.args.steps c.args.command.now c.in-Some.rest.now c.in-Some.ensures.0 c.in-Some.ensures.1) (ap takes_no_memory_with c.in-Some.ensures.0) _ c.in-Ok.ensures.ok c.say_ok.result c.set_tree.result c.say_ok.ensures.same c.set_tree.ensures.refused
 
 pub returns-in-Err-clause-refused : goal.returns-in-Err-clause-refused
 returns-in-Err-clause-refused g c =
-    tree_unread g.M.Meaning.meaning c.args.steps c.args.command.now c.in-Some.rest.now c.args.session.now c.in-Some.ensures.0 c.in-Some.ensures.1 c.in-Err.refusal c.in-Err.ensures.refused
+    apart_unread g.M.Meaning.meaning c.args.steps c.args.command.now c.args.session.now (tree_form c.in-Some.rest.now) (tree_told c.args.steps c.args.command.now c.in-Some.rest.now c.in-Some.ensures.0 c.in-Some.ensures.1) (ap takes_no_memory_with c.in-Some.ensures.0) c.in-Err.refusal c.in-Err.ensures.refused
