@@ -223,6 +223,14 @@ impl Term {
         children.max(annotations).saturating_add(1)
     }
 
+    // Whether there are no children and no annotations.
+    #[inline(always)]
+    fn is_leaf(&self) -> bool
+        ensures { IsTrue result → height_of self.now ≡ 1 }
+    {
+        self.children.is_empty() && self.annotations.is_empty()
+    }
+
     /// The size: 1 more than the sizes of children and annotations together. Where it is more than
     /// the greatest `u64`, that number.
     #[cycle(size)]
@@ -323,6 +331,10 @@ fn greatest_height(terms: &[Term]) -> u64
 {
     let mut greatest = 0;
     for term in terms {
+        if term.is_leaf() {
+            greatest = 1u64.max(greatest);
+            continue;
+        }
         greatest = term.height().max(greatest);
     }
     greatest
