@@ -129,7 +129,7 @@ fn plain(alloc: Global, seen: Seen<'_, '_>) -> Result<Option<Term>, NoMemory>
 
 /// A term of this kind with these children and no annotations.
 #[inline(always)]
-fn node(alloc: Global, kind: Kind<'_>, children: Vec<Term>) -> Result<Term, NoMemory>
+pub(crate) fn node(alloc: Global, kind: Kind<'_>, children: Vec<Term>) -> Result<Term, NoMemory>
     ensures { IfOk result (λ term. term ≡ made_of kind.entry children.items []) }
 {
     match kind {

@@ -8,7 +8,9 @@ ghost use Rattle.term_changes.specs.Change.{places, places_from};
 ghost use Rattle.term_changes.specs.Putting.{entries_at, HasPlaces, HaveAllPlaces};
 ghost use Rattle.term_changes.specs.Standing.{Suits, SuitAll, standing_change, standing_changes};
 
+use crate::owned::node;
 use crate::part::{Changed, Part, PartForm};
+use crate::value::Form;
 use change_log::{Entry, Plan};
 use std::alloc::Global;
 use term_core::NoMemory;
@@ -116,6 +118,11 @@ fn add_child_places<'t>(
             Ok(())
         }
         PartForm::New(value) => {
+            if let Form::Leaf(kind) = &value.form {
+                let leaf = node(alloc, *kind, Vec::new(alloc))?;
+                plan.add_child(slot, path, i, leaf)?;
+                return Ok(());
+            }
             let term = value.to_term(alloc)?;
             plan.add_child(slot, path, i, term)?;
             Ok(())
