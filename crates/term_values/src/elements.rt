@@ -147,7 +147,7 @@ impl<'t> Part<'t> {
         Elements::alone(run)
     }
 
-    fn notes(&self) -> Run<'_, 't>
+    pub(crate) fn notes(&self) -> Run<'_, 't>
         ensures { run_list result ≡ annotations (standing_tree self.now) }
     {
         match &self.form {

@@ -56,13 +56,22 @@ impl<'t> Value<'t> {
         requires { length (children behind.now) + 1 < 2 ^ 64 }
         ensures { IfOk result (λ value. value ≡ list_term (first.entry ∷ children behind.now)) }
     {
-        let list = behind.as_list(alloc)?;
-        if list.run() < RUN {
-            return link(alloc, first, list);
+        put_before(alloc, first, behind.as_list(alloc)?)
+    }
+
+    /// The same for a value that is given away.
+    pub fn cons_owned(
+        alloc: Global,
+        first: Value<'t>,
+        behind: Value<'t>,
+    ) -> Result<Value<'t>, NoMemory>
+        requires { length (children behind) + 1 < 2 ^ 64 }
+        ensures { IfOk result (λ value. value ≡ list_term (first.entry ∷ children behind.entry)) }
+    {
+        if let Form::Joined(_) = &behind.form {
+            return put_before(alloc, first, behind);
         }
-        let mut front = Vec::with_capacity(alloc, RUN + 1)?;
-        front.push(first)?;
-        gathered(alloc, front, &list)
+        put_before(alloc, first, behind.as_list(alloc)?)
     }
 
     // The list of the children without annotations.
@@ -139,6 +148,20 @@ impl<'t> Value<'t> {
             bounds: self.bounds.less(skipped, 0),
         }
     }
+}
+
+// The list of an element in front of those of a list without annotations.
+fn put_before<'t>(alloc: Global, first: Value<'t>, list: Value<'t>) -> Result<Value<'t>, NoMemory>
+    requires list { list ≡ list_term (children list) }
+    requires room { length (children list) + 1 < 2 ^ 64 }
+    ensures { IfOk result (λ value. value ≡ list_term (first.entry ∷ children list.entry)) }
+{
+    if list.run() < RUN {
+        return link(alloc, first, list);
+    }
+    let mut front = Vec::with_capacity(alloc, RUN + 1)?;
+    front.push(first)?;
+    gathered(alloc, front, &list)
 }
 
 // The elements of a joined list behind the first `skipped`, one by one, so that their rests are at

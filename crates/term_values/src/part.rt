@@ -1,13 +1,14 @@
 //! What stands in the place of a subterm of the borrowed term.
 
-ghost use Rattle.std.specs.Prelude.{◌≡◌, ◌≤◌, length, IfOk};
-ghost use Rattle.term_core.specs.Tree.{children, annotations};
+ghost use Rattle.std.specs.Prelude.{◌≡◌, ◌≤◌, drop, length, IfOk};
+ghost use Rattle.term_core.specs.Tree.{children, annotations, list_term};
 ghost use Rattle.term_core.specs.Kind.{made_of};
 ghost use Rattle.term_core.specs.Size.{height as height_of};
 ghost use Rattle.term_changes.specs.Standing.{after, standing_tree, unchanged, fresh};
 
 use crate::bounds::Bounds;
 use crate::value::{Form, Pair, Single, Value};
+use std::alloc::Global;
 use std::marker::Model;
 use std::rc::Rc;
 use term_core::{Kind, NoMemory, Term};
@@ -168,6 +169,41 @@ impl<'t> Part<'t> {
             PartForm::Same(term, _) => term.child_count(),
             PartForm::Inside(changed, _) => changed.child_count(),
             PartForm::New(value) => value.child_count(),
+        }
+    }
+
+    /// How many annotations the tree has that stands there.
+    pub fn annotation_count(&self) -> usize
+        ensures { result ≡ length (annotations (standing_tree self.now)) }
+    {
+        self.notes().len()
+    }
+
+    /// The list of the children without the first `skipped`, and without annotations.
+    pub fn rest(&self, alloc: Global, skipped: usize) -> Result<Value<'t>, NoMemory>
+        requires { skipped ≤ length (children (standing_tree self.now)) }
+        ensures { IfOk result (λ value. value ≡ list_term (drop skipped (children (standing_tree self.now)))) }
+    {
+        match &self.form {
+            PartForm::New(value) => value.rest(alloc, skipped),
+            _ => self.value()?.rest(alloc, skipped),
+        }
+    }
+
+    /// The tree that stood there. Nothing is held once more.
+    pub fn into_value(self) -> Value<'t>
+        ensures { result ≡ standing_tree self.entry }
+    {
+        match self.form {
+            PartForm::Same(term, bounds) => Value {
+                form: Form::Original(term),
+                bounds,
+            },
+            PartForm::Inside(changed, bounds) => Value {
+                form: Form::Kept(changed),
+                bounds,
+            },
+            PartForm::New(value) => value,
         }
     }
 
