@@ -34,12 +34,12 @@ use Rattle.strategy_run.proofs.OpenLemmas.{with_edits-done, behind-behind, opens
 -- ---- a child begins
 
 -- the child that stands there, in the node so far
-on_there : (W : World) (E : Scope) (l : ℕ) (s : ResolvedStrategy) (i c : ℕ) (B : Bindings) (t u : Tree) → slice_get (children t) i ≡ Some u
+pub on_there : (W : World) (E : Scope) (l : ℕ) (s : ResolvedStrategy) (i c : ℕ) (B : Bindings) (t u : Tree) → slice_get (children t) i ≡ Some u
     → on_child (run W E l s) i c B t ≡ put_back i t (run W E l s c B u)
 on_there W E l s i c B t u e =
     ap (λ (o : Option Tree). with_some o c (λ v. if_done (run W E l s c B v) (λ x C b d. done (with_child t i x) C b (behind (i ∷ []) d)))) e
 
-on_none : (act : Act) (i c : ℕ) (B : Bindings) (t : Tree) → slice_get (children t) i ≡ None → on_child act i c B t ≡ failed c
+pub on_none : (act : Act) (i c : ℕ) (B : Bindings) (t : Tree) → slice_get (children t) i ≡ None → on_child act i c B t ≡ failed c
 on_none act i c B t e =
     ap (λ (o : Option Tree). with_some o c (λ v. if_done (act c B v) (λ x C b d. done (with_child t i x) C b (behind (i ∷ []) d)))) e
 
@@ -48,16 +48,16 @@ none_within [] i e = omega arith
 none_within (q ∷ ps) zero e = absurd (cc)
 none_within (q ∷ ps) (suc i) e = omega (arith, none_within ps i e)
 
-no_part : (p : Standing) (parts : List Standing) (i : ℕ) → PartsStand p parts → slice_get (parts_now p parts) i ≡ None
+pub no_part : (p : Standing) (parts : List Standing) (i : ℕ) → PartsStand p parts → slice_get (parts_now p parts) i ≡ None
     → slice_get (children (standing_tree (node_now p parts))) i ≡ None
 no_part p parts i st e = slice_get_past (children (standing_tree (node_now p parts))) i
     (omega (arith, none_within (parts_now p parts) i e, node_count p parts st, part_count p parts st))
 
 -- a walk over a node, at child i
-abbrev walk_at : Standing → Vec Standing Global → ℕ → State → Walk
+abbrev pub walk_at : Standing → Vec Standing Global → ℕ → State → Walk
 walk_at p parts i S = record { node = p; parts = parts; index = i; level = S.level; edits = S.trail.count }
 
-abbrev below : State → Frame → State
+abbrev pub below : State → Frame → State
 below S f = record { cells = S.cells; scopes = S.scopes; trail = S.trail; level = S.level + 1; frames = f ∷ S.frames; steps = S.steps }
 
 -- the same, where what was pushed and what is in hand are known by equations
@@ -65,7 +65,7 @@ pub below_as : (W : World) (sub : Standing) (whole : Answer) (S : State) (f g : 
 below_as W sub whole S f g h k e d x =
     subst (λ (j : Hand). HoldsIn W sub whole (below S g) j) (sym d) (subst (λ (y : Frame). HoldsIn W sub whole (below S y) h) (sym e) x)
 
-child_inside : (S : State) (p : Standing) (parts : Vec Standing Global) (i : ℕ) (q : Standing) (T : Edits) → Has p → PartsStand p (all_parts p parts.items)
+pub child_inside : (S : State) (p : Standing) (parts : Vec Standing Global) (i : ℕ) (q : Standing) (T : Edits) → Has p → PartsStand p (all_parts p parts.items)
     → slice_get (parts_now p (all_parts p parts.items)) i ≡ Some q → Shows S.trail T → Inside (S.level + 1) (walk_at p parts i S) q T
 child_inside S p parts i q T h st e sh = record { level = refl; has = h; stand = st; is = e; edits = sh.count }
 

@@ -16,7 +16,7 @@ use Rattle.strategy_run.specs.Frames.{Meets}
 use Rattle.strategy_run.specs.Turns.{State, HoldsIn, FormIn}
 use Rattle.strategy_run.specs.Endings.{LeavesScopes, LeavesCells, AnswersIn, with_those}
 use Rattle.strategy_run.specs.declared.frames.Frame.{Frame}
-use Rattle.strategy_run.specs.declared.frames.Frame.TheVariants.{Then, Choose, Restore, Each, Leftmost, Those, Tail, Rest, Leave, Cut}
+use Rattle.strategy_run.specs.declared.frames.Frame.TheVariants.{Then, Choose, Restore, Each, Leftmost, Those, Tail, Rest, Head, Behind, Leave, Cut}
 use Rattle.strategy_run.specs.Hands.{Begin}
 use Rattle.strategy_run.proofs.OpenLemmas.{with_edits-cut, opens_along, opens_through, meets_kept, pushed}
 
@@ -141,6 +141,8 @@ leave_kept W sub whole S p a k m mid es f le e st h = record {
     kept (Those s n w mark any ∷ fs) start base b g r = absurd g
     kept (Tail s n j ∷ fs) start base b g r = absurd g
     kept (Rest node ps n j ∷ fs) start base b g r = absurd g
+    kept (Head s n w ∷ fs) start base b g r = absurd g
+    kept (Behind node first j ∷ fs) start base b g r = absurd g
 
 -- ---- cells that end
 
@@ -194,3 +196,5 @@ cut_kept W sub whole S p a k m mid es D f le e st b sy h = record {
     kept (Those s n w mark any ∷ fs) start base x g r = absurd g
     kept (Tail s n j ∷ fs) start base x g r = absurd g
     kept (Rest node ps n j ∷ fs) start base x g r = absurd g
+    kept (Head s n w ∷ fs) start base x g r = absurd g
+    kept (Behind node first j ∷ fs) start base x g r = absurd g

@@ -82,7 +82,7 @@ give_test W sub whole C es t u l c fs saved p k cu h =
       opens = o.is.2;
     }
 
-settled : (W : World) (sub : Standing) (whole : Answer) (C : Contents) (es : List Scope) (t : Trail) (l c : ℕ) (fs gs : List Frame) (w : Walk) (p : Standing) (parts : List Standing)
+pub settled : (W : World) (sub : Standing) (whole : Answer) (C : Contents) (es : List Scope) (t : Trail) (l c : ℕ) (fs gs : List Frame) (w : Walk) (p : Standing) (parts : List Standing)
     → path_of gs ≡ path_of fs ++ w.index ∷ []
     → parts ≡ cond (not (t.count == w.edits)) (slice_set (parts_now w.node (walk_parts w)) w.index p) (walk_parts w)
     → (h : HoldsIn W sub whole (st C es t l c gs) (Done p)) → Inside l w h.opens.start h.opens.base
@@ -137,6 +137,8 @@ goes_on W sub whole C es t l c fs (frames.Leftmost r m w mark) g s n p q k x = a
 goes_on W sub whole C es t l c fs (frames.Those r m w mark any) g s n p q k x = absurd k.2
 goes_on W sub whole C es t l c fs (frames.Tail r m e) g s n p q k x = absurd k.2
 goes_on W sub whole C es t l c fs (frames.Rest node ps m e) g s n p q k x = absurd k.2
+goes_on W sub whole C es t l c fs (frames.Head r m w) g s n p q k x = absurd k.2
+goes_on W sub whole C es t l c fs (frames.Behind node first e) g s n p q k x = absurd k.2
 goes_on W sub whole C es t l c fs (frames.Leave m) g s n p q k x = absurd k.2
 goes_on W sub whole C es t l c fs (frames.Cut m e) g s n p q k x = absurd k.2
 

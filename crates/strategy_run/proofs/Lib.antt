@@ -7,6 +7,7 @@ pub mod TakeLemmas
 pub mod ChildLemmas
 pub mod GiveLemmas
 pub mod FailLemmas
+pub mod FirstLemmas
 pub mod EndingLemmas
 pub mod ScopeLemmas
 pub mod TrailLemmas

@@ -15,7 +15,7 @@ use Rattle.term_match.specs.declared.cells.Mark.{Mark}
 use Rattle.strategy_run.specs.Leading.{Leads, Has}
 use Rattle.strategy_run.specs.Frames.{Becomes, Opens, Meets, put_back, walked, left_behind}
 use Rattle.strategy_run.specs.declared.frames.Frame.{Frame}
-use Rattle.strategy_run.specs.declared.frames.Frame.TheVariants.{Then, Choose, Restore, Each, Leftmost, Those, Tail, Rest, Leave, Cut}
+use Rattle.strategy_run.specs.declared.frames.Frame.TheVariants.{Then, Choose, Restore, Each, Leftmost, Those, Tail, Rest, Head, Behind, Leave, Cut}
 use Rattle.strategy_run.proofs.LeadLemmas.{leads_nothing, leads_on}
 
 -- ---- answers
@@ -170,6 +170,10 @@ meets_kept W sub whole C D top up es l (Tail s n k ∷ fs) start base a b st h =
     (h.0, meets_kept W sub whole C D top up es l fs start base _ b st h.1)
 meets_kept W sub whole C D top up es l (Rest node ps n k ∷ fs) start base a b st h =
     (h.0, h.1, h.2, opens_map (λ s e x g. meets_kept W sub whole C D top up es l fs s e x b st g) h.3)
+meets_kept W sub whole C D top up es l (Head s n w ∷ fs) start base a b st h =
+    (h.0, h.1, h.2, opens_map (λ s e x g. meets_kept W sub whole C D top up es w.level fs s e x b st g) h.3)
+meets_kept W sub whole C D top up es l (Behind node first k ∷ fs) start base a b st h =
+    (h.0, h.1, h.2, h.3, opens_map (λ s e x g. meets_kept W sub whole C D top up es l fs s e x b st g) h.4)
 meets_kept W sub whole C D top up es l (Leave n ∷ fs) start base a b st h =
     (h.0, meets_kept W sub whole C D top up (take n es) l fs start base a b st h.1)
 meets_kept W sub whole C D top up es l (Cut n k ∷ fs) start base a b st h = (
@@ -197,6 +201,8 @@ meets_stopped W sub whole C top es l (Leftmost s n v m ∷ fs) start base w h = 
 meets_stopped W sub whole C top es l (Those s n v m any ∷ fs) start base w h = meets_stopped W sub whole C m es v.level fs h.3.start h.3.base w h.3.is
 meets_stopped W sub whole C top es l (Tail s n k ∷ fs) start base w h = meets_stopped W sub whole C top es l fs start base w h.1
 meets_stopped W sub whole C top es l (Rest node ps n k ∷ fs) start base w h = meets_stopped W sub whole C top es l fs h.3.start h.3.base w h.3.is
+meets_stopped W sub whole C top es l (Head s n v ∷ fs) start base w h = meets_stopped W sub whole C top es v.level fs h.3.start h.3.base w h.3.is
+meets_stopped W sub whole C top es l (Behind node first k ∷ fs) start base w h = meets_stopped W sub whole C top es l fs h.4.start h.4.base w h.4.is
 meets_stopped W sub whole C top es l (Leave n ∷ fs) start base w h = meets_stopped W sub whole C top (take n es) l fs start base w h.1
 meets_stopped W sub whole C top es l (Cut n k ∷ fs) start base w h =
     meets_stopped W sub whole C (record { count = n; filled = top.filled }) (take k es) l fs start base w h.2

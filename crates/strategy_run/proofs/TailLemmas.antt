@@ -36,3 +36,7 @@ relisted (integer z notes) us e = absurd (cc)
 relisted (branch (application f) kids notes) us e = absurd (cc)
 relisted (branch list kids notes) us e = ap (branch list (of_list us)) (of_list-to_list notes)
 relisted (branch tuple kids notes) us e = absurd (cc)
+
+-- the same without annotations
+pub relisted_bare : (t : Tree) (us : List Tree) → elements t ≡ Some (children t) → annotations t ≡ [] → list_term us ≡ with_children t us
+relisted_bare t us e none = ap (λ ns. with_annotations (list_term us) ns) (sym none) ∙ relisted t us e

@@ -347,7 +347,7 @@ take_those W sub whole S s n p parts e h =
 listed : (ss : List ResolvedStrategy) → length (resolved_list (resolveds_of ss)) ≡ length ss
 listed ss = ap (λ (l : List ResolvedStrategy). length l) (resolved_list-resolveds_of ss)
 
-yes_is : (v : Bool) (a : Answer) (c : ℕ) → v ≡ true → cond v a (failed c) ≡ a
+pub yes_is : (v : Bool) (a : Answer) (c : ℕ) → v ≡ true → cond v a (failed c) ≡ a
 yes_is v a c e = rw e refl
 
 pub no_is : (v : Bool) (a : Answer) (c : ℕ) → v ≡ false → cond v a (failed c) ≡ failed c

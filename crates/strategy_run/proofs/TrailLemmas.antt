@@ -7,7 +7,7 @@ use Rattle.change_log.specs.Entries.{Entry}
 use Rattle.term_changes.specs.Putting.{entry_at, entries_at}
 use Rattle.strategy_run.specs.Trails.{path_of, step_of}
 use Rattle.strategy_run.specs.declared.frames.Frame.{Frame}
-use Rattle.strategy_run.specs.declared.frames.Frame.TheVariants.{Then, Choose, Restore, Each, Leftmost, Those, Tail, Rest, Leave, Cut}
+use Rattle.strategy_run.specs.declared.frames.Frame.TheVariants.{Then, Choose, Restore, Each, Leftmost, Those, Tail, Rest, Head, Behind, Leave, Cut}
 use Rattle.strategy_run.proofs.OpenLemmas.{pushed}
 
 next : (i : ℕ) → i + 1 ≡ suc i
@@ -25,6 +25,8 @@ path_step (Leftmost s n w m) fs = refl
 path_step (Those s n w m any) fs = refl
 path_step (Tail s n k) fs = sym (append-nil (path_of fs))
 path_step (Rest p ps n k) fs = sym (append-nil (path_of fs))
+path_step (Head s n w) fs = refl
+path_step (Behind p first k) fs = sym (append-nil (path_of fs))
 path_step (Leave n) fs = sym (append-nil (path_of fs))
 path_step (Cut n k) fs = sym (append-nil (path_of fs))
 

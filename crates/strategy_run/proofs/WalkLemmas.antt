@@ -11,7 +11,7 @@ use Rattle.strategy_run.specs.Turns.{State, state_of, HoldsIn, Holds, ComesUp, R
 use Rattle.strategy_run.specs.declared.machine.Machine.{Machine}
 use Rattle.strategy_run.specs.declared.frames.Walk.{Walk}
 use Rattle.strategy_run.specs.declared.frames.Frame.{Frame}
-use Rattle.strategy_run.specs.declared.frames.Frame.TheVariants.{Then, Choose, Restore, Each, Leftmost, Those, Tail, Rest, Leave, Cut}
+use Rattle.strategy_run.specs.declared.frames.Frame.TheVariants.{Then, Choose, Restore, Each, Leftmost, Those, Tail, Rest, Head, Behind, Leave, Cut}
 use Rattle.strategy_run.specs.Hands.{Hand}
 use Rattle.strategy_run.proofs.OpenLemmas.{pushed}
 
@@ -73,5 +73,7 @@ tail_taken xs new (Each acts m v ∷ fs) s n k len e w is le = absurd w
 tail_taken xs new (Leftmost t m v q ∷ fs) s n k len e w is le = absurd w
 tail_taken xs new (Those t m v q any ∷ fs) s n k len e w is le = absurd w
 tail_taken xs new (Rest p ps m j ∷ fs) s n k len e w is le = absurd w
+tail_taken xs new (Head t m v ∷ fs) s n k len e w is le = absurd w
+tail_taken xs new (Behind p first j ∷ fs) s n k len e w is le = absurd w
 tail_taken xs new (Leave m ∷ fs) s n k len e w is le = absurd w
 tail_taken xs new (Cut m j ∷ fs) s n k len e w is le = absurd w

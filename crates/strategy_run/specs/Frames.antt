@@ -1,6 +1,7 @@
 -- How the answer of what is in hand goes through what waits for it.
-use Rattle.std.specs.Prelude.{◌≡◌, ◌<◌, ◌≤◌, ℕ, suc, ◌+◌, ◌-◌, ◌==◌, not, cond, Bool, true, List, [], ◌∷◌, ◌++◌, length, replicate, take, slice_get, slice_set, Some}
+use Rattle.std.specs.Prelude.{◌≡◌, ◌<◌, ◌≤◌, ℕ, suc, ◌+◌, ◌-◌, ◌==◌, not, cond, Bool, true, List, [], ◌∷◌, ◌++◌, length, replicate, take, slice_get, slice_set, Some, None}
 use Rattle.std.specs.Borrow.{Bor}
+use Rattle.std.specs.declared.option.Option.{Option}
 use Rattle.term_core.specs.Tree.{Tree, children, with_child}
 use Rattle.term_paths.specs.Edits.{Edits, behind}
 use Rattle.term_changes.specs.Standing.{Standing, fresh, standing_tree}
@@ -19,7 +20,7 @@ use Rattle.strategy_run.specs.declared.frames.Acts.{Acts}
 use Rattle.strategy_run.specs.declared.frames.Acts.TheVariants.{Same, List as Listed}
 use Rattle.strategy_run.specs.declared.frames.Walk.{Walk}
 use Rattle.strategy_run.specs.declared.frames.Frame.{Frame}
-use Rattle.strategy_run.specs.declared.frames.Frame.TheVariants.{Then, Choose, Restore, Each, Leftmost, Those, Tail, Rest, Leave, Cut}
+use Rattle.strategy_run.specs.declared.frames.Frame.TheVariants.{Then, Choose, Restore, Each, Leftmost, Those, Tail, Rest, Head, Behind, Leave, Cut}
 
 -- the strategies for k children
 abbrev pub acts_list : Acts → ℕ → List ResolvedStrategy
@@ -122,6 +123,20 @@ after_rest n t a =
     if_done a (λ u B b e. with_some (elements u) b
     (λ us. done (with_rest n t us) B b (at_root (with_rest n t us))))
 
+-- what stands in the place of the first child, where that has changed
+abbrev pub first_part : Option Standing → List Standing
+first_part None = []
+first_part (Some p) = p ∷ []
+
+-- The first element of a list is in hand.
+pub record IsFirst (w : Walk) : Type 0 where
+  pub none : w.parts.items ≡ []
+  pub first : w.index ≡ 0
+  pub list : elements (standing_tree w.node) ≡ Some (children (standing_tree w.node))
+
+abbrev pub after_head : World → Scope → ResolvedStrategy → Walk → Answer → Answer
+after_head W E s w a = and_then (put_back w.index (standing_tree (walked w)) a) (on_rest (run W E w.level s) 1)
+
 -- Through the frames, the innermost first, the answer of the innermost part, which began with `start`
 -- after the edits `base`, becomes the whole answer of what began with `sub`. C is what the cells hold,
 -- of which marks up to `top` will be asked for, es are the scopes and l the level of what is in hand.
@@ -155,6 +170,15 @@ Meets W sub whole C top es l (Rest node ps n k ∷ fs) start base a =
     PartsStand node (all_parts node ps.items) × (start ≡ fresh (rest_of n (standing_tree (node_with node ps.items)))) × (k ≡ length base)
     × Opens (Meets W sub whole C top es l fs) (path_of fs) (node_with node ps.items) base
     (after_rest n (standing_tree (node_with node ps.items)) a)
+Meets W sub whole C top es l (Head s n w ∷ fs) start base a =
+    (n < length es) × Inside l w start base × IsFirst w
+    × Opens (Meets W sub whole C top es w.level fs) (path_of fs) (walked w) base
+    (after_head W (scope_at es n) s.now w a)
+Meets W sub whole C top es l (Behind node first k ∷ fs) start base a =
+    (elements (standing_tree node) ≡ Some (children (standing_tree node)))
+    × PartsStand node (all_parts node (first_part first)) × (start ≡ fresh (rest_of 1 (standing_tree (node_with node (first_part first))))) × (k ≡ length base)
+    × Opens (Meets W sub whole C top es l fs) (path_of fs) (node_with node (first_part first)) base
+    (after_rest 1 (standing_tree (node_with node (first_part first))) a)
 Meets W sub whole C top es l (Leave n ∷ fs) start base a =
     (n ≤ length es) × Meets W sub whole C top (take n es) l fs start base a
 Meets W sub whole C top es l (Cut n k ∷ fs) start base a =

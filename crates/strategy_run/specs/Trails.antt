@@ -4,7 +4,7 @@ use Rattle.std.specs.Global.{Global}
 use Rattle.std.specs.declared.option.Option.{Option}
 use Rattle.term_paths.specs.Edits.{Edit, Edits}
 use Rattle.strategy_run.specs.declared.frames.Frame.{Frame}
-use Rattle.strategy_run.specs.declared.frames.Frame.TheVariants.{Then, Choose, Restore, Each, Leftmost, Those, Tail, Rest, Leave, Cut}
+use Rattle.strategy_run.specs.declared.frames.Frame.TheVariants.{Then, Choose, Restore, Each, Leftmost, Those, Tail, Rest, Head, Behind, Leave, Cut}
 use Rattle.strategy_run.specs.declared.trail.Trail.{Trail}
 
 -- the path through frames, the innermost of which comes first
@@ -18,6 +18,8 @@ path_of (Leftmost s n w m ∷ fs) = path_of fs ++ w.index ∷ []
 path_of (Those s n w m any ∷ fs) = path_of fs ++ w.index ∷ []
 path_of (Tail s n k ∷ fs) = path_of fs
 path_of (Rest p ps n k ∷ fs) = path_of fs
+path_of (Head s n w ∷ fs) = path_of fs ++ w.index ∷ []
+path_of (Behind p first k ∷ fs) = path_of fs
 path_of (Leave n ∷ fs) = path_of fs
 path_of (Cut n k ∷ fs) = path_of fs
 
@@ -31,6 +33,8 @@ step_of (Leftmost s n w m) = w.index ∷ []
 step_of (Those s n w m any) = w.index ∷ []
 step_of (Tail s n k) = []
 step_of (Rest p ps n k) = []
+step_of (Head s n w) = w.index ∷ []
+step_of (Behind p first k) = []
 step_of (Leave n) = []
 step_of (Cut n k) = []
 

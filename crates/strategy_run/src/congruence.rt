@@ -1,18 +1,19 @@
 //! Congruences, and the selection of a child.
 
-ghost use Rattle.std.specs.Prelude.{◌≡◌, ◌<◌, length, IfOk};
+ghost use Rattle.std.specs.Prelude.{◌≡◌, ◌<◌, length, true, IfOk};
 ghost use Rattle.term_core.specs.Tree.{children};
 ghost use Rattle.strategy_syntax.specs.Heads.{head_of};
 ghost use Rattle.strategy_meaning.specs.Matching.{elements};
 ghost use Rattle.strategy_meaning.specs.Meaning.{is_over as is_headed_over, is_list_from as has_elements};
 ghost use Rattle.strategy_meaning.specs.Meaning.{World};
-ghost use Rattle.strategy_syntax.specs.Resolved.{congruence, tail_congruence, child, resolveds_of};
+ghost use Rattle.strategy_syntax.specs.Resolved.{congruence, tail_congruence, child, no_strategies, and_strategy, resolveds_of};
 ghost use Rattle.term_changes.specs.Standing.{standing_tree};
 ghost use Rattle.strategy_run.specs.Turns.{Takes, TakeFalls};
 
-use crate::frames::{Acts, Frame, Next, Turned, wait};
+use crate::frames::{Acts, Frame, Next, Turned, Walk, wait};
 use crate::machine::Machine;
 use std::alloc::Global;
+use std::mem;
 use strategy_syntax::{Head, ResolvedStrategy};
 use term_core::{Kind, NoMemory};
 use term_values::Part;
@@ -70,9 +71,54 @@ pub(crate) fn take_tail<'t>(
         m.next = Next::Failed;
         return Ok(Turned::On);
     }
+    if count == 1 {
+        return take_head(alloc, m, &strategies[0], tail, scope);
+    }
     wait(&mut m.frames, Frame::Tail(tail, scope, count))?;
     m.parts = Vec::new(alloc);
     m.next = Next::Each(Acts::List(strategies), scope, 0);
+    Ok(Turned::On)
+}
+
+// A strategy for the first element of a list, and one for the list of the others.
+fn take_head<'t>(
+    alloc: Global,
+    m: &mut Machine<'t>,
+    first: &'t ResolvedStrategy,
+    tail: &'t ResolvedStrategy,
+    scope: usize,
+) -> Result<Turned, NoMemory>
+    requires { has_elements 1 (elements (standing_tree m.old.part)) ≡ true }
+    ensures ok { (W : World) → IfOk result (λ next. Takes W m.old
+        (tail_congruence (and_strategy first.entry.now no_strategies) tail.entry.now) scope m.old.part m.new next) }
+    ensures less { IfOk result (λ next. TakeFalls m.old m.new next) }
+{
+    let Some(child) = m.part.child(0)? else {
+        m.next = Next::Failed;
+        return Ok(Turned::On);
+    };
+    let level = m.level;
+    if level == u64::MAX {
+        return Err(NoMemory);
+    }
+    let node = mem::replace(&mut m.part, child);
+    let edits = m.trail.count;
+    wait(
+        &mut m.frames,
+        Frame::Head(
+            tail,
+            scope,
+            Walk {
+                node,
+                parts: Vec::new(alloc),
+                index: 0,
+                level,
+                edits,
+            },
+        ),
+    )?;
+    m.level += 1;
+    m.next = Next::Begin(first, scope);
     Ok(Turned::On)
 }
 

@@ -53,6 +53,11 @@ pub enum Frame<'t> {
     /// The list whose elements behind the first so many are in hand as a list of their own, what stands
     /// in the places of its first elements, and the edits.
     Rest(Part<'t>, Vec<Part<'t>>, usize, usize),
+    /// Then this strategy on the list of the elements behind the first one, which is in hand.
+    Head(&'t ResolvedStrategy, usize, Walk<'t>),
+    /// The list whose elements behind the first one are in hand as a list of their own, what stands in
+    /// the place of the first one where that has changed, and the edits.
+    Behind(Part<'t>, Option<Part<'t>>, usize),
     /// Scopes behind the first so many end.
     Leave(usize),
     /// Cells and scopes behind the first so many end.

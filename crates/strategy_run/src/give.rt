@@ -1,19 +1,20 @@
 //! Answers, given to what waits for them.
 
-ghost use Rattle.std.specs.Prelude.{◌≡◌, ◌≤◌, cond, length, reverse, IfOk, IfSome, MatchOption, OnOk};
+ghost use Rattle.std.specs.Prelude.{◌≡◌, ◌≤◌, cond, length, reverse, slice_get, Some, None, IfOk, IfSome, MatchOption, OnOk};
 ghost use Rattle.strategy_meaning.specs.Answer.{Answer};
 ghost use Rattle.strategy_meaning.specs.Meaning.{World};
 ghost use Rattle.term_changes.specs.Standing.{Standing};
 ghost use Rattle.strategy_run.specs.Hands.{Done, Failed};
-ghost use Rattle.strategy_run.specs.Leading.{PartsStand, all_parts, node_with};
-ghost use Rattle.strategy_run.specs.Frames.{HasNext, StepsOn, WalksOn, GoesOn, with_acts};
+ghost use Rattle.strategy_run.specs.Leading.{PartsStand, parts_now, all_parts, node_with};
+ghost use Rattle.strategy_run.specs.Frames.{HasNext, StepsOn, WalksOn, GoesOn, with_acts, first_part};
 ghost use Rattle.strategy_run.specs.Turns.{Turn, Falls, Holds, Gives, IsOfRun, GiveFalls, EndFalls, ComesUp, Waits};
 
 use crate::children::{child_now, finish, first_act, settle};
 use crate::forms::replace;
 use crate::frames::{Acts, Frame, Next, Turned, Walk, wait};
+use crate::heads::is_list as is_list_part;
 use crate::machine::Machine;
-use crate::tails::{first_values, is_list, rest_behind, with_rest_behind};
+use crate::tails::{first_values, in_front, is_list, rest_behind, rest_of_part, with_rest_behind};
 use std::alloc::Global;
 use std::mem;
 use strategy_syntax::ResolvedStrategy;
@@ -166,11 +167,10 @@ fn give<'t>(alloc: Global, m: &mut Machine<'t>, frame: Frame<'t>) -> Result<Turn
         Frame::Those(strategy, scope, walk, mark, any) => {
             give_those(m, strategy, scope, walk, mark, any)
         }
-        Frame::Tail(tail, scope, count) => {
-            m.parts = Vec::new(alloc);
-            begin_tail(alloc, m, tail, scope, count)
-        }
+        Frame::Tail(tail, scope, count) => give_tail(alloc, m, tail, scope, count),
         Frame::Rest(node, parts, count, edits) => give_rest(alloc, m, node, parts, count, edits),
+        Frame::Head(tail, scope, walk) => give_head(alloc, m, tail, scope, walk),
+        Frame::Behind(node, first, edits) => give_behind(alloc, m, node, first, edits),
         Frame::Leave(scopes) => {
             m.scopes.cut(scopes);
             m.next = Next::Done;
@@ -183,6 +183,23 @@ fn give<'t>(alloc: Global, m: &mut Machine<'t>, frame: Frame<'t>) -> Result<Turn
             Ok(Turned::On)
         }
     }
+}
+
+// The first elements are done, and the list with them is what is in hand.
+#[inline(never)]
+fn give_tail<'t>(
+    alloc: Global,
+    m: &mut Machine<'t>,
+    tail: &'t ResolvedStrategy,
+    scope: usize,
+    count: usize,
+) -> Result<Turned, NoMemory>
+    requires { IsOfRun (Frame.Tail tail scope count) m.old (Done m.old.part) }
+    ensures ok { (W : World) → IfOk result (λ next. Gives W (Frame.Tail tail.entry scope count) m.old (Done m.old.part) m.new next) }
+    ensures less { IfOk result (λ next. GiveFalls m.old m.new next) }
+{
+    m.parts = Vec::new(alloc);
+    begin_tail(alloc, m, tail, scope, count)
 }
 
 // Takes the node in hand again, of which the child in hand is done.
@@ -340,6 +357,79 @@ fn give_rest<'t>(
     Ok(Turned::On)
 }
 
+// The first element is done: the list of the others is a part of its own.
+fn give_head<'t>(
+    alloc: Global,
+    m: &mut Machine<'t>,
+    tail: &'t ResolvedStrategy,
+    scope: usize,
+    walk: Walk<'t>,
+) -> Result<Turned, NoMemory>
+    ensures ok { (W : World) → IfOk result (λ next. Gives W (Frame.Head tail.entry scope walk.entry) m.old (Done m.old.part) m.new next) }
+    ensures less { IfOk result (λ next. GiveFalls m.old m.new next) }
+{
+    let Walk {
+        node,
+        level,
+        edits,
+        ..
+    } = walk;
+    m.level = level;
+    let rest = rest_of_part(alloc, &node, 1)?;
+    let child = mem::replace(&mut m.part, Part::new(rest));
+    let now = m.trail.count;
+    let first = where_changed(child, now != edits);
+    wait(&mut m.frames, Frame::Behind(node, first, now))?;
+    m.next = Next::Begin(tail, scope);
+    Ok(Turned::On)
+}
+
+// The part, where it has changed.
+#[inline(always)]
+fn where_changed<'t>(part: Part<'t>, changed: bool) -> Option<Part<'t>>
+    ensures { result ≡ cond changed (Some part.entry) None }
+{
+    if changed { Some(part) } else { None }
+}
+
+// What stands in the place of the first child.
+#[inline(always)]
+fn first_now<'t>(node: &Part<'t>, first: Option<Part<'t>>) -> Result<Option<Part<'t>>, NoMemory>
+    ensures { IfOk result (λ child. child ≡ slice_get (parts_now node.now (all_parts node.now (first_part first.entry))) 0) }
+{
+    match first {
+        Some(first) => Ok(Some(first)),
+        None => node.child(0),
+    }
+}
+
+// The others have become a list, or something else, which fails.
+fn give_behind<'t>(
+    alloc: Global,
+    m: &mut Machine<'t>,
+    node: Part<'t>,
+    first: Option<Part<'t>>,
+    edits: usize,
+) -> Result<Turned, NoMemory>
+    requires { IsOfRun (Frame.Behind node first edits) m.old (Done m.old.part) }
+    ensures ok { (W : World) → IfOk result (λ next. Gives W (Frame.Behind node.entry first.entry edits) m.old (Done m.old.part) m.new next) }
+    ensures less { IfOk result (λ next. GiveFalls m.old m.new next) }
+{
+    m.trail.cut(edits);
+    let rest = mem::replace(&mut m.part, node);
+    if !is_list_part(&rest) {
+        m.next = Next::Failed;
+        return Ok(Turned::On);
+    }
+    let Some(first) = first_now(&m.part, first)? else {
+        return Err(NoMemory);
+    };
+    let whole = in_front(alloc, &m.part, first, rest)?;
+    replace(alloc, m, whole)?;
+    m.next = Next::Done;
+    Ok(Turned::On)
+}
+
 /// Gives a failure to the frame that waits.
 pub(crate) fn give_failed<'t>(m: &mut Machine<'t>) -> Result<Turned, NoMemory>
     requires { (W : World) × (sub : Standing) × (whole : Answer) × Holds W sub whole m.old Failed }
@@ -410,6 +500,17 @@ fn fail<'t>(m: &mut Machine<'t>, frame: Frame<'t>) -> Result<Turned, NoMemory>
             Ok(Turned::On)
         }
         Frame::Rest(_, _, _, edits) => {
+            m.trail.cut(edits);
+            m.next = Next::Failed;
+            Ok(Turned::On)
+        }
+        Frame::Head(_, _, walk) => {
+            m.trail.cut(walk.edits);
+            m.level = walk.level;
+            m.next = Next::Failed;
+            Ok(Turned::On)
+        }
+        Frame::Behind(_, _, edits) => {
             m.trail.cut(edits);
             m.next = Next::Failed;
             Ok(Turned::On)

@@ -124,8 +124,8 @@ fn is_headed(head: &Head, part: &Part<'_>) -> bool
     head.is_head_of(part.kind())
 }
 
-// Whether it is a list.
-fn is_list(part: &Part<'_>) -> bool
+/// Whether it is a list.
+pub(crate) fn is_list(part: &Part<'_>) -> bool
     ensures { elements (standing_tree part.now) ≡ cond result (Some (children (standing_tree part.now))) None }
 {
     match part.kind() {

@@ -1,6 +1,6 @@
 //! Lists behind their first elements.
 
-ghost use Rattle.std.specs.Prelude.{◌≡◌, ◌++◌, cond, map, take, IfOk, Some, None};
+ghost use Rattle.std.specs.Prelude.{◌≡◌, ◌++◌, ◌∷◌, cond, map, take, IfOk, Some, None};
 ghost use Rattle.term_core.specs.Tree.{children, with_children};
 ghost use Rattle.term_changes.specs.Standing.{standing_tree};
 ghost use Rattle.strategy_meaning.specs.Matching.{elements};
@@ -36,6 +36,21 @@ pub(crate) fn rest_behind<'t>(
     value.rest(alloc, count)
 }
 
+/// The same for a part.
+#[inline(always)]
+pub(crate) fn rest_of_part<'t>(
+    alloc: Global,
+    part: &Part<'t>,
+    count: usize,
+) -> Result<Value<'t>, NoMemory>
+    ensures { IfOk result (λ rest. rest ≡ rest_of count (standing_tree part.now)) }
+{
+    if count > part.child_count() {
+        return Ok(Value::leaf(Kind::List));
+    }
+    part.rest(alloc, count)
+}
+
 /// The same root over these children and those of a list behind them.
 pub(crate) fn with_rest_behind<'t>(
     alloc: Global,
@@ -53,6 +68,31 @@ pub(crate) fn with_rest_behind<'t>(
     let mut behind = rest.share_children(alloc)?;
     all.append(&mut behind)?;
     value.with_children(alloc, all)
+}
+
+/// The same root over what stands in the place of the first child and the children of a list behind it.
+#[inline(always)]
+pub(crate) fn in_front<'t>(
+    alloc: Global,
+    list: &Part<'t>,
+    first: Part<'t>,
+    rest: Part<'t>,
+) -> Result<Value<'t>, NoMemory>
+    requires { elements (standing_tree list.now) ≡ Some (children (standing_tree list.now)) }
+    ensures { IfOk result (λ whole. whole
+        ≡ with_children (standing_tree list.now) (standing_tree first.entry ∷ children (standing_tree rest.entry))) }
+{
+    let first = first.into_value();
+    let rest = rest.into_value();
+    if rest.child_count() == usize::MAX {
+        return Err(NoMemory);
+    }
+    let whole = Value::cons_owned(alloc, first, rest)?;
+    if list.annotation_count() == 0 {
+        return Ok(whole);
+    }
+    let list = list.value()?;
+    whole.with_annotations_of(alloc, &list)
 }
 
 /// What stands in the places of the first so many children, or of all where there are no more.

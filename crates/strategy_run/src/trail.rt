@@ -159,6 +159,7 @@ fn add_step(path: &mut Vec<usize>, frame: &Frame<'_>) -> Result<(), NoMemory>
         Frame::Each(_, _, walk) => path.push(walk.index)?,
         Frame::Leftmost(_, _, walk, _) => path.push(walk.index)?,
         Frame::Those(_, _, walk, _, _) => path.push(walk.index)?,
+        Frame::Head(_, _, walk) => path.push(walk.index)?,
         _ => (),
     }
     Ok(())

@@ -1,4 +1,5 @@
 use Rattle.std.proofs.Common.{subst}
+use Rattle.strategy_run.proofs.FirstLemmas.{fail_head, fail_behind}
 use Rattle.strategy_run.proofs.FailLemmas.{fail_then, fail_choice, fail_test, fail_each, fail_leftmost, fail_those, fail_tail, fail_rest, fail_leave, fail_cut}
 use Rattle.strategy_run.specs.Turns.{HoldsIn, under}
 use Rattle.strategy_run.specs.Hands.{Failed}
@@ -27,6 +28,12 @@ returns-in-Tail-clause-ok c = λ W. record { keeps = λ sub whole h. fail_tail W
 
 pub returns-in-Rest-clause-ok : goal.returns-in-Rest-clause-ok
 returns-in-Rest-clause-ok c = λ W. record { keeps = λ sub whole h. fail_rest W sub whole _ _ _ _ _ _ _ _ _ _ c.in-Rest.edits c.cut-in-Rest.ensures (subst (λ f. HoldsIn W sub whole (under f c.args.m.now) Failed) c.in-Rest.is h) }
+
+pub returns-in-Head-clause-ok : goal.returns-in-Head-clause-ok
+returns-in-Head-clause-ok c = λ W. record { keeps = λ sub whole h. fail_head W sub whole _ _ _ _ _ _ _ _ _ c.in-Head.walk c.cut-in-Head.ensures (subst (λ f. HoldsIn W sub whole (under f c.args.m.now) Failed) c.in-Head.is h) }
+
+pub returns-in-Behind-clause-ok : goal.returns-in-Behind-clause-ok
+returns-in-Behind-clause-ok c = λ W. record { keeps = λ sub whole h. fail_behind W sub whole _ _ _ _ _ _ _ _ _ c.in-Behind.edits c.cut-in-Behind.ensures (subst (λ f. HoldsIn W sub whole (under f c.args.m.now) Failed) c.in-Behind.is h) }
 
 pub returns-in-Leave-clause-ok : goal.returns-in-Leave-clause-ok
 returns-in-Leave-clause-ok c = λ W. record { keeps = λ sub whole h. fail_leave W sub whole _ _ _ _ _ _ _ c.in-Leave.scopes c.cut-in-Leave.ensures (subst (λ f. HoldsIn W sub whole (under f c.args.m.now) Failed) c.in-Leave.is h) }
