@@ -1,12 +1,14 @@
 //! Strategies, applied in the tree of a slot.
 
 ghost use Rattle.std.specs.Prelude.{[], ◌≡◌, ◌≤◌, ◌+◌, ℕ, Some, length, Decides, IfOk, IfSome, OnErr};
+ghost use Rattle.term_core.specs.Tree.{Tree};
 ghost use Rattle.term_core.specs.Size.{height};
 ghost use Rattle.term_paths.specs.Paths.{at as found_at};
 ghost use Rattle.change_log.specs.Slots.{Store, content};
 ghost use Rattle.change_log.specs.Entries.{subterm_in};
 ghost use Rattle.strategy_meaning.specs.Applied.{applied};
 ghost use Rattle.strategy_run.specs.Trails.{Shows};
+ghost use Rattle.strategy_run.specs.Ends.{IsEmpty};
 ghost use Rattle.strategy_run.specs.Turns.{world_of};
 ghost use Rattle.strategy_run.specs.Applies.{Applies, PutsAll, PutsOutermost, PutsListed, Stay, Finds, Lists, applied_in};
 
@@ -196,13 +198,37 @@ fn find<M: Meaning>(
     let Some(term) = at(tree, path) else {
         return Ok(Found::Failed);
     };
+    let trail = trail_for(alloc, listing);
+    let mut m = Machine::new(alloc, trail, term, path.len() as u64, steps);
+    find_by(
+        alloc, program, primitives, &mut m, term, strategy, slot, path, listing,
+    )
+}
+
+// Runs it by a machine in which nothing waits. The machine is lent, since whoever holds it drops it on each way
+// out.
+fn find_by<'t, M: Meaning>(
+    alloc: Global,
+    program: &'t Program,
+    primitives: &'t Primitives<M>,
+    m: &mut Machine<'t>,
+    term: &'t Term,
+    strategy: &'t Resolved,
+    slot: usize,
+    path: &Path,
+    listing: Listing,
+) -> Result<Found, NoMemory>
+    requires empty { IsEmpty m.old }
+    requires level { m.old.level ≡ length path.now }
+    requires low { length path.now + height term.now ≤ MAX_HEIGHT }
+    ensures { IfOk result (λ found. (tree : Tree) (s : Store) → found_at tree path.now ≡ Some term.entry.now → content s.trees slot ≡ Some tree
+        → Finds listing s slot (applied (world_of M.meaning program.entry.now.bodies primitives.entry.now) path.now strategy.entry.now m.old.steps tree) found) }
+{
     let host = Host {
         definitions: program.definitions(),
         primitives,
     };
-    let trail = trail_for(alloc, listing);
-    let mut m = Machine::new(alloc, trail, term, path.len() as u64, steps);
-    match run_to_end(alloc, &host, &mut m, strategy, term)? {
+    match run_to_end(alloc, &host, m, strategy, term)? {
         Ended::Done => {
             let plan = replacements(alloc, listing, &m.trail, &m.part, slot, path.parts())?;
             Ok(Found::Replaced(plan))
