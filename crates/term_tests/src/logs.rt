@@ -48,7 +48,8 @@ fn constant(alloc: Global, name: &[u8]) -> Result<Term, Fail> {
 
 fn tree(alloc: Global, outer: &[u8], inner: &[u8]) -> Result<Term, Fail> {
     let inner = constant(alloc, inner)?;
-    word(alloc, outer, vec![in alloc; inner]?)
+    let arguments = vec![in alloc; inner]?;
+    word(alloc, outer, arguments)
 }
 
 fn has_word(term: &Term, word: &[u8]) -> bool {
@@ -85,24 +86,52 @@ fn push(store: &mut Store, log: &mut Log, entry: Entry<'_>) -> Result<bool, Fail
     Ok(true)
 }
 
+fn label(alloc: Global, name: &[u8]) -> Result<Label, Fail> {
+    Ok(Label::read(alloc, name)?)
+}
+
 fn tree_slot(alloc: Global, store: &mut Store, name: &[u8]) -> Result<usize, Fail> {
-    let name = Label::read(alloc, name)?;
+    let name = label(alloc, name)?;
     Ok(store.tree_slot(&name)?)
 }
 
 fn module_slot(alloc: Global, store: &mut Store, name: &[u8]) -> Result<usize, Fail> {
-    let name = Label::read(alloc, name)?;
+    let name = label(alloc, name)?;
     Ok(store.module_slot(&name)?)
 }
 
-fn find_tree(alloc: Global, store: &Store, name: &[u8]) -> Result<Option<usize>, Fail> {
-    let name = Label::read(alloc, name)?;
-    Ok(store.find_tree(&name))
+fn is_tree_slot(alloc: Global, store: &mut Store, name: &[u8], slot: usize) -> Result<bool, Fail> {
+    Ok(tree_slot(alloc, store, name)? == slot)
 }
 
-fn find_module(alloc: Global, store: &Store, name: &[u8]) -> Result<Option<usize>, Fail> {
-    let name = Label::read(alloc, name)?;
-    Ok(store.find_module(&name))
+fn finds_tree(
+    alloc: Global,
+    store: &Store,
+    name: &[u8],
+    slot: Option<usize>,
+) -> Result<bool, Fail> {
+    let name = label(alloc, name)?;
+    Ok(store.find_tree(&name) == slot)
+}
+
+fn finds_module(
+    alloc: Global,
+    store: &Store,
+    name: &[u8],
+    slot: Option<usize>,
+) -> Result<bool, Fail> {
+    let name = label(alloc, name)?;
+    Ok(store.find_module(&name) == slot)
+}
+
+fn has_tree_names(alloc: Global, store: &Store, words: &[&[u8]]) -> Result<bool, Fail> {
+    let names = store.tree_names(alloc)?;
+    Ok(are_words(&names, words))
+}
+
+fn has_module_names(alloc: Global, store: &Store, words: &[&[u8]]) -> Result<bool, Fail> {
+    let names = store.module_names(alloc)?;
+    Ok(are_words(&names, words))
 }
 
 fn give_text(
@@ -122,10 +151,49 @@ fn give_tree(
     store: &mut Store,
     log: &mut Log,
     name: &[u8],
-    tree: Term,
+    outer: &[u8],
+    inner: &[u8],
 ) -> Result<bool, Fail> {
     let slot = tree_slot(alloc, store, name)?;
+    let tree = tree(alloc, outer, inner)?;
     push(store, log, Entry::tree(slot, Some(tree)))
+}
+
+fn give_number(
+    alloc: Global,
+    store: &mut Store,
+    log: &mut Log,
+    name: &[u8],
+    value: i64,
+) -> Result<bool, Fail> {
+    let slot = tree_slot(alloc, store, name)?;
+    let tree = Term::integer(alloc, value);
+    push(store, log, Entry::tree(slot, Some(tree)))
+}
+
+fn put_tree(
+    alloc: Global,
+    store: &mut Store,
+    log: &mut Log,
+    slot: usize,
+    path: &[usize],
+    outer: &[u8],
+    inner: &[u8],
+) -> Result<bool, Fail> {
+    let tree = tree(alloc, outer, inner)?;
+    push(store, log, Entry::subterm(slot, path, tree))
+}
+
+fn put_word(
+    alloc: Global,
+    store: &mut Store,
+    log: &mut Log,
+    slot: usize,
+    path: &[usize],
+    word: &[u8],
+) -> Result<bool, Fail> {
+    let tree = constant(alloc, word)?;
+    push(store, log, Entry::subterm(slot, path, tree))
 }
 
 fn annotate(
@@ -143,33 +211,19 @@ fn annotate(
 // Makes the call, and tells whether what has to be so is.
 fn is_so(alloc: Global, store: &mut Store, log: &mut Log, step: &Step<'_>) -> Result<bool, Fail> {
     match step {
-        Step::GiveTree(name, outer, inner) => {
-            give_tree(alloc, store, log, name, tree(alloc, outer, inner)?)
-        }
-        Step::GiveNumber(name, value) => {
-            give_tree(alloc, store, log, name, Term::integer(alloc, *value))
-        }
+        Step::GiveTree(name, outer, inner) => give_tree(alloc, store, log, name, outer, inner),
+        Step::GiveNumber(name, value) => give_number(alloc, store, log, name, *value),
         Step::GiveText(name, text) => give_text(alloc, store, log, name, text),
         Step::PutTree(slot, path, outer, inner) => {
-            push(
-                store,
-                log,
-                Entry::subterm(*slot, path, tree(alloc, outer, inner)?),
-            )
+            put_tree(alloc, store, log, *slot, path, outer, inner)
         }
-        Step::PutWord(slot, path, word) => {
-            push(
-                store,
-                log,
-                Entry::subterm(*slot, path, constant(alloc, word)?),
-            )
-        }
+        Step::PutWord(slot, path, word) => put_word(alloc, store, log, *slot, path, word),
         Step::Annotate(slot, path, value) => annotate(alloc, store, log, *slot, path, *value),
-        Step::FoundTree(name, slot) => Ok(find_tree(alloc, store, name)? == *slot),
-        Step::FoundModule(name, slot) => Ok(find_module(alloc, store, name)? == *slot),
-        Step::MadeTreeSlot(name, slot) => Ok(tree_slot(alloc, store, name)? == *slot),
-        Step::TreeNames(words) => Ok(are_words(&store.tree_names(alloc)?, words)),
-        Step::ModuleNames(words) => Ok(are_words(&store.module_names(alloc)?, words)),
+        Step::FoundTree(name, slot) => finds_tree(alloc, store, name, *slot),
+        Step::FoundModule(name, slot) => finds_module(alloc, store, name, *slot),
+        Step::MadeTreeSlot(name, slot) => is_tree_slot(alloc, store, name, *slot),
+        Step::TreeNames(words) => has_tree_names(alloc, store, words),
+        Step::ModuleNames(words) => has_module_names(alloc, store, words),
         _ => Ok(is_so_without_memory(alloc, store, log, step)),
     }
 }
@@ -199,16 +253,25 @@ fn is_seen(store: &Store, log: &Log, step: &Step<'_>) -> bool {
     }
 }
 
-// Whether all is so, from an empty store and log on.
-fn is_row(alloc: Global, steps: &[Step<'_>]) -> Result<bool, Fail> {
-    let mut store = Store::new(alloc);
-    let mut log = Log::new(alloc);
+fn are_so(
+    alloc: Global,
+    store: &mut Store,
+    log: &mut Log,
+    steps: &[Step<'_>],
+) -> Result<bool, Fail> {
     for step in steps {
-        if !is_so(alloc, &mut store, &mut log, step)? {
+        if !is_so(alloc, store, log, step)? {
             return Ok(false);
         }
     }
     Ok(true)
+}
+
+// Whether all is so, from an empty store and log on.
+fn is_row(alloc: Global, steps: &[Step<'_>]) -> Result<bool, Fail> {
+    let mut store = Store::new(alloc);
+    let mut log = Log::new(alloc);
+    are_so(alloc, &mut store, &mut log, steps)
 }
 
 #[test]

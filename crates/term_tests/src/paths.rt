@@ -36,9 +36,19 @@ fn is_integer(term: Option<&Term>, value: i64) -> bool {
     }
 }
 
+fn is_read(alloc: Global, text: &[u8], parts: &[usize]) -> bool {
+    match read_path(alloc, text) {
+        Ok(path) => path.parts() == parts,
+        Err(_) => false,
+    }
+}
+
+fn is_refused(alloc: Global, text: &[u8]) -> bool {
+    matches!(read_path(alloc, text), Err(PathFault::Line))
+}
+
 #[test]
-fn paths_as_text(rt: HostRuntime) -> Result<(), Fail> {
-    let alloc = rt.alloc();
+fn paths_as_text(rt: HostRuntime) {
     for (text, parts) in [
         (b"/".as_slice(), [].as_slice()),
         (b"/0".as_slice(), [0].as_slice()),
@@ -46,7 +56,7 @@ fn paths_as_text(rt: HostRuntime) -> Result<(), Fail> {
         (b"/00/0000000000002".as_slice(), [0, 2].as_slice()),
         (b"/4294967295/10".as_slice(), [4_294_967_295, 10].as_slice()),
     ] {
-        assert_eq!(rt; read_path(alloc, text)?.parts(), parts);
+        assert!(rt; is_read(rt.alloc(), text, parts));
     }
     for text in [
         b"".as_slice(),
@@ -63,115 +73,186 @@ fn paths_as_text(rt: HostRuntime) -> Result<(), Fail> {
         b"/0 ".as_slice(),
         b"/a".as_slice(),
     ] {
-        assert!(rt; matches!(read_path(alloc, text), Err(PathFault::Line)));
+        assert!(rt; is_refused(rt.alloc(), text));
     }
-    Ok(())
+}
+
+// Whether the root, lent as `path`, is one, and is then led down to 3/0/1/.../998.
+fn goes_down(path: &mut Path) -> Result<bool, Fail> {
+    let was_root = path.is_root() && path.len() == 0 && path.up().is_none();
+    path.down(3)?;
+    let has_one = path.parts() == [3].as_slice();
+    for part in 0..999 {
+        path.down(part)?;
+    }
+    let ends = path.len() == 1000 && path.part(0) == Some(3) && path.part(999) == Some(998);
+    Ok(was_root && has_one && ends && path.part(1000).is_none())
+}
+
+// Whether the path goes back up to 3, and its copy stays.
+fn goes_up(path: &mut Path, copy: &Path) -> bool {
+    let was_same = path.equals(copy);
+    for part in 0..999 {
+        if path.up() != Some(998 - part) {
+            return false;
+        }
+    }
+    was_same
+        && copy.lies_within(path)
+        && path.lies_within(path)
+        && !path.lies_within(copy)
+        && !path.equals(copy)
+        && parts_lie_within(copy.parts(), &[])
+        && !parts_lie_within(&[3, 1], &[3, 0])
+}
+
+fn goes_down_and_up(alloc: Global) -> Result<bool, Fail> {
+    let mut path = Path::root(alloc);
+    let is_down = goes_down(&mut path)?;
+    let copy = path.try_clone()?;
+    let is_up = goes_up(&mut path, &copy);
+    Ok(is_down && is_up && path.into_parts().as_slice() == [3].as_slice())
 }
 
 #[test]
 fn paths_down_and_up(rt: HostRuntime) -> Result<(), Fail> {
-    let alloc = rt.alloc();
-    let mut path = Path::root(alloc);
-    assert!(rt; path.is_root() && path.len() == 0 && path.up().is_none());
-    path.down(3)?;
-    assert_eq!(rt; path.parts(), [3].as_slice());
-    for part in 0..999 {
-        path.down(part)?;
-    }
-    assert_eq!(rt;
-        (path.len(), path.part(0), path.part(999)),
-        (1000, Some(3), Some(998))
-    );
-    assert_eq!(rt; path.part(1000), None);
-    let copy = path.try_clone()?;
-    assert!(rt; path.equals(&copy));
-    for part in 0..999 {
-        assert_eq!(rt; path.up(), Some(998 - part));
-    }
-    assert!(rt; copy.lies_within(&path) && path.lies_within(&path) && !path.lies_within(&copy));
-    assert!(rt; !path.equals(&copy));
-    assert!(rt; parts_lie_within(copy.parts(), &[]) && !parts_lie_within(&[3, 1], &[3, 0]));
-    assert_eq!(rt; path.into_parts().as_slice(), [3].as_slice());
+    assert!(rt; goes_down_and_up(rt.alloc())?);
     Ok(())
+}
+
+// What some paths find in the tree.
+fn are_found(tree: &mut Term, deep: &Path, too_long: &Path, beside: &Path) -> bool {
+    is_integer(at(tree, deep), 3)
+        && is_integer(at_parts(tree, &[0]), 1)
+        && at(tree, too_long).is_none()
+        && at(tree, beside).is_none()
+        && at_mut(tree, deep).is_some()
+        && at_mut(tree, beside).is_none()
+        && at_parts_mut(tree, &[1]).is_some()
+}
+
+// What swapping the other term, which is 5, with subterms makes of both.
+fn are_swapped(tree: &mut Term, other: &mut Term, deep: &Path, too_long: &Path) -> bool {
+    !swap_at(tree, too_long, other)
+        && is_integer(Some(other), 5)
+        && swap_at(tree, deep, other)
+        && is_integer(Some(other), 3)
+        && is_integer(at(tree, deep), 5)
+        && is_integer(at_parts(tree, &[1, 0]), 2)
+        && swap_at_parts(tree, &[], other)
+        && is_integer(Some(tree), 3)
+        && is_integer(at(other, deep), 5)
+}
+
+fn are_subterms(alloc: Global, tree: &mut Term) -> Result<bool, Fail> {
+    let deep = path(alloc, &[1, 1])?;
+    let too_long = path(alloc, &[1, 1, 0])?;
+    let beside = path(alloc, &[2])?;
+    let mut other = Term::integer(alloc, 5);
+    Ok(
+        are_found(tree, &deep, &too_long, &beside)
+            && are_swapped(tree, &mut other, &deep, &too_long),
+    )
 }
 
 #[test]
 fn subterms(rt: HostRuntime) -> Result<(), Fail> {
-    let alloc = rt.alloc();
-    let mut tree = tree(alloc)?;
-    let deep = path(alloc, &[1, 1])?;
-    let too_long = path(alloc, &[1, 1, 0])?;
-    let beside = path(alloc, &[2])?;
-    assert!(rt; is_integer(at(&tree, &deep), 3));
-    assert!(rt; is_integer(at_parts(&tree, &[0]), 1));
-    assert!(rt; at(&tree, &too_long).is_none() && at(&tree, &beside).is_none());
-    assert!(rt; at_mut(&mut tree, &deep).is_some() && at_mut(&mut tree, &beside).is_none());
-    assert!(rt; at_parts_mut(&mut tree, &[1]).is_some());
-
-    let mut other = Term::integer(alloc, 5);
-    assert!(rt; !swap_at(&mut tree, &too_long, &mut other));
-    assert!(rt; is_integer(Some(&other), 5));
-    assert!(rt; swap_at(&mut tree, &deep, &mut other));
-    assert!(rt; is_integer(Some(&other), 3));
-    assert!(rt; is_integer(at(&tree, &deep), 5) && is_integer(at_parts(&tree, &[1, 0]), 2));
-    assert!(rt; swap_at_parts(&mut tree, &[], &mut other));
-    assert!(rt; is_integer(Some(&tree), 3) && is_integer(at(&other, &deep), 5));
+    let mut tree = tree(rt.alloc())?;
+    let are = are_subterms(rt.alloc(), &mut tree)?;
+    assert!(rt; are);
     Ok(())
+}
+
+// The notes are 6 and 7.
+fn are_swapped_at(tree: &mut Term, root: &Path, notes: &mut Vec<Term>) -> bool {
+    swap_annotations_at(tree, root, notes)
+        && notes.is_empty()
+        && tree.annotations().len() == 2
+        && is_integer(tree.annotations().first(), 6)
+        && swap_annotations_at_parts(tree, &[1], notes)
+        && notes.len() == 1
+        && is_integer(notes.first(), 4)
+        && at_parts(tree, &[1]).is_some_and(|list| list.annotations().is_empty())
+        && !swap_annotations_at_parts(tree, &[1, 2], notes)
+}
+
+fn are_changed_at(tree: &mut Term, first: &Path, notes: &mut Vec<Term>) -> bool {
+    change_at(tree, first, |here: &mut Term| here.swap_annotations(notes))
+        && notes.is_empty()
+        && at(tree, first).is_some_and(|here| here.annotations().len() == 1)
+        && change_at_parts(tree, &[0], |here: &mut Term| here.swap_annotations(notes))
+        && notes.len() == 1
+        && tree.annotations().len() == 2
+}
+
+fn are_annotated(alloc: Global, tree: &mut Term) -> Result<bool, Fail> {
+    let first = path(alloc, &[0])?;
+    let root = Path::root(alloc);
+    let mut notes = integers(alloc, &[6, 7])?;
+    Ok(are_swapped_at(tree, &root, &mut notes) && are_changed_at(tree, &first, &mut notes))
 }
 
 #[test]
 fn annotations_of_subterms(rt: HostRuntime) -> Result<(), Fail> {
-    let alloc = rt.alloc();
-    let mut tree = tree(alloc)?;
-    let mut notes = integers(alloc, &[6, 7])?;
-    assert!(rt; swap_annotations_at(&mut tree, &Path::root(alloc), &mut notes));
-    assert!(rt; notes.is_empty());
-    assert!(rt; tree.annotations().len() == 2 && is_integer(tree.annotations().first(), 6));
-    assert!(rt; swap_annotations_at_parts(&mut tree, &[1], &mut notes));
-    assert!(rt; notes.len() == 1 && is_integer(notes.first(), 4));
-    assert!(rt; at_parts(&tree, &[1]).is_some_and(|list| list.annotations().is_empty()));
-    assert!(rt; !swap_annotations_at_parts(&mut tree, &[1, 2], &mut notes));
-
-    let first = path(alloc, &[0])?;
-    assert!(rt;
-        change_at(
-            &mut tree,
-            &first,
-            |here: &mut Term| here.swap_annotations(&mut notes)
-        )
-    );
-    assert!(rt; notes.is_empty());
-    assert!(rt; at(&tree, &first).is_some_and(|here| here.annotations().len() == 1));
-    assert!(rt;
-        change_at_parts(
-            &mut tree,
-            &[0],
-            |here: &mut Term| here.swap_annotations(&mut notes)
-        )
-    );
-    assert!(rt; notes.len() == 1 && tree.annotations().len() == 2);
+    let mut tree = tree(rt.alloc())?;
+    let are = are_annotated(rt.alloc(), &mut tree)?;
+    assert!(rt; are);
     Ok(())
+}
+
+// 1 in so many lists.
+fn deep_tree(alloc: Global, height: u32) -> Result<Term, Fail> {
+    let mut tree = Term::integer(alloc, 1);
+    for _ in 0..height {
+        tree = Term::list(alloc, vec![in alloc; tree]?);
+    }
+    Ok(tree)
+}
+
+fn deep_path(alloc: Global, length: u32) -> Result<Path, Fail> {
+    let mut path = Path::root(alloc);
+    for _ in 0..length {
+        path.down(0)?;
+    }
+    Ok(path)
+}
+
+// The other term is 2, and the notes are 3.
+fn is_changed(tree: &mut Term, path: &Path, other: &mut Term, notes: &mut Vec<Term>) -> bool {
+    swap_at(tree, path, other)
+        && is_integer(Some(other), 1)
+        && is_integer(at(tree, path), 2)
+        && swap_annotations_at(tree, path, notes)
+        && notes.is_empty()
+        && at(tree, path).is_some_and(|deepest| deepest.annotations().len() == 1)
+}
+
+fn is_changed_alone(
+    alloc: Global,
+    tree: &mut Term,
+    path: &Path,
+    below: &Path,
+) -> Result<bool, Fail> {
+    let mut other = Term::integer(alloc, 2);
+    let mut notes = integers(alloc, &[3])?;
+    Ok(
+        is_changed(tree, path, &mut other, &mut notes)
+            && at(tree, below).is_none()
+            && !swap_at(tree, below, &mut other),
+    )
+}
+
+fn deepest_is_changed(alloc: Global) -> Result<bool, Fail> {
+    let path = deep_path(alloc, 999)?;
+    let below = deep_path(alloc, 1000)?;
+    let mut tree = deep_tree(alloc, 999)?;
+    is_changed_alone(alloc, &mut tree, &path, &below)
 }
 
 // The deepest place of a term as high as one may be is looked at and changed on a stack of 8 MiB.
 #[test]
 fn deep_places(rt: HostRuntime) -> Result<(), Fail> {
-    let alloc = rt.alloc();
-    let mut tree = Term::integer(alloc, 1);
-    let mut path = Path::root(alloc);
-    for _ in 0..999 {
-        tree = Term::list(alloc, vec![in alloc; tree]?);
-        path.down(0)?;
-    }
-    let mut other = Term::integer(alloc, 2);
-    assert!(rt; swap_at(&mut tree, &path, &mut other));
-    assert!(rt; is_integer(Some(&other), 1) && is_integer(at(&tree, &path), 2));
-    let mut notes = integers(alloc, &[3])?;
-    assert!(rt; swap_annotations_at(&mut tree, &path, &mut notes));
-    assert!(rt; notes.is_empty());
-    assert!(rt; at(&tree, &path).is_some_and(|deepest| deepest.annotations().len() == 1));
-    path.down(0)?;
-    assert!(rt; at(&tree, &path).is_none() && !swap_at(&mut tree, &path, &mut other));
+    assert!(rt; deepest_is_changed(rt.alloc())?);
     Ok(())
 }
 
