@@ -20,7 +20,7 @@ use Rattle.script_core.specs.CommandView.{form}
 use Rattle.script_core.specs.Script.{without_end}
 use Rattle.aterm_text.specs.Tokens.{is_blank}
 use Rattle.script_core.specs.Machine.{Replies, ReplyTo, ReplyToText, refused, line}
-use Rattle.script_core.specs.Answer.{Accepts, Refuses, Answered, ReplyInRun, takes_none, reading_refusal, is_fault}
+use Rattle.script_core.specs.Answer.{Accepts, Refuses, Answered, ReplyInRun, TellsRefusal, takes_none, reading_refusal, is_fault}
 
 -- ---- texts that are read
 
@@ -35,6 +35,9 @@ read_refused Spelled text NoTerm deep only none = inr (inr (refl, shallow, none 
     shallow : nesting text ≤ MAX_NESTING
     shallow = omega (arith, not_deep)
 read_refused Spelled text NoMemory deep only none = inl refl
+
+pub read_well : {X : Type 0} (Spelled : List ℕ → X → Type 0) (text : List ℕ) (x : X) → (MAX_NESTING < nesting text → ⊥) → Spelled text x → ReadAs Spelled text (Ok x)
+read_well Spelled text x not_deep spelled = (omega (arith, not_deep), spelled)
 
 -- ---- acts that are answered `ok`
 
@@ -254,3 +257,46 @@ answered_wanting meaning steps command h g before after refusal refuses fault sa
     may : Refuses (ReplyTo meaning steps command h) (takes_none command) refusal → takes_none command ≡ false
     may (inl memory) = memory.1
     may (inr reply) = told_shortly meaning steps command h refusal fault reply
+
+-- a refusal that is told
+pub answered_told : (meaning : Meaning) (steps : ℕ) (command : Handed) (h g : History) (before after : List ℕ) (refusal : Refusal) (verdict : Bool) → Refuses (ReplyTo meaning steps command h) (takes_none command) refusal →
+    g ≡ h → TellsRefusal before after refusal → verdict ≡ false → Answered (ReplyInRun meaning steps) command h g before after verdict
+answered_told meaning steps command h g before after refusal verdict refuses same tells is =
+    subst (λ (b : Bool). Answered (ReplyInRun meaning steps) command h g before after b) (sym is) (by tells)
+  where
+    by : TellsRefusal before after refusal → Answered (ReplyInRun meaning steps) command h g before after false
+    by (inl told) = answered_refused meaning steps command h g before after refusal refuses same told
+    by (inr wanting) = answered_wanting meaning steps command h g before after refusal refuses wanting.0 same wanting.1
+
+-- a command that is read and answered apart, told at once
+module _ (meaning : Meaning) (steps : ℕ) (command : List ℕ) (h g : History) (before after : List ℕ) (asked : Option Form) (command_is : command_of steps command ≡ checked asked) (may_take_memory : takes_no_memory command ≡ false) where
+  pub apart_unread_told : (refusal : Refusal) (verdict : Bool) → (refusal ≡ Memory) ⊎ (checked asked ≡ Err refusal) → g ≡ h → TellsRefusal before after refusal → verdict ≡ false →
+      Answered (ReplyInRun meaning steps) (handed_text command) h g before after verdict
+  apart_unread_told refusal verdict unread same tells is =
+      answered_told meaning steps (handed_text command) h g before after refusal verdict (apart_unread meaning steps command h asked command_is may_take_memory refusal unread) same tells is
+
+  abbrev SaysItApart : Result Form Refusal → Reply → Type 0
+  SaysItApart = SaysApart meaning steps command h asked command_is may_take_memory
+
+  module _ (f : Form) (read : checked asked ≡ Ok f) where
+    replies_it : (reply : Reply) → Replies meaning f h reply → ReplyToText meaning steps command h reply
+    replies_it reply p = subst (λ (said : Result Form Refusal). SaysItApart said reply) (sym (command_is ∙ read)) p
+
+    pub apart_accepted : Replies meaning f h (Ok (ok_with g)) → after ≡ before ++ line (codes "ok") → Answered (ReplyInRun meaning steps) (handed_text command) h g before after true
+    apart_accepted ok text = record {
+      flag = false;
+      reply = Ok (ok_with g);
+      replied = replies_it (Ok (ok_with g)) ok;
+      history = refl;
+      answer = text;
+      accepted = refl;
+    }
+
+    refuses_it : (refusal : Refusal) → Refuses (Replies meaning f h) false refusal → Refuses (ReplyToText meaning steps command h) (takes_no_memory command) refusal
+    refuses_it refusal (inl memory) = inl (memory.0, may_take_memory)
+    refuses_it refusal (inr reply) = inr (replies_it (Err refusal) reply)
+
+    pub apart_refused_told : (refusal : Refusal) (verdict : Bool) → Refuses (Replies meaning f h) false refusal → g ≡ h → TellsRefusal before after refusal → verdict ≡ false →
+        Answered (ReplyInRun meaning steps) (handed_text command) h g before after verdict
+    apart_refused_told refusal verdict refuses same tells is =
+        answered_told meaning steps (handed_text command) h g before after refusal verdict (refuses_it refusal refuses) same tells is

@@ -7,7 +7,7 @@ use Rattle.session_core.specs.declared.refusal.Refusal.TheVariants.{Memory, Line
 use Rattle.aterm_text.specs.declared.reader.ReadFault.{ReadFault}
 use Rattle.aterm_text.specs.declared.reader.ReadFault.TheVariants.{Deep as DeepText, Term as NoTerm, Memory as NoMemory}
 use Rattle.script_core.specs.Form.{takes_no_memory}
-use Rattle.script_core.specs.Machine.{Reply, Replying, ReplyTo, history_after, written}
+use Rattle.script_core.specs.Machine.{Reply, Replying, ReplyTo, history_after, written, line, refused}
 use Rattle.script_core.specs.Handed.{Handed, text, long}
 
 -- whether a command that is handed out takes no memory
@@ -71,3 +71,10 @@ is_fault NoUndo = false
 is_fault NoRedo = false
 is_fault Group = false
 is_fault NoGroup = false
+
+-- A refusal is told behind what was there: its line, or, of a fault for whose name there is no memory, that
+-- memory is wanted.
+abbrev pub TellsRefusal : List ℕ → List ℕ → Refusal → Type 0
+TellsRefusal before after refusal =
+    (after ≡ before ++ line (refused refusal))
+    ⊎ ((is_fault refusal ≡ true) × (after ≡ before ++ line (refused Memory)))

@@ -1,7 +1,8 @@
 //! Answering one command.
 
-ghost use Rattle.std.specs.Prelude.{◌≡◌, ◌≤◌, ◌⊎◌, ◌+◌, ◌++◌, ◌∷◌, [], Ok, Err, OnOk, OnErr, IfOk, IfErr, true, false, length, take, codes, decimal, vec_capacity, vec_len};
+ghost use Rattle.std.specs.Prelude.{◌≡◌, ◌≤◌, ◌⊎◌, ◌+◌, ◌++◌, ◌∷◌, [], ℕ, List, Ok, Err, OnOk, OnErr, IfOk, IfErr, true, false, length, take, codes, decimal, vec_capacity, vec_len};
 ghost use Rattle.std.specs.List.{flat_map};
+ghost use Rattle.aterm_text.specs.Tokens.{is_blank};
 ghost use Rattle.aterm_text.specs.Grammar.{Spells, SpellsAnnotations};
 ghost use Rattle.aterm_text.specs.Printed.{print as print_of, print_name as name_printed};
 ghost use Rattle.aterm_text.specs.Printing.{Extends};
@@ -10,10 +11,12 @@ ghost use Rattle.session_core.specs.Step.{place_of};
 ghost use Rattle.term_core.specs.Tree.{Tree};
 ghost use Rattle.session_core.specs.Refusal.{number_of};
 ghost use Rattle.session_core.specs.Steps.{AreSteps};
-ghost use Rattle.script_core.specs.Form.{tree, put, annotate, show, module_text, HasBudget, takes_no_memory, is_without_memory};
+ghost use Rattle.script_core.specs.Script.{without_end};
+ghost use Rattle.script_core.specs.Handed.{text as text_handed};
+ghost use Rattle.script_core.specs.Form.{tree, put, annotate, show, module_text, HasBudget, takes_no_memory, is_without_memory, front_word, behind_word};
 ghost use Rattle.script_core.specs.FedRight.{handed_out};
-ghost use Rattle.script_core.specs.Machine.{ReadAs, Replies, ReplyTo, ReplyToText, line, listed, counted, ok_with, told_of, reason, refused as refused_text};
-ghost use Rattle.script_core.specs.Answer.{Accepts, Answered, Refuses, ReplyInRun, is_fault, reading_refusal, takes_none};
+ghost use Rattle.script_core.specs.Machine.{ReadAs, Replies, ReplyToText, line, listed, counted, ok_with, told_of, reason, refused as refused_text};
+ghost use Rattle.script_core.specs.Answer.{Accepts, Answered, Refuses, ReplyInRun, TellsRefusal, is_fault, reading_refusal};
 ghost use Rattle.script_core.specs.CommandView.{form as form_seen};
 
 use crate::command::{behind_put, behind_tree, read_name_and_text, read_put_parts};
@@ -46,46 +49,99 @@ pub fn answer_text<M: Meaning>(
         answer.new.items result }
     ensures room { vec_capacity answer.old ≤ vec_capacity answer.new }
 {
-    match try_answer(alloc, session, command, steps, answer) {
-        Ok(()) => true,
-        Err(refusal) => {
-            let Err(NoMemory) = append_refusal(answer, &refusal) else {
-                return false;
-            };
-            append_short(answer, &Refusal::Memory);
-            false
-        }
-    }
-}
-
-// Appends the answer of a command that is accepted. A refusal leaves session and buffer as they
-// were.
-fn try_answer<M: Meaning>(
-    alloc: Global,
-    session: &mut Session<M>,
-    command: Piece<'_>,
-    steps: u32,
-    answer: &mut Vec<u8>,
-) -> Result<(), Refusal>
-    requires steps { AreSteps steps }
-    requires room { vec_len answer.old + ANSWER_ROOM ≤ vec_capacity answer.old }
-    ensures ok { OnOk result (Accepts (ReplyTo M.meaning steps (handed_out command.entry) session.old) session.new
-        answer.old.items answer.new.items) }
-    ensures refused { IfErr result (Refuses (ReplyTo M.meaning steps (handed_out command.entry) session.old)
-        (takes_none (handed_out command.entry))) }
-    ensures err { OnErr result ((session.new ≡ session.old)
-        × (answer.new.items ≡ answer.old.items)) }
-    ensures len { OnErr result (vec_len answer.new ≡ vec_len answer.old) }
-    ensures room { vec_capacity answer.old ≤ vec_capacity answer.new }
-{
     match command {
         Piece::Text(text) => answer_line(alloc, session, text, steps, answer),
-        Piece::Long => Err(Refusal::Long),
+        Piece::Long => refuse(answer, &Refusal::Long),
     }
 }
 
 // A command `tree` is read and answered apart, in fewer steps: scripts are mostly of these.
 fn answer_line<M: Meaning>(
+    alloc: Global,
+    session: &mut Session<M>,
+    command: &[u8],
+    steps: u32,
+    answer: &mut Vec<u8>,
+) -> bool
+    requires steps { AreSteps steps }
+    requires room { vec_len answer.old + ANSWER_ROOM ≤ vec_capacity answer.old }
+    ensures answered { Answered (ReplyInRun M.meaning steps) (text_handed command.now) session.old session.new
+        answer.old.items answer.new.items result }
+    ensures room { vec_capacity answer.old ≤ vec_capacity answer.new }
+{
+    match behind_tree(command) {
+        Some(rest) => answer_tree(alloc, session, rest, answer),
+        None => answer_other(alloc, session, command, steps, answer),
+    }
+}
+
+// Answers the command `tree` with this text behind its keyword. A refusal is told where it comes up: it is larger
+// than a truth value, and would be handed on from call to call.
+#[inline(never)]
+fn answer_tree<M: Meaning>(
+    alloc: Global,
+    session: &mut Session<M>,
+    rest: &[u8],
+    answer: &mut Vec<u8>,
+) -> bool
+    requires room { vec_len answer.old + ANSWER_ROOM ≤ vec_capacity answer.old }
+    ensures answered { (steps : ℕ) (command : List ℕ) → front_word (without_end is_blank command) ≡ codes "tree"
+        → behind_word (without_end is_blank command) ≡ rest.now
+        → Answered (ReplyInRun M.meaning steps) (text_handed command) session.old session.new answer.old.items answer.new.items
+        result }
+    ensures room { vec_capacity answer.old ≤ vec_capacity answer.new }
+{
+    match read_name_and_text(alloc, rest) {
+        Ok((name, text)) => match set_tree(alloc, session, &name, text) {
+            Ok(()) => {
+                append_ok(answer);
+                true
+            }
+            Err(refusal) => refuse(answer, &refusal),
+        },
+        Err(refusal) => refuse(answer, &refusal),
+    }
+}
+
+// A command of any form. It isn't inlined, so that `tree` doesn't pay for its variables.
+#[inline(never)]
+fn answer_other<M: Meaning>(
+    alloc: Global,
+    session: &mut Session<M>,
+    command: &[u8],
+    steps: u32,
+    answer: &mut Vec<u8>,
+) -> bool
+    requires steps { AreSteps steps }
+    requires room { vec_len answer.old + ANSWER_ROOM ≤ vec_capacity answer.old }
+    ensures answered { Answered (ReplyInRun M.meaning steps) (text_handed command.now) session.old session.new
+        answer.old.items answer.new.items result }
+    ensures room { vec_capacity answer.old ≤ vec_capacity answer.new }
+{
+    match try_answer(alloc, session, command, steps, answer) {
+        Ok(()) => true,
+        Err(refusal) => refuse(answer, &refusal),
+    }
+}
+
+// Tells a refusal. Where there is no memory for a name in it, that is told.
+#[inline(never)]
+fn refuse(answer: &mut Vec<u8>, refusal: &Refusal) -> bool
+    requires { vec_len answer.old + ANSWER_ROOM ≤ vec_capacity answer.old }
+    ensures refused { result ≡ false }
+    ensures told { TellsRefusal answer.old.items answer.new.items refusal.now }
+    ensures room { vec_capacity answer.old ≤ vec_capacity answer.new }
+{
+    let Err(NoMemory) = append_refusal(answer, refusal) else {
+        return false;
+    };
+    append_short(answer, &Refusal::Memory);
+    false
+}
+
+// Appends the answer of a command that is accepted. A refusal leaves session and buffer as they
+// were.
+fn try_answer<M: Meaning>(
     alloc: Global,
     session: &mut Session<M>,
     command: &[u8],
@@ -103,15 +159,9 @@ fn answer_line<M: Meaning>(
     ensures len { OnErr result (vec_len answer.new ≡ vec_len answer.old) }
     ensures room { vec_capacity answer.old ≤ vec_capacity answer.new }
 {
-    let Some(rest) = behind_tree(command) else {
-        return match command.first() {
-            Some(byte) if *byte == b'p' => answer_put(alloc, session, command, steps, answer),
-            _ => answer_form(alloc, session, command, steps, answer),
-        };
-    };
-    match read_name_and_text(alloc, rest) {
-        Ok((name, text)) => say_ok(set_tree(alloc, session, &name, text), answer),
-        Err(refusal) => Err(refusal),
+    match command.first() {
+        Some(byte) if *byte == b'p' => answer_put(alloc, session, command, steps, answer),
+        _ => answer_form(alloc, session, command, steps, answer),
     }
 }
 
@@ -230,10 +280,20 @@ fn say_ok(outcome: Result<(), Refusal>, answer: &mut Vec<u8>) -> Result<(), Refu
     ensures room { vec_capacity answer.old ≤ vec_capacity answer.new }
 {
     outcome?;
-    answer.extend_from_slice(b"ok\n").unwrap();
+    append_ok(answer);
     Ok(())
 }
 
+#[inline(always)]
+fn append_ok(answer: &mut Vec<u8>)
+    requires { vec_len answer.old + ANSWER_ROOM ≤ vec_capacity answer.old }
+    ensures text { answer.new.items ≡ answer.old.items ++ line (codes "ok") }
+    ensures room { vec_capacity answer.old ≤ vec_capacity answer.new }
+{
+    answer.extend_from_slice(b"ok\n").unwrap();
+}
+
+#[inline(always)]
 fn set_tree<M: Meaning>(
     alloc: Global,
     session: &mut Session<M>,
@@ -244,9 +304,9 @@ fn set_tree<M: Meaning>(
     ensures refused { IfErr result (Refuses (Replies M.meaning (tree name.now text.now) session.old) false) }
     ensures err { OnErr result (session.new ≡ session.old) }
 {
-    match read_term(alloc, text) {
+    match read(alloc, text) {
         Ok(tree) => session.set_tree(name, tree),
-        Err(refusal) => Err(refusal),
+        Err(fault) => Err(read_refusal(fault)),
     }
 }
 

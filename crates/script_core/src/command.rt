@@ -156,6 +156,7 @@ fn read_tree(alloc: Global, rest: &[u8]) -> Result<Command<'_>, Refusal>
 /// The name and the text of a command `tree`, whose keyword stands before `rest`.
 ///
 /// Errors: those of `Command::read`.
+#[inline(always)]
 pub(crate) fn read_name_and_text(alloc: Global, rest: &[u8]) -> Result<(Label, &[u8]), Refusal>
     ensures ok { IfOk result (λ read. checked (tree_form rest.now) ≡ Ok (tree read.0 read.1.now)) }
     ensures refused { IfErr result (λ refusal. (refusal ≡ Refusal.Memory)
@@ -166,7 +167,7 @@ pub(crate) fn read_name_and_text(alloc: Global, rest: &[u8]) -> Result<(Label, &
         return Err(Refusal::Line);
     }
     let name = read_label(alloc, name)?;
-    Ok((name, after_blanks(rest)))
+    Ok((name, behind_blanks(rest)))
 }
 
 /// What stands behind the keyword `tree`, where the command begins with it, and not with blanks. Most other
@@ -240,7 +241,7 @@ pub(crate) fn read_put_parts(alloc: Global, rest: &[u8]) -> Result<(Label, Path,
     let (path, rest) = split_word(rest);
     let path = read_path_word(alloc, path)?;
     let name = read_label(alloc, name)?;
-    Ok((name, path, after_blanks(rest)))
+    Ok((name, path, behind_blanks(rest)))
 }
 
 /// What stands behind the keyword `put`, where the command begins with it, and not with blanks.
@@ -273,7 +274,7 @@ fn read_annotate(alloc: Global, rest: &[u8]) -> Result<Command<'_>, Refusal>
     let (path, rest) = split_word(rest);
     let path = read_path_word(alloc, path)?;
     let name = read_label(alloc, name)?;
-    Ok(Command::Annotate(name, path, after_blanks(rest)))
+    Ok(Command::Annotate(name, path, behind_blanks(rest)))
 }
 
 fn read_module(alloc: Global, rest: &[u8]) -> Result<Command<'_>, Refusal>
@@ -288,7 +289,7 @@ fn read_module(alloc: Global, rest: &[u8]) -> Result<Command<'_>, Refusal>
         return Err(Refusal::Line);
     }
     let name = read_label(alloc, name)?;
-    Ok(Command::Module(name, after_blanks(rest)))
+    Ok(Command::Module(name, behind_blanks(rest)))
 }
 
 fn read_show<'a>(alloc: Global, rest: &[u8]) -> Result<Command<'a>, Refusal>
@@ -332,7 +333,7 @@ fn read_apply(alloc: Global, rest: &[u8], steps: u32) -> Result<Command<'_>, Ref
     let path = read_place(alloc, place)?;
     let steps = read_budget(budget, steps)?;
     let name = read_label(alloc, name)?;
-    Ok(Command::Apply(name, path, steps, after_blanks(text)))
+    Ok(Command::Apply(name, path, steps, behind_blanks(text)))
 }
 
 // A name at the end of a form.
@@ -438,6 +439,7 @@ fn has_more(rest: &[u8]) -> bool
     !word.is_empty()
 }
 
+#[inline(always)]
 fn read_label(alloc: Global, name: &[u8]) -> Result<Label, Refusal>
     ensures ok { IfOk result (λ label. label_of name.now ≡ Some label) }
     ensures same { IfOk result (λ label. label ≡ name.now) }
@@ -448,6 +450,16 @@ fn read_label(alloc: Global, name: &[u8]) -> Result<Label, Refusal>
 }
 
 // ---- words
+
+// The text behind the blanks in front. Mostly there is one, so the first is looked at alone.
+fn behind_blanks(text: &[u8]) -> &[u8]
+    ensures { result.now ≡ without_blanks text.now }
+{
+    match text.split_first() {
+        Some((first, rest)) if is_blank(*first) => after_blanks(rest),
+        _ => after_blanks(text),
+    }
+}
 
 fn without_last_blanks(text: &[u8]) -> &[u8]
     ensures { result.now ≡ without_end is_blank text.now }
@@ -467,7 +479,7 @@ fn split_word(text: &[u8]) -> (&[u8], &[u8])
     ensures word { result.0.now ≡ front_word text.now }
     ensures behind { result.1.now ≡ behind_word text.now }
 {
-    let text = after_blanks(text);
+    let text = behind_blanks(text);
     text.split_at(word_len(text))
 }
 

@@ -16,6 +16,7 @@ use term_paths::{Path, at};
 
 impl Timeline {
     /// Gives the name this tree.
+    #[inline(always)]
     pub(crate) fn set_tree(&mut self, name: &Label, tree: Term) -> Result<(), Refusal>
         requires { IsPlaced self.old }
         ensures placed { IsPlaced self.new }

@@ -128,6 +128,7 @@ impl<M: Meaning> Session<M> {
     /// at level 0, else the refusal is `Big`.
     ///
     /// A refusal leaves the session as it was. The tree is dropped then.
+    #[inline(always)]
     pub fn set_tree(&mut self, name: &Label, tree: Term) -> Result<(), Refusal>
         ensures ok { OnOk result (ComesTo (set_tree name.now tree) self.old (Ok self.new)) }
         ensures refused { IfErr result (λ refusal. (refusal ≡ Refusal.Memory)

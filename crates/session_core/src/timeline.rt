@@ -342,6 +342,7 @@ impl Timeline {
     }
 
     // Adds a step where there is room for it. Those that were undone are dropped.
+    #[inline(always)]
     fn add(&mut self, step: Step)
         requires within { self.old.position ≤ length self.old.logs.items }
         requires room { length self.old.logs.items < vec_capacity self.old.logs }

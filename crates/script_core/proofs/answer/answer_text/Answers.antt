@@ -1,16 +1,13 @@
-use Rattle.std.proofs.Common.{ap, ◌∙◌, ◌++◌, List, ℕ}
-use Rattle.session_core.specs.declared.refusal.Refusal.TheVariants.{Memory}
-use Rattle.script_core.specs.Machine.{line, refused}
-use Rattle.script_core.proofs.AnswerLemmas.{answered_refused, answered_wanting}
+use Rattle.std.proofs.Common.{refl, sym, subst, inr}
+use Rattle.session_core.specs.declared.refusal.Refusal.TheVariants.{Long}
+use Rattle.script_core.specs.declared.splitter.Piece.{Piece}
+use Rattle.script_core.specs.Handed.{long}
+use Rattle.script_core.specs.FedRight.{handed_out}
+use Rattle.script_core.specs.Answer.{Answered, ReplyInRun}
+use Rattle.script_core.proofs.AnswerLemmas.{answered_told}
 use Rattle.script_core.proofs.answer.answer_text.Goals as goal
 
-pub returns-in_default-clause-answered : goal.returns-in_default-clause-answered
-returns-in_default-clause-answered g c =
-    let told = c.in-Err.ensures in
-    answered_refused g.M.Meaning.meaning c.args.steps _ _ _ _ _ c.in-Err.refusal told.refused told.err.0 (c.in_default.ensures.ok ∙ ap (λ (xs : List ℕ). xs ++ line (refused c.in-Err.refusal)) told.err.1)
-
-pub returns-in-Err-append_refusal-clause-answered : goal.returns-in-Err-append_refusal-clause-answered
-returns-in-Err-append_refusal-clause-answered g c =
-    let told = c.in-Err.ensures in
-    let unwritten = c.in-Err-append_refusal.ensures in
-    answered_wanting g.M.Meaning.meaning c.args.steps _ _ _ _ _ c.in-Err.refusal told.refused unwritten.fault told.err.0 (c.append_short.ensures.text ∙ ap (λ (xs : List ℕ). xs ++ line (refused Memory)) (unwritten.err ∙ told.err.1))
+pub returns-in-Long-clause-answered : goal.returns-in-Long-clause-answered
+returns-in-Long-clause-answered g c =
+    subst (λ (p : Piece). Answered (ReplyInRun g.M.Meaning.meaning c.args.steps) (handed_out p) c.args.session.now c.args.session.now c.args.answer.now.items c.refuse.new.answer.items c.refuse.result) (sym c.in-Long.is)
+    (answered_told g.M.Meaning.meaning c.args.steps long c.args.session.now c.args.session.now c.args.answer.now.items c.refuse.new.answer.items Long c.refuse.result (inr refl) refl c.refuse.ensures.told c.refuse.ensures.refused)
