@@ -86,7 +86,7 @@ fn is_itself(strategy: &ResolvedStrategy) -> bool
 }
 
 /// The choice of a call that tries a strategy. Its step and that of the name are paid.
-#[inline(never)]
+#[inline(always)]
 pub(crate) fn take_try<'t, M: Meaning>(
     host: &Host<'t, M>,
     m: &mut Machine<'t>,
