@@ -34,7 +34,8 @@ pub record PutsAll (slot : ℕ) (e : Edits) (u : Tree) (s : Store) (log : List E
   pub back : before (flipped_forward (entries_at slot e) s) t ≡ s
   pub fits : Fits (flipped_forward (entries_at slot e) s) t
 
--- The same with an entry for each of the outermost places of the edits alone.
+-- The same with an entry for each of the outermost places of the edits alone. What `places` has as new terms
+-- says nothing: entries keep what was there.
 pub record PutsOutermost (slot : ℕ) (e : Edits) (u : Tree) (s : Store) (log : List Entry) (t : Store) (longer : List Entry) : Type 0 where
   pub places : Edits
   pub outermost : AreOutermost places e

@@ -86,7 +86,7 @@ pub record Leads (p : Standing) (e : Edits) (q : Standing) : Type 0 where
   pub among : (x : List ℕ) → IsPlace (standing_change q) x → IsPlace (standing_change p) x ⊎ IsOf x e
   pub covers : (x : List ℕ) → IsWithin (standing_change p) x ⊎ IsOf x e → IsWithin (standing_change q) x
 
--- The places of ps are those of the edits that lie within no other one's.
+-- The places of ps are the outermost ones of the edits, each once.
 pub record AreOutermost (ps e : Edits) : Type 0 where
   pub apart : AllApart ps
   pub among : (x : List ℕ) → IsOf x ps → IsOf x e

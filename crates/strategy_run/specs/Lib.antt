@@ -1,6 +1,7 @@
 -- What a reader has to believe.
 pub mod Applies
--- What serves private clauses and proofs. Public ones also name `world_of` of Turns and `IsAnswered` of Ends.
+-- What serves private clauses and proofs. Public ones also name `world_of` of Turns, `IsAnswered` of Ends, and
+-- `AreOutermost` and `IsOf` of Leading.
 pub mod Trails
 pub mod Leading
 pub mod Frames

@@ -78,6 +78,8 @@ pub fn is_low_enough(store: &Store, slot: usize, path: &Path) -> bool
 /// its level, which is the length of the path ([`is_low_enough`]); in a tree that fits, each is.
 ///
 /// On every answer but `Done`, and where a growth of memory is refused, store and log stay as they were.
+///
+/// Errors: want of memory alone.
 pub fn apply_outermost<M: Meaning>(
     alloc: Global,
     program: &Program,
@@ -111,7 +113,8 @@ pub fn apply_outermost<M: Meaning>(
 }
 
 /// The same as [`apply_outermost`], with an entry in the log for each edit, in the order in which they
-/// were made, so that each rewriting step can be read there.
+/// were made, so that each rewriting step can be read there. What a branch did that failed, or a test, is
+/// no edit.
 pub fn apply<M: Meaning>(
     alloc: Global,
     program: &Program,

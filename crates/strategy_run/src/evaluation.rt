@@ -46,7 +46,10 @@ pub(crate) enum Ended {
 }
 
 /// Evaluates a strategy on a term at a level, which is the number of terms above it, in at most so many
-/// steps. The term has to be low enough at its level, and is left as it is.
+/// steps. The term has to be low enough at its level: level and height are together at most 1,000. It is
+/// left as it is.
+///
+/// Errors: want of memory alone.
 pub fn evaluate<M: Meaning>(
     alloc: Global,
     program: &Program,
