@@ -1,5 +1,6 @@
 -- What a reader has to believe.
 pub mod Applies
+pub mod Laws
 -- What serves private clauses and proofs. Public ones also name `world_of` of Turns, `IsAnswered` of Ends, and
 -- `AreOutermost` and `IsOf` of Leading.
 pub mod Trails

@@ -13,6 +13,7 @@ mod forms;
 mod frames;
 mod give;
 mod heads;
+pub mod laws;
 mod machine;
 mod rules;
 mod tails;
