@@ -118,8 +118,9 @@ finds Each W p path es t u r b S s slot k d l h =
 
 pub puts : (listing : Listing) (whole : Outcome) (es : List Entry) (slot : ℕ) (s t : Store) (log longer : List Entry)
     → FindsAll listing s slot whole es → t ≡ after es s → longer ≡ log ++ flipped_forward es s
+    → before longer t ≡ before log s → (Fits log s → FitsForward es s → Fits longer t)
     → Applies (λ e u. PutsListed listing slot e u s log t longer) (Stay s log t longer) whole Done
-puts listing whole es slot s t log longer f te le =
+puts listing whole es slot s t log longer f te le back fit =
     let ps = f.3 in
     let is : es ≡ entries_at slot ps = f.5 in
     let store : t ≡ after (entries_at slot ps) s = te ∙ ap (λ x. after x s) is in (
@@ -134,6 +135,8 @@ puts listing whole es slot s t log longer f te le =
           behind = le ∙ ap (λ x. log ++ flipped_forward x s) is;
           back = ap (before (flipped_forward (entries_at slot ps) s)) store ∙ store_from_before (entries_at slot ps) s;
           fits = subst (Fits (flipped_forward (entries_at slot ps) s)) (sym store) (flipped_forward_fits (entries_at slot ps) s f.6.places);
+          log_back = back;
+          log_fits = λ h. fit h (subst (λ x. FitsForward x s) (sym is) f.6.places);
         },
       ),
     )

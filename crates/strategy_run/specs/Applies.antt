@@ -27,12 +27,15 @@ abbrev pub applied_in : World → Slots Tree → ℕ → List ℕ → Resolved �
 applied_in W slots i p r b = option_map_or (applied W p r b) (content slots i) fails
 
 -- From a store and a log to these: the slot's tree is u, by an entry behind the log for each of the
--- edits, in their order. These entries lead back, and fit.
+-- edits, in their order. These entries lead back, and fit; so the log as a whole leads back to where it did,
+-- and fits if it did.
 pub record PutsAll (slot : ℕ) (e : Edits) (u : Tree) (s : Store) (log : List Entry) (t : Store) (longer : List Entry) : Type 0 where
   pub tree : t ≡ put (slot_tree slot (Some u)) s
   pub behind : longer ≡ log ++ flipped_forward (entries_at slot e) s
   pub back : before (flipped_forward (entries_at slot e) s) t ≡ s
   pub fits : Fits (flipped_forward (entries_at slot e) s) t
+  pub log_back : before longer t ≡ before log s
+  pub log_fits : Fits log s → Fits longer t
 
 -- The same with an entry for each of the outermost places of the edits alone. What `places` has as new terms
 -- says nothing: entries keep what was there.

@@ -42,4 +42,4 @@ returns-in_ok-put_in_place-in-Replaced-clause-applies g c =
     let f = subst (λ (f : Found). Finds c.args.listing c.args.store.now c.args.slot (applied (world_of g.M.Meaning.meaning c.args.program.now.bodies c.args.primitives.now) c.args.path.now c.args.strategy.now c.args.steps c.in-Some.tree.now) f) c.in-Replaced.is (c.in_ok-plan.ensures c.args.store.now there) in
     puts c.args.listing (applied_in (world_of g.M.Meaning.meaning c.args.program.now.bodies c.args.primitives.now) c.args.store.now.trees c.args.slot c.args.path.now c.args.strategy.now c.args.steps) c.in-Replaced.plan c.args.slot c.args.store.now c.put_in_place.new.store c.args.log.now c.put_in_place.new.log
     (subst (λ w. FindsAll c.args.listing c.args.store.now c.args.slot w c.in-Replaced.plan) (sym into) f)
-    c.in_ok-put_in_place-in-Replaced.ensures.store c.in_ok-put_in_place-in-Replaced.ensures.log
+    c.in_ok-put_in_place-in-Replaced.ensures.store c.in_ok-put_in_place-in-Replaced.ensures.log c.in_ok-put_in_place-in-Replaced.ensures.leads_back c.in_ok-put_in_place-in-Replaced.ensures.fits
