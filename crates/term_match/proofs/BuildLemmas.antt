@@ -1,5 +1,5 @@
 -- Building.
-use Rattle.std.proofs.Common.{◌≡◌, ℕ, List, [], ◌∷◌, length, suc, refl, sym, ap, ◌∙◌, Some, None, option_map}
+use Rattle.std.proofs.Common.{◌≡◌, ℕ, ◌+◌, ◌^◌, ◌<◌, List, [], ◌∷◌, length, suc, refl, sym, ap, ◌∙◌, arith, Some, None, option_map, IfSome, Vec, Global}
 use Rattle.std.specs.declared.option.Option.{Option}
 use Rattle.std.proofs.lemmas.Option.{none-some, same_Some, option_and_then_some}
 use Rattle.term_core.specs.Tree.{Tree}
@@ -19,3 +19,9 @@ build_count (p ∷ ps) E B us e =
     option_and_then_some (λ u. option_map (λ vs. u ∷ vs) (build_places (places_of ps) E B)) (build_place p E B) us e
     (λ u h f. mapped_some (λ vs. u ∷ vs) (build_places (places_of ps) E B) us f
     (λ vs g k. sym (ap length k) ∙ ap suc (build_count ps E B vs g)))
+
+pub front_room : (ps : List Place) (E : List ℕ) (B : Bindings) (o : Option (Vec Tree Global)) (n : ℕ)
+    → option_map (λ v. v.items) o ≡ build_places (places_of ps) E B → length ps + n < 2 ^ 64
+    → IfSome o (λ us. length us.items + n < 2 ^ 64)
+front_room ps E B None n e h = tt
+front_room ps E B (Some v) n e h = omega (arith, build_count ps E B v.items (sym e), h)

@@ -3,11 +3,12 @@
 //! Bounds of sizes are kept with the terms in the cells. Only where they don't tell that the instance
 //! fits, its variables are measured, small terms first, and what is found stays in the cells.
 
-ghost use Rattle.std.specs.Prelude.{◌≡◌, ℕ, List, [], ◌++◌, IfOk, IfSome, Some, is_some, option_map, option_and_then};
+ghost use Rattle.std.specs.Prelude.{◌≡◌, ◌+◌, ◌<◌, ◌^◌, ℕ, List, [], ◌∷◌, ◌++◌, length, IfOk, IfSome, Ok, Some, is_some, option_map, option_and_then};
 ghost use Rattle.std.specs.Option.{option_copied};
+ghost use Rattle.std.specs.declared.option.Option.{Option};
 ghost use Rattle.term_core.specs.Kind.{made_of};
-ghost use Rattle.term_core.specs.Tree.{Tree, branch, of_list, none, children, list_term};
-ghost use Rattle.strategy_syntax.specs.Resolved.{places_of};
+ghost use Rattle.term_core.specs.Tree.{Tree, branch, of_list, none, children, with_annotations, list_term};
+ghost use Rattle.strategy_syntax.specs.Resolved.{with_tail, annotated, places_of};
 ghost use Rattle.strategy_syntax.specs.Heads.{head_of};
 ghost use Rattle.strategy_meaning.specs.Matching.{Bindings, build_place, build_places, bound_to, elements};
 ghost use Rattle.term_match.specs.Building.{Builds};
@@ -53,6 +54,7 @@ impl<'t> Cells<'t> {
             if value.surely_fits(level) {
                 return Ok(Built::Value(value));
             }
+            drop(value);
         }
         self.build_measured(alloc, places, pattern, level)
     }
@@ -101,6 +103,7 @@ impl<'t> Cells<'t> {
                 return Ok(Built::Value(value));
             }
             self.measure(places, pattern, limit);
+            drop(value);
         }
         let Some(mut value) = self.instance(alloc, places, pattern)? else {
             return Ok(Built::Nothing);
@@ -108,6 +111,7 @@ impl<'t> Cells<'t> {
         if value.fits(level) {
             Ok(Built::Value(value))
         } else {
+            drop(value);
             Ok(Built::Big)
         }
     }
@@ -124,31 +128,69 @@ impl<'t> Cells<'t> {
     {
         match pattern.form() {
             PlaceForm::Wildcard => Ok(None),
-            PlaceForm::Variable(x) => match self.bound(places, *x) {
-                None => Ok(None),
-                Some(value) => Ok(Some(value.try_clone()?)),
-            },
+            PlaceForm::Variable(x) => self.held(places, *x),
             PlaceForm::At(_, _) => Ok(None),
             PlaceForm::Integer(number) => Ok(Some(Value::leaf(Kind::Integer(*number)))),
             PlaceForm::Compound(head, parts) => self.compound(alloc, places, kind_of(head), parts),
-            PlaceForm::WithTail(parts, tail) => {
-                let Some(behind) = self.instance(alloc, places, tail)? else {
-                    return Ok(None);
-                };
-                if !is_list(&behind) {
-                    return Ok(None);
-                }
-                self.in_front(alloc, places, parts, &behind)
-            }
-            PlaceForm::Annotated(inner, notes) => {
-                let Some(value) = self.instance(alloc, places, inner)? else {
-                    return Ok(None);
-                };
-                match self.instances(alloc, places, notes)? {
-                    None => Ok(None),
-                    Some(notes) => Ok(Some(value.with_annotations(alloc, notes)?)),
-                }
-            }
+            PlaceForm::WithTail(parts, tail) => self.with_tail(alloc, places, parts, tail),
+            PlaceForm::Annotated(inner, notes) => self.annotated(alloc, places, inner, notes),
+        }
+    }
+
+    // The instances of these patterns in front of the instance of the tail, where that is a list.
+    #[cycle(instance)]
+    #[inline(always)]
+    fn with_tail<P: Places>(
+        &self,
+        alloc: Global,
+        places: &P,
+        parts: &'t [Place],
+        tail: &'t Place,
+    ) -> Result<Option<Value<'t>>, NoMemory>
+        ensures { IfOk result (λ value. value
+            ≡ build_place (with_tail (places_of parts.now) tail.now) (P.places places.now) self.now.bindings) }
+    {
+        let behind = self.instance(alloc, places, tail)?;
+        let value = self.in_front(alloc, places, parts, &behind);
+        drop(behind);
+        value
+    }
+
+    // The instance of a pattern with the instances of others as annotations.
+    #[cycle(instance)]
+    #[inline(always)]
+    fn annotated<P: Places>(
+        &self,
+        alloc: Global,
+        places: &P,
+        inner: &'t Place,
+        notes: &'t [Place],
+    ) -> Result<Option<Value<'t>>, NoMemory>
+        ensures { IfOk result (λ value. value
+            ≡ build_place (annotated inner.now (places_of notes.now)) (P.places places.now) self.now.bindings) }
+    {
+        let value = self.instance(alloc, places, inner)?;
+        let with = self.with_notes(alloc, places, &value, notes);
+        drop(value);
+        with
+    }
+
+    // A term, if there is one, with the instances of patterns as annotations.
+    #[cycle(instance)]
+    #[inline(always)]
+    fn with_notes<P: Places>(
+        &self,
+        alloc: Global,
+        places: &P,
+        value: &Option<Value<'t>>,
+        notes: &'t [Place],
+    ) -> Result<Option<Value<'t>>, NoMemory>
+        ensures { IfOk result (λ with. with ≡ option_and_then (λ u. option_map (with_annotations u)
+            (build_places (places_of notes.now) (P.places places.now) self.now.bindings)) value.now) }
+    {
+        match value {
+            None => Ok(None),
+            Some(value) => noted(alloc, value, self.instances(alloc, places, notes)?),
         }
     }
 
@@ -165,53 +207,61 @@ impl<'t> Cells<'t> {
             ≡ option_map (λ us. made_of kind.entry us []) (build_places (places_of parts.now) (P.places places.now) self.now.bindings)) }
     {
         if parts.len() == 1 {
-            return match self.instance(alloc, places, &parts[0])? {
-                None => Ok(None),
-                Some(child) => Ok(Some(Value::one(alloc, kind, child)?)),
-            };
+            return over_one(alloc, kind, self.instance(alloc, places, &parts[0])?);
         }
         if parts.len() == 2 {
-            let Some(first) = self.instance(alloc, places, &parts[0])? else {
-                return Ok(None);
-            };
-            return match self.instance(alloc, places, &parts[1])? {
-                None => Ok(None),
-                Some(second) => Ok(Some(Value::two(alloc, kind, first, second)?)),
-            };
+            return self.over_two(alloc, places, kind, &parts[0], &parts[1]);
         }
-        match self.instances(alloc, places, parts)? {
+        over_all(alloc, kind, self.instances(alloc, places, parts)?)
+    }
+
+    // A node over the instances of two patterns.
+    #[cycle(instance)]
+    #[inline(always)]
+    fn over_two<P: Places>(
+        &self,
+        alloc: Global,
+        places: &P,
+        kind: Kind<'t>,
+        left: &'t Place,
+        right: &'t Place,
+    ) -> Result<Option<Value<'t>>, NoMemory>
+        ensures { IfOk result (λ value. value
+            ≡ option_map (λ us. made_of kind.entry us []) (build_places (places_of (left.now ∷ right.now ∷ [])) (P.places places.now) self.now.bindings)) }
+    {
+        match self.instance(alloc, places, left)? {
             None => Ok(None),
-            Some(children) => Ok(Some(Value::build(alloc, kind, children)?)),
+            Some(first) => over_both(alloc, kind, first, self.instance(alloc, places, right)),
         }
     }
 
-    // The list of the instances of these patterns in front of the elements of a list.
+    // The list of the instances of these patterns in front of the elements of a list, if there is one.
     #[cycle(instance)]
     fn in_front<P: Places>(
         &self,
         alloc: Global,
         places: &P,
         parts: &'t [Place],
-        behind: &Value<'t>,
+        behind: &Option<Value<'t>>,
     ) -> Result<Option<Value<'t>>, NoMemory>
-        ensures { IfOk result (λ value. value
-            ≡ option_map (λ us. list_term (us ++ children behind.now)) (build_places (places_of parts.now) (P.places places.now) self.now.bindings)) }
+        ensures { IfOk result (λ value. value ≡ option_and_then (λ us. option_map (λ vs. list_term (us ++ vs))
+            (option_and_then elements behind.now)) (build_places (places_of parts.now) (P.places places.now) self.now.bindings)) }
     {
+        let Some(behind) = behind else {
+            return Ok(None);
+        };
+        if !is_list(behind) {
+            return Ok(None);
+        }
         // more elements than a machine's number tells find no memory
         let _count = behind
             .child_count()
             .checked_add(parts.len())
             .ok_or(NoMemory)?;
         if parts.len() == 1 {
-            return match self.instance(alloc, places, &parts[0])? {
-                None => Ok(None),
-                Some(first) => Ok(Some(Value::cons(alloc, first, behind)?)),
-            };
+            return one_in_front(alloc, self.instance(alloc, places, &parts[0])?, behind);
         }
-        match self.instances(alloc, places, parts)? {
-            None => Ok(None),
-            Some(front) => Ok(Some(Value::join(alloc, front, behind)?)),
-        }
+        all_in_front(alloc, self.instances(alloc, places, parts)?, behind)
     }
 
     // The instances of these patterns, if each has one.
@@ -291,6 +341,17 @@ impl<'t> Cells<'t> {
             }
         }
         true
+    }
+
+    // What a variable is bound to, held once more.
+    #[inline(always)]
+    fn held<P: Places>(&self, places: &P, variable: usize) -> Result<Option<Value<'t>>, NoMemory>
+        ensures { IfOk result (λ value. value ≡ bound_to (P.places places.now) variable self.now.bindings) }
+    {
+        match self.bound(places, variable) {
+            None => Ok(None),
+            Some(value) => Ok(Some(value.try_clone()?)),
+        }
     }
 
     // What a variable is bound to.
@@ -381,6 +442,107 @@ fn constant<'t>(pattern: &'t Place) -> Option<Value<'t>>
             Some(Value::leaf(kind_of(head)))
         }
         _ => None,
+    }
+}
+
+// A node over a term, if there is one.
+#[inline(always)]
+fn over_one<'t>(
+    alloc: Global,
+    kind: Kind<'t>,
+    child: Option<Value<'t>>,
+) -> Result<Option<Value<'t>>, NoMemory>
+    ensures { IfOk result (λ value. value ≡ option_map (λ u. made_of kind.entry (u ∷ []) []) child.entry) }
+{
+    match child {
+        None => Ok(None),
+        Some(child) => Ok(Some(Value::one(alloc, kind, child)?)),
+    }
+}
+
+// A node over a term and another, if there is one.
+#[inline(always)]
+fn over_both<'t>(
+    alloc: Global,
+    kind: Kind<'t>,
+    first: Value<'t>,
+    second: Result<Option<Value<'t>>, NoMemory>,
+) -> Result<Option<Value<'t>>, NoMemory>
+    ensures { IfOk result (λ value. (there : Option Tree) × (second.entry ≡ Ok there)
+        × (value ≡ option_map (λ u. made_of kind.entry (first.entry ∷ u ∷ []) []) there)) }
+{
+    match second {
+        Ok(Some(second)) => Ok(Some(Value::two(alloc, kind, first, second)?)),
+        Ok(None) => {
+            drop(first);
+            Ok(None)
+        }
+        Err(refused) => {
+            drop(first);
+            Err(refused)
+        }
+    }
+}
+
+// A node over terms, if they are there.
+#[inline(always)]
+fn over_all<'t>(
+    alloc: Global,
+    kind: Kind<'t>,
+    children: Option<Vec<Value<'t>>>,
+) -> Result<Option<Value<'t>>, NoMemory>
+    ensures { IfOk result (λ value. value ≡ option_map (λ us. made_of kind.entry us.items []) children.entry) }
+{
+    match children {
+        None => Ok(None),
+        Some(children) => Ok(Some(Value::build(alloc, kind, children)?)),
+    }
+}
+
+// The list of a term, if there is one, in front of the elements of another.
+#[inline(always)]
+fn one_in_front<'t>(
+    alloc: Global,
+    first: Option<Value<'t>>,
+    behind: &Value<'t>,
+) -> Result<Option<Value<'t>>, NoMemory>
+    requires { length (children behind.now) + 1 < 2 ^ 64 }
+    ensures { IfOk result (λ value. value ≡ option_map (λ u. list_term (u ∷ children behind.now)) first.entry) }
+{
+    match first {
+        None => Ok(None),
+        Some(first) => Ok(Some(Value::cons(alloc, first, behind)?)),
+    }
+}
+
+// The list of terms, if they are there, in front of the elements of another.
+#[inline(always)]
+fn all_in_front<'t>(
+    alloc: Global,
+    front: Option<Vec<Value<'t>>>,
+    behind: &Value<'t>,
+) -> Result<Option<Value<'t>>, NoMemory>
+    requires { IfSome front (λ us. length us.items + length (children behind.now) < 2 ^ 64) }
+    ensures { IfOk result (λ value. value ≡ option_map (λ us. list_term (us.items ++ children behind.now)) front.entry) }
+{
+    match front {
+        None => Ok(None),
+        Some(front) => Ok(Some(Value::join(alloc, front, behind)?)),
+    }
+}
+
+// A term with others as annotations, if they are there.
+#[inline(always)]
+fn noted<'t>(
+    alloc: Global,
+    value: &Value<'t>,
+    notes: Option<Vec<Value<'t>>>,
+) -> Result<Option<Value<'t>>, NoMemory>
+    ensures { IfOk result (λ with. with ≡ option_map (λ us. with_annotations value.now us.items) notes.entry) }
+{
+    match notes {
+        None => Ok(None),
+        Some(notes) => Ok(Some(value.with_annotations(alloc, notes)?)),
     }
 }
 

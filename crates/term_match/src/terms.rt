@@ -41,7 +41,9 @@ impl<'t> Cells<'t> {
         ensures stays { Stays (mark_of self.old) self.old self.new }
     {
         let value = Value::original(term);
-        self.matches(alloc, places, pattern, &value)
+        let matched = self.matches(alloc, places, pattern, &value);
+        drop(value);
+        matched
     }
 
     /// `build` with a term of its own.
@@ -56,7 +58,11 @@ impl<'t> Cells<'t> {
         ensures ok { IfOk result (λ built. BuildsTerm (build_place pattern.now (P.places places.now) self.old.bindings) level built) }
     {
         match self.build(alloc, places, pattern, level)? {
-            Built::Value(value) => Ok(BuiltTerm::Term(value.to_term(alloc)?)),
+            Built::Value(value) => {
+                let term = value.to_term(alloc);
+                drop(value);
+                Ok(BuiltTerm::Term(term?))
+            }
             Built::Nothing => Ok(BuiltTerm::Nothing),
             Built::Big => Ok(BuiltTerm::Big),
         }

@@ -1,20 +1,32 @@
-use Rattle.std.proofs.Common.{◌≡◌, ◌+◌, ◌*◌, ◌++◌, drop, option_map}
+use Rattle.std.proofs.Common.{◌≡◌, ◌+◌, ◌*◌, ◌++◌, max, drop, option_map}
 use Rattle.strategy_syntax.specs.Resolved.{places_of}
 use Rattle.strategy_syntax.specs.PlaceView.{place_depth, places_depth}
 use Rattle.strategy_meaning.specs.Matching.{build_places}
 use Rattle.term_match.proofs.cells.Cells.+instance.Given as goal
 
 abbrev pub decreases-instance : goal.decreases-instance
-decreases-instance g l = 3 * place_depth l.pattern.now
+decreases-instance g l = 4 * place_depth l.pattern.now
+
+abbrev pub decreases-with_tail : goal.decreases-with_tail
+decreases-with_tail g l = 4 * max (places_depth (places_of l.parts.now)) (place_depth l.tail.now) + 3
+
+abbrev pub decreases-annotated : goal.decreases-annotated
+decreases-annotated g l = 4 * max (place_depth l.inner.now) (places_depth (places_of l.notes.now)) + 3
+
+abbrev pub decreases-with_notes : goal.decreases-with_notes
+decreases-with_notes g l = 4 * places_depth (places_of l.notes.now) + 2
 
 abbrev pub decreases-compound : goal.decreases-compound
-decreases-compound g l = 3 * places_depth (places_of l.parts.now) + 2
+decreases-compound g l = 4 * places_depth (places_of l.parts.now) + 2
+
+abbrev pub decreases-over_two : goal.decreases-over_two
+decreases-over_two g l = 4 * max (place_depth l.left.now) (place_depth l.right.now) + 1
 
 abbrev pub decreases-in_front : goal.decreases-in_front
-decreases-in_front g l = 3 * places_depth (places_of l.parts.now) + 2
+decreases-in_front g l = 4 * places_depth (places_of l.parts.now) + 2
 
 abbrev pub decreases-instances : goal.decreases-instances
-decreases-instances g l = 3 * places_depth (places_of l.parts.now) + 1
+decreases-instances g l = 4 * places_depth (places_of l.parts.now) + 1
 
 abbrev pub invariant-instances-loop-part : goal.invariant-instances-loop-part
 invariant-instances-loop-part g l =
