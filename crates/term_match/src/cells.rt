@@ -145,9 +145,16 @@ impl<'t> Cells<'t> {
         ensures ok { OnOk result (self.new.bindings ≡ slice_set self.old.bindings i (Some value.entry)) }
         ensures grows { Grows self.old self.new }
     {
-        self.filled.push(i)?;
-        self.cells[i] = Some(value);
-        Ok(())
+        match self.filled.push(i) {
+            Ok(()) => {
+                drop(self.cells[i].replace(value));
+                Ok(())
+            }
+            Err(refused) => {
+                drop(value);
+                Err(NoMemory::from(refused))
+            }
+        }
     }
 }
 

@@ -1,9 +1,10 @@
 //! Matching a pattern with a tree.
 
 ghost use Rattle.std.specs.Prelude.{◌≡◌, ◌≤◌, length, take, drop, cond, true, false, IfOk, OnErr, Some, None};
-ghost use Rattle.term_core.specs.Tree.{children, annotations, list_term};
+ghost use Rattle.term_core.specs.Tree.{children, annotations, bare, list_term};
 ghost use Rattle.strategy_syntax.specs.Resolved.{places_of};
 ghost use Rattle.strategy_meaning.specs.Matching.{match_place, match_places, bind, elements, is_integer, is_headed};
+ghost use Rattle.term_match.specs.Binding.{Says};
 ghost use Rattle.term_match.specs.Marks.{mark_of, Before, Stays, Grows};
 
 use crate::cells::Cells;
@@ -12,6 +13,14 @@ use std::alloc::Global;
 use strategy_syntax::{Head, Place, PlaceForm};
 use term_core::{Kind, NoMemory};
 use term_values::Value;
+
+// What the cell of a variable says of a term.
+enum Said {
+    // It is empty, and has this number.
+    Empty(usize),
+    // Whether it has the same term.
+    Same(bool),
+}
 
 impl<'t> Cells<'t> {
     /// Whether the pattern matches the value. Where it does, variables that had none have their terms;
@@ -89,13 +98,32 @@ impl<'t> Cells<'t> {
                 self.match_rest(alloc, places, tail, value, parts.len())
             }
             PlaceForm::Annotated(inner, notes) => {
-                let bare = value.bare()?;
-                if !self.match_part(alloc, places, inner, &bare)? {
+                if !self.match_bare(alloc, places, inner, value)? {
                     return Ok(false);
                 }
                 self.match_notes(alloc, places, notes, value)
             }
         }
+    }
+
+    // Matches the value without its annotations.
+    #[cycle(match_part)]
+    #[inline(always)]
+    fn match_bare<P: Places>(
+        &mut self,
+        alloc: Global,
+        places: &P,
+        pattern: &Place,
+        value: &Value<'t>,
+    ) -> Result<bool, NoMemory>
+        ensures ok { IfOk result (λ yes. match_place pattern.now (bare value.now) (P.places places.now) self.old.bindings
+            ≡ cond yes (Some self.new.bindings) None) }
+        ensures grows { Grows self.old self.new }
+    {
+        let bare = value.bare()?;
+        let matched = self.match_part(alloc, places, pattern, &bare);
+        drop(bare);
+        matched
     }
 
     // Matches the list of the children behind the first ones, without annotations.
@@ -114,7 +142,9 @@ impl<'t> Cells<'t> {
         ensures grows { Grows self.old self.new }
     {
         let rest = value.rest(alloc, skipped)?;
-        self.match_part(alloc, places, pattern, &rest)
+        let matched = self.match_part(alloc, places, pattern, &rest);
+        drop(rest);
+        matched
     }
 
     // Matches the first children, one with each pattern.
@@ -155,9 +185,16 @@ impl<'t> Cells<'t> {
         ensures grows { Grows self.old self.new }
     {
         match pattern.form() {
-            PlaceForm::Wildcard => Ok(true),
+            PlaceForm::Wildcard => {
+                drop(value);
+                Ok(true)
+            }
             PlaceForm::Variable(x) => self.bind_owned(places, *x, value),
-            _ => self.match_part(alloc, places, pattern, &value),
+            _ => {
+                let matched = self.match_part(alloc, places, pattern, &value);
+                drop(value);
+                matched
+            }
         }
     }
 
@@ -197,17 +234,13 @@ impl<'t> Cells<'t> {
             ≡ cond yes (Some self.new.bindings) None) }
         ensures grows { Grows self.old self.new }
     {
-        let Some(i) = places.cell(variable) else {
-            return Ok(false);
-        };
-        if i >= self.cells.len() {
-            return Ok(false);
+        match self.look(places, variable, value) {
+            Said::Same(same) => Ok(same),
+            Said::Empty(i) => {
+                self.fill(i, value.try_clone()?)?;
+                Ok(true)
+            }
         }
-        if let Some(bound) = self.get(i) {
-            return Ok(bound.equals(value));
-        }
-        self.fill(i, value.try_clone()?)?;
-        Ok(true)
     }
 
     // The same for a value that is given away.
@@ -221,17 +254,33 @@ impl<'t> Cells<'t> {
             ≡ cond yes (Some self.new.bindings) None) }
         ensures grows { Grows self.old self.new }
     {
+        match self.look(places, variable, &value) {
+            Said::Same(same) => {
+                drop(value);
+                Ok(same)
+            }
+            Said::Empty(i) => {
+                self.fill(i, value)?;
+                Ok(true)
+            }
+        }
+    }
+
+    // Looks at the cell of a variable for a term.
+    #[inline(always)]
+    fn look<P: Places>(&self, places: &P, variable: usize, value: &Value<'t>) -> Said
+        ensures { Says (P.places places.now) variable value.now self.now.bindings result }
+    {
         let Some(i) = places.cell(variable) else {
-            return Ok(false);
+            return Said::Same(false);
         };
         if i >= self.cells.len() {
-            return Ok(false);
+            return Said::Same(false);
         }
-        if let Some(bound) = self.get(i) {
-            return Ok(bound.equals(&value));
+        match self.get(i) {
+            None => Said::Empty(i),
+            Some(bound) => Said::Same(bound.equals(value)),
         }
-        self.fill(i, value)?;
-        Ok(true)
     }
 }
 

@@ -10,6 +10,9 @@ use Rattle.term_match.proofs.cells.Cells.+match_part.Given as goal
 abbrev pub decreases-match_part : goal.decreases-match_part
 decreases-match_part g l = 3 * place_depth l.pattern.now
 
+abbrev pub decreases-match_bare : goal.decreases-match_bare
+decreases-match_bare g l = 3 * place_depth l.pattern.now + 1
+
 abbrev pub decreases-match_rest : goal.decreases-match_rest
 decreases-match_rest g l = 3 * place_depth l.pattern.now + 1
 

@@ -3,9 +3,9 @@ use Rattle.term_match.specs.Contents.{Contents}
 use Rattle.term_match.proofs.MarkLemmas.{fill_grows}
 use Rattle.term_match.proofs.cells.Cells.fill.Goals as goal
 
-pub returns-clause-grows : goal.returns-clause-grows
-returns-clause-grows c =
+pub returns-in-Ok-clause-grows : goal.returns-in-Ok-clause-grows
+returns-in-Ok-clause-grows c =
     let v = c.self.view_is in
     fill_grows c.args.self.now _ c.args.i (Some c.args.value) c.requires
-    (ap (λ (x : Contents). set x.bindings c.args.i (Some c.args.value)) v)
-    (c.in_ok-push.ensures.items ∙ ap (λ (x : Contents). x.filled ++ c.args.i ∷ []) v)
+    (λ k. set (v k).bindings c.args.i (c.replace.ensures.after k))
+    (c.in-Ok.ensures.items ∙ ap (λ (x : Contents). x.filled ++ c.args.i ∷ []) v)
