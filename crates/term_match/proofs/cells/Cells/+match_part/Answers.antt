@@ -1,14 +1,15 @@
 use Rattle.std.proofs.Common.{◌≡◌, ◌<◌, take, drop, length, cond, List, sym, ap, ◌∙◌, subst, arith, rules, Some, None}
-use Rattle.std.specs.Prelude.{IfOk}
+use Rattle.std.specs.Prelude.{IfOk, slice_get}
 use Rattle.std.specs.declared.option.Option.{Option}
-use Rattle.std.proofs.lemmas.List.{take_all}
+use Rattle.std.proofs.lemmas.List.{length-take, take_all}
+use Rattle.std.proofs.lemmas.Option.{slice_get-get_or}
 use Rattle.term_core.specs.Tree.{Tree, children, annotations, list_term}
 use Rattle.strategy_syntax.specs.Resolved.{Place, wildcard, compound, with_tail, places_of}
 use Rattle.strategy_syntax.specs.Heads.{head_of}
 use Rattle.strategy_syntax.specs.PlaceView.{place_of}
 use Rattle.strategy_meaning.specs.Matching.{Bindings, match_place, match_places}
 use Rattle.term_match.proofs.MarkLemmas.{grows_then}
-use Rattle.term_match.proofs.MatchLemmas.{depth_read, yes_then, no_then, is_of_head, counts_differ, matched_next, matched_no, matched_missing, slice_get_front, compound_matched, tail_listed, tail_short}
+use Rattle.term_match.proofs.MatchLemmas.{depth_read, yes_then, no_then, is_of_head, counts_differ, matched_next, matched_no, matched_missing, matched_all, slice_get_front, compound_matched, tail_listed, tail_short}
 use Rattle.term_match.proofs.cells.Cells.+match_part.Goals as goal
 
 pub match_children-returns-in_default-clause-ok : goal.match_children-returns-in_default-clause-ok
@@ -125,3 +126,73 @@ match_part-returns-else-not-branch-2-clause-ok g t c =
     ∙ sym (whole ∙ yes_then (match_places (places_of ps) (take (length ps) (children v)) E B) _ B1 c.in_ok-match_children-in-WithTail.field-0
     c.in_ok-match_children-in-WithTail.ensures.ok c.if-not-branch-2.false))
     c.match_rest.ensures.ok
+
+pub match_part-returns-else-not-branch-clause-grows : goal.match_part-returns-else-not-branch-clause-grows
+match_part-returns-else-not-branch-clause-grows g t c =
+    grows_then c.args.self.now c.bind-in-At.new.self c.match_part.new.self c.in_ok-bind-in-At.ensures.grows c.match_part.ensures.grows
+
+pub match_part-returns-else-not-branch-2-clause-grows : goal.match_part-returns-else-not-branch-2-clause-grows
+match_part-returns-else-not-branch-2-clause-grows g t c =
+    grows_then c.args.self.now c.match_children-in-WithTail.new.self c.match_rest.new.self
+    c.in_ok-match_children-in-WithTail.ensures.grows c.match_rest.ensures.grows
+
+pub match_part-returns-else-not-branch-3-clause-grows : goal.match_part-returns-else-not-branch-3-clause-grows
+match_part-returns-else-not-branch-3-clause-grows g t c =
+    grows_then c.args.self.now c.match_bare.new.self c.match_notes.new.self c.in_ok-match_bare-in-Annotated.ensures.grows c.match_notes.ensures.grows
+
+pub match_children-returns-in_err-match_child-clause-grows : goal.match_children-returns-in_err-match_child-clause-grows
+match_children-returns-in_err-match_child-clause-grows g t c =
+    grows_then c.args.self.now c.loop-i.self c.match_child.new.self c.loop-i.invariant.grows c.in_err-match_child.ensures.grows
+
+pub match_children-returns-then-not-branch-clause-grows : goal.match_children-returns-then-not-branch-clause-grows
+match_children-returns-then-not-branch-clause-grows g t c =
+    grows_then c.args.self.now c.loop-i.self c.match_child.new.self c.loop-i.invariant.grows c.in_ok-match_child.ensures.grows
+
+pub match_notes-returns-in_err-match_part-clause-grows : goal.match_notes-returns-in_err-match_part-clause-grows
+match_notes-returns-in_err-match_part-clause-grows g t c =
+    grows_then c.args.self.now c.loop-i.self c.match_part.new.self c.loop-i.invariant.grows c.in_err-match_part.ensures.grows
+
+pub match_notes-returns-then-not-branch-clause-grows : goal.match_notes-returns-then-not-branch-clause-grows
+match_notes-returns-then-not-branch-clause-grows g t c =
+    grows_then c.args.self.now c.loop-i.self c.match_part.new.self c.loop-i.invariant.grows c.in_ok-match_part.ensures.grows
+
+pub match_children-returns-clause-ok : goal.match_children-returns-clause-ok
+match_children-returns-clause-ok g t c =
+    let ps = c.args.patterns.now in
+    let us = children c.args.value.now in
+    matched_all ps (take (length ps) us) (g.P.Places.places c.args.places.now) _ c.loop-i.i c.loop-i.self.bindings c.loop-i-test.false
+    (omega (arith, c.loop-i-test.false, length-take (length ps) us)) c.loop-i.invariant.matched
+
+pub match_notes-returns-then-not-branch-clause-ok : goal.match_notes-returns-then-not-branch-clause-ok
+match_notes-returns-then-not-branch-clause-ok g t c =
+    let ps = c.args.patterns.now in
+    let E = g.P.Places.places c.args.places.now in
+    let inside : c.loop-i.i < length c.in_ok-notes.notes.items =
+    omega (arith, ap length c.in_ok-notes.ensures, c.annotation_count.ensures, c.if-annotation_count-patterns.false, c.loop-i-test.true) in
+    let there : slice_get c.in_ok-notes.notes.items c.loop-i.i ≡ Some c.index.result.now =
+    slice_get-get_or c.in_ok-notes.notes.items c.loop-i.i c.index.result.now inside ∙ ap Some (sym c.index.ensures) in
+    matched_no ps c.in_ok-notes.notes.items E _ c.loop-i.i c.loop-i.self.bindings _
+    c.index-patterns-i.result c.index.result.now c.in_ok-match_part.field-0 c.loop-i-test.true c.index-patterns-i.is there
+    (c.loop-i.invariant.matched ∙ ap (λ (ts : List Tree). match_places (places_of ps) ts E c.args.self.now.bindings) c.in_ok-notes.ensures)
+    c.in_ok-match_part.ensures.ok c.if-not-branch.true
+
+pub match_notes-loop-i-preserved : goal.match_notes-loop-i-preserved
+match_notes-loop-i-preserved g t c =
+    let inside : c.loop-i.i < length c.in_ok-notes.notes.items =
+    omega (arith, ap length c.in_ok-notes.ensures, c.annotation_count.ensures, c.if-annotation_count-patterns.false, c.loop-i-test.true) in
+    let there : slice_get c.in_ok-notes.notes.items c.loop-i.i ≡ Some c.index.result.now =
+    slice_get-get_or c.in_ok-notes.notes.items c.loop-i.i c.index.result.now inside ∙ ap Some (sym c.index.ensures) in
+    record {
+      matched = matched_next c.args.patterns.now c.in_ok-notes.notes.items (g.P.Places.places c.args.places.now) _ c.loop-i.i
+          c.loop-i.self.bindings _ c.index-patterns-i.result c.index.result.now c.in_ok-match_part.field-0 c.loop-i-test.true
+          c.index-patterns-i.is there c.loop-i.invariant.matched c.in_ok-match_part.ensures.ok c.if-not-branch.false;
+      grows = grows_then c.args.self.now c.loop-i.self c.match_part.new.self c.loop-i.invariant.grows c.in_ok-match_part.ensures.grows;
+    }
+
+pub match_notes-returns-clause-ok : goal.match_notes-returns-clause-ok
+match_notes-returns-clause-ok g t c =
+    let ps = c.args.patterns.now in
+    let E = g.P.Places.places c.args.places.now in
+    matched_all ps c.in_ok-notes.notes.items E _ c.loop-i.i c.loop-i.self.bindings c.loop-i-test.false
+    (omega (arith, ap length c.in_ok-notes.ensures, c.annotation_count.ensures, c.if-annotation_count-patterns.false, c.loop-i-test.false))
+    (c.loop-i.invariant.matched ∙ ap (λ (ts : List Tree). match_places (places_of ps) ts E c.args.self.now.bindings) c.in_ok-notes.ensures)
