@@ -63,12 +63,30 @@ pub fn evaluate<M: Meaning>(
     ensures { IfOk result (λ evaluated. IsAnswered evaluated
         (run_whole (world_of M.meaning program.now.bodies primitives.now) level strategy.now steps term.now)) }
 {
+    let mut m = Machine::new(alloc, Trail::counted(), term, level, steps);
+    evaluate_by(alloc, program, primitives, &mut m, term, strategy)
+}
+
+// Evaluates it by a machine in which nothing waits. The machine is lent, since whoever holds it drops it on each
+// way out.
+fn evaluate_by<'t, M: Meaning>(
+    alloc: Global,
+    program: &'t Program,
+    primitives: &'t Primitives<M>,
+    m: &mut Machine<'t>,
+    term: &'t Term,
+    strategy: &'t Resolved,
+) -> Result<Evaluated, NoMemory>
+    requires empty { IsEmpty m.old }
+    requires low { m.old.level + height term.now ≤ MAX_HEIGHT }
+    ensures { IfOk result (λ evaluated. IsAnswered evaluated
+        (run_whole (world_of M.meaning program.entry.now.bodies primitives.entry.now) m.old.level strategy.entry.now m.old.steps term.entry.now)) }
+{
     let host = Host {
         definitions: program.definitions(),
         primitives,
     };
-    let mut m = Machine::new(alloc, Trail::counted(), term, level, steps);
-    match run_to_end(alloc, &host, &mut m, strategy, term)? {
+    match run_to_end(alloc, &host, m, strategy, term)? {
         Ended::Done => Ok(Evaluated::Done(m.part.value()?.to_term(alloc)?)),
         Ended::Failed => Ok(Evaluated::Failed),
         Ended::Spent => Ok(Evaluated::Spent),
