@@ -1,18 +1,18 @@
 -- The first element of a list, and the list of the others behind it.
-use Rattle.std.proofs.Common.{◌≡◌, ◌≤◌, ℕ, ◌+◌, ◌-◌, List, [], ◌∷◌, ◌++◌, length, map, take, drop, refl, sym, ap, ◌∙◌, subst, arith, Some, None, Bool, true, false, cond, not, ◌==◌, Bor, Vec, Global, slice_get, slice_set}
+use Rattle.std.proofs.Common.{◌≡◌, ◌≤◌, ℕ, ◌+◌, List, [], ◌∷◌, ◌++◌, length, map, take, drop, refl, sym, ap, ◌∙◌, subst, arith, Some, None, Bool, true, false, cond, not, ◌==◌, Bor, Vec, Global, slice_get, slice_set}
 use Rattle.std.specs.declared.option.Option.{Option}
 use Rattle.term_core.specs.Tree.{Tree, integer, branch, application, list, tuple, children}
-use Rattle.term_paths.specs.Edits.{Edits, behind}
+use Rattle.term_paths.specs.Edits.{Edits}
 use Rattle.term_changes.specs.Standing.{Standing, fresh, standing_tree, standing_children}
 use Rattle.strategy_syntax.specs.Resolved.{ResolvedStrategy, tail_congruence, no_strategies, and_strategy}
 use Rattle.strategy_meaning.specs.Scopes.{Scope}
 use Rattle.strategy_meaning.specs.Matching.{elements}
-use Rattle.strategy_meaning.specs.Answer.{Answer, done, failed, and_then, at_root}
-use Rattle.strategy_meaning.specs.Meaning.{World, run, form, on_child, each, rest_of, with_rest, on_rest, is_list_from}
+use Rattle.strategy_meaning.specs.Answer.{Answer, done, and_then, at_root}
+use Rattle.strategy_meaning.specs.Meaning.{World, run, form, on_child, rest_of, with_rest, on_rest, is_list_from}
 use Rattle.strategy_scopes.specs.Table.{scope_at}
 use Rattle.term_match.specs.Contents.{Contents}
 use Rattle.term_match.specs.Marks.{mark_of}
-use Rattle.strategy_run.specs.Leading.{Has, node_now, parts_now, all_parts, node_with, PartsStand}
+use Rattle.strategy_run.specs.Leading.{parts_now, all_parts, node_with, PartsStand}
 use Rattle.strategy_run.specs.Trails.{Shows, path_of}
 use Rattle.strategy_run.specs.Frames.{Opens, Meets, put_back, walked, walk_parts, first_part, after_head, after_rest}
 use Rattle.strategy_run.specs.Turns.{State, HoldsIn, FormIn}

@@ -1,4 +1,4 @@
-use Rattle.std.proofs.Common.{◌≡◌, ◌∙◌, length, Some, subst, arith}
+use Rattle.std.proofs.Common.{length, subst}
 use Rattle.term_changes.specs.Standing.{unchanged}
 use Rattle.strategy_meaning.specs.Meaning.{run_whole}
 use Rattle.strategy_run.specs.Turns.{world_of, state_of}
