@@ -1,6 +1,6 @@
 //! Strategies over children.
 
-ghost use Rattle.std.specs.Prelude.{◌≡◌, ℕ, suc, ◌-◌, [], ◌∷◌, cond, MatchOption, IfOk, IfSome, OnOk, slice_get, slice_set};
+ghost use Rattle.std.specs.Prelude.{◌≡◌, ℕ, suc, ◌-◌, [], ◌∷◌, ◌++◌, cond, MatchOption, IfOk, IfSome, OnOk, slice_get, slice_set};
 ghost use Rattle.term_core.specs.Tree.{children};
 ghost use Rattle.term_changes.specs.Standing.{standing_tree, standing_children};
 ghost use Rattle.strategy_meaning.specs.Meaning.{World};
@@ -9,7 +9,7 @@ ghost use Rattle.strategy_run.specs.Leading.{PartsStand, Fills, all_parts, node_
 ghost use Rattle.strategy_run.specs.Hands.{Each, Leftmost, Those};
 ghost use Rattle.strategy_run.specs.Turns.{Turn, Falls};
 
-use crate::frames::{Acts, Frame, Next, Turned, Walk, wait};
+use crate::frames::{Acts, Frame, Next, Turned, Walk, drop_part, wait};
 use crate::give::end_each;
 use crate::machine::Machine;
 use std::alloc::Global;
@@ -133,22 +133,48 @@ pub(crate) fn settle<'t>(
         ≡ cond changed (slice_set (parts_now node.now (all_parts node.now parts.old.items)) i part.entry) (all_parts node.now parts.old.items)) }
 {
     if !changed {
+        drop_part(part);
         return Ok(());
     }
     if i < parts.len() {
         parts[i] = part;
         return Ok(());
     }
-    fill(parts, node, i)?;
-    if parts.len() < i {
-        return Ok(());
+    match fill(parts, node, i) {
+        Ok(()) => {
+            if parts.len() < i {
+                drop_part(part);
+                return Ok(());
+            }
+            if i >= node.child_count() {
+                drop_part(part);
+                return Ok(());
+            }
+            add(parts, part)?;
+            Ok(())
+        }
+        Err(error) => {
+            drop_part(part);
+            Err(error)
+        }
     }
-    if i >= node.child_count() {
-        return Ok(());
+}
+
+// Adds it behind the others.
+#[inline(always)]
+fn add<'t>(parts: &mut Vec<Part<'t>>, part: Part<'t>) -> Result<(), NoMemory>
+    ensures { OnOk result (parts.new.items ≡ parts.old.items ++ part.entry ∷ []) }
+{
+    match parts.reserve(1) {
+        Ok(()) => {
+            parts.push_reserved(part);
+            Ok(())
+        }
+        Err(_) => {
+            drop_part(part);
+            Err(NoMemory)
+        }
     }
-    parts.reserve(1)?;
-    parts.push_reserved(part);
-    Ok(())
 }
 
 /// Goes on with the children from this one on.
@@ -174,6 +200,7 @@ pub(crate) fn go_on<'t>(
     };
     let level = m.level;
     if level == u64::MAX {
+        drop_part(child);
         return Err(NoMemory);
     }
     let node = mem::replace(&mut m.part, child);
@@ -215,6 +242,7 @@ pub(crate) fn try_on<'t>(
     };
     let level = m.level;
     if level == u64::MAX {
+        drop_part(child);
         return Err(NoMemory);
     }
     let mark = m.cells.mark();
@@ -264,6 +292,7 @@ pub(crate) fn go_over<'t>(
     };
     let level = m.level;
     if level == u64::MAX {
+        drop_part(child);
         return Err(NoMemory);
     }
     let mark = m.cells.mark();

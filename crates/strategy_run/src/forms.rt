@@ -5,7 +5,7 @@ ghost use Rattle.strategy_syntax.specs.Resolved.{matches, builds, seq, guard, te
 ghost use Rattle.strategy_meaning.specs.Meaning.{World};
 ghost use Rattle.strategy_run.specs.Turns.{Takes, TakeFalls, Replaced, world_of};
 
-use crate::frames::{Frame, Next, Turned, wait};
+use crate::frames::{Frame, Next, Turned, drop_value, put, wait};
 use crate::heads::{MOST, left_by_failure};
 use crate::machine::{Host, InTable, Machine};
 use prim_core::Meaning;
@@ -30,7 +30,9 @@ pub(crate) fn take_match<'t>(
         scopes: &m.scopes,
         scope,
     };
-    if m.cells.matches(alloc, &places, pattern, &value)? {
+    let matched = m.cells.matches(alloc, &places, pattern, &value);
+    drop_value(value);
+    if matched? {
         m.next = Next::Done;
         Ok(Turned::On)
     } else {
@@ -77,9 +79,16 @@ pub(crate) fn replace<'t>(
 ) -> Result<(), NoMemory>
     ensures { OnOk result (Replaced m.old value.entry m.new m.new.part) }
 {
-    m.trail.push(alloc, &m.frames, &value)?;
-    m.part = Part::new(value);
-    Ok(())
+    match m.trail.push(alloc, &m.frames, &value) {
+        Ok(()) => {
+            put(&mut m.part, Part::new(value));
+            Ok(())
+        }
+        Err(error) => {
+            drop_value(value);
+            Err(error)
+        }
+    }
 }
 
 /// One strategy after the other. Where the first one is a match, it is done at once.
@@ -125,7 +134,9 @@ fn match_first<'t>(
         scopes: &m.scopes,
         scope,
     };
-    if m.cells.matches(alloc, &places, pattern, &value)? {
+    let matched = m.cells.matches(alloc, &places, pattern, &value);
+    drop_value(value);
+    if matched? {
         m.next = Next::Begin(second, scope);
         Ok(Turned::On)
     } else {

@@ -5,7 +5,7 @@ ghost use Rattle.std.specs.Prelude.{◌≡◌, ◌+◌, ◌++◌, ◌∷◌, [],
 use strategy_syntax::ResolvedStrategy;
 use term_core::NoMemory;
 use term_match::Mark;
-use term_values::Part;
+use term_values::{Part, Value};
 
 /// The strategies for the children from one on.
 #[derive(Clone, Copy)]
@@ -90,6 +90,32 @@ pub enum Turned {
     Failed,
     Spent,
     Big,
+}
+
+// What owns memory is dropped by small functions: a drop is proved again at each place that has one, and each way
+// out of a function is such a place for all that it holds.
+
+#[inline(always)]
+pub(crate) fn drop_value(value: Value<'_>) {}
+
+#[inline(always)]
+pub(crate) fn drop_part(part: Part<'_>) {}
+
+#[inline(always)]
+pub(crate) fn drop_changed(part: Option<Part<'_>>) {}
+
+#[inline(always)]
+pub(crate) fn drop_parts(parts: Vec<Part<'_>>) {}
+
+#[inline(always)]
+pub(crate) fn drop_walk(walk: Walk<'_>) {}
+
+/// Puts a part in the place of another one, which is dropped here.
+#[inline(always)]
+pub(crate) fn put<'t>(place: &mut Part<'t>, part: Part<'t>)
+    ensures { place.new ≡ part.entry }
+{
+    *place = part;
 }
 
 /// Has a frame wait for the answer of the part in hand, the innermost one.

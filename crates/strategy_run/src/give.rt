@@ -1,9 +1,11 @@
 //! Answers, given to what waits for them.
 
-ghost use Rattle.std.specs.Prelude.{◌≡◌, ◌≤◌, cond, length, reverse, slice_get, Some, None, IfOk, IfSome, MatchOption, OnOk};
+ghost use Rattle.std.specs.Prelude.{◌≡◌, ◌≤◌, ◌++◌, cond, length, map, reverse, slice_get, take, Some, None, IfOk, IfSome, MatchOption, OnOk};
+ghost use Rattle.term_core.specs.Tree.{children, with_children};
+ghost use Rattle.strategy_meaning.specs.Matching.{elements};
 ghost use Rattle.strategy_meaning.specs.Answer.{Answer};
 ghost use Rattle.strategy_meaning.specs.Meaning.{World};
-ghost use Rattle.term_changes.specs.Standing.{Standing};
+ghost use Rattle.term_changes.specs.Standing.{Standing, standing_tree};
 ghost use Rattle.strategy_run.specs.Hands.{Done, Failed};
 ghost use Rattle.strategy_run.specs.Leading.{PartsStand, parts_now, all_parts, node_with};
 ghost use Rattle.strategy_run.specs.Frames.{HasNext, StepsOn, WalksOn, GoesOn, with_acts, first_part};
@@ -11,7 +13,10 @@ ghost use Rattle.strategy_run.specs.Turns.{Turn, Falls, Holds, Gives, IsOfRun, G
 
 use crate::children::{child_now, finish, first_act, settle};
 use crate::forms::replace;
-use crate::frames::{Acts, Frame, Next, Turned, Walk, wait};
+use crate::frames::{
+    Acts, Frame, Next, Turned, Walk, drop_changed, drop_part, drop_parts, drop_value, drop_walk,
+    put, wait,
+};
 use crate::heads::is_list as is_list_part;
 use crate::machine::Machine;
 use crate::tails::{first_values, in_front, is_list, rest_behind, rest_of_part, with_rest_behind};
@@ -20,7 +25,7 @@ use std::mem;
 use strategy_syntax::ResolvedStrategy;
 use term_core::NoMemory;
 use term_match::Mark;
-use term_values::Part;
+use term_values::{Part, Value};
 
 /// Gives a part that was done to the frame that waits.
 pub(crate) fn give_done<'t>(alloc: Global, m: &mut Machine<'t>) -> Result<Turned, NoMemory>
@@ -156,7 +161,7 @@ fn give<'t>(alloc: Global, m: &mut Machine<'t>, frame: Frame<'t>) -> Result<Turn
         }
         Frame::Restore(saved, edits) => {
             m.trail.cut(edits);
-            m.part = saved;
+            put(&mut m.part, saved);
             m.next = Next::Done;
             Ok(Turned::On)
         }
@@ -322,7 +327,9 @@ fn begin_tail<'t>(
     ensures less { IfOk result (λ next. GiveFalls m.old m.new next) }
 {
     let list = m.part.value()?;
-    let rest = rest_behind(alloc, &list, count)?;
+    let found = rest_behind(alloc, &list, count);
+    drop_value(list);
+    let rest = found?;
     let node = mem::replace(&mut m.part, Part::new(rest));
     let parts = mem::replace(&mut m.parts, Vec::new(alloc));
     let edits = m.trail.count;
@@ -344,17 +351,77 @@ fn give_rest<'t>(
     ensures less { IfOk result (λ next. GiveFalls m.old m.new next) }
 {
     m.trail.cut(edits);
-    let rest = m.part.value()?;
-    if !is_list(&rest) {
-        m.next = Next::Failed;
-        return Ok(Turned::On);
+    let found = behind_those(alloc, &node, &parts, count, &m.part);
+    drop_parts(parts);
+    drop_part(node);
+    match found? {
+        None => {
+            m.next = Next::Failed;
+            Ok(Turned::On)
+        }
+        Some(whole) => {
+            replace(alloc, m, whole)?;
+            m.next = Next::Done;
+            Ok(Turned::On)
+        }
+    }
+}
+
+// The same root over what stands in the places of the first so many children and the children of a list behind
+// them, where it is a list.
+#[inline(always)]
+fn behind_those<'t>(
+    alloc: Global,
+    node: &Part<'t>,
+    parts: &[Part<'t>],
+    count: usize,
+    rest: &Part<'t>,
+) -> Result<Option<Value<'t>>, NoMemory>
+    ensures { IfOk result (λ found. MatchOption found (elements (standing_tree rest.now) ≡ None)
+        (λ whole. (elements (standing_tree rest.now) ≡ Some (children (standing_tree rest.now))) × (whole ≡ with_children (standing_tree node.now)
+        (take count (map standing_tree (parts_now node.now (all_parts node.now parts.now))) ++ children (standing_tree rest.now))))) }
+{
+    let rest = rest.value()?;
+    let found = with_values(alloc, node, parts, count, &rest);
+    drop_value(rest);
+    found
+}
+
+#[inline(always)]
+fn with_values<'t>(
+    alloc: Global,
+    node: &Part<'t>,
+    parts: &[Part<'t>],
+    count: usize,
+    rest: &Value<'t>,
+) -> Result<Option<Value<'t>>, NoMemory>
+    ensures { IfOk result (λ found. MatchOption found (elements rest.now ≡ None)
+        (λ whole. (elements rest.now ≡ Some (children rest.now)) × (whole ≡ with_children (standing_tree node.now)
+        (take count (map standing_tree (parts_now node.now (all_parts node.now parts.now))) ++ children rest.now)))) }
+{
+    if !is_list(rest) {
+        return Ok(None);
     }
     let list = node.value()?;
-    let front = first_values(alloc, &node, &parts, count)?;
-    let whole = with_rest_behind(alloc, &list, front, &rest)?;
-    replace(alloc, m, whole)?;
-    m.next = Next::Done;
-    Ok(Turned::On)
+    let whole = with_list(alloc, node, parts, count, &list, rest);
+    drop_value(list);
+    Ok(Some(whole?))
+}
+
+#[inline(always)]
+fn with_list<'t>(
+    alloc: Global,
+    node: &Part<'t>,
+    parts: &[Part<'t>],
+    count: usize,
+    list: &Value<'t>,
+    rest: &Value<'t>,
+) -> Result<Value<'t>, NoMemory>
+    ensures { IfOk result (λ whole. whole ≡ with_children list.now
+        (take count (map standing_tree (parts_now node.now (all_parts node.now parts.now))) ++ children rest.now)) }
+{
+    let front = first_values(alloc, node, parts, count)?;
+    with_rest_behind(alloc, list, front, rest)
 }
 
 // The first element is done: the list of the others is a part of its own.
@@ -403,6 +470,33 @@ fn first_now<'t>(node: &Part<'t>, first: Option<Part<'t>>) -> Result<Option<Part
     }
 }
 
+// The same root over what stands in the place of the first child and the children of a list behind it.
+#[inline(always)]
+fn behind_first<'t>(
+    alloc: Global,
+    list: &Part<'t>,
+    first: Option<Part<'t>>,
+    rest: Part<'t>,
+) -> Result<Value<'t>, NoMemory>
+    requires { elements (standing_tree list.now) ≡ Some (children (standing_tree list.now)) }
+    ensures { IfOk result (λ whole. whole ≡ with_children (standing_tree list.now)
+        (take 1 (map standing_tree (parts_now list.now (all_parts list.now (first_part first.entry)))) ++ children (standing_tree rest.entry))) }
+{
+    match first_now(list, first) {
+        Ok(now) => match now {
+            Some(first) => in_front(alloc, list, first, rest),
+            None => {
+                drop_part(rest);
+                Err(NoMemory)
+            }
+        },
+        Err(error) => {
+            drop_part(rest);
+            Err(error)
+        }
+    }
+}
+
 // The others have become a list, or something else, which fails.
 fn give_behind<'t>(
     alloc: Global,
@@ -418,13 +512,12 @@ fn give_behind<'t>(
     m.trail.cut(edits);
     let rest = mem::replace(&mut m.part, node);
     if !is_list_part(&rest) {
+        drop_part(rest);
+        drop_changed(first);
         m.next = Next::Failed;
         return Ok(Turned::On);
     }
-    let Some(first) = first_now(&m.part, first)? else {
-        return Err(NoMemory);
-    };
-    let whole = in_front(alloc, &m.part, first, rest)?;
+    let whole = behind_first(alloc, &m.part, first, rest)?;
     replace(alloc, m, whole)?;
     m.next = Next::Done;
     Ok(Turned::On)
@@ -442,6 +535,14 @@ pub(crate) fn give_failed<'t>(m: &mut Machine<'t>) -> Result<Turned, NoMemory>
     }
 }
 
+// Puts parts in the place of others, which are dropped here.
+#[inline(always)]
+fn put_parts<'t>(place: &mut Vec<Part<'t>>, parts: Vec<Part<'t>>)
+    ensures { place.new ≡ parts.entry }
+{
+    *place = parts;
+}
+
 // Gives it to this frame.
 #[inline(always)]
 fn fail<'t>(m: &mut Machine<'t>, frame: Frame<'t>) -> Result<Turned, NoMemory>
@@ -457,11 +558,12 @@ fn fail<'t>(m: &mut Machine<'t>, frame: Frame<'t>) -> Result<Turned, NoMemory>
         Frame::Choose(_, other, scope, saved, edits, mark) => {
             m.trail.cut(edits);
             m.cells.back_to(mark);
-            m.part = saved;
+            put(&mut m.part, saved);
             m.next = Next::Begin(other, scope);
             Ok(Turned::On)
         }
-        Frame::Restore(_, edits) => {
+        Frame::Restore(part, edits) => {
+            drop_part(part);
             m.trail.cut(edits);
             m.next = Next::Failed;
             Ok(Turned::On)
@@ -469,29 +571,33 @@ fn fail<'t>(m: &mut Machine<'t>, frame: Frame<'t>) -> Result<Turned, NoMemory>
         Frame::Each(_, _, walk) => {
             m.trail.cut(walk.edits);
             m.level = walk.level;
+            drop_walk(walk);
             m.next = Next::Failed;
             Ok(Turned::On)
         }
         Frame::Leftmost(strategy, scope, walk, mark) => {
             let Some(next) = walk.index.checked_add(1) else {
+                drop_walk(walk);
                 return Err(NoMemory);
             };
             m.trail.cut(walk.edits);
             m.level = walk.level;
             m.cells.back_to(mark);
-            m.part = walk.node;
+            drop_parts(walk.parts);
+            put(&mut m.part, walk.node);
             m.next = Next::Leftmost(strategy, scope, next);
             Ok(Turned::On)
         }
         Frame::Those(strategy, scope, walk, mark, any) => {
             let Some(next) = walk.index.checked_add(1) else {
+                drop_walk(walk);
                 return Err(NoMemory);
             };
             m.trail.cut(walk.edits);
             m.level = walk.level;
             m.cells.back_to(mark);
-            m.part = walk.node;
-            m.parts = walk.parts;
+            put(&mut m.part, walk.node);
+            put_parts(&mut m.parts, walk.parts);
             m.next = Next::Those(strategy, scope, next, any);
             Ok(Turned::On)
         }
@@ -499,7 +605,9 @@ fn fail<'t>(m: &mut Machine<'t>, frame: Frame<'t>) -> Result<Turned, NoMemory>
             m.next = Next::Failed;
             Ok(Turned::On)
         }
-        Frame::Rest(_, _, _, edits) => {
+        Frame::Rest(node, parts, _, edits) => {
+            drop_parts(parts);
+            drop_part(node);
             m.trail.cut(edits);
             m.next = Next::Failed;
             Ok(Turned::On)
@@ -507,10 +615,13 @@ fn fail<'t>(m: &mut Machine<'t>, frame: Frame<'t>) -> Result<Turned, NoMemory>
         Frame::Head(_, _, walk) => {
             m.trail.cut(walk.edits);
             m.level = walk.level;
+            drop_walk(walk);
             m.next = Next::Failed;
             Ok(Turned::On)
         }
-        Frame::Behind(_, _, edits) => {
+        Frame::Behind(node, first, edits) => {
+            drop_changed(first);
+            drop_part(node);
             m.trail.cut(edits);
             m.next = Next::Failed;
             Ok(Turned::On)

@@ -7,7 +7,7 @@ ghost use Rattle.strategy_syntax.specs.Resolved.{scope as scope_form, seq, match
 ghost use Rattle.strategy_run.specs.Turns.{Takes, TakeFalls};
 
 use crate::forms::replace;
-use crate::frames::{Next, Turned};
+use crate::frames::{Next, Turned, drop_value};
 use crate::machine::{InTable, Machine};
 use std::alloc::Global;
 use strategy_syntax::Place;
@@ -44,7 +44,9 @@ pub(crate) fn take_rule<'t>(
         scopes: &m.scopes,
         scope: inner,
     };
-    let matched = m.cells.matches(alloc, &places, left, &value)?;
+    let found = m.cells.matches(alloc, &places, left, &value);
+    drop_value(value);
+    let matched = found?;
     if !matched {
         m.cells.close_to(first);
         m.scopes.cut(scopes);

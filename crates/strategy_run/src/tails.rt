@@ -8,6 +8,7 @@ ghost use Rattle.strategy_meaning.specs.Meaning.{rest_of};
 ghost use Rattle.strategy_run.specs.Leading.{all_parts, parts_now};
 
 use crate::children::child_now;
+use crate::frames::drop_value;
 use std::alloc::Global;
 use term_core::{Kind, NoMemory};
 use term_values::{Part, Value};
@@ -85,14 +86,25 @@ pub(crate) fn in_front<'t>(
     let first = first.into_value();
     let rest = rest.into_value();
     if rest.child_count() == usize::MAX {
+        drop_value(rest);
+        drop_value(first);
         return Err(NoMemory);
     }
     let whole = Value::cons_owned(alloc, first, rest)?;
     if list.annotation_count() == 0 {
         return Ok(whole);
     }
-    let list = list.value()?;
-    whole.with_annotations_of(alloc, &list)
+    match list.value() {
+        Ok(list) => {
+            let all = whole.with_annotations_of(alloc, &list);
+            drop_value(list);
+            all
+        }
+        Err(error) => {
+            drop_value(whole);
+            Err(error)
+        }
+    }
 }
 
 /// What stands in the places of the first so many children, or of all where there are no more.

@@ -8,12 +8,12 @@ use Rattle.strategy_run.proofs.forms.take_match.Goals as goal
 
 pub returns-then-branch-clause-ok : goal.returns-then-branch-clause-ok
 returns-then-branch-clause-ok c = λ W. record {
-  keeps = λ sub whole h. take_matched W sub whole (state_of c.args.m.now) c.args.pattern.now c.args.scope c.args.m.now.part c.matches.new.self c.matches.ensures.later c.matches.ensures.stays
-      (ap (λ t. match_place c.args.pattern.now t (cells_in (scope_at (scopes c.args.m.now.scopes) c.args.scope)) c.args.m.now.cells.bindings) (sym c.in_ok-value.ensures) ∙ c.in_ok-matches.ensures.ok ∙ ap (λ (b : Bool). cond b (Some c.matches.new.self.bindings) None) c.if-branch.true) h;
+  keeps = λ sub whole h. take_matched W sub whole (state_of c.args.m.now) c.args.pattern.now c.args.scope c.args.m.now.part c.matches-matched.new.self c.matches-matched.ensures.later c.matches-matched.ensures.stays
+      (ap (λ t. match_place c.args.pattern.now t (cells_in (scope_at (scopes c.args.m.now.scopes) c.args.scope)) c.args.m.now.cells.bindings) (sym c.in_ok-value.ensures) ∙ c.in_ok-matched.ensures.ok ∙ ap (λ (b : Bool). cond b (Some c.matches-matched.new.self.bindings) None) c.if-branch.true) h;
 }
 
-pub returns-clause-ok : goal.returns-clause-ok
-returns-clause-ok c = λ W. record {
-  keeps = λ sub whole h. take_unmatched W sub whole (state_of c.args.m.now) c.args.pattern.now c.args.scope c.args.m.now.part c.matches.new.self c.matches.ensures.later c.matches.ensures.stays
-      (ap (λ t. match_place c.args.pattern.now t (cells_in (scope_at (scopes c.args.m.now.scopes) c.args.scope)) c.args.m.now.cells.bindings) (sym c.in_ok-value.ensures) ∙ c.in_ok-matches.ensures.ok ∙ ap (λ (b : Bool). cond b (Some c.matches.new.self.bindings) None) c.if-branch.false) h;
+pub returns-else-branch-clause-ok : goal.returns-else-branch-clause-ok
+returns-else-branch-clause-ok c = λ W. record {
+  keeps = λ sub whole h. take_unmatched W sub whole (state_of c.args.m.now) c.args.pattern.now c.args.scope c.args.m.now.part c.matches-matched.new.self c.matches-matched.ensures.later c.matches-matched.ensures.stays
+      (ap (λ t. match_place c.args.pattern.now t (cells_in (scope_at (scopes c.args.m.now.scopes) c.args.scope)) c.args.m.now.cells.bindings) (sym c.in_ok-value.ensures) ∙ c.in_ok-matched.ensures.ok ∙ ap (λ (b : Bool). cond b (Some c.matches-matched.new.self.bindings) None) c.if-branch.false) h;
 }

@@ -1,15 +1,20 @@
-use Rattle.std.proofs.Common.{subst}
+use Rattle.std.proofs.Common.{reverse, subst, sym}
+use Rattle.strategy_scopes.specs.Table.{scopes}
+use Rattle.strategy_run.proofs.GiveLemmas.{st}
 use Rattle.strategy_run.proofs.FirstLemmas.{fail_head, fail_behind}
 use Rattle.strategy_run.proofs.FailLemmas.{fail_then, fail_choice, fail_test, fail_each, fail_leftmost, fail_those, fail_tail, fail_rest, fail_leave, fail_cut}
 use Rattle.strategy_run.specs.Turns.{HoldsIn, under}
-use Rattle.strategy_run.specs.Hands.{Failed}
+use Rattle.strategy_run.specs.Hands.{Begin, Failed, Leftmost, Those}
 use Rattle.strategy_run.proofs.give.fail.Goals as goal
 
 pub returns-in-Then-clause-ok : goal.returns-in-Then-clause-ok
 returns-in-Then-clause-ok c = λ W. record { keeps = λ sub whole h. fail_then W sub whole _ _ _ _ _ _ _ _ (subst (λ f. HoldsIn W sub whole (under f c.args.m.now) Failed) c.in-Then.is h) }
 
 pub returns-in-Choose-clause-ok : goal.returns-in-Choose-clause-ok
-returns-in-Choose-clause-ok c = λ W. record { keeps = λ sub whole h. fail_choice W sub whole _ _ _ _ _ _ _ _ _ c.in-Choose.other c.in-Choose.scope c.in-Choose.saved _ _ c.cut.ensures c.back_to.ensures.cells c.back_to.ensures.mark c.back_to.ensures.stays (subst (λ f. HoldsIn W sub whole (under f c.args.m.now) Failed) c.in-Choose.is h) }
+returns-in-Choose-clause-ok c = λ W. record {
+  keeps = λ sub whole h. subst (λ p. HoldsIn W sub whole (st c.back_to.new.self (scopes c.args.m.now.scopes) c.cut.new.self c.args.m.now.level c.args.m.now.steps (reverse c.args.m.now.frames.items)) (Begin c.in-Choose.other c.in-Choose.scope p)) (sym c.put.ensures)
+      (fail_choice W sub whole _ _ _ _ _ _ _ _ _ c.in-Choose.other c.in-Choose.scope c.in-Choose.saved _ _ c.cut.ensures c.back_to.ensures.cells c.back_to.ensures.mark c.back_to.ensures.stays (subst (λ f. HoldsIn W sub whole (under f c.args.m.now) Failed) c.in-Choose.is h));
+}
 
 pub returns-in-Restore-clause-ok : goal.returns-in-Restore-clause-ok
 returns-in-Restore-clause-ok c = λ W. record { keeps = λ sub whole h. fail_test W sub whole _ _ _ _ _ _ _ _ c.in-Restore.edits c.cut-in-Restore.ensures (subst (λ f. HoldsIn W sub whole (under f c.args.m.now) Failed) c.in-Restore.is h) }
@@ -17,11 +22,18 @@ returns-in-Restore-clause-ok c = λ W. record { keeps = λ sub whole h. fail_tes
 pub returns-in-Each-clause-ok : goal.returns-in-Each-clause-ok
 returns-in-Each-clause-ok c = λ W. record { keeps = λ sub whole h. fail_each W sub whole _ _ _ _ _ _ _ _ _ c.in-Each.walk c.cut-in-Each.ensures (subst (λ f. HoldsIn W sub whole (under f c.args.m.now) Failed) c.in-Each.is h) }
 
-pub returns-in-Leftmost-clause-ok : goal.returns-in-Leftmost-clause-ok
-returns-in-Leftmost-clause-ok c = λ W. record { keeps = λ sub whole h. fail_leftmost W sub whole _ _ _ _ _ _ _ _ c.in-Leftmost.strategy c.in-Leftmost.scope c.in-Some.next c.in-Leftmost.walk c.in-Leftmost.mark (c.in-Some.ensures.1) c.cut-in-Leftmost.ensures c.back_to-in-Leftmost.ensures.cells c.back_to-in-Leftmost.ensures.mark c.back_to-in-Leftmost.ensures.stays (subst (λ f. HoldsIn W sub whole (under f c.args.m.now) Failed) c.in-Leftmost.is h) }
+pub returns-in-Some-clause-ok : goal.returns-in-Some-clause-ok
+returns-in-Some-clause-ok c = λ W. record {
+  keeps = λ sub whole h. subst (λ p. HoldsIn W sub whole (st c.back_to-in-Leftmost.new.self (scopes c.args.m.now.scopes) c.cut-in-Leftmost.new.self c.in-Leftmost.walk.level c.args.m.now.steps (reverse c.args.m.now.frames.items)) (Leftmost c.in-Leftmost.strategy c.in-Leftmost.scope p c.in-Some.next)) (sym c.put-in-Leftmost.ensures)
+      (fail_leftmost W sub whole _ _ _ _ _ _ _ _ c.in-Leftmost.strategy c.in-Leftmost.scope c.in-Some.next c.in-Leftmost.walk c.in-Leftmost.mark (c.in-Some.ensures.1) c.cut-in-Leftmost.ensures c.back_to-in-Leftmost.ensures.cells c.back_to-in-Leftmost.ensures.mark c.back_to-in-Leftmost.ensures.stays (subst (λ f. HoldsIn W sub whole (under f c.args.m.now) Failed) c.in-Leftmost.is h));
+}
 
-pub returns-in-Those-clause-ok : goal.returns-in-Those-clause-ok
-returns-in-Those-clause-ok c = λ W. record { keeps = λ sub whole h. fail_those W sub whole _ _ _ _ _ _ _ _ c.in-Those.strategy c.in-Those.scope _ c.in-Those.walk c.in-Those.mark c.in-Those.any c.in-Some-checked_add.ensures.1 c.cut-in-Those.ensures c.back_to-in-Those.ensures.cells c.back_to-in-Those.ensures.mark c.back_to-in-Those.ensures.stays (subst (λ f. HoldsIn W sub whole (under f c.args.m.now) Failed) c.in-Those.is h) }
+pub returns-in-Some-checked_add-clause-ok : goal.returns-in-Some-checked_add-clause-ok
+returns-in-Some-checked_add-clause-ok c = λ W. record {
+  keeps = λ sub whole h. subst (λ p. HoldsIn W sub whole (st c.back_to-in-Those.new.self (scopes c.args.m.now.scopes) c.cut-in-Those.new.self c.in-Those.walk.level c.args.m.now.steps (reverse c.args.m.now.frames.items)) (Those c.in-Those.strategy c.in-Those.scope p c.in-Some-checked_add.next c.in-Those.any c.put_parts.new.place)) (sym c.put-in-Those.ensures)
+      (subst (λ ps. HoldsIn W sub whole (st c.back_to-in-Those.new.self (scopes c.args.m.now.scopes) c.cut-in-Those.new.self c.in-Those.walk.level c.args.m.now.steps (reverse c.args.m.now.frames.items)) (Those c.in-Those.strategy c.in-Those.scope c.in-Those.walk.node c.in-Some-checked_add.next c.in-Those.any ps)) (sym c.put_parts.ensures)
+      (fail_those W sub whole _ _ _ _ _ _ _ _ c.in-Those.strategy c.in-Those.scope _ c.in-Those.walk c.in-Those.mark c.in-Those.any c.in-Some-checked_add.ensures.1 c.cut-in-Those.ensures c.back_to-in-Those.ensures.cells c.back_to-in-Those.ensures.mark c.back_to-in-Those.ensures.stays (subst (λ f. HoldsIn W sub whole (under f c.args.m.now) Failed) c.in-Those.is h)));
+}
 
 pub returns-in-Tail-clause-ok : goal.returns-in-Tail-clause-ok
 returns-in-Tail-clause-ok c = λ W. record { keeps = λ sub whole h. fail_tail W sub whole _ _ _ _ _ _ _ _ _ (subst (λ f. HoldsIn W sub whole (under f c.args.m.now) Failed) c.in-Tail.is h) }
@@ -38,8 +50,8 @@ returns-in-Behind-clause-ok c = λ W. record { keeps = λ sub whole h. fail_behi
 pub returns-in-Leave-clause-ok : goal.returns-in-Leave-clause-ok
 returns-in-Leave-clause-ok c = λ W. record { keeps = λ sub whole h. fail_leave W sub whole _ _ _ _ _ _ _ c.in-Leave.scopes c.cut-in-Leave.ensures (subst (λ f. HoldsIn W sub whole (under f c.args.m.now) Failed) c.in-Leave.is h) }
 
-pub returns-clause-ok : goal.returns-clause-ok
-returns-clause-ok c = λ W. record { keeps = λ sub whole h. fail_cut W sub whole _ _ _ _ _ _ _ _ c.in-Cut.count c.in-Cut.scopes c.cut-in-Cut.ensures c.close_to.ensures.later c.close_to.ensures.stays (subst (λ f. HoldsIn W sub whole (under f c.args.m.now) Failed) c.in-Cut.is h) }
+pub returns-in-Cut-clause-ok : goal.returns-in-Cut-clause-ok
+returns-in-Cut-clause-ok c = λ W. record { keeps = λ sub whole h. fail_cut W sub whole _ _ _ _ _ _ _ _ c.in-Cut.count c.in-Cut.scopes c.cut-in-Cut.ensures c.close_to.ensures.later c.close_to.ensures.stays (subst (λ f. HoldsIn W sub whole (under f c.args.m.now) Failed) c.in-Cut.is h) }
 
 pub back_to-requires : goal.back_to-requires
 back_to-requires c = let r = c.requires in (subst (λ f. HoldsIn r.0 r.1 r.2 (under f c.args.m.now) Failed) c.in-Choose.is r.3).opens.is.3

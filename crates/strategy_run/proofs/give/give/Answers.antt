@@ -1,5 +1,6 @@
-use Rattle.std.proofs.Common.{sym, subst}
-use Rattle.strategy_run.proofs.GiveLemmas.{give_then, give_choice, give_test, give_leave, give_cut}
+use Rattle.std.proofs.Common.{reverse, sym, subst}
+use Rattle.strategy_scopes.specs.Table.{scopes}
+use Rattle.strategy_run.proofs.GiveLemmas.{st, give_then, give_choice, give_test, give_leave, give_cut}
 use Rattle.std.specs.Prelude.{IfOk}
 use Rattle.strategy_run.specs.Turns.{HoldsIn, Gives, under}
 use Rattle.strategy_run.specs.Hands.{Done}
@@ -12,7 +13,10 @@ pub returns-in-Choose-clause-ok : goal.returns-in-Choose-clause-ok
 returns-in-Choose-clause-ok c = λ W. record { keeps = λ sub whole h. give_choice W sub whole _ _ _ _ _ _ c.in-Choose.second _ c.in-Choose.scope _ c.args.m.now.part _ _ (subst (λ f. HoldsIn W sub whole (under f c.args.m.now) (Done c.args.m.now.part)) c.in-Choose.is h) }
 
 pub returns-in-Restore-clause-ok : goal.returns-in-Restore-clause-ok
-returns-in-Restore-clause-ok c = λ W. record { keeps = λ sub whole h. give_test W sub whole _ _ _ _ _ _ _ c.in-Restore.saved c.args.m.now.part c.in-Restore.edits c.cut.ensures (subst (λ f. HoldsIn W sub whole (under f c.args.m.now) (Done c.args.m.now.part)) c.in-Restore.is h) }
+returns-in-Restore-clause-ok c = λ W. record {
+  keeps = λ sub whole h. subst (λ p. HoldsIn W sub whole (st c.args.m.now.cells (scopes c.args.m.now.scopes) c.cut.new.self c.args.m.now.level c.args.m.now.steps (reverse c.args.m.now.frames.items)) (Done p)) (sym c.put.ensures)
+      (give_test W sub whole _ _ _ _ _ _ _ c.in-Restore.saved c.args.m.now.part c.in-Restore.edits c.cut.ensures (subst (λ f. HoldsIn W sub whole (under f c.args.m.now) (Done c.args.m.now.part)) c.in-Restore.is h));
+}
 
 pub returns-in-Each-clause-ok : goal.returns-in-Each-clause-ok
 returns-in-Each-clause-ok c = λ W. subst (λ f. IfOk c.give_each.result (λ next. Gives W f c.args.m.now (Done c.args.m.now.part) c.give_each.new.m next)) (sym c.in-Each.is) (c.give_each.ensures.ok W)

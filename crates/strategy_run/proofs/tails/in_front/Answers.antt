@@ -1,4 +1,4 @@
-use Rattle.std.proofs.Common.{sym, ap, ◌∙◌, ◌∷◌}
+use Rattle.std.proofs.Common.{sym, ◌∙◌, ◌∷◌}
 use Rattle.strategy_run.proofs.TailLemmas.{relisted, relisted_bare}
 use Rattle.strategy_run.proofs.WalkLemmas.{nil_of}
 use Rattle.strategy_run.proofs.ResultLemmas.{ok_map}
@@ -12,8 +12,8 @@ returns-then-annotation_count-eq0 c =
     ∙ relisted_bare (standing_tree c.args.list.now) (standing_tree c.args.first ∷ children (standing_tree c.args.rest)) c.requires
     (nil_of (annotations (standing_tree c.args.list.now)) (sym c.annotation_count.ensures ∙ c.if-annotation_count-eq0.true))
 
-pub returns : goal.returns
-returns c =
+pub returns-in-Ok : goal.returns-in-Ok
+returns-in-Ok c =
     let whole = c.in_ok-whole.ensures ∙ (λ j. list_term (c.into_value-first.ensures j ∷ children (c.into_value-rest.ensures j))) in
-    ok_map c.with_annotations_of.result (λ all k. k ∙ (λ i. with_annotations (whole i) (annotations (c.in_ok-list.ensures i)))
-    ∙ relisted (standing_tree c.args.list.now) (standing_tree c.args.first ∷ children (standing_tree c.args.rest)) c.requires) c.with_annotations_of.ensures
+    ok_map c.with_annotations_of-all.result (λ all k. k ∙ (λ i. with_annotations (whole i) (annotations (c.in-Ok.ensures i)))
+    ∙ relisted (standing_tree c.args.list.now) (standing_tree c.args.first ∷ children (standing_tree c.args.rest)) c.requires) c.with_annotations_of-all.ensures
