@@ -1,98 +1,88 @@
 //! Steps, heights and sizes at their bounds, and the deepest texts.
 
-use super::rows::{Row, Wanted};
-use super::standard::first_wrong_at;
-use Wanted::{Big, Fails, Gives, Spent};
+use super::rows::Wanted;
+use super::standard::{first_wrong_at, first_wrong_of};
+use Wanted::{Big, Gives};
 use std::alloc::Global;
 use std::test::Fail;
 
 // At the last level, where a term of height 1 fits.
-const AT_THE_LAST_LEVEL: [Row<'_>; 22] = [
-    ("id", "A", 1, Gives("A", 0, 0)),
-    ("!B()", "A", 1, Gives("B", 1, 1)),
-    ("!G(A())", "A", 1, Big),
-    ("!B(){1}", "A", 1, Big),
-    ("?x; ![x]", "A", 3, Big),
-    ("test(![A()])", "A", 2, Big),
-    ("![A()] <+ id", "A", 2, Big),
-    ("not(!G(A()))", "A", 2, Big),
-    ("fail; !G(A())", "A", 2, Fails),
-    ("all(!G(A()))", "A", 1, Gives("A", 0, 0)),
-    ("put(|B())", "A", 2, Gives("B", 1, 1)),
-    ("put(|G(B()))", "A", 1, Big),
-    ("pair(|G(A()),x)", "A", 1, Big),
-    ("pair(|x,G(A()))", "A", 1, Fails),
-    ("prim(\"addi\",2,1)", "A", 1, Gives("3", 1, 1)),
-    ("prim(\"gti\",2,1)", "A", 1, Big),
-    ("prim(\"gti\",1,2)", "A", 1, Fails),
-    ("prim(\"strlen\",G(A()))", "A", 1, Big),
-    ("prim(\"addi\",G(A()),b)", "A", 1, Big),
-    ("prim(\"addi\",b,G(A()))", "A", 1, Fails),
-    ("[] <+ !()", "[]", 3, Gives("[]", 0, 0)),
-    ("rec x(!A(); !G(A()); x)", "A", 5, Big),
-];
+const AT_THE_LAST_LEVEL: &str = r#"
+id ;; A ;; 1 ;; gives A 0 0
+!B() ;; A ;; 1 ;; gives B 1 1
+!G(A()) ;; A ;; 1 ;; big
+!B(){1} ;; A ;; 1 ;; big
+?x; ![x] ;; A ;; 3 ;; big
+test(![A()]) ;; A ;; 2 ;; big
+![A()] <+ id ;; A ;; 2 ;; big
+not(!G(A())) ;; A ;; 2 ;; big
+fail; !G(A()) ;; A ;; 2 ;; fails
+all(!G(A())) ;; A ;; 1 ;; gives A 0 0
+put(|B()) ;; A ;; 2 ;; gives B 1 1
+put(|G(B())) ;; A ;; 1 ;; big
+pair(|G(A()),x) ;; A ;; 1 ;; big
+pair(|x,G(A())) ;; A ;; 1 ;; fails
+prim("addi",2,1) ;; A ;; 1 ;; gives 3 1 1
+prim("gti",2,1) ;; A ;; 1 ;; big
+prim("gti",1,2) ;; A ;; 1 ;; fails
+prim("strlen",G(A())) ;; A ;; 1 ;; big
+prim("addi",G(A()),b) ;; A ;; 1 ;; big
+prim("addi",b,G(A())) ;; A ;; 1 ;; fails
+[] <+ !() ;; [] ;; 3 ;; gives [] 0 0
+rec x(!A(); !G(A()); x) ;; A ;; 5 ;; big
+"#;
 
 // A level above it.
-const ABOVE_THE_LAST_LEVEL: [Row<'_>; 18] = [
-    ("![A()]", "G(A)", 1, Gives("[A]", 1, 1)),
-    ("1(!B())", "G(A)", 2, Gives("G(B)", 1, 1)),
-    ("1(!G(B()))", "G(A)", 2, Big),
-    ("all(!G(B()))", "[A,A]", 2, Big),
-    ("one(?B(); !A() <+ !G(B()))", "[A]", 5, Big),
-    ("some(?B() <+ !G(B()))", "F(B,A)", 7, Big),
-    ("G(!G(B()))", "G(A)", 2, Big),
-    ("F(id,!G(A()))", "F(A,B)", 3, Big),
-    ("[![B()]|id]", "[A]", 2, Big),
-    ("[id|![B()]]", "[A]", 3, Gives("[A,B]", 1, 1)),
-    ("[id|![[]]]", "[A,B]", 3, Gives("[A,[]]", 1, 1)),
-    ("[id|![[B()]]]", "[A]", 3, Big),
-    ("map(?A(); !B())", "[A,A]", 20, Gives("[B,B]", 2, 1)),
-    ("map(![])", "[A,A]", 16, Gives("[[],[]]", 2, 1)),
-    ("map(![A()])", "[A,A]", 6, Big),
-    (
-        "topdown(try(?A(); !B()))",
-        "F(A,G)",
-        31,
-        Gives("F(B,G)", 1, 1),
-    ),
-    (
-        "topdown(try(?A(); ![]))",
-        "F(A,A)",
-        32,
-        Gives("F([],[])", 2, 2),
-    ),
-    ("bottomup(try(?A(); ![A()]))", "F(A,A)", 13, Big),
-];
+const ABOVE_THE_LAST_LEVEL: &str = r"
+![A()] ;; G(A) ;; 1 ;; gives [A] 1 1
+1(!B()) ;; G(A) ;; 2 ;; gives G(B) 1 1
+1(!G(B())) ;; G(A) ;; 2 ;; big
+all(!G(B())) ;; [A,A] ;; 2 ;; big
+one(?B(); !A() <+ !G(B())) ;; [A] ;; 5 ;; big
+some(?B() <+ !G(B())) ;; F(B,A) ;; 7 ;; big
+G(!G(B())) ;; G(A) ;; 2 ;; big
+F(id,!G(A())) ;; F(A,B) ;; 3 ;; big
+[![B()]|id] ;; [A] ;; 2 ;; big
+[id|![B()]] ;; [A] ;; 3 ;; gives [A,B] 1 1
+[id|![[]]] ;; [A,B] ;; 3 ;; gives [A,[]] 1 1
+[id|![[B()]]] ;; [A] ;; 3 ;; big
+map(?A(); !B()) ;; [A,A] ;; 20 ;; gives [B,B] 2 1
+map(![]) ;; [A,A] ;; 16 ;; gives [[],[]] 2 1
+map(![A()]) ;; [A,A] ;; 6 ;; big
+topdown(try(?A(); !B())) ;; F(A,G) ;; 31 ;; gives F(B,G) 1 1
+topdown(try(?A(); ![])) ;; F(A,A) ;; 32 ;; gives F([],[]) 2 2
+bottomup(try(?A(); ![A()])) ;; F(A,A) ;; 13 ;; big
+";
 
 // From the root: terms that grow without end, and strategies that are spent with any number of steps.
-const WITHOUT_END: [Row<'_>; 8] = [
-    ("rec x(\\ y -> G(y) \\; x)", "Z", 6999, Big),
-    ("repeat(\\ x -> S(x) \\)", "Z", 10000, Big),
-    ("repeat(\\ x -> D(x,x) \\)", "Z", 160, Big),
-    ("rec x(x)", "Z", 100000, Spent),
-    ("rec x(x; id)", "Z", 100000, Spent),
-    ("repeat(id)", "Z", 1000, Spent),
-    ("g", "x", 3, Spent),
-    ("topdown(id)", "G(A)", 9, Spent),
-];
+const WITHOUT_END: &str = r"
+rec x(\ y -> G(y) \; x) ;; Z ;; 6999 ;; big
+repeat(\ x -> S(x) \) ;; Z ;; 10000 ;; big
+repeat(\ x -> D(x,x) \) ;; Z ;; 160 ;; big
+rec x(x) ;; Z ;; 100000 ;; spent
+rec x(x; id) ;; Z ;; 100000 ;; spent
+repeat(id) ;; Z ;; 1000 ;; spent
+g ;; x ;; 3 ;; spent
+topdown(id) ;; G(A) ;; 9 ;; spent
+";
 
 #[test]
 fn terms_fit_at_the_last_level(rt: HostRuntime) -> Result<(), Fail> {
-    let wrong = first_wrong_at(rt.alloc(), &[999], &AT_THE_LAST_LEVEL)?;
+    let wrong = first_wrong_of(rt.alloc(), &[999], 22, AT_THE_LAST_LEVEL)?;
     assert_eq!(rt; wrong, None);
     Ok(())
 }
 
 #[test]
 fn terms_fit_above_the_last_level(rt: HostRuntime) -> Result<(), Fail> {
-    let wrong = first_wrong_at(rt.alloc(), &[998], &ABOVE_THE_LAST_LEVEL)?;
+    let wrong = first_wrong_of(rt.alloc(), &[998], 18, ABOVE_THE_LAST_LEVEL)?;
     assert_eq!(rt; wrong, None);
     Ok(())
 }
 
 #[test]
 fn runs_without_end_are_stopped(rt: HostRuntime) -> Result<(), Fail> {
-    let wrong = first_wrong_at(rt.alloc(), &[0], &WITHOUT_END)?;
+    let wrong = first_wrong_of(rt.alloc(), &[0], 8, WITHOUT_END)?;
     assert_eq!(rt; wrong, None);
     Ok(())
 }

@@ -6,8 +6,8 @@ ghost use Rattle.prim_core.specs.Computes.{Computes};
 ghost use Rattle.prim_core.specs.Pick.{constant, choices as three_choices, pick};
 
 use super::modules::first_wrong_beside;
-use super::rows::{Row, Wanted};
-use Wanted::{Fails, Gives, Memory};
+use super::rows::Row;
+use super::tables::rows_of;
 use prim_core::{BoxedOperation, Meaning, Primitive, Primitives};
 use std::alloc::Global;
 use std::test::Fail;
@@ -91,47 +91,38 @@ fn first_wrong_row(alloc: Global, rows: &[Row<'_>]) -> Result<Option<usize>, Fai
     first_wrong_by::<Picking>(alloc, picks, wants, rows)
 }
 
+// The first row of a table of so many that isn't so.
+fn first_wrong_of(alloc: Global, count: usize, table: &str) -> Result<Option<usize>, Fail> {
+    let rows = rows_of(alloc, count, table)?;
+    first_wrong_row(alloc, &rows)
+}
+
 #[test]
 fn hosts_have_primitives_of_their_own(rt: HostRuntime) -> Result<(), Fail> {
-    let wrong = first_wrong_row(rt.alloc(), &ROWS)?;
+    let wrong = first_wrong_of(rt.alloc(), 20, ROWS)?;
     assert_eq!(rt; wrong, None);
     Ok(())
 }
 
-const ROWS: [Row<'_>; 20] = [
-    ("?x; prim(\"pick\",x)", "2", 3, Gives("c", 1, 1)),
-    ("?x; prim(\"pick\",x)", "3", 3, Fails),
-    ("prim(\"pick\",0)", "Z", 1, Gives("a", 1, 1)),
-    ("prim(\"pick\",1)", "Z", 1, Gives("b", 1, 1)),
-    ("?x; prim(\"pick\",x)", "a", 3, Fails),
-    (
-        "all({x: ?x; prim(\"pick\",x)})",
-        "[0,1,2]{3}",
-        13,
-        Gives("[a,b,c]{3}", 3, 3),
-    ),
-    ("all({x: ?x; prim(\"pick\",x)})", "[0,1,3]", 13, Fails),
-    (
-        "some(?x; prim(\"pick\",x))",
-        "[0,1]",
-        6,
-        Gives("[a,1]", 1, 1),
-    ),
-    (
-        "some({x: ?x; prim(\"pick\",x)})",
-        "[0,7,1]",
-        13,
-        Gives("[a,7,b]", 2, 2),
-    ),
-    ("prim(\"wants\")", "Z", 1, Memory),
-    ("prim(\"wants\") <+ id", "Z", 2, Memory),
-    ("not(prim(\"wants\"))", "Z", 2, Memory),
-    ("test(prim(\"wants\"))", "Z", 2, Memory),
-    ("fail; prim(\"wants\")", "Z", 2, Fails),
-    ("all(prim(\"wants\"))", "[]", 1, Gives("[]", 0, 0)),
-    ("all(prim(\"wants\"))", "[Z]", 2, Memory),
-    ("[prim(\"pick\",0),prim(\"wants\")]", "[Z,Z]", 3, Memory),
-    ("!5; prim(\"wants\"); !6", "Z", 4, Memory),
-    ("some(?0; prim(\"wants\"))", "[1,0]", 6, Memory),
-    ("rec x(1(x) <+ prim(\"wants\"))", "[[Z]]", 12, Memory),
-];
+const ROWS: &str = r#"
+?x; prim("pick",x) ;; 2 ;; 3 ;; gives c 1 1
+?x; prim("pick",x) ;; 3 ;; 3 ;; fails
+prim("pick",0) ;; Z ;; 1 ;; gives a 1 1
+prim("pick",1) ;; Z ;; 1 ;; gives b 1 1
+?x; prim("pick",x) ;; a ;; 3 ;; fails
+all({x: ?x; prim("pick",x)}) ;; [0,1,2]{3} ;; 13 ;; gives [a,b,c]{3} 3 3
+all({x: ?x; prim("pick",x)}) ;; [0,1,3] ;; 13 ;; fails
+some(?x; prim("pick",x)) ;; [0,1] ;; 6 ;; gives [a,1] 1 1
+some({x: ?x; prim("pick",x)}) ;; [0,7,1] ;; 13 ;; gives [a,7,b] 2 2
+prim("wants") ;; Z ;; 1 ;; memory
+prim("wants") <+ id ;; Z ;; 2 ;; memory
+not(prim("wants")) ;; Z ;; 2 ;; memory
+test(prim("wants")) ;; Z ;; 2 ;; memory
+fail; prim("wants") ;; Z ;; 2 ;; fails
+all(prim("wants")) ;; [] ;; 1 ;; gives [] 0 0
+all(prim("wants")) ;; [Z] ;; 2 ;; memory
+[prim("pick",0),prim("wants")] ;; [Z,Z] ;; 3 ;; memory
+!5; prim("wants"); !6 ;; Z ;; 4 ;; memory
+some(?0; prim("wants")) ;; [1,0] ;; 6 ;; memory
+rec x(1(x) <+ prim("wants")) ;; [[Z]] ;; 12 ;; memory
+"#;

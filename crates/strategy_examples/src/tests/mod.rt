@@ -14,5 +14,6 @@ mod primitives;
 mod recursion;
 mod rows;
 mod standard;
+mod tables;
 mod traversals;
 mod unknown;

@@ -4,6 +4,7 @@ ghost use Rattle.prim_core.specs.StandardTable.{ComputeStandard};
 
 use super::modules::{MODULES, first_wrong_beside};
 use super::rows::Row;
+use super::tables::rows_of;
 use prim_core::{
     BoxedOperation, Meaning, Primitives, Standard, StandardOperations, addi, divi, gti,
     int_to_string, muli, standard_primitives, strcat, string_to_int, strlen, subti,
@@ -11,8 +12,19 @@ use prim_core::{
 use std::alloc::Global;
 use std::test::Fail;
 
-/// The number of the first row that isn't so at one of the levels, beside the modules and the standard
-/// primitives.
+/// The number of the first row of a table of so many that isn't so at one of the levels, beside the
+/// modules and the standard primitives.
+pub fn first_wrong_of(
+    alloc: Global,
+    levels: &[usize],
+    count: usize,
+    table: &str,
+) -> Result<Option<usize>, Fail> {
+    let rows = rows_of(alloc, count, table)?;
+    first_wrong_at(alloc, levels, &rows)
+}
+
+/// The same of these rows.
 pub fn first_wrong_at(
     alloc: Global,
     levels: &[usize],
