@@ -3,7 +3,7 @@
 use super::applying::{Call, applies};
 use super::evaluating::evaluates;
 use prim_core::{Meaning, Primitives};
-use std::alloc::Global;
+use std::alloc::{AllocError, Global};
 use std::test::Fail;
 use strategy_check::{Program, resolve};
 use strategy_parse::parse_strategy;
@@ -58,7 +58,7 @@ fn is_row<M: Meaning>(
     row: &Row<'_>,
 ) -> Result<bool, Fail> {
     let (text, _, _, _) = row;
-    let strategy = parse_strategy(alloc, text.as_bytes())?;
+    let strategy = parsed(alloc, text)?;
     is_row_of(alloc, program, primitives, &strategy, levels, row)
 }
 
@@ -70,8 +70,24 @@ fn is_row_of<M: Meaning>(
     levels: &[usize],
     row: &Row<'_>,
 ) -> Result<bool, Fail> {
+    let whole = resolved(alloc, program, primitives, strategy)?;
+    is_row_at_levels(alloc, program, primitives, &whole, levels, row)
+}
+
+// A box is dropped by a call. The drop of a strategy itself is proved anew in each function that drops one.
+fn parsed(alloc: Global, text: &str) -> Result<Box<Strategy>, Fail> {
+    let strategy = parse_strategy(alloc, text.as_bytes())?;
+    Ok(Box::new(alloc, strategy).map_err(AllocError::from)?)
+}
+
+fn resolved<M: Meaning>(
+    alloc: Global,
+    program: &Program,
+    primitives: &Primitives<M>,
+    strategy: &Strategy,
+) -> Result<Box<Resolved>, Fail> {
     match resolve(alloc, program, primitives, strategy) {
-        Ok(whole) => is_row_at_levels(alloc, program, primitives, &whole, levels, row),
+        Ok(whole) => Ok(Box::new(alloc, whole).map_err(AllocError::from)?),
         Err(_) => Err("a fault in a strategy".into()),
     }
 }

@@ -19,11 +19,14 @@ enum Unknown {
     ChildZero,
 }
 
+fn place() -> Place {
+    Place::new(PlaceForm::Variable(1))
+}
+
 fn form(alloc: Global, unknown: Unknown) -> Result<ResolvedForm, NoMemory> {
-    let place = Place::new(PlaceForm::Variable(1));
     match unknown {
-        Unknown::Matched => Ok(ResolvedForm::Match(place)),
-        Unknown::Built => Ok(ResolvedForm::Build(place)),
+        Unknown::Matched => Ok(ResolvedForm::Match(place())),
+        Unknown::Built => Ok(ResolvedForm::Build(place())),
         Unknown::Name => Ok(ResolvedForm::Param(0)),
         Unknown::Definition => Ok(ResolvedForm::Call(0, Vec::new(alloc), Vec::new(alloc))),
         Unknown::Primitive => Ok(ResolvedForm::Prim(0, Vec::new(alloc))),
@@ -32,6 +35,15 @@ fn form(alloc: Global, unknown: Unknown) -> Result<ResolvedForm, NoMemory> {
             Ok(ResolvedForm::Child(0, Box::new(alloc, id)?))
         }
     }
+}
+
+// In a box, whose drop is a call.
+fn resolved(alloc: Global, unknown: Unknown) -> Result<Box<Resolved>, NoMemory> {
+    let strategy = Resolved {
+        variables: 1,
+        strategy: ResolvedStrategy::new(form(alloc, unknown)?),
+    };
+    Ok(Box::new(alloc, strategy)?)
 }
 
 // Whether it fails in a step, where there is one variable and no definition.
@@ -49,10 +61,7 @@ fn fails_beside(
     primitives: &Primitives<NoPrimitives>,
     unknown: Unknown,
 ) -> Result<bool, Fail> {
-    let strategy = Resolved {
-        variables: 1,
-        strategy: ResolvedStrategy::new(form(alloc, unknown)?),
-    };
+    let strategy = resolved(alloc, unknown)?;
     let case = Case {
         term: "[0]",
         level: 2,
