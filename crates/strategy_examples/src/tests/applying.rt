@@ -4,7 +4,7 @@ use super::rows::{Case, Wanted};
 use aterm_text::read;
 use change_log::{Entry, Log, Store};
 use prim_core::{Meaning, Primitives};
-use std::alloc::Global;
+use std::alloc::{AllocError, Global};
 use std::test::Fail;
 use strategy_check::Program;
 use strategy_run::{Outcome, apply, apply_outermost, is_low_enough};
@@ -63,17 +63,23 @@ fn applies_in<M: Meaning>(
     before: &Term,
     case: &Case<'_>,
 ) -> Result<bool, Fail> {
-    let down = vec![in alloc; 1usize; case.level]?;
-    let mut bench = Bench {
+    let mut bench = bench_at(alloc, case.level)?;
+    applies_on(
+        alloc, program, primitives, strategy, call, &mut bench, before, case,
+    )
+}
+
+// In a box, whose drop is a call.
+fn bench_at(alloc: Global, level: usize) -> Result<Box<Bench>, Fail> {
+    let down = vec![in alloc; 1usize; level]?;
+    let bench = Bench {
         store: Store::new(alloc),
         slot: 0,
         path: Path::from_parts(down),
         entered: Log::new(alloc),
         log: Log::new(alloc),
     };
-    applies_on(
-        alloc, program, primitives, strategy, call, &mut bench, before, case,
-    )
+    Ok(Box::new(alloc, bench).map_err(AllocError::from)?)
 }
 
 fn applies_on<M: Meaning>(
@@ -99,13 +105,15 @@ fn applies_on<M: Meaning>(
 
 // Puts the tree into a slot of its own.
 fn enter(alloc: Global, bench: &mut Bench, tree: &Term) -> Result<(), Fail> {
-    let Ok(label) = Label::read(alloc, b"t") else {
-        return Err("no label".into());
-    };
-    bench.slot = bench.store.tree_slot(&label)?;
+    bench.slot = slot_of(alloc, &mut bench.store)?;
     let entry = Entry::tree(bench.slot, Some(tree.try_clone()?));
     bench.entered.push(&mut bench.store, entry)?;
     Ok(())
+}
+
+fn slot_of(alloc: Global, store: &mut Store) -> Result<usize, Fail> {
+    let label = Label::read(alloc, b"t")?;
+    Ok(store.tree_slot(&label)?)
 }
 
 // What applying comes to; `None` for a tree that is too high.

@@ -2,9 +2,9 @@
 
 use super::rows::{Row, first_wrong};
 use prim_core::{Meaning, Primitives};
-use std::alloc::Global;
+use std::alloc::{AllocError, Global};
 use std::test::Fail;
-use strategy_check::check;
+use strategy_check::{Program, check};
 use strategy_parse::parse_module;
 use strategy_syntax::Module;
 use term_core::Label;
@@ -101,8 +101,18 @@ fn first_wrong_in<M: Meaning>(
     levels: &[usize],
     rows: &[Row<'_>],
 ) -> Result<Option<usize>, Fail> {
+    let program = checked(alloc, modules, primitives)?;
+    first_wrong(alloc, &program, primitives, levels, rows)
+}
+
+/// The program of modules without a fault, in a box, whose drop is a call.
+pub fn checked<M: Meaning>(
+    alloc: Global,
+    modules: &[(Label, Module)],
+    primitives: &Primitives<M>,
+) -> Result<Box<Program>, Fail> {
     match check(alloc, modules, primitives) {
-        Ok(program) => first_wrong(alloc, &program, primitives, levels, rows),
+        Ok(program) => Ok(Box::new(alloc, program).map_err(AllocError::from)?),
         Err(_) => Err("a fault in a module".into()),
     }
 }

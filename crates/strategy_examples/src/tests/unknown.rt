@@ -1,10 +1,11 @@
 //! Numbers that stand for nothing: the parts that have them fail. Texts give none.
 
+use super::modules::checked;
 use super::rows::{Case, Wanted, is_so};
 use prim_core::{NoPrimitives, Primitives};
 use std::alloc::Global;
 use std::test::Fail;
-use strategy_check::{Program, check};
+use strategy_check::Program;
 use strategy_syntax::{Place, PlaceForm, Resolved, ResolvedForm, ResolvedStrategy};
 use term_core::NoMemory;
 
@@ -49,10 +50,8 @@ fn resolved(alloc: Global, unknown: Unknown) -> Result<Box<Resolved>, NoMemory> 
 // Whether it fails in a step, where there is one variable and no definition.
 fn fails(alloc: Global, unknown: Unknown) -> Result<bool, Fail> {
     let primitives: Primitives<NoPrimitives> = Primitives::new(Vec::new(alloc));
-    match check(alloc, &[], &primitives) {
-        Ok(program) => fails_beside(alloc, &program, &primitives, unknown),
-        Err(_) => Err("a fault".into()),
-    }
+    let program = checked(alloc, &[], &primitives)?;
+    fails_beside(alloc, &program, &primitives, unknown)
 }
 
 fn fails_beside(
