@@ -10,7 +10,7 @@ ghost use Rattle.strategy_run.specs.Hands.{Each, Leftmost, Those};
 ghost use Rattle.strategy_run.specs.Turns.{Turn, Falls};
 
 use crate::frames::{Acts, Frame, Next, Turned, Walk, drop_part, wait};
-use crate::give::end_each;
+use crate::lists::end_each;
 use crate::machine::Machine;
 use std::alloc::Global;
 use std::mem;

@@ -11,8 +11,9 @@ ghost use Rattle.strategy_run.specs.Ends.{Ends, IsAnswered, IsEmpty};
 
 use crate::begin::begin;
 use crate::children::{go_on, go_over, try_on};
+use crate::fail::give_failed;
 use crate::frames::{Next, Turned};
-use crate::give::{give_done, give_failed};
+use crate::give::give_done;
 use crate::machine::{Host, Machine};
 use crate::trail::Trail;
 use prim_core::{Meaning, Primitives};

@@ -6,7 +6,7 @@ use Rattle.strategy_run.specs.Hands.{Done}
 use Rattle.strategy_run.specs.Leading.{node_with}
 use Rattle.strategy_run.specs.Turns.{HoldsIn, Waits, state_of}
 use Rattle.strategy_run.specs.declared.frames.Frame.{Frame}
-use Rattle.strategy_run.proofs.give.end_each.Goals as goal
+use Rattle.strategy_run.proofs.lists.end_each.Goals as goal
 
 pub returns-then-len-count-clause-ok : goal.returns-then-len-count-clause-ok
 returns-then-len-count-clause-ok c = λ W. ok_map c.begin_tail.result (λ next k. record {

@@ -3,7 +3,7 @@ use Rattle.strategy_run.proofs.GiveLemmas.{failed_whole}
 use Rattle.strategy_run.proofs.WalkLemmas.{popped, none_waits, nil_of}
 use Rattle.strategy_run.proofs.ResultLemmas.{ok_map}
 use Rattle.strategy_run.specs.Hands.{Failed}
-use Rattle.strategy_run.proofs.give.give_failed.Goals as goal
+use Rattle.strategy_run.proofs.fail.give_failed.Goals as goal
 
 pub returns-in-None-clause-ok : goal.returns-in-None-clause-ok
 returns-in-None-clause-ok c = λ W. record { keeps = λ sub whole h. failed_whole W sub whole _ _ _ _ _ (none_waits W sub whole c.args.m.now Failed (nil_of _ (sym c.args.m.now.frames.ok.0 ∙ c.in-None.ensures.cases.0)) h) }

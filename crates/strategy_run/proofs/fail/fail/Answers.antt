@@ -5,7 +5,7 @@ use Rattle.strategy_run.proofs.FirstLemmas.{fail_head, fail_behind}
 use Rattle.strategy_run.proofs.FailLemmas.{fail_then, fail_choice, fail_test, fail_each, fail_leftmost, fail_those, fail_tail, fail_rest, fail_leave, fail_cut}
 use Rattle.strategy_run.specs.Turns.{HoldsIn, under}
 use Rattle.strategy_run.specs.Hands.{Begin, Failed, Leftmost, Those}
-use Rattle.strategy_run.proofs.give.fail.Goals as goal
+use Rattle.strategy_run.proofs.fail.fail.Goals as goal
 
 pub returns-in-Then-clause-ok : goal.returns-in-Then-clause-ok
 returns-in-Then-clause-ok c = λ W. record { keeps = λ sub whole h. fail_then W sub whole _ _ _ _ _ _ _ _ (subst (λ f. HoldsIn W sub whole (under f c.args.m.now) Failed) c.in-Then.is h) }

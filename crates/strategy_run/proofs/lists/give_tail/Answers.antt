@@ -7,7 +7,7 @@ use Rattle.strategy_run.specs.Leading.{PartsStand, all_parts, node_with}
 use Rattle.strategy_run.specs.declared.frames.Frame.TheVariants.{Tail}
 use Rattle.strategy_run.proofs.NodeLeads.{none_stand}
 use Rattle.strategy_run.proofs.ResultLemmas.{ok_map}
-use Rattle.strategy_run.proofs.give.give_tail.Goals as goal
+use Rattle.strategy_run.proofs.lists.give_tail.Goals as goal
 
 pub returns-clause-ok : goal.returns-clause-ok
 returns-clause-ok c = λ W. ok_map c.begin_tail.result (λ next k. record {

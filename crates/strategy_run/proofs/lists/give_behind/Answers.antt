@@ -7,7 +7,7 @@ use Rattle.term_changes.specs.Standing.{Standing, standing_tree}
 use Rattle.strategy_run.proofs.WalkLemmas.{was_put}
 use Rattle.strategy_meaning.specs.Matching.{elements}
 use Rattle.term_core.specs.Tree.{children, with_children}
-use Rattle.strategy_run.proofs.give.give_behind.Goals as goal
+use Rattle.strategy_run.proofs.lists.give_behind.Goals as goal
 
 pub returns-then-not-is_list-clause-ok : goal.returns-then-not-is_list-clause-ok
 returns-then-not-is_list-clause-ok c = λ W. record {

@@ -8,7 +8,7 @@ use Rattle.term_changes.specs.Standing.{Standing, standing_tree}
 use Rattle.strategy_run.proofs.WalkLemmas.{was_put}
 use Rattle.strategy_meaning.specs.Matching.{elements}
 use Rattle.term_core.specs.Tree.{Tree, children, with_children}
-use Rattle.strategy_run.proofs.give.give_rest.Goals as goal
+use Rattle.strategy_run.proofs.lists.give_rest.Goals as goal
 
 -- what `behind_those` finds
 abbrev IsFound : Standing → List Standing → ℕ → Tree → Option Tree → Type 0

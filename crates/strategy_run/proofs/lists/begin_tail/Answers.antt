@@ -7,7 +7,7 @@ use Rattle.strategy_run.specs.Turns.{state_of}
 use Rattle.term_changes.specs.Standing.{fresh}
 use Rattle.strategy_meaning.specs.Meaning.{rest_of}
 use Rattle.strategy_run.specs.declared.frames.Frame.TheVariants.{Rest}
-use Rattle.strategy_run.proofs.give.begin_tail.Goals as goal
+use Rattle.strategy_run.proofs.lists.begin_tail.Goals as goal
 
 pub returns-clause-ok : goal.returns-clause-ok
 returns-clause-ok c = λ W. record {

@@ -5,7 +5,7 @@ use Rattle.strategy_run.proofs.OpenLemmas.{pushed}
 use Rattle.strategy_run.proofs.GiveLemmas.{st}
 use Rattle.strategy_scopes.specs.Table.{scopes}
 use Rattle.term_changes.specs.Standing.{fresh}
-use Rattle.strategy_run.proofs.give.give_head.Goals as goal
+use Rattle.strategy_run.proofs.lists.give_head.Goals as goal
 
 pub returns-clause-ok : goal.returns-clause-ok
 returns-clause-ok c = λ W. record {

@@ -2,7 +2,7 @@ use Rattle.std.proofs.Common.{ap, ◌∙◌, ◌++◌, Some, None, Bool, cond, m
 use Rattle.strategy_run.specs.Leading.{parts_now, all_parts}
 use Rattle.term_changes.specs.Standing.{standing_tree}
 use Rattle.term_core.specs.Tree.{children, with_children}
-use Rattle.strategy_run.proofs.give.with_values.Goals as goal
+use Rattle.strategy_run.proofs.lists.with_values.Goals as goal
 
 pub returns-then-not-is_list : goal.returns-then-not-is_list
 returns-then-not-is_list c = c.is_list.ensures ∙ ap (λ (b : Bool). cond b (Some (children c.args.rest.now)) None) c.if-not-is_list.true
