@@ -1,33 +1,30 @@
 //! Answering one command.
 
-ghost use Rattle.std.specs.Prelude.{◌≡◌, ◌≤◌, ◌⊎◌, ◌+◌, ◌++◌, ◌∷◌, [], ℕ, List, Ok, Err, OnOk, OnErr, IfOk, IfErr, true, false, length, take, codes, decimal, vec_capacity, vec_len};
-ghost use Rattle.std.specs.List.{flat_map};
+ghost use Rattle.std.specs.Prelude.{◌≡◌, ◌≤◌, ◌⊎◌, ◌+◌, ◌++◌, ℕ, List, Ok, Err, OnOk, OnErr, IfOk, IfErr, false, codes, vec_capacity, vec_len};
 ghost use Rattle.aterm_text.specs.Tokens.{is_blank};
 ghost use Rattle.aterm_text.specs.Grammar.{Spells, SpellsAnnotations};
-ghost use Rattle.aterm_text.specs.Printed.{print as print_of, print_name as name_printed};
-ghost use Rattle.aterm_text.specs.Printing.{Extends};
-ghost use Rattle.strategy_check.specs.Words.{word_of as kind_word};
+ghost use Rattle.aterm_text.specs.Printed.{print as print_of};
 ghost use Rattle.session_core.specs.Step.{place_of};
 ghost use Rattle.term_core.specs.Tree.{Tree};
-ghost use Rattle.session_core.specs.Refusal.{number_of};
 ghost use Rattle.session_core.specs.Steps.{AreSteps};
 ghost use Rattle.script_core.specs.Script.{without_end};
 ghost use Rattle.script_core.specs.Handed.{text as text_handed};
 ghost use Rattle.script_core.specs.Form.{tree, put, annotate, show, module_text, HasBudget, takes_no_memory, is_without_memory, front_word, behind_word};
 ghost use Rattle.script_core.specs.FedRight.{handed_out};
-ghost use Rattle.script_core.specs.Machine.{ReadAs, Replies, ReplyToText, line, listed, counted, ok_with, told_of, reason, refused as refused_text};
-ghost use Rattle.script_core.specs.Answer.{Accepts, Answered, Refuses, ReplyInRun, TellsRefusal, is_fault, reading_refusal};
+ghost use Rattle.script_core.specs.Machine.{ReadAs, Replies, ReplyToText, line, counted, ok_with, told_of};
+ghost use Rattle.script_core.specs.Answer.{Accepts, Answered, Refuses, ReplyInRun, reading_refusal};
 ghost use Rattle.script_core.specs.CommandView.{form as form_seen};
 
 use crate::command::{behind_put, behind_tree, read_name_and_text, read_put_parts};
+use crate::lines::{append_line, append_shown, list_names};
+use crate::telling::refuse;
 use crate::{Command, Piece};
-use aterm_text::{ReadFault, print, print_name, read, read_annotations};
+use aterm_text::{ReadFault, read, read_annotations};
 use itoa::Buffer;
 use prim_core::Meaning;
 use session_core::{Refusal, Session};
 use std::alloc::Global;
-use strategy_check::Kind;
-use term_core::{Label, Name, NoMemory, Term};
+use term_core::{Label, Term};
 use term_paths::{Path, at};
 
 /// The bytes that the answer's buffer has to spare, so that a refusal always has room.
@@ -122,21 +119,6 @@ fn answer_other<M: Meaning>(
         Ok(()) => true,
         Err(refusal) => refuse(answer, &refusal),
     }
-}
-
-// Tells a refusal. Where there is no memory for a name in it, that is told.
-#[inline(never)]
-fn refuse(answer: &mut Vec<u8>, refusal: &Refusal) -> bool
-    requires { vec_len answer.old + ANSWER_ROOM ≤ vec_capacity answer.old }
-    ensures refused { result ≡ false }
-    ensures told { TellsRefusal answer.old.items answer.new.items refusal.now }
-    ensures room { vec_capacity answer.old ≤ vec_capacity answer.new }
-{
-    let Err(NoMemory) = append_refusal(answer, refusal) else {
-        return false;
-    };
-    append_short(answer, &Refusal::Memory);
-    false
 }
 
 // Appends the answer of a command that is accepted. A refusal leaves session and buffer as they
@@ -429,17 +411,6 @@ fn show_place<M: Meaning>(
     }
 }
 
-fn append_shown(tree: &Term, answer: &mut Vec<u8>) -> Result<(), NoMemory>
-    ensures ok { OnOk result (answer.new.items ≡ answer.old.items ++ line (print_of tree.now)) }
-    ensures err { OnErr result (answer.new.items ≡ answer.old.items) }
-    ensures len { OnErr result (vec_len answer.new ≡ vec_len answer.old) }
-    ensures room { vec_capacity answer.old ≤ vec_capacity answer.new }
-{
-    let start = answer.len();
-    print(tree, answer)?;
-    end_line(start, answer)
-}
-
 // The text of the name's module.
 fn show_text<M: Meaning>(
     session: &Session<M>,
@@ -459,70 +430,6 @@ fn show_text<M: Meaning>(
     }
 }
 
-fn append_line(text: &[u8], answer: &mut Vec<u8>) -> Result<(), NoMemory>
-    ensures ok { OnOk result (answer.new.items ≡ answer.old.items ++ line text.now) }
-    ensures err { OnErr result (answer.new.items ≡ answer.old.items) }
-    ensures len { OnErr result (vec_len answer.new ≡ vec_len answer.old) }
-    ensures room { vec_capacity answer.old ≤ vec_capacity answer.new }
-{
-    let start = answer.len();
-    answer.extend_from_slice(text)?;
-    end_line(start, answer)
-}
-
-// Ends the line that begins at `start` where there is memory for it, else takes the line away.
-fn end_line(start: usize, answer: &mut Vec<u8>) -> Result<(), NoMemory>
-    requires { start ≤ length answer.old.items }
-    ensures ok { OnOk result (answer.new.items ≡ line answer.old.items) }
-    ensures err { OnErr result (answer.new.items ≡ take start answer.old.items) }
-    ensures len { OnErr result (vec_len answer.new ≡ start) }
-    ensures room { vec_capacity answer.old ≤ vec_capacity answer.new }
-{
-    if answer.push(b'\n').is_err() {
-        answer.truncate(start);
-        return Err(NoMemory);
-    }
-    Ok(())
-}
-
-// A word and the names, on one line.
-fn list_names(word: &[u8], names: &[Label], answer: &mut Vec<u8>) -> Result<(), NoMemory>
-    ensures ok { OnOk result (answer.new.items ≡ answer.old.items ++ listed word.now names.now) }
-    ensures err { OnErr result (answer.new.items ≡ answer.old.items) }
-    ensures len { OnErr result (vec_len answer.new ≡ vec_len answer.old) }
-    ensures room { vec_capacity answer.old ≤ vec_capacity answer.new }
-{
-    let start = answer.len();
-    if append_names(word, names, answer).is_err() {
-        answer.truncate(start);
-        return Err(NoMemory);
-    }
-    Ok(())
-}
-
-fn append_names(word: &[u8], names: &[Label], answer: &mut Vec<u8>) -> Result<(), NoMemory>
-    ensures ok { OnOk result (answer.new.items ≡ answer.old.items ++ listed word.now names.now) }
-    ensures err { Extends answer.old.items answer.new.items }
-    ensures room { vec_capacity answer.old ≤ vec_capacity answer.new }
-{
-    answer.extend_from_slice(word)?;
-    for name in names {
-        append_name(name, answer)?;
-    }
-    answer.push(b'\n')?;
-    Ok(())
-}
-
-fn append_name(name: &Label, answer: &mut Vec<u8>) -> Result<(), NoMemory>
-    ensures ok { OnOk result (answer.new.items ≡ answer.old.items ++ 32 ∷ name.now) }
-    ensures err { Extends answer.old.items answer.new.items }
-    ensures room { vec_capacity answer.old ≤ vec_capacity answer.new }
-{
-    answer.push(b' ')?;
-    answer.extend_from_slice(name.bytes())?;
-    Ok(())
-}
-
 // The numbers of steps to undo and to redo, for which there is room.
 fn count_steps<M: Meaning>(session: &Session<M>, answer: &mut Vec<u8>)
     requires { vec_len answer.old + ANSWER_ROOM ≤ vec_capacity answer.old }
@@ -540,97 +447,4 @@ fn count_steps<M: Meaning>(session: &Session<M>, answer: &mut Vec<u8>)
         .extend_from_slice(number.format(later).as_bytes())
         .unwrap();
     answer.extend_from_slice(b"\n").unwrap();
-}
-
-// Appends the line of a refusal. Only one that tells a fault may want memory, for the name in it; where
-// that is refused, the answer is as before.
-fn append_refusal(answer: &mut Vec<u8>, refusal: &Refusal) -> Result<(), NoMemory>
-    requires { vec_len answer.old + ANSWER_ROOM ≤ vec_capacity answer.old }
-    ensures ok { OnOk result (answer.new.items ≡ answer.old.items ++ line (refused_text refusal.now)) }
-    ensures fault { OnErr result (is_fault refusal.now ≡ true) }
-    ensures err { OnErr result (answer.new.items ≡ answer.old.items) }
-    ensures len { OnErr result (vec_len answer.new ≡ vec_len answer.old) }
-    ensures room { vec_capacity answer.old ≤ vec_capacity answer.new }
-{
-    let Refusal::Check(kind, name, first, second) = refusal else {
-        append_short(answer, refusal);
-        return Ok(());
-    };
-    let start = answer.len();
-    append_head(answer, refusal);
-    let told = append_fault(answer, *kind, name, *first, *second);
-    if told.is_err() {
-        answer.truncate(start);
-    }
-    told
-}
-
-// Appends the line of a refusal that tells no fault, which the room to spare always has place for.
-fn append_short(answer: &mut Vec<u8>, refusal: &Refusal)
-    requires room { vec_len answer.old + ANSWER_ROOM ≤ vec_capacity answer.old }
-    requires short { is_fault refusal.now ≡ false }
-    ensures text { answer.new.items ≡ answer.old.items ++ line (refused_text refusal.now) }
-    ensures room { vec_capacity answer.old ≤ vec_capacity answer.new }
-{
-    append_head(answer, refusal);
-    answer.extend_from_slice(refusal.word().as_bytes()).unwrap();
-    answer.extend_from_slice(b"\n").unwrap();
-}
-
-// The number of a refusal, for which there is room.
-fn append_head(answer: &mut Vec<u8>, refusal: &Refusal)
-    requires { vec_len answer.old + ANSWER_ROOM ≤ vec_capacity answer.old }
-    ensures text { answer.new.items
-        ≡ answer.old.items ++ (codes "refused " ++ decimal (number_of refusal.now) ++ 32 ∷ []) }
-    ensures len { vec_len answer.new ≤ vec_len answer.old + 32 }
-    ensures room { vec_capacity answer.old ≤ vec_capacity answer.new }
-{
-    let mut number = Buffer::new();
-    answer.extend_from_slice(b"refused ").unwrap();
-    answer
-        .extend_from_slice(number.format(refusal.number()).as_bytes())
-        .unwrap();
-    answer.extend_from_slice(b" ").unwrap();
-}
-
-// Appends what a fault is, and ends the line.
-fn append_fault(
-    answer: &mut Vec<u8>,
-    kind: Kind,
-    name: &Name,
-    first: u64,
-    second: u64,
-) -> Result<(), NoMemory>
-    ensures ok { OnOk result (answer.new.items ≡ answer.old.items
-        ++ line (reason (Refusal.Check kind name.now first second))) }
-    ensures err { Extends answer.old.items answer.new.items }
-    ensures room { vec_capacity answer.old ≤ vec_capacity answer.new }
-{
-    append_kind(answer, kind, name)?;
-    append_number(answer, first)?;
-    append_number(answer, second)?;
-    answer.push(b'\n')?;
-    Ok(())
-}
-
-fn append_kind(answer: &mut Vec<u8>, kind: Kind, name: &Name) -> Result<(), NoMemory>
-    ensures ok { OnOk result (answer.new.items
-        ≡ answer.old.items ++ (kind_word kind ++ 32 ∷ name_printed name.now)) }
-    ensures err { Extends answer.old.items answer.new.items }
-    ensures room { vec_capacity answer.old ≤ vec_capacity answer.new }
-{
-    answer.extend_from_slice(kind.word().as_bytes())?;
-    answer.push(b' ')?;
-    print_name(name, answer)
-}
-
-fn append_number(answer: &mut Vec<u8>, number: u64) -> Result<(), NoMemory>
-    ensures ok { OnOk result (answer.new.items ≡ answer.old.items ++ 32 ∷ decimal number) }
-    ensures err { Extends answer.old.items answer.new.items }
-    ensures room { vec_capacity answer.old ≤ vec_capacity answer.new }
-{
-    let mut digits = Buffer::new();
-    answer.push(b' ')?;
-    answer.extend_from_slice(digits.format(number).as_bytes())?;
-    Ok(())
 }

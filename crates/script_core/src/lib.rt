@@ -4,11 +4,13 @@
 mod answer;
 mod command;
 pub mod laws;
+mod lines;
 mod pending;
 mod running;
 mod sink;
 mod source;
 mod splitter;
+mod telling;
 mod write;
 
 pub use answer::{ANSWER_ROOM, answer_text};

@@ -1,7 +1,7 @@
 use Rattle.std.proofs.Common.{◌≡◌, ◌≤◌, ◌++◌, ◌∷◌, vec_capacity, drop}
 use Rattle.std.specs.List.{flat_map}
 use Rattle.aterm_text.specs.Printing.{Extends}
-use Rattle.script_core.proofs.answer.append_names.Given as goal
+use Rattle.script_core.proofs.lines.append_names.Given as goal
 
 -- the names that were written and those still to come make the whole
 abbrev pub invariant-loop-name : goal.invariant-loop-name
