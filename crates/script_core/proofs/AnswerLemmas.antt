@@ -13,11 +13,11 @@ use Rattle.session_core.specs.Step.{Outcome, Passing, Holding, Given, Leaves, Pl
 use Rattle.session_core.specs.declared.refusal.Refusal.{Refusal}
 use Rattle.session_core.specs.declared.refusal.Refusal.TheVariants.{Memory, NoUndo, NoRedo, Group, NoGroup}
 use Rattle.script_core.specs.Machine.{Reply, ReadAs, Told, done, ok_with}
-use Rattle.script_core.specs.Handed.{Handed, text as handed_text, long}
+use Rattle.script_commands.specs.Handed.{Handed, text as handed_text, long}
 use Rattle.script_core.specs.Form.{Form, is_without_memory, undo, redo, begin, abandon, tree_form, put_form, command_of, checked, form_with, is_same, last_steps, has_word, front_word, behind_word, takes_no_memory, takes_no_memory_with}
 use Rattle.script_core.specs.declared.command.Command.{Command}
 use Rattle.script_core.specs.CommandView.{form}
-use Rattle.script_core.specs.Script.{without_end}
+use Rattle.script_commands.specs.Script.{without_end}
 use Rattle.aterm_text.specs.Tokens.{is_blank}
 use Rattle.script_core.specs.Machine.{Replies, ReplyTo, ReplyToText, refused, line}
 use Rattle.script_core.specs.Answer.{Accepts, Refuses, Answered, ReplyInRun, TellsRefusal, takes_none, reading_refusal, is_fault}

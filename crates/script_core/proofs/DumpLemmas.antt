@@ -25,10 +25,10 @@ use Rattle.session_core.specs.Step.{Passing, Holding, Given, Leaves, ChangesTo, 
 use Rattle.session_core.specs.Dump.{tree_line, module_line, dumped}
 use Rattle.session_core.specs.declared.refusal.Refusal.{Refusal}
 use Rattle.session_core.specs.declared.refusal.Refusal.TheVariants.{Big, Group, NoGroup}
-use Rattle.script_core.specs.declared.TheConstants.{MAX_COMMAND}
-use Rattle.script_core.specs.Script.{commands}
+use Rattle.script_commands.specs.declared.TheConstants.{MAX_COMMAND}
+use Rattle.script_commands.specs.Script.{commands}
 use Rattle.script_core.specs.Form.{Form, tree, set_module, begin, commit, command_of}
-use Rattle.script_core.specs.Handed.{Handed, text, long, handed_as, handed}
+use Rattle.script_commands.specs.Handed.{Handed, text, long, handed_as, handed}
 use Rattle.script_core.specs.Machine.{Reply, line, ok_with, Replies, ReplyTo, history_after}
 use Rattle.script_core.specs.Answer.{ReplyInRun}
 use Rattle.session_core.specs.Applying.{Meaning}

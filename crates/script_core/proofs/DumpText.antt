@@ -13,10 +13,10 @@ use Rattle.term_core.specs.Word.{begins_word, continues_word, is_word, label_of}
 use Rattle.aterm_text.specs.Tokens.{is_blank, without_blanks}
 use Rattle.aterm_text.specs.Laws.{IsPrinted, IsOneLine}
 use Rattle.session_core.specs.Dump.{behind_name}
-use Rattle.script_core.specs.Script.{is_line_feed, is_carriage_return, without_end, is_comment, lines, begins_command, Cut, cut}
+use Rattle.script_commands.specs.Script.{is_line_feed, is_carriage_return, without_end, is_comment, lines, begins_command, Cut, cut}
 use Rattle.script_core.specs.Laws.{IsCommandText}
 use Rattle.script_core.specs.Form.{Form, tree, set_module, front_word, behind_word, has_bytes, form_with, form_of, checked, command_of}
-use Rattle.script_core.proofs.LineLemmas.{IsCore, with_line, first_piece, lines-line_feed, lines-kept}
+use Rattle.script_commands.proofs.LineLemmas.{IsCore, with_line, first_piece, lines-line_feed, lines-kept}
 
 -- the command that gives a name the tree that a text spells
 abbrev pub tree_command : List ℕ → List ℕ → List ℕ

@@ -34,7 +34,7 @@ use Rattle.session_core.specs.Step.{Act, set_tree as set_tree_act, copy_tree, dr
 use Rattle.session_core.specs.declared.refusal.Refusal.{Refusal}
 use Rattle.session_core.specs.declared.refusal.Refusal.TheVariants.{Deep, Term, Syntax, Big, NoUndo, NoRedo, Group, NoGroup}
 use Rattle.script_core.specs.Form.{Form, tree, copy, drop_tree, put, annotate, set_module, unload, apply, undo, redo, begin, commit, abandon, show, trees, modules, module_text, history, dump, command_of}
-use Rattle.script_core.specs.Handed.{Handed, text, long}
+use Rattle.script_commands.specs.Handed.{Handed, text, long}
 use Rattle.script_core.specs.Machine.{ReadAs, Told, done, Reply, Replies, history_after}
 use Rattle.script_core.specs.Answer.{ReplyInRun}
 use Rattle.script_core.specs.Run.{Replied}

@@ -1,7 +1,3 @@
-pub mod HandedLemmas
-pub mod LineLemmas
-pub mod SplitLemmas
-pub mod SplitRunLemmas
 pub mod AnswerLemmas
 pub mod WriteLemmas
 pub mod RunLemmas

@@ -12,15 +12,15 @@ use Rattle.script_core.specs.declared.running.Summary.{Summary}
 use Rattle.script_core.specs.declared.running.RunFault.{RunFault}
 use Rattle.script_core.specs.declared.running.RunFault.TheVariants.{Read, Write, Turns, Memory}
 use Rattle.script_core.specs.declared.running.TheConstants.{MAX_READS, PIECE}
-use Rattle.script_core.specs.declared.splitter.Fed.TheVariants.{Command}
-use Rattle.script_core.specs.Handed.{Handed, handed, completed}
-use Rattle.script_core.specs.Splitting.{StandsBehind, rest_of, out_of}
-use Rattle.script_core.specs.Split.{Split}
-use Rattle.script_core.specs.FedRight.{FedRight, GoesBehind}
+use Rattle.script_commands.specs.declared.splitter.Fed.TheVariants.{Command}
+use Rattle.script_commands.specs.Handed.{Handed, handed, completed}
+use Rattle.script_commands.specs.Splitting.{StandsBehind, rest_of, out_of}
+use Rattle.script_commands.specs.Split.{Split}
+use Rattle.script_commands.specs.FedRight.{FedRight, GoesBehind}
 use Rattle.script_core.specs.Run.{Completes, BreaksOff, Answers, one_if}
 use Rattle.script_core.specs.Running.{ByBudget, GoesOnBy, Counts, AnswersReady, AnswersBytes, Underway, HandsBehind, Breaks, Ends, Stops, Calm, TurnRight, RunRight, Streams}
 use Rattle.script_core.proofs.RunLemmas.{one_if-total, Completes-none, Completes-append, Completes-stopped, Completes-after, Completes-flushed, BreaksOff-append, BreaksOff-longer, BreaksOff-flush, BreaksOff-after}
-use Rattle.script_core.proofs.SplitLemmas.{StandsBehind-end, StandsBehind-out}
+use Rattle.script_commands.proofs.SplitLemmas.{StandsBehind-end, StandsBehind-out}
 
 pub OnErr-from : {T E P : Type 0} (r : Result T E) → P → OnErr r P
 OnErr-from (Ok x) p = tt

@@ -8,7 +8,7 @@ use Rattle.aterm_text.specs.declared.reader.ReadFault.{ReadFault}
 use Rattle.aterm_text.specs.declared.reader.ReadFault.TheVariants.{Deep as DeepText, Term as NoTerm, Memory as NoMemory}
 use Rattle.script_core.specs.Form.{takes_no_memory}
 use Rattle.script_core.specs.Machine.{Reply, Replying, ReplyTo, history_after, written, line, refused}
-use Rattle.script_core.specs.Handed.{Handed, text, long}
+use Rattle.script_commands.specs.Handed.{Handed, text, long}
 
 -- whether a command that is handed out takes no memory
 abbrev pub takes_none : Handed → Bool

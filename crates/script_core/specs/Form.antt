@@ -9,7 +9,7 @@ use Rattle.term_paths.specs.PathText.{path_of, part_of}
 use Rattle.aterm_text.specs.Tokens.{is_blank, without_blanks}
 use Rattle.session_core.specs.declared.refusal.Refusal.{Refusal}
 use Rattle.session_core.specs.declared.refusal.Refusal.TheVariants.{Line, Name}
-use Rattle.script_core.specs.Script.{without_end}
+use Rattle.script_commands.specs.Script.{without_end}
 use Rattle.session_core.specs.Steps.{AreSteps}
 use Rattle.session_core.specs.declared.TheConstants.{MAX_STEPS}
 

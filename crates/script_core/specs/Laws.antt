@@ -8,9 +8,9 @@ use Rattle.change_log.specs.Contents.{Contents, no_contents}
 use Rattle.session_core.specs.Applying.{Meaning}
 use Rattle.session_core.specs.History.{History, AreSound}
 use Rattle.session_core.specs.Dump.{dumped, AreNamedTerms}
-use Rattle.script_core.specs.declared.TheConstants.{MAX_COMMAND}
-use Rattle.script_core.specs.Script.{is_line_feed, is_carriage_return, begins_command, commands}
-use Rattle.script_core.specs.Handed.{Handed, handed}
+use Rattle.script_commands.specs.declared.TheConstants.{MAX_COMMAND}
+use Rattle.script_commands.specs.Script.{is_line_feed, is_carriage_return, begins_command, commands}
+use Rattle.script_commands.specs.Handed.{Handed, handed}
 use Rattle.script_core.specs.Machine.{Reply, line}
 use Rattle.script_core.specs.Answer.{ReplyInRun}
 use Rattle.script_core.specs.Run.{Replied, Leads, out}

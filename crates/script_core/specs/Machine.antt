@@ -15,7 +15,7 @@ use Rattle.session_core.specs.Dump.{dumped}
 use Rattle.session_core.specs.Refusal.{number_of, word_of}
 use Rattle.session_core.specs.declared.refusal.Refusal.{Refusal}
 use Rattle.session_core.specs.declared.refusal.Refusal.TheVariants.{Long, Term, Deep, Check}
-use Rattle.script_core.specs.Handed.{Handed, text as handed_text, long}
+use Rattle.script_commands.specs.Handed.{Handed, text as handed_text, long}
 use Rattle.script_core.specs.Form.{Form, tree, copy, drop_tree, put, annotate, set_module, unload, apply, undo, redo, begin, commit, abandon, show, trees, modules, module_text, history, dump, command_of}
 
 -- an accepted command: what it answers, its line feeds included, and the history after it

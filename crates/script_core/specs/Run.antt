@@ -5,7 +5,7 @@ use Rattle.std.specs.Bool.{MatchBool}
 use Rattle.std.specs.List.{flat_map}
 use Rattle.std.specs.Io.KnownBytes.{Appends, Consumes, IsAtEnd}
 use Rattle.session_core.specs.History.{History}
-use Rattle.script_core.specs.Handed.{Handed, handed, completed}
+use Rattle.script_commands.specs.Handed.{Handed, handed, completed}
 use Rattle.script_core.specs.Machine.{Reply, Replying, history_after, written}
 
 -- The replies to commands one after another, each at the history that the one before leaves. The

@@ -2,8 +2,8 @@
 //! the answers.
 
 ghost use Rattle.std.specs.Prelude.{◌≡◌, ◌≤◌, ◌<◌, ◌+◌, ◌*◌, ◌^◌, ◌∷◌, [], Ok, Err, OnOk, OnErr, IfOk, true, false, not, is_some, Some, vec_capacity, length};
-ghost use Rattle.script_core.specs.Handed.{Handed};
-ghost use Rattle.script_core.specs.Splitting.{StandsBehind};
+ghost use Rattle.script_commands.specs.Handed.{Handed};
+ghost use Rattle.script_commands.specs.Splitting.{StandsBehind};
 ghost use Rattle.session_core.specs.Steps.{AreSteps};
 ghost use Rattle.script_core.specs.Answer.{ReplyInRun};
 ghost use Rattle.script_core.specs.Running.{AnswersReady, AnswersBytes, Breaks, Ends, TurnRight, RunRight, streams};
@@ -12,9 +12,9 @@ ghost use Rattle.script_core.specs.Run.{Answers, AnswersPart, AnswersFirst, Comp
 use crate::answer::{ANSWER_ROOM, answer_text};
 use crate::sink::Sink;
 use crate::source::{Failed, Source};
-use crate::splitter::{Fed, Splitter};
 use crate::write::write_whole;
 use prim_core::Meaning;
+use script_commands::{Fed, Splitter};
 use session_core::Session;
 use std::alloc::Global;
 use thiserror::Error;

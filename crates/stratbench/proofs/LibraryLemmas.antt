@@ -7,7 +7,7 @@ use Rattle.session_core.specs.History.{History}
 use Rattle.session_core.specs.Step.{ComesTo, Outcome, set_module}
 use Rattle.session_core.specs.declared.TheConstants.{MAX_STEPS}
 use Rattle.script_core.specs.Form as form
-use Rattle.script_core.specs.Handed.{Handed, handed, completed, text}
+use Rattle.script_commands.specs.Handed.{Handed, handed, completed, text}
 use Rattle.script_core.specs.Machine.{Reply, Replies, Told, done, history_after}
 use Rattle.script_core.specs.Answer.{ReplyInRun}
 use Rattle.script_core.specs.Run.{Answers, AnswersPart, Completes, Replied, history_after_all}

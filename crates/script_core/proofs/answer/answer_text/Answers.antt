@@ -1,8 +1,8 @@
 use Rattle.std.proofs.Common.{refl, sym, subst, inr}
 use Rattle.session_core.specs.declared.refusal.Refusal.TheVariants.{Long}
-use Rattle.script_core.specs.declared.splitter.Piece.{Piece}
-use Rattle.script_core.specs.Handed.{long}
-use Rattle.script_core.specs.FedRight.{handed_out}
+use Rattle.script_commands.specs.declared.splitter.Piece.{Piece}
+use Rattle.script_commands.specs.Handed.{long}
+use Rattle.script_commands.specs.FedRight.{handed_out}
 use Rattle.script_core.specs.Answer.{Answered, ReplyInRun}
 use Rattle.script_core.proofs.AnswerLemmas.{answered_told}
 use Rattle.script_core.proofs.answer.answer_text.Goals as goal

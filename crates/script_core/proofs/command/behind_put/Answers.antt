@@ -1,6 +1,6 @@
 use Rattle.std.proofs.Common.{sym, ◌∙◌}
 use Rattle.aterm_text.specs.Tokens.{is_blank}
-use Rattle.script_core.specs.Script.{without_end}
+use Rattle.script_commands.specs.Script.{without_end}
 use Rattle.script_core.proofs.FormLemmas.{put_in_front}
 use Rattle.script_core.proofs.command.behind_put.Goals as goal
 

@@ -1,5 +1,5 @@
 use Rattle.std.proofs.Common.{refl, not}
-use Rattle.script_core.specs.FedRight.{handed_out}
+use Rattle.script_commands.specs.FedRight.{handed_out}
 use Rattle.script_core.specs.Answer.{ReplyInRun}
 use Rattle.script_core.proofs.RunLemmas.{Answered-alone, Completes-one, BreaksOff-one}
 use Rattle.script_core.proofs.RunningLemmas.{OnErr-from, ready_answered, true_or, false_or}

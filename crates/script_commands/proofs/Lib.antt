@@ -1,0 +1,4 @@
+pub mod HandedLemmas
+pub mod LineLemmas
+pub mod SplitLemmas
+pub mod SplitRunLemmas

@@ -1,0 +1,15 @@
+use Rattle.std.proofs.Common.{◌≡◌, ◌≤◌, ◌-◌, ℕ, List, ◌++◌, length, take, None}
+use Rattle.script_commands.specs.Handed.{Handed}
+use Rattle.script_commands.specs.Splitting.{StandsBehind}
+use Rattle.script_commands.proofs.splitter.Splitter.feed.Given as goal
+
+-- what is under way stands behind the bytes so far, and nothing was completed
+abbrev pub invariant-loop-at : goal.invariant-loop-at
+invariant-loop-at l = record {
+  none : l.self-inside.begun ≡ None;
+  stands : (x : List ℕ) (out : List Handed) → StandsBehind x out l.fn.self.left → StandsBehind (x ++ take l.at l.bytes) out l.self-inside.open;
+  in_range : l.at ≤ length l.bytes;
+}
+
+abbrev pub decreases-loop-at : goal.decreases-loop-at
+decreases-loop-at l = length l.bytes - l.at

@@ -1,0 +1,73 @@
+-- The commands of a script.
+use Rattle.std.specs.Prelude.{ℕ, Bool, false, not, ◌&&◌, ◌==◌, nat_lt, ◌-◌, List, [], ◌∷◌, ◌++◌, length, take, map, filter, if◌then◌else◌}
+use Rattle.std.specs.List.{slice_split, suffix_len}
+use Rattle.script_commands.specs.declared.TheConstants.{MAX_COMMAND}
+
+abbrev pub is_line_feed : ℕ → Bool
+is_line_feed b = b == 10
+
+abbrev pub is_carriage_return : ℕ → Bool
+is_carriage_return b = b == 13
+
+-- the bytes without the run of those at their end that pass the test
+abbrev pub without_end : (ℕ → Bool) → List ℕ → List ℕ
+without_end p bytes = take (length bytes - suffix_len p bytes) bytes
+
+-- What stands between the line feeds of a text, and behind the last one, each without the run of
+-- carriage returns at its end.
+abbrev pub pieces : List ℕ → List (List ℕ)
+pieces text = map (without_end is_carriage_return) (slice_split is_line_feed text)
+
+-- an empty last piece is no line
+abbrev pub without_empty_last : List (List ℕ) → List (List ℕ)
+without_empty_last [] = []
+without_empty_last ([] ∷ []) = []
+without_empty_last ((b ∷ bytes) ∷ []) = (b ∷ bytes) ∷ []
+without_empty_last (piece ∷ (next ∷ pieces)) = piece ∷ without_empty_last (next ∷ pieces)
+
+-- a line that begins with `#` is a comment
+abbrev pub is_comment : List ℕ → Bool
+is_comment [] = false
+is_comment (b ∷ bytes) = b == 35
+
+-- the lines of a text, without the comments
+abbrev pub lines : List ℕ → List (List ℕ)
+lines text = filter (λ line. not (is_comment line)) (without_empty_last (pieces text))
+
+-- A line that is not empty and begins with neither a space nor a tab begins a command. Any other goes
+-- on with the command before it.
+abbrev pub begins_command : List ℕ → Bool
+begins_command [] = false
+begins_command (b ∷ bytes) = not (b == 32) && not (b == 9)
+
+-- Lines, cut into commands: what goes on with a command before them, each of these lines behind a
+-- line feed, and the commands that they begin.
+pub record Cut : Type 0 where
+  pub going_on : List ℕ
+  pub commands : List (List ℕ)
+
+abbrev pub cut : List (List ℕ) → Cut
+cut [] = record { going_on = []; commands = [] }
+cut (line ∷ lines) =
+    let rest = cut lines in
+    if begins_command line
+    then record { going_on = []; commands = (line ++ rest.going_on) ∷ rest.commands }
+    else record { going_on = 10 ∷ line ++ rest.going_on; commands = rest.commands }
+
+-- The commands of a text. Lines that go on before the first command are dropped.
+abbrev pub commands : List ℕ → List (List ℕ)
+commands text = (cut (lines text)).commands
+
+-- all but the last
+abbrev pub but_last : {X : Type 0} → List X → List X
+but_last [] = []
+but_last (x ∷ []) = []
+but_last (x ∷ (y ∷ ys)) = x ∷ but_last (y ∷ ys)
+
+-- The commands of a text that are complete, whatever comes behind it: all but the last.
+abbrev pub complete : List ℕ → List (List ℕ)
+complete text = but_last (commands text)
+
+-- whether a command has over 65,536 bytes
+abbrev pub is_long : List ℕ → Bool
+is_long command = nat_lt MAX_COMMAND (length command)

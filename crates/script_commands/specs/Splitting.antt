@@ -1,0 +1,111 @@
+-- A script that is cut while its bytes come: what is under way, and what is handed out at a byte. The
+-- code equals this machine, which gives the commands of the script: see `StandsBehind`.
+use Rattle.std.specs.Prelude.{◌≡◌, ℕ, suc, Bool, ◌==◌, ◌&&◌, ◌||◌, nat_le, List, [], ◌∷◌, ◌++◌, Some, None, option_map, if◌then◌else◌}
+use Rattle.std.specs.declared.option.Option.{Option}
+use Rattle.std.specs.List.{repeat}
+use Rattle.std.specs.Option.{option_to_list}
+use Rattle.script_commands.specs.declared.TheConstants.{MAX_COMMAND}
+use Rattle.script_commands.specs.declared.splitter.Place.{Place}
+use Rattle.script_commands.specs.declared.splitter.Place.TheVariants.{Start, Kept, Comment, Skipped}
+use Rattle.script_commands.specs.declared.splitter.Unfinished.{Unfinished}
+use Rattle.script_commands.specs.Handed.{Handed, text, long, handed_as, handed, completed}
+
+-- a command with more bytes
+abbrev pub with_more : List ℕ → Handed → Handed
+with_more [] c = c
+with_more (b ∷ more) (text bytes) = handed_as (bytes ++ b ∷ more)
+with_more (b ∷ more) long = long
+
+abbrev pub nothing : Unfinished
+nothing = record { command = None; place = Start; returns = 0 }
+
+-- What a byte does: perhaps a command is complete, and what is under way then.
+pub record Taken : Type 0 where
+  pub out : Option Handed
+  pub left : Unfinished
+
+abbrev pub going : Unfinished → Taken
+going s = record { out = None; left = s }
+
+-- One more carriage return is held back. Over 65,536 of them aren't told apart, since what they belong
+-- to is too long in any case.
+abbrev pub one_more : ℕ → ℕ
+one_more n = if nat_le n MAX_COMMAND then suc n else n
+
+abbrev pub hold_return : Unfinished → Unfinished
+hold_return s = record { command = s.command; place = s.place; returns = one_more s.returns }
+
+-- a byte behind carriage returns that were held back
+abbrev pub behind_returns : ℕ → ℕ → List ℕ
+behind_returns n b = repeat n (13 ∷ []) ++ b ∷ []
+
+-- the line goes on with the command before it, if there is one
+abbrev pub gone_on : ℕ → Option Handed → Unfinished
+gone_on b None = record { command = None; place = Skipped; returns = 0 }
+gone_on b (Some c) = record { command = Some (with_more (10 ∷ (b ∷ [])) c); place = Kept; returns = 0 }
+
+-- a command that begins with these carriage returns and this byte
+abbrev pub begun : ℕ → ℕ → Unfinished
+begun n b = record { command = Some (handed_as (behind_returns n b)); place = Kept; returns = 0 }
+
+-- a byte at the start of a line
+abbrev pub at_start : Unfinished → ℕ → Taken
+at_start s b =
+    if b == 13 then going (hold_return s) else
+    if b == 10
+    then going (record { command = option_map (with_more (10 ∷ [])) s.command; place = Start; returns = 0 })
+    else
+    if s.returns == 0 && b == 35
+    then going (record { command = s.command; place = Comment; returns = 0 }) else
+    if s.returns == 0 && (b == 32 || b == 9) then going (gone_on b s.command) else
+    record { out = s.command; left = begun s.returns b }
+
+-- a byte in a line of the command
+abbrev pub in_line : Unfinished → ℕ → Taken
+in_line s b =
+    if b == 13 then going (hold_return s) else
+    if b == 10 then going (record { command = s.command; place = Start; returns = 0 }) else
+    going (record {
+      command = option_map (with_more (behind_returns s.returns b)) s.command;
+      place = Kept;
+      returns = 0;
+    })
+
+-- a byte in a line of which nothing is kept
+abbrev pub in_dropped : Unfinished → ℕ → Taken
+in_dropped s b =
+    if b == 10 then going (record { command = s.command; place = Start; returns = 0 }) else going s
+
+abbrev pub taken_at : Place → Unfinished → ℕ → Taken
+taken_at Start s b = at_start s b
+taken_at Kept s b = in_line s b
+taken_at Comment s b = in_dropped s b
+taken_at Skipped s b = in_dropped s b
+
+abbrev pub taken : Unfinished → ℕ → Taken
+taken s b = taken_at s.place s b
+
+-- whether a byte in a line of the command may change more than the command
+abbrev pub ends_run : ℕ → Bool
+ends_run b = b == 10 || b == 13
+
+-- what is handed out of what is under way and the bytes behind it, up to the end
+abbrev pub rest_of : Unfinished → List ℕ → List Handed
+rest_of s [] = option_to_list s.command
+rest_of s (b ∷ bytes) = option_to_list (taken s b).out ++ rest_of (taken s b).left bytes
+
+-- what is handed out at these bytes
+abbrev pub out_of : Unfinished → List ℕ → List Handed
+out_of s [] = []
+out_of s (b ∷ bytes) = option_to_list (taken s b).out ++ out_of (taken s b).left bytes
+
+-- what is under way behind these bytes
+abbrev pub passed : Unfinished → List ℕ → Unfinished
+passed s [] = s
+passed s (b ∷ bytes) = passed (taken s b).left bytes
+
+-- What is under way stands behind the text x, of which these were handed out: those that are
+-- complete; and whatever comes behind x, the others are its rest.
+pub record StandsBehind (x : List ℕ) (out : List Handed) (s : Unfinished) : Type 0 where
+  pub complete : out ≡ completed x
+  pub rest : (more : List ℕ) → handed (x ++ more) ≡ out ++ rest_of s more
