@@ -7,11 +7,11 @@ use Rattle.aterm_text.specs.declared.TheConstants.{MAX_NESTING}
 use Rattle.aterm_text.specs.declared.reader.ReadFault.{ReadFault}
 use Rattle.aterm_text.specs.declared.reader.ReadFault.TheVariants.{Deep as DeepText, Term as NoTerm, Memory as NoMemory}
 use Rattle.aterm_text.specs.Nesting.{nesting}
-use Rattle.session_core.specs.Applying.{Meaning}
-use Rattle.session_core.specs.History.{HistoryGroup, History, undone, redone}
-use Rattle.session_core.specs.Step.{Outcome, Passing, Holding, Given, Leaves, Place}
-use Rattle.session_core.specs.declared.refusal.Refusal.{Refusal}
-use Rattle.session_core.specs.declared.refusal.Refusal.TheVariants.{Memory, NoUndo, NoRedo, Group, NoGroup}
+use Rattle.session_steps.specs.Applying.{Meaning}
+use Rattle.session_steps.specs.History.{HistoryGroup, History, undone, redone}
+use Rattle.session_steps.specs.Step.{Outcome, Passing, Holding, Given, Leaves, Place}
+use Rattle.session_steps.specs.declared.refusal.Refusal.{Refusal}
+use Rattle.session_steps.specs.declared.refusal.Refusal.TheVariants.{Memory, NoUndo, NoRedo, Group, NoGroup}
 use Rattle.script_core.specs.Machine.{Reply, ReadAs, Told, done, ok_with}
 use Rattle.script_commands.specs.Handed.{Handed, text as handed_text, long}
 use Rattle.script_core.specs.Form.{Form, is_without_memory, undo, redo, begin, abandon, tree_form, put_form, command_of, checked, form_with, is_same, last_steps, has_word, front_word, behind_word, takes_no_memory, takes_no_memory_with}

@@ -1,7 +1,7 @@
 -- The definitions, computed at worked rows.
 use Rattle.std.proofs.Common.{◌≡◌, [], ◌∷◌, ◌++◌, None, Ok, Err, refl, codes, true, false}
-use Rattle.session_core.specs.History.{empty_history}
-use Rattle.session_core.specs.declared.refusal.Refusal.TheVariants.{Line, Name, Memory}
+use Rattle.session_steps.specs.History.{empty_history}
+use Rattle.session_steps.specs.declared.refusal.Refusal.TheVariants.{Line, Name, Memory}
 use Rattle.script_commands.specs.Script.{commands, complete}
 use Rattle.script_commands.specs.Handed.{handed}
 use Rattle.script_core.specs.Form.{tree, show, put, apply, undo, command_of, takes_no_memory}

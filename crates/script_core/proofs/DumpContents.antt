@@ -18,10 +18,10 @@ use Rattle.term_core.specs.Word.{label_of}
 use Rattle.term_core.specs.declared.TheConstants.{MAX_HEIGHT}
 use Rattle.strategy_syntax.specs.Modules.{Module}
 use Rattle.change_log.specs.Contents.{Named, Contents}
-use Rattle.session_core.specs.Modules.{ReadsAsModule, AreReadable}
-use Rattle.session_core.specs.History.{AreLow}
-use Rattle.session_core.specs.Dump.{tree_line, module_line, module_lines, grouped, dumped, IsNamedTerm}
-use Rattle.session_core.proofs.MapLemmas.{R, later, earlier, tied, find_below, all_there}
+use Rattle.session_steps.specs.Modules.{ReadsAsModule, AreReadable}
+use Rattle.session_steps.specs.History.{AreLow}
+use Rattle.session_steps.specs.Dump.{tree_line, module_line, module_lines, grouped, dumped, IsNamedTerm}
+use Rattle.session_steps.proofs.MapLemmas.{R, later, earlier, tied, find_below, all_there}
 use Rattle.script_core.specs.Laws.{IsCommandText}
 
 -- ---- a map whose entries are put one after another

@@ -19,19 +19,19 @@ use Rattle.aterm_text.specs.Laws.{PrintedTextReadsBack, PrintedTextIsOneLine, Pr
 use Rattle.strategy_check.specs.Faults.{Fault, Primitives, faults, first}
 use Rattle.strategy_check.specs.Programs.{Program, program}
 use Rattle.change_log.specs.Contents.{Contents, with_tree, with_module}
-use Rattle.session_core.specs.Modules.{Texts, Finds, GivesProgram, Checks}
-use Rattle.session_core.specs.History.{HistoryGroup, History, changed, stepped}
-use Rattle.session_core.specs.Step.{Passing, Holding, Given, Leaves, ChangesTo, ChangesModules, committed}
-use Rattle.session_core.specs.Dump.{tree_line, module_line, dumped}
-use Rattle.session_core.specs.declared.refusal.Refusal.{Refusal}
-use Rattle.session_core.specs.declared.refusal.Refusal.TheVariants.{Big, Group, NoGroup}
+use Rattle.session_steps.specs.Modules.{Texts, Finds, GivesProgram, Checks}
+use Rattle.session_steps.specs.History.{HistoryGroup, History, changed, stepped}
+use Rattle.session_steps.specs.Step.{Passing, Holding, Given, Leaves, ChangesTo, ChangesModules, committed}
+use Rattle.session_steps.specs.Dump.{tree_line, module_line, dumped}
+use Rattle.session_steps.specs.declared.refusal.Refusal.{Refusal}
+use Rattle.session_steps.specs.declared.refusal.Refusal.TheVariants.{Big, Group, NoGroup}
 use Rattle.script_commands.specs.declared.TheConstants.{MAX_COMMAND}
 use Rattle.script_commands.specs.Script.{commands}
 use Rattle.script_core.specs.Form.{Form, tree, set_module, begin, commit, command_of}
 use Rattle.script_commands.specs.Handed.{Handed, text, long, handed_as, handed}
 use Rattle.script_core.specs.Machine.{Reply, line, ok_with, Replies, ReplyTo, history_after}
 use Rattle.script_core.specs.Answer.{ReplyInRun}
-use Rattle.session_core.specs.Applying.{Meaning}
+use Rattle.session_steps.specs.Applying.{Meaning}
 use Rattle.script_core.specs.Run.{Replied, history_after_all, out}
 use Rattle.script_core.specs.Laws.{OneRun, CanBeGiven, IsBare, AreClear, DumpReadsBack, DumpIsAnswered}
 use Rattle.script_core.proofs.DumpText.{tree_command, module_command, IsDumped, IsWhole, script_of, cut-script, command-is, module_command-is, tree_whole, module_whole, begin_whole, commit_whole}

@@ -13,11 +13,11 @@ use Rattle.term_core.specs.Terms.{IsTerm}
 use Rattle.term_core.specs.Size.{height}
 use Rattle.term_core.specs.declared.TheConstants.{MAX_HEIGHT}
 use Rattle.change_log.specs.Contents.{Contents}
-use Rattle.session_core.specs.Dump.{tree_line, dumped, IsNamedTerm}
+use Rattle.session_steps.specs.Dump.{tree_line, dumped, IsNamedTerm}
 use Rattle.script_commands.specs.Script.{commands}
 use Rattle.script_core.specs.Laws.{IsCommandText, CanBeGiven}
-use Rattle.session_core.proofs.MapLemmas.{all_there}
-use Rattle.session_core.proofs.SoundLemmas.{readable_empty, sound_no_contents}
+use Rattle.session_steps.proofs.MapLemmas.{all_there}
+use Rattle.session_steps.proofs.SoundLemmas.{readable_empty, sound_no_contents}
 use Rattle.script_core.proofs.DumpContents.{TreeEntry, group_text, dumped-is}
 
 abbrev word : List ℕ → Symbol

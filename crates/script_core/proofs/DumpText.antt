@@ -8,11 +8,11 @@ use Rattle.std.proofs.lemmas.List.Folds.{prefix_len-append}
 use Rattle.std.proofs.lemmas.List.{length-reverse, reverse-append}
 use Rattle.std.proofs.Math.Seq.{take-length, take-append_seam, drop-append_seam, drop-length}
 use Rattle.std.specs.declared.option.Option.{Option}
-use Rattle.session_core.specs.declared.refusal.Refusal.TheVariants.{Name}
+use Rattle.session_steps.specs.declared.refusal.Refusal.TheVariants.{Name}
 use Rattle.term_core.specs.Word.{begins_word, continues_word, is_word, label_of}
 use Rattle.aterm_text.specs.Tokens.{is_blank, without_blanks}
 use Rattle.aterm_text.specs.Laws.{IsPrinted, IsOneLine}
-use Rattle.session_core.specs.Dump.{behind_name}
+use Rattle.session_steps.specs.Dump.{behind_name}
 use Rattle.script_commands.specs.Script.{is_line_feed, is_carriage_return, without_end, is_comment, lines, begins_command, Cut, cut}
 use Rattle.script_core.specs.Laws.{IsCommandText}
 use Rattle.script_core.specs.Form.{Form, tree, set_module, front_word, behind_word, has_bytes, form_with, form_of, checked, command_of}

@@ -27,12 +27,12 @@ use Rattle.aterm_text.specs.Nesting.{nesting}
 use Rattle.aterm_text.specs.declared.TheConstants.{MAX_NESTING}
 use Rattle.change_log.specs.Contents.{Contents, with_tree, without_tree, with_module, without_module}
 use Rattle.strategy_meaning.specs.Applied.{applied}
-use Rattle.session_core.specs.Applying.{Meaning, ReadsAsStrategy, resolved_in, world_in, given_by}
-use Rattle.session_core.specs.Modules.{Texts, ReadsBy, ReadsAsModule, AreRead, Finds, GivesProgram, Checks, refusal_of}
-use Rattle.session_core.specs.History.{HistoryGroup, History, changed, undone, redone}
-use Rattle.session_core.specs.Step.{Act, set_tree as set_tree_act, copy_tree, drop_tree as drop_tree_act, put as put_act, annotate as annotate_act, set_module as set_module_act, unload as unload_act, apply as apply_act, undo as undo_act, redo as redo_act, begin as begin_act, commit as commit_act, abandon as abandon_act, Outcome, Passing, Holding, Given, Leaves, ChangesTo, ChangesModules, PutsAt, AnnotatesAt, AppliesAt, Place, ComesTo, committed, tree_of, text_of, place_of}
-use Rattle.session_core.specs.declared.refusal.Refusal.{Refusal}
-use Rattle.session_core.specs.declared.refusal.Refusal.TheVariants.{Deep, Term, Syntax, Big, NoUndo, NoRedo, Group, NoGroup}
+use Rattle.session_steps.specs.Applying.{Meaning, ReadsAsStrategy, resolved_in, world_in, given_by}
+use Rattle.session_steps.specs.Modules.{Texts, ReadsBy, ReadsAsModule, AreRead, Finds, GivesProgram, Checks, refusal_of}
+use Rattle.session_steps.specs.History.{HistoryGroup, History, changed, undone, redone}
+use Rattle.session_steps.specs.Step.{Act, set_tree as set_tree_act, copy_tree, drop_tree as drop_tree_act, put as put_act, annotate as annotate_act, set_module as set_module_act, unload as unload_act, apply as apply_act, undo as undo_act, redo as redo_act, begin as begin_act, commit as commit_act, abandon as abandon_act, Outcome, Passing, Holding, Given, Leaves, ChangesTo, ChangesModules, PutsAt, AnnotatesAt, AppliesAt, Place, ComesTo, committed, tree_of, text_of, place_of}
+use Rattle.session_steps.specs.declared.refusal.Refusal.{Refusal}
+use Rattle.session_steps.specs.declared.refusal.Refusal.TheVariants.{Deep, Term, Syntax, Big, NoUndo, NoRedo, Group, NoGroup}
 use Rattle.script_core.specs.Form.{Form, tree, copy, drop_tree, put, annotate, set_module, unload, apply, undo, redo, begin, commit, abandon, show, trees, modules, module_text, history, dump, command_of}
 use Rattle.script_commands.specs.Handed.{Handed, text, long}
 use Rattle.script_core.specs.Machine.{ReadAs, Told, done, Reply, Replies, history_after}

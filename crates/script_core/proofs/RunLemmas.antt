@@ -7,7 +7,7 @@ use Rattle.std.proofs.KnownBytes.{Appends-trans, Appends-kept}
 use Rattle.std.proofs.lemmas.List.Concat.{flat_map-append}
 use Rattle.std.proofs.lemmas.List.Sums.{sum_by-append, sum_by-cons}
 use Rattle.std.specs.Bool.{MatchBool}
-use Rattle.session_core.specs.History.{History}
+use Rattle.session_steps.specs.History.{History}
 use Rattle.script_commands.specs.Handed.{Handed}
 use Rattle.script_core.specs.Machine.{Reply, Replying, history_after, written}
 use Rattle.script_core.specs.Answer.{Answered}

@@ -5,7 +5,7 @@ use Rattle.std.proofs.lemmas.List.{length-append, length-take}
 use Rattle.std.specs.Io.KnownBytes.{Keeps, Consumes, IsAtEnd}
 use Rattle.std.proofs.KnownBytes.{Consumes-nil, Consumes-trans, Consumes-kept}
 use Rattle.std.specs.Option.{option_to_list}
-use Rattle.session_core.specs.History.{History}
+use Rattle.session_steps.specs.History.{History}
 use Rattle.script_core.specs.declared.running.Running.{Running}
 use Rattle.script_core.specs.declared.running.Settings.{Settings}
 use Rattle.script_core.specs.declared.running.Summary.{Summary}

@@ -1,9 +1,9 @@
 -- How one command of a run is answered.
 use Rattle.std.specs.Prelude.{◌≡◌, ◌⊎◌, ℕ, Bool, true, false, List, ◌++◌, Ok, Err, is_ok}
-use Rattle.session_core.specs.Applying.{Meaning}
-use Rattle.session_core.specs.History.{History}
-use Rattle.session_core.specs.declared.refusal.Refusal.{Refusal}
-use Rattle.session_core.specs.declared.refusal.Refusal.TheVariants.{Memory, Line, Long, Name, NoTree, NoModule, Term, Deep, Path, Syntax, Check, Fails, Spent, Big, NoUndo, NoRedo, Group, NoGroup}
+use Rattle.session_steps.specs.Applying.{Meaning}
+use Rattle.session_steps.specs.History.{History}
+use Rattle.session_steps.specs.declared.refusal.Refusal.{Refusal}
+use Rattle.session_steps.specs.declared.refusal.Refusal.TheVariants.{Memory, Line, Long, Name, NoTree, NoModule, Term, Deep, Path, Syntax, Check, Fails, Spent, Big, NoUndo, NoRedo, Group, NoGroup}
 use Rattle.aterm_text.specs.declared.reader.ReadFault.{ReadFault}
 use Rattle.aterm_text.specs.declared.reader.ReadFault.TheVariants.{Deep as DeepText, Term as NoTerm, Memory as NoMemory}
 use Rattle.script_core.specs.Form.{takes_no_memory}

@@ -7,11 +7,11 @@ use lib.Pointwise.{pointwise}
 use Rattle.term_core.specs.Word.{label_of}
 use Rattle.term_paths.specs.PathText.{path_of, part_of}
 use Rattle.aterm_text.specs.Tokens.{is_blank, without_blanks}
-use Rattle.session_core.specs.declared.refusal.Refusal.{Refusal}
-use Rattle.session_core.specs.declared.refusal.Refusal.TheVariants.{Line, Name}
+use Rattle.session_steps.specs.declared.refusal.Refusal.{Refusal}
+use Rattle.session_steps.specs.declared.refusal.Refusal.TheVariants.{Line, Name}
 use Rattle.script_commands.specs.Script.{without_end}
-use Rattle.session_core.specs.Steps.{AreSteps}
-use Rattle.session_core.specs.declared.TheConstants.{MAX_STEPS}
+use Rattle.session_steps.specs.Steps.{AreSteps}
+use Rattle.session_steps.specs.declared.TheConstants.{MAX_STEPS}
 
 pub data Form : Type 0 where
   -- gives the name the tree that the text spells

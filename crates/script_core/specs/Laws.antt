@@ -5,9 +5,9 @@ use Rattle.std.specs.FinMap as finmap
 use Rattle.aterm_text.specs.Tokens.{is_blank}
 use Rattle.strategy_check.specs.Faults.{Primitives}
 use Rattle.change_log.specs.Contents.{Contents, no_contents}
-use Rattle.session_core.specs.Applying.{Meaning}
-use Rattle.session_core.specs.History.{History, AreSound}
-use Rattle.session_core.specs.Dump.{dumped, AreNamedTerms}
+use Rattle.session_steps.specs.Applying.{Meaning}
+use Rattle.session_steps.specs.History.{History, AreSound}
+use Rattle.session_steps.specs.Dump.{dumped, AreNamedTerms}
 use Rattle.script_commands.specs.declared.TheConstants.{MAX_COMMAND}
 use Rattle.script_commands.specs.Script.{is_line_feed, is_carriage_return, begins_command, commands}
 use Rattle.script_commands.specs.Handed.{Handed, handed}

@@ -8,13 +8,13 @@ use Rattle.aterm_text.specs.Nesting.{nesting}
 use Rattle.aterm_text.specs.Grammar.{Spells, SpellsAnnotations}
 use Rattle.aterm_text.specs.Printed.{print, print_name as print_symbol}
 use Rattle.strategy_check.specs.Words.{word_of as kind_word}
-use Rattle.session_core.specs.History.{History}
-use Rattle.session_core.specs.Applying.{Meaning}
-use Rattle.session_core.specs.Step as session
-use Rattle.session_core.specs.Dump.{dumped}
-use Rattle.session_core.specs.Refusal.{number_of, word_of}
-use Rattle.session_core.specs.declared.refusal.Refusal.{Refusal}
-use Rattle.session_core.specs.declared.refusal.Refusal.TheVariants.{Long, Term, Deep, Check}
+use Rattle.session_steps.specs.History.{History}
+use Rattle.session_steps.specs.Applying.{Meaning}
+use Rattle.session_steps.specs.Step as session
+use Rattle.session_steps.specs.Dump.{dumped}
+use Rattle.session_steps.specs.Refusal.{number_of, word_of}
+use Rattle.session_steps.specs.declared.refusal.Refusal.{Refusal}
+use Rattle.session_steps.specs.declared.refusal.Refusal.TheVariants.{Long, Term, Deep, Check}
 use Rattle.script_commands.specs.Handed.{Handed, text as handed_text, long}
 use Rattle.script_core.specs.Form.{Form, tree, copy, drop_tree, put, annotate, set_module, unload, apply, undo, redo, begin, commit, abandon, show, trees, modules, module_text, history, dump, command_of}
 

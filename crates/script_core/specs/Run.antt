@@ -4,7 +4,7 @@ use Rattle.std.specs.declared.option.Option.{Option}
 use Rattle.std.specs.Bool.{MatchBool}
 use Rattle.std.specs.List.{flat_map}
 use Rattle.std.specs.Io.KnownBytes.{Appends, Consumes, IsAtEnd}
-use Rattle.session_core.specs.History.{History}
+use Rattle.session_steps.specs.History.{History}
 use Rattle.script_commands.specs.Handed.{Handed, handed, completed}
 use Rattle.script_core.specs.Machine.{Reply, Replying, history_after, written}
 

@@ -4,7 +4,7 @@ use Rattle.std.specs.declared.option.Option.{Option}
 use Rattle.std.specs.Prelude.{Ok, Err}
 use Rattle.std.specs.declared.result.Result.{Result}
 use Rattle.std.specs.Io.KnownBytes.{Consumes, Keeps, IsAtEnd}
-use Rattle.session_core.specs.History.{History}
+use Rattle.session_steps.specs.History.{History}
 use Rattle.script_core.specs.declared.running.TheConstants.{MAX_READS}
 use Rattle.script_core.specs.declared.running.Running.{Running}
 use Rattle.script_core.specs.declared.running.Summary.{Summary}

@@ -4,9 +4,9 @@ ghost use Rattle.std.specs.Prelude.{◌≡◌, ◌≤◌, ◌⊎◌, ◌+◌, �
 ghost use Rattle.aterm_text.specs.Tokens.{is_blank};
 ghost use Rattle.aterm_text.specs.Grammar.{Spells, SpellsAnnotations};
 ghost use Rattle.aterm_text.specs.Printed.{print as print_of};
-ghost use Rattle.session_core.specs.Step.{place_of};
+ghost use Rattle.session_steps.specs.Step.{place_of};
 ghost use Rattle.term_core.specs.Tree.{Tree};
-ghost use Rattle.session_core.specs.Steps.{AreSteps};
+ghost use Rattle.session_steps.specs.Steps.{AreSteps};
 ghost use Rattle.script_commands.specs.Script.{without_end};
 ghost use Rattle.script_commands.specs.Handed.{text as text_handed};
 ghost use Rattle.script_core.specs.Form.{tree, put, annotate, show, module_text, HasBudget, takes_no_memory, is_without_memory, front_word, behind_word};

@@ -5,7 +5,7 @@ ghost use Rattle.std.specs.List.{prefix_len, suffix_len, position_or_len};
 ghost use Rattle.term_core.specs.Word.{label_of};
 ghost use Rattle.aterm_text.specs.Tokens.{is_blank, without_blanks};
 ghost use Rattle.script_commands.specs.Script.{without_end};
-ghost use Rattle.session_core.specs.Steps.{AreSteps};
+ghost use Rattle.session_steps.specs.Steps.{AreSteps};
 ghost use Rattle.script_core.specs.Form.{Form, tree, put, command_of, checked, tree_form, copy_form, drop_form, put_form, annotate_form, module_form, unload_form, apply_form, text_form, show_form, last_name, last_steps, last_text, option_word, behind_option, path_or_root, steps_or, steps_of, ended, form_with, HasBudget, is_without_memory, takes_no_memory, takes_no_memory_with, front_word, behind_word, has_word, is_same};
 ghost use Rattle.term_paths.specs.PathText.{path_of};
 ghost use Rattle.script_core.specs.CommandView.{form as form_seen};

@@ -5,7 +5,7 @@ ghost use Rattle.term_core.specs.Word.{is_word, label_of};
 ghost use Rattle.term_core.specs.declared.TheConstants.{MAX_HEIGHT, MAX_SIZE};
 ghost use Rattle.aterm_text.specs.declared.TheConstants.{MAX_NESTING};
 ghost use Rattle.strategy_tokens.specs.declared.TheConstants.{MAX_TOKENS};
-ghost use Rattle.session_core.specs.declared.TheConstants.{MAX_STEPS};
+ghost use Rattle.session_steps.specs.declared.TheConstants.{MAX_STEPS};
 ghost use Rattle.script_commands.specs.declared.TheConstants.{MAX_COMMAND};
 ghost use Rattle.script_core.specs.declared.answer.TheConstants.{ANSWER_ROOM};
 ghost use Rattle.script_core.specs.declared.running.TheConstants.{MAX_READS};

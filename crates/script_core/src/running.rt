@@ -4,7 +4,7 @@
 ghost use Rattle.std.specs.Prelude.{◌≡◌, ◌≤◌, ◌<◌, ◌+◌, ◌*◌, ◌^◌, ◌∷◌, [], Ok, Err, OnOk, OnErr, IfOk, true, false, not, is_some, Some, vec_capacity, length};
 ghost use Rattle.script_commands.specs.Handed.{Handed};
 ghost use Rattle.script_commands.specs.Splitting.{StandsBehind};
-ghost use Rattle.session_core.specs.Steps.{AreSteps};
+ghost use Rattle.session_steps.specs.Steps.{AreSteps};
 ghost use Rattle.script_core.specs.Answer.{ReplyInRun};
 ghost use Rattle.script_core.specs.Running.{AnswersReady, AnswersBytes, Breaks, Ends, TurnRight, RunRight, streams};
 ghost use Rattle.script_core.specs.Run.{Answers, AnswersPart, AnswersFirst, Completes, BreaksOff, one_if};

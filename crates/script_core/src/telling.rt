@@ -4,7 +4,7 @@ ghost use Rattle.std.specs.Prelude.{◌≡◌, ◌≤◌, ◌+◌, ◌++◌, ◌
 ghost use Rattle.aterm_text.specs.Printed.{print_name as name_printed};
 ghost use Rattle.aterm_text.specs.Printing.{Extends};
 ghost use Rattle.strategy_check.specs.Words.{word_of as kind_word};
-ghost use Rattle.session_core.specs.Refusal.{number_of};
+ghost use Rattle.session_steps.specs.Refusal.{number_of};
 ghost use Rattle.script_core.specs.Machine.{line, reason, refused as refused_text};
 ghost use Rattle.script_core.specs.Answer.{TellsRefusal, is_fault};
 

@@ -1,6 +1,6 @@
 //! A run over a script that is read in pieces of a given size.
 
-ghost use Rattle.session_core.specs.Steps.{AreSteps};
+ghost use Rattle.session_steps.specs.Steps.{AreSteps};
 
 use prim_core::{NoPrimitives, Primitives};
 use script_core::{Counted, Held, RunFault, Settings, Summary, run};

@@ -16,18 +16,18 @@ use Rattle.change_log.specs.Contents.{Contents, with_tree}
 use Rattle.change_log.specs.Slots.{Store, contents}
 use Rattle.change_log.specs.Entries.{subterm_in}
 use Rattle.change_log.proofs.ContentsLemmas.{tree_put}
-use Rattle.session_core.specs.Modules.{Texts, AreReadable, GivesProgram, IsProgram, Checks, AreRefused}
-use Rattle.session_core.specs.Applying.{Meaning, ReadsAsStrategy, resolved_in, world_in, given_by, GivesIn}
-use Rattle.session_core.specs.History.{History, changed, AreFormed}
-use Rattle.session_core.specs.Step.{apply, Outcome, Passing, Given, ChangesTo, AppliesAt, Place, ComesTo, place_of}
-use Rattle.session_core.specs.Unfolded.{unfolded, IsPlaceOf}
-use Rattle.session_core.specs.declared.timeline.Timeline.{Timeline}
-use Rattle.session_core.specs.declared.refusal.Refusal.{Refusal}
-use Rattle.session_core.specs.declared.refusal.Refusal.TheVariants.{Memory}
+use Rattle.session_steps.specs.Modules.{Texts, AreReadable, GivesProgram, IsProgram, Checks, AreRefused}
+use Rattle.session_steps.specs.Applying.{Meaning, ReadsAsStrategy, resolved_in, world_in, given_by, GivesIn}
+use Rattle.session_steps.specs.History.{History, changed, AreFormed}
+use Rattle.session_steps.specs.Step.{apply, Outcome, Passing, Given, ChangesTo, AppliesAt, Place, ComesTo, place_of}
+use Rattle.session_steps.specs.Unfolded.{unfolded, IsPlaceOf}
+use Rattle.session_steps.specs.declared.timeline.Timeline.{Timeline}
+use Rattle.session_steps.specs.declared.refusal.Refusal.{Refusal}
+use Rattle.session_steps.specs.declared.refusal.Refusal.TheVariants.{Memory}
 use Rattle.strategy_run.proofs.ApplyLemmas.{low_at}
-use Rattle.session_core.proofs.StepLemmas.{passed, stopped}
-use Rattle.session_core.proofs.ActLemmas.{tree_held, seen_place, the_place}
-use Rattle.session_core.proofs.CheckLemmas.{none_unread}
+use Rattle.session_steps.proofs.StepLemmas.{passed, stopped}
+use Rattle.session_steps.proofs.ActLemmas.{tree_held, seen_place, the_place}
+use Rattle.session_steps.proofs.CheckLemmas.{none_unread}
 
 -- what is so of all primitives is so of these
 module _ {A : Type 0} (P : List Signature → Type 0) (ps : List Signature) where

@@ -5,16 +5,15 @@ ghost use Rattle.term_core.specs.Size.{height};
 ghost use Rattle.change_log.specs.Slots.{contents};
 ghost use Rattle.change_log.specs.Entries.{subterm_in};
 ghost use Rattle.strategy_run.specs.Applies.{applied_in};
-ghost use Rattle.session_core.specs.Applying.{ReadsAsStrategy, resolved_in, world_in, given_by, GivesIn};
-ghost use Rattle.session_core.specs.History.{AreFormed, changed};
-ghost use Rattle.session_core.specs.Modules.{IsKept};
-ghost use Rattle.session_core.specs.Step.{ComesTo, apply};
-ghost use Rattle.session_core.specs.Unfolded.{unfolded, IsPlaced, AddsEntries};
+ghost use Rattle.session_steps.specs.Applying.{ReadsAsStrategy, resolved_in, world_in, given_by, GivesIn};
+ghost use Rattle.session_steps.specs.History.{AreFormed, changed};
+ghost use Rattle.session_steps.specs.Modules.{IsKept};
+ghost use Rattle.session_steps.specs.Step.{ComesTo, apply};
+ghost use Rattle.session_steps.specs.Unfolded.{unfolded, IsPlaced, AddsEntries};
 
-use crate::modules::keep_program;
-use crate::{Refusal, Timeline};
 use change_log::{Log, Store};
 use prim_core::{Meaning, Primitives};
+use session_steps::{Refusal, Timeline, keep_program};
 use std::alloc::Global;
 use strategy_check::{CheckFault, Program, resolve};
 use strategy_parse::{ParseFault, parse_strategy};
@@ -23,84 +22,82 @@ use strategy_syntax::{Resolved, Strategy};
 use term_core::{Label, MAX_HEIGHT};
 use term_paths::Path;
 
-impl Timeline {
-    /// Applies the strategy that the text gives to the subterm at the path of the name's tree, in at most
-    /// so many steps. The program of the modules is made where it isn't kept, and is kept then.
-    pub(crate) fn apply<M: Meaning>(
-        &mut self,
-        primitives: &Primitives<M>,
-        program: &mut Option<Program>,
-        name: &Label,
-        path: &Path,
-        steps: u32,
-        text: &[u8],
-    ) -> Result<(), Refusal>
-        requires placed { IsPlaced self.old }
-        requires formed { AreFormed (contents self.old.store) }
-        requires program { IsKept primitives.now (contents self.old.store).modules program.old }
-        ensures placed { IsPlaced self.new }
-        ensures ok { OnOk result (ComesTo (apply M.meaning name.now path.now steps text.now)
-            (unfolded primitives.now self.old) (Ok (unfolded primitives.now self.new))) }
-        ensures refused { IfErr result (λ refusal. (refusal ≡ Refusal.Memory)
-            ⊎ ComesTo (apply M.meaning name.now path.now steps text.now)
-            (unfolded primitives.now self.old) (Err refusal)) }
-        ensures err { OnErr result (unfolded primitives.now self.new
-            ≡ unfolded primitives.now self.old) }
-        ensures program { IsKept primitives.now (contents self.new.store).modules program.new }
-    {
-        let alloc = self.allocator();
-        let slot = match self.place(name, path) {
-            Ok(slot) => slot,
-            Err(refusal) => return Err(refusal),
-        };
-        let strategy = match read_strategy(alloc, text) {
-            Ok(strategy) => strategy,
-            Err(refusal) => return Err(refusal),
-        };
-        if let Err(refusal) = keep_program(alloc, &self.store, primitives, program) {
-            return Err(refusal);
-        }
-        let Some(checked) = program.as_ref() else {
-            unreachable!()
-        };
-        let strategy = match resolve_strategy(alloc, checked, primitives, &strategy) {
-            Ok(strategy) => strategy,
-            Err(refusal) => return Err(refusal),
-        };
-        self.apply_in_slot(checked, primitives, slot, path, &strategy, steps)
+/// Applies the strategy that the text gives to the subterm at the path of the name's tree, in at most
+/// so many steps. The program of the modules is made where it isn't kept, and is kept then.
+pub(crate) fn apply_strategy<M: Meaning>(
+    timeline: &mut Timeline,
+    primitives: &Primitives<M>,
+    program: &mut Option<Program>,
+    name: &Label,
+    path: &Path,
+    steps: u32,
+    text: &[u8],
+) -> Result<(), Refusal>
+    requires placed { IsPlaced timeline.old }
+    requires formed { AreFormed (contents timeline.old.store) }
+    requires program { IsKept primitives.now (contents timeline.old.store).modules program.old }
+    ensures placed { IsPlaced timeline.new }
+    ensures ok { OnOk result (ComesTo (apply M.meaning name.now path.now steps text.now)
+        (unfolded primitives.now timeline.old) (Ok (unfolded primitives.now timeline.new))) }
+    ensures refused { IfErr result (λ refusal. (refusal ≡ Refusal.Memory)
+        ⊎ ComesTo (apply M.meaning name.now path.now steps text.now)
+        (unfolded primitives.now timeline.old) (Err refusal)) }
+    ensures err { OnErr result (unfolded primitives.now timeline.new
+        ≡ unfolded primitives.now timeline.old) }
+    ensures program { IsKept primitives.now (contents timeline.new.store).modules program.new }
+{
+    let alloc = timeline.allocator();
+    let slot = match timeline.place(name, path) {
+        Ok(slot) => slot,
+        Err(refusal) => return Err(refusal),
+    };
+    let strategy = match read_strategy(alloc, text) {
+        Ok(strategy) => strategy,
+        Err(refusal) => return Err(refusal),
+    };
+    if let Err(refusal) = keep_program(alloc, &timeline.store, primitives, program) {
+        return Err(refusal);
     }
+    let Some(checked) = program.as_ref() else {
+        unreachable!()
+    };
+    let strategy = match resolve_strategy(alloc, checked, primitives, &strategy) {
+        Ok(strategy) => strategy,
+        Err(refusal) => return Err(refusal),
+    };
+    apply_in_slot(timeline, checked, primitives, slot, path, &strategy, steps)
+}
 
-    // Applies a strategy in the tree of a slot, as one change.
-    fn apply_in_slot<M: Meaning>(
-        &mut self,
-        program: &Program,
-        primitives: &Primitives<M>,
-        slot: usize,
-        path: &Path,
-        strategy: &Resolved,
-        steps: u32,
-    ) -> Result<(), Refusal>
-        requires placed { IsPlaced self.old }
-        requires low { IfSome (subterm_in self.old.store.trees slot path.now)
-            (λ u. length path.now + height u ≤ MAX_HEIGHT) }
-        ensures placed { IsPlaced self.new }
-        ensures ok { OnOk result (unfolded primitives.now self.new
-            ≡ changed (contents self.new.store) (unfolded primitives.now self.old)) }
-        ensures made { OnOk result (GivesIn (applied_in (world_in M.meaning program.now primitives.now)
-            self.old.store.trees slot path.now strategy.now steps) slot self.old.store self.new.store) }
-        ensures refused { IfErr result (λ refusal. (refusal ≡ Refusal.Memory)
-            ⊎ (given_by (applied_in (world_in M.meaning program.now primitives.now)
-            self.old.store.trees slot path.now strategy.now steps) ≡ Err refusal)) }
-        ensures err { OnErr result (unfolded primitives.now self.new
-            ≡ unfolded primitives.now self.old) }
-    {
-        let alloc = self.allocator();
-        self.change_by(|store, log| {
-            apply_in(
-                alloc, program, primitives, store, slot, path, strategy, steps, log,
-            )
-        })
-    }
+// Applies a strategy in the tree of a slot, as one change.
+fn apply_in_slot<M: Meaning>(
+    timeline: &mut Timeline,
+    program: &Program,
+    primitives: &Primitives<M>,
+    slot: usize,
+    path: &Path,
+    strategy: &Resolved,
+    steps: u32,
+) -> Result<(), Refusal>
+    requires placed { IsPlaced timeline.old }
+    requires low { IfSome (subterm_in timeline.old.store.trees slot path.now)
+        (λ u. length path.now + height u ≤ MAX_HEIGHT) }
+    ensures placed { IsPlaced timeline.new }
+    ensures ok { OnOk result (unfolded primitives.now timeline.new
+        ≡ changed (contents timeline.new.store) (unfolded primitives.now timeline.old)) }
+    ensures made { OnOk result (GivesIn (applied_in (world_in M.meaning program.now primitives.now)
+        timeline.old.store.trees slot path.now strategy.now steps) slot timeline.old.store timeline.new.store) }
+    ensures refused { IfErr result (λ refusal. (refusal ≡ Refusal.Memory)
+        ⊎ (given_by (applied_in (world_in M.meaning program.now primitives.now)
+        timeline.old.store.trees slot path.now strategy.now steps) ≡ Err refusal)) }
+    ensures err { OnErr result (unfolded primitives.now timeline.new
+        ≡ unfolded primitives.now timeline.old) }
+{
+    let alloc = timeline.allocator();
+    timeline.change_by(|store, log| {
+        apply_in(
+            alloc, program, primitives, store, slot, path, strategy, steps, log,
+        )
+    })
 }
 
 // Applies a strategy in the tree of a slot, to a subterm that is low enough at its level. Where it gives a

@@ -2,14 +2,15 @@
 
 ghost use Rattle.std.specs.Prelude.{◌≡◌, ◌≤◌, ◌↔◌, ◌⊎◌, ◌++◌, Ok, Err, vec_capacity, OnOk, OnErr, IfOk, IfErr, None, length, option_copied, if◌then◌else◌};
 ghost use Rattle.std.specs.FinMap as finmap;
-ghost use Rattle.session_core.specs.History.{empty_history, HasSoundContents};
-ghost use Rattle.session_core.specs.Step.{ComesTo, set_tree, copy_tree, drop_tree, put, annotate, set_module, unload, apply, undo, redo, begin, commit, abandon};
-ghost use Rattle.session_core.specs.Steps.{AreSteps};
-ghost use Rattle.session_core.specs.Dump.{dumped, AreNamedTerms};
-ghost use Rattle.session_core.specs.Unfolded.{unfolded, IsPlaced};
+ghost use Rattle.session_steps.specs.History.{empty_history, HasSoundContents};
+ghost use Rattle.session_steps.specs.Step.{ComesTo, set_tree, copy_tree, drop_tree, put, annotate, set_module, unload, apply, undo, redo, begin, commit, abandon};
+ghost use Rattle.session_steps.specs.Steps.{AreSteps};
+ghost use Rattle.session_steps.specs.Dump.{dumped, AreNamedTerms};
+ghost use Rattle.session_steps.specs.Unfolded.{unfolded, IsPlaced};
 
-use crate::{Refusal, Timeline};
+use crate::applying::apply_strategy;
 use prim_core::{Meaning, Primitives};
+use session_steps::{Refusal, Timeline};
 use std::alloc::Global;
 use std::marker::Model;
 use strategy_check::Program;
@@ -28,17 +29,17 @@ pub struct Session<M: Meaning> {
 }
 
 impl<M: Meaning> Model for Session<M> {
-    ghost use Rattle.session_core.specs.History.{History};
-    ghost use Rattle.session_core.specs.Codes.{history_code};
+    ghost use Rattle.session_steps.specs.History.{History};
+    ghost use Rattle.session_steps.specs.Codes.{history_code};
 
     ghost Value = { History };
 
     ghost coded = { history_code };
 
     ghost use Rattle.change_log.specs.Slots.{contents};
-    ghost use Rattle.session_core.specs.History.{HasSoundContents};
-    ghost use Rattle.session_core.specs.Modules.{IsKept};
-    ghost use Rattle.session_core.specs.Unfolded.{unfolded, IsPlaced};
+    ghost use Rattle.session_steps.specs.History.{HasSoundContents};
+    ghost use Rattle.session_steps.specs.Modules.{IsKept};
+    ghost use Rattle.session_steps.specs.Unfolded.{unfolded, IsPlaced};
 
     ghost view = { λ a. unfolded a.primitives a.timeline };
 
@@ -255,7 +256,15 @@ impl<M: Meaning> Session<M> {
     {
         // Called for its contract: no tree gets too high.
         heights_are_kept();
-        self.timeline.apply(&self.primitives, &mut self.program, name, path, steps, text)
+        apply_strategy(
+            &mut self.timeline,
+            &self.primitives,
+            &mut self.program,
+            name,
+            path,
+            steps,
+            text,
+        )
     }
 
     /// Goes `n` steps back: the contents are those from before the last `n` steps, and with 0 they stay.

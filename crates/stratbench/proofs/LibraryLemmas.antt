@@ -2,10 +2,10 @@
 use Rattle.std.proofs.Common.{◌≡◌, ◌≤◌, ◌<◌, ◌+◌, ◌-◌, ◌⊎◌, ℕ, Bool, true, false, List, [], ◌∷◌, ◌++◌, Option, Some, None, Ok, Err, inl, inr, refl, sym, ap, ◌∙◌, subst, codes, length, take, arith, append-nil, length-append}
 use Rattle.std.specs.Prelude.{count_by, is_ok, MatchResult}
 use Rattle.std.specs.Io.KnownBytes.{Consumes, IsAtEnd}
-use Rattle.session_core.specs.Applying.{Meaning}
-use Rattle.session_core.specs.History.{History}
-use Rattle.session_core.specs.Step.{ComesTo, Outcome, set_module}
-use Rattle.session_core.specs.declared.TheConstants.{MAX_STEPS}
+use Rattle.session_steps.specs.Applying.{Meaning}
+use Rattle.session_steps.specs.History.{History}
+use Rattle.session_steps.specs.Step.{ComesTo, Outcome, set_module}
+use Rattle.session_steps.specs.declared.TheConstants.{MAX_STEPS}
 use Rattle.script_core.specs.Form as form
 use Rattle.script_commands.specs.Handed.{Handed, handed, completed, text}
 use Rattle.script_core.specs.Machine.{Reply, Replies, Told, done, history_after}

@@ -3,7 +3,7 @@
 ghost use Rattle.std.specs.Prelude.{◌≡◌, ◌≤◌, ℕ, List, IfOk, Some, codes, map, option_map};
 ghost use Rattle.clap.specs.Words.{FailsBy, app_of, fault_of, first_of, found_of, one_of, one_text};
 ghost use Rattle.clap.specs.Takes.{is_given};
-ghost use Rattle.session_core.specs.Steps.{AreSteps};
+ghost use Rattle.session_steps.specs.Steps.{AreSteps};
 ghost use Rattle.stratbench.specs.Line.{IsNumberIfSteps, given, line};
 
 use clap::{Arg, ArgAction, ArgMatches, Command, Error, value_parser};

@@ -2,7 +2,7 @@
 #![tactic(auto)]
 
 ghost use Rattle.prim_core.specs.StandardTable.{ComputeStandard};
-ghost use Rattle.session_core.specs.Steps.{AreSteps};
+ghost use Rattle.session_steps.specs.Steps.{AreSteps};
 
 mod arguments;
 mod library;

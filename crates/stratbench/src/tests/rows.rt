@@ -1,7 +1,7 @@
 //! Rows on a session with the library and the standard primitives, as the program makes it for a command line.
 
 ghost use Rattle.prim_core.specs.StandardTable.{ComputeStandard};
-ghost use Rattle.session_core.specs.Steps.{AreSteps};
+ghost use Rattle.session_steps.specs.Steps.{AreSteps};
 
 use crate::arguments::{CommandLine, arguments};
 use crate::library::load_library;

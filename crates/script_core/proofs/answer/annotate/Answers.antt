@@ -1,5 +1,5 @@
 use Rattle.aterm_text.specs.Grammar.{SpellsAnnotations}
-use Rattle.session_core.specs.Step.{AnnotatesAt, place_of}
+use Rattle.session_steps.specs.Step.{AnnotatesAt, place_of}
 use Rattle.script_core.specs.Machine.{ReadAs}
 use Rattle.script_core.proofs.AnswerLemmas.{nowhere, placed_ok, placed_unread, placed_refused}
 use Rattle.script_core.proofs.answer.annotate.Goals as goal

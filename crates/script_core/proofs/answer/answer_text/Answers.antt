@@ -1,5 +1,5 @@
 use Rattle.std.proofs.Common.{refl, sym, subst, inr}
-use Rattle.session_core.specs.declared.refusal.Refusal.TheVariants.{Long}
+use Rattle.session_steps.specs.declared.refusal.Refusal.TheVariants.{Long}
 use Rattle.script_commands.specs.declared.splitter.Piece.{Piece}
 use Rattle.script_commands.specs.Handed.{long}
 use Rattle.script_commands.specs.FedRight.{handed_out}

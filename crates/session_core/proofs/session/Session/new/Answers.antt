@@ -1,6 +1,6 @@
 use Rattle.std.proofs.Common.{sym, subst}
-use Rattle.session_core.specs.History.{HasSoundContents}
-use Rattle.session_core.proofs.SoundLemmas.{sound_no_contents}
+use Rattle.session_steps.specs.History.{HasSoundContents}
+use Rattle.session_steps.proofs.SoundLemmas.{sound_no_contents}
 use Rattle.session_core.proofs.session.Session.new.Goals as goal
 
 pub invariant_of-result : goal.invariant_of-result

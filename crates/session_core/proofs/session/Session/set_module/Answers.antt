@@ -1,6 +1,6 @@
-use Rattle.session_core.specs.Unfolded.{unfolded}
-use Rattle.session_core.specs.Step.{set_module}
-use Rattle.session_core.proofs.SoundLemmas.{step_sound}
+use Rattle.session_steps.specs.Unfolded.{unfolded}
+use Rattle.session_steps.specs.Step.{set_module}
+use Rattle.session_steps.proofs.SoundLemmas.{step_sound}
 use Rattle.session_core.proofs.session.Session.set_module.Goals as goal
 
 pub invariant_of-self-2 : goal.invariant_of-self-2

@@ -1,0 +1,464 @@
+//! The calls of a session, with ample memory: what a row of them is answered, and what is left.
+
+ghost use Rattle.std.specs.Prelude.{◌<◌, length};
+ghost use Rattle.session_steps.specs.Unfolded.{IsPlaced, AddsEntries};
+
+use change_log::{Entry, Log, Store};
+use prim_core::{NoPrimitives, Primitives};
+use session_core::laws::steps_are_compact;
+use session_core::{Refusal, Session};
+use session_steps::Timeline;
+use std::alloc::Global;
+use std::test::Fail;
+use term_core::{Label, LabelFault, NoMemory, Term};
+use term_paths::Path;
+
+// A call. Its first word is the name of a tree, or of a module.
+#[derive(Clone, Copy)]
+enum Call<'a> {
+    Set(&'a [u8], i64),
+    // Lists in lists, as high as told.
+    SetLists(&'a [u8], u32),
+    Copy(&'a [u8], &'a [u8]),
+    Drop(&'a [u8]),
+    Put(&'a [u8], &'a [usize], i64),
+    PutLists(&'a [u8], &'a [usize], u32),
+    Annotate(&'a [u8], &'a [usize], i64),
+    // A name and a module text.
+    Module(&'a [u8], &'a [u8]),
+    Unload(&'a [u8]),
+    Undo(u32),
+    Redo(u32),
+    Begin,
+    Commit,
+    Abandon,
+}
+
+fn nested_lists(alloc: Global, height: u32) -> Result<Term, NoMemory> {
+    let mut term = Term::list(alloc, Vec::new(alloc));
+    for _ in 1..height {
+        let mut elements = Vec::new(alloc);
+        elements.push(term)?;
+        term = Term::list(alloc, elements);
+    }
+    Ok(term)
+}
+
+fn path(alloc: Global, parts: &[usize]) -> Result<Path, Fail> {
+    Ok(Path::from_parts(Vec::from_slice(alloc, parts)?))
+}
+
+fn one_number(alloc: Global, value: i64) -> Result<Vec<Term>, Fail> {
+    let mut terms = Vec::new(alloc);
+    terms.push(Term::integer(alloc, value))?;
+    Ok(terms)
+}
+
+// 0 for Ok.
+fn number_of(answer: Result<(), Refusal>) -> u8 {
+    match answer {
+        Ok(()) => 0,
+        Err(refusal) => refusal.number(),
+    }
+}
+
+fn put(
+    alloc: Global,
+    session: &mut Session<NoPrimitives>,
+    name: &[u8],
+    parts: &[usize],
+    term: Term,
+) -> Result<u8, Fail> {
+    let path = path(alloc, parts)?;
+    let name = Label::read(alloc, name)?;
+    Ok(number_of(session.put(&name, &path, term)))
+}
+
+fn annotate(
+    alloc: Global,
+    session: &mut Session<NoPrimitives>,
+    name: &[u8],
+    parts: &[usize],
+    value: i64,
+) -> Result<u8, Fail> {
+    let path = path(alloc, parts)?;
+    let name = Label::read(alloc, name)?;
+    Ok(number_of(session.annotate(&name, &path, one_number(alloc, value)?)))
+}
+
+fn set(
+    alloc: Global,
+    session: &mut Session<NoPrimitives>,
+    name: &[u8],
+    tree: Term,
+) -> Result<u8, Fail> {
+    let name = Label::read(alloc, name)?;
+    Ok(number_of(session.set_tree(&name, tree)))
+}
+
+fn copy(
+    alloc: Global,
+    session: &mut Session<NoPrimitives>,
+    name: &[u8],
+    copy: &[u8],
+) -> Result<u8, Fail> {
+    let name = Label::read(alloc, name)?;
+    let copy = Label::read(alloc, copy)?;
+    Ok(number_of(session.copy_tree(&name, &copy)))
+}
+
+fn drop_tree(alloc: Global, session: &mut Session<NoPrimitives>, name: &[u8]) -> Result<u8, Fail> {
+    let name = Label::read(alloc, name)?;
+    Ok(number_of(session.drop_tree(&name)))
+}
+
+fn set_module(
+    alloc: Global,
+    session: &mut Session<NoPrimitives>,
+    name: &[u8],
+    text: &[u8],
+) -> Result<u8, Fail> {
+    let name = Label::read(alloc, name)?;
+    Ok(number_of(session.set_module(&name, text)))
+}
+
+fn unload(alloc: Global, session: &mut Session<NoPrimitives>, name: &[u8]) -> Result<u8, Fail> {
+    let name = Label::read(alloc, name)?;
+    Ok(number_of(session.unload(&name)))
+}
+
+fn answer(alloc: Global, session: &mut Session<NoPrimitives>, call: &Call<'_>) -> Result<u8, Fail> {
+    match call {
+        Call::Set(name, value) => set(alloc, session, name, Term::integer(alloc, *value)),
+        Call::SetLists(name, height) => set(alloc, session, name, nested_lists(alloc, *height)?),
+        Call::Copy(name, other) => copy(alloc, session, name, other),
+        Call::Drop(name) => drop_tree(alloc, session, name),
+        Call::Put(name, path, value) => {
+            put(alloc, session, name, path, Term::integer(alloc, *value))
+        }
+        Call::PutLists(name, path, height) => {
+            put(alloc, session, name, path, nested_lists(alloc, *height)?)
+        }
+        Call::Annotate(name, path, value) => annotate(alloc, session, name, path, *value),
+        Call::Module(name, text) => set_module(alloc, session, name, text),
+        Call::Unload(name) => unload(alloc, session, name),
+        Call::Undo(n) => Ok(number_of(session.undo(*n))),
+        Call::Redo(n) => Ok(number_of(session.redo(*n))),
+        Call::Begin => Ok(number_of(session.begin())),
+        Call::Commit => Ok(number_of(session.commit())),
+        Call::Abandon => Ok(number_of(session.abandon())),
+    }
+}
+
+fn are_answered(
+    alloc: Global,
+    session: &mut Session<NoPrimitives>,
+    calls: &[(Call<'_>, u8)],
+) -> Result<bool, Fail> {
+    for (call, number) in calls {
+        if answer(alloc, session, call)? != *number {
+            return Ok(false);
+        }
+    }
+    Ok(true)
+}
+
+fn dumps(alloc: Global, session: &Session<NoPrimitives>, dump: &[u8]) -> Result<bool, Fail> {
+    let mut text = Vec::new(alloc);
+    session.dump(&mut text)?;
+    Ok(text.as_slice() == dump)
+}
+
+fn is_answered_and_left(
+    alloc: Global,
+    session: &mut Session<NoPrimitives>,
+    calls: &[(Call<'_>, u8)],
+    dump: &[u8],
+    counts: (u64, u64),
+) -> Result<bool, Fail> {
+    let is_so = are_answered(alloc, session, calls)? && dumps(alloc, session, dump)?;
+    Ok(is_so && session.counts() == counts)
+}
+
+// Whether the calls are answered so, in a new session, and leave this dump and these counts. A
+// function that holds a session has one way out, since each is checked to drop it.
+fn is_row(
+    alloc: Global,
+    calls: &[(Call<'_>, u8)],
+    dump: &[u8],
+    counts: (u64, u64),
+) -> Result<bool, Fail> {
+    let mut session = Session::new(alloc, Primitives::new(Vec::new(alloc)));
+    is_answered_and_left(alloc, &mut session, calls, dump, counts)
+}
+
+#[test]
+fn steps(rt: HostRuntime) -> Result<(), Fail> {
+    let calls = [
+        (Call::Undo(1), 15),
+        (Call::Set(b"t", 1), 0),
+        (Call::Set(b"t", 2), 0),
+        (Call::Undo(1), 0),
+        (Call::Set(b"t", 3), 0),
+        (Call::Redo(1), 16),
+        (Call::Undo(3), 15),
+        (Call::Undo(2), 0),
+        (Call::Redo(3), 16),
+        (Call::Redo(2), 0),
+    ];
+    assert!(rt; is_row(rt.alloc(), &calls, b"tree t 3\n", (2, 0))?);
+    Ok(())
+}
+
+#[test]
+fn refused_changes(rt: HostRuntime) -> Result<(), Fail> {
+    let calls = [
+        (Call::Set(b"t", 1), 0),
+        (Call::SetLists(b"u", 1000), 0),
+        (Call::Undo(1), 0),
+        (Call::SetLists(b"t", 1001), 14),
+        (Call::Copy(b"u", b"t"), 5),
+        (Call::Drop(b"u"), 5),
+        (Call::Put(b"u", &[0], 1), 5),
+        (Call::Put(b"t", &[0], 1), 9),
+        (Call::Annotate(b"t", &[0], 1), 9),
+        (Call::PutLists(b"t", &[], 1001), 14),
+        (Call::Commit, 18),
+        (Call::Abandon, 18),
+    ];
+    assert!(rt; is_row(rt.alloc(), &calls, b"tree t 1\n", (1, 1))?);
+    Ok(())
+}
+
+#[test]
+fn places(rt: HostRuntime) -> Result<(), Fail> {
+    let calls = [
+        (Call::SetLists(b"t", 2), 0),
+        (Call::Put(b"t", &[0], 1), 0),
+        (Call::Annotate(b"t", &[0], 7), 0),
+        (Call::Put(b"t", &[0], 2), 0),
+        (Call::PutLists(b"t", &[0], 1000), 14),
+        (Call::Undo(1), 0),
+        (Call::Copy(b"t", b"a"), 0),
+        (Call::Drop(b"t"), 0),
+        (Call::Undo(1), 0),
+    ];
+    let dump = b"tree a [1{7}]\ntree t [1{7}]\n";
+    assert!(rt; is_row(rt.alloc(), &calls, dump, (4, 1))?);
+    Ok(())
+}
+
+#[test]
+fn groups(rt: HostRuntime) -> Result<(), Fail> {
+    let calls = [
+        (Call::Set(b"t", 1), 0),
+        (Call::Begin, 0),
+        (Call::Set(b"t", 2), 0),
+        (Call::Set(b"u", 3), 0),
+        (Call::Begin, 17),
+        (Call::Undo(9), 17),
+        (Call::Redo(9), 17),
+        (Call::Abandon, 0),
+        (Call::Begin, 0),
+        (Call::Set(b"t", 4), 0),
+        (Call::Copy(b"t", b"u"), 0),
+        (Call::Commit, 0),
+        (Call::Undo(1), 0),
+        (Call::Redo(1), 0),
+    ];
+    assert!(rt; is_row(rt.alloc(), &calls, b"tree t 4\ntree u 4\n", (2, 0))?);
+    Ok(())
+}
+
+// A group without a change is no step, and leaves what can be redone; one that is abandoned too.
+#[test]
+fn groups_after_undo(rt: HostRuntime) -> Result<(), Fail> {
+    let calls = [
+        (Call::Set(b"t", 1), 0),
+        (Call::Set(b"t", 2), 0),
+        (Call::Undo(1), 0),
+        (Call::Begin, 0),
+        (Call::Commit, 0),
+        (Call::Redo(1), 0),
+        (Call::Undo(1), 0),
+        (Call::Begin, 0),
+        (Call::Set(b"t", 3), 0),
+        (Call::Abandon, 0),
+        (Call::Redo(1), 0),
+        (Call::Undo(1), 0),
+        (Call::Begin, 0),
+        (Call::Set(b"t", 3), 0),
+        (Call::Commit, 0),
+        (Call::Redo(1), 16),
+    ];
+    assert!(rt; is_row(rt.alloc(), &calls, b"tree t 3\n", (2, 0))?);
+    Ok(())
+}
+
+#[test]
+fn modules_are_sound(rt: HostRuntime) -> Result<(), Fail> {
+    let calls = [
+        (Call::Module(b"b", b"strategies b = id"), 0),
+        (Call::Module(b"a", b"strategies a = b"), 0),
+        (Call::Module(b"a", b"strategies ="), 10),
+        (Call::Module(b"a", b"strategies a = c"), 11),
+        (Call::Module(b"c", b"strategies b = id"), 11),
+        (Call::Unload(b"b"), 11),
+        (Call::Unload(b"c"), 6),
+        (Call::Undo(1), 0),
+        (Call::Unload(b"b"), 0),
+        (Call::Redo(1), 16),
+        (Call::Undo(1), 0),
+    ];
+    let dump = b"begin\nmodule b strategies b = id\ncommit\n";
+    assert!(rt; is_row(rt.alloc(), &calls, dump, (1, 1))?);
+    Ok(())
+}
+
+// In a group the checker waits for the end, and a refused commit leaves the group open.
+#[test]
+fn modules_in_a_group(rt: HostRuntime) -> Result<(), Fail> {
+    let calls = [
+        (Call::Set(b"t", 1), 0),
+        (Call::Begin, 0),
+        (Call::Module(b"a", b"strategies a = b"), 0),
+        (Call::Module(b"c", b"strategies ="), 10),
+        (Call::Unload(b"c"), 6),
+        (Call::Commit, 11),
+        (Call::Set(b"t", 2), 0),
+        (Call::Module(b"b", b"strategies b = id"), 0),
+        (Call::Commit, 0),
+        (Call::Begin, 0),
+        (Call::Unload(b"b"), 0),
+        (Call::Commit, 11),
+        (Call::Abandon, 0),
+        (Call::Undo(1), 0),
+        (Call::Redo(1), 0),
+    ];
+    let dump = b"tree t 2\nbegin\nmodule a strategies a = b\nmodule b strategies b = id\ncommit\n";
+    assert!(rt; is_row(rt.alloc(), &calls, dump, (2, 0))?);
+    Ok(())
+}
+
+fn is_found_by_name(alloc: Global, session: &mut Session<NoPrimitives>) -> Result<bool, Fail> {
+    let name = Label::read(alloc, b"t")?;
+    if session.tree(&name).is_some() {
+        return Ok(false);
+    }
+    session.set_tree(&name, Term::integer(alloc, 1))?;
+    Ok(session.tree(&name).is_some_and(|tree| tree.size() == 1))
+}
+
+fn has_one_name(session: &Session<NoPrimitives>) -> Result<bool, Fail> {
+    Ok(session.tree_names()?.len() == 1)
+}
+
+fn has_module(alloc: Global, session: &mut Session<NoPrimitives>) -> Result<bool, Fail> {
+    let name = Label::read(alloc, b"m")?;
+    if session.module_text(&name).is_some() {
+        return Ok(false);
+    }
+    session.set_module(&name, b"rules")?;
+    Ok(
+        session
+            .module_text(&name)
+            .is_some_and(|text| text.len() == 5),
+    )
+}
+
+fn has_one_module(session: &Session<NoPrimitives>) -> Result<bool, Fail> {
+    Ok(session.module_names()?.len() == 1)
+}
+
+fn trees_are_found(alloc: Global, session: &mut Session<NoPrimitives>) -> Result<bool, Fail> {
+    let found = is_found_by_name(alloc, session)? && has_one_name(session)?;
+    Ok(found && !steps_are_compact(session).in_group())
+}
+
+fn modules_are_found(alloc: Global, session: &mut Session<NoPrimitives>) -> Result<bool, Fail> {
+    Ok(has_module(alloc, session)? && has_one_module(session)?)
+}
+
+fn new_session_finds_trees(alloc: Global) -> Result<bool, Fail> {
+    let mut session = Session::new(alloc, Primitives::new(Vec::new(alloc)));
+    trees_are_found(alloc, &mut session)
+}
+
+fn new_session_finds_modules(alloc: Global) -> Result<bool, Fail> {
+    let mut session = Session::new(alloc, Primitives::new(Vec::new(alloc)));
+    modules_are_found(alloc, &mut session)
+}
+
+#[test]
+fn contents_by_name(rt: HostRuntime) -> Result<(), Fail> {
+    assert!(rt; new_session_finds_trees(rt.alloc())?);
+    assert!(rt; new_session_finds_modules(rt.alloc())?);
+    Ok(())
+}
+
+fn makes_many_steps(alloc: Global, session: &mut Session<NoPrimitives>) -> Result<bool, Fail> {
+    let name = Label::read(alloc, b"t")?;
+    for i in 0..100_000 {
+        session.set_tree(&name, Term::integer(alloc, i))?;
+    }
+    Ok(session.counts() == (100_000, 0))
+}
+
+fn new_session_makes_many_steps(alloc: Global) -> Result<bool, Fail> {
+    let mut session = Session::new(alloc, Primitives::new(Vec::new(alloc)));
+    makes_many_steps(alloc, &mut session)
+}
+
+#[test]
+fn many_steps_are_dropped(rt: HostRuntime) -> Result<(), Fail> {
+    assert!(rt; new_session_makes_many_steps(rt.alloc())?);
+    Ok(())
+}
+
+#[test]
+fn refusals_have_numbers_and_words(rt: HostRuntime) -> Result<(), Fail> {
+    assert_eq!(rt; Refusal::NoUndo.word(), "noundo");
+    assert_eq!(rt; Refusal::from(LabelFault::Name).number(), 4);
+    assert_eq!(rt; Refusal::from(NoMemory).number(), 1);
+    Ok(())
+}
+
+// Takes a tree out of its slot, and refuses behind that where it is told to.
+fn clear_slot(store: &mut Store, log: &mut Log, slot: usize, refuses: bool) -> Result<(), Refusal>
+    requires { slot < length store.old.trees }
+    ensures { AddsEntries store.old log.old store.new log.new }
+{
+    log.push(store, Entry::tree(slot, None))?;
+    if refuses {
+        return Err(Refusal::Big);
+    }
+    Ok(())
+}
+
+fn clear(timeline: &mut Timeline, slot: usize, refuses: bool) -> Result<(), Refusal>
+    requires placed { IsPlaced timeline.old }
+    requires slot { slot < length timeline.old.store.trees }
+    ensures { IsPlaced timeline.new }
+{
+    timeline.change_by(|store, log| clear_slot(store, log, slot, refuses))
+}
+
+// Whether a slot is cleared by one change, as a step, and stays where the change is refused.
+fn changes_by_a_closure(alloc: Global) -> Result<bool, Fail> {
+    let mut timeline = Timeline::new(alloc);
+    let name = Label::read(alloc, b"t")?;
+    timeline.set_tree(&name, Term::integer(alloc, 1))?;
+    let slot = timeline.tree_slot(&name)?;
+    let refused = number_of(clear(&mut timeline, slot, true));
+    let stays = timeline.tree(&name).is_some() && timeline.past() == 1;
+    let slot = timeline.tree_slot(&name)?;
+    let done = number_of(clear(&mut timeline, slot, false));
+    let gone = timeline.tree(&name).is_none() && timeline.past() == 2;
+    Ok(refused == 14 && stays && done == 0 && gone)
+}
+
+#[test]
+fn many_entries_are_one_change(rt: HostRuntime) -> Result<(), Fail> {
+    assert!(rt; changes_by_a_closure(rt.alloc())?);
+    Ok(())
+}

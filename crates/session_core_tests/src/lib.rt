@@ -1,0 +1,6 @@
+//! The calls of a session, by rows. The crate holds tests alone, so that sessions are proved once and not again
+//! with their tests.
+#![tactic(auto)]
+
+#[cfg(test)]
+mod calls;

@@ -1,0 +1,25 @@
+use Rattle.std.proofs.Common.{◌++◌, IsSome, sym, subst, ◌∙◌}
+use Rattle.std.specs.List.{AllByRecursion}
+use Rattle.std.specs.FinMap as finmap
+use Rattle.std.proofs.lemmas.List.{drop_all}
+use Rattle.change_log.specs.Slots.{contents}
+use Rattle.session_steps.specs.Modules.{AreRead}
+use Rattle.session_steps.proofs.MapLemmas.{keys_there}
+use Rattle.session_steps.proofs.CheckLemmas.{read_all}
+use Rattle.session_steps.proofs.modules.read_modules.Goals as goal
+
+pub loop-name-init : goal.loop-name-init
+loop-name-init c =
+    let texts = (contents c.args.store.now).modules in
+    let names = c.deref-name-items.ensures.value ∙ c.in_ok-names.ensures in
+    record {
+      read = λ rest h. subst (λ ms. AreRead texts c.deref-name-items.result.now (ms ++ rest)) (sym c.in-Ok.ensures.items) h;
+      there = subst (AllByRecursion (λ name. IsSome (finmap.get texts name))) (sym names) (keys_there texts);
+    }
+
+pub returns-clause-ok : goal.returns-clause-ok
+returns-clause-ok c =
+    let texts = (contents c.args.store.now).modules in
+    let names = c.deref-name-items.ensures.value ∙ c.in_ok-names.ensures in
+    subst (λ names. AreRead texts names c.loop-name.modules.items) names
+    (read_all texts c.deref-name-items.result.now c.loop-name.modules.items (λ rest h. c.loop-name.invariant.read rest (subst (λ left. AreRead texts left rest) (sym (drop_all c.loop-name.name-index c.deref-name-items.result.now c.loop-name-test.false)) h)))

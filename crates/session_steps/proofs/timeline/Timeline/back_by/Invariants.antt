@@ -1,0 +1,18 @@
+use Rattle.std.proofs.Common.{◌≡◌, ◌≤◌, List, None, false}
+use Rattle.prim_core.specs.Signature.{Signature}
+use Rattle.session_steps.specs.History.{undone}
+use Rattle.session_steps.specs.Unfolded.{unfolded, IsPlaced}
+use Rattle.session_steps.proofs.timeline.Timeline.back_by.Given as goal
+
+-- the steps that are left lead where all of them led
+abbrev pub invariant-loop-left : goal.invariant-loop-left
+invariant-loop-left l = record {
+  placed : IsPlaced l.self;
+  outside : l.self.group ≡ None;
+  enough : l.left ≤ l.self.position;
+  value : (ps : List Signature) → undone l.steps (unfolded ps l.initial.self) ≡ undone l.left (unfolded ps l.self);
+  texts : l.texts ≡ false → l.self.store.modules ≡ l.initial.self.store.modules;
+}
+
+abbrev pub decreases-loop-left : goal.decreases-loop-left
+decreases-loop-left l = l.left

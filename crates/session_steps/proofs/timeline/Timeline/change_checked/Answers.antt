@@ -1,0 +1,37 @@
+use Rattle.std.proofs.Common.{sym, ap, subst, ◌∙◌, ◌++◌, ◌+◌, ◌∷◌, [], take}
+use Rattle.change_log.specs.Entries.{found}
+use Rattle.change_log.specs.Slots.{Store, contents}
+use Rattle.session_steps.specs.History.{changed}
+use Rattle.session_steps.specs.Unfolded.{unfolded, IsPlaced, AddsStep}
+use Rattle.session_steps.proofs.PlaceLemmas.{adds_one, many_placed, many_unfolded, same_timeline, rolled_placed, rolled_unfolded}
+use Rattle.session_steps.proofs.timeline.Timeline.change_checked.Goals as goal
+
+pub returns-in-Ok-check_modules-clause-placed : goal.returns-in-Ok-check_modules-clause-placed
+returns-in-Ok-check_modules-clause-placed g c =
+    let t = c.args.self.now in
+    subst IsPlaced (sym (same_timeline c.add_step.new.self c.push.new.store (t.position + 1) t.group t.current c.add_step.ensures.store c.add_step.ensures.position c.add_step.ensures.group c.add_step.ensures.current))
+    (many_placed t c.push.new.store c.add_step.new.self.logs c.push.new.self c.new-log.result c.requires.outside c.new-log.ensures
+    (adds_one c.args.entry t.store c.push.new.store c.new-log.result c.push.new.self c.requires.place c.in_ok-push.ensures.store c.in_ok-push.ensures.log)
+    (subst (λ l. AddsStep (take t.position l) c.push.new.self c.add_step.new.self.logs.items) c.in-Ok.ensures.items c.add_step.ensures.logs)
+    c.requires.placed)
+
+pub returns-in-Ok-check_modules-clause-ok : goal.returns-in-Ok-check_modules-clause-ok
+returns-in-Ok-check_modules-clause-ok g c =
+    let t = c.args.self.now in
+    let ps = c.args.primitives.now in
+    ap (unfolded ps) (same_timeline c.add_step.new.self c.push.new.store (t.position + 1) t.group t.current c.add_step.ensures.store c.add_step.ensures.position c.add_step.ensures.group c.add_step.ensures.current)
+    ∙ many_unfolded t c.push.new.store c.add_step.new.self.logs c.push.new.self c.new-log.result c.requires.outside c.new-log.ensures
+    (adds_one c.args.entry t.store c.push.new.store c.new-log.result c.push.new.self c.requires.place c.in_ok-push.ensures.store c.in_ok-push.ensures.log)
+    (subst (λ l. AddsStep (take t.position l) c.push.new.self c.add_step.new.self.logs.items) c.in-Ok.ensures.items c.add_step.ensures.logs)
+    c.requires.placed ps
+    ∙ ap (λ (s : Store). changed (contents s) (unfolded ps t)) c.in_ok-push.ensures.store
+
+pub returns-in-Err-clause-placed : goal.returns-in-Err-clause-placed
+returns-in-Err-clause-placed g c =
+    rolled_placed c.args.self.now c.args.entry c.push.new.store c.roll_back.new.store c.reserve.new.self c.push.new.self c.in_ok-push.ensures.store
+    (c.in_ok-push.ensures.log ∙ ap (λ l. l ++ found c.args.entry c.args.self.now.store ∷ []) c.new-log.ensures) c.roll_back.ensures.store c.in-Ok.ensures.items c.requires.placed
+
+pub returns-in-Err-clause-err : goal.returns-in-Err-clause-err
+returns-in-Err-clause-err g c =
+    rolled_unfolded c.args.self.now c.args.entry c.push.new.store c.roll_back.new.store c.reserve.new.self c.push.new.self c.in_ok-push.ensures.store
+    (c.in_ok-push.ensures.log ∙ ap (λ l. l ++ found c.args.entry c.args.self.now.store ∷ []) c.new-log.ensures) c.roll_back.ensures.store c.in-Ok.ensures.items c.requires.placed c.args.primitives.now

@@ -1,0 +1,16 @@
+use Rattle.std.proofs.Common.{◌≡◌, ◌≤◌, ◌++◌, Some, vec_capacity, drop}
+use Rattle.std.specs.List.{AllByRecursion}
+use Rattle.term_core.specs.Word.{label_of}
+use Rattle.aterm_text.specs.Printing.{Extends}
+use Rattle.change_log.specs.Slots.{contents}
+use Rattle.session_steps.specs.Dump.{module_lines}
+use Rattle.session_steps.proofs.timeline.Timeline.dump_texts.Given as goal
+
+-- the commands that were written and those still to come make the whole
+abbrev pub invariant-loop-name : goal.invariant-loop-name
+invariant-loop-name l = record {
+  text : l.initial.out.items ++ module_lines (contents l.self.store) l.names ≡ l.out.items ++ module_lines (contents l.self.store) (drop l.name-index l.names);
+  labels : AllByRecursion (λ name. label_of name ≡ Some name) (drop l.name-index l.names) → AllByRecursion (λ name. label_of name ≡ Some name) l.names;
+  grows : Extends l.initial.out.items l.out.items;
+  room : vec_capacity l.initial.out ≤ vec_capacity l.out;
+}

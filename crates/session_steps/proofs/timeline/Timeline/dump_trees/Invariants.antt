@@ -1,0 +1,18 @@
+use Rattle.std.proofs.Common.{◌≡◌, ◌≤◌, ◌++◌, [], vec_capacity, drop}
+use Rattle.std.specs.Option.{option_map_or}
+use Rattle.std.specs.List.{flat_map, AllByRecursion}
+use Rattle.std.specs.FinMap as finmap
+use Rattle.aterm_text.specs.Printing.{Extends}
+use Rattle.change_log.specs.Slots.{contents}
+use Rattle.session_steps.specs.Dump.{tree_line, IsNamedTerm}
+use Rattle.session_steps.proofs.timeline.Timeline.dump_trees.Given as goal
+
+-- the lines that were written and those still to come make the whole
+abbrev pub invariant-loop-name : goal.invariant-loop-name
+invariant-loop-name l = record {
+  text : l.initial.out.items ++ flat_map (λ name. option_map_or (tree_line name) (finmap.get (contents l.self.store).trees name) []) l.names
+      ≡ l.out.items ++ flat_map (λ name. option_map_or (tree_line name) (finmap.get (contents l.self.store).trees name) []) (drop l.name-index l.names);
+  terms : AllByRecursion (IsNamedTerm (contents l.self.store)) (drop l.name-index l.names) → AllByRecursion (IsNamedTerm (contents l.self.store)) l.names;
+  grows : Extends l.initial.out.items l.out.items;
+  room : vec_capacity l.initial.out ≤ vec_capacity l.out;
+}

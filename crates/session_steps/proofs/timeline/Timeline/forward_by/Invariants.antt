@@ -1,0 +1,18 @@
+use Rattle.std.proofs.Common.{◌≡◌, ◌≤◌, ◌+◌, List, None, false, length}
+use Rattle.prim_core.specs.Signature.{Signature}
+use Rattle.session_steps.specs.History.{redone}
+use Rattle.session_steps.specs.Unfolded.{unfolded, IsPlaced}
+use Rattle.session_steps.proofs.timeline.Timeline.forward_by.Given as goal
+
+-- the steps that are left lead where all of them led
+abbrev pub invariant-loop-left : goal.invariant-loop-left
+invariant-loop-left l = record {
+  placed : IsPlaced l.self;
+  outside : l.self.group ≡ None;
+  enough : l.self.position + l.left ≤ length l.self.logs.items;
+  value : (ps : List Signature) → redone l.steps (unfolded ps l.initial.self) ≡ redone l.left (unfolded ps l.self);
+  texts : l.texts ≡ false → l.self.store.modules ≡ l.initial.self.store.modules;
+}
+
+abbrev pub decreases-loop-left : goal.decreases-loop-left
+decreases-loop-left l = l.left

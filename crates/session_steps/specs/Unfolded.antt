@@ -1,0 +1,124 @@
+-- What the logs of a session stand for: the whole contents before and after each step.
+use Rattle.std.specs.Prelude.{◌≡◌, ◌≤◌, ℕ, List, [], ◌∷◌, ◌++◌, length, take, drop, true, Some, None, option_map}
+use Rattle.std.specs.declared.option.Option.{Option}
+use Rattle.std.specs.Bool.{OnFalse}
+use Rattle.std.specs.Borrow.{MutBor}
+use Rattle.term_core.specs.Tree.{Tree}
+use Rattle.term_paths.specs.Paths.{leads}
+use Rattle.prim_core.specs.Signature.{Signature}
+use Rattle.change_log.specs.Contents.{Contents}
+use Rattle.change_log.specs.Slots.{Store, AreApart, contents, content, slot_of}
+use Rattle.change_log.specs.Entries.{Entry, before, after, Fits, FitsForward}
+use Rattle.change_log.specs.Compact.{IsCompact}
+use Rattle.session_steps.specs.History.{History}
+use Rattle.session_steps.specs.declared.timeline.Timeline.{Timeline}
+use Rattle.session_steps.specs.declared.timeline.OpenGroup.{OpenGroup}
+
+-- the store before the steps of these logs, the newest last
+abbrev pub rewound : List (List Entry) → Store → Store
+rewound [] s = s
+rewound (log ∷ logs) s = before log (rewound logs s)
+
+-- the contents before each of the steps
+abbrev pub past_of : List (List Entry) → Store → List Contents
+past_of [] s = []
+past_of (log ∷ logs) s = contents (before log (rewound logs s)) ∷ past_of logs s
+
+-- the contents after each of the steps that these logs make again, the nearest first
+abbrev pub later_of : List (List Entry) → Store → List Contents
+later_of [] s = []
+later_of (log ∷ logs) s = contents (after log s) ∷ later_of logs (after log s)
+
+-- each log leads back where it stands
+abbrev pub FitBack : List (List Entry) → Store → Type 0
+FitBack [] s = Unit {0}
+FitBack (log ∷ logs) s = Fits log (rewound logs s) × FitBack logs s
+
+-- each log leads forward where it stands
+abbrev pub FitForward : List (List Entry) → Store → Type 0
+FitForward [] s = Unit {0}
+FitForward (log ∷ logs) s = FitsForward log s × FitForward logs (after log s)
+
+-- The history that a timeline stands for, in a session with these primitives. The current log has
+-- what was changed since the open group began, and is empty outside a group.
+abbrev pub unfolded : List Signature → Timeline → History
+unfolded primitives t =
+    let start = before t.current t.store in
+    record {
+      primitives = primitives;
+      past = past_of (take t.position t.logs.items) start;
+      now = contents t.store;
+      later = later_of (drop t.position t.logs.items) start;
+      group = option_map (λ g. record { begun = contents start; changed = g.changed }) t.group;
+    }
+
+-- where nothing was changed in a group, or no group is open, the current log is empty
+abbrev pub IsCurrent : Option OpenGroup → List Entry → Type 0
+IsCurrent None log = log ≡ []
+IsCurrent (Some g) log = OnFalse g.changed (log ≡ [])
+
+-- in each log no entry's place lies within another's
+abbrev pub AllCompact : List (List Entry) → Type 0
+AllCompact [] = Unit {0}
+AllCompact (log ∷ logs) = IsCompact log × AllCompact logs
+
+-- the log of each step
+abbrev pub logs_of : Timeline → List (List Entry)
+logs_of t = t.logs.items
+
+-- The position is one of the logs or their end; the logs before it lead back, the others forward. All are
+-- compact. What an open group changed leads back too.
+pub record IsPlaced (t : Timeline) : Type 0 where
+  pub within : t.position ≤ length t.logs.items
+  pub back : FitBack (take t.position t.logs.items) (before t.current t.store)
+  pub forward : FitForward (drop t.position t.logs.items) (before t.current t.store)
+  pub compact : AllCompact t.logs.items
+  pub fits : Fits t.current t.store
+  pub current : IsCurrent t.group t.current
+
+-- A step is added behind these logs: what is left of the given log once it is compact, which leads back to
+-- the same.
+pub record AddsStep (logs : List (List Entry)) (log : List Entry) (new : List (List Entry)) : Type 0 where
+  pub left : List Entry
+  pub all : new ≡ logs ++ left ∷ []
+  pub back : (s : Store) → before left s ≡ before log s
+  pub fits : (s : Store) → Fits log s → Fits left s
+  pub compact : IsCompact left
+
+-- the slot of a name's tree, in which the path leads to a subterm
+abbrev pub IsPlaceOf : Store → List ℕ → List ℕ → ℕ → Type 0
+IsPlaceOf s name path slot =
+    (t : Tree) × (slot_of s.trees name ≡ Some slot) × (AreApart s.trees)
+    × (content s.trees slot ≡ Some t) × (leads t path ≡ true)
+
+-- ---- a change of many entries
+
+-- From a store and its log to these: entries were added behind the log, which lead back and fit.
+pub record AddsEntries (s : Store) (log : List Entry) (t : Store) (longer : List Entry) : Type 0 where
+  pub added : List Entry
+  pub behind : longer ≡ log ++ added
+  pub back : before added t ≡ s
+  pub fits : Fits added t
+
+-- what a call may leave of the store and the log that it is lent
+abbrev pub Leaving : Type 1
+Leaving = MutBor Store → MutBor (List Entry) → MutBor Store → MutBor (List Entry) → Type 0
+
+-- a call that is lent this store leaves that one
+pub record CallLeaves (Leaves : Leaving) (s t : Store) : Type 0 where
+  pub store : MutBor Store
+  pub log : MutBor (List Entry)
+  pub store_left : MutBor Store
+  pub log_left : MutBor (List Entry)
+  pub leaves : Leaves store log store_left log_left
+  pub lent : store.now ≡ s
+  pub left : store_left.now ≡ t
+
+-- a call that is lent this store refuses, whatever it leaves
+pub record CallRefuses (Leaves : Leaving) (s : Store) : Type 0 where
+  pub store : MutBor Store
+  pub log : MutBor (List Entry)
+  pub store_left : MutBor Store
+  pub log_left : MutBor (List Entry)
+  pub leaves : Leaves store log store_left log_left
+  pub lent : store.now ≡ s

@@ -1,0 +1,495 @@
+//! Steps over one store: the logs that lead back from each, and forward again.
+
+ghost use Rattle.std.specs.Prelude.{◌≡◌, ◌⊎◌, ◌<◌, ◌≤◌, ◌+◌, ◌-◌, ◌++◌, ℕ, List, [], ◌∷◌, length, take, vec_capacity, IfOk, OnOk, OnErr, Some, None, Ok, Err, IsSome, IsSomeAnd, true, false, is_some, option_copied, IfErr};
+ghost use Rattle.std.specs.Option.{option_map_or};
+ghost use Rattle.std.specs.FinMap as finmap;
+ghost use Rattle.std.specs.declared.option.Option.{Option};
+ghost use Rattle.prim_core.specs.Signature.{Signature};
+ghost use Rattle.std.specs.declared.result.Result.{Result};
+ghost use Rattle.std.specs.Borrow.{MutBor};
+ghost use Rattle.change_log.specs.Slots.{Store, contents, slot_of, AreApart};
+ghost use Rattle.change_log.specs.Entries.{Entry, HasPlace, put};
+ghost use Rattle.session_steps.specs.History.{empty_history, changed, step_back, step_forward, undone, redone};
+ghost use Rattle.session_steps.specs.Step.{ComesTo, begin, abandon, committed};
+ghost use Rattle.session_steps.specs.Modules.{IsProgram, AreRefused};
+ghost use Rattle.session_steps.specs.Unfolded.{unfolded, IsPlaced, AddsStep, AddsEntries, CallLeaves, CallRefuses};
+
+use crate::Refusal;
+use crate::modules::check_modules;
+use change_log::{Entry, Log, Step, Store};
+use prim_core::{Meaning, Primitives};
+use std::alloc::Global;
+use std::mem;
+use strategy_check::Program;
+use term_core::{Label, NoMemory, Term};
+
+/// The contents now, and the steps from and to other contents.
+#[derive(Drop)]
+pub struct Timeline {
+    pub store: Store,
+    // The steps, the oldest first. Those before the position lead back, the others were undone and lead
+    // forward.
+    logs: Vec<Step>,
+    position: usize,
+    group: Option<OpenGroup>,
+    // What was changed since the open group began; nothing outside a group.
+    current: Log,
+}
+
+/// A group that is open.
+#[derive(Clone, Copy)]
+pub struct OpenGroup {
+    // Whether a change was accepted since it began.
+    changed: bool,
+}
+
+impl Timeline {
+    /// No contents and no steps. It takes no memory.
+    pub fn new(alloc: Global) -> Timeline
+        ensures value { (ps : List Signature) → unfolded ps result ≡ empty_history ps }
+        ensures placed { IsPlaced result }
+    {
+        Timeline {
+            store: Store::new(alloc),
+            logs: Vec::new(alloc),
+            position: 0,
+            group: None,
+            current: Log::new(alloc),
+        }
+    }
+
+    /// The allocator of what is kept.
+    pub fn allocator(&self) -> Global {
+        *self.logs.allocator()
+    }
+
+    /// How many steps there are to undo.
+    pub fn past(&self) -> usize
+        requires { IsPlaced self.now }
+        ensures value { (ps : List Signature) → length (unfolded ps self.now).past ≡ result }
+        ensures position { result ≡ self.now.position }
+    {
+        self.position
+    }
+
+    /// How many steps there are to redo.
+    pub fn later(&self) -> usize
+        requires { IsPlaced self.now }
+        ensures value { (ps : List Signature) → length (unfolded ps self.now).later ≡ result }
+        ensures rest { self.now.position + result ≡ length self.now.logs.items }
+    {
+        self.logs.len() - self.position
+    }
+
+    /// Whether a group is open.
+    pub fn in_group(&self) -> bool
+        ensures open { result ≡ true → (ps : List Signature) → is_some (unfolded ps self.now).group ≡ true }
+        ensures inside { result ≡ true → IsSome self.now.group }
+        ensures closed { result ≡ false → self.now.group ≡ None }
+    {
+        self.group.is_some()
+    }
+
+    /// The tree of this name, or `None` where there is none.
+    pub fn tree(&self, name: &Label) -> Option<&Term>
+        ensures { option_copied result ≡ finmap.get (contents self.now.store).trees name.now }
+    {
+        let slot = self.store.find_tree(name)?;
+        self.store.tree(slot)
+    }
+
+    /// The names of the trees, in byte order.
+    pub fn tree_names(&self) -> Result<Vec<Label>, NoMemory>
+        ensures { IfOk result (λ names. names.items
+            ≡ finmap.keys (contents self.now.store).trees) }
+    {
+        self.store.tree_names(*self.logs.allocator())
+    }
+
+    /// The module text of this name, or `None` where there is none.
+    pub fn module_text(&self, name: &Label) -> Option<&[u8]>
+        ensures { option_copied result ≡ finmap.get (contents self.now.store).modules name.now }
+    {
+        let slot = self.store.find_module(name)?;
+        self.store.module(slot)
+    }
+
+    /// The names of the modules, in byte order.
+    pub fn module_names(&self) -> Result<Vec<Label>, NoMemory>
+        ensures { IfOk result (λ names. names.items
+            ≡ finmap.keys (contents self.now.store).modules) }
+    {
+        self.store.module_names(*self.logs.allocator())
+    }
+
+    /// The slot for the tree of this name, which is made where there was none.
+    pub fn tree_slot(&mut self, name: &Label) -> Result<usize, NoMemory>
+        requires { IsPlaced self.old }
+        ensures placed { IsPlaced self.new }
+        ensures same { (ps : List Signature) → unfolded ps self.new ≡ unfolded ps self.old }
+        ensures slot { IfOk result (λ i. slot_of self.new.store.trees name.now ≡ Some i) }
+        ensures within { IfOk result (λ i. i < length self.new.store.trees) }
+    {
+        self.store.tree_slot(name)
+    }
+
+    /// The slot for the module of this name, which is made where there was none.
+    pub fn module_slot(&mut self, name: &Label) -> Result<usize, NoMemory>
+        requires { IsPlaced self.old }
+        ensures placed { IsPlaced self.new }
+        ensures same { (ps : List Signature) → unfolded ps self.new ≡ unfolded ps self.old }
+        ensures slot { IfOk result (λ i. slot_of self.new.store.modules name.now ≡ Some i) }
+        ensures within { IfOk result (λ i. i < length self.new.store.modules) }
+        ensures apart { AreApart self.new.store.modules }
+        ensures group { self.new.group ≡ self.old.group }
+    {
+        self.store.module_slot(name)
+    }
+
+    /// Makes a change, as a step, or as part of the group that is open. Where a growth of memory is
+    /// refused, all stays as it was.
+    pub fn change(&mut self, entry: Entry<'_>) -> Result<(), NoMemory>
+        requires placed { IsPlaced self.old }
+        requires place { HasPlace entry self.old.store }
+        ensures placed { IsPlaced self.new }
+        ensures ok { OnOk result ((ps : List Signature) → unfolded ps self.new
+            ≡ changed (contents (put entry.entry self.old.store)) (unfolded ps self.old)) }
+        ensures err { OnErr result ((ps : List Signature) → unfolded ps self.new
+            ≡ unfolded ps self.old) }
+    {
+        if self.in_group() {
+            self.change_in_group(entry)
+        } else {
+            self.change_as_step(entry)
+        }
+    }
+
+    pub fn change_in_group(&mut self, entry: Entry<'_>) -> Result<(), NoMemory>
+        requires placed { IsPlaced self.old }
+        requires place { HasPlace entry self.old.store }
+        requires inside { IsSome self.old.group }
+        ensures placed { IsPlaced self.new }
+        ensures ok { OnOk result ((ps : List Signature) → unfolded ps self.new
+            ≡ changed (contents (put entry.entry self.old.store)) (unfolded ps self.old)) }
+        ensures err { OnErr result ((ps : List Signature) → unfolded ps self.new
+            ≡ unfolded ps self.old) }
+    {
+        self.current.push(&mut self.store, entry)?;
+        self.group = Some(OpenGroup { changed: true });
+        Ok(())
+    }
+
+    // The place in the list of steps is reserved before anything is changed.
+    fn change_as_step(&mut self, entry: Entry<'_>) -> Result<(), NoMemory>
+        requires placed { IsPlaced self.old }
+        requires place { HasPlace entry self.old.store }
+        requires outside { self.old.group ≡ None }
+        ensures placed { IsPlaced self.new }
+        ensures ok { OnOk result ((ps : List Signature) → unfolded ps self.new
+            ≡ changed (contents (put entry.entry self.old.store)) (unfolded ps self.old)) }
+        ensures err { OnErr result ((ps : List Signature) → unfolded ps self.new
+            ≡ unfolded ps self.old) }
+    {
+        self.logs.reserve(1)?;
+        let step = Step::make(*self.logs.allocator(), &mut self.store, entry)?;
+        self.add(step);
+        Ok(())
+    }
+
+    /// Makes a change of as many entries as the closure adds behind the log that it is lent, or of none:
+    /// as a step, or as part of the group that is open. Where the closure refuses, or a growth of memory
+    /// is refused, all stays as it was.
+    pub fn change_by<F: FnOnce(&mut Store, &mut Log) -> Result<(), Refusal> + Drop>(
+        &mut self,
+        change: F,
+    ) -> Result<(), Refusal>
+        requires placed { IsPlaced self.old }
+        requires callable { (s : MutBor Store) (l : MutBor (List Entry)) → s.now ≡ self.old.store
+            → F.pre change s l }
+        requires entries { (s : MutBor Store) (l : MutBor (List Entry)) (r : Result _ Refusal)
+            (t : MutBor Store) (m : MutBor (List Entry)) → s.now ≡ self.old.store
+            → F.post change s l r t m → AddsEntries s.now l.now t.now m.now }
+        ensures placed { IsPlaced self.new }
+        ensures ok { OnOk result ((ps : List Signature) → unfolded ps self.new
+            ≡ changed (contents self.new.store) (unfolded ps self.old)) }
+        ensures made { OnOk result (CallLeaves (λ s l t m. F.post change s l (Ok tt) t m)
+            self.old.store self.new.store) }
+        ensures refused { IfErr result (λ refusal. (refusal ≡ Refusal.Memory)
+            ⊎ CallRefuses (λ s l t m. F.post change s l (Err refusal) t m) self.old.store) }
+        ensures err { OnErr result ((ps : List Signature) → unfolded ps self.new
+            ≡ unfolded ps self.old) }
+    {
+        if self.in_group() {
+            self.change_in_group_by(change)
+        } else {
+            self.change_as_step_by(change)
+        }
+    }
+
+    // What the closure added to the group's log before it refused is taken back from there.
+    fn change_in_group_by<F: FnOnce(&mut Store, &mut Log) -> Result<(), Refusal> + Drop>(
+        &mut self,
+        change: F,
+    ) -> Result<(), Refusal>
+        requires placed { IsPlaced self.old }
+        requires callable { (s : MutBor Store) (l : MutBor (List Entry)) → s.now ≡ self.old.store
+            → F.pre change s l }
+        requires entries { (s : MutBor Store) (l : MutBor (List Entry)) (r : Result _ Refusal)
+            (t : MutBor Store) (m : MutBor (List Entry)) → s.now ≡ self.old.store
+            → F.post change s l r t m → AddsEntries s.now l.now t.now m.now }
+        requires inside { IsSome self.old.group }
+        ensures placed { IsPlaced self.new }
+        ensures ok { OnOk result ((ps : List Signature) → unfolded ps self.new
+            ≡ changed (contents self.new.store) (unfolded ps self.old)) }
+        ensures made { OnOk result (CallLeaves (λ s l t m. F.post change s l (Ok tt) t m)
+            self.old.store self.new.store) }
+        ensures refused { IfErr result (λ refusal. CallRefuses
+            (λ s l t m. F.post change s l (Err refusal) t m) self.old.store) }
+        ensures err { OnErr result ((ps : List Signature) → unfolded ps self.new
+            ≡ unfolded ps self.old) }
+    {
+        let mark = self.current.mark();
+        if let Err(refusal) = change(&mut self.store, &mut self.current) {
+            self.current.roll_back(mark, &mut self.store);
+            return Err(refusal);
+        }
+        self.group = Some(OpenGroup { changed: true });
+        Ok(())
+    }
+
+    // The place in the list of steps is reserved before anything is changed.
+    fn change_as_step_by<F: FnOnce(&mut Store, &mut Log) -> Result<(), Refusal> + Drop>(
+        &mut self,
+        change: F,
+    ) -> Result<(), Refusal>
+        requires placed { IsPlaced self.old }
+        requires callable { (s : MutBor Store) (l : MutBor (List Entry)) → s.now ≡ self.old.store
+            → F.pre change s l }
+        requires entries { (s : MutBor Store) (l : MutBor (List Entry)) (r : Result _ Refusal)
+            (t : MutBor Store) (m : MutBor (List Entry)) → s.now ≡ self.old.store
+            → F.post change s l r t m → AddsEntries s.now l.now t.now m.now }
+        requires outside { self.old.group ≡ None }
+        ensures placed { IsPlaced self.new }
+        ensures ok { OnOk result ((ps : List Signature) → unfolded ps self.new
+            ≡ changed (contents self.new.store) (unfolded ps self.old)) }
+        ensures made { OnOk result (CallLeaves (λ s l t m. F.post change s l (Ok tt) t m)
+            self.old.store self.new.store) }
+        ensures refused { IfErr result (λ refusal. (refusal ≡ Refusal.Memory)
+            ⊎ CallRefuses (λ s l t m. F.post change s l (Err refusal) t m) self.old.store) }
+        ensures err { OnErr result ((ps : List Signature) → unfolded ps self.new
+            ≡ unfolded ps self.old) }
+    {
+        if self.logs.reserve(1).is_err() {
+            return Err(Refusal::Memory);
+        }
+        let mut added = Log::new(*self.logs.allocator());
+        if let Err(refusal) = change(&mut self.store, &mut added) {
+            added.roll_back(0, &mut self.store);
+            return Err(refusal);
+        }
+        self.add_step(added);
+        Ok(())
+    }
+
+    /// Makes a change as a step, where the checker finds no fault in the modules then, and gives their
+    /// program. Else all stays as it was.
+    pub fn change_checked<M: Meaning>(
+        &mut self,
+        primitives: &Primitives<M>,
+        entry: Entry<'_>,
+    ) -> Result<Program, Refusal>
+        requires placed { IsPlaced self.old }
+        requires place { HasPlace entry self.old.store }
+        requires outside { self.old.group ≡ None }
+        ensures placed { IsPlaced self.new }
+        ensures ok { OnOk result (unfolded primitives.now self.new
+            ≡ changed (contents (put entry.entry self.old.store)) (unfolded primitives.now self.old)) }
+        ensures program { IfOk result (λ program. IsProgram primitives.now
+            (contents (put entry.entry self.old.store)).modules program) }
+        ensures refused { IfErr result (λ refusal. AreRefused primitives.now
+            (contents (put entry.entry self.old.store)).modules refusal) }
+        ensures err { OnErr result (unfolded primitives.now self.new
+            ≡ unfolded primitives.now self.old) }
+    {
+        let Ok(()) = self.logs.reserve(1) else {
+            return Err(Refusal::Memory);
+        };
+        let mut log = Log::new(*self.logs.allocator());
+        log.push(&mut self.store, entry)?;
+        match check_modules(*self.logs.allocator(), &self.store, primitives) {
+            Ok(program) => {
+                self.add_step(log);
+                Ok(program)
+            }
+            Err(refusal) => {
+                log.roll_back(0, &mut self.store);
+                Err(refusal)
+            }
+        }
+    }
+
+    // Adds a step of the log, made compact, where there is room for it. Those that were undone are dropped.
+    fn add_step(&mut self, log: Log)
+        requires within { self.old.position ≤ length self.old.logs.items }
+        requires room { length self.old.logs.items < vec_capacity self.old.logs }
+        ensures logs { AddsStep (take self.old.position self.old.logs.items) log self.new.logs.items }
+        ensures position { self.new.position ≡ self.old.position + 1 }
+        ensures store { self.new.store ≡ self.old.store }
+        ensures group { self.new.group ≡ self.old.group }
+        ensures current { self.new.current ≡ self.old.current }
+    {
+        self.add(Step::of(log));
+    }
+
+    // Adds a step where there is room for it. Those that were undone are dropped.
+    #[inline(always)]
+    fn add(&mut self, step: Step)
+        requires within { self.old.position ≤ length self.old.logs.items }
+        requires room { length self.old.logs.items < vec_capacity self.old.logs }
+        ensures logs { self.new.logs.items ≡ take self.old.position self.old.logs.items ++ step ∷ [] }
+        ensures position { self.new.position ≡ self.old.position + 1 }
+        ensures store { self.new.store ≡ self.old.store }
+        ensures group { self.new.group ≡ self.old.group }
+        ensures current { self.new.current ≡ self.old.current }
+    {
+        self.logs.truncate(self.position);
+        self.logs.push_reserved(step);
+        self.position += 1;
+    }
+
+    /// Goes one step back, and tells whether that may have changed module texts.
+    pub fn back(&mut self) -> bool
+        requires placed { IsPlaced self.old }
+        requires some { 0 < self.old.position }
+        requires outside { self.old.group ≡ None }
+        ensures placed { IsPlaced self.new }
+        ensures outside { self.new.group ≡ None }
+        ensures position { self.new.position ≡ self.old.position - 1 }
+        ensures texts { result ≡ false → self.new.store.modules ≡ self.old.store.modules }
+        ensures value { (ps : List Signature) → step_back (unfolded ps self.old)
+            ≡ Some (unfolded ps self.new) }
+    {
+        self.position -= 1;
+        let step = &mut self.logs[self.position];
+        let texts = step.has_text();
+        step.flip_back(&mut self.store);
+        texts
+    }
+
+    /// Goes so many steps back, and tells whether that may have changed module texts.
+    pub fn back_by(&mut self, steps: usize) -> bool
+        requires placed { IsPlaced self.old }
+        requires enough { steps ≤ self.old.position }
+        requires outside { self.old.group ≡ None }
+        ensures placed { IsPlaced self.new }
+        ensures value { (ps : List Signature) → undone steps (unfolded ps self.old)
+            ≡ Some (unfolded ps self.new) }
+        ensures texts { result ≡ false → self.new.store.modules ≡ self.old.store.modules }
+    {
+        let mut texts = false;
+        let mut left = steps;
+        while left > 0 {
+            left -= 1;
+            if self.back() {
+                texts = true;
+            }
+        }
+        texts
+    }
+
+    /// Goes one step forward, and tells whether that may have changed module texts.
+    pub fn forward(&mut self) -> bool
+        requires placed { IsPlaced self.old }
+        requires some { self.old.position < length self.old.logs.items }
+        requires outside { self.old.group ≡ None }
+        ensures placed { IsPlaced self.new }
+        ensures outside { self.new.group ≡ None }
+        ensures position { self.new.position ≡ self.old.position + 1 }
+        ensures count { length self.new.logs.items ≡ length self.old.logs.items }
+        ensures texts { result ≡ false → self.new.store.modules ≡ self.old.store.modules }
+        ensures value { (ps : List Signature) → step_forward (unfolded ps self.old)
+            ≡ Some (unfolded ps self.new) }
+    {
+        let step = &mut self.logs[self.position];
+        let texts = step.has_text();
+        step.flip_forward(&mut self.store);
+        self.position += 1;
+        texts
+    }
+
+    /// Goes so many steps forward, and tells whether that may have changed module texts.
+    pub fn forward_by(&mut self, steps: usize) -> bool
+        requires placed { IsPlaced self.old }
+        requires enough { self.old.position + steps ≤ length self.old.logs.items }
+        requires outside { self.old.group ≡ None }
+        ensures placed { IsPlaced self.new }
+        ensures value { (ps : List Signature) → redone steps (unfolded ps self.old)
+            ≡ Some (unfolded ps self.new) }
+        ensures texts { result ≡ false → self.new.store.modules ≡ self.old.store.modules }
+    {
+        let mut texts = false;
+        let mut left = steps;
+        while left > 0 {
+            left -= 1;
+            if self.forward() {
+                texts = true;
+            }
+        }
+        texts
+    }
+
+    /// Opens a group. It takes no memory.
+    pub fn open_group(&mut self)
+        requires placed { IsPlaced self.old }
+        requires outside { self.old.group ≡ None }
+        ensures placed { IsPlaced self.new }
+        ensures value { (ps : List Signature) → ComesTo begin (unfolded ps self.old) (Ok (unfolded ps self.new)) }
+    {
+        self.group = Some(OpenGroup { changed: false });
+    }
+
+    /// Makes what the open group changed one step, and closes it. Where a growth of memory is refused,
+    /// all stays as it was.
+    pub fn close_group(&mut self) -> Result<(), NoMemory>
+        requires placed { IsPlaced self.old }
+        requires inside { IsSome self.old.group }
+        ensures placed { IsPlaced self.new }
+        ensures ok { OnOk result ((ps : List Signature)
+            → IsSomeAnd (unfolded ps self.old).group (λ g. unfolded ps self.new
+            ≡ committed g (unfolded ps self.old))) }
+        ensures err { OnErr result ((ps : List Signature) → unfolded ps self.new
+            ≡ unfolded ps self.old) }
+    {
+        if !self.has_changed() {
+            self.group = None;
+            return Ok(());
+        }
+        self.logs.reserve(1)?;
+        let log = mem::replace(&mut self.current, Log::new(*self.logs.allocator()));
+        self.add_step(log);
+        self.group = None;
+        Ok(())
+    }
+
+    // Whether something was changed in the open group.
+    fn has_changed(&self) -> bool
+        ensures { result ≡ option_map_or (λ g. g.changed) self.now.group false }
+    {
+        self.group.is_some_and(|group| group.changed)
+    }
+
+    /// Takes back what the open group changed, and closes it, and tells whether that may have changed
+    /// module texts. It takes no memory.
+    pub fn leave_group(&mut self) -> bool
+        requires placed { IsPlaced self.old }
+        requires inside { IsSome self.old.group }
+        ensures placed { IsPlaced self.new }
+        ensures value { (ps : List Signature) → ComesTo abandon (unfolded ps self.old) (Ok (unfolded ps self.new)) }
+        ensures texts { result ≡ false → self.new.store.modules ≡ self.old.store.modules }
+    {
+        let texts = self.current.has_text();
+        self.current.roll_back(0, &mut self.store);
+        self.group = None;
+        texts
+    }
+}
