@@ -15,7 +15,6 @@ import tempfile
 from measure import build
 from texts import names, nested, row, table
 
-CRATES = ["term_core", "aterm_text", "prim_core", "strategy_syntax", "strategy_tokens", "strategy_parse", "strategy_check"]
 USES = "term_core prim_core strategy_syntax strategy_parse strategy_check anyhow"
 
 
@@ -55,7 +54,7 @@ STRATEGIES = {
 
 def main():
     with tempfile.TemporaryDirectory() as folder:
-        program = build(folder, "checks.txt", CRATES, USES)
+        program = build(folder, "checks.txt", USES)
         table(program, "check", MODULES)
         table(program, "resolve", STRATEGIES)
 

@@ -16,7 +16,6 @@ import tempfile
 
 from measure import TOP, build, instructions
 
-CRATES = ["term_core", "term_paths", "change_log"]
 USES = "term_core change_log anyhow"
 SHAPES = {
     "place": "all at one place",
@@ -60,7 +59,7 @@ def main():
     if not os.path.exists(stratbench):
         sys.exit("build the program first: (cd crates/stratbench && rt run < stdin)")
     with tempfile.TemporaryDirectory() as folder:
-        compacting(build(folder, "logs.txt", CRATES, USES))
+        compacting(build(folder, "logs.txt", USES))
     kept_program(stratbench)
 
 

@@ -44,9 +44,23 @@ def instructions(program, words, text, status=0):
     return int(count.group(1)), run.stdout.decode().strip()
 
 
-def build(folder, program, crates, uses):
-    """Proves and builds a small program on copies of these crates, and tells where it is."""
-    for crate in crates:
+def with_those_below(uses):
+    """The lines of crates.txt of these crates and of those that they stand on, by name."""
+    with open(os.path.join(TOP, "crates.txt")) as lines:
+        known = {line.split(":")[0]: line for line in lines if ":" in line and not line.startswith("#")}
+    needed, left = {}, uses.split()
+    while left:
+        crate = left.pop()
+        if crate in known and crate not in needed:
+            needed[crate] = known[crate]
+            left += known[crate].split(":")[1].split()
+    return needed
+
+
+def build(folder, program, uses):
+    """Proves and builds a small program that uses these crates, on copies of them and of those below, and tells where it is."""
+    needed = with_those_below(uses)
+    for crate in needed:
         shutil.copytree(os.path.join(TOP, "crates", crate), os.path.join(folder, "crates", crate))
     subprocess.run(["rt", "new", "crates/measure", "start_io"], cwd=folder, check=True)
     crate = os.path.join(folder, "crates", "measure")
@@ -57,10 +71,8 @@ def build(folder, program, crates, uses):
         os.remove(os.path.join(crate, "src", name))
     source = os.path.join(TOP, "tools", "measure", program)
     shutil.copy(source, os.path.join(crate, "src", "main.rt"))
-    with open(os.path.join(TOP, "crates.txt")) as lines:
-        needed = [line for line in lines if line.split(":")[0] in crates]
     with open(os.path.join(folder, "crates.txt"), "w") as lines:
-        lines.writelines([*needed, "measure: " + uses + "\n"])
+        lines.writelines([*needed.values(), "measure: " + uses + "\n"])
     subprocess.run(["rt", "run"], cwd=crate, check=True, stdin=subprocess.DEVNULL)
     return os.path.join(crate, "out", "measure")
 
@@ -71,7 +83,7 @@ def main():
         sys.exit("build the program first: (cd crates/stratbench && rt run < stdin)")
     empty, _ = instructions(stratbench, [], "")
     with tempfile.TemporaryDirectory() as folder:
-        program = build(folder, "program.txt", ["term_core", "aterm_text"], "term_core aterm_text anyhow")
+        program = build(folder, "program.txt", "term_core aterm_text anyhow")
         print("| Text | read, a byte | print, a byte | clone and drop, a term | compare, a term |")
         print("|---|---|---|---|---|")
         for name, shape in SHAPES.items():

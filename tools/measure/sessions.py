@@ -15,7 +15,6 @@ import tempfile
 
 from measure import TOP, build, instructions
 
-CRATES = ["term_core", "term_paths", "aterm_text", "prim_core", "change_log", "session_core"]
 USES = "term_core term_paths prim_core session_core itoa anyhow"
 TIMES = 1000
 
@@ -58,7 +57,7 @@ def main():
     if not os.path.exists(stratbench):
         sys.exit("build the program first: (cd crates/stratbench && rt run < stdin)")
     with tempfile.TemporaryDirectory() as folder:
-        program = build(folder, "sessions.txt", CRATES, USES)
+        program = build(folder, "sessions.txt", USES)
         places(program)
         histories(program)
     tree_command(stratbench)

@@ -15,11 +15,6 @@ import tempfile
 
 from measure import build, instructions
 
-CRATES = [
-    "term_core", "term_paths", "aterm_text", "prim_core", "strategy_syntax", "strategy_meaning", "strategy_scopes",
-    "strategy_tokens", "strategy_parse", "strategy_check", "change_log", "term_changes", "term_values", "term_match",
-    "strategy_run",
-]
 USES = (
     "term_core term_paths aterm_text prim_core change_log strategy_syntax strategy_parse strategy_check strategy_run anyhow"
 )
@@ -100,7 +95,7 @@ def steps_of(program, text):
 
 def main():
     with tempfile.TemporaryDirectory() as folder:
-        program = build(folder, "strategies.txt", CRATES, USES)
+        program = build(folder, "strategies.txt", USES)
         print("| Shape | steps | instructions a step | steps | instructions a step |")
         print("|---|---|---|---|---|")
         for name, (strategy, term, size) in SHAPES.items():

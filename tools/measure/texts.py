@@ -14,7 +14,6 @@ import tempfile
 
 from measure import build, instructions
 
-CRATES = ["term_core", "aterm_text", "strategy_syntax", "strategy_tokens", "strategy_parse"]
 USES = "strategy_parse anyhow"
 TOKENS = [500, 1000, 2000, 4000]
 
@@ -95,7 +94,7 @@ def table(program, work, shapes):
 
 def main():
     with tempfile.TemporaryDirectory() as folder:
-        program = build(folder, "texts.txt", CRATES, USES)
+        program = build(folder, "texts.txt", USES)
         table(program, "strategy", STRATEGIES)
         table(program, "module", MODULES)
 

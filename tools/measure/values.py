@@ -14,10 +14,6 @@ import tempfile
 
 from measure import build, instructions
 
-CRATES = [
-    "term_core", "term_paths", "aterm_text", "prim_core", "strategy_syntax", "strategy_meaning", "change_log",
-    "term_changes", "term_values", "term_match",
-]
 USES = "term_core aterm_text strategy_syntax change_log term_changes term_values term_match anyhow"
 
 
@@ -50,7 +46,7 @@ WORKS = {
 
 def main():
     with tempfile.TemporaryDirectory() as folder:
-        program = build(folder, "values.txt", CRATES, USES)
+        program = build(folder, "values.txt", USES)
         print("| What | Size | Instructions | Size | Instructions |")
         print("|---|---|---|---|---|")
         for name, (work, times, term, parts, sizes) in WORKS.items():
