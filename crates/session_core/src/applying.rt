@@ -24,6 +24,7 @@ use term_paths::Path;
 
 /// Applies the strategy that the text gives to the subterm at the path of the name's tree, in at most
 /// so many steps. The program of the modules is made where it isn't kept, and is kept then.
+// What was read is given to `drop`, and not left to the ends of scopes: there its drop is proved anew on each way out.
 pub(crate) fn apply_strategy<M: Meaning>(
     timeline: &mut Timeline,
     primitives: &Primitives<M>,
@@ -56,16 +57,24 @@ pub(crate) fn apply_strategy<M: Meaning>(
         Err(refusal) => return Err(refusal),
     };
     if let Err(refusal) = keep_program(alloc, &timeline.store, primitives, program) {
+        drop(strategy);
         return Err(refusal);
     }
     let Some(checked) = program.as_ref() else {
         unreachable!()
     };
-    let strategy = match resolve_strategy(alloc, checked, primitives, &strategy) {
-        Ok(strategy) => strategy,
-        Err(refusal) => return Err(refusal),
-    };
-    apply_in_slot(timeline, checked, primitives, slot, path, &strategy, steps)
+    match resolve_strategy(alloc, checked, primitives, &strategy) {
+        Ok(whole) => {
+            drop(strategy);
+            let outcome = apply_in_slot(timeline, checked, primitives, slot, path, &whole, steps);
+            drop(whole);
+            outcome
+        }
+        Err(refusal) => {
+            drop(strategy);
+            Err(refusal)
+        }
+    }
 }
 
 // Applies a strategy in the tree of a slot, as one change.

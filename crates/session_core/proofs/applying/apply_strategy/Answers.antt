@@ -21,28 +21,28 @@ returns-in-Err-resolve_strategy-clause-refused g c =
     apply_unresolved g.M.Meaning.meaning ps c.args.timeline.now c.args.name.now c.args.path.now c.args.steps c.args.text.now c.in-Ok.slot c.in-Ok.ensures.there c.in-Ok-read_strategy.strategy c.in-Ok-read_strategy.ensures.ok c.in-Some.checked.now gives
     c.in-Err-resolve_strategy.refusal c.in-Err-resolve_strategy.ensures.refused
 
-pub apply_in_slot-requires-clause-low : goal.apply_in_slot-requires-clause-low
-apply_in_slot-requires-clause-low g c = is_low c.args.timeline.now c.args.name.now c.args.path.now c.in-Ok.slot c.in-Ok.ensures.there c.requires.formed c.args.timeline.now.store refl
+pub apply_in_slot-outcome-requires-clause-low : goal.apply_in_slot-outcome-requires-clause-low
+apply_in_slot-outcome-requires-clause-low g c = is_low c.args.timeline.now c.args.name.now c.args.path.now c.in-Ok.slot c.in-Ok.ensures.there c.requires.formed c.args.timeline.now.store refl
 
-pub returns-clause-ok : goal.returns-clause-ok
-returns-clause-ok g c =
+pub returns-in-Ok-resolve_strategy-clause-ok : goal.returns-in-Ok-resolve_strategy-clause-ok
+returns-in-Ok-resolve_strategy-clause-ok g c =
     let ps = c.args.primitives.now in
     let gives = lent_program ps (contents c.args.timeline.now.store).modules c.keep_program.new.program c.in-Some.checked.now c.in-Some.ensures.value c.in_default.ensures.ok in
     apply_ok g.M.Meaning.meaning ps c.args.timeline.now c.args.name.now c.args.path.now c.args.steps c.args.text.now c.in-Ok.slot c.in-Ok.ensures.there c.in-Ok-read_strategy.strategy c.in-Ok-read_strategy.ensures.ok c.in-Some.checked.now gives
-    c.in-Ok-resolve_strategy.strategy c.in-Ok-resolve_strategy.ensures.ok c.apply_in_slot.result c.apply_in_slot.new.timeline c.apply_in_slot.ensures.made c.apply_in_slot.ensures.ok
+    c.in-Ok-resolve_strategy.whole c.in-Ok-resolve_strategy.ensures.ok c.apply_in_slot-outcome.result c.apply_in_slot-outcome.new.timeline c.apply_in_slot-outcome.ensures.made c.apply_in_slot-outcome.ensures.ok
 
-pub returns-clause-refused : goal.returns-clause-refused
-returns-clause-refused g c =
+pub returns-in-Ok-resolve_strategy-clause-refused : goal.returns-in-Ok-resolve_strategy-clause-refused
+returns-in-Ok-resolve_strategy-clause-refused g c =
     let ps = c.args.primitives.now in
     let gives = lent_program ps (contents c.args.timeline.now.store).modules c.keep_program.new.program c.in-Some.checked.now c.in-Some.ensures.value c.in_default.ensures.ok in
     apply_refused g.M.Meaning.meaning ps c.args.timeline.now c.args.name.now c.args.path.now c.args.steps c.args.text.now c.in-Ok.slot c.in-Ok.ensures.there c.in-Ok-read_strategy.strategy c.in-Ok-read_strategy.ensures.ok c.in-Some.checked.now gives
-    c.in-Ok-resolve_strategy.strategy c.in-Ok-resolve_strategy.ensures.ok c.apply_in_slot.result c.apply_in_slot.new.timeline c.apply_in_slot.ensures.refused
+    c.in-Ok-resolve_strategy.whole c.in-Ok-resolve_strategy.ensures.ok c.apply_in_slot-outcome.result c.apply_in_slot-outcome.new.timeline c.apply_in_slot-outcome.ensures.refused
 
-pub returns-clause-program : goal.returns-clause-program
-returns-clause-program g c =
+pub returns-in-Ok-resolve_strategy-clause-program : goal.returns-in-Ok-resolve_strategy-clause-program
+returns-in-Ok-resolve_strategy-clause-program g c =
     let ps = c.args.primitives.now in
     let gives = lent_program ps (contents c.args.timeline.now.store).modules c.keep_program.new.program c.in-Some.checked.now c.in-Some.ensures.value c.in_default.ensures.ok in
     let act = apply g.M.Meaning.meaning c.args.name.now c.args.path.now c.args.steps c.args.text.now in
     let ok = apply_ok g.M.Meaning.meaning ps c.args.timeline.now c.args.name.now c.args.path.now c.args.steps c.args.text.now c.in-Ok.slot c.in-Ok.ensures.there c.in-Ok-read_strategy.strategy c.in-Ok-read_strategy.ensures.ok c.in-Some.checked.now gives
-    c.in-Ok-resolve_strategy.strategy c.in-Ok-resolve_strategy.ensures.ok c.apply_in_slot.result c.apply_in_slot.new.timeline c.apply_in_slot.ensures.made c.apply_in_slot.ensures.ok in
-    kept_said ps c.args.timeline.now c.apply_in_slot.new.timeline c.keep_program.new.program act c.apply_in_slot.result tt ok c.apply_in_slot.ensures.err c.keep_program.ensures.program
+    c.in-Ok-resolve_strategy.whole c.in-Ok-resolve_strategy.ensures.ok c.apply_in_slot-outcome.result c.apply_in_slot-outcome.new.timeline c.apply_in_slot-outcome.ensures.made c.apply_in_slot-outcome.ensures.ok in
+    kept_said ps c.args.timeline.now c.apply_in_slot-outcome.new.timeline c.keep_program.new.program act c.apply_in_slot-outcome.result tt ok c.apply_in_slot-outcome.ensures.err c.keep_program.ensures.program
