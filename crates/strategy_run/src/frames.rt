@@ -108,7 +108,31 @@ pub(crate) fn drop_changed(part: Option<Part<'_>>) {}
 pub(crate) fn drop_parts(parts: Vec<Part<'_>>) {}
 
 #[inline(always)]
-pub(crate) fn drop_walk(walk: Walk<'_>) {}
+pub(crate) fn drop_walk(walk: Walk<'_>) {
+    let Walk { node, parts, .. } = walk;
+    drop_parts(parts);
+    drop_part(node);
+}
+
+fn drop_frame(frame: Frame<'_>) {
+    match frame {
+        Frame::Choose(_, _, _, part, _, _) => drop_part(part),
+        Frame::Restore(part, _) => drop_part(part),
+        Frame::Each(_, _, walk) => drop_walk(walk),
+        Frame::Leftmost(_, _, walk, _) => drop_walk(walk),
+        Frame::Those(_, _, walk, _, _) => drop_walk(walk),
+        Frame::Rest(node, parts, _, _) => {
+            drop_parts(parts);
+            drop_part(node);
+        }
+        Frame::Head(_, _, walk) => drop_walk(walk),
+        Frame::Behind(node, first, _) => {
+            drop_changed(first);
+            drop_part(node);
+        }
+        Frame::Then(_, _) | Frame::Tail(_, _, _) | Frame::Leave(_) | Frame::Cut(_, _) => (),
+    }
+}
 
 /// Puts a part in the place of another one, which is dropped here.
 #[inline(always)]
@@ -125,7 +149,14 @@ pub(crate) fn wait<'t>(frames: &mut Vec<Frame<'t>>, frame: Frame<'t>) -> Result<
     ensures len { OnOk result (vec_len frames.new ≡ vec_len frames.old + 1) }
 {
     // a push hands the frame back where it is refused, which costs a copy
-    frames.reserve(1)?;
-    frames.push_reserved(frame);
-    Ok(())
+    match frames.reserve(1) {
+        Ok(()) => {
+            frames.push_reserved(frame);
+            Ok(())
+        }
+        Err(_) => {
+            drop_frame(frame);
+            Err(NoMemory)
+        }
+    }
 }
