@@ -1,4 +1,7 @@
 //! Strategies with numbers for names.
+//!
+//! What was resolved already is given to `drop` where a part behind it can't be: a drop at the end of a scope is
+//! proved anew on each way out.
 #![tactic(auto, using(crate::proofs::BodyLemmas::body_rules))]
 
 ghost use Rattle.std.specs.Prelude.{◌≡◌, IfOk, OnOk, length, Some};
@@ -126,8 +129,13 @@ fn resolve_seq<M: Meaning>(
     ensures scope { OnOk result (scope.new ≡ scope.old) }
 {
     let first = resolve_strategy(alloc, table, primitives, scope, first)?;
-    let second = resolve_strategy(alloc, table, primitives, scope, second)?;
-    Ok(ResolvedForm::Seq(Box::new(alloc, (first, second))?))
+    match resolve_strategy(alloc, table, primitives, scope, second) {
+        Ok(second) => Ok(ResolvedForm::Seq(Box::new(alloc, (first, second))?)),
+        Err(error) => {
+            drop(first);
+            Err(error)
+        }
+    }
 }
 
 #[cycle(strategy)]
@@ -147,9 +155,21 @@ fn resolve_guard<M: Meaning>(
     ensures scope { OnOk result (scope.new ≡ scope.old) }
 {
     let test = resolve_strategy(alloc, table, primitives, scope, test)?;
-    let then = resolve_strategy(alloc, table, primitives, scope, then)?;
-    let other = resolve_strategy(alloc, table, primitives, scope, other)?;
-    Ok(ResolvedForm::Guard(Box::new(alloc, (test, then, other))?))
+    let then = match resolve_strategy(alloc, table, primitives, scope, then) {
+        Ok(then) => then,
+        Err(error) => {
+            drop(test);
+            return Err(error);
+        }
+    };
+    match resolve_strategy(alloc, table, primitives, scope, other) {
+        Ok(other) => Ok(ResolvedForm::Guard(Box::new(alloc, (test, then, other))?)),
+        Err(error) => {
+            drop(then);
+            drop(test);
+            Err(error)
+        }
+    }
 }
 
 #[cycle(strategy)]
