@@ -180,15 +180,21 @@ fn is_answered_and_left(
     Ok(is_so && session.counts() == counts)
 }
 
-// Whether the calls are answered so, in a new session, and leave this dump and these counts. A
-// function that holds a session has one way out, since each is checked to drop it.
+// A new session, in a box, which is dropped by a call: the drop of a session itself is proved anew in
+// each function that holds one.
+fn new_session(alloc: Global) -> Result<Box<Session<NoPrimitives>>, Fail> {
+    let session = Session::new(alloc, Primitives::new(Vec::new(alloc)));
+    Ok(Box::new(alloc, session)?)
+}
+
+// Whether the calls are answered so, in a new session, and leave this dump and these counts.
 fn is_row(
     alloc: Global,
     calls: &[(Call<'_>, u8)],
     dump: &[u8],
     counts: (u64, u64),
 ) -> Result<bool, Fail> {
-    let mut session = Session::new(alloc, Primitives::new(Vec::new(alloc)));
+    let mut session = new_session(alloc)?;
     is_answered_and_left(alloc, &mut session, calls, dump, counts)
 }
 
@@ -380,12 +386,12 @@ fn modules_are_found(alloc: Global, session: &mut Session<NoPrimitives>) -> Resu
 }
 
 fn new_session_finds_trees(alloc: Global) -> Result<bool, Fail> {
-    let mut session = Session::new(alloc, Primitives::new(Vec::new(alloc)));
+    let mut session = new_session(alloc)?;
     trees_are_found(alloc, &mut session)
 }
 
 fn new_session_finds_modules(alloc: Global) -> Result<bool, Fail> {
-    let mut session = Session::new(alloc, Primitives::new(Vec::new(alloc)));
+    let mut session = new_session(alloc)?;
     modules_are_found(alloc, &mut session)
 }
 
@@ -405,7 +411,7 @@ fn makes_many_steps(alloc: Global, session: &mut Session<NoPrimitives>) -> Resul
 }
 
 fn new_session_makes_many_steps(alloc: Global) -> Result<bool, Fail> {
-    let mut session = Session::new(alloc, Primitives::new(Vec::new(alloc)));
+    let mut session = new_session(alloc)?;
     makes_many_steps(alloc, &mut session)
 }
 
@@ -444,17 +450,24 @@ fn clear(timeline: &mut Timeline, slot: usize, refuses: bool) -> Result<(), Refu
 }
 
 // Whether a slot is cleared by one change, as a step, and stays where the change is refused.
-fn changes_by_a_closure(alloc: Global) -> Result<bool, Fail> {
-    let mut timeline = Timeline::new(alloc);
+fn clears_a_slot(alloc: Global, timeline: &mut Timeline) -> Result<bool, Fail>
+    requires { IsPlaced timeline.old }
+{
     let name = Label::read(alloc, b"t")?;
     timeline.set_tree(&name, Term::integer(alloc, 1))?;
     let slot = timeline.tree_slot(&name)?;
-    let refused = number_of(clear(&mut timeline, slot, true));
+    let refused = number_of(clear(timeline, slot, true));
     let stays = timeline.tree(&name).is_some() && timeline.past() == 1;
     let slot = timeline.tree_slot(&name)?;
-    let done = number_of(clear(&mut timeline, slot, false));
+    let done = number_of(clear(timeline, slot, false));
     let gone = timeline.tree(&name).is_none() && timeline.past() == 2;
     Ok(refused == 14 && stays && done == 0 && gone)
+}
+
+// A function that holds a timeline has one way out, since each is checked to drop it.
+fn changes_by_a_closure(alloc: Global) -> Result<bool, Fail> {
+    let mut timeline = Timeline::new(alloc);
+    clears_a_slot(alloc, &mut timeline)
 }
 
 #[test]

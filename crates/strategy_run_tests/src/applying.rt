@@ -1,11 +1,11 @@
 //! Strategies applied to the pair of 1 and 2 in a slot, with ample memory.
 
-use crate::evaluating::{builds, pair};
+use crate::evaluating::{builds, checked, pair};
 use change_log::{Entry, Log, Store};
 use prim_core::{NoPrimitives, Primitives};
 use std::alloc::Global;
 use std::test::Fail;
-use strategy_check::{Program, check};
+use strategy_check::Program;
 use strategy_run::{Outcome, apply, apply_outermost, is_low_enough};
 use strategy_syntax::{Head, Resolved, ResolvedForm, ResolvedStrategy};
 use term_core::{Label, NoMemory};
@@ -68,7 +68,7 @@ fn entries(
     first: i64,
     second: i64,
 ) -> Result<Option<usize>, Fail> {
-    let mut bench = Bench {
+    let bench = Bench {
         primitives: Primitives::new(Vec::new(alloc)),
         store: Store::new(alloc),
         first: Log::new(alloc),
@@ -78,6 +78,7 @@ fn entries(
             strategy,
         },
     };
+    let mut bench = Box::new(alloc, bench)?;
     with_checked(alloc, &mut bench, each, first, second)
 }
 
@@ -88,10 +89,8 @@ fn with_checked(
     first: i64,
     second: i64,
 ) -> Result<Option<usize>, Fail> {
-    match check(alloc, &[], &bench.primitives) {
-        Ok(program) => with_program(alloc, bench, &program, each, first, second),
-        Err(_) => Err("a fault".into()),
-    }
+    let program = checked(alloc, &bench.primitives)?;
+    with_program(alloc, bench, &program, each, first, second)
 }
 
 fn with_program(
@@ -103,7 +102,7 @@ fn with_program(
     second: i64,
 ) -> Result<Option<usize>, Fail> {
     let slot = with_pair(alloc, &mut bench.store, &mut bench.first)?;
-    let outcome = applied(alloc, bench, program, slot, &Path::root(alloc), each)?;
+    let outcome = applied_at_root(alloc, bench, program, slot, each)?;
     if outcome != Some(Outcome::Done) || !is_pair(alloc, &bench.store, slot, first, second)? {
         return Ok(None);
     }
@@ -118,6 +117,17 @@ fn with_pair(alloc: Global, store: &mut Store, log: &mut Log) -> Result<usize, F
     let slot = store.tree_slot(&label)?;
     log.push(store, Entry::tree(slot, Some(pair(alloc, 1, 2)?)))?;
     Ok(slot)
+}
+
+fn applied_at_root(
+    alloc: Global,
+    bench: &mut Bench,
+    program: &Program,
+    slot: usize,
+    each: bool,
+) -> Result<Option<Outcome>, NoMemory> {
+    let path = Path::root(alloc);
+    applied(alloc, bench, program, slot, &path, each)
 }
 
 // What applying comes to, by one of the two calls; `None` for a high tree.
@@ -182,21 +192,25 @@ fn nothing(alloc: Global, each: bool) -> Result<bool, Fail> {
 // `(!7; fail) <+ (id, !7)`
 fn second_alone(alloc: Global) -> Result<ResolvedStrategy, NoMemory> {
     let failing = seq(alloc, builds(7), form(ResolvedForm::Fail))?;
-    choice(
-        alloc,
-        failing,
-        both(alloc, form(ResolvedForm::Id), builds(7))?,
-    )
+    match both(alloc, form(ResolvedForm::Id), builds(7)) {
+        Ok(second) => choice(alloc, failing, second),
+        Err(no_memory) => {
+            drop(failing);
+            Err(no_memory)
+        }
+    }
 }
 
 // `all(!7); (!8, id)`
 fn first_twice(alloc: Global) -> Result<ResolvedStrategy, NoMemory> {
     let sevens = all(alloc, builds(7))?;
-    seq(
-        alloc,
-        sevens,
-        both(alloc, builds(8), form(ResolvedForm::Id))?,
-    )
+    match both(alloc, builds(8), form(ResolvedForm::Id)) {
+        Ok(second) => seq(alloc, sevens, second),
+        Err(no_memory) => {
+            drop(sevens);
+            Err(no_memory)
+        }
+    }
 }
 
 #[test]

@@ -1,5 +1,6 @@
 //! Scopes in one another, with ample memory.
 
+use std::alloc::Global;
 use std::test::Fail;
 use strategy_scopes::{Known, Scopes};
 use strategy_syntax::{ResolvedForm, ResolvedStrategy};
@@ -57,32 +58,57 @@ fn is_handed_on<'t>(
     Ok(same == body && flat && with_variable != body && with_others != body)
 }
 
-#[test]
-fn variables_and_names_are_found(rt: HostRuntime) -> Result<(), Fail> {
-    let alloc = rt.alloc();
+fn are_found_and_cut_in<'t>(
+    scopes: &mut Scopes<'t>,
+    arguments: &'t [ResolvedStrategy],
+) -> Result<bool, NoMemory> {
+    let Some(param) = arguments.get(1) else {
+        return Ok(false);
+    };
+    let found = are_found(scopes, param, arguments)?;
+    scopes.cut(3);
+    Ok(found && scopes.count() == 3 && scopes.cell(3, 0).is_none())
+}
+
+fn are_found_and_cut(alloc: Global, arguments: &[ResolvedStrategy]) -> Result<bool, NoMemory> {
+    let mut scopes = Scopes::new(alloc);
+    are_found_and_cut_in(&mut scopes, arguments)
+}
+
+fn new_scopes_find_all(alloc: Global) -> Result<bool, NoMemory> {
     let arguments = vec![in alloc;
         ResolvedStrategy::new(ResolvedForm::Id),
         ResolvedStrategy::new(ResolvedForm::Param(0)),
     ]?;
-    let mut scopes = Scopes::new(alloc);
-    let found = are_found(&mut scopes, &arguments[1], &arguments)?;
-    scopes.cut(3);
-    let is_cut = scopes.count() == 3 && scopes.cell(3, 0).is_none();
-    assert!(rt; found && is_cut);
-    Ok(())
+    are_found_and_cut(alloc, &arguments)
 }
 
 #[test]
-fn a_call_that_hands_all_names_on_has_the_same_scope(rt: HostRuntime) -> Result<(), Fail> {
-    let alloc = rt.alloc();
+fn variables_and_names_are_found(rt: HostRuntime) -> Result<(), Fail> {
+    assert!(rt; new_scopes_find_all(rt.alloc())?);
+    Ok(())
+}
+
+fn are_handed_on(alloc: Global, strategies: &[ResolvedStrategy]) -> Result<bool, NoMemory> {
+    if strategies.len() < 2 {
+        return Ok(false);
+    }
+    let mut scopes = Scopes::new(alloc);
+    is_handed_on(&mut scopes, &strategies[2..], &strategies[..2])
+}
+
+fn new_scopes_are_handed_on(alloc: Global) -> Result<bool, NoMemory> {
     let strategies = vec![in alloc;
         ResolvedStrategy::new(ResolvedForm::Param(0)),
         ResolvedStrategy::new(ResolvedForm::Param(1)),
         ResolvedStrategy::new(ResolvedForm::Id),
         ResolvedStrategy::new(ResolvedForm::Fail),
     ]?;
-    let mut scopes = Scopes::new(alloc);
-    let is = is_handed_on(&mut scopes, &strategies[2..], &strategies[..2])?;
-    assert!(rt; is);
+    are_handed_on(alloc, &strategies)
+}
+
+#[test]
+fn a_call_that_hands_all_names_on_has_the_same_scope(rt: HostRuntime) -> Result<(), Fail> {
+    assert!(rt; new_scopes_are_handed_on(rt.alloc())?);
     Ok(())
 }

@@ -5,6 +5,10 @@
 //! list, T a tuple, and `{` gives a term these annotations. So `ab2Fn1{` is `F(a,b){n}`. In patterns x,
 //! y, z and w are variables, `_` is the wildcard, `@` binds x to what the pattern before it matches, and
 //! `|` is a list with the last part as its tail.
+//!
+//! A table is one text with a row a line, since the check of a literal takes long where it has many
+//! values. A read pattern or term lies in a box, which is dropped by a call: the drop of a pattern itself
+//! is proved anew at each way out. Other values are held by functions with one way out, which lend them.
 
 use std::alloc::Global;
 use std::test::Fail;
@@ -29,30 +33,130 @@ fn last<T: Drop>(all: &mut Vec<T>, count: usize) -> Result<Vec<T>, NoMemory> {
     Ok(last)
 }
 
-fn node(alloc: Global, sign: u8, parts: Vec<Term>, stack: &mut Vec<Term>) -> Result<Term, Fail> {
-    match sign {
-        b'7' | b'8' => Ok(Term::integer(alloc, i64::from(sign))),
-        b'L' => Ok(Term::list(alloc, parts)),
-        b'T' => Ok(Term::tuple(alloc, parts)),
-        b'{' => Ok(stack.pop().ok_or("no term")?.with_annotations(parts)),
-        _ => Ok(Term::application(alloc, name(alloc, sign)?, parts)),
+// ---- terms
+
+fn application(alloc: Global, sign: u8, parts: Vec<Term>) -> Result<Term, Fail> {
+    match name(alloc, sign) {
+        Ok(name) => Ok(Term::application(alloc, name, parts)),
+        Err(fail) => {
+            drop(parts);
+            Err(fail)
+        }
     }
 }
 
-fn term(alloc: Global, text: &[u8]) -> Result<Term, Fail> {
-    let mut stack = Vec::new(alloc);
+fn annotated(inner: Option<Term>, notes: Vec<Term>) -> Result<Term, Fail> {
+    match inner {
+        Some(inner) => Ok(inner.with_annotations(notes)),
+        None => {
+            drop(notes);
+            Err("no term".into())
+        }
+    }
+}
+
+fn node(alloc: Global, sign: u8, parts: Vec<Term>, stack: &mut Vec<Term>) -> Result<Term, Fail> {
+    match sign {
+        b'7' | b'8' => {
+            drop(parts);
+            Ok(Term::integer(alloc, i64::from(sign)))
+        }
+        b'L' => Ok(Term::list(alloc, parts)),
+        b'T' => Ok(Term::tuple(alloc, parts)),
+        b'{' => annotated(stack.pop(), parts),
+        _ => application(alloc, sign, parts),
+    }
+}
+
+fn push_term(alloc: Global, sign: u8, count: usize, stack: &mut Vec<Term>) -> Result<(), Fail> {
+    let parts = last(stack, count)?;
+    let next = node(alloc, sign, parts, stack)?;
+    stack.push(next)?;
+    Ok(())
+}
+
+fn last_term(alloc: Global, text: &[u8], stack: &mut Vec<Term>) -> Result<Term, Fail> {
     let mut count = 0;
     for sign in text {
         if matches!(*sign, b'0'..=b'6') {
             count = usize::from(*sign - b'0');
         } else {
-            let parts = last(&mut stack, count)?;
+            push_term(alloc, *sign, count, stack)?;
             count = 0;
-            let next = node(alloc, *sign, parts, &mut stack)?;
-            stack.push(next)?;
         }
     }
     Ok(stack.pop().ok_or("no term")?)
+}
+
+fn term(alloc: Global, text: &[u8]) -> Result<Box<Term>, Fail> {
+    let mut stack = Vec::new(alloc);
+    let term = last_term(alloc, text, &mut stack);
+    drop(stack);
+    Ok(Box::new(alloc, term?)?)
+}
+
+// ---- patterns
+
+fn boxed(alloc: Global, inner: Option<Place>) -> Result<Box<Place>, Fail> {
+    Ok(Box::new(alloc, inner.ok_or("no pattern")?)?)
+}
+
+fn with_head(head: Result<Head, Fail>, parts: Vec<Place>) -> Result<PlaceForm, Fail> {
+    match head {
+        Ok(head) => Ok(PlaceForm::Compound(head, parts)),
+        Err(fail) => {
+            drop(parts);
+            Err(fail)
+        }
+    }
+}
+
+fn with_notes(inner: Result<Box<Place>, Fail>, notes: Vec<Place>) -> Result<PlaceForm, Fail> {
+    match inner {
+        Ok(inner) => Ok(PlaceForm::Annotated(inner, notes)),
+        Err(fail) => {
+            drop(notes);
+            Err(fail)
+        }
+    }
+}
+
+fn with_tail(alloc: Global, parts: Vec<Place>) -> Result<PlaceForm, Fail> {
+    let mut front = parts;
+    match boxed(alloc, front.pop()) {
+        Ok(tail) => Ok(PlaceForm::WithTail(front, tail)),
+        Err(fail) => {
+            drop(front);
+            Err(fail)
+        }
+    }
+}
+
+fn head(alloc: Global, sign: u8) -> Result<Head, Fail> {
+    match sign {
+        b'L' => Ok(Head::List),
+        b'T' => Ok(Head::Tuple),
+        _ => Ok(Head::Application(name(alloc, sign)?)),
+    }
+}
+
+fn variable(sign: u8) -> Option<usize> {
+    match sign {
+        b'x' => Some(0),
+        b'y' => Some(1),
+        b'z' => Some(2),
+        b'w' => Some(3),
+        _ => None,
+    }
+}
+
+// A form without parts.
+fn leaf(sign: u8) -> Option<PlaceForm> {
+    match sign {
+        b'_' => Some(PlaceForm::Wildcard),
+        b'7' | b'8' => Some(PlaceForm::Integer(i64::from(sign))),
+        _ => Some(PlaceForm::Variable(variable(sign)?)),
+    }
 }
 
 fn form(
@@ -62,269 +166,425 @@ fn form(
     stack: &mut Vec<Place>,
 ) -> Result<PlaceForm, Fail> {
     match sign {
-        b'_' => Ok(PlaceForm::Wildcard),
-        b'x' => Ok(PlaceForm::Variable(0)),
-        b'y' => Ok(PlaceForm::Variable(1)),
-        b'z' => Ok(PlaceForm::Variable(2)),
-        b'w' => Ok(PlaceForm::Variable(3)),
-        b'7' | b'8' => Ok(PlaceForm::Integer(i64::from(sign))),
         b'@' => {
-            let inner = stack.pop().ok_or("no pattern")?;
-            Ok(PlaceForm::At(0, Box::new(alloc, inner)?))
+            drop(parts);
+            Ok(PlaceForm::At(0, boxed(alloc, stack.pop())?))
         }
-        b'|' => {
-            let mut front = parts;
-            let tail = front.pop().ok_or("no tail")?;
-            Ok(PlaceForm::WithTail(front, Box::new(alloc, tail)?))
-        }
-        b'{' => {
-            let inner = stack.pop().ok_or("no pattern")?;
-            Ok(PlaceForm::Annotated(Box::new(alloc, inner)?, parts))
-        }
-        b'L' => Ok(PlaceForm::Compound(Head::List, parts)),
-        b'T' => Ok(PlaceForm::Compound(Head::Tuple, parts)),
-        _ => Ok(PlaceForm::Compound(Head::Application(name(alloc, sign)?), parts)),
+        b'|' => with_tail(alloc, parts),
+        b'{' => with_notes(boxed(alloc, stack.pop()), parts),
+        _ => with_head(head(alloc, sign), parts),
     }
 }
 
-fn place(alloc: Global, text: &[u8]) -> Result<Place, Fail> {
-    let mut stack = Vec::new(alloc);
+fn push_place(alloc: Global, sign: u8, count: usize, stack: &mut Vec<Place>) -> Result<(), Fail> {
+    let next = match leaf(sign) {
+        Some(leaf) => leaf,
+        None => {
+            let parts = last(stack, count)?;
+            form(alloc, sign, parts, stack)?
+        }
+    };
+    stack.push(Place::new(next))?;
+    Ok(())
+}
+
+fn last_place(alloc: Global, text: &[u8], stack: &mut Vec<Place>) -> Result<Box<Place>, Fail> {
     let mut count = 0;
     for sign in text {
         if matches!(*sign, b'0'..=b'6') {
             count = usize::from(*sign - b'0');
         } else {
-            let parts = last(&mut stack, count)?;
+            push_place(alloc, *sign, count, stack)?;
             count = 0;
-            let next = form(alloc, *sign, parts, &mut stack)?;
-            stack.push(Place::new(next))?;
         }
     }
-    Ok(stack.pop().ok_or("no pattern")?)
+    boxed(alloc, stack.pop())
+}
+
+fn place(alloc: Global, text: &[u8]) -> Result<Box<Place>, Fail> {
+    let mut stack = Vec::new(alloc);
+    last_place(alloc, text, &mut stack)
+}
+
+// ---- what is held
+
+fn is_term(alloc: Global, held: &Term, text: &[u8]) -> Result<bool, Fail> {
+    let wanted = term(alloc, text)?;
+    Ok(held.equals(&wanted))
+}
+
+fn is_value(alloc: Global, value: &Value<'_>, text: &[u8]) -> Result<bool, Fail> {
+    let held = value.to_term(alloc)?;
+    is_term(alloc, &held, text)
 }
 
 // Whether cell i holds this term; no text stands for an empty cell.
 fn holds(alloc: Global, cells: &Cells<'_>, i: usize, text: &[u8]) -> Result<bool, Fail> {
     match cells.get(i) {
         None => Ok(text.is_empty()),
-        Some(value) => {
-            if text.is_empty() {
-                return Ok(false);
-            }
-            let held = value.to_term(alloc)?;
-            Ok(held.equals(&term(alloc, text)?))
-        }
+        Some(value) => Ok(!text.is_empty() && is_value(alloc, value, text)?),
     }
+}
+
+// ---- tables
+
+// The two columns of a row.
+fn two(line: &str) -> Result<(&str, &str), Fail> {
+    Ok(line.split_once(',').ok_or("no row")?)
+}
+
+// The four columns of a row.
+fn four(line: &str) -> Result<(&str, &str, &str, &str), Fail> {
+    let (first, line) = two(line)?;
+    let (second, line) = two(line)?;
+    let (third, fourth) = two(line)?;
+    Ok((first, second, third, fourth))
 }
 
 // ---- matching
 
-// Whether the pattern matches the term; x and y then hold these.
-fn matches(alloc: Global, pattern: &[u8], text: &[u8], x: &[u8], y: &[u8]) -> Result<bool, Fail> {
-    let pattern = place(alloc, pattern)?;
-    let term = term(alloc, text)?;
-    let mut cells = Cells::new(alloc);
+// Whether the pattern matches the term, and what x and y then hold.
+#[derive(Clone, Copy)]
+struct Wanted<'a> {
+    matches: bool,
+    x: &'a str,
+    y: &'a str,
+}
+
+fn is_so_in<'t>(
+    alloc: Global,
+    cells: &mut Cells<'t>,
+    pattern: &Place,
+    term: &'t Term,
+    wanted: Wanted<'_>,
+) -> Result<bool, Fail> {
     cells.open_cells(3)?;
     let places = InSlice { cells: &CELLS };
-    let matched = cells.matches_term(alloc, &places, &pattern, &term)?;
-    Ok(holds(alloc, &cells, 2, x)? && holds(alloc, &cells, 0, y)? && matched)
+    let matched = cells.matches_term(alloc, &places, pattern, term)?;
+    let hold = holds(alloc, cells, 2, wanted.x.as_bytes())?
+        && holds(alloc, cells, 0, wanted.y.as_bytes())?;
+    Ok(hold && matched == wanted.matches)
 }
+
+fn is_so_of(alloc: Global, pattern: &Place, term: &Term, wanted: Wanted<'_>) -> Result<bool, Fail> {
+    let mut cells = Cells::new(alloc);
+    is_so_in(alloc, &mut cells, pattern, term, wanted)
+}
+
+fn is_so(alloc: Global, pattern: &str, text: &str, wanted: Wanted<'_>) -> Result<bool, Fail> {
+    let pattern = place(alloc, pattern.as_bytes())?;
+    let term = term(alloc, text.as_bytes())?;
+    is_so_of(alloc, &pattern, &term, wanted)
+}
+
+// Whether the pattern matches the term, where x and y then hold these, with no text for an empty cell.
+fn matches(alloc: Global, line: &str) -> Result<bool, Fail> {
+    let (pattern, text, x, y) = four(line)?;
+    let matches = true;
+    is_so(alloc, pattern, text, Wanted { matches, x, y })
+}
+
+// Pattern, term, x, y. Only an annotation part looks at annotations. A variable may be met twice. The
+// rest of a list is one without annotations. An annotation part counts, in each place.
+const MATCHING: &str = "
+_,a1Fn1{,,
+x,a1Fn1{,a1Fn1{,
+7,7n1{,,
+x1F,a1Fn1{,a,
+Q,Qn1{,,
+xy2L,an1{b2Ln1{,an1{,b
+xy2T,ab2T,a,b
+y1F@,a1Fn1{,a1Fn1{,a
+xyx3F,an1{ban1{3F,an1{,b
+xx@2F,aa2F,a,
+xy2|,abc3Ln1{,a,bc2L
+xy2|,a1Ln1{,a,L
+y1|,ab2Ln1{,,ab2L
+xy1{,a1Fnm1{1{,a1F,nm1{
+xx1{,aa1{,a,
+x{,a,a,
+";
 
 #[test]
 fn patterns_that_match(rt: HostRuntime) -> Result<(), Fail> {
-    let rows: [[&[u8]; 4]; 16] = [
-        [b"_", b"a1Fn1{", b"", b""],
-        [b"x", b"a1Fn1{", b"a1Fn1{", b""],
-        // only an annotation part looks at annotations
-        [b"7", b"7n1{", b"", b""],
-        [b"x1F", b"a1Fn1{", b"a", b""],
-        [b"Q", b"Qn1{", b"", b""],
-        [b"xy2L", b"an1{b2Ln1{", b"an1{", b"b"],
-        [b"xy2T", b"ab2T", b"a", b"b"],
-        [b"y1F@", b"a1Fn1{", b"a1Fn1{", b"a"],
-        // a variable met twice
-        [b"xyx3F", b"an1{ban1{3F", b"an1{", b"b"],
-        [b"xx@2F", b"aa2F", b"a", b""],
-        // the rest of a list is one without annotations
-        [b"xy2|", b"abc3Ln1{", b"a", b"bc2L"],
-        [b"xy2|", b"a1Ln1{", b"a", b"L"],
-        [b"y1|", b"ab2Ln1{", b"", b"ab2L"],
-        // an annotation part counts, in each place
-        [b"xy1{", b"a1Fnm1{1{", b"a1F", b"nm1{"],
-        [b"xx1{", b"aa1{", b"a", b""],
-        [b"x{", b"a", b"a", b""],
-    ];
-    for [pattern, text, x, y] in rows {
-        assert!(rt; matches(rt.alloc(), pattern, text, x, y)?);
+    for line in MATCHING.trim().lines() {
+        assert!(rt; matches(rt.alloc(), line)?);
     }
     Ok(())
 }
 
 // Whether the pattern doesn't match the term, and nothing is bound then.
-fn fails(alloc: Global, pattern: &[u8], text: &[u8]) -> Result<bool, Fail> {
-    let pattern = place(alloc, pattern)?;
-    let term = term(alloc, text)?;
-    let mut cells = Cells::new(alloc);
-    cells.open_cells(3)?;
-    let places = InSlice { cells: &CELLS };
-    let matched = cells.matches_term(alloc, &places, &pattern, &term)?;
-    Ok(holds(alloc, &cells, 2, b"")? && holds(alloc, &cells, 0, b"")? && !matched)
+fn fails(alloc: Global, line: &str) -> Result<bool, Fail> {
+    let (pattern, text) = two(line)?;
+    let wanted = Wanted {
+        matches: false,
+        x: "",
+        y: "",
+    };
+    is_so(alloc, pattern, text, wanted)
 }
+
+// Pattern, term. A second part that fails leaves nothing of the first, as in the ninth row and the next.
+// Terms that differ in an annotation, as in the eleventh, aren't the same.
+const FAILING: &str = "
+7,8
+7,a
+x1F,a1G
+x1F,ab2F
+F,Q
+xy2L,ab2T
+x1L,ab2L
+w,a
+xb2F,aa2F
+yx8@2F,a72F
+xx2F,aan1{2F
+xx1{,ba1{
+xy2|,L
+xy2|,a1T
+xn1{1F,a1F
+x{,an1{
+xy1{,anm2{
+xan1{1{,ba1{
+";
 
 #[test]
 fn patterns_that_fail(rt: HostRuntime) -> Result<(), Fail> {
-    let rows: [[&[u8]; 2]; 18] = [
-        [b"7", b"8"],
-        [b"7", b"a"],
-        [b"x1F", b"a1G"],
-        [b"x1F", b"ab2F"],
-        [b"F", b"Q"],
-        [b"xy2L", b"ab2T"],
-        [b"x1L", b"ab2L"],
-        [b"w", b"a"],
-        // a second part that fails leaves nothing of the first
-        [b"xb2F", b"aa2F"],
-        [b"yx8@2F", b"a72F"],
-        // terms that differ in an annotation aren't the same
-        [b"xx2F", b"aan1{2F"],
-        [b"xx1{", b"ba1{"],
-        [b"xy2|", b"L"],
-        [b"xy2|", b"a1T"],
-        [b"xn1{1F", b"a1F"],
-        [b"x{", b"an1{"],
-        [b"xy1{", b"anm2{"],
-        [b"xan1{1{", b"ba1{"],
-    ];
-    for [pattern, text] in rows {
-        assert!(rt; fails(rt.alloc(), pattern, text)?);
+    for line in FAILING.trim().lines() {
+        assert!(rt; fails(rt.alloc(), line)?);
     }
     Ok(())
 }
 
 // ---- building
 
-// A cell for each of x, y and z: with its term, or empty where there is no text.
-fn terms(alloc: Global, texts: [&[u8]; 3]) -> Result<Vec<Option<Term>>, Fail> {
-    let mut all = Vec::new(alloc);
-    for text in texts {
-        if text.is_empty() {
-            all.push(None)?;
-        } else {
-            all.push(Some(term(alloc, text)?))?;
-        }
+fn add_term(alloc: Global, text: &[u8], all: &mut Vec<Option<Box<Term>>>) -> Result<(), Fail> {
+    if text.is_empty() {
+        all.push(None)?;
+    } else {
+        all.push(Some(term(alloc, text)?))?;
     }
-    Ok(all)
+    Ok(())
 }
 
-fn filled<'t>(alloc: Global, terms: &'t [Option<Term>]) -> Result<Cells<'t>, Fail> {
-    let mut cells = Cells::new(alloc);
+// A cell for each of x, y and z: with its term, or empty where there is no text.
+fn add_terms(
+    alloc: Global,
+    texts: [&[u8]; 3],
+    all: &mut Vec<Option<Box<Term>>>,
+) -> Result<(), Fail> {
+    for text in texts {
+        add_term(alloc, text, all)?;
+    }
+    Ok(())
+}
+
+fn fill<'t>(cells: &mut Cells<'t>, terms: &'t [Option<Box<Term>>]) -> Result<(), Fail> {
     for term in terms {
         match term {
             None => cells.open_cells(1)?,
             Some(term) => cells.open_with(Value::original(term))?,
         }
     }
-    Ok(cells)
+    Ok(())
 }
 
 const IN_ORDER: [usize; 4] = [0, 1, 2, 9];
 
+fn is_built(alloc: Global, built: &BuiltTerm, text: &[u8]) -> Result<bool, Fail> {
+    match built {
+        BuiltTerm::Nothing => Ok(text.is_empty()),
+        BuiltTerm::Big => Ok(text == b"!".as_slice()),
+        BuiltTerm::Term(instance) => Ok(!text.is_empty() && is_term(alloc, instance, text)?),
+    }
+}
+
+fn builds_in<'t>(
+    alloc: Global,
+    cells: &mut Cells<'t>,
+    pattern: &'t Place,
+    level: u64,
+    text: &[u8],
+) -> Result<bool, Fail> {
+    let places = InSlice { cells: &IN_ORDER };
+    let built = cells.build_term(alloc, &places, pattern, level)?;
+    is_built(alloc, &built, text)
+}
+
+fn builds_from(
+    alloc: Global,
+    terms: &[Option<Box<Term>>],
+    pattern: &Place,
+    level: u64,
+    text: &[u8],
+) -> Result<bool, Fail> {
+    let mut cells = Cells::new(alloc);
+    match fill(&mut cells, terms) {
+        Ok(()) => builds_in(alloc, &mut cells, pattern, level, text),
+        Err(fail) => Err(fail),
+    }
+}
+
+fn builds_with(
+    alloc: Global,
+    bound: [&[u8]; 3],
+    terms: &mut Vec<Option<Box<Term>>>,
+    pattern: &Place,
+    level: u64,
+    text: &[u8],
+) -> Result<bool, Fail> {
+    add_terms(alloc, bound, terms)?;
+    builds_from(alloc, terms, pattern, level, text)
+}
+
 // Whether the instance of the pattern is this; no text stands for none, and `!` for one that doesn't fit.
 fn builds(
     alloc: Global,
-    pattern: &[u8],
-    bound: [&[u8]; 3],
+    pattern: &str,
+    x: &str,
+    y: &str,
     level: u64,
-    built: &[u8],
+    built: &str,
 ) -> Result<bool, Fail> {
-    let pattern = place(alloc, pattern)?;
-    let terms = terms(alloc, bound)?;
-    let mut cells = filled(alloc, &terms)?;
-    let places = InSlice { cells: &IN_ORDER };
-    match cells.build_term(alloc, &places, &pattern, level)? {
-        BuiltTerm::Nothing => Ok(built.is_empty()),
-        BuiltTerm::Big => Ok(built == b"!".as_slice()),
-        BuiltTerm::Term(instance) => {
-            if built.is_empty() {
-                return Ok(false);
-            }
-            Ok(instance.equals(&term(alloc, built)?))
-        }
-    }
+    let pattern = place(alloc, pattern.as_bytes())?;
+    let bound = [x.as_bytes(), y.as_bytes(), b"".as_slice()];
+    let mut terms = Vec::new(alloc);
+    builds_with(alloc, bound, &mut terms, &pattern, level, built.as_bytes())
 }
+
+fn is_instance(alloc: Global, line: &str) -> Result<bool, Fail> {
+    let (pattern, x, y, built) = four(line)?;
+    builds(alloc, pattern, x, y, 0, built)
+}
+
+// Pattern, x, y, instance. A tail's annotations are dropped, and those of a variable kept.
+const WITH_ANNOTATIONS: &str = "
+x,an1{,,an1{
+x1F,an1{,,an1{1F
+xy2|,a,bc2Ln1{,abc3L
+xxy3|,an1{,L,an1{an1{2L
+y1|,a,bn1{1Lm1{,bn1{1L
+xy1{,an1{,b,ab1{
+x{,an1{,,a
+x1Fyx2{,a,nm1{,a1Fnm1{a2{
+x_1{,a,,
+";
 
 #[test]
 fn instances_with_annotations(rt: HostRuntime) -> Result<(), Fail> {
-    let rows: [[&[u8]; 4]; 9] = [
-        [b"x", b"an1{", b"", b"an1{"],
-        [b"x1F", b"an1{", b"", b"an1{1F"],
-        // a tail's annotations are dropped, and those of a variable kept
-        [b"xy2|", b"a", b"bc2Ln1{", b"abc3L"],
-        [b"xxy3|", b"an1{", b"L", b"an1{an1{2L"],
-        [b"y1|", b"a", b"bn1{1Lm1{", b"bn1{1L"],
-        [b"xy1{", b"an1{", b"b", b"ab1{"],
-        [b"x{", b"an1{", b"", b"a"],
-        [b"x1Fyx2{", b"a", b"nm1{", b"a1Fnm1{a2{"],
-        [b"x_1{", b"a", b"", b""],
-    ];
-    for [pattern, x, y, built] in rows {
-        assert!(rt; builds(rt.alloc(), pattern, [x, y, b""], 0, built)?);
+    for line in WITH_ANNOTATIONS.trim().lines() {
+        assert!(rt; is_instance(rt.alloc(), line)?);
     }
     Ok(())
 }
+
+// Pattern, x, y, instance. From the sixth row on there is nothing to build.
+const WITHOUT_ANNOTATIONS: &str = "
+7,,,7
+F,,,F
+yx2T,a,b1L,b1La2T
+xyx3F,a,b,aba3F
+xx1L2|,a,,aa2L
+_,a,,
+y@,a,b,
+y1F,a,,
+w,a,b,
+xy2|,a,b1T,
+ayx3G,a,,
+";
 
 #[test]
 fn instances_without_annotations(rt: HostRuntime) -> Result<(), Fail> {
-    let rows: [[&[u8]; 4]; 11] = [
-        [b"7", b"", b"", b"7"],
-        [b"F", b"", b"", b"F"],
-        [b"yx2T", b"a", b"b1L", b"b1La2T"],
-        [b"xyx3F", b"a", b"b", b"aba3F"],
-        [b"xx1L2|", b"a", b"", b"aa2L"],
-        // nothing to build
-        [b"_", b"a", b"", b""],
-        [b"y@", b"a", b"b", b""],
-        [b"y1F", b"a", b"", b""],
-        [b"w", b"a", b"b", b""],
-        [b"xy2|", b"a", b"b1T", b""],
-        [b"ayx3G", b"a", b"", b""],
-    ];
-    for [pattern, x, y, built] in rows {
-        assert!(rt; builds(rt.alloc(), pattern, [x, y, b""], 0, built)?);
+    for line in WITHOUT_ANNOTATIONS.trim().lines() {
+        assert!(rt; is_instance(rt.alloc(), line)?);
     }
     Ok(())
 }
 
+fn is_instance_at(alloc: Global, line: &str) -> Result<bool, Fail> {
+    let (pattern, x, built, level) = four(line)?;
+    let Ok(level) = level.parse() else {
+        return Err("no level".into());
+    };
+    builds(alloc, pattern, x, "", level, built)
+}
+
+// Pattern, x, instance, level.
+const TOO_HIGH: &str = "
+x,a,a,999
+x,a,!,1000
+x1F,a,a1F,998
+x1F,a,!,999
+ax1{,a1F,!,998
+";
+
 #[test]
 fn instances_that_are_too_high(rt: HostRuntime) -> Result<(), Fail> {
-    let rows: [([&[u8]; 3], u64); 5] = [
-        ([b"x", b"a", b"a"], 999),
-        ([b"x", b"a", b"!"], 1000),
-        ([b"x1F", b"a", b"a1F"], 998),
-        ([b"x1F", b"a", b"!"], 999),
-        ([b"ax1{", b"a1F", b"!"], 998),
-    ];
-    for ([pattern, x, built], level) in rows {
-        assert!(rt; builds(rt.alloc(), pattern, [x, b"", b""], level, built)?);
+    for line in TOO_HIGH.trim().lines() {
+        assert!(rt; is_instance_at(rt.alloc(), line)?);
     }
     Ok(())
+}
+
+fn fits(built: &Built<'_>) -> Result<bool, Fail> {
+    match built {
+        Built::Value(_) => Ok(true),
+        Built::Nothing => Err(Fail::from("no instance")),
+        Built::Big => Ok(false),
+    }
+}
+
+fn fits_in<'t>(
+    alloc: Global,
+    cells: &mut Cells<'t>,
+    places: &[usize],
+    pattern: &'t Place,
+) -> Result<bool, Fail> {
+    let places = InSlice { cells: places };
+    let built = cells.build(alloc, &places, pattern, 0)?;
+    fits(&built)
+}
+
+fn twice_fits_with<'t>(
+    alloc: Global,
+    cells: &mut Cells<'t>,
+    pattern: &'t Place,
+    list: &'t Term,
+) -> Result<bool, Fail> {
+    cells.open_with(Value::original(list))?;
+    fits_in(alloc, cells, &[0], pattern)
+}
+
+fn twice_fits_in(alloc: Global, pattern: &Place, list: &Term) -> Result<bool, Fail> {
+    let mut cells = Cells::new(alloc);
+    twice_fits_with(alloc, &mut cells, pattern, list)
+}
+
+fn zeros(alloc: Global, count: usize, elements: &mut Vec<Term>) -> Result<(), Fail> {
+    for _ in 0..count {
+        elements.push(Term::integer(alloc, 0))?;
+    }
+    Ok(())
+}
+
+fn twice_fits_of(alloc: Global, elements: Vec<Term>) -> Result<bool, Fail> {
+    let list = Term::list(alloc, elements);
+    let is = match place(alloc, b"xx2F") {
+        Ok(pattern) => twice_fits_in(alloc, &pattern, &list),
+        Err(fail) => Err(fail),
+    };
+    drop(list);
+    is
 }
 
 // Whether F(x,x) fits for a list of so many elements.
 fn twice_fits(alloc: Global, count: usize) -> Result<bool, Fail> {
-    let pattern = place(alloc, b"xx2F")?;
     let mut elements = Vec::new(alloc);
-    for _ in 0..count {
-        elements.push(Term::integer(alloc, 0))?;
-    }
-    let list = Term::list(alloc, elements);
-    let mut cells = Cells::new(alloc);
-    cells.open_with(Value::original(&list))?;
-    let places = InSlice { cells: &[0] };
-    match cells.build(alloc, &places, &pattern, 0)? {
-        Built::Value(_) => Ok(true),
-        Built::Nothing => Err(Fail::from("no instance")),
-        Built::Big => Ok(false),
+    match zeros(alloc, count, &mut elements) {
+        Ok(()) => twice_fits_of(alloc, elements),
+        Err(fail) => {
+            drop(elements);
+            Err(fail)
+        }
     }
 }
 
@@ -339,82 +599,181 @@ fn instances_that_are_too_large(rt: HostRuntime) -> Result<(), Fail> {
 
 // ---- marks
 
+// Whether x, which matches a, then doesn't match b and keeps a.
+fn keeps_its_term_in<'t>(
+    alloc: Global,
+    cells: &mut Cells<'t>,
+    x: &Place,
+    a: &'t Term,
+    b: &'t Term,
+) -> Result<bool, Fail> {
+    let places = InSlice { cells: &[0] };
+    cells.open_cells(1)?;
+    let is_a = cells.matches_term(alloc, &places, x, a)?;
+    let is_b = cells.matches_term(alloc, &places, x, b)?;
+    Ok(is_a && !is_b && holds(alloc, cells, 0, b"a")?)
+}
+
+fn keeps_its_term_of(alloc: Global, x: &Place, a: &Term, b: &Term) -> Result<bool, Fail> {
+    let mut cells = Cells::new(alloc);
+    keeps_its_term_in(alloc, &mut cells, x, a, b)
+}
+
+fn keeps_its_term(alloc: Global) -> Result<bool, Fail> {
+    let x = place(alloc, b"x")?;
+    let a = term(alloc, b"a")?;
+    let b = term(alloc, b"b")?;
+    keeps_its_term_of(alloc, &x, &a, &b)
+}
+
 #[test]
 fn a_variable_keeps_its_term(rt: HostRuntime) -> Result<(), Fail> {
-    let alloc = rt.alloc();
-    let (x, a, b) = (place(alloc, b"x")?, term(alloc, b"a")?, term(alloc, b"b")?);
-    let places = InSlice { cells: &[0] };
-    let mut cells = Cells::new(alloc);
-    cells.open_cells(1)?;
-    assert!(rt; cells.matches_term(alloc, &places, &x, &a)?);
-    assert!(rt; !cells.matches_term(alloc, &places, &x, &b)?);
-    assert!(rt; holds(alloc, &cells, 0, b"a")?);
+    assert!(rt; keeps_its_term(rt.alloc())?);
     Ok(())
+}
+
+// What is matched: F(x,y) with F(a,b), behind x with a.
+#[derive(Clone, Copy)]
+struct Both<'a> {
+    pattern: &'a Place,
+    both: &'a Term,
+    x: &'a Place,
+    a: &'a Term,
+}
+
+fn goes_back_in<'t>(
+    alloc: Global,
+    cells: &mut Cells<'t>,
+    matched: &Both<'t>,
+) -> Result<bool, Fail> {
+    cells.open_cells(2)?;
+    let places = InSlice { cells: &[0, 1] };
+    cells.matches_term(alloc, &places, matched.x, matched.a)?;
+    let mark = cells.mark();
+    cells.open_cells(3)?;
+    cells.matches_term(alloc, &places, matched.pattern, matched.both)?;
+    let held = holds(alloc, cells, 1, b"b")?;
+    cells.back_to(mark);
+    let left = holds(alloc, cells, 0, b"a")? && holds(alloc, cells, 1, b"")?;
+    Ok(held && left && cells.count() == 2)
+}
+
+fn goes_back_of(alloc: Global, matched: &Both<'_>) -> Result<bool, Fail> {
+    let mut cells = Cells::new(alloc);
+    goes_back_in(alloc, &mut cells, matched)
+}
+
+fn goes_back(alloc: Global) -> Result<bool, Fail> {
+    let pattern = place(alloc, b"xy2F")?;
+    let both = term(alloc, b"ab2F")?;
+    let x = place(alloc, b"x")?;
+    let a = term(alloc, b"a")?;
+    let matched = Both {
+        pattern: &pattern,
+        both: &both,
+        x: &x,
+        a: &a,
+    };
+    goes_back_of(alloc, &matched)
 }
 
 #[test]
 fn back_to_a_mark(rt: HostRuntime) -> Result<(), Fail> {
-    let alloc = rt.alloc();
-    let (pattern, both) = (place(alloc, b"xy2F")?, term(alloc, b"ab2F")?);
-    let (x, a) = (place(alloc, b"x")?, term(alloc, b"a")?);
-    let mut cells = Cells::new(alloc);
-    cells.open_cells(2)?;
-    let places = InSlice { cells: &[0, 1] };
-    cells.matches_term(alloc, &places, &x, &a)?;
-    let mark = cells.mark();
-    cells.open_cells(3)?;
-    cells.matches_term(alloc, &places, &pattern, &both)?;
-    assert!(rt; holds(alloc, &cells, 1, b"b")?);
-    cells.back_to(mark);
-    assert!(rt; holds(alloc, &cells, 0, b"a")? && holds(alloc, &cells, 1, b"")?);
-    assert_eq!(rt; cells.count(), 2);
+    assert!(rt; goes_back(rt.alloc())?);
     Ok(())
+}
+
+fn are_closed_in<'t>(
+    alloc: Global,
+    cells: &mut Cells<'t>,
+    terms: &'t [Option<Box<Term>>],
+) -> Result<bool, Fail> {
+    fill(cells, terms)?;
+    if cells.count() != 3 {
+        return Ok(false);
+    }
+    cells.close_cells(1);
+    let held = holds(alloc, cells, 1, b"b")? && holds(alloc, cells, 2, b"")?;
+    if cells.count() != 2 {
+        return Ok(false);
+    }
+    cells.close_to(1);
+    Ok(held && holds(alloc, cells, 0, b"a")? && holds(alloc, cells, 1, b"")?)
+}
+
+fn are_closed_of(alloc: Global, terms: &mut Vec<Option<Box<Term>>>) -> Result<bool, Fail> {
+    add_terms(alloc, [b"a", b"b", b"c"], terms)?;
+    let mut cells = Cells::new(alloc);
+    are_closed_in(alloc, &mut cells, terms)
+}
+
+fn are_closed(alloc: Global) -> Result<bool, Fail> {
+    let mut terms = Vec::new(alloc);
+    are_closed_of(alloc, &mut terms)
 }
 
 #[test]
 fn cells_closed(rt: HostRuntime) -> Result<(), Fail> {
-    let alloc = rt.alloc();
-    let terms = terms(alloc, [b"a", b"b", b"c"])?;
-    let mut cells = filled(alloc, &terms)?;
-    assert_eq!(rt; cells.count(), 3);
-    cells.close_cells(1);
-    assert!(rt; holds(alloc, &cells, 1, b"b")? && holds(alloc, &cells, 2, b"")?);
-    assert_eq!(rt; cells.count(), 2);
-    cells.close_to(1);
-    assert!(rt; holds(alloc, &cells, 0, b"a")? && holds(alloc, &cells, 1, b"")?);
+    assert!(rt; are_closed(rt.alloc())?);
     Ok(())
 }
 
 // ---- deep patterns, on a stack of 8 MiB
 
-// More levels of `x@..` than 4,000 tokens can spell.
-fn deep_pattern_matches(alloc: Global, depth: u32) -> Result<bool, Fail> {
-    let mut pattern = place(alloc, b"x")?;
-    for _ in 0..depth {
-        pattern = Place::new(PlaceForm::At(0, Box::new(alloc, pattern)?));
-    }
-    let a = term(alloc, b"a")?;
-    let mut cells = Cells::new(alloc);
+fn deep_pattern_matches_in<'t>(
+    alloc: Global,
+    cells: &mut Cells<'t>,
+    pattern: &Place,
+    a: &'t Term,
+) -> Result<bool, Fail> {
     cells.open_cells(1)?;
     let places = InSlice { cells: &[0] };
-    let matched = cells.matches_term(alloc, &places, &pattern, &a)?;
-    Ok(matched)
+    Ok(cells.matches_term(alloc, &places, pattern, a)?)
+}
+
+fn deep_pattern_matches_of(alloc: Global, pattern: &Place, a: &Term) -> Result<bool, Fail> {
+    let mut cells = Cells::new(alloc);
+    deep_pattern_matches_in(alloc, &mut cells, pattern, a)
+}
+
+fn deep_pattern(alloc: Global, depth: u32) -> Result<Box<Place>, Fail> {
+    let mut pattern = place(alloc, b"x")?;
+    for _ in 0..depth {
+        pattern = Box::new(alloc, Place::new(PlaceForm::At(0, pattern)))?;
+    }
+    Ok(pattern)
+}
+
+// More levels of `x@..` than 4,000 tokens can spell.
+fn deep_pattern_matches(alloc: Global, depth: u32) -> Result<bool, Fail> {
+    let a = term(alloc, b"a")?;
+    let pattern = deep_pattern(alloc, depth)?;
+    deep_pattern_matches_of(alloc, &pattern, &a)
+}
+
+fn deep_instance_fits_of(alloc: Global, pattern: &Place) -> Result<bool, Fail> {
+    let mut cells = Cells::new(alloc);
+    fits_in(alloc, &mut cells, &[], pattern)
+}
+
+// F(F(..a..)), so many levels of it.
+fn deep_instance(alloc: Global, depth: u32, stack: &mut Vec<Place>) -> Result<Box<Place>, Fail> {
+    push_place(alloc, b'a', 0, stack)?;
+    for _ in 0..depth {
+        push_place(alloc, b'F', 1, stack)?;
+    }
+    boxed(alloc, stack.pop())
+}
+
+fn deep_instance_fits_on(alloc: Global, depth: u32, stack: &mut Vec<Place>) -> Result<bool, Fail> {
+    let pattern = deep_instance(alloc, depth, stack)?;
+    deep_instance_fits_of(alloc, &pattern)
 }
 
 // Whether F(F(..a..)), so many levels of it, fits.
 fn deep_instance_fits(alloc: Global, depth: u32) -> Result<bool, Fail> {
-    let mut pattern = place(alloc, b"a")?;
-    for _ in 0..depth {
-        let head = Head::Application(name(alloc, b'F')?);
-        pattern = Place::new(PlaceForm::Compound(head, vec![in alloc; pattern]?));
-    }
-    let mut cells = Cells::new(alloc);
-    let places = InSlice { cells: &[] };
-    match cells.build(alloc, &places, &pattern, 0)? {
-        Built::Value(_) => Ok(true),
-        Built::Nothing => Err(Fail::from("no instance")),
-        Built::Big => Ok(false),
-    }
+    let mut stack = Vec::new(alloc);
+    deep_instance_fits_on(alloc, depth, &mut stack)
 }
 
 #[test]
