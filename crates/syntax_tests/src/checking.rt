@@ -3,7 +3,7 @@
 use prim_core::{NoPrimitives, Primitives};
 use std::alloc::Global;
 use std::test::Fail;
-use strategy_check::{CheckFault, Kind, check, resolve};
+use strategy_check::{CheckFault, Kind, Program, check, resolve};
 use strategy_syntax::{Definition, Module, Resolved, ResolvedForm, Strategy, StrategyForm};
 use term_core::{Label, Name};
 
@@ -17,15 +17,15 @@ fn name_alone(alloc: Global, name: &[u8]) -> Result<Strategy, Fail> {
     Ok(Strategy::new(StrategyForm::Use(name, Vec::new(alloc), Vec::new(alloc))))
 }
 
-// `f = f`, in a module of its own.
+// `f = f`, in a module of its own. What can fail is made before the body where it can be, since each way out
+// behind it would drop the body.
 fn recursive(alloc: Global) -> Result<(Label, Module), Fail> {
+    let label = Label::read(alloc, b"m")?;
+    let name = word(alloc, b"f")?;
     let body = name_alone(alloc, b"f")?;
-    let f = Definition::new(word(alloc, b"f")?, Vec::new(alloc), Vec::new(alloc), body);
+    let f = Definition::new(name, Vec::new(alloc), Vec::new(alloc), body);
     let definitions = vec![in alloc; f]?;
-    Ok((
-        Label::read(alloc, b"m")?,
-        Module::new(Vec::new(alloc), definitions),
-    ))
+    Ok((label, Module::new(Vec::new(alloc), definitions)))
 }
 
 fn is_first_call(whole: &Resolved) -> bool {
@@ -39,8 +39,35 @@ fn is_told(told: &CheckFault, kind: Kind, name: &[u8]) -> bool {
     }
 }
 
-// Whether the modules have a program in which the strategy resolves to a call of the first
-// definition, as all definitions do; or else which fault is told.
+fn is_wanted(told: &CheckFault, expected: Option<(Kind, &[u8])>) -> bool {
+    expected.is_some_and(|(kind, name)| is_told(told, kind, name))
+}
+
+// Whether the strategy resolves to a call of the first definition, as all definitions do; or else which
+// fault is told. What is owned is dropped by calls, since a drop at the end of a scope is proved anew on
+// each way out.
+fn resolves(
+    alloc: Global,
+    program: &Program,
+    strategy: &Strategy,
+    primitives: &Primitives<NoPrimitives>,
+    expected: Option<(Kind, &[u8])>,
+) -> bool {
+    match resolve(alloc, program, primitives, strategy) {
+        Ok(whole) => {
+            let is_call = is_first_call(&whole);
+            drop(whole);
+            expected.is_none() && is_call && program.definitions().iter().all(is_first_call)
+        }
+        Err(told) => {
+            let wanted = is_wanted(&told, expected);
+            drop(told);
+            wanted
+        }
+    }
+}
+
+// The same for a strategy beside the modules, where these have a program.
 fn answers(
     alloc: Global,
     modules: &[(Label, Module)],
@@ -48,18 +75,49 @@ fn answers(
     primitives: &Primitives<NoPrimitives>,
     expected: Option<(Kind, &[u8])>,
 ) -> bool {
-    let program = match check(alloc, modules, primitives) {
-        Ok(program) => program,
-        Err(told) => return expected.is_some_and(|(kind, name)| is_told(&told, kind, name)),
-    };
-    match resolve(alloc, &program, primitives, strategy) {
-        Ok(whole) => {
-            expected.is_none()
-                && is_first_call(&whole)
-                && program.definitions().iter().all(is_first_call)
+    match check(alloc, modules, primitives) {
+        Ok(program) => {
+            let so = resolves(alloc, &program, strategy, primitives, expected);
+            drop(program);
+            so
         }
-        Err(told) => expected.is_some_and(|(kind, name)| is_told(&told, kind, name)),
+        Err(told) => {
+            let wanted = is_wanted(&told, expected);
+            drop(told);
+            wanted
+        }
     }
+}
+
+fn add_modules(alloc: Global, modules: &mut Vec<(Label, Module)>, count: u32) -> Result<(), Fail> {
+    for _ in 0..count {
+        modules.push(recursive(alloc)?)?;
+    }
+    Ok(())
+}
+
+fn answers_in(
+    alloc: Global,
+    modules: &mut Vec<(Label, Module)>,
+    count: u32,
+    strategy: &Strategy,
+    expected: Option<(Kind, &[u8])>,
+) -> Result<bool, Fail> {
+    add_modules(alloc, modules, count)?;
+    let primitives = Primitives::new(Vec::new(alloc));
+    Ok(answers(alloc, modules, strategy, &primitives, expected))
+}
+
+fn answers_beside(
+    alloc: Global,
+    count: u32,
+    strategy: &Strategy,
+    expected: Option<(Kind, &[u8])>,
+) -> Result<bool, Fail> {
+    let mut modules = Vec::new(alloc);
+    let so = answers_in(alloc, &mut modules, count, strategy, expected);
+    drop(modules);
+    so
 }
 
 fn row(
@@ -69,12 +127,9 @@ fn row(
     expected: Option<(Kind, &[u8])>,
 ) -> Result<bool, Fail> {
     let strategy = name_alone(alloc, name)?;
-    let mut modules = Vec::new(alloc);
-    for _ in 0..count {
-        modules.push(recursive(alloc)?)?;
-    }
-    let primitives = Primitives::new(Vec::new(alloc));
-    Ok(answers(alloc, &modules, &strategy, &primitives, expected))
+    let so = answers_beside(alloc, count, &strategy, expected);
+    drop(strategy);
+    so
 }
 
 #[test]

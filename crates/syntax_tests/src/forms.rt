@@ -61,9 +61,11 @@ fn deep_pattern(alloc: Global) -> Result<Pattern, Fail> {
     Ok(p)
 }
 
+// In boxes, here and below: a box is dropped by a call, while the drop of what it holds is proved anew on
+// each way out of a function.
 fn deep_patterns_are_equal(alloc: Global) -> Result<bool, Fail> {
-    let p = deep_pattern(alloc)?;
-    let same = deep_pattern(alloc)?;
+    let p = Box::new(alloc, deep_pattern(alloc)?)?;
+    let same = Box::new(alloc, deep_pattern(alloc)?)?;
     Ok(p.equals(&same))
 }
 
@@ -82,8 +84,8 @@ fn deep_strategy(alloc: Global) -> Result<Strategy, Fail> {
 }
 
 fn deep_strategies_are_equal(alloc: Global) -> Result<bool, Fail> {
-    let s = deep_strategy(alloc)?;
-    let same = deep_strategy(alloc)?;
+    let s = Box::new(alloc, deep_strategy(alloc)?)?;
+    let same = Box::new(alloc, deep_strategy(alloc)?)?;
     Ok(s.equals(&same))
 }
 
@@ -102,8 +104,8 @@ fn deep_use(alloc: Global) -> Result<Strategy, Fail> {
 }
 
 fn deep_uses_are_equal(alloc: Global) -> Result<bool, Fail> {
-    let s = deep_use(alloc)?;
-    let same = deep_use(alloc)?;
+    let s = Box::new(alloc, deep_use(alloc)?)?;
+    let same = Box::new(alloc, deep_use(alloc)?)?;
     Ok(s.equals(&same))
 }
 
@@ -122,7 +124,9 @@ fn deep_resolved_is_made(alloc: Global) -> Result<bool, Fail> {
         variables: 1,
         strategy,
     };
-    Ok(matches!(whole.strategy.form(), ResolvedForm::Seq(_)))
+    let is_made = matches!(whole.strategy.form(), ResolvedForm::Seq(_));
+    drop(whole);
+    Ok(is_made)
 }
 
 fn deep_place_is_made(alloc: Global) -> Result<bool, Fail> {
@@ -130,7 +134,9 @@ fn deep_place_is_made(alloc: Global) -> Result<bool, Fail> {
     for _ in 0..DEPTH {
         p = place_round(alloc, p)?;
     }
-    Ok(matches!(p.form(), PlaceForm::At(0, _)))
+    let is_made = matches!(p.form(), PlaceForm::At(0, _));
+    drop(p);
+    Ok(is_made)
 }
 
 #[test]
@@ -177,8 +183,8 @@ fn is_as_made(f: &Definition) -> bool {
 }
 
 fn definitions_are_as_made(alloc: Global) -> Result<bool, Fail> {
-    let f = definition(alloc, b"f")?;
-    let same = definition(alloc, b"f")?;
+    let f = Box::new(alloc, definition(alloc, b"f")?)?;
+    let same = Box::new(alloc, definition(alloc, b"f")?)?;
     Ok(is_as_made(&f) && f.equals(&same))
 }
 
@@ -216,8 +222,8 @@ fn module(alloc: Global) -> Result<Module, Fail> {
 }
 
 fn modules_are_as_made(alloc: Global) -> Result<bool, Fail> {
-    let same = module(alloc)?;
-    let module = module(alloc)?;
+    let same = Box::new(alloc, module(alloc)?)?;
+    let module = Box::new(alloc, module(alloc)?)?;
     Ok(module.constructors().len() == 1 && module.definitions().len() == 1 && module.equals(&same))
 }
 

@@ -1,7 +1,8 @@
-//! Rows of modules as texts.
+//! Rows of modules as texts. A table is one text, since the check of a literal takes long where it has many
+//! values.
 
 use crate::show::shown;
-use crate::strategies::nested;
+use crate::strategies::nested_row;
 use std::alloc::Global;
 use std::test::Fail;
 use strategy_parse::{ParseFault, parse_module};
@@ -50,118 +51,96 @@ fn shown_module(alloc: Global, module: &Module) -> Vec<u8> {
     out
 }
 
+// The module is dropped by a call, since a drop at the end of its scope is proved anew.
 fn is_shown(alloc: Global, text: &str, expected: &str) -> bool {
     match parse_module(alloc, text.as_bytes()) {
-        Ok(module) => shown_module(alloc, &module).as_slice() == expected.as_bytes(),
+        Ok(module) => {
+            let found = shown_module(alloc, &module);
+            drop(module);
+            found.as_slice() == expected.as_bytes()
+        }
         Err(_) => false,
     }
 }
 
+fn is_row(alloc: Global, row: &str) -> bool {
+    match row.split_once('#') {
+        Some((text, expected)) => is_shown(alloc, text, expected),
+        None => false,
+    }
+}
+
+// Rows with `%` between them, and `#` between the text of a module and the module as it is shown.
+fn are_rows(alloc: Global, table: &str) -> Result<(), Fail> {
+    for row in table.split('%') {
+        if !is_row(alloc, row) {
+            return Err(Fail::new(format_args!("at {row}")));
+        }
+    }
+    Ok(())
+}
+
+// What is told of the text, if it is no module.
+fn fault_of(alloc: Global, text: &[u8]) -> Option<ParseFault> {
+    parse_module(alloc, text).err()
+}
+
 fn is_refused(alloc: Global, text: &str) -> bool {
-    matches!(
-        parse_module(alloc, text.as_bytes()),
-        Err(ParseFault::Syntax)
-    )
+    matches!(fault_of(alloc, text.as_bytes()), Some(ParseFault::Syntax))
 }
 
-#[test]
-fn sections_in_any_order(rt: HostRuntime) {
-    for (text, expected) in [
-        ("", ""),
-        (" // nothing\n", ""),
-        ("module m", ""),
-        (
-            "module m signature signature sorts sorts constructors rules strategies rules",
-            "",
-        ),
-        ("strategies f = id", "f(|) = Id\n"),
-        (
-            "module a strategies f = fail f = id",
-            "f(|) = Fail\nf(|) = Id\n",
-        ),
-        (
-            "rules f = g g = id signature constructors A : t",
-            "A/0\nf(|) = g()()\ng(|) = Id\n",
-        ),
-        (
-            "strategies R : x -> x f = id rules g = f",
-            "R(|) = Scope x (Seq(?x)(!x))\nf(|) = Id\ng(|) = f()()\n",
-        ),
-    ] {
-        assert!(rt; is_shown(rt.alloc(), text, expected));
-    }
-}
+const SECTIONS_IN_ANY_ORDER: &str = "\
+#%\
+\x20// nothing\n#%\
+module m#%\
+module m signature signature sorts sorts constructors rules strategies rules#%\
+strategies f = id#f(|) = Id\n%\
+module a strategies f = fail f = id#f(|) = Fail\nf(|) = Id\n%\
+rules f = g g = id signature constructors A : t#A/0\nf(|) = g()()\ng(|) = Id\n%\
+strategies R : x -> x f = id rules g = f#R(|) = Scope x (Seq(?x)(!x))\nf(|) = Id\ng(|) = f()()\n";
 
 #[test]
-fn declarations(rt: HostRuntime) {
-    for (text, expected) in [
-        (
-            "module sig signature constructors A : t B : t Z : t S : t -> t G : t -> t F : t * t -> t D : t * t -> t Plus : t * t -> t",
-            "A/0\nB/0\nZ/0\nS/1\nG/1\nF/2\nD/2\nPlus/2\n",
-        ),
-        (
-            "module m signature sorts A B(C) constructors F : A * B(C) -> A G : A : A -> A strategies f = id rules R : x -> x",
-            "F/2\nG/0\nf(|) = Id\nR(|) = Scope x (Seq(?x)(!x))\n",
-        ),
-        (
-            "signature sorts A(B(C,D),E) constructors : A * B -> C H : A(B(C),D) * E * F -> A(B)",
-            "H/3\n",
-        ),
-        (
-            "module c signature constructors H : t -> t strategies H(s) = s",
-            "H/1\nH(s |) = s()()\n",
-        ),
-    ] {
-        assert!(rt; is_shown(rt.alloc(), text, expected));
-    }
+fn sections_in_any_order(rt: HostRuntime) -> Result<(), Fail> {
+    are_rows(rt.alloc(), SECTIONS_IN_ANY_ORDER)
 }
 
+const DECLARATIONS: &str = "\
+module sig signature constructors A : t B : t Z : t S : t -> t G : t -> t F : t * t -> t D : t * t -> t Plus : t * t -> t#A/0\nB/0\nZ/0\nS/1\nG/1\nF/2\nD/2\nPlus/2\n%\
+module m signature sorts A B(C) constructors F : A * B(C) -> A G : A : A -> A strategies f = id rules R : x -> x#F/2\nG/0\nf(|) = Id\nR(|) = Scope x (Seq(?x)(!x))\n%\
+signature sorts A(B(C,D),E) constructors : A * B -> C H : A(B(C),D) * E * F -> A(B)#H/3\n%\
+module c signature constructors H : t -> t strategies H(s) = s#H/1\nH(s |) = s()()\n";
+
 #[test]
-fn headers(rt: HostRuntime) {
-    for (text, expected) in [
-        ("strategies f() = id", "f(|) = Id\n"),
-        ("strategies f(|) = id", "f(|) = Id\n"),
-        ("strategies f(a) = a", "f(a |) = a()()\n"),
-        ("strategies f(a,b|) = a", "f(a b |) = a()()\n"),
-        ("strategies f(|x,y) = !x", "f(|x y ) = !x\n"),
-        (
-            "strategies f(a|x) = a; !x g = f(f|g)",
-            "f(a |x ) = Seq(a()())(!x)\ng(|) = f(f()() )(g )\n",
-        ),
-    ] {
-        assert!(rt; is_shown(rt.alloc(), text, expected));
-    }
+fn declarations(rt: HostRuntime) -> Result<(), Fail> {
+    are_rows(rt.alloc(), DECLARATIONS)
+}
+
+const HEADERS: &str = "\
+strategies f() = id#f(|) = Id\n%\
+strategies f(|) = id#f(|) = Id\n%\
+strategies f(a) = a#f(a |) = a()()\n%\
+strategies f(a,b|) = a#f(a b |) = a()()\n%\
+strategies f(|x,y) = !x#f(|x y ) = !x\n%\
+strategies f(a|x) = a; !x g = f(f|g)#f(a |x ) = Seq(a()())(!x)\ng(|) = f(f()() )(g )\n";
+
+#[test]
+fn headers(rt: HostRuntime) -> Result<(), Fail> {
+    are_rows(rt.alloc(), HEADERS)
 }
 
 // The names of a rule's scope stand in the order of the text, without its term parameters and those
 // of inner scopes.
+const RULES: &str = "\
+module arith rules\n  P : Plus(x,y) -> z where <add> (x,y) => z\n strategies\n  add = ?(x,y); prim(\"addi\",x,y)#P(|) = Scope x y z (Seq(?Plus(x y ))(Seq(Test(Seq(Seq(!Tuple(x y ))(add()()))(?z)))(!z)))\nadd(|) = Seq(?Tuple(x y ))(Prim 'addi'(x y ))\n%\
+rules R(s|y) : x -> (y,x) S : a@_ -> a#R(s |y ) = Scope x (Seq(?x)(!Tuple(y x )))\nS(|) = Scope a (Seq(?a@_)(!a))\n%\
+rules R : x -> y where <f(!u)> w#R(|) = Scope x y u w (Seq(?x)(Seq(Test(Seq(!w)(f(!u )())))(!y)))\n%\
+rules R : x -> x where {y: ?y; !z}#R(|) = Scope x z (Seq(?x)(Seq(Test(Scope y (Seq(?y)(!z))))(!x)))\n%\
+rules R : x -> x where \\ y -> C(y,z) where ?v \\#R(|) = Scope x z v (Seq(?x)(Seq(Test(Scope y (Seq(?y)(Seq(Test(?v))(!C(y z ))))))(!x)))\n%\
+rules R : 1 -> \"a\"#R(|) = Scope (Seq(?1)(!'a'()))\n";
+
 #[test]
-fn rules(rt: HostRuntime) {
-    for (text, expected) in [
-        (
-            "module arith rules\n  P : Plus(x,y) -> z where <add> (x,y) => z\n strategies\n  add = ?(x,y); prim(\"addi\",x,y)",
-            "P(|) = Scope x y z (Seq(?Plus(x y ))(Seq(Test(Seq(Seq(!Tuple(x y ))(add()()))(?z)))(!z)))\nadd(|) = Seq(?Tuple(x y ))(Prim 'addi'(x y ))\n",
-        ),
-        (
-            "rules R(s|y) : x -> (y,x) S : a@_ -> a",
-            "R(s |y ) = Scope x (Seq(?x)(!Tuple(y x )))\nS(|) = Scope a (Seq(?a@_)(!a))\n",
-        ),
-        (
-            "rules R : x -> y where <f(!u)> w",
-            "R(|) = Scope x y u w (Seq(?x)(Seq(Test(Seq(!w)(f(!u )())))(!y)))\n",
-        ),
-        (
-            "rules R : x -> x where {y: ?y; !z}",
-            "R(|) = Scope x z (Seq(?x)(Seq(Test(Scope y (Seq(?y)(!z))))(!x)))\n",
-        ),
-        (
-            "rules R : x -> x where \\ y -> C(y,z) where ?v \\",
-            "R(|) = Scope x z v (Seq(?x)(Seq(Test(Scope y (Seq(?y)(Seq(Test(?v))(!C(y z ))))))(!x)))\n",
-        ),
-        ("rules R : 1 -> \"a\"", "R(|) = Scope (Seq(?1)(!'a'()))\n"),
-    ] {
-        assert!(rt; is_shown(rt.alloc(), text, expected));
-    }
+fn rules(rt: HostRuntime) -> Result<(), Fail> {
+    are_rows(rt.alloc(), RULES)
 }
 
 #[test]
@@ -183,66 +162,57 @@ fn the_manual(rt: HostRuntime) {
     assert!(rt; is_shown(rt.alloc(), text, expected));
 }
 
+const NO_MODULES: &str = r"
+module
+module m n
+f = id
+strategies f
+strategies f = id;
+strategies f(a,) = id
+strategies f(a|b|c) = id
+strategies f = id module m
+strategies f = id sorts A
+rules R : x
+rules R : x -> y where
+rules R : x => y
+signature f = id
+signature sorts A()
+signature sorts A(B
+signature sorts A * B
+signature constructors : A
+signature constructors A : B * C
+signature constructors A : B -> C * D
+signature constructors F : A G : A : A strategies f = id
+$
+";
+
 #[test]
 fn no_modules(rt: HostRuntime) {
-    for text in [
-        "module",
-        "module m n",
-        "f = id",
-        "strategies f",
-        "strategies f = id;",
-        "strategies f(a,) = id",
-        "strategies f(a|b|c) = id",
-        "strategies f = id module m",
-        "strategies f = id sorts A",
-        "rules R : x",
-        "rules R : x -> y where",
-        "rules R : x => y",
-        "signature f = id",
-        "signature sorts A()",
-        "signature sorts A(B",
-        "signature sorts A * B",
-        "signature constructors : A",
-        "signature constructors A : B * C",
-        "signature constructors A : B -> C * D",
-        "signature constructors F : A G : A : A strategies f = id",
-        "$",
-    ] {
+    for text in NO_MODULES.trim().lines() {
         assert!(rt; is_refused(rt.alloc(), text));
     }
 }
 
+const DEEPEST_MODULES: &str = r"
+signature sorts #1332#A(#A#)#
+signature constructors A : #1330#A(#A#)# -> A
+rules R : #1995#[#x#]# -> x
+rules R : x -> x where #1992#(#?x#)#
+rules R : x -> x where #797#{x:#?y#}#
+rules R : x -> x where #665#\ x -> x where #id#\#
+rules R : x -> x where \ #1993#[#x#]# -> y \
+strategies f(s) = #1331#f(#s#)#
+";
+
+fn is_read(alloc: Global, row: &str) -> Result<bool, Fail> {
+    let text = nested_row(alloc, row)?;
+    Ok(fault_of(alloc, &text).is_none())
+}
+
 #[test]
 fn deepest_modules(rt: HostRuntime) -> Result<(), Fail> {
-    for (front, count, opening, middle, closing, back) in [
-        ("signature sorts ", 1332, "A(", "A", ")", ""),
-        ("signature constructors A : ", 1330, "A(", "A", ")", " -> A"),
-        ("rules R : ", 1995, "[", "x", "]", " -> x"),
-        ("rules R : x -> x where ", 1992, "(", "?x", ")", ""),
-        ("rules R : x -> x where ", 797, "{x:", "?y", "}", ""),
-        (
-            "rules R : x -> x where ",
-            665,
-            "\\ x -> x where ",
-            "id",
-            "\\",
-            "",
-        ),
-        (
-            "rules R : x -> x where \\ ",
-            1993,
-            "[",
-            "x",
-            "]",
-            " -> y \\",
-        ),
-        ("strategies f(s) = ", 1331, "f(", "s", ")", ""),
-    ] {
-        let inner = nested(rt.alloc(), count, opening, middle, closing)?;
-        let mut text = Vec::from_slice(rt.alloc(), front.as_bytes())?;
-        text.extend_from_slice(&inner)?;
-        text.extend_from_slice(back.as_bytes())?;
-        assert!(rt; parse_module(rt.alloc(), &text).is_ok(), "at {front}");
+    for row in DEEPEST_MODULES.trim().lines() {
+        assert!(rt; is_read(rt.alloc(), row)?, "at {row}");
     }
     Ok(())
 }

@@ -1,6 +1,6 @@
 //! Terms that are printed.
 
-use aterm_text::print;
+use crate::terms::printed;
 use std::alloc::Global;
 use std::test::Fail;
 use term_core::{Name, Term};
@@ -31,26 +31,33 @@ fn annotated(alloc: Global) -> Result<Term, Fail> {
     Ok(term.with_annotations(vec![in alloc; constant(alloc, b"a")?]?))
 }
 
+fn tuple_of_one(alloc: Global) -> Result<Term, Fail> {
+    let one = vec![in alloc; constant(alloc, b"a")?]?;
+    Ok(Term::tuple(alloc, one))
+}
+
+// A failure unless the term is printed so.
+fn printed_as(alloc: Global, term: Result<Term, Fail>, text: &str) -> Result<(), Fail> {
+    let out = printed(alloc, term?)?;
+    if out.as_slice() == text.as_bytes() {
+        Ok(())
+    } else {
+        Err(Fail::new(format_args!("not {text}")))
+    }
+}
+
 #[test]
 fn prints(rt: HostRuntime) -> Result<(), Fail> {
     let alloc = rt.alloc();
-    let one = vec![in alloc; constant(alloc, b"a")?]?;
-    let table: [(Term, &[u8]); 10] = [
-        (string(alloc, &[0, 255])?, b"\"\\000\\377\""),
-        (string(alloc, &[b'"', 255])?, b"\"\\\"\\377\""),
-        (string(alloc, b"a\\\r\tb")?, b"\"a\\\\\\r\\tb\""),
-        (constant(alloc, b"f")?, b"f"),
-        (pair_and_list(alloc)?, b"f(a,[1,2])"),
-        (Term::integer(alloc, -7), b"-7"),
-        (Term::tuple(alloc, Vec::new(alloc)), b"()"),
-        (Term::tuple(alloc, one), b"(a)"),
-        (Term::list(alloc, Vec::new(alloc)), b"[]"),
-        (annotated(alloc)?, b"f(\"x\\nA\",-7){a}"),
-    ];
-    for (term, text) in table {
-        let mut out = Vec::new(alloc);
-        print(&term, &mut out)?;
-        assert_eq!(rt; out.as_slice(), text);
-    }
+    printed_as(alloc, string(alloc, &[0, 255]), "\"\\000\\377\"")?;
+    printed_as(alloc, string(alloc, &[b'"', 255]), "\"\\\"\\377\"")?;
+    printed_as(alloc, string(alloc, b"a\\\r\tb"), "\"a\\\\\\r\\tb\"")?;
+    printed_as(alloc, constant(alloc, b"f"), "f")?;
+    printed_as(alloc, pair_and_list(alloc), "f(a,[1,2])")?;
+    printed_as(alloc, Ok(Term::integer(alloc, -7)), "-7")?;
+    printed_as(alloc, Ok(Term::tuple(alloc, Vec::new(alloc))), "()")?;
+    printed_as(alloc, tuple_of_one(alloc), "(a)")?;
+    printed_as(alloc, Ok(Term::list(alloc, Vec::new(alloc))), "[]")?;
+    printed_as(alloc, annotated(alloc), "f(\"x\\nA\",-7){a}")?;
     Ok(())
 }

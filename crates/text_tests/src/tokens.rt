@@ -40,30 +40,58 @@ fn is_ident(token: &Token, bytes: &[u8]) -> bool {
     }
 }
 
-#[test]
-fn tokens_read(rt: HostRuntime) -> Result<(), Fail> {
-    let text = b"rec x'-1(id) // y\n=> _ -07 \"a\\n\\101\" $ \"\\q\"";
-    let found = read_tokens(rt.alloc(), text)?;
-    match found.as_slice() {
+// Two patterns, since the proof of one grows faster than its length.
+fn first_are_wanted(found: &[Token]) -> bool {
+    match found {
         [
             Token::Reserved(Keyword::Rec),
             x,
             Token::Sign(Sign::OpenRound),
             Token::Reserved(Keyword::Id),
             Token::Sign(Sign::CloseRound),
+            ..
+        ] => is_ident(x, b"x'-1"),
+        _ => false,
+    }
+}
+
+fn last_are_wanted(found: &[Token]) -> bool {
+    match found {
+        [
             Token::Sign(Sign::FatArrow),
             Token::Wildcard,
             Token::Integer(-7),
             text,
             Token::Bad,
             Token::Bad,
-        ] => {
-            assert!(rt; is_ident(x, b"x'-1"));
-            assert!(rt; is_text(text, b"a\nA"));
-        }
-        _ => assert!(rt; false),
+        ] => is_text(text, b"a\nA"),
+        _ => false,
     }
-    Ok(())
+}
+
+fn are_wanted(found: &[Token]) -> bool {
+    match found.get(5..) {
+        Some(last) => first_are_wanted(found) && last_are_wanted(last),
+        None => false,
+    }
+}
+
+// The tokens are dropped by a call, since a drop at the end of their scope is proved anew.
+fn are_read(alloc: Global, text: &[u8]) -> bool {
+    match read_tokens(alloc, text) {
+        Ok(found) => {
+            let wanted = are_wanted(&found);
+            drop(found);
+            wanted
+        }
+        Err(_) => false,
+    }
+}
+
+#[test]
+fn tokens_read(rt: HostRuntime) {
+    let text = b"rec x'-1(id) // y\n=> _ -07 \"a\\n\\101\" $ \"\\q\"";
+    assert!(rt; are_read(rt.alloc(), text));
 }
 
 fn many_commas(alloc: Global, count: usize) -> Result<Vec<u8>, Fail> {
@@ -74,12 +102,34 @@ fn many_commas(alloc: Global, count: usize) -> Result<Vec<u8>, Fail> {
     Ok(text)
 }
 
+fn so_many_are_read(alloc: Global, text: &[u8], count: usize) -> bool {
+    match read_tokens(alloc, text) {
+        Ok(found) => {
+            let read = found.len();
+            drop(found);
+            read == count
+        }
+        Err(_) => false,
+    }
+}
+
+fn commas_are_read(alloc: Global, count: usize) -> Result<bool, Fail> {
+    let text = many_commas(alloc, count)?;
+    Ok(so_many_are_read(alloc, &text, count))
+}
+
+fn are_deep(alloc: Global, text: &[u8]) -> bool {
+    matches!(read_tokens(alloc, text).err(), Some(TokensFault::Deep))
+}
+
+fn commas_are_deep(alloc: Global, count: usize) -> Result<bool, Fail> {
+    let text = many_commas(alloc, count)?;
+    Ok(are_deep(alloc, &text))
+}
+
 #[test]
 fn tokens_bounded(rt: HostRuntime) -> Result<(), Fail> {
-    let most = many_commas(rt.alloc(), 4000)?;
-    let read = read_tokens(rt.alloc(), &most)?;
-    assert_eq!(rt; read.len(), 4000);
-    let more = many_commas(rt.alloc(), 4001)?;
-    assert!(rt; matches!(read_tokens(rt.alloc(), &more), Err(TokensFault::Deep)));
+    assert!(rt; commas_are_read(rt.alloc(), 4000)?);
+    assert!(rt; commas_are_deep(rt.alloc(), 4001)?);
     Ok(())
 }
