@@ -102,3 +102,50 @@ pub fn expect_rows(
     }
     Ok(())
 }
+
+/// The rows of a table, so many, each behind the front. A table is one text, since the check of a literal takes long where it has
+/// many values: between rows stands `%`; a row is a script, a line `= 4 0` of how many commands are accepted and refused, the front's
+/// among them, and the answers.
+pub fn expect_table(
+    rt: &impl Abort,
+    alloc: Global,
+    front: &[u8],
+    count: usize,
+    table: &str,
+) -> Result<(), Fail> {
+    for row in table.split('%') {
+        assert!(rt; is_told(alloc, front, row)?, "{row}");
+    }
+    assert_eq!(rt; table.split('%').count(), count);
+    Ok(())
+}
+
+fn is_told(alloc: Global, front: &[u8], row: &str) -> Result<bool, Fail> {
+    let Some((script, accepted, refused, answers)) = parts_of(row) else {
+        return Err(Fail::new(format_args!("no row: {row}")));
+    };
+    let mut whole = Vec::from_slice(alloc, front)?;
+    whole.extend_from_slice(script.as_bytes())?;
+    whole.push(b'\n')?;
+    is_row(
+        alloc,
+        &whole,
+        false,
+        answers.as_bytes(),
+        ends(accepted, refused),
+    )
+}
+
+// The script, but for the line feed at its end, the two numbers and the answers.
+fn parts_of(row: &str) -> Option<(&str, u64, u64, &str)> {
+    let row = row.strip_prefix("\n")?;
+    let (script, row) = row.split_once("\n= ")?;
+    let (accepted, row) = row.split_once(' ')?;
+    let (refused, answers) = row.split_once('\n')?;
+    Some((
+        script,
+        accepted.parse().ok()?,
+        refused.parse().ok()?,
+        answers,
+    ))
+}

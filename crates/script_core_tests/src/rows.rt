@@ -1,18 +1,372 @@
 //! Worked rows, in pieces of 1, 2 and 4,096 bytes.
 
-use crate::pieces::{ends, expect_rows, is_row};
+use crate::pieces::{ends, expect_rows, expect_table, is_row};
 use std::alloc::Global;
 use std::test::Fail;
 
+const WORKED: &str = r#"
+tree t f(a,b)
+put t /1 g([])
+show t
+show t at /1/0
+= 4 0
+ok
+ok
+f(a,g([]))
+[]
+%
+tree t f{}
+show t
+= 2 0
+ok
+f
+%
+tree t f ()
+show t
+= 2 0
+ok
+f
+%
+tree t "\000\377"
+show t
+= 2 0
+ok
+"\000\377"
+%
+tree t (a)
+show t
+= 2 0
+ok
+(a)
+%
+tree t "\400"
+tree t "\q"
+= 0 2
+refused 7 term
+refused 7 term
+%
+tree t a
+copy t u
+drop t
+undo 3
+history
+redo 2
+trees
+redo 2
+= 7 1
+ok
+ok
+ok
+ok
+undo 0 redo 3
+ok
+trees t u
+refused 16 noredo
+%
+tree t a
+begin
+tree t b
+begin
+undo
+redo
+abandon
+show t
+commit
+abandon
+history
+= 6 5
+ok
+ok
+ok
+refused 17 group
+refused 17 group
+refused 17 group
+ok
+a
+refused 18 nogroup
+refused 18 nogroup
+undo 1 redo 0
+%
+tree t a
+tree t b
+undo
+begin
+commit
+redo
+show t
+undo
+begin
+tree t c
+abandon
+redo
+show t
+undo
+begin
+tree t c
+commit
+redo
+= 17 1
+ok
+ok
+ok
+ok
+ok
+ok
+b
+ok
+ok
+ok
+ok
+ok
+b
+ok
+ok
+ok
+ok
+refused 16 noredo
+%
+tree t f(a,[1,2])
+show t
+tree t g
+undo
+show t
+= 5 0
+ok
+f(a,[1,2])
+ok
+ok
+f(a,[1,2])
+%
+tree t  f ( "x\n\101" , -007 ) { a }
+show t
+= 2 0
+ok
+f("x\nA",-7){a}
+%
+tree t f(a,)
+tree t f(a) b
+tree t 1.5
+tree t 9223372036854775808
+tree t
+= 0 5
+refused 7 term
+refused 7 term
+refused 7 term
+refused 7 term
+refused 7 term
+"#;
+
 #[test]
 fn answers_worked_rows(rt: HostRuntime) -> Result<(), Fail> {
-    let table: [(&[u8], &[u8], u64, u64); 16] = [
-        (
-            b"tree t f(a,b)\nput t /1 g([])\nshow t\nshow t at /1/0\n",
-            b"ok\nok\nf(a,g([]))\n[]\n",
-            4,
-            0,
-        ),
+    expect_table(&rt, rt.alloc(), b"", 12, WORKED)
+}
+
+const MORE: &str = r#"
+tree t "abc
+tree t a{1}{2}
+= 0 2
+refused 7 term
+refused 7 term
+%
+tree t -0
+show t
+= 2 0
+ok
+0
+%
+undo
+history
+= 1 1
+refused 15 noundo
+undo 0 redo 0
+%
+tree t a
+tree t b
+undo
+tree t c
+redo
+show t
+undo 3
+undo 2
+trees
+= 7 2
+ok
+ok
+ok
+ok
+refused 16 noredo
+c
+refused 15 noundo
+ok
+trees
+%
+tree t f(a)
+annotate t /0 {"k"}
+show t
+undo
+show t
+redo
+put t /0 b
+undo
+show t at /0
+annotate t /7 {}
+= 9 1
+ok
+ok
+f(a{"k"})
+ok
+f(a)
+ok
+ok
+ok
+a{"k"}
+refused 9 path
+%
+tree b x
+tree a y
+copy a c
+drop b
+trees
+undo
+dump
+= 7 0
+ok
+ok
+ok
+ok
+trees a c
+ok
+tree a y
+tree b x
+tree c y
+%
+frob
+undo 0
+show
+show t at 0
+tree 9 a
+show zz
+put zz /0 f(
+= 0 7
+refused 2 line
+refused 2 line
+refused 2 line
+refused 2 line
+refused 4 name
+refused 5 notree
+refused 5 notree
+%
+tree t f(
+  a)
+# note
+
+show t
+= 2 0
+ok
+f(a)
+%
+tree t "a
+# b
+ c"
+show t
+= 2 0
+ok
+"a\n c"
+%
+show 9 at 0
+copy 9 8 7
+tree 9
+put 9 /
+put 9 x
+drop
+drop a b
+= 0 7
+refused 2 line
+refused 2 line
+refused 4 name
+refused 4 name
+refused 2 line
+refused 2 line
+refused 2 line
+%
+tree t f(a)
+put u /0 [
+put t /1 [
+put t /0 [
+annotate t / {a
+annotate t /0/0 }
+show t at /1
+show t at
+show t in /0
+= 1 8
+ok
+refused 5 notree
+refused 9 path
+refused 7 term
+refused 7 term
+refused 9 path
+refused 9 path
+refused 2 line
+refused 2 line
+%
+tree t a
+tree t b
+undo 002
+redo 01
+undo 1000000
+undo 1000001
+redo 0
+redo +1
+redo 1 1
+undo 4294967296
+history
+= 5 6
+ok
+ok
+ok
+ok
+refused 15 noundo
+refused 2 line
+refused 2 line
+refused 2 line
+refused 2 line
+refused 2 line
+undo 1 redo 1
+%
+begin x
+commit x
+abandon x
+begin
+undo 0
+undo 9
+tree t a
+history
+commit
+history
+dump
+= 6 5
+refused 2 line
+refused 2 line
+refused 2 line
+ok
+refused 2 line
+refused 17 group
+ok
+undo 0 redo 0
+ok
+undo 1 redo 0
+tree t a
+"#;
+
+#[test]
+fn answers_more_rows(rt: HostRuntime) -> Result<(), Fail> {
+    expect_table(&rt, rt.alloc(), b"", 13, MORE)
+}
+
+// Rows of bytes that no text has, of carriage returns, and of commands without a line feed at their end.
+#[test]
+fn answers_rows_of_any_bytes(rt: HostRuntime) -> Result<(), Fail> {
+    let table: [(&[u8], &[u8], u64, u64); 8] = [
         (
             b"tree t \"\x00\xff\"\nshow t\ntree t \"f\"(x)\nshow t\n",
             b"ok\n\"\\000\\377\"\nok\n\"f\"(x)\n",
@@ -31,104 +385,8 @@ fn answers_worked_rows(rt: HostRuntime) -> Result<(), Fail> {
             2,
             0,
         ),
-        (b"tree t f{}\nshow t\n", b"ok\nf\n", 2, 0),
-        (b"tree t f ()\nshow t\n", b"ok\nf\n", 2, 0),
-        (
-            b"tree t \"\\000\\377\"\nshow t\n",
-            b"ok\n\"\\000\\377\"\n",
-            2,
-            0,
-        ),
-        (b"tree t (a)\nshow t\n", b"ok\n(a)\n", 2, 0),
-        (
-            b"tree t \"\\400\"\ntree t \"\\q\"\n",
-            b"refused 7 term\nrefused 7 term\n",
-            0,
-            2,
-        ),
-        (
-            b"tree t a\ncopy t u\ndrop t\nundo 3\nhistory\nredo 2\ntrees\nredo 2\n",
-            b"ok\nok\nok\nok\nundo 0 redo 3\nok\ntrees t u\nrefused 16 noredo\n",
-            7,
-            1,
-        ),
         (b"tree t a\n\r", b"ok\n", 1, 0),
-        (
-            b"tree t a\nbegin\ntree t b\nbegin\nundo\nredo\nabandon\nshow t\ncommit\nabandon\nhistory\n",
-            b"ok\nok\nok\nrefused 17 group\nrefused 17 group\nrefused 17 group\nok\na\nrefused 18 nogroup\nrefused 18 nogroup\nundo 1 redo 0\n",
-            6,
-            5,
-        ),
-        (
-            b"tree t a\ntree t b\nundo\nbegin\ncommit\nredo\nshow t\nundo\nbegin\ntree t c\nabandon\nredo\nshow t\nundo\nbegin\ntree t c\ncommit\nredo\n",
-            b"ok\nok\nok\nok\nok\nok\nb\nok\nok\nok\nok\nok\nb\nok\nok\nok\nok\nrefused 16 noredo\n",
-            17,
-            1,
-        ),
-        (
-            b"tree t f(a,[1,2])\nshow t\ntree t g\nundo\nshow t\n",
-            b"ok\nf(a,[1,2])\nok\nok\nf(a,[1,2])\n",
-            5,
-            0,
-        ),
-        (
-            b"tree t  f ( \"x\\n\\101\" , -007 ) { a }\nshow t\n",
-            b"ok\nf(\"x\\nA\",-7){a}\n",
-            2,
-            0,
-        ),
-        (
-            b"tree t f(a,)\ntree t f(a) b\ntree t 1.5\ntree t 9223372036854775808\ntree t\n",
-            b"refused 7 term\nrefused 7 term\nrefused 7 term\nrefused 7 term\nrefused 7 term\n",
-            0,
-            5,
-        ),
-    ];
-    expect_rows(&rt, rt.alloc(), &table)
-}
-
-#[test]
-fn answers_more_rows(rt: HostRuntime) -> Result<(), Fail> {
-    let table: [(&[u8], &[u8], u64, u64); 16] = [
-        (
-            b"tree t \"abc\ntree t a{1}{2}\n",
-            b"refused 7 term\nrefused 7 term\n",
-            0,
-            2,
-        ),
-        (b"tree t -0\nshow t\n", b"ok\n0\n", 2, 0),
         (b"", b"", 0, 0),
-        (
-            b"undo\nhistory\n",
-            b"refused 15 noundo\nundo 0 redo 0\n",
-            1,
-            1,
-        ),
-        (
-            b"tree t a\ntree t b\nundo\ntree t c\nredo\nshow t\nundo 3\nundo 2\ntrees\n",
-            b"ok\nok\nok\nok\nrefused 16 noredo\nc\nrefused 15 noundo\nok\ntrees\n",
-            7,
-            2,
-        ),
-        (
-            b"tree t f(a)\nannotate t /0 {\"k\"}\nshow t\nundo\nshow t\nredo\nput t /0 b\nundo\nshow t at /0\nannotate t /7 {}\n",
-            b"ok\nok\nf(a{\"k\"})\nok\nf(a)\nok\nok\nok\na{\"k\"}\nrefused 9 path\n",
-            9,
-            1,
-        ),
-        (
-            b"tree b x\ntree a y\ncopy a c\ndrop b\ntrees\nundo\ndump\n",
-            b"ok\nok\nok\nok\ntrees a c\nok\ntree a y\ntree b x\ntree c y\n",
-            7,
-            0,
-        ),
-        (
-            b"frob\nundo 0\nshow\nshow t at 0\ntree 9 a\nshow zz\nput zz /0 f(\n",
-            b"refused 2 line\nrefused 2 line\nrefused 2 line\nrefused 2 line\nrefused 4 name\nrefused 5 notree\nrefused 5 notree\n",
-            0,
-            7,
-        ),
-        (b"tree t f(\n  a)\n# note\n\nshow t\n", b"ok\nf(a)\n", 2, 0),
         (
             b"\n \n\ttree t a\ntree t f(\n#b\n  b)\r\r\n\rshow t\n#\r\nshow t",
             b"ok\nf(b)\nf(b)\n",
@@ -142,34 +400,10 @@ fn answers_more_rows(rt: HostRuntime) -> Result<(), Fail> {
             2,
         ),
         (
-            b"tree t \"a\n# b\n c\"\nshow t\n",
-            b"ok\n\"a\\n c\"\n",
-            2,
+            b"module l\n strategies\r\n  f = id\n# g = f\n\n  g = f \r\n\nmodule e\ntext l\ndump\n",
+            b"ok\nok\nstrategies\n  f = id\n\n  g = f\nbegin\nmodule e\nmodule l strategies\n  f = id\n\n  g = f\ncommit\n",
+            4,
             0,
-        ),
-        (
-            b"show 9 at 0\ncopy 9 8 7\ntree 9\nput 9 /\nput 9 x\ndrop\ndrop a b\n",
-            b"refused 2 line\nrefused 2 line\nrefused 4 name\nrefused 4 name\nrefused 2 line\nrefused 2 line\nrefused 2 line\n",
-            0,
-            7,
-        ),
-        (
-            b"tree t f(a)\nput u /0 [\nput t /1 [\nput t /0 [\nannotate t / {a\nannotate t /0/0 }\nshow t at /1\nshow t at\nshow t in /0\n",
-            b"ok\nrefused 5 notree\nrefused 9 path\nrefused 7 term\nrefused 7 term\nrefused 9 path\nrefused 9 path\nrefused 2 line\nrefused 2 line\n",
-            1,
-            8,
-        ),
-        (
-            b"tree t a\ntree t b\nundo 002\nredo 01\nundo 1000000\nundo 1000001\nredo 0\nredo +1\nredo 1 1\nundo 4294967296\nhistory\n",
-            b"ok\nok\nok\nok\nrefused 15 noundo\nrefused 2 line\nrefused 2 line\nrefused 2 line\nrefused 2 line\nrefused 2 line\nundo 1 redo 1\n",
-            5,
-            6,
-        ),
-        (
-            b"begin x\ncommit x\nabandon x\nbegin\nundo 0\nundo 9\ntree t a\nhistory\ncommit\nhistory\ndump\n",
-            b"refused 2 line\nrefused 2 line\nrefused 2 line\nok\nrefused 2 line\nrefused 17 group\nok\nundo 0 redo 0\nok\nundo 1 redo 0\ntree t a\n",
-            6,
-            5,
         ),
     ];
     expect_rows(&rt, rt.alloc(), &table)
