@@ -1,11 +1,1 @@
-pub mod AnswerLemmas
-pub mod WriteLemmas
-pub mod RunLemmas
 pub mod RunningLemmas
-pub mod LawLemmas
-pub mod DumpText
-pub mod DumpContents
-pub mod DumpLemmas
-pub mod DumpRows
-pub mod DefinitionRows
-pub mod FormLemmas

@@ -17,9 +17,9 @@ use Rattle.script_commands.specs.Handed.{Handed, handed, completed}
 use Rattle.script_commands.specs.Splitting.{StandsBehind, rest_of, out_of}
 use Rattle.script_commands.specs.Split.{Split}
 use Rattle.script_commands.specs.FedRight.{FedRight, GoesBehind}
-use Rattle.script_core.specs.Run.{Completes, BreaksOff, Answers, one_if}
+use Rattle.script_forms.specs.Run.{Completes, BreaksOff, Answers, one_if}
 use Rattle.script_core.specs.Running.{ByBudget, GoesOnBy, Counts, AnswersReady, AnswersBytes, Underway, HandsBehind, Breaks, Ends, Stops, Calm, TurnRight, RunRight, Streams}
-use Rattle.script_core.proofs.RunLemmas.{one_if-total, Completes-none, Completes-append, Completes-stopped, Completes-after, Completes-flushed, BreaksOff-append, BreaksOff-longer, BreaksOff-flush, BreaksOff-after}
+use Rattle.script_forms.proofs.RunLemmas.{one_if-total, Completes-none, Completes-append, Completes-stopped, Completes-after, Completes-flushed, BreaksOff-append, BreaksOff-longer, BreaksOff-flush, BreaksOff-after}
 use Rattle.script_commands.proofs.SplitLemmas.{StandsBehind-end, StandsBehind-out}
 
 pub OnErr-from : {T E P : Type 0} (r : Result T E) → P → OnErr r P

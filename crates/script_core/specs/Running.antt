@@ -12,11 +12,11 @@ use Rattle.script_core.specs.declared.running.Settings.{Settings}
 use Rattle.script_core.specs.declared.running.RunFault.{RunFault}
 use Rattle.script_core.specs.declared.running.RunFault.TheVariants.{Read, Write, Turns, Memory}
 use Rattle.script_commands.specs.Handed.{Handed, handed, completed}
-use Rattle.script_core.specs.Machine.{Replying}
+use Rattle.script_forms.specs.Machine.{Replying}
 use Rattle.script_commands.specs.Splitting.{StandsBehind}
 use Rattle.script_commands.specs.Split.{Split}
 use Rattle.script_commands.specs.FedRight.{GoesBehind}
-use Rattle.script_core.specs.Run.{Completes, BreaksOff, Answers, AnswersPart, AnswersFirst}
+use Rattle.script_forms.specs.Run.{Completes, BreaksOff, Answers, AnswersPart, AnswersFirst}
 
 -- the rule of a run by the budget of its settings
 abbrev pub ByBudget : Type 1

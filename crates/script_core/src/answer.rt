@@ -1,6 +1,7 @@
 //! Answering one command.
 
 ghost use Rattle.std.specs.Prelude.{◌≡◌, ◌≤◌, ◌⊎◌, ◌+◌, ◌++◌, ℕ, List, Ok, Err, OnOk, OnErr, IfOk, IfErr, false, codes, vec_capacity, vec_len};
+ghost use Rattle.std.specs.FinMap as finmap;
 ghost use Rattle.aterm_text.specs.Tokens.{is_blank};
 ghost use Rattle.aterm_text.specs.Grammar.{Spells, SpellsAnnotations};
 ghost use Rattle.aterm_text.specs.Printed.{print as print_of};
@@ -9,26 +10,24 @@ ghost use Rattle.term_core.specs.Tree.{Tree};
 ghost use Rattle.session_steps.specs.Steps.{AreSteps};
 ghost use Rattle.script_commands.specs.Script.{without_end};
 ghost use Rattle.script_commands.specs.Handed.{text as text_handed};
-ghost use Rattle.script_core.specs.Form.{tree, put, annotate, show, module_text, HasBudget, takes_no_memory, is_without_memory, front_word, behind_word};
+ghost use Rattle.script_forms.specs.Form.{tree, put, annotate, show, module_text, HasBudget, takes_no_memory, is_without_memory, front_word, behind_word};
 ghost use Rattle.script_commands.specs.FedRight.{handed_out};
-ghost use Rattle.script_core.specs.Machine.{ReadAs, Replies, ReplyToText, line, counted, ok_with, told_of};
-ghost use Rattle.script_core.specs.Answer.{Accepts, Answered, Refuses, ReplyInRun, reading_refusal};
-ghost use Rattle.script_core.specs.CommandView.{form as form_seen};
+ghost use Rattle.script_forms.specs.Machine.{ReadAs, Replies, ReplyToText, line, listed, counted, ok_with, told_of};
+ghost use Rattle.script_forms.specs.Answer.{Accepts, Answered, Refuses, ReplyInRun, reading_refusal};
+ghost use Rattle.script_forms.specs.CommandView.{form as form_seen};
 
-use crate::command::{Command, behind_put, behind_tree, read_name_and_text, read_put_parts};
-use crate::lines::{append_line, append_shown, list_names};
-use crate::telling::refuse;
 use aterm_text::{ReadFault, read, read_annotations};
 use itoa::Buffer;
 use prim_core::Meaning;
 use script_commands::Piece;
+use script_forms::{
+    ANSWER_ROOM, Command, append_line, append_shown, behind_put, behind_tree, list_names,
+    read_name_and_text, read_put_parts, refuse,
+};
 use session_core::{Refusal, Session};
 use std::alloc::Global;
-use term_core::{Label, Term};
+use term_core::{Label, NoMemory, Term};
 use term_paths::{Path, at};
-
-/// The bytes that the answer's buffer has to spare, so that a refusal always has room.
-pub const ANSWER_ROOM: usize = 128;
 
 /// Answers a command behind what the buffer holds, and tells whether it was accepted. Where a
 /// growth of memory is refused, the answer is `refused 1 memory` and the session stays as it was.
@@ -198,7 +197,7 @@ fn answer_form<M: Meaning>(
     ensures room { vec_capacity answer.old ≤ vec_capacity answer.new }
 {
     match Command::read(alloc, command, steps) {
-        Ok(read) => perform(alloc, session, read, answer),
+        Ok(read) => perform(alloc, session, &read, answer),
         Err(refusal) => Err(refusal),
     }
 }
@@ -208,42 +207,42 @@ fn answer_form<M: Meaning>(
 fn perform<M: Meaning>(
     alloc: Global,
     session: &mut Session<M>,
-    command: Command<'_>,
+    command: &Command<'_>,
     answer: &mut Vec<u8>,
 ) -> Result<(), Refusal>
-    requires budget { HasBudget (form_seen command) }
+    requires budget { HasBudget (form_seen command.now) }
     requires room { vec_len answer.old + ANSWER_ROOM ≤ vec_capacity answer.old }
-    ensures ok { OnOk result (Accepts (Replies M.meaning (form_seen command.entry) session.old) session.new
+    ensures ok { OnOk result (Accepts (Replies M.meaning (form_seen command.now) session.old) session.new
         answer.old.items answer.new.items) }
-    ensures refused { IfErr result (Refuses (Replies M.meaning (form_seen command.entry) session.old)
-        (is_without_memory (form_seen command.entry))) }
+    ensures refused { IfErr result (Refuses (Replies M.meaning (form_seen command.now) session.old)
+        (is_without_memory (form_seen command.now))) }
     ensures err { OnErr result ((session.new ≡ session.old)
         × (answer.new.items ≡ answer.old.items)) }
     ensures len { OnErr result (vec_len answer.new ≡ vec_len answer.old) }
     ensures room { vec_capacity answer.old ≤ vec_capacity answer.new }
 {
     match command {
-        Command::Tree(name, text) => say_ok(set_tree(alloc, session, &name, text), answer),
-        Command::Copy(name, copy) => say_ok(session.copy_tree(&name, &copy), answer),
-        Command::Drop(name) => say_ok(session.drop_tree(&name), answer),
-        Command::Put(name, path, text) => say_ok(put(alloc, session, &name, &path, text), answer),
+        Command::Tree(name, text) => say_ok(set_tree(alloc, session, name, text), answer),
+        Command::Copy(name, copy) => say_ok(session.copy_tree(name, copy), answer),
+        Command::Drop(name) => say_ok(session.drop_tree(name), answer),
+        Command::Put(name, path, text) => say_ok(put(alloc, session, name, path, text), answer),
         Command::Annotate(name, path, text) => {
-            say_ok(annotate(alloc, session, &name, &path, text), answer)
+            say_ok(annotate(alloc, session, name, path, text), answer)
         }
-        Command::Module(name, text) => say_ok(session.set_module(&name, text), answer),
-        Command::Unload(name) => say_ok(session.unload(&name), answer),
+        Command::Module(name, text) => say_ok(session.set_module(name, text), answer),
+        Command::Unload(name) => say_ok(session.unload(name), answer),
         Command::Apply(name, path, steps, text) => {
-            say_ok(session.apply(&name, &path, steps, text), answer)
+            say_ok(session.apply(name, path, *steps, text), answer)
         }
-        Command::Undo(n) => say_ok(session.undo(n), answer),
-        Command::Redo(n) => say_ok(session.redo(n), answer),
+        Command::Undo(n) => say_ok(session.undo(*n), answer),
+        Command::Redo(n) => say_ok(session.redo(*n), answer),
         Command::Begin => say_ok(session.begin(), answer),
         Command::Commit => say_ok(session.commit(), answer),
         Command::Abandon => say_ok(session.abandon(), answer),
-        Command::Show(name, path) => show_place(session, &name, &path, answer),
-        Command::Trees => Ok(list_names(b"trees", &session.tree_names()?, answer)?),
-        Command::Modules => Ok(list_names(b"modules", &session.module_names()?, answer)?),
-        Command::Text(name) => show_text(session, &name, answer),
+        Command::Show(name, path) => show_place(session, name, path, answer),
+        Command::Trees => Ok(list_trees(session, answer)?),
+        Command::Modules => Ok(list_modules(session, answer)?),
+        Command::Text(name) => show_text(session, name, answer),
         Command::History => {
             count_steps(session, answer);
             Ok(())
@@ -409,6 +408,26 @@ fn show_place<M: Meaning>(
         Ok(part) => Ok(append_shown(part, answer)?),
         Err(refusal) => Err(refusal),
     }
+}
+
+fn list_trees<M: Meaning>(session: &Session<M>, answer: &mut Vec<u8>) -> Result<(), NoMemory>
+    ensures ok { OnOk result (answer.new.items
+        ≡ answer.old.items ++ listed (codes "trees") (finmap.keys session.now.now.trees)) }
+    ensures err { OnErr result (answer.new.items ≡ answer.old.items) }
+    ensures len { OnErr result (vec_len answer.new ≡ vec_len answer.old) }
+    ensures room { vec_capacity answer.old ≤ vec_capacity answer.new }
+{
+    list_names(b"trees", &session.tree_names()?, answer)
+}
+
+fn list_modules<M: Meaning>(session: &Session<M>, answer: &mut Vec<u8>) -> Result<(), NoMemory>
+    ensures ok { OnOk result (answer.new.items
+        ≡ answer.old.items ++ listed (codes "modules") (finmap.keys session.now.now.modules)) }
+    ensures err { OnErr result (answer.new.items ≡ answer.old.items) }
+    ensures len { OnErr result (vec_len answer.new ≡ vec_len answer.old) }
+    ensures room { vec_capacity answer.old ≤ vec_capacity answer.new }
+{
+    list_names(b"modules", &session.module_names()?, answer)
 }
 
 // The text of the name's module.

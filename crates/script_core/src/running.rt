@@ -5,16 +5,14 @@ ghost use Rattle.std.specs.Prelude.{◌≡◌, ◌≤◌, ◌<◌, ◌+◌, ◌*
 ghost use Rattle.script_commands.specs.Handed.{Handed};
 ghost use Rattle.script_commands.specs.Splitting.{StandsBehind};
 ghost use Rattle.session_steps.specs.Steps.{AreSteps};
-ghost use Rattle.script_core.specs.Answer.{ReplyInRun};
+ghost use Rattle.script_forms.specs.Answer.{ReplyInRun};
 ghost use Rattle.script_core.specs.Running.{AnswersReady, AnswersBytes, Breaks, Ends, TurnRight, RunRight, streams};
-ghost use Rattle.script_core.specs.Run.{Answers, AnswersPart, AnswersFirst, Completes, BreaksOff, one_if};
+ghost use Rattle.script_forms.specs.Run.{Answers, AnswersPart, AnswersFirst, Completes, BreaksOff, one_if};
 
-use crate::answer::{ANSWER_ROOM, answer_text};
-use crate::sink::Sink;
-use crate::source::{Failed, Source};
-use crate::write::write_whole;
+use crate::answer::answer_text;
 use prim_core::Meaning;
 use script_commands::{Fed, Splitter};
+use script_forms::{ANSWER_ROOM, Failed, Sink, Source, write_whole};
 use session_core::Session;
 use std::alloc::Global;
 use thiserror::Error;

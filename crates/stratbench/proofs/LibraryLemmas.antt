@@ -6,11 +6,11 @@ use Rattle.session_steps.specs.Applying.{Meaning}
 use Rattle.session_steps.specs.History.{History}
 use Rattle.session_steps.specs.Step.{ComesTo, Outcome, set_module}
 use Rattle.session_steps.specs.declared.TheConstants.{MAX_STEPS}
-use Rattle.script_core.specs.Form as form
+use Rattle.script_forms.specs.Form as form
 use Rattle.script_commands.specs.Handed.{Handed, handed, completed, text}
-use Rattle.script_core.specs.Machine.{Reply, Replies, Told, done, history_after}
-use Rattle.script_core.specs.Answer.{ReplyInRun}
-use Rattle.script_core.specs.Run.{Answers, AnswersPart, Completes, Replied, history_after_all}
+use Rattle.script_forms.specs.Machine.{Reply, Replies, Told, done, history_after}
+use Rattle.script_forms.specs.Answer.{ReplyInRun}
+use Rattle.script_forms.specs.Run.{Answers, AnswersPart, Completes, Replied, history_after_all}
 use Rattle.script_core.specs.declared.running.RunFault.{RunFault}
 use Rattle.script_core.specs.declared.running.RunFault.TheVariants.{Read, Write, Turns, Memory}
 use Rattle.script_core.specs.declared.running.TheConstants.{MAX_READS}

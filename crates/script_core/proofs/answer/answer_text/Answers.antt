@@ -3,8 +3,8 @@ use Rattle.session_steps.specs.declared.refusal.Refusal.TheVariants.{Long}
 use Rattle.script_commands.specs.declared.splitter.Piece.{Piece}
 use Rattle.script_commands.specs.Handed.{long}
 use Rattle.script_commands.specs.FedRight.{handed_out}
-use Rattle.script_core.specs.Answer.{Answered, ReplyInRun}
-use Rattle.script_core.proofs.AnswerLemmas.{answered_told}
+use Rattle.script_forms.specs.Answer.{Answered, ReplyInRun}
+use Rattle.script_forms.proofs.AnswerLemmas.{answered_told}
 use Rattle.script_core.proofs.answer.answer_text.Goals as goal
 
 pub returns-in-Long-clause-answered : goal.returns-in-Long-clause-answered

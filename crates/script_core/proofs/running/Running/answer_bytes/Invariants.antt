@@ -1,6 +1,6 @@
 use Rattle.std.proofs.Common.{◌≡◌, ◌≤◌, length, vec_capacity, true}
-use Rattle.script_core.specs.declared.answer.TheConstants.{ANSWER_ROOM}
-use Rattle.script_core.specs.Answer.{ReplyInRun}
+use Rattle.script_forms.specs.declared.telling.TheConstants.{ANSWER_ROOM}
+use Rattle.script_forms.specs.Answer.{ReplyInRun}
 use Rattle.script_core.specs.Running.{Underway}
 use Rattle.script_core.proofs.running.Running.answer_bytes.Given as goal
 

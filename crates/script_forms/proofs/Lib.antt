@@ -1,0 +1,10 @@
+pub mod AnswerLemmas
+pub mod WriteLemmas
+pub mod RunLemmas
+pub mod LawLemmas
+pub mod DumpText
+pub mod DumpContents
+pub mod DumpLemmas
+pub mod DumpRows
+pub mod DefinitionRows
+pub mod FormLemmas

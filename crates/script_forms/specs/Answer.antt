@@ -1,0 +1,80 @@
+-- How one command of a run is answered.
+use Rattle.std.specs.Prelude.{◌≡◌, ◌⊎◌, ℕ, Bool, true, false, List, ◌++◌, Ok, Err, is_ok}
+use Rattle.session_steps.specs.Applying.{Meaning}
+use Rattle.session_steps.specs.History.{History}
+use Rattle.session_steps.specs.declared.refusal.Refusal.{Refusal}
+use Rattle.session_steps.specs.declared.refusal.Refusal.TheVariants.{Memory, Line, Long, Name, NoTree, NoModule, Term, Deep, Path, Syntax, Check, Fails, Spent, Big, NoUndo, NoRedo, Group, NoGroup}
+use Rattle.aterm_text.specs.declared.reader.ReadFault.{ReadFault}
+use Rattle.aterm_text.specs.declared.reader.ReadFault.TheVariants.{Deep as DeepText, Term as NoTerm, Memory as NoMemory}
+use Rattle.script_forms.specs.Form.{takes_no_memory}
+use Rattle.script_forms.specs.Machine.{Reply, Replying, ReplyTo, history_after, written, line, refused}
+use Rattle.script_commands.specs.Handed.{Handed, text, long}
+
+-- whether a command that is handed out takes no memory
+abbrev pub takes_none : Handed → Bool
+takes_none (text command) = takes_no_memory command
+takes_none long = true
+
+-- The reply to a command in a run. Where the flag says that a growth of memory was refused, it is
+-- `refused 1 memory`; no command that takes no memory has a flag.
+abbrev pub ReplyInRun : Meaning → ℕ → Handed → Bool → History → Reply → Type 0
+ReplyInRun meaning steps command false h reply = ReplyTo meaning steps command h reply
+ReplyInRun meaning steps command true h reply = (takes_none command ≡ false) × (reply ≡ Err Memory)
+
+-- A command is answered: what the answer's buffer held before, it holds with the answer behind it.
+pub record Answered (Rule : Replying) (command : Handed) (old new : History) (before after : List ℕ)
+    (verdict : Bool) : Type 0 where
+  pub flag : Bool
+  pub reply : Reply
+  pub replied : Rule command flag old reply
+  pub history : new ≡ history_after old reply
+  pub answer : after ≡ before ++ written reply
+  pub accepted : verdict ≡ is_ok reply
+
+-- ---- the parts of it: a rule accepts or refuses
+
+-- The rule accepts, with an answer that the buffer holds behind what it held.
+pub record Accepts (Rule : Reply → Type 0) (new : History) (before after : List ℕ) : Type 0 where
+  pub text : List ℕ
+  pub reply : Rule (Ok (record { answer = text; history = new }))
+  pub answer : after ≡ before ++ text
+
+-- The rule gives this refusal; or memory is wanted, where it may be.
+abbrev pub Refuses : (Reply → Type 0) → Bool → Refusal → Type 0
+Refuses Rule takes_none refusal =
+    ((refusal ≡ Memory) × (takes_none ≡ false)) ⊎ Rule (Err refusal)
+
+-- what a fault of reading a term or annotations is told as
+abbrev pub reading_refusal : ReadFault → Refusal
+reading_refusal DeepText = Deep
+reading_refusal NoTerm = Term
+reading_refusal NoMemory = Memory
+
+-- Whether a refusal tells a fault of the checker. The name in it may be so long that memory is wanted to
+-- write it.
+abbrev pub is_fault : Refusal → Bool
+is_fault Memory = false
+is_fault Line = false
+is_fault Long = false
+is_fault Name = false
+is_fault NoTree = false
+is_fault NoModule = false
+is_fault Term = false
+is_fault Deep = false
+is_fault Path = false
+is_fault Syntax = false
+is_fault (Check kind name n m) = true
+is_fault Fails = false
+is_fault Spent = false
+is_fault Big = false
+is_fault NoUndo = false
+is_fault NoRedo = false
+is_fault Group = false
+is_fault NoGroup = false
+
+-- A refusal is told behind what was there: its line, or, of a fault for whose name there is no memory, that
+-- memory is wanted.
+abbrev pub TellsRefusal : List ℕ → List ℕ → Refusal → Type 0
+TellsRefusal before after refusal =
+    (after ≡ before ++ line (refused refusal))
+    ⊎ ((is_fault refusal ≡ true) × (after ≡ before ++ line (refused Memory)))

@@ -1,0 +1,75 @@
+-- Laws of runs.
+use Rattle.std.specs.Prelude.{◌≡◌, ◌≤◌, ℕ, Bool, false, List, length, drop, codes, None, IfSome, count_by, is_ok, is_err}
+use Rattle.std.specs.List.{AllByRecursion, repeat, slice_split, prefix_len, suffix_len}
+use Rattle.std.specs.FinMap as finmap
+use Rattle.aterm_text.specs.Tokens.{is_blank}
+use Rattle.strategy_check.specs.Faults.{Primitives}
+use Rattle.change_log.specs.Contents.{Contents, no_contents}
+use Rattle.session_steps.specs.Applying.{Meaning}
+use Rattle.session_steps.specs.History.{History, AreSound}
+use Rattle.session_steps.specs.Dump.{dumped, AreNamedTerms}
+use Rattle.script_commands.specs.declared.TheConstants.{MAX_COMMAND}
+use Rattle.script_commands.specs.Script.{is_line_feed, is_carriage_return, begins_command, commands}
+use Rattle.script_commands.specs.Handed.{Handed, handed}
+use Rattle.script_forms.specs.Machine.{Reply, line}
+use Rattle.script_forms.specs.Answer.{ReplyInRun}
+use Rattle.script_forms.specs.Run.{Replied, Leads, out}
+
+-- The commands, the flags and the history before them determine the replies, and so all that is
+-- written and the history after them, by what primitives mean.
+abbrev pub OneRun : Type 0
+OneRun =
+    (meaning : Meaning) (stop : Bool) (steps : ℕ) (commands : List Handed) (flags : List Bool) (h : History)
+    (replies others : List Reply) → Replied stop (ReplyInRun meaning steps) commands flags h replies
+    → Replied stop (ReplyInRun meaning steps) commands flags h others → replies ≡ others
+
+-- ---- dumps
+
+-- A module text as a command can give it: white space stands at neither end, no line of it ends with a
+-- carriage return, and none but the first begins a command.
+pub record IsCommandText (text : List ℕ) : Type 0 where
+  pub front : prefix_len is_blank text ≡ 0
+  pub end : suffix_len is_blank text ≡ 0
+  pub lines : AllByRecursion (λ line. suffix_len is_carriage_return line ≡ 0)
+      (slice_split is_line_feed text)
+  pub goes_on : AllByRecursion (λ line. begins_command line ≡ false)
+      (drop 1 (slice_split is_line_feed text))
+
+-- Contents that a script can give again in a session with these primitives: their names are labels and
+-- their trees terms, they are sound, each module text is one that a command can give, and no command of
+-- their dump has over 65,536 bytes.
+pub record CanBeGiven (primitives : Primitives) (c : Contents) : Type 0 where
+  pub named : AreNamedTerms c
+  pub sound : AreSound primitives c
+  pub texts : (name : List ℕ) → IfSome (finmap.get c.modules name) IsCommandText
+  pub short : AllByRecursion (λ command. length command ≤ MAX_COMMAND) (commands (dumped c))
+
+-- Nothing is there now, and no group is open.
+pub record IsBare (h : History) : Type 0 where
+  pub contents : h.now ≡ no_contents
+  pub group : h.group ≡ None
+
+-- in none of the commands a growth of memory was refused
+abbrev pub AreClear : List Bool → Type 0
+AreClear flags = AllByRecursion (λ flag. flag ≡ false) flags
+
+-- The contents are now c, and the answer to each command of its dump is `ok`.
+pub record GivesAgain (c : Contents) (g : History) (replies : List Reply) : Type 0 where
+  pub contents : g.now ≡ c
+  pub answers : out replies ≡ repeat (length (commands (dumped c))) (line (codes "ok"))
+  pub accepted : count_by is_ok replies ≡ length (commands (dumped c))
+  pub refused : count_by is_err replies ≡ 0
+
+-- A dump reads back: on a session with nothing in it, whatever its settings, it gives the same contents.
+abbrev pub DumpReadsBack : Type 0
+DumpReadsBack =
+    (meaning : Meaning) (stop : Bool) (steps : ℕ) (c : Contents) (h g : History) (flags : List Bool) (replies : List Reply)
+    → CanBeGiven h.primitives c → IsBare h → AreClear flags
+    → Leads stop (ReplyInRun meaning steps) (handed (dumped c)) h g flags replies → GivesAgain c g replies
+
+-- Such a run there is, on every such session: a dump is answered without a refused growth.
+abbrev pub DumpIsAnswered : Type 0
+DumpIsAnswered =
+    (meaning : Meaning) (stop : Bool) (steps : ℕ) (c : Contents) (h : History) → CanBeGiven h.primitives c → IsBare h
+    → (flags : List Bool) × (replies : List Reply)
+    × AreClear flags × Replied stop (ReplyInRun meaning steps) (handed (dumped c)) flags h replies

@@ -1,0 +1,18 @@
+//! The commands of scripts and what is answered to them: their forms, read from text; how answers are told; where
+//! scripts come from and answers go.
+#![tactic(auto)]
+
+mod command;
+mod keyword;
+mod lines;
+mod sink;
+mod source;
+mod telling;
+mod write;
+
+pub use command::{Command, behind_put, behind_tree, read_name_and_text, read_put_parts};
+pub use lines::{append_line, append_shown, list_names};
+pub use sink::{Held, Sink};
+pub use source::{Bytes, Counted, Failed, Source};
+pub use telling::{ANSWER_ROOM, refuse};
+pub use write::write_whole;
