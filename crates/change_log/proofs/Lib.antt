@@ -1,14 +1,10 @@
-pub mod SlotLemmas
-pub mod EntryLemmas
 pub mod PlaceLemmas
 pub mod KeyLemmas
 pub mod RelationLemmas
 pub mod MergeLemmas
-pub mod LogLemmas
 pub mod RunLemmas
 pub mod ChosenLemmas
 pub mod KeepLemmas
 pub mod CompactLemmas
 pub mod FlipLemmas
 pub mod NameLemmas
-pub mod ContentsLemmas

@@ -1,7 +1,7 @@
 -- What the fields of a step stand for.
 use Rattle.std.specs.Prelude.{List, [], ◌∷◌}
-use Rattle.change_log.specs.Entries.{Entry}
-use Rattle.change_log.specs.LogView.{entry_of}
+use Rattle.change_plans.specs.Entries.{Entry}
+use Rattle.change_plans.specs.LogView.{entry_of}
 use Rattle.change_log.specs.declared.step.Whole.{Whole}
 use Rattle.change_log.specs.declared.step.Changes.{Changes}
 use Rattle.change_log.specs.declared.step.Changes.TheVariants.{One, Logged}

@@ -1,7 +1,7 @@
 //! Laws of logs and stores, over every log and every store. Each is the contract of a function that
 //! does nothing.
 
-ghost use Rattle.change_log.specs.Laws.{FlipsForward, FlipsBack, StoreFromAfter, StoreFromBefore, FlippedBackFits, FlippedForwardFits, PushedFits, RolledBackFits, PushedLeadsBack, RolledBackLeadsBack, FlippedBackIsCompact, FlippedForwardIsCompact, BeforeKeepsTexts, AfterKeepsTexts, NewSlotsAreEmpty, TreePut, TreeTaken, ModulePut, ModuleTaken, SubtermPut, AnnotationsPut, TreeOfName, ModuleOfName, FitsWithMore, FitsForwardWithMore, FitsWithMoreModules, FitsForwardWithMoreModules};
+ghost use Rattle.change_plans.specs.Laws.{FlipsForward, FlipsBack, StoreFromAfter, StoreFromBefore, FlippedBackFits, FlippedForwardFits, PushedFits, RolledBackFits, PushedLeadsBack, RolledBackLeadsBack, FlippedBackIsCompact, FlippedForwardIsCompact, BeforeKeepsTexts, AfterKeepsTexts, NewSlotsAreEmpty, TreePut, TreeTaken, ModulePut, ModuleTaken, SubtermPut, AnnotationsPut, TreeOfName, ModuleOfName, FitsWithMore, FitsForwardWithMore, FitsWithMoreModules, FitsForwardWithMoreModules};
 
 /// Each of the two flips takes back what the other did: the store is that from before, and so is the
 /// log.

@@ -3,24 +3,18 @@
 #![tactic(auto)]
 
 mod compact;
-mod entry;
 pub mod laws;
 mod log;
 mod merge;
-mod plan;
 mod relation;
 mod slots;
 mod step;
 mod store;
-mod text;
 
-pub use entry::Entry;
+pub use change_plans::{Entry, Plan};
 #[doc(hidden)]
-pub use entry::Kept;
+pub use change_plans::{Kept, Replaced, Text};
 pub use log::Log;
-#[doc(hidden)]
-pub use log::Replaced;
-pub use plan::Plan;
 #[doc(hidden)]
 pub use relation::Relation;
 #[doc(hidden)]
@@ -29,5 +23,3 @@ pub use step::Step;
 #[doc(hidden)]
 pub use step::{Changes, Whole};
 pub use store::Store;
-#[doc(hidden)]
-pub use text::Text;

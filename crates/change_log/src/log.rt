@@ -1,13 +1,14 @@
 //! Logs: what changes of a store replaced, so that they can be taken back.
 
 ghost use Rattle.std.specs.Prelude.{◌≡◌, ◌<◌, ◌≤◌, ◌+◌, ◌-◌, ◌*◌, ◌++◌, ℕ, List, [], ◌∷◌, length, take, drop, OnOk, OnErr, vec_len, vec_capacity};
-ghost use Rattle.change_log.specs.Slots.{Store};
-ghost use Rattle.change_log.specs.Entries.{put, found, before, after, flipped_back, flipped_forward, Fits, texts, has_text};
-ghost use Rattle.change_log.specs.Compact.{IsCompact};
-ghost use Rattle.change_log.specs.LogView.{entry_of, entries, depths};
+ghost use Rattle.change_plans.specs.Slots.{Store};
+ghost use Rattle.change_plans.specs.Entries.{put, found, before, after, flipped_back, flipped_forward, Fits, texts, has_text};
+ghost use Rattle.change_plans.specs.Compact.{IsCompact};
+ghost use Rattle.change_plans.specs.LogView.{entry_of, entries, depths};
 
+use crate::Store;
 use crate::compact::compact;
-use crate::{Entry, Kept, Plan, Store};
+use change_plans::{Entry, Kept, Plan, Replaced};
 use std::alloc::Global;
 use std::marker::Model;
 use term_core::NoMemory;
@@ -25,27 +26,18 @@ pub struct Log {
     space: Vec<usize>,
 }
 
-/// What one change replaced, without the path of its place.
-#[derive(Drop)]
-pub struct Replaced {
-    pub(crate) slot: usize,
-    // How long the path is.
-    pub(crate) depth: usize,
-    pub(crate) kept: Kept,
-}
-
 impl Model for Log {
     ghost use Rattle.std.specs.Prelude.{◌≡◌, ◌<◌, ◌≤◌, ◌*◌, List, length};
     ghost use Rattle.std.specs.Coded.{coded_list};
-    ghost use Rattle.change_log.specs.Entries.{Entry};
-    ghost use Rattle.change_log.specs.Codes.{entry_code};
+    ghost use Rattle.change_plans.specs.Entries.{Entry};
+    ghost use Rattle.change_plans.specs.Codes.{entry_code};
 
     ghost Value = { List Entry };
 
     ghost coded = { coded_list entry_code };
 
-    ghost use Rattle.change_log.specs.Entries.{texts};
-    ghost use Rattle.change_log.specs.LogView.{entries, depths};
+    ghost use Rattle.change_plans.specs.Entries.{texts};
+    ghost use Rattle.change_plans.specs.LogView.{entries, depths};
 
     ghost view = { λ a. entries a.replaced.items a.paths.items };
 

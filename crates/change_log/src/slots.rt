@@ -3,8 +3,8 @@
 ghost use Rattle.std.specs.Prelude.{◌≡◌, [], Some, unwrap_or, IfOk, OnOk, OnErr, option_copied};
 ghost use Rattle.std.specs.FinMap as finmap;
 ghost use Rattle.term_paths.specs.Paths.{set_at, set_annotations_at};
-ghost use Rattle.change_log.specs.Slots.{AreApart, slot_at, content, with_content, slot_of, with_slot, named};
-ghost use Rattle.change_log.specs.Entries.{changed_tree, subterm_in, annotations_in};
+ghost use Rattle.change_plans.specs.Slots.{AreApart, slot_at, content, with_content, slot_of, with_slot, named};
+ghost use Rattle.change_plans.specs.Entries.{changed_tree, subterm_in, annotations_in};
 
 use indexmap::IndexMap;
 use std::alloc::Global;
@@ -20,8 +20,8 @@ pub struct Slots<T: Drop> {
 }
 
 impl<T: Drop> Model for Slots<T> {
-    ghost use Rattle.change_log.specs.Slots.{Slots};
-    ghost use Rattle.change_log.specs.Codes.{slots_code};
+    ghost use Rattle.change_plans.specs.Slots.{Slots};
+    ghost use Rattle.change_plans.specs.Codes.{slots_code};
 
     ghost Value = { Slots T };
 

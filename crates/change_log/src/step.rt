@@ -1,12 +1,13 @@
 //! Steps: the changes that are taken back and made again together.
 
 ghost use Rattle.std.specs.Prelude.{◌≡◌, ◌∷◌, [], IfOk, OnOk, OnErr};
-ghost use Rattle.change_log.specs.Slots.{Store};
-ghost use Rattle.change_log.specs.Entries.{put, found, before, after, flipped_back, flipped_forward, Fits, has_text};
-ghost use Rattle.change_log.specs.Compact.{IsCompact};
+ghost use Rattle.change_plans.specs.Slots.{Store};
+ghost use Rattle.change_plans.specs.Entries.{put, found, before, after, flipped_back, flipped_forward, Fits, has_text};
+ghost use Rattle.change_plans.specs.Compact.{IsCompact};
 ghost use Rattle.change_log.specs.StepView.{whole_entry};
 
-use crate::{Entry, Kept, Log, Store};
+use crate::{Log, Store};
+use change_plans::{Entry, Kept};
 use std::alloc::Global;
 use std::marker::Model;
 use term_core::NoMemory;
@@ -37,8 +38,8 @@ pub struct Whole {
 impl Model for Step {
     ghost use Rattle.std.specs.Prelude.{List};
     ghost use Rattle.std.specs.Coded.{coded_list};
-    ghost use Rattle.change_log.specs.Entries.{Entry};
-    ghost use Rattle.change_log.specs.Codes.{entry_code};
+    ghost use Rattle.change_plans.specs.Entries.{Entry};
+    ghost use Rattle.change_plans.specs.Codes.{entry_code};
 
     ghost Value = { List Entry };
 

@@ -2,11 +2,12 @@
 
 ghost use Rattle.std.specs.Prelude.{◌≡◌, IfOk, OnOk, OnErr, Some, option_copied};
 ghost use Rattle.std.specs.FinMap as finmap;
-ghost use Rattle.change_log.specs.Slots.{AreApart, content, slot_of, empty_store, contents, with_tree_slot, with_module_slot};
-ghost use Rattle.change_log.specs.Entries.{put, found};
-ghost use Rattle.change_log.specs.LogView.{entry_of};
+ghost use Rattle.change_plans.specs.Slots.{AreApart, content, slot_of, empty_store, contents, with_tree_slot, with_module_slot};
+ghost use Rattle.change_plans.specs.Entries.{put, found};
+ghost use Rattle.change_plans.specs.LogView.{entry_of};
 
-use crate::{Kept, Slots, Text};
+use crate::Slots;
+use change_plans::{Kept, Text};
 use std::alloc::Global;
 use std::marker::Model;
 use term_core::{Label, NoMemory, Term};
@@ -21,8 +22,8 @@ pub struct Store {
 }
 
 impl Model for Store {
-    ghost use Rattle.change_log.specs.Slots.{Store};
-    ghost use Rattle.change_log.specs.Codes.{store_code};
+    ghost use Rattle.change_plans.specs.Slots.{Store};
+    ghost use Rattle.change_plans.specs.Codes.{store_code};
 
     ghost Value = { Store };
 

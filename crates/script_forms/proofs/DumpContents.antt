@@ -17,7 +17,7 @@ use Rattle.term_core.specs.Size.{height}
 use Rattle.term_core.specs.Word.{label_of}
 use Rattle.term_core.specs.declared.TheConstants.{MAX_HEIGHT}
 use Rattle.strategy_syntax.specs.Modules.{Module}
-use Rattle.change_log.specs.Contents.{Named, Contents}
+use Rattle.change_plans.specs.Contents.{Named, Contents}
 use Rattle.session_steps.specs.Modules.{ReadsAsModule, AreReadable}
 use Rattle.session_steps.specs.History.{AreLow}
 use Rattle.session_steps.specs.Dump.{tree_line, module_line, module_lines, grouped, dumped, IsNamedTerm}

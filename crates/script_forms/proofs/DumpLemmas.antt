@@ -18,7 +18,7 @@ use Rattle.aterm_text.specs.Printed.{print}
 use Rattle.aterm_text.specs.Laws.{PrintedTextReadsBack, PrintedTextIsOneLine, PrintedTextNests, PrintedTextIsAsLong}
 use Rattle.strategy_check.specs.Faults.{Fault, Primitives, faults, first}
 use Rattle.strategy_check.specs.Programs.{Program, program}
-use Rattle.change_log.specs.Contents.{Contents, with_tree, with_module}
+use Rattle.change_plans.specs.Contents.{Contents, with_tree, with_module}
 use Rattle.session_steps.specs.Modules.{Texts, Finds, GivesProgram, Checks}
 use Rattle.session_steps.specs.History.{HistoryGroup, History, changed, stepped}
 use Rattle.session_steps.specs.Step.{Passing, Holding, Given, Leaves, ChangesTo, ChangesModules, committed}

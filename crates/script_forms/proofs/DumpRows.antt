@@ -12,7 +12,7 @@ use Rattle.term_core.specs.Tree.{Symbol, Tree, branch, application, list, none, 
 use Rattle.term_core.specs.Terms.{IsTerm}
 use Rattle.term_core.specs.Size.{height}
 use Rattle.term_core.specs.declared.TheConstants.{MAX_HEIGHT}
-use Rattle.change_log.specs.Contents.{Contents}
+use Rattle.change_plans.specs.Contents.{Contents}
 use Rattle.session_steps.specs.Dump.{tree_line, dumped, IsNamedTerm}
 use Rattle.script_commands.specs.Script.{commands}
 use Rattle.script_forms.specs.Laws.{IsCommandText, CanBeGiven}

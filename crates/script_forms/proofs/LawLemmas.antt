@@ -25,7 +25,7 @@ use Rattle.strategy_check.specs.Faults.{Fault, Primitives, faults, first}
 use Rattle.strategy_check.specs.Programs.{Program, program}
 use Rattle.aterm_text.specs.Nesting.{nesting}
 use Rattle.aterm_text.specs.declared.TheConstants.{MAX_NESTING}
-use Rattle.change_log.specs.Contents.{Contents, with_tree, without_tree, with_module, without_module}
+use Rattle.change_plans.specs.Contents.{Contents, with_tree, without_tree, with_module, without_module}
 use Rattle.strategy_meaning.specs.Applied.{applied}
 use Rattle.session_steps.specs.Applying.{Meaning, ReadsAsStrategy, resolved_in, world_in, given_by}
 use Rattle.session_steps.specs.Modules.{Texts, ReadsBy, ReadsAsModule, AreRead, Finds, GivesProgram, Checks, refusal_of}

@@ -4,7 +4,7 @@ use Rattle.std.specs.List.{AllByRecursion, repeat, slice_split, prefix_len, suff
 use Rattle.std.specs.FinMap as finmap
 use Rattle.aterm_text.specs.Tokens.{is_blank}
 use Rattle.strategy_check.specs.Faults.{Primitives}
-use Rattle.change_log.specs.Contents.{Contents, no_contents}
+use Rattle.change_plans.specs.Contents.{Contents, no_contents}
 use Rattle.session_steps.specs.Applying.{Meaning}
 use Rattle.session_steps.specs.History.{History, AreSound}
 use Rattle.session_steps.specs.Dump.{dumped, AreNamedTerms}

@@ -12,10 +12,10 @@ use Rattle.strategy_syntax.specs.declared.resolved.Resolved.{Resolved}
 use Rattle.strategy_check.specs.Programs.{Program}
 use Rattle.strategy_meaning.specs.Applied.{Outcome as Ending, fails, applied}
 use Rattle.strategy_run.specs.Applies.{applied_in}
-use Rattle.change_log.specs.Contents.{Contents, with_tree}
-use Rattle.change_log.specs.Slots.{Store, contents}
-use Rattle.change_log.specs.Entries.{subterm_in}
-use Rattle.change_log.proofs.ContentsLemmas.{tree_put}
+use Rattle.change_plans.specs.Contents.{Contents, with_tree}
+use Rattle.change_plans.specs.Slots.{Store, contents}
+use Rattle.change_plans.specs.Entries.{subterm_in}
+use Rattle.change_plans.proofs.ContentsLemmas.{tree_put}
 use Rattle.session_steps.specs.Modules.{Texts, AreReadable, GivesProgram, IsProgram, Checks, AreRefused}
 use Rattle.session_steps.specs.Applying.{Meaning, ReadsAsStrategy, resolved_in, world_in, given_by, GivesIn}
 use Rattle.session_steps.specs.History.{History, changed, AreFormed}

@@ -2,8 +2,8 @@
 
 ghost use Rattle.std.specs.Prelude.{◌≡◌, ◌≤◌, ◌+◌, ◌⊎◌, length, Ok, Err, IfOk, IfErr, IfSome, OnOk, OnErr};
 ghost use Rattle.term_core.specs.Size.{height};
-ghost use Rattle.change_log.specs.Slots.{contents};
-ghost use Rattle.change_log.specs.Entries.{subterm_in};
+ghost use Rattle.change_plans.specs.Slots.{contents};
+ghost use Rattle.change_plans.specs.Entries.{subterm_in};
 ghost use Rattle.strategy_run.specs.Applies.{applied_in};
 ghost use Rattle.session_steps.specs.Applying.{ReadsAsStrategy, resolved_in, world_in, given_by, GivesIn};
 ghost use Rattle.session_steps.specs.History.{AreFormed, changed};

@@ -36,7 +36,7 @@ impl<M: Meaning> Model for Session<M> {
 
     ghost coded = { history_code };
 
-    ghost use Rattle.change_log.specs.Slots.{contents};
+    ghost use Rattle.change_plans.specs.Slots.{contents};
     ghost use Rattle.session_steps.specs.History.{HasSoundContents};
     ghost use Rattle.session_steps.specs.Modules.{IsKept};
     ghost use Rattle.session_steps.specs.Unfolded.{unfolded, IsPlaced};

@@ -8,10 +8,10 @@ use Rattle.term_core.specs.Tree.{Tree}
 use Rattle.term_core.specs.Size.{fits}
 use Rattle.strategy_check.specs.Programs.{Program}
 use Rattle.term_paths.specs.Paths.{at, leads, set_at, set_annotations_at}
-use Rattle.change_log.specs.Contents.{Contents, with_tree, without_tree}
-use Rattle.change_log.specs.Slots.{Store, AreApart, contents, content, named, slot_of}
-use Rattle.change_log.specs.Entries.{Entry, slot_tree, subterm, subterm_annotations, subterm_in, before, put}
-use Rattle.change_log.proofs.ContentsLemmas.{tree_put, tree_taken, tree_of_name, subterm_put, annotations_put}
+use Rattle.change_plans.specs.Contents.{Contents, with_tree, without_tree}
+use Rattle.change_plans.specs.Slots.{Store, AreApart, contents, content, named, slot_of}
+use Rattle.change_plans.specs.Entries.{Entry, slot_tree, subterm, subterm_annotations, subterm_in, before, put}
+use Rattle.change_plans.proofs.ContentsLemmas.{tree_put, tree_taken, tree_of_name, subterm_put, annotations_put}
 use Rattle.session_steps.specs.History.{HistoryGroup, History, changed, HasSoundContents}
 use Rattle.session_steps.specs.Step.{Act, set_tree, copy_tree, drop_tree, put as put_act, annotate, Outcome, Passing, Holding, Leaves, ChangesTo, PutsAt, AnnotatesAt, Place, ComesTo, committed, place_of, tree_of}
 use Rattle.session_steps.specs.Modules.{Texts, IsKept}

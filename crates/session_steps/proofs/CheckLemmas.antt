@@ -14,10 +14,10 @@ use Rattle.strategy_syntax.specs.Modules.{Module}
 use Rattle.strategy_check.specs.Tables.{Modules}
 use Rattle.strategy_check.specs.Faults.{Primitives}
 use Rattle.strategy_check.specs.Programs.{Program}
-use Rattle.change_log.specs.Contents.{Contents, with_module, without_module}
-use Rattle.change_log.specs.Slots.{Store, AreApart, contents, content, slot_of}
-use Rattle.change_log.specs.Entries.{Entry, slot_text, put, before}
-use Rattle.change_log.proofs.ContentsLemmas.{module_of_name, module_put, module_taken}
+use Rattle.change_plans.specs.Contents.{Contents, with_module, without_module}
+use Rattle.change_plans.specs.Slots.{Store, AreApart, contents, content, slot_of}
+use Rattle.change_plans.specs.Entries.{Entry, slot_text, put, before}
+use Rattle.change_plans.proofs.ContentsLemmas.{module_of_name, module_put, module_taken}
 use Rattle.prim_core.specs.Signature.{Signature}
 use Rattle.session_steps.specs.Unfolded.{unfolded}
 use Rattle.session_steps.specs.declared.timeline.Timeline.{Timeline}

@@ -1,7 +1,7 @@
 -- One place back and one place forward take each other back, and so do as many places as one likes.
 use Rattle.std.proofs.Common.{◌≡◌, ◌<◌, ℕ, zero, suc, List, [], ◌∷◌, ◌++◌, length, arith, true, cond, is_none, Some, None, Ok, Option, option_and_then, ok_or, refl, sym, ap, subst, ◌∙◌}
 use Rattle.std.specs.Option.{option_map_or}
-use Rattle.change_log.specs.Contents.{Contents}
+use Rattle.change_plans.specs.Contents.{Contents}
 use Rattle.session_steps.specs.Modules.{Checks}
 use Rattle.session_steps.specs.History.{HistoryGroup, History, stepped, newest, older, back_to, forward_to, step_back, step_forward, undone, redone}
 use Rattle.session_steps.specs.Step.{Outcome, Passing, Holding, Given, Leaves, ComesTo, committed, undo, redo}

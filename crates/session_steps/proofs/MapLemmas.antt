@@ -11,7 +11,7 @@ use Rattle.std.specs.FinMap as finmap
 use Rattle.std.specs.FinMap.{find, is_sorted, entries, entries_sorted, get-entries}
 use Rattle.std.specs.FinMap.Entries.{below_all}
 use Rattle.std.proofs.lemmas.Map.Lookups.{exact_bytes}
-use Rattle.change_log.specs.Contents.{Named}
+use Rattle.change_plans.specs.Contents.{Named}
 
 abbrev pub R : List ℕ → List ℕ → Ordering
 R = slice_cmp nat_cmp

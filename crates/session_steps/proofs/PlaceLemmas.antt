@@ -7,11 +7,11 @@ use Rattle.std.specs.Option.{option_map_or}
 use Rattle.std.specs.Prelude.{nat_eq, if◌then◌else◌}
 use Rattle.std.specs.Cmp.Lexicographic.{pointwise}
 use Rattle.prim_core.specs.Signature.{Signature}
-use Rattle.change_log.specs.Contents.{Contents}
-use Rattle.change_log.specs.Slots.{Slots, Store, contents, slot_of}
-use Rattle.change_log.specs.Compact.{IsCompact}
-use Rattle.change_log.specs.Entries.{Entry, HasPlace, put, found, before, after, flipped_back, flipped_forward, Fits}
-use Rattle.change_log.proofs.EntryLemmas.{before-append, pushed_fits, pushed_leads_back}
+use Rattle.change_plans.specs.Contents.{Contents}
+use Rattle.change_plans.specs.Slots.{Slots, Store, contents, slot_of}
+use Rattle.change_plans.specs.Compact.{IsCompact}
+use Rattle.change_plans.specs.Entries.{Entry, HasPlace, put, found, before, after, flipped_back, flipped_forward, Fits}
+use Rattle.change_plans.proofs.EntryLemmas.{before-append, pushed_fits, pushed_leads_back}
 use Rattle.change_log.proofs.FlipLemmas.{flipped_back_is_compact, flipped_forward_is_compact}
 use Rattle.session_steps.specs.History.{HistoryGroup, History, stepped, changed, back_to, forward_to, step_back, step_forward}
 use Rattle.std.specs.Prelude.{IsSomeAnd}

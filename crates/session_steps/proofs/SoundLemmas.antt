@@ -15,7 +15,7 @@ use Rattle.term_core.proofs.TreeLemmas.{of_list-to_list}
 use Rattle.term_paths.proofs.PathLemmas.{changed_at, set_at-changed, set_annotations_at-changed, changed_at-child, changed_at-no_child}
 use Rattle.strategy_syntax.specs.Modules.{Module}
 use Rattle.strategy_check.specs.Faults.{Primitives}
-use Rattle.change_log.specs.Contents.{Contents, Named, no_contents, with_tree, without_tree, with_module, without_module}
+use Rattle.change_plans.specs.Contents.{Contents, Named, no_contents, with_tree, without_tree, with_module, without_module}
 use Rattle.strategy_check.specs.Programs.{Program}
 use Rattle.strategy_check.specs.Faults.{first}
 use Rattle.strategy_syntax.specs.Syntax.{Strategy}

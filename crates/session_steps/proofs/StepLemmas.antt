@@ -3,7 +3,7 @@ use Rattle.std.proofs.Common.{◌≡◌, ℕ, Bool, true, false, List, Option, S
 use Rattle.std.specs.FinMap as finmap
 use Rattle.term_core.specs.Tree.{Tree}
 use Rattle.term_paths.specs.Paths.{at}
-use Rattle.change_log.specs.Contents.{Contents}
+use Rattle.change_plans.specs.Contents.{Contents}
 use Rattle.session_steps.specs.History.{HistoryGroup, History}
 use Rattle.session_steps.specs.Step.{Outcome, Passing, Holding, Given, Place, place_in, place_of}
 use Rattle.session_steps.specs.declared.refusal.Refusal.{Refusal}

@@ -1,11 +1,11 @@
 -- What logs unfold to, as steps are added, taken back and made again.
 use Rattle.std.proofs.Common.{◌≡◌, ℕ, zero, suc, ◌+◌, ◌<◌, ◌≤◌, List, [], ◌∷◌, ◌++◌, length, take, drop, set, slice_get, Some, refl, sym, ap, subst, ◌∙◌, arith}
 use Rattle.std.proofs.lemmas.List.{length-append, length-take, drop_all, take_all, take-set}
-use Rattle.change_log.specs.Slots.{Store, contents, with_tree_slot, with_module_slot}
-use Rattle.change_log.specs.Entries.{Entry, HasPlace, before, after, flipped_back, flipped_forward, Fits, FitsForward}
-use Rattle.change_log.proofs.EntryLemmas.{before-append, store_from_after, store_from_before, flipped_back_fits, flipped_forward_fits}
-use Rattle.change_log.proofs.ContentsLemmas.{new_slots_are_empty, fits_with_more, fits_forward_with_more, fits_with_more_modules, fits_forward_with_more_modules}
-use Rattle.change_log.specs.Compact.{IsCompact}
+use Rattle.change_plans.specs.Slots.{Store, contents, with_tree_slot, with_module_slot}
+use Rattle.change_plans.specs.Entries.{Entry, HasPlace, before, after, flipped_back, flipped_forward, Fits, FitsForward}
+use Rattle.change_plans.proofs.EntryLemmas.{before-append, store_from_after, store_from_before, flipped_back_fits, flipped_forward_fits}
+use Rattle.change_plans.proofs.ContentsLemmas.{new_slots_are_empty, fits_with_more, fits_forward_with_more, fits_with_more_modules, fits_forward_with_more_modules}
+use Rattle.change_plans.specs.Compact.{IsCompact}
 use Rattle.session_steps.specs.Unfolded.{rewound, past_of, later_of, FitBack, FitForward, AllCompact}
 
 -- ---- one log more

@@ -11,8 +11,8 @@ use Rattle.strategy_check.specs.Programs.{Program, faults_of, resolved}
 use Rattle.strategy_meaning.specs.Answer.{Stop, spent, big}
 use Rattle.strategy_meaning.specs.Meaning.{World}
 use Rattle.strategy_meaning.specs.Applied.{Outcome, gives, fails, stops}
-use Rattle.change_log.specs.Slots.{Store}
-use Rattle.change_log.specs.Entries.{slot_tree, put}
+use Rattle.change_plans.specs.Slots.{Store}
+use Rattle.change_plans.specs.Entries.{slot_tree, put}
 use Rattle.session_steps.specs.Modules.{ReadsBy, refusal_of}
 use Rattle.session_steps.specs.declared.refusal.Refusal.{Refusal}
 use Rattle.session_steps.specs.declared.refusal.Refusal.TheVariants.{Fails, Spent, Big}

@@ -3,8 +3,8 @@ use Rattle.std.specs.Prelude.{ℕ, Bool, List, refl}
 use Rattle.std.specs.declared.option.Option.{Option}
 use Rattle.std.specs.Coded.{Coded, code_by, coded×, coded_ℕ, coded_bool, coded_list, coded_option}
 use Rattle.prim_core.specs.Signature.{Signature}
-use Rattle.change_log.specs.Contents.{Contents}
-use Rattle.change_log.specs.Codes.{contents_code}
+use Rattle.change_plans.specs.Contents.{Contents}
+use Rattle.change_plans.specs.Codes.{contents_code}
 use Rattle.session_steps.specs.History.{HistoryGroup, History}
 
 abbrev pub signature_code : Coded Signature

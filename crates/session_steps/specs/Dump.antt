@@ -7,7 +7,7 @@ use Rattle.term_core.specs.Tree.{Tree}
 use Rattle.term_core.specs.Terms.{IsTerm}
 use Rattle.term_core.specs.Word.{label_of}
 use Rattle.aterm_text.specs.Printed.{print}
-use Rattle.change_log.specs.Contents.{Contents}
+use Rattle.change_plans.specs.Contents.{Contents}
 
 -- a line for the tree of a name
 abbrev pub tree_line : List ℕ → Tree → List ℕ

@@ -10,7 +10,7 @@ use Rattle.term_core.specs.Size.{height}
 use Rattle.term_core.specs.declared.TheConstants.{MAX_HEIGHT}
 use Rattle.prim_core.specs.Signature.{Signature}
 use Rattle.term_core.specs.Tree.{Tree}
-use Rattle.change_log.specs.Contents.{Contents, Named, no_contents}
+use Rattle.change_plans.specs.Contents.{Contents, Named, no_contents}
 use Rattle.strategy_check.specs.Faults.{Primitives}
 use Rattle.session_steps.specs.Modules.{AreReadable, Finds}
 

@@ -1,6 +1,6 @@
 -- Undo and redo take each other back.
 use Rattle.std.specs.Prelude.{◌≡◌, ℕ, true, [], ◌∷◌, Some, None, Ok}
-use Rattle.change_log.specs.Contents.{Contents}
+use Rattle.change_plans.specs.Contents.{Contents}
 use Rattle.session_steps.specs.History.{HistoryGroup, History, changed}
 use Rattle.session_steps.specs.Step.{Act, undo, redo, commit, ComesTo, IsChange}
 

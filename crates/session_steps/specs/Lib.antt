@@ -10,6 +10,6 @@ pub mod Dump
 pub mod Laws
 pub use Rattle.term_core.specs.Tree
 pub use Rattle.term_core.specs.Size
-pub use Rattle.change_log.specs.Contents
+pub use Rattle.change_plans.specs.Contents
 -- What serves private clauses and proofs.
 pub mod Codes

@@ -12,7 +12,7 @@ use Rattle.strategy_check.specs.Tables.{Modules}
 use Rattle.strategy_check.specs.Faults.{Fault, Primitives, faults, first}
 use Rattle.strategy_check.specs.Programs.{Program, program}
 use Rattle.strategy_check.specs.Ranges.{BodiesInRange}
-use Rattle.change_log.specs.Contents.{Named}
+use Rattle.change_plans.specs.Contents.{Named}
 use Rattle.session_steps.specs.declared.refusal.Refusal.{Refusal}
 use Rattle.session_steps.specs.declared.refusal.Refusal.TheVariants.{Memory, Deep, Syntax, Check}
 

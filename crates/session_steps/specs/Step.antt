@@ -8,7 +8,7 @@ use Rattle.std.specs.FinMap as finmap
 use Rattle.term_core.specs.Tree.{Tree}
 use Rattle.term_core.specs.Size.{fits}
 use Rattle.term_paths.specs.Paths.{at, set_at, set_annotations_at}
-use Rattle.change_log.specs.Contents.{Contents, with_tree, without_tree, with_module, without_module}
+use Rattle.change_plans.specs.Contents.{Contents, with_tree, without_tree, with_module, without_module}
 use Rattle.strategy_syntax.specs.declared.resolved.Resolved.{Resolved}
 use Rattle.strategy_check.specs.Programs.{Program}
 use Rattle.strategy_meaning.specs.Applied.{applied}

@@ -6,10 +6,10 @@ use Rattle.std.specs.Borrow.{MutBor}
 use Rattle.term_core.specs.Tree.{Tree}
 use Rattle.term_paths.specs.Paths.{leads}
 use Rattle.prim_core.specs.Signature.{Signature}
-use Rattle.change_log.specs.Contents.{Contents}
-use Rattle.change_log.specs.Slots.{Store, AreApart, contents, content, slot_of}
-use Rattle.change_log.specs.Entries.{Entry, before, after, Fits, FitsForward}
-use Rattle.change_log.specs.Compact.{IsCompact}
+use Rattle.change_plans.specs.Contents.{Contents}
+use Rattle.change_plans.specs.Slots.{Store, AreApart, contents, content, slot_of}
+use Rattle.change_plans.specs.Entries.{Entry, before, after, Fits, FitsForward}
+use Rattle.change_plans.specs.Compact.{IsCompact}
 use Rattle.session_steps.specs.History.{History}
 use Rattle.session_steps.specs.declared.timeline.Timeline.{Timeline}
 use Rattle.session_steps.specs.declared.timeline.OpenGroup.{OpenGroup}

@@ -5,7 +5,7 @@ ghost use Rattle.std.specs.Prelude.{◌≡◌, ◌⊎◌, List, false, Ok, Err, 
 ghost use Rattle.std.specs.List.{list_all};
 ghost use Rattle.term_core.specs.Size.{fits};
 ghost use Rattle.prim_core.specs.Signature.{Signature};
-ghost use Rattle.change_log.specs.Slots.{contents};
+ghost use Rattle.change_plans.specs.Slots.{contents};
 ghost use Rattle.session_steps.specs.Step.{ComesTo, set_tree, copy_tree, drop_tree, put, annotate, undo, redo, begin, abandon, place_of};
 ghost use Rattle.session_steps.specs.Unfolded.{unfolded, IsPlaced, IsPlaceOf};
 

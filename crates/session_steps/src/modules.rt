@@ -2,7 +2,7 @@
 
 ghost use Rattle.std.specs.Prelude.{◌≡◌, ◌⊎◌, Ok, Err, None, IfOk, IfErr, OnOk, OnErr, IsSome, IsSomeAnd};
 ghost use Rattle.std.specs.FinMap as finmap;
-ghost use Rattle.change_log.specs.Slots.{contents};
+ghost use Rattle.change_plans.specs.Slots.{contents};
 ghost use Rattle.session_steps.specs.Step.{ComesTo, set_module, unload, commit};
 ghost use Rattle.session_steps.specs.Modules.{ReadsAsModule, AreModules, AreReadable, AreRefused, Finds, IsProgram, IsKept, IsUnread};
 ghost use Rattle.session_steps.specs.Unfolded.{unfolded, IsPlaced};

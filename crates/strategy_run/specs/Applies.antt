@@ -3,8 +3,8 @@ use Rattle.std.specs.Prelude.{◌≡◌, ℕ, List, ◌++◌, Some}
 use Rattle.std.specs.Option.{option_map_or}
 use Rattle.term_core.specs.Tree.{Tree}
 use Rattle.term_paths.specs.Edits.{Edits, behind}
-use Rattle.change_log.specs.Slots.{Slots, Store, content}
-use Rattle.change_log.specs.Entries.{Entry, slot_tree, put, before, after, flipped_forward, Fits, FitsForward}
+use Rattle.change_plans.specs.Slots.{Slots, Store, content}
+use Rattle.change_plans.specs.Entries.{Entry, slot_tree, put, before, after, flipped_forward, Fits, FitsForward}
 use Rattle.term_changes.specs.Change.{places}
 use Rattle.term_changes.specs.Putting.{entries_at, HasPlaces}
 use Rattle.term_changes.specs.Standing.{Standing, Suits, standing_change}

@@ -4,8 +4,8 @@ ghost use Rattle.std.specs.Prelude.{[], ◌≡◌, ◌≤◌, ◌+◌, ℕ, Some
 ghost use Rattle.term_core.specs.Tree.{Tree};
 ghost use Rattle.term_core.specs.Size.{height};
 ghost use Rattle.term_paths.specs.Paths.{at as found_at};
-ghost use Rattle.change_log.specs.Slots.{Store, content};
-ghost use Rattle.change_log.specs.Entries.{subterm_in};
+ghost use Rattle.change_plans.specs.Slots.{Store, content};
+ghost use Rattle.change_plans.specs.Entries.{subterm_in};
 ghost use Rattle.strategy_meaning.specs.Applied.{applied};
 ghost use Rattle.strategy_run.specs.Trails.{Shows};
 ghost use Rattle.strategy_run.specs.Ends.{IsEmpty};
@@ -13,6 +13,7 @@ ghost use Rattle.strategy_run.specs.Turns.{world_of};
 ghost use Rattle.strategy_run.specs.Applies.{Applies, PutsAll, PutsOutermost, PutsListed, Stay, Finds, Lists, applied_in};
 
 use crate::evaluation::{Ended, run_to_end};
+use crate::in_place::put_in_place;
 use crate::machine::{Host, Machine};
 use crate::trail::Trail;
 use change_log::{Log, Plan, Store};
@@ -20,7 +21,6 @@ use prim_core::{Meaning, Primitives};
 use std::alloc::Global;
 use strategy_check::Program;
 use strategy_syntax::Resolved;
-use term_changes::put_in_place;
 use term_core::{MAX_HEIGHT, NoMemory, Term};
 use term_paths::{Path, at};
 use term_values::Part;

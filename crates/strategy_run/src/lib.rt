@@ -14,6 +14,7 @@ mod forms;
 mod frames;
 mod give;
 mod heads;
+mod in_place;
 pub mod laws;
 mod lists;
 mod machine;

@@ -1,7 +1,7 @@
 -- Changes made one after the other.
 use Rattle.std.proofs.Common.{[], ◌∷◌, ◌++◌, List, ◌≡◌, refl, sym, ap, subst, ◌∙◌, append_assoc}
-use Rattle.change_log.specs.Entries.{Entry, put, found, before, after, flipped_forward, Fits}
-use Rattle.change_log.proofs.EntryLemmas.{before-append, pushed_fits, store_from_before}
+use Rattle.change_plans.specs.Entries.{Entry, put, found, before, after, flipped_forward, Fits}
+use Rattle.change_plans.proofs.EntryLemmas.{before-append, pushed_fits, store_from_before}
 use Rattle.term_changes.specs.Putting.{AllLeadBack, AllFit}
 
 pub all_lead_back : AllLeadBack

@@ -3,7 +3,7 @@
 use change_log::{Entry, Log, Plan, Store};
 use std::alloc::Global;
 use std::test::Fail;
-use term_changes::{laws, put_in_place};
+use term_changes::laws;
 use term_core::{Label, NoMemory, Term};
 
 fn pair(alloc: Global, first: i64, second: i64) -> Result<Term, NoMemory> {
@@ -34,7 +34,7 @@ fn add_both(alloc: Global, plan: &mut Plan, slot: usize) -> Result<(), NoMemory>
 fn put_both(alloc: Global, store: &mut Store, log: &mut Log, slot: usize) -> Result<(), NoMemory> {
     let mut plan = Plan::new(alloc);
     add_both(alloc, &mut plan, slot)?;
-    put_in_place(plan, store, log)
+    log.make(store, plan)
 }
 
 fn are_taken_back(

@@ -1,6 +1,6 @@
 use Rattle.std.proofs.Common.{◌≡◌, length, drop}
-use Rattle.change_log.specs.LogView.{depths}
-use Rattle.change_log.proofs.LogLemmas.{FlippedTo, path_begin}
+use Rattle.change_plans.specs.LogView.{depths}
+use Rattle.change_plans.proofs.LogLemmas.{FlippedTo, path_begin}
 use Rattle.change_log.proofs.log.flip_forward.Given as goal
 
 -- the entries before the one told were flipped, and the paths of the others are left

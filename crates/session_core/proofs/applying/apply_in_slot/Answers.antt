@@ -1,5 +1,5 @@
 use Rattle.std.proofs.Common.{◌≡◌}
-use Rattle.change_log.specs.Slots.{contents}
+use Rattle.change_plans.specs.Slots.{contents}
 use Rattle.session_steps.specs.History.{changed}
 use Rattle.session_steps.specs.Unfolded.{unfolded}
 use Rattle.session_core.proofs.ApplyLemmas.{ok_at, err_at}

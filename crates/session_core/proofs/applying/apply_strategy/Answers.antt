@@ -1,5 +1,5 @@
 use Rattle.std.proofs.Common.{refl}
-use Rattle.change_log.specs.Slots.{contents}
+use Rattle.change_plans.specs.Slots.{contents}
 use Rattle.session_steps.specs.Step.{apply}
 use Rattle.session_steps.proofs.ActLemmas.{kept_said}
 use Rattle.session_core.proofs.ApplyLemmas.{is_low, lent_program, apply_unread, apply_unchecked, apply_unresolved, apply_ok, apply_refused}

@@ -1,5 +1,5 @@
 use Rattle.std.proofs.Common.{sym, subst}
-use Rattle.change_log.specs.Entries.{HasPlace}
+use Rattle.change_plans.specs.Entries.{HasPlace}
 use Rattle.session_steps.proofs.PlaceLemmas.{adds_one}
 use Rattle.session_core_tests.proofs.calls.clear_slot.Goals as goal
 

@@ -2,7 +2,7 @@ use Rattle.std.proofs.Common.{◌++◌, IsSome, sym, subst, ◌∙◌}
 use Rattle.std.specs.List.{AllByRecursion}
 use Rattle.std.specs.FinMap as finmap
 use Rattle.std.proofs.lemmas.List.{drop_all}
-use Rattle.change_log.specs.Slots.{contents}
+use Rattle.change_plans.specs.Slots.{contents}
 use Rattle.session_steps.specs.Modules.{AreRead}
 use Rattle.session_steps.proofs.MapLemmas.{keys_there}
 use Rattle.session_steps.proofs.CheckLemmas.{read_all}

@@ -2,7 +2,7 @@ use Rattle.std.proofs.Common.{◌++◌, IsSome, drop}
 use Rattle.std.specs.List.{AllByRecursion}
 use Rattle.std.specs.FinMap as finmap
 use Rattle.strategy_check.specs.Tables.{Modules}
-use Rattle.change_log.specs.Slots.{contents}
+use Rattle.change_plans.specs.Slots.{contents}
 use Rattle.session_steps.specs.Modules.{AreRead}
 use Rattle.session_steps.proofs.modules.read_modules.Given as goal
 

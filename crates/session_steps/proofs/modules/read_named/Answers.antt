@@ -1,5 +1,5 @@
 use Rattle.std.proofs.Common.{refl, sym}
-use Rattle.change_log.specs.Slots.{contents}
+use Rattle.change_plans.specs.Slots.{contents}
 use Rattle.session_steps.proofs.CheckLemmas.{unnamed, text_there, named_ok, named_refused}
 use Rattle.session_steps.proofs.modules.read_named.Goals as goal
 

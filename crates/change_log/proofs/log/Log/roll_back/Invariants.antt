@@ -1,5 +1,5 @@
 use Rattle.std.proofs.Common.{◌≡◌, ◌≤◌, length, take, drop, min}
-use Rattle.change_log.specs.Entries.{before}
+use Rattle.change_plans.specs.Entries.{before}
 use Rattle.change_log.proofs.log.Log.roll_back.Given as goal
 
 -- the entries that are left are the first, and what the others changed was taken back

@@ -1,7 +1,7 @@
 use Rattle.std.proofs.Common.{sym, ap, ◌∙◌, ◌+◌, inr, length}
 use Rattle.std.specs.List.{list_all}
 use Rattle.term_core.specs.Size.{fits}
-use Rattle.change_log.specs.Entries.{subterm_annotations}
+use Rattle.change_plans.specs.Entries.{subterm_annotations}
 use Rattle.session_steps.specs.Unfolded.{unfolded}
 use Rattle.session_steps.proofs.ActLemmas.{annotated_nowhere, annotations_big, annotated}
 use Rattle.session_steps.proofs.timeline.Timeline.annotate.Goals as goal

@@ -1,6 +1,6 @@
 use Rattle.std.proofs.Common.{refl, sym, ap, subst, ◌∙◌, ◌++◌, ◌∷◌, [], ◌+◌, take}
-use Rattle.change_log.specs.Slots.{Store, contents}
-use Rattle.change_log.specs.Entries.{found}
+use Rattle.change_plans.specs.Slots.{Store, contents}
+use Rattle.change_plans.specs.Entries.{found}
 use Rattle.session_steps.specs.History.{changed}
 use Rattle.session_steps.specs.Unfolded.{unfolded, IsPlaced}
 use Rattle.session_steps.proofs.PlaceLemmas.{adds_one, adds_alone, many_placed, many_unfolded, same_timeline}

@@ -1,6 +1,6 @@
 use Rattle.std.proofs.Common.{sym, ap, subst, ◌∙◌, ◌++◌, ◌+◌, ◌∷◌, [], take}
-use Rattle.change_log.specs.Entries.{found}
-use Rattle.change_log.specs.Slots.{Store, contents}
+use Rattle.change_plans.specs.Entries.{found}
+use Rattle.change_plans.specs.Slots.{Store, contents}
 use Rattle.session_steps.specs.History.{changed}
 use Rattle.session_steps.specs.Unfolded.{unfolded, IsPlaced, AddsStep}
 use Rattle.session_steps.proofs.PlaceLemmas.{adds_one, many_placed, many_unfolded, same_timeline, rolled_placed, rolled_unfolded}

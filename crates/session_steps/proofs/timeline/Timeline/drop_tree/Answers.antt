@@ -1,5 +1,5 @@
 use Rattle.std.proofs.Common.{refl, sym, subst, inr}
-use Rattle.change_log.specs.Entries.{HasPlace}
+use Rattle.change_plans.specs.Entries.{HasPlace}
 use Rattle.session_steps.specs.Unfolded.{unfolded}
 use Rattle.session_steps.proofs.PlaceLemmas.{slot_within}
 use Rattle.session_steps.proofs.ActLemmas.{no_tree, dropped_none, dropped, seen_none, seen_some}

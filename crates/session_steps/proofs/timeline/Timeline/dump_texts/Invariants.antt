@@ -2,7 +2,7 @@ use Rattle.std.proofs.Common.{◌≡◌, ◌≤◌, ◌++◌, Some, vec_capacity
 use Rattle.std.specs.List.{AllByRecursion}
 use Rattle.term_core.specs.Word.{label_of}
 use Rattle.aterm_text.specs.Printing.{Extends}
-use Rattle.change_log.specs.Slots.{contents}
+use Rattle.change_plans.specs.Slots.{contents}
 use Rattle.session_steps.specs.Dump.{module_lines}
 use Rattle.session_steps.proofs.timeline.Timeline.dump_texts.Given as goal
 

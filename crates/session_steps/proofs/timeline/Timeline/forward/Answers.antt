@@ -1,7 +1,7 @@
 use Rattle.std.proofs.Common.{refl, sym, ap, ◌∙◌, Some, set}
 use Rattle.std.specs.Vec.{with_item}
 use Rattle.std.proofs.lemmas.Option.{slice_get-get_or}
-use Rattle.change_log.specs.Slots.{Store}
+use Rattle.change_plans.specs.Slots.{Store}
 use Rattle.change_log.proofs.FlipLemmas.{after_keeps_texts}
 use Rattle.session_steps.proofs.PlaceLemmas.{placed_forward, unfolded_forward}
 use Rattle.session_steps.proofs.timeline.Timeline.forward.Goals as goal

@@ -1,5 +1,5 @@
 use Rattle.std.proofs.Common.{sym, ap, ◌∙◌, drop}
-use Rattle.change_log.specs.Slots.{Store}
+use Rattle.change_plans.specs.Slots.{Store}
 use Rattle.change_log.proofs.FlipLemmas.{before_keeps_texts}
 use Rattle.session_steps.proofs.timeline.Timeline.leave_group.Goals as goal
 

@@ -1,7 +1,7 @@
 use Rattle.std.proofs.Common.{◌∙◌, sym, ap, option_and_then}
 use Rattle.std.specs.Prelude.{option_copied}
-use Rattle.change_log.specs.Slots.{content}
-use Rattle.change_log.proofs.ContentsLemmas.{module_of_name}
+use Rattle.change_plans.specs.Slots.{content}
+use Rattle.change_plans.proofs.ContentsLemmas.{module_of_name}
 use Rattle.session_steps.proofs.timeline.Timeline.module_text.Goals as goal
 
 pub returns-in_err-slot : goal.returns-in_err-slot

@@ -1,6 +1,6 @@
 use Rattle.std.proofs.Common.{sym, ap, ◌∙◌, inr}
 use Rattle.term_core.specs.Size.{fits}
-use Rattle.change_log.specs.Entries.{subterm}
+use Rattle.change_plans.specs.Entries.{subterm}
 use Rattle.session_steps.specs.Unfolded.{unfolded}
 use Rattle.session_steps.proofs.ActLemmas.{put_nowhere, put_big, put_done}
 use Rattle.session_steps.proofs.timeline.Timeline.put.Goals as goal

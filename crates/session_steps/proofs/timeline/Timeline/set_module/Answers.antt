@@ -1,7 +1,7 @@
 use Rattle.std.proofs.Common.{subst, ◌∙◌}
-use Rattle.change_log.specs.Contents.{Contents}
-use Rattle.change_log.specs.Slots.{contents}
-use Rattle.change_log.specs.Entries.{put}
+use Rattle.change_plans.specs.Contents.{Contents}
+use Rattle.change_plans.specs.Slots.{contents}
+use Rattle.change_plans.specs.Entries.{put}
 use Rattle.session_steps.specs.Modules.{IsProgram, AreRefused}
 use Rattle.session_steps.specs.Unfolded.{unfolded}
 use Rattle.session_steps.proofs.ActLemmas.{on_err, closed_group}

@@ -1,7 +1,7 @@
 use Rattle.std.proofs.Common.{refl, sym, ap, subst, ◌∙◌, inr}
-use Rattle.change_log.specs.Contents.{Contents}
-use Rattle.change_log.specs.Slots.{contents}
-use Rattle.change_log.specs.Entries.{HasPlace, put}
+use Rattle.change_plans.specs.Contents.{Contents}
+use Rattle.change_plans.specs.Slots.{contents}
+use Rattle.change_plans.specs.Entries.{HasPlace, put}
 use Rattle.session_steps.specs.History.{changed}
 use Rattle.session_steps.specs.Modules.{IsProgram, AreRefused}
 use Rattle.session_steps.specs.Unfolded.{unfolded}

@@ -12,9 +12,9 @@ use Rattle.std.proofs.lemmas.Map.Lookups.{exact_bytes}
 use Rattle.std.proofs.lemmas.Map.Keys.{IsDistinct-head, IsDistinct-tail}
 use Rattle.term_core.specs.Tree.{Tree}
 use Rattle.term_paths.specs.Paths.{at, set_at, set_annotations_at}
-use Rattle.change_log.specs.Slots.{Slots, Store, AreApart, labels, content, with_content, slot_of, with_slot, filled, named, with_tree_slot, with_module_slot}
-use Rattle.change_log.specs.Entries.{Entry, slot_tree, subterm, subterm_annotations, slot_text, HasPlace, put, before, after, Fits, FitsForward, changed_tree, subterm_in}
-use Rattle.change_log.specs.Laws.{NewSlotsAreEmpty, TreePut, TreeTaken, ModulePut, ModuleTaken, SubtermPut, AnnotationsPut, TreeOfName, ModuleOfName, FitsWithMore, FitsForwardWithMore, FitsWithMoreModules, FitsForwardWithMoreModules}
+use Rattle.change_plans.specs.Slots.{Slots, Store, AreApart, labels, content, with_content, slot_of, with_slot, filled, named, with_tree_slot, with_module_slot}
+use Rattle.change_plans.specs.Entries.{Entry, slot_tree, subterm, subterm_annotations, slot_text, HasPlace, put, before, after, Fits, FitsForward, changed_tree, subterm_in}
+use Rattle.change_plans.specs.Laws.{NewSlotsAreEmpty, TreePut, TreeTaken, ModulePut, ModuleTaken, SubtermPut, AnnotationsPut, TreeOfName, ModuleOfName, FitsWithMore, FitsForwardWithMore, FitsWithMoreModules, FitsForwardWithMoreModules}
 
 same : List ℕ → List ℕ → Bool
 same q k = pointwise nat_eq q k

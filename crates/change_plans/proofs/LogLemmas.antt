@@ -2,12 +2,12 @@
 use Rattle.std.proofs.Common.{◌≡◌, ℕ, zero, suc, ◌+◌, ◌-◌, ◌<◌, ◌≤◌, List, [], ◌∷◌, ◌++◌, length, take, drop, set, slice_get, min, Some, refl, sym, ap, subst, ◌∙◌, arith}
 use Rattle.std.proofs.lemmas.List.{drop-drop, drop-take, length-set, take-take, take_all, take-set, length-take, length-drop, length-append, take-append-le, drop-append-le, take-append-drop}
 use Rattle.std.proofs.Math.Seq.{take-append_seam, drop-append_seam}
-use Rattle.change_log.specs.Slots.{Store}
-use Rattle.change_log.specs.Entries.{Entry, put, found, before, after, flipped_back, flipped_forward}
-use Rattle.change_log.specs.LogView.{entry_of, entries, depths}
-use Rattle.change_log.proofs.EntryLemmas.{before-append}
-use Rattle.change_log.specs.declared.entry.Kept.{Kept}
-use Rattle.change_log.specs.declared.log.Replaced.{Replaced}
+use Rattle.change_plans.specs.Slots.{Store}
+use Rattle.change_plans.specs.Entries.{Entry, put, found, before, after, flipped_back, flipped_forward}
+use Rattle.change_plans.specs.LogView.{entry_of, entries, depths}
+use Rattle.change_plans.proofs.EntryLemmas.{before-append}
+use Rattle.change_plans.specs.declared.entry.Kept.{Kept}
+use Rattle.change_plans.specs.declared.plan.Replaced.{Replaced}
 
 pub length-entries : (rs : List Replaced) (ps : List ℕ) → length (entries rs ps) ≡ length rs
 length-entries [] ps = refl

@@ -1,6 +1,6 @@
 use Rattle.std.proofs.Common.{◌≡◌, ◌≤◌, ◌+◌, ◌-◌, ◌++◌, length, take}
 use Rattle.std.specs.Prelude.{vec_len, vec_capacity}
-use Rattle.change_log.proofs.plan.add_steps.Given as goal
+use Rattle.change_plans.proofs.plan.add_steps.Given as goal
 
 abbrev pub invariant-loop-i : goal.invariant-loop-i
 invariant-loop-i l =

@@ -1,7 +1,7 @@
 //! Places that were replaced, put in place.
 
 ghost use Rattle.std.specs.Prelude.{◌≡◌, ◌++◌, OnOk, OnErr};
-ghost use Rattle.change_log.specs.Entries.{before, after, flipped_forward, Fits, FitsForward};
+ghost use Rattle.change_plans.specs.Entries.{before, after, flipped_forward, Fits, FitsForward};
 
 use change_log::{Log, Plan, Store};
 use term_core::NoMemory;
@@ -9,7 +9,7 @@ use term_core::NoMemory;
 /// Puts what is planned in place, the first place first, through the log.
 ///
 /// Where a growth of memory is refused, store and log stay as they were.
-pub fn put_in_place(plan: Plan, store: &mut Store, log: &mut Log) -> Result<(), NoMemory>
+pub(crate) fn put_in_place(plan: Plan, store: &mut Store, log: &mut Log) -> Result<(), NoMemory>
     ensures store { OnOk result (store.new ≡ after plan store.old) }
     ensures log { OnOk result (log.new ≡ log.old ++ flipped_forward plan store.old) }
     ensures leads_back { OnOk result (before log.new store.new ≡ before log.old store.old) }

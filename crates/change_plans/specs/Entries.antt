@@ -4,7 +4,7 @@ use Rattle.std.specs.Prelude.{ℕ, ◌+◌, ◌<◌, Bool, nat_lt, List, [], ◌
 use Rattle.std.specs.declared.option.Option.{Option}
 use Rattle.term_core.specs.Tree.{Tree}
 use Rattle.term_paths.specs.Paths.{at, annotations_at, set_at, set_annotations_at}
-use Rattle.change_log.specs.Slots.{Slots, Store, slot_at, content, with_content}
+use Rattle.change_plans.specs.Slots.{Slots, Store, slot_at, content, with_content}
 
 pub data Entry : Type 0 where
   -- a slot's tree, or none

@@ -1,9 +1,9 @@
 -- Putting what was found takes a put back, so the two flips of a log take each other back.
 use Rattle.std.proofs.Common.{◌≡◌, zero, suc, ◌<◌, List, [], ◌∷◌, ◌++◌, refl, sym, ap, subst, ◌∙◌}
-use Rattle.change_log.specs.Slots.{Store}
-use Rattle.change_log.specs.Entries.{Entry, slot_tree, subterm, subterm_annotations, slot_text, HasPlace, put, found, before, after, flipped_back, flipped_forward, FitsForward}
-use Rattle.change_log.specs.Laws.{StoreFromAfter, FlipsForward, StoreFromBefore, FlipsBack, FlippedBackFits, FlippedForwardFits, PushedFits, RolledBackFits, PushedLeadsBack, RolledBackLeadsBack}
-use Rattle.change_log.proofs.SlotLemmas.{length-with_content, slot_twice, slot_found_twice, subterm_twice, subterm_found_twice, annotations_twice, annotations_found_twice, subterm_stays, annotated_stays}
+use Rattle.change_plans.specs.Slots.{Store}
+use Rattle.change_plans.specs.Entries.{Entry, slot_tree, subterm, subterm_annotations, slot_text, HasPlace, put, found, before, after, flipped_back, flipped_forward, FitsForward}
+use Rattle.change_plans.specs.Laws.{StoreFromAfter, FlipsForward, StoreFromBefore, FlipsBack, FlippedBackFits, FlippedForwardFits, PushedFits, RolledBackFits, PushedLeadsBack, RolledBackLeadsBack}
+use Rattle.change_plans.proofs.SlotLemmas.{length-with_content, slot_twice, slot_found_twice, subterm_twice, subterm_found_twice, annotations_twice, annotations_found_twice, subterm_stays, annotated_stays}
 
 -- ---- one entry
 

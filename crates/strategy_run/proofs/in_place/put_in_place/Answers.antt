@@ -1,7 +1,7 @@
 use Rattle.std.proofs.Common.{sym, subst, ◌∙◌}
-use Rattle.change_log.specs.Entries.{before, after, Fits}
+use Rattle.change_plans.specs.Entries.{before, after, Fits}
 use Rattle.term_changes.proofs.LogLemmas.{all_lead_back, all_fit}
-use Rattle.term_changes.proofs.in_place.put_in_place.Goals as goal
+use Rattle.strategy_run.proofs.in_place.put_in_place.Goals as goal
 
 pub returns-clause-leads_back : goal.returns-clause-leads_back
 returns-clause-leads_back c =

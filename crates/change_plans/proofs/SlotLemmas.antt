@@ -10,8 +10,8 @@ use Rattle.indexmap.specs.IndexMap.{insert_entry}
 use Rattle.term_core.specs.Tree.{Tree, annotations}
 use Rattle.term_paths.specs.Paths.{at, leads, annotations_at, set_at, set_annotations_at}
 use Rattle.term_paths.proofs.LawLemmas.{swapping_twice, swapping_annotations_twice, set_nowhere, set_annotations_nowhere, set_is_there, set_annotations_are_there}
-use Rattle.change_log.specs.Slots.{Slots, labels, slot_at, content, with_content, slot_of, with_slot}
-use Rattle.change_log.specs.Entries.{subterm_in, annotations_in, changed_tree}
+use Rattle.change_plans.specs.Slots.{Slots, labels, slot_at, content, with_content, slot_of, with_slot}
+use Rattle.change_plans.specs.Entries.{subterm_in, annotations_in, changed_tree}
 
 module _ {X : Type 0} where
   pub length-with_content : (ss : Slots X) (i : ℕ) (c : Option X) → length (with_content ss i c) ≡ length ss

@@ -1,9 +1,9 @@
 use Rattle.std.proofs.Common.{◌∙◌, ap, ◌++◌, [], ◌∷◌, arith}
 use Rattle.std.proofs.lemmas.List.{length_push}
-use Rattle.change_log.specs.Entries.{subterm}
-use Rattle.change_log.specs.LogView.{entries, depths}
-use Rattle.change_log.proofs.LogLemmas.{pushed_depths, pushed_entries}
-use Rattle.change_log.proofs.plan.Plan.add_child.Goals as goal
+use Rattle.change_plans.specs.Entries.{subterm}
+use Rattle.change_plans.specs.LogView.{entries, depths}
+use Rattle.change_plans.proofs.LogLemmas.{pushed_depths, pushed_entries}
+use Rattle.change_plans.proofs.plan.Plan.add_child.Goals as goal
 
 pub invariant_of-self-2 : goal.invariant_of-self-2
 invariant_of-self-2 c =

@@ -19,13 +19,15 @@ impl Model for Text {
 }
 
 impl Text {
-    pub(crate) fn new(bytes: Vec<u8>) -> Text
+    /// The text of these bytes.
+    pub fn new(bytes: Vec<u8>) -> Text
         ensures { result ≡ bytes.items }
     {
         Text { bytes }
     }
 
-    pub(crate) fn bytes(&self) -> &[u8]
+    /// Its bytes.
+    pub fn bytes(&self) -> &[u8]
         ensures { result.now ≡ self.now }
     {
         self.bytes.as_slice()

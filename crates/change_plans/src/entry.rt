@@ -1,10 +1,10 @@
 //! Entries: changes of one place of a store.
 
 ghost use Rattle.std.specs.Prelude.{◌≡◌, ◌≤◌, ℕ, List, option_map};
-ghost use Rattle.change_log.specs.Entries.{slot_tree, subterm, subterm_annotations, slot_text, text_of};
-ghost use Rattle.change_log.specs.LogView.{entry_of};
+ghost use Rattle.change_plans.specs.Entries.{slot_tree, subterm, subterm_annotations, slot_text, text_of};
+ghost use Rattle.change_plans.specs.LogView.{entry_of};
 
-use crate::Text;
+use crate::text::Text;
 use std::marker::Model;
 use term_core::Term;
 
@@ -12,9 +12,9 @@ use term_core::Term;
 /// number, a subterm by its path, the numbers of the children from the root on.
 #[derive(Drop)]
 pub struct Entry<'a> {
-    pub(crate) slot: usize,
-    pub(crate) path: &'a [usize],
-    pub(crate) kept: Kept,
+    pub slot: usize,
+    pub path: &'a [usize],
+    pub kept: Kept,
 }
 
 /// What an entry keeps for its place.
@@ -32,7 +32,7 @@ pub enum Kept {
 
 impl Kept {
     /// 1 for a module text, else 0.
-    pub(crate) fn texts(&self) -> usize
+    pub fn texts(&self) -> usize
         ensures value { (i : ℕ) (p : List ℕ) → result ≡ text_of (entry_of i p self.now) }
         ensures one { result ≤ 1 }
     {
@@ -44,14 +44,14 @@ impl Kept {
 }
 
 impl<'a> Model for Entry<'a> {
-    ghost use Rattle.change_log.specs.Entries.{Entry};
-    ghost use Rattle.change_log.specs.Codes.{entry_code};
+    ghost use Rattle.change_plans.specs.Entries.{Entry};
+    ghost use Rattle.change_plans.specs.Codes.{entry_code};
 
     ghost Value = { Entry };
 
     ghost coded = { entry_code };
 
-    ghost use Rattle.change_log.specs.LogView.{entry_of};
+    ghost use Rattle.change_plans.specs.LogView.{entry_of};
 
     ghost view = { λ a. entry_of a.slot a.path.now a.kept };
 }

@@ -2,7 +2,7 @@
 use Rattle.std.specs.Prelude.{◌≡◌, List}
 use Rattle.std.specs.List.{AllPairs}
 use Rattle.term_paths.specs.Paths as path
-use Rattle.change_log.specs.Entries.{Entry, slot_tree, subterm, subterm_annotations, slot_text}
+use Rattle.change_plans.specs.Entries.{Entry, slot_tree, subterm, subterm_annotations, slot_text}
 
 -- Whether the place of the first entry lies within that of the second. Within a slot's tree lies all of
 -- that tree; within a subterm lie the subterms and annotations at paths within its own; within

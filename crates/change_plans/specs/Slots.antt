@@ -7,7 +7,7 @@ use Rattle.std.specs.FinMap as finmap
 use Rattle.std.specs.List.{IsDistinct}
 use Rattle.indexmap.specs.IndexMap.{set_value_at}
 use Rattle.term_core.specs.Tree.{Tree}
-use Rattle.change_log.specs.Contents.{Contents, Named}
+use Rattle.change_plans.specs.Contents.{Contents, Named}
 
 -- the label of each slot and its content
 abbrev pub Slots : Type 0 → Type 0

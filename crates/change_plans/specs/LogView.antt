@@ -1,9 +1,9 @@
 -- What the fields of entries and logs stand for.
 use Rattle.std.specs.Prelude.{ℕ, ◌+◌, List, [], ◌∷◌, take, drop}
-use Rattle.change_log.specs.Entries.{Entry, slot_tree, subterm, subterm_annotations, slot_text}
-use Rattle.change_log.specs.declared.entry.Kept.{Kept}
-use Rattle.change_log.specs.declared.entry.Kept.TheVariants.{Tree, Subterm, Annotations, Text}
-use Rattle.change_log.specs.declared.log.Replaced.{Replaced}
+use Rattle.change_plans.specs.Entries.{Entry, slot_tree, subterm, subterm_annotations, slot_text}
+use Rattle.change_plans.specs.declared.entry.Kept.{Kept}
+use Rattle.change_plans.specs.declared.entry.Kept.TheVariants.{Tree, Subterm, Annotations, Text}
+use Rattle.change_plans.specs.declared.plan.Replaced.{Replaced}
 
 -- an entry by its slot, its path and what it keeps
 abbrev pub entry_of : ℕ → List ℕ → Kept → Entry

@@ -1,7 +1,7 @@
 use Rattle.std.proofs.Common.{◌∙◌, ap, refl, ◌++◌, [], ◌∷◌}
-use Rattle.change_log.specs.LogView.{entries, depths}
-use Rattle.change_log.proofs.LogLemmas.{pushed_depths, pushed_entries}
-use Rattle.change_log.proofs.plan.Plan.add.Goals as goal
+use Rattle.change_plans.specs.LogView.{entries, depths}
+use Rattle.change_plans.proofs.LogLemmas.{pushed_depths, pushed_entries}
+use Rattle.change_plans.proofs.plan.Plan.add.Goals as goal
 
 pub invariant_of-self-2 : goal.invariant_of-self-2
 invariant_of-self-2 c =

@@ -1,32 +1,41 @@
 //! Changes that are still to be made.
 
 ghost use Rattle.std.specs.Prelude.{◌≡◌, ◌≤◌, ◌+◌, ◌++◌, [], ◌∷◌, length, vec_len, vec_capacity, OnOk, OnErr};
-ghost use Rattle.change_log.specs.Entries.{subterm};
+ghost use Rattle.change_plans.specs.Entries.{subterm};
 
-use crate::{Entry, Kept, Replaced};
+use crate::entry::{Entry, Kept};
 use std::alloc::Global;
 use std::marker::Model;
 use term_core::{NoMemory, Term};
 
-/// Changes that are still to be made, the first one first. `Log::make` makes them.
+/// A change without the path of its place: of a plan what is to stand there, of a log what was replaced.
+#[derive(Drop)]
+pub struct Replaced {
+    pub slot: usize,
+    /// How long the path is.
+    pub depth: usize,
+    pub kept: Kept,
+}
+
+/// Changes that are still to be made, the first one first. A log makes them.
 #[derive(Drop)]
 pub struct Plan {
-    pub(crate) changes: Vec<Replaced>,
-    // The paths of all changes, one behind the other.
-    pub(crate) paths: Vec<usize>,
+    pub changes: Vec<Replaced>,
+    /// The paths of all changes, one behind the other.
+    pub paths: Vec<usize>,
 }
 
 impl Model for Plan {
     ghost use Rattle.std.specs.Prelude.{◌≡◌, List, length};
     ghost use Rattle.std.specs.Coded.{coded_list};
-    ghost use Rattle.change_log.specs.Entries.{Entry};
-    ghost use Rattle.change_log.specs.Codes.{entry_code};
+    ghost use Rattle.change_plans.specs.Entries.{Entry};
+    ghost use Rattle.change_plans.specs.Codes.{entry_code};
 
     ghost Value = { List Entry };
 
     ghost coded = { coded_list entry_code };
 
-    ghost use Rattle.change_log.specs.LogView.{entries, depths};
+    ghost use Rattle.change_plans.specs.LogView.{entries, depths};
 
     ghost view = { λ a. entries a.changes.items a.paths.items };
 

@@ -3,10 +3,10 @@ use Rattle.std.specs.Prelude.{◌≡◌, ℕ, List, ◌++◌, [], ◌∷◌, Som
 use Rattle.std.specs.FinMap as finmap
 use Rattle.term_core.specs.Tree.{Tree}
 use Rattle.term_paths.specs.Paths.{set_at, set_annotations_at}
-use Rattle.change_log.specs.Contents.{with_tree, without_tree, with_module, without_module}
-use Rattle.change_log.specs.Slots.{Store, AreApart, content, contents, slot_of, with_tree_slot, with_module_slot}
-use Rattle.change_log.specs.Entries.{Entry, slot_tree, subterm, subterm_annotations, slot_text, HasPlace, put, found, before, after, flipped_back, flipped_forward, Fits, FitsForward, has_text}
-use Rattle.change_log.specs.Compact.{IsCompact}
+use Rattle.change_plans.specs.Contents.{with_tree, without_tree, with_module, without_module}
+use Rattle.change_plans.specs.Slots.{Store, AreApart, content, contents, slot_of, with_tree_slot, with_module_slot}
+use Rattle.change_plans.specs.Entries.{Entry, slot_tree, subterm, subterm_annotations, slot_text, HasPlace, put, found, before, after, flipped_back, flipped_forward, Fits, FitsForward, has_text}
+use Rattle.change_plans.specs.Compact.{IsCompact}
 
 -- After a log was flipped back, going forward gives the store from before the flip and the log.
 abbrev pub StoreFromAfter : Type 0

@@ -6,9 +6,9 @@ use Rattle.std.specs.Coded.{Coded, code_by, coded×, coded⊎, coded_ℕ, coded_
 use Rattle.std.specs.FinMap as finmap
 use Rattle.term_core.specs.Tree.{Tree}
 use Rattle.term_core.specs.TreeCode.{tree_code}
-use Rattle.change_log.specs.Contents.{Contents, Named}
-use Rattle.change_log.specs.Slots.{Slots, Store}
-use Rattle.change_log.specs.Entries.{Entry, slot_tree, subterm, subterm_annotations, slot_text}
+use Rattle.change_plans.specs.Contents.{Contents, Named}
+use Rattle.change_plans.specs.Slots.{Slots, Store}
+use Rattle.change_plans.specs.Entries.{Entry, slot_tree, subterm, subterm_annotations, slot_text}
 
 abbrev pub text_code : Coded (List ℕ)
 text_code = coded_list coded_ℕ

@@ -1,0 +1,4 @@
+pub mod SlotLemmas
+pub mod EntryLemmas
+pub mod ContentsLemmas
+pub mod LogLemmas
