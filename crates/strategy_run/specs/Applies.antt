@@ -12,15 +12,15 @@ use Rattle.strategy_syntax.specs.declared.resolved.Resolved.{Resolved}
 use Rattle.strategy_meaning.specs.Answer.{spent, big}
 use Rattle.strategy_meaning.specs.Meaning.{World}
 use Rattle.strategy_meaning.specs.Applied.{Outcome, gives, fails, stops, applied}
-use Rattle.strategy_run.specs.Leading.{AreOutermost}
+use Rattle.strategy_frames.specs.Leading.{AreOutermost}
 use Rattle.strategy_run.specs.declared.application.Outcome.{Outcome as Ending}
 use Rattle.strategy_run.specs.declared.application.Outcome.TheVariants.{Done, Failed, Spent, Big}
 use Rattle.strategy_run.specs.declared.application.Found.{Found}
 use Rattle.strategy_run.specs.declared.application.Found.TheVariants as founds
 use Rattle.strategy_run.specs.declared.application.Listing.{Listing}
 use Rattle.strategy_run.specs.declared.application.Listing.TheVariants.{Outermost, Each}
-use Rattle.strategy_run.specs.Trails.{Shows}
-use Rattle.strategy_run.specs.declared.trail.Trail.{Trail}
+use Rattle.strategy_frames.specs.Trails.{Shows}
+use Rattle.strategy_frames.specs.declared.trail.Trail.{Trail}
 
 -- what applying comes to in a slot's tree; where the slot has none, it fails
 abbrev pub applied_in : World → Slots Tree → ℕ → List ℕ → Resolved → ℕ → Outcome

@@ -5,9 +5,9 @@ use Rattle.term_changes.specs.Standing.{Standing}
 use Rattle.strategy_meaning.specs.Matching.{Bindings}
 use Rattle.strategy_meaning.specs.Answer.{Answer, done, failed, stopped, spent, big}
 use Rattle.strategy_scopes.specs.Table.{scopes}
-use Rattle.strategy_run.specs.Trails.{Shows}
-use Rattle.strategy_run.specs.Turns.{IsDone, state_of}
-use Rattle.strategy_run.specs.declared.machine.Machine.{Machine}
+use Rattle.strategy_frames.specs.Trails.{Shows}
+use Rattle.strategy_frames.specs.Turns.{IsDone, state_of}
+use Rattle.strategy_frames.specs.declared.machine.Machine.{Machine}
 use Rattle.strategy_run.specs.declared.evaluation.Ended.{Ended}
 use Rattle.strategy_run.specs.declared.evaluation.Ended.TheVariants as ends
 use Rattle.strategy_run.specs.declared.evaluation.Evaluated.{Evaluated}

@@ -2,16 +2,16 @@
 
 ghost use Rattle.std.specs.Prelude.{◌≡◌, ◌<◌, length, IfOk};
 ghost use Rattle.strategy_scopes.specs.Table.{scopes as scopes_of};
-ghost use Rattle.strategy_run.specs.Hands.{Begin};
-ghost use Rattle.strategy_run.specs.Turns.{Turn, Falls, Takes, TakeFalls, world_of};
+ghost use Rattle.strategy_frames.specs.Hands.{Begin};
+ghost use Rattle.strategy_frames.specs.Turns.{Turn, Falls, Takes, TakeFalls, world_of};
 
-use crate::calls::{take_call, take_param, take_prim, take_rec, take_scope};
-use crate::congruence::{take_child, take_congruence, take_tail};
-use crate::forms::{take_build, take_guard, take_match, take_seq, take_test};
-use crate::frames::{Acts, Next, Turned};
-use crate::machine::{Host, Machine};
 use prim_core::Meaning;
 use std::alloc::Global;
+use strategy_frames::{
+    Acts, Host, Machine, Next, Turned, take_build, take_call, take_child, take_congruence,
+    take_guard, take_match, take_param, take_prim, take_rec, take_scope, take_seq, take_tail,
+    take_test,
+};
 use strategy_syntax::{ResolvedForm as Form, ResolvedStrategy};
 use term_core::NoMemory;
 

@@ -4,16 +4,15 @@ ghost use Rattle.std.specs.Prelude.{◌≡◌, ℕ, suc, ◌-◌, [], ◌∷◌,
 ghost use Rattle.term_core.specs.Tree.{children};
 ghost use Rattle.term_changes.specs.Standing.{standing_tree, standing_children};
 ghost use Rattle.strategy_meaning.specs.Meaning.{World};
-ghost use Rattle.strategy_run.specs.Frames.{acts_list};
-ghost use Rattle.strategy_run.specs.Leading.{PartsStand, Fills, all_parts, node_with, parts_now};
-ghost use Rattle.strategy_run.specs.Hands.{Each, Leftmost, Those};
-ghost use Rattle.strategy_run.specs.Turns.{Turn, Falls};
+ghost use Rattle.strategy_frames.specs.Frames.{acts_list};
+ghost use Rattle.strategy_frames.specs.Leading.{PartsStand, Fills, all_parts, node_with, parts_now};
+ghost use Rattle.strategy_frames.specs.Hands.{Each, Leftmost, Those};
+ghost use Rattle.strategy_frames.specs.Turns.{Turn, Falls};
 
-use crate::frames::{Acts, Frame, Next, Turned, Walk, drop_part, wait};
 use crate::lists::end_each;
-use crate::machine::Machine;
 use std::alloc::Global;
 use std::mem;
+use strategy_frames::{Acts, Frame, Machine, Next, Turned, Walk, drop_part, wait};
 use strategy_syntax::ResolvedStrategy;
 use term_core::NoMemory;
 use term_values::Part;

@@ -4,11 +4,12 @@ ghost use Rattle.std.specs.Prelude.{◌≡◌, IfOk};
 ghost use Rattle.strategy_meaning.specs.Answer.{Answer};
 ghost use Rattle.strategy_meaning.specs.Meaning.{World};
 ghost use Rattle.term_changes.specs.Standing.{Standing};
-ghost use Rattle.strategy_run.specs.Hands.{Failed};
-ghost use Rattle.strategy_run.specs.Turns.{Turn, Falls, Holds, Gives, IsOfRun, GiveFalls};
+ghost use Rattle.strategy_frames.specs.Hands.{Failed};
+ghost use Rattle.strategy_frames.specs.Turns.{Turn, Falls, Holds, Gives, IsOfRun, GiveFalls};
 
-use crate::frames::{Frame, Next, Turned, drop_changed, drop_part, drop_parts, drop_walk, put};
-use crate::machine::Machine;
+use strategy_frames::{
+    Frame, Machine, Next, Turned, drop_changed, drop_part, drop_parts, drop_walk, put,
+};
 use term_core::NoMemory;
 use term_values::Part;
 

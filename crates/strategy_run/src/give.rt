@@ -4,16 +4,15 @@ ghost use Rattle.std.specs.Prelude.{◌≡◌, cond, IfOk, IfSome, MatchOption, 
 ghost use Rattle.strategy_meaning.specs.Answer.{Answer};
 ghost use Rattle.strategy_meaning.specs.Meaning.{World};
 ghost use Rattle.term_changes.specs.Standing.{Standing};
-ghost use Rattle.strategy_run.specs.Hands.{Done};
-ghost use Rattle.strategy_run.specs.Frames.{HasNext, StepsOn, WalksOn, GoesOn, with_acts};
-ghost use Rattle.strategy_run.specs.Turns.{Turn, Falls, Holds, Gives, IsOfRun, GiveFalls, ComesUp};
+ghost use Rattle.strategy_frames.specs.Hands.{Done};
+ghost use Rattle.strategy_frames.specs.Frames.{HasNext, StepsOn, WalksOn, GoesOn, with_acts};
+ghost use Rattle.strategy_frames.specs.Turns.{Turn, Falls, Holds, Gives, IsOfRun, GiveFalls, ComesUp};
 
 use crate::children::{child_now, finish, first_act, settle};
-use crate::frames::{Acts, Frame, Next, Turned, Walk, put};
 use crate::lists::{give_behind, give_head, give_rest, give_tail};
-use crate::machine::Machine;
 use std::alloc::Global;
 use std::mem;
+use strategy_frames::{Acts, Frame, Machine, Next, Turned, Walk, put};
 use strategy_syntax::ResolvedStrategy;
 use term_core::NoMemory;
 use term_match::Mark;

@@ -5,21 +5,19 @@ ghost use Rattle.term_core.specs.Tree.{children, with_children};
 ghost use Rattle.strategy_meaning.specs.Matching.{elements};
 ghost use Rattle.strategy_meaning.specs.Meaning.{World};
 ghost use Rattle.term_changes.specs.Standing.{standing_tree};
-ghost use Rattle.strategy_run.specs.Hands.{Done};
-ghost use Rattle.strategy_run.specs.Leading.{PartsStand, parts_now, all_parts, node_with};
-ghost use Rattle.strategy_run.specs.Frames.{first_part};
-ghost use Rattle.strategy_run.specs.Turns.{Turn, Gives, IsOfRun, GiveFalls, EndFalls, Waits};
+ghost use Rattle.strategy_frames.specs.Hands.{Done};
+ghost use Rattle.strategy_frames.specs.Leading.{PartsStand, parts_now, all_parts, node_with};
+ghost use Rattle.strategy_frames.specs.Frames.{first_part};
+ghost use Rattle.strategy_frames.specs.Turns.{Turn, Gives, IsOfRun, GiveFalls, EndFalls, Waits};
 
 use crate::children::finish;
-use crate::forms::replace;
-use crate::frames::{
-    Frame, Next, Turned, Walk, drop_changed, drop_part, drop_parts, drop_value, wait,
-};
-use crate::heads::is_list as is_list_part;
-use crate::machine::Machine;
 use crate::tails::{first_values, in_front, is_list, rest_behind, rest_of_part, with_rest_behind};
 use std::alloc::Global;
 use std::mem;
+use strategy_frames::{
+    Frame, Machine, Next, Turned, Walk, drop_changed, drop_part, drop_parts, drop_value,
+    is_list as is_list_part, replace, wait,
+};
 use strategy_syntax::ResolvedStrategy;
 use term_core::NoMemory;
 use term_values::{Part, Value};

@@ -5,11 +5,11 @@ ghost use Rattle.term_core.specs.Tree.{children, with_children};
 ghost use Rattle.term_changes.specs.Standing.{standing_tree};
 ghost use Rattle.strategy_meaning.specs.Matching.{elements};
 ghost use Rattle.strategy_meaning.specs.Meaning.{rest_of};
-ghost use Rattle.strategy_run.specs.Leading.{all_parts, parts_now};
+ghost use Rattle.strategy_frames.specs.Leading.{all_parts, parts_now};
 
 use crate::children::child_now;
-use crate::frames::drop_value;
 use std::alloc::Global;
+use strategy_frames::drop_value;
 use term_core::{Kind, NoMemory};
 use term_values::{Part, Value};
 

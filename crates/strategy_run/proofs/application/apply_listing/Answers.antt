@@ -2,7 +2,7 @@ use Rattle.std.proofs.Common.{◌≡◌, ◌∙◌, Some, refl, sym, ap, subst}
 use Rattle.std.specs.Prelude.{option_copied}
 use Rattle.change_plans.specs.Slots.{content}
 use Rattle.strategy_meaning.specs.Applied.{applied}
-use Rattle.strategy_run.specs.Turns.{world_of}
+use Rattle.strategy_frames.specs.Turns.{world_of}
 use Rattle.strategy_run.specs.Applies.{Finds, FindsAll, applied_in}
 use Rattle.strategy_run.specs.declared.application.Found.{Found}
 use Rattle.strategy_run.proofs.ApplyLemmas.{puts, in_tree, in_none, low_there}

@@ -1,7 +1,7 @@
 use Rattle.std.proofs.Common.{length, subst}
 use Rattle.term_changes.specs.Standing.{unchanged}
 use Rattle.strategy_meaning.specs.Meaning.{run_whole}
-use Rattle.strategy_run.specs.Turns.{world_of, state_of}
+use Rattle.strategy_frames.specs.Turns.{world_of, state_of}
 use Rattle.strategy_run.specs.Ends.{Ends}
 use Rattle.strategy_run.specs.Applies.{Lists}
 use Rattle.strategy_run.specs.declared.evaluation.Ended.{Ended}

@@ -1,7 +1,7 @@
 use Rattle.std.proofs.Common.{arith, ◌-◌}
-use Rattle.strategy_run.proofs.TakeLemmas.{is_spent, pays}
-use Rattle.strategy_run.proofs.ResultLemmas.{ok_map}
-use Rattle.strategy_run.specs.Turns.{state_of, world_of}
+use Rattle.strategy_frames.proofs.TakeLemmas.{is_spent, pays}
+use Rattle.strategy_frames.proofs.ResultLemmas.{ok_map}
+use Rattle.strategy_frames.specs.Turns.{state_of, world_of}
 use Rattle.strategy_run.proofs.begin.begin.Goals as goal
 
 pub returns-then-m-eq0-clause-ok : goal.returns-then-m-eq0-clause-ok

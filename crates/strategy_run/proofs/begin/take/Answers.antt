@@ -1,9 +1,9 @@
 use Rattle.std.proofs.Common.{refl, sym, ap, ◌∙◌}
-use Rattle.strategy_run.proofs.TakeLemmas.{take_same, take_failed, take_each, all_is, take_leftmost, take_those}
-use Rattle.strategy_run.proofs.FormLemmas.{taken_form, taken_turn}
-use Rattle.strategy_run.specs.declared.frames.Acts.TheVariants.{Same}
+use Rattle.strategy_frames.proofs.TakeLemmas.{take_same, take_failed, take_each, all_is, take_leftmost, take_those}
+use Rattle.strategy_frames.proofs.FormLemmas.{taken_form, taken_turn}
+use Rattle.strategy_frames.specs.declared.frames.Acts.TheVariants.{Same}
 use Rattle.strategy_syntax.specs.Heads.{head_of}
-use Rattle.strategy_run.specs.Turns.{state_of, world_of}
+use Rattle.strategy_frames.specs.Turns.{state_of, world_of}
 use Rattle.strategy_syntax.specs.ResolvedView.{resolved_of}
 use Rattle.strategy_syntax.specs.Resolved.{seq, guard, test, scope, call, congruence, tail_congruence, all, one, some, child, rec, prim, resolveds_of, places_of}
 use Rattle.strategy_run.proofs.begin.take.Goals as goal

@@ -1,7 +1,7 @@
 use Rattle.std.proofs.Common.{◌∙◌, sym, ap, Some}
-use Rattle.strategy_run.proofs.CallLemmas.{slice_there}
-use Rattle.strategy_run.proofs.PartsLemmas.{child_in, child_behind}
-use Rattle.strategy_run.proofs.ResultLemmas.{ok_map}
+use Rattle.strategy_frames.proofs.CallLemmas.{slice_there}
+use Rattle.strategy_frames.proofs.PartsLemmas.{child_in, child_behind}
+use Rattle.strategy_frames.proofs.ResultLemmas.{ok_map}
 use Rattle.strategy_run.proofs.children.child_now.Goals as goal
 
 pub returns-then-i-parts : goal.returns-then-i-parts

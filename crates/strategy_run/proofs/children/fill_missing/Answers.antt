@@ -1,6 +1,6 @@
 use Rattle.std.proofs.Common.{◌∙◌, ap, sym, arith, slice_get}
 use Rattle.term_changes.specs.Standing.{standing_children}
-use Rattle.strategy_run.proofs.PartsLemmas.{filling_none, filling_more, filled_all, filled}
+use Rattle.strategy_frames.proofs.PartsLemmas.{filling_none, filling_more, filled_all, filled}
 use Rattle.strategy_run.proofs.children.fill_missing.Goals as goal
 
 pub fill-init : goal.fill-init

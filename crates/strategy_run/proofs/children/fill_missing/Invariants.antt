@@ -1,6 +1,6 @@
 use Rattle.std.proofs.Common.{◌-◌, vec_len}
 use Rattle.term_changes.specs.Standing.{standing_children}
-use Rattle.strategy_run.proofs.PartsLemmas.{Filling}
+use Rattle.strategy_frames.proofs.PartsLemmas.{Filling}
 use Rattle.strategy_run.proofs.children.fill_missing.Given as goal
 
 -- what was kept, and more of the children

@@ -1,7 +1,7 @@
 use Rattle.std.proofs.Common.{◌∙◌, ap, subst, ◌==◌, Vec, Global}
 use Rattle.term_changes.specs.Standing.{Standing, standing_children}
-use Rattle.strategy_run.specs.Leading.{Fills}
-use Rattle.strategy_run.proofs.PartsLemmas.{finished_parts, finished_can_hold, finished_is, unfinished_is}
+use Rattle.strategy_frames.specs.Leading.{Fills}
+use Rattle.strategy_frames.proofs.PartsLemmas.{finished_parts, finished_can_hold, finished_is, unfinished_is}
 use Rattle.strategy_run.proofs.children.finish.Goals as goal
 
 pub with_parts-requires : goal.with_parts-requires

@@ -1,15 +1,15 @@
-use Rattle.strategy_run.proofs.ResultLemmas.{ok_map}
+use Rattle.strategy_frames.proofs.ResultLemmas.{ok_map}
 use Rattle.std.proofs.Common.{refl, sym, ap, ◌∙◌, ◌-◌, ◌+◌, reverse}
-use Rattle.strategy_run.proofs.ChildLemmas.{below_as, each_begins, each_over, each_fails}
-use Rattle.strategy_run.proofs.TakeLemmas.{with_frames}
-use Rattle.strategy_run.specs.Turns.{state_of}
-use Rattle.strategy_run.proofs.OpenLemmas.{pushed}
-use Rattle.strategy_run.proofs.GiveLemmas.{st}
+use Rattle.strategy_frames.proofs.ChildLemmas.{below_as, each_begins, each_over, each_fails}
+use Rattle.strategy_frames.proofs.TakeLemmas.{with_frames}
+use Rattle.strategy_frames.specs.Turns.{state_of}
+use Rattle.strategy_frames.proofs.OpenLemmas.{pushed}
+use Rattle.strategy_frames.proofs.GiveLemmas.{st}
 use Rattle.strategy_scopes.specs.Table.{scopes}
-use Rattle.strategy_run.specs.Leading.{parts_now, all_parts, node_with}
+use Rattle.strategy_frames.specs.Leading.{parts_now, all_parts, node_with}
 use Rattle.std.specs.Prelude.{slice_get}
-use Rattle.strategy_run.specs.Hands.{Begin}
-use Rattle.strategy_run.specs.declared.frames.Frame.TheVariants.{Each}
+use Rattle.strategy_frames.specs.Hands.{Begin}
+use Rattle.strategy_frames.specs.declared.frames.Frame.TheVariants.{Each}
 use Rattle.strategy_run.proofs.children.go_on.Goals as goal
 
 pub returns-in_default-clause-ok : goal.returns-in_default-clause-ok

@@ -1,15 +1,15 @@
 use Rattle.std.proofs.Common.{sym, ap, ◌∙◌, ◌+◌, reverse}
-use Rattle.strategy_run.proofs.ChildLemmas.{below_as, those_begin, those_over, those_none}
-use Rattle.strategy_run.proofs.TakeLemmas.{with_frames}
-use Rattle.strategy_run.specs.Turns.{state_of}
-use Rattle.strategy_run.proofs.OpenLemmas.{pushed}
-use Rattle.strategy_run.proofs.GiveLemmas.{st}
+use Rattle.strategy_frames.proofs.ChildLemmas.{below_as, those_begin, those_over, those_none}
+use Rattle.strategy_frames.proofs.TakeLemmas.{with_frames}
+use Rattle.strategy_frames.specs.Turns.{state_of}
+use Rattle.strategy_frames.proofs.OpenLemmas.{pushed}
+use Rattle.strategy_frames.proofs.GiveLemmas.{st}
 use Rattle.strategy_scopes.specs.Table.{scopes}
 use Rattle.term_match.specs.Marks.{kept, mark_of}
-use Rattle.strategy_run.specs.Hands.{Begin}
-use Rattle.strategy_run.specs.Leading.{parts_now, all_parts}
+use Rattle.strategy_frames.specs.Hands.{Begin}
+use Rattle.strategy_frames.specs.Leading.{parts_now, all_parts}
 use Rattle.std.specs.Prelude.{slice_get}
-use Rattle.strategy_run.specs.declared.frames.Frame.TheVariants.{Those}
+use Rattle.strategy_frames.specs.declared.frames.Frame.TheVariants.{Those}
 use Rattle.strategy_run.proofs.children.go_over.Goals as goal
 
 pub returns-then-not-any-clause-ok : goal.returns-then-not-any-clause-ok

@@ -1,5 +1,5 @@
 use Rattle.std.proofs.Common.{◌∙◌, arith, refl}
-use Rattle.strategy_run.proofs.PartsLemmas.{settled_in, settled_next, settled_past, when_changed}
+use Rattle.strategy_frames.proofs.PartsLemmas.{settled_in, settled_next, settled_past, when_changed}
 use Rattle.strategy_run.proofs.children.settle.Goals as goal
 
 pub returns-then-i-len : goal.returns-then-i-len

@@ -1,13 +1,13 @@
 use Rattle.std.proofs.Common.{sym, ap, ◌∙◌, ◌+◌, reverse}
-use Rattle.strategy_run.proofs.ChildLemmas.{below_as, leftmost_begins, leftmost_over}
-use Rattle.strategy_run.proofs.TakeLemmas.{with_frames}
-use Rattle.strategy_run.specs.Turns.{state_of}
-use Rattle.strategy_run.proofs.OpenLemmas.{pushed}
-use Rattle.strategy_run.proofs.GiveLemmas.{st}
+use Rattle.strategy_frames.proofs.ChildLemmas.{below_as, leftmost_begins, leftmost_over}
+use Rattle.strategy_frames.proofs.TakeLemmas.{with_frames}
+use Rattle.strategy_frames.specs.Turns.{state_of}
+use Rattle.strategy_frames.proofs.OpenLemmas.{pushed}
+use Rattle.strategy_frames.proofs.GiveLemmas.{st}
 use Rattle.strategy_scopes.specs.Table.{scopes}
 use Rattle.term_match.specs.Marks.{kept, mark_of}
-use Rattle.strategy_run.specs.Hands.{Begin}
-use Rattle.strategy_run.specs.declared.frames.Frame.TheVariants.{Leftmost}
+use Rattle.strategy_frames.specs.Hands.{Begin}
+use Rattle.strategy_frames.specs.declared.frames.Frame.TheVariants.{Leftmost}
 use Rattle.strategy_run.proofs.children.try_on.Goals as goal
 
 pub returns-in_default-clause-ok : goal.returns-in_default-clause-ok

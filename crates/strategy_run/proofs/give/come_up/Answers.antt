@@ -1,5 +1,5 @@
 use Rattle.std.proofs.Common.{◌∙◌, refl, sym, cond, not, ◌==◌, slice_set}
-use Rattle.strategy_run.specs.Leading.{parts_now, all_parts}
+use Rattle.strategy_frames.specs.Leading.{parts_now, all_parts}
 use Rattle.strategy_run.proofs.give.come_up.Goals as goal
 
 pub returns : goal.returns

@@ -1,10 +1,10 @@
 use Rattle.std.proofs.Common.{◌≡◌, ◌<◌, ℕ, zero, suc, refl, sym, ◌∙◌, subst, arith, true, false, Some, None, MatchOption, vec_len}
 use Rattle.std.specs.declared.option.Option.{Option}
-use Rattle.strategy_run.specs.Hands.{Done}
-use Rattle.strategy_run.proofs.GiveLemmas.{done_whole}
-use Rattle.strategy_run.proofs.WalkLemmas.{none_waits, nil_of}
-use Rattle.strategy_run.proofs.ResultLemmas.{ok_map}
-use Rattle.strategy_run.proofs.StepLemmas.{frame_goes_on, frame_stays}
+use Rattle.strategy_frames.specs.Hands.{Done}
+use Rattle.strategy_frames.proofs.GiveLemmas.{done_whole}
+use Rattle.strategy_frames.proofs.WalkLemmas.{none_waits, nil_of}
+use Rattle.strategy_frames.proofs.ResultLemmas.{ok_map}
+use Rattle.strategy_frames.proofs.StepLemmas.{frame_goes_on, frame_stays}
 use Rattle.strategy_run.proofs.give.give_done.Goals as goal
 
 when_some : {A : Type 0} (o : Option A) (x : A) (P : Type 0) (Q : A → Type 0) → o ≡ Some x → MatchOption o P Q → Q x

@@ -1,9 +1,9 @@
 use Rattle.std.proofs.Common.{sym, subst, reverse}
-use Rattle.strategy_run.proofs.GiveLemmas.{st, give_each}
-use Rattle.strategy_run.proofs.WalkLemmas.{came_up}
+use Rattle.strategy_frames.proofs.GiveLemmas.{st, give_each}
+use Rattle.strategy_frames.proofs.WalkLemmas.{came_up}
 use Rattle.strategy_scopes.specs.Table.{scopes}
-use Rattle.strategy_run.specs.Hands.{Each}
-use Rattle.strategy_run.specs.Turns.{HoldsIn}
+use Rattle.strategy_frames.specs.Hands.{Each}
+use Rattle.strategy_frames.specs.Turns.{HoldsIn}
 use Rattle.strategy_run.proofs.give.give_each.Goals as goal
 
 pub returns-clause-ok : goal.returns-clause-ok

@@ -1,8 +1,8 @@
 use Rattle.std.proofs.Common.{refl, sym, ◌∙◌}
-use Rattle.strategy_run.proofs.GiveLemmas.{done_whole}
-use Rattle.strategy_run.proofs.WalkLemmas.{popped, none_waits, nil_of}
-use Rattle.strategy_run.proofs.ResultLemmas.{ok_map}
-use Rattle.strategy_run.specs.Hands.{Done}
+use Rattle.strategy_frames.proofs.GiveLemmas.{done_whole}
+use Rattle.strategy_frames.proofs.WalkLemmas.{popped, none_waits, nil_of}
+use Rattle.strategy_frames.proofs.ResultLemmas.{ok_map}
+use Rattle.strategy_frames.specs.Hands.{Done}
 use Rattle.strategy_run.proofs.give.give_last.Goals as goal
 
 pub returns-in-None-clause-ok : goal.returns-in-None-clause-ok

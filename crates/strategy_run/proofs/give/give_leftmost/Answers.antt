@@ -1,7 +1,7 @@
 use Rattle.std.proofs.Common.{sym, ap, ◌∙◌, subst}
-use Rattle.strategy_run.proofs.GiveLemmas.{give_leftmost, leftmost_stand}
-use Rattle.strategy_run.proofs.WalkLemmas.{came_up}
-use Rattle.strategy_run.specs.Leading.{node_with, all_parts, PartsStand}
+use Rattle.strategy_frames.proofs.GiveLemmas.{give_leftmost, leftmost_stand}
+use Rattle.strategy_frames.proofs.WalkLemmas.{came_up}
+use Rattle.strategy_frames.specs.Leading.{node_with, all_parts, PartsStand}
 use Rattle.strategy_run.proofs.give.give_leftmost.Goals as goal
 
 pub returns-clause-ok : goal.returns-clause-ok

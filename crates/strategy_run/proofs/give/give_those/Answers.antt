@@ -1,9 +1,9 @@
 use Rattle.std.proofs.Common.{sym, subst, reverse, true}
-use Rattle.strategy_run.proofs.GiveLemmas.{st, give_those}
-use Rattle.strategy_run.proofs.WalkLemmas.{came_up}
+use Rattle.strategy_frames.proofs.GiveLemmas.{st, give_those}
+use Rattle.strategy_frames.proofs.WalkLemmas.{came_up}
 use Rattle.strategy_scopes.specs.Table.{scopes}
-use Rattle.strategy_run.specs.Hands.{Those}
-use Rattle.strategy_run.specs.Turns.{HoldsIn}
+use Rattle.strategy_frames.specs.Hands.{Those}
+use Rattle.strategy_frames.specs.Turns.{HoldsIn}
 use Rattle.strategy_run.proofs.give.give_those.Goals as goal
 
 pub returns-clause-ok : goal.returns-clause-ok

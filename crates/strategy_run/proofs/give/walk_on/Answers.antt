@@ -1,12 +1,12 @@
 use Rattle.std.proofs.Common.{◌≡◌, ℕ, refl, sym, ap, subst, cond, Bool, true, false}
 use Rattle.std.specs.Prelude.{IfOk}
 use Rattle.term_changes.specs.Standing.{Standing}
-use Rattle.strategy_run.specs.Frames.{StepsOn, WalksOn}
-use Rattle.strategy_run.specs.declared.frames.Acts.{Acts}
-use Rattle.strategy_run.specs.declared.frames.Walk.{Walk}
-use Rattle.strategy_run.specs.declared.frames.Frame.{Frame}
-use Rattle.strategy_run.specs.declared.frames.Frame.TheVariants.{Each}
-use Rattle.strategy_run.proofs.ResultLemmas.{ok_map}
+use Rattle.strategy_frames.specs.Frames.{StepsOn, WalksOn}
+use Rattle.strategy_frames.specs.declared.frames.Acts.{Acts}
+use Rattle.strategy_frames.specs.declared.frames.Walk.{Walk}
+use Rattle.strategy_frames.specs.declared.frames.Frame.{Frame}
+use Rattle.strategy_frames.specs.declared.frames.Frame.TheVariants.{Each}
+use Rattle.strategy_frames.proofs.ResultLemmas.{ok_map}
 use Rattle.strategy_run.proofs.give.walk_on.Goals as goal
 
 in_frame : (acts : Acts) (n : ℕ) (w v : Walk) (p q : Standing) (edits : ℕ) (yes : Bool)

@@ -1,12 +1,12 @@
 use Rattle.std.proofs.Common.{ap, ◌∙◌, ◌∷◌, reverse}
-use Rattle.strategy_run.proofs.GiveLemmas.{give_tail}
-use Rattle.strategy_run.proofs.PartsLemmas.{rest_same}
-use Rattle.strategy_run.proofs.TakeLemmas.{with_frames}
-use Rattle.strategy_run.proofs.OpenLemmas.{pushed}
-use Rattle.strategy_run.specs.Turns.{state_of}
+use Rattle.strategy_frames.proofs.GiveLemmas.{give_tail}
+use Rattle.strategy_frames.proofs.PartsLemmas.{rest_same}
+use Rattle.strategy_frames.proofs.TakeLemmas.{with_frames}
+use Rattle.strategy_frames.proofs.OpenLemmas.{pushed}
+use Rattle.strategy_frames.specs.Turns.{state_of}
 use Rattle.term_changes.specs.Standing.{fresh}
 use Rattle.strategy_meaning.specs.Meaning.{rest_of}
-use Rattle.strategy_run.specs.declared.frames.Frame.TheVariants.{Rest}
+use Rattle.strategy_frames.specs.declared.frames.Frame.TheVariants.{Rest}
 use Rattle.strategy_run.proofs.lists.begin_tail.Goals as goal
 
 pub returns-clause-ok : goal.returns-clause-ok

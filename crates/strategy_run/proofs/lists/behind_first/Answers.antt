@@ -1,6 +1,6 @@
 use Rattle.std.proofs.Common.{sym, ◌∙◌, ◌++◌}
-use Rattle.strategy_run.proofs.FirstLemmas.{first_in_front}
-use Rattle.strategy_run.proofs.ResultLemmas.{ok_map}
+use Rattle.strategy_frames.proofs.FirstLemmas.{first_in_front}
+use Rattle.strategy_frames.proofs.ResultLemmas.{ok_map}
 use Rattle.term_changes.specs.Standing.{standing_tree}
 use Rattle.term_core.specs.Tree.{children, with_children}
 use Rattle.strategy_run.proofs.lists.behind_first.Goals as goal

@@ -1,11 +1,11 @@
 use Rattle.std.proofs.Common.{refl, sym, ap, subst, ◌∙◌, ◌-◌, List, reverse}
-use Rattle.strategy_run.proofs.ResultLemmas.{ok_map}
-use Rattle.strategy_run.proofs.TakeLemmas.{with_frames}
-use Rattle.strategy_run.proofs.WalkLemmas.{tail_taken}
-use Rattle.strategy_run.specs.Hands.{Done}
-use Rattle.strategy_run.specs.Leading.{node_with}
-use Rattle.strategy_run.specs.Turns.{HoldsIn, Waits, state_of}
-use Rattle.strategy_run.specs.declared.frames.Frame.{Frame}
+use Rattle.strategy_frames.proofs.ResultLemmas.{ok_map}
+use Rattle.strategy_frames.proofs.TakeLemmas.{with_frames}
+use Rattle.strategy_frames.proofs.WalkLemmas.{tail_taken}
+use Rattle.strategy_frames.specs.Hands.{Done}
+use Rattle.strategy_frames.specs.Leading.{node_with}
+use Rattle.strategy_frames.specs.Turns.{HoldsIn, Waits, state_of}
+use Rattle.strategy_frames.specs.declared.frames.Frame.{Frame}
 use Rattle.strategy_run.proofs.lists.end_each.Goals as goal
 
 pub returns-then-len-count-clause-ok : goal.returns-then-len-count-clause-ok

@@ -1,10 +1,10 @@
 use Rattle.std.proofs.Common.{◌≡◌, sym, ap, ◌∙◌, ◌++◌, Some, None, Bool, cond, map, subst, take}
-use Rattle.strategy_run.proofs.FirstLemmas.{give_behind, behind_fails, behind_stands, behind_list}
-use Rattle.strategy_run.proofs.PartsLemmas.{rest_put}
-use Rattle.strategy_run.specs.Leading.{parts_now, all_parts}
-use Rattle.strategy_run.specs.Frames.{first_part}
+use Rattle.strategy_frames.proofs.FirstLemmas.{give_behind, behind_fails, behind_stands, behind_list}
+use Rattle.strategy_frames.proofs.PartsLemmas.{rest_put}
+use Rattle.strategy_frames.specs.Leading.{parts_now, all_parts}
+use Rattle.strategy_frames.specs.Frames.{first_part}
 use Rattle.term_changes.specs.Standing.{Standing, standing_tree}
-use Rattle.strategy_run.proofs.WalkLemmas.{was_put}
+use Rattle.strategy_frames.proofs.WalkLemmas.{was_put}
 use Rattle.strategy_meaning.specs.Matching.{elements}
 use Rattle.term_core.specs.Tree.{children, with_children}
 use Rattle.strategy_run.proofs.lists.give_behind.Goals as goal

@@ -1,8 +1,8 @@
 use Rattle.std.proofs.Common.{ap, ◌∙◌, reverse, Some, None, cond, not, ◌==◌}
-use Rattle.strategy_run.proofs.FirstLemmas.{give_head}
-use Rattle.strategy_run.proofs.TakeLemmas.{with_frames}
-use Rattle.strategy_run.proofs.OpenLemmas.{pushed}
-use Rattle.strategy_run.proofs.GiveLemmas.{st}
+use Rattle.strategy_frames.proofs.FirstLemmas.{give_head}
+use Rattle.strategy_frames.proofs.TakeLemmas.{with_frames}
+use Rattle.strategy_frames.proofs.OpenLemmas.{pushed}
+use Rattle.strategy_frames.proofs.GiveLemmas.{st}
 use Rattle.strategy_scopes.specs.Table.{scopes}
 use Rattle.term_changes.specs.Standing.{fresh}
 use Rattle.strategy_run.proofs.lists.give_head.Goals as goal

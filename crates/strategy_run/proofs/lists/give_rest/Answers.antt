@@ -1,11 +1,11 @@
 use Rattle.std.proofs.Common.{◌≡◌, ℕ, ap, subst, ◌∙◌, ◌++◌, List, map, take, Some, None}
 use Rattle.std.specs.Prelude.{MatchOption}
 use Rattle.std.specs.declared.option.Option.{Option}
-use Rattle.strategy_run.proofs.GiveLemmas.{give_rest, rest_fails, rest_stands}
-use Rattle.strategy_run.proofs.PartsLemmas.{rest_put}
-use Rattle.strategy_run.specs.Leading.{parts_now, all_parts}
+use Rattle.strategy_frames.proofs.GiveLemmas.{give_rest, rest_fails, rest_stands}
+use Rattle.strategy_frames.proofs.PartsLemmas.{rest_put}
+use Rattle.strategy_frames.specs.Leading.{parts_now, all_parts}
 use Rattle.term_changes.specs.Standing.{Standing, standing_tree}
-use Rattle.strategy_run.proofs.WalkLemmas.{was_put}
+use Rattle.strategy_frames.proofs.WalkLemmas.{was_put}
 use Rattle.strategy_meaning.specs.Matching.{elements}
 use Rattle.term_core.specs.Tree.{Tree, children, with_children}
 use Rattle.strategy_run.proofs.lists.give_rest.Goals as goal

@@ -1,12 +1,12 @@
 use Rattle.std.proofs.Common.{List, length, sym, ap, subst, arith}
-use Rattle.strategy_run.proofs.GiveLemmas.{in_hand_has}
-use Rattle.strategy_run.specs.Turns.{HoldsIn, under}
-use Rattle.strategy_run.specs.Hands.{Done}
+use Rattle.strategy_frames.proofs.GiveLemmas.{in_hand_has}
+use Rattle.strategy_frames.specs.Turns.{HoldsIn, under}
+use Rattle.strategy_frames.specs.Hands.{Done}
 use Rattle.term_changes.specs.Standing.{Standing}
-use Rattle.strategy_run.specs.Leading.{PartsStand, all_parts, node_with}
-use Rattle.strategy_run.specs.declared.frames.Frame.TheVariants.{Tail}
-use Rattle.strategy_run.proofs.NodeLeads.{none_stand}
-use Rattle.strategy_run.proofs.ResultLemmas.{ok_map}
+use Rattle.strategy_frames.specs.Leading.{PartsStand, all_parts, node_with}
+use Rattle.strategy_frames.specs.declared.frames.Frame.TheVariants.{Tail}
+use Rattle.strategy_frames.proofs.NodeLeads.{none_stand}
+use Rattle.strategy_frames.proofs.ResultLemmas.{ok_map}
 use Rattle.strategy_run.proofs.lists.give_tail.Goals as goal
 
 pub returns-clause-ok : goal.returns-clause-ok

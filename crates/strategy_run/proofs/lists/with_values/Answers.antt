@@ -1,5 +1,5 @@
 use Rattle.std.proofs.Common.{ap, ◌∙◌, ◌++◌, Some, None, Bool, cond, map, take}
-use Rattle.strategy_run.specs.Leading.{parts_now, all_parts}
+use Rattle.strategy_frames.specs.Leading.{parts_now, all_parts}
 use Rattle.term_changes.specs.Standing.{standing_tree}
 use Rattle.term_core.specs.Tree.{children, with_children}
 use Rattle.strategy_run.proofs.lists.with_values.Goals as goal

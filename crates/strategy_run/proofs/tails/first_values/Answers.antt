@@ -2,8 +2,8 @@ use Rattle.std.proofs.Common.{sym, ap, ◌∙◌, ◌∷◌, [], ◌++◌, map}
 use Rattle.std.specs.Prelude.{option_map}
 use Rattle.std.proofs.lemmas.Option.{slice_get-map}
 use Rattle.term_changes.specs.Standing.{standing_tree}
-use Rattle.strategy_run.specs.Leading.{parts_now, all_parts}
-use Rattle.strategy_run.proofs.TailLemmas.{first_more, first_all, first_over}
+use Rattle.strategy_frames.specs.Leading.{parts_now, all_parts}
+use Rattle.strategy_frames.proofs.TailLemmas.{first_more, first_all, first_over}
 use Rattle.strategy_run.proofs.tails.first_values.Goals as goal
 
 pub each-init : goal.each-init

@@ -1,6 +1,6 @@
 use Rattle.std.proofs.Common.{◌≡◌, map, take}
 use Rattle.term_changes.specs.Standing.{standing_tree}
-use Rattle.strategy_run.specs.Leading.{parts_now, all_parts}
+use Rattle.strategy_frames.specs.Leading.{parts_now, all_parts}
 use Rattle.strategy_run.proofs.tails.first_values.Given as goal
 
 abbrev pub invariant-each : goal.invariant-each

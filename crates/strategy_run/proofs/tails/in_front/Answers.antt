@@ -1,7 +1,7 @@
 use Rattle.std.proofs.Common.{sym, ◌∙◌, ◌∷◌}
-use Rattle.strategy_run.proofs.TailLemmas.{relisted, relisted_bare}
-use Rattle.strategy_run.proofs.WalkLemmas.{nil_of}
-use Rattle.strategy_run.proofs.ResultLemmas.{ok_map}
+use Rattle.strategy_frames.proofs.TailLemmas.{relisted, relisted_bare}
+use Rattle.strategy_frames.proofs.WalkLemmas.{nil_of}
+use Rattle.strategy_frames.proofs.ResultLemmas.{ok_map}
 use Rattle.term_changes.specs.Standing.{standing_tree}
 use Rattle.term_core.specs.Tree.{children, annotations, with_annotations, list_term}
 use Rattle.strategy_run.proofs.tails.in_front.Goals as goal

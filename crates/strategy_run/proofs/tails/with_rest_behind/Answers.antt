@@ -1,6 +1,6 @@
 use Rattle.std.proofs.Common.{ap, ◌∙◌, ◌++◌, Some, None, Bool, cond}
-use Rattle.strategy_run.proofs.TailLemmas.{relisted}
-use Rattle.strategy_run.proofs.ResultLemmas.{ok_map}
+use Rattle.strategy_frames.proofs.TailLemmas.{relisted}
+use Rattle.strategy_frames.proofs.ResultLemmas.{ok_map}
 use Rattle.term_core.specs.Tree.{children, annotations, with_annotations, with_children}
 use Rattle.strategy_run.proofs.tails.with_rest_behind.Goals as goal
 

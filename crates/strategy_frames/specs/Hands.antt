@@ -1,0 +1,35 @@
+-- What is in hand, with what comes next for it.
+use Rattle.std.specs.Prelude.{ℕ, Bool, Vec}
+use Rattle.std.specs.Borrow.{Bor}
+use Rattle.std.specs.Global.{Global}
+use Rattle.term_changes.specs.Standing.{Standing}
+use Rattle.strategy_syntax.specs.Resolved.{ResolvedStrategy}
+use Rattle.strategy_frames.specs.declared.frames.Acts.{Acts}
+use Rattle.strategy_frames.specs.declared.frames.Next.{Next}
+use Rattle.strategy_frames.specs.declared.frames.Next.TheVariants as nexts
+use Rattle.strategy_frames.specs.declared.machine.Machine.{Machine}
+
+pub data Hand : Type 0 where
+  -- a strategy in a scope is to be evaluated on it
+  Begin : Bor ResolvedStrategy → ℕ → Standing → Hand
+  -- a strategy has given it
+  Done : Standing → Hand
+  -- a strategy has failed
+  Failed : Hand
+  -- strategies for its children from one on, with what stands in their places
+  Each : Acts → ℕ → Standing → ℕ → Vec Standing Global → Hand
+  -- a strategy for the leftmost of its children from one on where it gives a term
+  Leftmost : Bor ResolvedStrategy → ℕ → Standing → ℕ → Hand
+  -- a strategy for those of its children from one on where it gives a term, and whether it has given one
+  Those : Bor ResolvedStrategy → ℕ → Standing → ℕ → Bool → Vec Standing Global → Hand
+
+abbrev pub hand_of : Next → Standing → Vec Standing Global → Hand
+hand_of (nexts.Begin s n) p parts = Begin s n p
+hand_of nexts.Done p parts = Done p
+hand_of nexts.Failed p parts = Failed
+hand_of (nexts.Each acts n i) p parts = Each acts n p i parts
+hand_of (nexts.Leftmost s n i) p parts = Leftmost s n p i
+hand_of (nexts.Those s n i any) p parts = Those s n p i any parts
+
+abbrev pub in_hand : Machine → Hand
+in_hand m = hand_of m.next m.part m.parts

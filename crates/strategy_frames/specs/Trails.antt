@@ -1,0 +1,49 @@
+-- The edits of a run, and the place that is in hand.
+use Rattle.std.specs.Prelude.{◌≡◌, ℕ, List, [], ◌∷◌, ◌++◌, length, Some, None, ⊤, Vec}
+use Rattle.std.specs.Global.{Global}
+use Rattle.std.specs.declared.option.Option.{Option}
+use Rattle.term_paths.specs.Edits.{Edit, Edits}
+use Rattle.strategy_frames.specs.declared.frames.Frame.{Frame}
+use Rattle.strategy_frames.specs.declared.frames.Frame.TheVariants.{Then, Choose, Restore, Each, Leftmost, Those, Tail, Rest, Head, Behind, Leave, Cut}
+use Rattle.strategy_frames.specs.declared.trail.Trail.{Trail}
+
+-- the path through frames, the innermost of which comes first
+abbrev pub path_of : List Frame → List ℕ
+path_of [] = []
+path_of (Then s n ∷ fs) = path_of fs
+path_of (Choose s r n p k m ∷ fs) = path_of fs
+path_of (Restore p k ∷ fs) = path_of fs
+path_of (Each acts n w ∷ fs) = path_of fs ++ w.index ∷ []
+path_of (Leftmost s n w m ∷ fs) = path_of fs ++ w.index ∷ []
+path_of (Those s n w m any ∷ fs) = path_of fs ++ w.index ∷ []
+path_of (Tail s n k ∷ fs) = path_of fs
+path_of (Rest p ps n k ∷ fs) = path_of fs
+path_of (Head s n w ∷ fs) = path_of fs ++ w.index ∷ []
+path_of (Behind p first k ∷ fs) = path_of fs
+path_of (Leave n ∷ fs) = path_of fs
+path_of (Cut n k ∷ fs) = path_of fs
+
+-- the child that a frame has in hand
+abbrev pub step_of : Frame → List ℕ
+step_of (Then s n) = []
+step_of (Choose s r n p k m) = []
+step_of (Restore p k) = []
+step_of (Each acts n w) = w.index ∷ []
+step_of (Leftmost s n w m) = w.index ∷ []
+step_of (Those s n w m any) = w.index ∷ []
+step_of (Tail s n k) = []
+step_of (Rest p ps n k) = []
+step_of (Head s n w) = w.index ∷ []
+step_of (Behind p first k) = []
+step_of (Leave n) = []
+step_of (Cut n k) = []
+
+-- where edits are kept, they are these
+abbrev pub Keeps : Option (Vec Edit Global) → Edits → Type 0
+Keeps None T = ⊤
+Keeps (Some made) T = made.items ≡ T
+
+-- the edits so far are these
+pub record Shows (t : Trail) (T : Edits) : Type 0 where
+  pub count : t.count ≡ length T
+  pub made : Keeps t.made T

@@ -1,0 +1,205 @@
+-- What a turn of the machine keeps, and that a run ends.
+use Rattle.std.specs.Prelude.{◌≡◌, ◌<◌, ℕ, ◌+◌, ◌-◌, ◌*◌, ◌==◌, not, cond, List, [], ◌∷◌, ◌++◌, length, reverse, slice_set, vec_len, Vec}
+use Rattle.std.specs.Borrow.{Bor}
+use Rattle.std.specs.Global.{Global}
+use Rattle.std.specs.declared.option.Option.{Option}
+use Rattle.term_core.specs.Tree.{Tree, children}
+use Rattle.term_paths.specs.Edits.{Edits}
+use Rattle.term_changes.specs.Standing.{Standing, fresh, standing_tree}
+use Rattle.prim_core.specs.Signature.{Signature}
+use Rattle.strategy_syntax.specs.Resolved.{ResolvedStrategy}
+use Rattle.strategy_syntax.specs.declared.resolved.Resolved.{Resolved}
+use Rattle.strategy_meaning.specs.Scopes.{Scope}
+use Rattle.strategy_meaning.specs.Matching.{Bindings}
+use Rattle.strategy_meaning.specs.Answer.{Answer, done, failed, stopped, spent, big}
+use Rattle.strategy_meaning.specs.Meaning.{World, run, form, each, leftmost, those_done}
+use Rattle.strategy_scopes.specs.Table.{scopes, scope_at}
+use Rattle.term_match.specs.Contents.{Contents}
+use Rattle.term_match.specs.Marks.{mark_of}
+use Rattle.strategy_frames.specs.Leading.{Leads, Has, parts_now, all_parts, node_with, PartsStand}
+use Rattle.strategy_frames.specs.Trails.{Shows, path_of}
+use Rattle.strategy_frames.specs.Frames.{Meets, Opens, acts_list, walk_parts}
+use Rattle.strategy_frames.specs.declared.trail.Trail.{Trail}
+use Rattle.strategy_frames.specs.declared.frames.Walk.{Walk}
+use Rattle.strategy_frames.specs.declared.frames.Frame.{Frame}
+use Rattle.strategy_frames.specs.declared.frames.Frame.TheVariants.{Tail}
+use Rattle.strategy_frames.specs.Hands.{Hand, Begin, Done, Failed, Each, Leftmost, Those, in_hand}
+use Rattle.strategy_frames.specs.declared.frames.Turned.{Turned}
+use Rattle.strategy_frames.specs.declared.frames.Turned.TheVariants as turns
+use Rattle.strategy_frames.specs.declared.machine.Machine.{Machine}
+
+-- What a turn works on, with the frames innermost first.
+pub record State : Type 0 where
+  pub cells : Contents
+  pub scopes : List Scope
+  pub trail : Trail
+  pub level : ℕ
+  pub frames : List Frame
+  pub steps : ℕ
+
+abbrev pub state_of : Machine → State
+state_of m = record {
+  cells = m.cells;
+  scopes = scopes m.scopes;
+  trail = m.trail;
+  level = m.level;
+  frames = reverse m.frames.items;
+  steps = m.steps;
+}
+
+-- what is to come of what is in hand
+abbrev pub coming : World → State → Hand → Answer
+coming W S (Begin s n p) = run W (scope_at S.scopes n) S.level s.now S.steps S.cells.bindings (standing_tree p)
+coming W S (Done p) = done (standing_tree p) S.cells.bindings S.steps []
+coming W S Failed = failed S.steps
+coming W S (Each acts n p i parts) =
+    each (run W (scope_at S.scopes n) (S.level + 1)) (acts_list acts (length (children (standing_tree p)) - i)) i
+    S.steps S.cells.bindings (standing_tree (node_with p parts.items))
+coming W S (Leftmost s n p i) =
+    leftmost (run W (scope_at S.scopes n) (S.level + 1) s.now) (length (children (standing_tree p)) - i) i
+    S.steps S.cells.bindings (standing_tree p)
+coming W S (Those s n p i any parts) =
+    those_done (run W (scope_at S.scopes n) (S.level + 1) s.now) (length (children (standing_tree p)) - i) any i
+    S.steps S.cells.bindings (standing_tree (node_with p parts.items))
+
+-- p is what is in hand, and its scope is there
+abbrev pub IsInHand : State → Standing → Hand → Type 0
+IsInHand S p (Begin s n q) = (n < length S.scopes) × (p ≡ q)
+IsInHand S p (Done q) = p ≡ q
+IsInHand S p Failed = Unit {0}
+IsInHand S p (Each acts n q i parts) = (n < length S.scopes) × Has q × PartsStand q (all_parts q parts.items) × (p ≡ node_with q parts.items)
+IsInHand S p (Leftmost s n q i) = (n < length S.scopes) × Has q × (p ≡ q)
+IsInHand S p (Those s n q i any parts) = (n < length S.scopes) × Has q × PartsStand q (all_parts q parts.items) × (p ≡ node_with q parts.items)
+
+-- The answer of what is in hand, taken through the frames, is the whole answer.
+pub record HoldsIn (W : World) (sub : Standing) (whole : Answer) (S : State) (hand : Hand) : Type 0 where
+  pub now : Standing
+  pub edits : Edits
+  pub shows : Shows S.trail edits
+  pub in_hand : IsInHand S now hand
+  pub opens : Opens (Meets W sub whole S.cells (mark_of S.cells) S.scopes S.level S.frames) (path_of S.frames) now edits
+      (coming W S hand)
+
+abbrev pub Holds : World → Standing → Answer → Machine → Hand → Type 0
+Holds W sub whole m hand = HoldsIn W sub whole (state_of m) hand
+
+-- The run is done with p.
+pub record IsDone (sub : Standing) (whole : Answer) (S : State) (p : Standing) : Type 0 where
+  pub edits : Edits
+  pub leads : Leads sub edits p
+  pub shows : Shows S.trail edits
+  pub bindings : Bindings
+  pub is : whole ≡ done (standing_tree p) bindings S.steps edits
+
+abbrev pub After : World → Standing → Answer → Machine → Turned → Type 0
+After W sub whole m turns.On = Holds W sub whole m (in_hand m)
+After W sub whole m turns.Done = IsDone sub whole (state_of m) m.part
+After W sub whole m turns.Failed = whole ≡ failed m.steps
+After W sub whole m turns.Spent = whole ≡ stopped spent
+After W sub whole m turns.Big = whole ≡ stopped big
+
+-- A turn keeps the whole answer.
+pub record Turn (W : World) (m : Machine) (hand : Hand) (new : Machine) (next : Turned) : Type 0 where
+  pub keeps : (sub : Standing) (whole : Answer) → Holds W sub whole m hand → After W sub whole new next
+
+-- what the numbers in the strategies of a run stand for
+abbrev pub world_of : (List ℕ → List Tree → Option Tree) → List Resolved → List Signature → World
+world_of meaning definitions primitives =
+    record { bodies = definitions; primitives = primitives; meaning = meaning }
+
+-- ---- that a run ends
+
+abbrev pub weight : Hand → ℕ
+weight (Begin s n p) = 0
+weight (Done p) = 2
+weight Failed = 2
+weight (Each acts n p i parts) = 3
+weight (Leftmost s n p i) = 3
+weight (Those s n p i any parts) = 3
+
+-- what is left to do at most
+abbrev pub load : Machine → Hand → ℕ
+load m hand = 7 * m.steps + 2 * vec_len m.frames + weight hand
+
+abbrev pub Falls : Machine → Hand → Machine → Turned → Type 0
+Falls m hand new turns.On = load new (in_hand new) < load m hand
+Falls m hand new turns.Done = Unit {0}
+Falls m hand new turns.Failed = Unit {0}
+Falls m hand new turns.Spent = Unit {0}
+Falls m hand new turns.Big = Unit {0}
+
+-- ---- a form, when its step is paid
+
+-- The answer that the line of the form in the table gives, taken through the frames, is the whole answer.
+pub record FormIn (W : World) (sub : Standing) (whole : Answer) (S : State) (r : ResolvedStrategy) (n : ℕ) (p : Standing) : Type 0 where
+  pub edits : Edits
+  pub shows : Shows S.trail edits
+  pub there : n < length S.scopes
+  pub opens : Opens (Meets W sub whole S.cells (mark_of S.cells) S.scopes S.level S.frames) (path_of S.frames) p edits
+      (form W (run W) (scope_at S.scopes n) S.level r S.steps S.cells.bindings (standing_tree p))
+
+-- A turn that goes on with the form keeps it.
+pub record Takes (W : World) (m : Machine) (r : ResolvedStrategy) (n : ℕ) (p : Standing) (new : Machine) (next : Turned) : Type 0 where
+  pub keeps : (sub : Standing) (whole : Answer) → FormIn W sub whole (state_of m) r n p → After W sub whole new next
+
+abbrev pub TakeFalls : Machine → Machine → Turned → Type 0
+TakeFalls m new turns.On = load new (in_hand new) < 7 * (m.steps + 1) + 2 * vec_len m.frames
+TakeFalls m new turns.Done = Unit {0}
+TakeFalls m new turns.Failed = Unit {0}
+TakeFalls m new turns.Spent = Unit {0}
+TakeFalls m new turns.Big = Unit {0}
+
+-- A value was put in the place in hand: one edit more.
+pub record Replaced (m : Machine) (u : Tree) (new : Machine) (p : Standing) : Type 0 where
+  pub part : p ≡ fresh u
+  pub shows : (T : Edits) → Shows m.trail T
+      → Shows new.trail (T ++ record { path = path_of (reverse m.frames.items); new = u } ∷ [])
+  pub rest : (new.frames ≡ m.frames) × (new.cells ≡ m.cells) × (new.scopes ≡ m.scopes) × (new.level ≡ m.level) × (new.steps ≡ m.steps)
+
+-- ---- an answer, given to a frame that was taken off
+
+abbrev pub under : Frame → Machine → State
+under f m = record {
+  cells = m.cells;
+  scopes = scopes m.scopes;
+  trail = m.trail;
+  level = m.level;
+  frames = f ∷ reverse m.frames.items;
+  steps = m.steps;
+}
+
+-- Going on from there keeps the whole answer.
+pub record Gives (W : World) (f : Frame) (m : Machine) (hand : Hand) (new : Machine) (next : Turned) : Type 0 where
+  pub keeps : (sub : Standing) (whole : Answer) → HoldsIn W sub whole (under f m) hand → After W sub whole new next
+
+-- There is such a run.
+abbrev pub IsOfRun : Frame → Machine → Hand → Type 0
+IsOfRun f m hand = (W : World) × (sub : Standing) × (whole : Answer) × HoldsIn W sub whole (under f m) hand
+
+abbrev pub GiveFalls : Machine → Machine → Turned → Type 0
+GiveFalls m new turns.On = load new (in_hand new) < 7 * m.steps + 2 * vec_len m.frames + 4
+GiveFalls m new turns.Done = Unit {0}
+GiveFalls m new turns.Failed = Unit {0}
+GiveFalls m new turns.Spent = Unit {0}
+GiveFalls m new turns.Big = Unit {0}
+
+-- what waits for the first elements of a list
+abbrev pub Waits : List Frame → Bor ResolvedStrategy → ℕ → ℕ → Type 0
+Waits [] s n k = ⊥
+Waits (Tail t m j ∷ fs) s n k = (t ≡ s) × (m ≡ n) × (j ≡ k)
+Waits (f ∷ fs) s n k = ⊥
+
+-- less is left to do than where a child was to come
+abbrev pub EndFalls : Machine → Machine → Turned → Type 0
+EndFalls m new turns.On = load new (in_hand new) < 7 * m.steps + 2 * vec_len m.frames + 3
+EndFalls m new turns.Done = Unit {0}
+EndFalls m new turns.Failed = Unit {0}
+EndFalls m new turns.Spent = Unit {0}
+EndFalls m new turns.Big = Unit {0}
+
+-- The child in hand is done with p: where no edit was made since it began, nothing has changed.
+pub record ComesUp (m : Machine) (w : Walk) (p : Standing) (new : Machine) (up : Standing × Vec Standing Global) : Type 0 where
+  pub node : up.0 ≡ w.node
+  pub parts : all_parts w.node up.1.items ≡ cond (not (m.trail.count == w.edits)) (slice_set (parts_now w.node (walk_parts w)) w.index p) (walk_parts w)
+  pub level : new.level ≡ w.level
+  pub rest : (new.frames ≡ m.frames) × (new.cells ≡ m.cells) × (new.scopes ≡ m.scopes) × (new.trail ≡ m.trail) × (new.steps ≡ m.steps)

@@ -1,0 +1,144 @@
+//! Congruences, and the selection of a child.
+
+ghost use Rattle.std.specs.Prelude.{◌≡◌, ◌<◌, length, true, IfOk};
+ghost use Rattle.term_core.specs.Tree.{children};
+ghost use Rattle.strategy_syntax.specs.Heads.{head_of};
+ghost use Rattle.strategy_meaning.specs.Matching.{elements};
+ghost use Rattle.strategy_meaning.specs.Meaning.{is_over as is_headed_over, is_list_from as has_elements};
+ghost use Rattle.strategy_meaning.specs.Meaning.{World};
+ghost use Rattle.strategy_syntax.specs.Resolved.{congruence, tail_congruence, child, no_strategies, and_strategy, resolveds_of};
+ghost use Rattle.term_changes.specs.Standing.{standing_tree};
+ghost use Rattle.strategy_frames.specs.Turns.{Takes, TakeFalls};
+
+use crate::frames::{Acts, Frame, Next, Turned, Walk, wait};
+use crate::machine::Machine;
+use std::alloc::Global;
+use std::mem;
+use strategy_syntax::{Head, ResolvedStrategy};
+use term_core::{Kind, NoMemory};
+use term_values::Part;
+
+/// Whether it is this head over so many children.
+pub(crate) fn is_over(head: &Head, count: usize, part: &Part<'_>) -> bool
+    ensures { result ≡ is_headed_over (head_of head.now) count (standing_tree part.now) }
+{
+    head.is_head_of(part.kind()) && part.child_count() == count
+}
+
+/// Whether it is a list of at least so many elements.
+pub(crate) fn is_list_from(count: usize, part: &Part<'_>) -> bool
+    ensures { result ≡ has_elements count (elements (standing_tree part.now)) }
+{
+    match part.kind() {
+        Kind::List => count <= part.child_count(),
+        _ => false,
+    }
+}
+
+/// A strategy for each child, where the head is over so many.
+pub fn take_congruence<'t>(
+    alloc: Global,
+    m: &mut Machine<'t>,
+    head: &Head,
+    strategies: &'t [ResolvedStrategy],
+    scope: usize,
+) -> Result<Turned, NoMemory>
+    ensures ok { (W : World) → IfOk result (λ next. Takes W m.old (congruence (head_of head.now) (resolveds_of strategies.entry.now)) scope m.old.part m.new next) }
+    ensures less { IfOk result (λ next. TakeFalls m.old m.new next) }
+{
+    if !is_over(head, strategies.len(), &m.part) {
+        m.next = Next::Failed;
+        return Ok(Turned::On);
+    }
+    m.parts = Vec::new(alloc);
+    m.next = Next::Each(Acts::List(strategies), scope, 0);
+    Ok(Turned::On)
+}
+
+/// A strategy for each of the first elements of a list, and one for the list of the others.
+pub fn take_tail<'t>(
+    alloc: Global,
+    m: &mut Machine<'t>,
+    strategies: &'t [ResolvedStrategy],
+    tail: &'t ResolvedStrategy,
+    scope: usize,
+) -> Result<Turned, NoMemory>
+    ensures ok { (W : World) → IfOk result (λ next. Takes W m.old (tail_congruence (resolveds_of strategies.entry.now) tail.entry.now) scope m.old.part m.new next) }
+    ensures less { IfOk result (λ next. TakeFalls m.old m.new next) }
+{
+    let count = strategies.len();
+    if !is_list_from(count, &m.part) {
+        m.next = Next::Failed;
+        return Ok(Turned::On);
+    }
+    if count == 1 {
+        return take_head(alloc, m, &strategies[0], tail, scope);
+    }
+    wait(&mut m.frames, Frame::Tail(tail, scope, count))?;
+    m.parts = Vec::new(alloc);
+    m.next = Next::Each(Acts::List(strategies), scope, 0);
+    Ok(Turned::On)
+}
+
+// A strategy for the first element of a list, and one for the list of the others.
+fn take_head<'t>(
+    alloc: Global,
+    m: &mut Machine<'t>,
+    first: &'t ResolvedStrategy,
+    tail: &'t ResolvedStrategy,
+    scope: usize,
+) -> Result<Turned, NoMemory>
+    requires { has_elements 1 (elements (standing_tree m.old.part)) ≡ true }
+    ensures ok { (W : World) → IfOk result (λ next. Takes W m.old
+        (tail_congruence (and_strategy first.entry.now no_strategies) tail.entry.now) scope m.old.part m.new next) }
+    ensures less { IfOk result (λ next. TakeFalls m.old m.new next) }
+{
+    let Some(child) = m.part.child(0)? else {
+        m.next = Next::Failed;
+        return Ok(Turned::On);
+    };
+    let level = m.level;
+    if level == u64::MAX {
+        return Err(NoMemory);
+    }
+    let node = mem::replace(&mut m.part, child);
+    let edits = m.trail.count;
+    wait(
+        &mut m.frames,
+        Frame::Head(
+            tail,
+            scope,
+            Walk {
+                node,
+                parts: Vec::new(alloc),
+                index: 0,
+                level,
+                edits,
+            },
+        ),
+    )?;
+    m.level += 1;
+    m.next = Next::Begin(first, scope);
+    Ok(Turned::On)
+}
+
+/// A strategy for one child, counted from 1.
+pub fn take_child<'t>(
+    alloc: Global,
+    m: &mut Machine<'t>,
+    number: usize,
+    inner: &'t ResolvedStrategy,
+    scope: usize,
+) -> Result<Turned, NoMemory>
+    ensures ok { (W : World) → IfOk result (λ next. Takes W m.old (child number inner.entry.now) scope m.old.part m.new next) }
+    ensures less { IfOk result (λ next. TakeFalls m.old m.new next) }
+{
+    if number == 0 {
+        m.next = Next::Failed;
+        return Ok(Turned::On);
+    }
+    m.parts = Vec::new(alloc);
+    let alone = Acts::List(std::slice::from_ref(inner));
+    m.next = Next::Each(alone, scope, number - 1);
+    Ok(Turned::On)
+}

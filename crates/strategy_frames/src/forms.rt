@@ -1,0 +1,198 @@
+//! Matching, building, and strategies one after the other.
+
+ghost use Rattle.std.specs.Prelude.{◌≡◌, IfOk, OnOk};
+ghost use Rattle.strategy_syntax.specs.Resolved.{matches, builds, seq, guard, test};
+ghost use Rattle.strategy_meaning.specs.Meaning.{World};
+ghost use Rattle.strategy_frames.specs.Turns.{Takes, TakeFalls, Replaced, world_of};
+
+use crate::frames::{Frame, Next, Turned, drop_value, put, wait};
+use crate::heads::{MOST, left_by_failure};
+use crate::machine::{Host, InTable, Machine};
+use prim_core::Meaning;
+use std::alloc::Global;
+use strategy_syntax::{Place, ResolvedForm as Form, ResolvedStrategy};
+use term_core::NoMemory;
+use term_match::Built;
+use term_values::{Part, Value};
+
+/// A pattern that is matched.
+pub fn take_match<'t>(
+    alloc: Global,
+    m: &mut Machine<'t>,
+    pattern: &'t Place,
+    scope: usize,
+) -> Result<Turned, NoMemory>
+    ensures ok { (W : World) → IfOk result (λ next. Takes W m.old (matches pattern.entry.now) scope m.old.part m.new next) }
+    ensures less { IfOk result (λ next. TakeFalls m.old m.new next) }
+{
+    let value = m.part.value()?;
+    let places = InTable {
+        scopes: &m.scopes,
+        scope,
+    };
+    let matched = m.cells.matches(alloc, &places, pattern, &value);
+    drop_value(value);
+    if matched? {
+        m.next = Next::Done;
+        Ok(Turned::On)
+    } else {
+        m.next = Next::Failed;
+        Ok(Turned::On)
+    }
+}
+
+/// A pattern that is built.
+#[inline(always)]
+pub fn take_build<'t>(
+    alloc: Global,
+    m: &mut Machine<'t>,
+    pattern: &'t Place,
+    scope: usize,
+) -> Result<Turned, NoMemory>
+    ensures ok { (W : World) → IfOk result (λ next. Takes W m.old (builds pattern.entry.now) scope m.old.part m.new next) }
+    ensures less { IfOk result (λ next. TakeFalls m.old m.new next) }
+{
+    let places = InTable {
+        scopes: &m.scopes,
+        scope,
+    };
+    match m.cells.build(alloc, &places, pattern, m.level)? {
+        Built::Nothing => {
+            m.next = Next::Failed;
+            Ok(Turned::On)
+        }
+        Built::Big => Ok(Turned::Big),
+        Built::Value(value) => {
+            replace(alloc, m, value)?;
+            m.next = Next::Done;
+            Ok(Turned::On)
+        }
+    }
+}
+
+/// Puts a value in the place that is in hand, which is an edit.
+#[inline(always)]
+pub fn replace<'t>(alloc: Global, m: &mut Machine<'t>, value: Value<'t>) -> Result<(), NoMemory>
+    ensures { OnOk result (Replaced m.old value.entry m.new m.new.part) }
+{
+    match m.trail.push(alloc, &m.frames, &value) {
+        Ok(()) => {
+            put(&mut m.part, Part::new(value));
+            Ok(())
+        }
+        Err(error) => {
+            drop_value(value);
+            Err(error)
+        }
+    }
+}
+
+/// One strategy after the other. Where the first one is a match, it is done at once.
+#[inline(always)]
+pub fn take_seq<'t>(
+    alloc: Global,
+    m: &mut Machine<'t>,
+    first: &'t ResolvedStrategy,
+    second: &'t ResolvedStrategy,
+    scope: usize,
+) -> Result<Turned, NoMemory>
+    ensures ok { (W : World) → IfOk result (λ next. Takes W m.old (seq first.entry.now second.entry.now) scope m.old.part m.new next) }
+    ensures less { IfOk result (λ next. TakeFalls m.old m.new next) }
+{
+    match first.form() {
+        Form::Match(pattern) => match_first(alloc, m, pattern, second, scope),
+        _ => {
+            wait(&mut m.frames, Frame::Then(second, scope))?;
+            m.next = Next::Begin(first, scope);
+            Ok(Turned::On)
+        }
+    }
+}
+
+// A match, which costs a step of its own, and a strategy after it.
+#[inline(never)]
+fn match_first<'t>(
+    alloc: Global,
+    m: &mut Machine<'t>,
+    pattern: &'t Place,
+    second: &'t ResolvedStrategy,
+    scope: usize,
+) -> Result<Turned, NoMemory>
+    ensures ok { (W : World) → IfOk result (λ next. Takes W m.old (seq (matches pattern.entry.now) second.entry.now) scope m.old.part m.new next) }
+    ensures less { IfOk result (λ next. TakeFalls m.old m.new next) }
+{
+    if m.steps == 0 {
+        return Ok(Turned::Spent);
+    }
+    m.steps -= 1;
+    let value = m.part.value()?;
+    let places = InTable {
+        scopes: &m.scopes,
+        scope,
+    };
+    let matched = m.cells.matches(alloc, &places, pattern, &value);
+    drop_value(value);
+    if matched? {
+        m.next = Next::Begin(second, scope);
+        Ok(Turned::On)
+    } else {
+        m.next = Next::Failed;
+        Ok(Turned::On)
+    }
+}
+
+/// A strategy after the first one, or in its place where that fails. Where it is told ahead that the first
+/// one fails, its steps are paid, and nothing waits for it.
+#[inline(always)]
+pub fn take_guard<'t, M: Meaning>(
+    host: &Host<'t, M>,
+    m: &mut Machine<'t>,
+    first: &'t ResolvedStrategy,
+    second: &'t ResolvedStrategy,
+    other: &'t ResolvedStrategy,
+    scope: usize,
+) -> Result<Turned, NoMemory>
+    ensures ok { IfOk result (λ next. Takes (world_of M.meaning host.now.definitions.now host.now.primitives.now)
+        m.old (guard first.entry.now second.entry.now other.entry.now) scope m.old.part m.new next) }
+    ensures less { IfOk result (λ next. TakeFalls m.old m.new next) }
+{
+    let ahead = left_by_failure(
+        host.definitions,
+        &m.scopes,
+        first,
+        Some(scope),
+        &m.part,
+        m.steps,
+        MOST,
+    );
+    if let Some(left) = ahead {
+        m.steps = left;
+        m.next = Next::Begin(other, scope);
+        return Ok(Turned::On);
+    }
+    let saved = m.part.try_clone()?;
+    let mark = m.cells.mark();
+    let edits = m.trail.count;
+    wait(
+        &mut m.frames,
+        Frame::Choose(second, other, scope, saved, edits, mark),
+    )?;
+    m.next = Next::Begin(first, scope);
+    Ok(Turned::On)
+}
+
+/// A strategy whose term is taken back.
+pub fn take_test<'t>(
+    m: &mut Machine<'t>,
+    inner: &'t ResolvedStrategy,
+    scope: usize,
+) -> Result<Turned, NoMemory>
+    ensures ok { (W : World) → IfOk result (λ next. Takes W m.old (test inner.entry.now) scope m.old.part m.new next) }
+    ensures less { IfOk result (λ next. TakeFalls m.old m.new next) }
+{
+    let saved = m.part.try_clone()?;
+    let edits = m.trail.count;
+    wait(&mut m.frames, Frame::Restore(saved, edits))?;
+    m.next = Next::Begin(inner, scope);
+    Ok(Turned::On)
+}

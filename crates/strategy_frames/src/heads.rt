@@ -1,0 +1,135 @@
+//! Failures that are told by the root of a term, before anything waits for them.
+
+ghost use Rattle.std.specs.Prelude.{◌≡◌, ◌<◌, cond, Some, None, IfSome};
+ghost use Rattle.term_core.specs.Tree.{children};
+ghost use Rattle.std.specs.Bool.{OnTrue};
+ghost use Rattle.term_changes.specs.Standing.{standing_tree};
+ghost use Rattle.strategy_scopes.specs.Table.{scopes as scopes_of};
+ghost use Rattle.strategy_syntax.specs.Heads.{head_of};
+ghost use Rattle.strategy_meaning.specs.Matching.{is_integer as is_this_integer, is_headed as has_head, elements};
+ghost use Rattle.strategy_frames.specs.Missing.{Misses, FailsAhead};
+
+use crate::congruence::{is_list_from, is_over};
+use strategy_scopes::Scopes;
+use strategy_syntax::{Head, Place, PlaceForm, Resolved, ResolvedForm as Form, ResolvedStrategy};
+use term_core::Kind;
+use term_values::Part;
+
+/// How many forms, one inside or behind the other, are looked at.
+pub(crate) const MOST: usize = 16;
+
+/// The steps that are left when the strategy has failed on the part, where that is told by its root
+/// alone: by a pattern with another head, say, behind calls, choices and new variables. Names are
+/// looked up in the scope, if one is given.
+pub(crate) fn left_by_failure<'t>(
+    definitions: &'t [Resolved],
+    scopes: &Scopes<'t>,
+    strategy: &'t ResolvedStrategy,
+    scope: Option<usize>,
+    part: &Part<'t>,
+    steps: u64,
+    most: usize,
+) -> Option<u64>
+    ensures less { IfSome result (λ left. left < steps) }
+    ensures fails { IfSome result (λ left. FailsAhead definitions.entry.now (scopes_of scopes.now) scope strategy.entry.now steps (standing_tree part.now) left) }
+{
+    let mut strategy = strategy;
+    let mut scope = scope;
+    let mut left = steps;
+    let mut most = most;
+    'inward: loop {
+        if most == 0 || left == 0 {
+            return None;
+        }
+        most -= 1;
+        left -= 1;
+        match strategy.form() {
+            Form::Fail => return Some(left),
+            Form::Match(pattern) => {
+                if !misses(pattern, part) {
+                    return None;
+                }
+                return Some(left);
+            }
+            Form::Congruence(head, strategies) => {
+                if is_over(head, strategies.len(), part) {
+                    return None;
+                }
+                return Some(left);
+            }
+            Form::TailCongruence(strategies, _) => {
+                if is_list_from(strategies.len(), part) {
+                    return None;
+                }
+                return Some(left);
+            }
+            Form::Seq(parts) => strategy = &parts.0,
+            Form::Guard(parts) => {
+                left = left_by_failure(definitions, scopes, &parts.0, scope, part, left, most)?;
+                strategy = &parts.2;
+            }
+            Form::Test(inner) => strategy = inner,
+            Form::Scope(_, inner) => strategy = inner,
+            Form::Param(name) => {
+                let Some(inside) = scope else {
+                    return None;
+                };
+                let Some(known) = scopes.named(inside, *name) else {
+                    return None;
+                };
+                strategy = known.strategy;
+                scope = Some(known.inside);
+            }
+            Form::Call(definition, _, patterns) => {
+                if patterns.len() != 0 {
+                    return None;
+                }
+                let Some(body) = definitions.get(*definition) else {
+                    return None;
+                };
+                strategy = &body.strategy;
+                scope = None;
+            }
+            _ => return None,
+        }
+    }
+}
+
+// Whether the root of the part is another one than the pattern's, told by its kind.
+fn misses(pattern: &Place, part: &Part<'_>) -> bool
+    ensures { OnTrue result (Misses pattern.now (standing_tree part.now)) }
+{
+    match pattern.form() {
+        PlaceForm::Integer(number) => !is_integer(*number, part),
+        PlaceForm::Compound(head, _) => !is_headed(head, part),
+        PlaceForm::WithTail(_, _) => !is_list(part),
+        _ => false,
+    }
+}
+
+// Whether it is this integer, with whatever annotations.
+fn is_integer(number: i64, part: &Part<'_>) -> bool
+    ensures { result ≡ is_this_integer number (standing_tree part.now) }
+{
+    match part.kind() {
+        Kind::Integer(same) => same == number,
+        _ => false,
+    }
+}
+
+// Whether it has this head.
+fn is_headed(head: &Head, part: &Part<'_>) -> bool
+    ensures { result ≡ has_head (head_of head.now) (standing_tree part.now) }
+{
+    head.is_head_of(part.kind())
+}
+
+/// Whether it is a list.
+pub fn is_list(part: &Part<'_>) -> bool
+    ensures { elements (standing_tree part.now) ≡ cond result (Some (children (standing_tree part.now))) None }
+{
+    match part.kind() {
+        Kind::List => true,
+        _ => false,
+    }
+}
