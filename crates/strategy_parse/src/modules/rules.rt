@@ -35,6 +35,34 @@ pub fn read_rule<'a>(
     ensures none { result ≡ Err SyntaxFault.Syntax → (w : Defined) (y : List Token)
         → ReadsRule w tokens.now y → DefinitionEnds y → ⊥ }
 {
+    match read_body(alloc, &header, tokens) {
+        Ok((body, behind)) => Ok((make_definition(header, body), behind)),
+        Err(fault) => {
+            drop(header);
+            Err(fault)
+        }
+    }
+}
+
+// The body of a rule with this header.
+fn read_body<'a>(
+    alloc: Global,
+    header: &Header,
+    tokens: &'a [Token],
+) -> Result<(Strategy, &'a [Token]), SyntaxFault>
+    ensures given { IfOk result (λ r. RuleGives
+        (make_header header.now.name header.now.strategies header.now.terms) tokens.now
+        (defined (make_header header.now.name header.now.strategies header.now.terms) r.0)
+        r.1.now) }
+    ensures only { IfOk result (λ r. (w : Defined) (y : List Token)
+        → header_of w ≡ make_header header.now.name header.now.strategies header.now.terms
+        → ReadsRule w tokens.now y → DefinitionEnds y
+        → (core_definition w
+        ≡ defined (make_header header.now.name header.now.strategies header.now.terms) r.0)
+        × (y ≡ r.1.now)) }
+    ensures none { result ≡ Err SyntaxFault.Syntax → (w : Defined) (y : List Token)
+        → ReadsRule w tokens.now y → DefinitionEnds y → ⊥ }
+{
     let (before, left) = read_pattern(alloc, tokens)?;
     let rest = expect_mark(left, Sign::Arrow)?;
     let (after, left) = read_pattern(alloc, rest)?;
@@ -42,30 +70,33 @@ pub fn read_rule<'a>(
     let names = add_variables(&after, names)?;
     let Some(rest) = behind_word(left, Keyword::Where) else {
         let body = make_rewrite(alloc, before, after)?;
-        let rule = make_rule(alloc, header, &names, body)?;
-        return Ok((rule, left));
+        let body = make_body(alloc, header, &names, body)?;
+        return Ok((body, left));
     };
     let (condition, behind) = read_condition(alloc, names, rest)?;
     let Condition { strategy, names } = condition;
     let body = make_rewrite_where(alloc, before, after, strategy)?;
-    let rule = make_rule(alloc, header, &names, body)?;
-    Ok((rule, behind))
+    let body = make_body(alloc, header, &names, body)?;
+    Ok((body, behind))
 }
 
-// The definition of a rule: a scope of the names that are no term parameters round its body.
-fn make_rule(
+// The body of a rule: a scope of the names that are no term parameters round what it does.
+fn make_body(
     alloc: Global,
-    header: Header,
+    header: &Header,
     names: &NameList,
     body: Strategy,
-) -> Result<Definition, NoMemory>
+) -> Result<Strategy, NoMemory>
     ensures { IfOk result (λ made. made
-        ≡ defined (make_header header.name header.strategies header.terms)
-        (scope (first_ones same_name header.terms names.now) body)) }
+        ≡ scope (first_ones same_name header.now.terms names.now) body) }
 {
-    let scope = first_ones(alloc, names.as_slice(), header.terms.as_slice())?;
-    let body = make_scope(alloc, scope, body)?;
-    Ok(make_definition(header, body))
+    match first_ones(alloc, names.as_slice(), header.terms.as_slice()) {
+        Ok(names) => make_scope(alloc, names, body),
+        Err(error) => {
+            drop(body);
+            Err(error)
+        }
+    }
 }
 
 /// The definition with this header and this body.

@@ -64,7 +64,10 @@ fn behind_arrow(
         strategy = make_seq(alloc, first, strategy)?;
     }
     if stack.has_operand(Infix::Guarded) {
-        expect(token, Sign::Plus)?;
+        if !is_mark(token, Sign::Plus) {
+            drop(strategy);
+            return Err(SyntaxFault::Syntax);
+        }
         stack.push(Frame::Operand(Infix::Otherwise, strategy))?;
         return Ok(Outcome::Goes(State::Strategy));
     }
@@ -113,6 +116,8 @@ fn behind_choice(
     let mut strategy = last;
     while let Some(second) = stack.pop_operand(Infix::Otherwise) {
         let Some(first) = stack.pop_operand(Infix::Guarded) else {
+            drop(second);
+            drop(strategy);
             return Err(SyntaxFault::Syntax);
         };
         strategy = make_guard(alloc, first, second, strategy)?;
@@ -138,6 +143,7 @@ fn leave_choice(
         Some(Frame::Strategy(frame)) => in_frame(alloc, strategy, frame, stack, token),
         Some(other) => {
             drop(other);
+            drop(strategy);
             Err(SyntaxFault::Syntax)
         }
         None => Ok(Outcome::Ends(strategy)),
@@ -222,8 +228,12 @@ fn behind_then(
         stack.push(Frame::Strategy(StrategyFrame::Else(tested, strategy)))?;
         return Ok(Outcome::Goes(State::Strategy));
     }
-    expect_word(token, Keyword::End)?;
-    Ok(Outcome::Goes(State::Read(make_if(alloc, tested, strategy, make_id())?)))
+    if is_word(token, Keyword::End) {
+        return Ok(Outcome::Goes(State::Read(make_if(alloc, tested, strategy, make_id())?)));
+    }
+    drop(strategy);
+    drop(tested);
+    Err(SyntaxFault::Syntax)
 }
 
 // A strategy of a list is read, and is among those done.
@@ -247,8 +257,12 @@ fn behind_element(
     if is_mark(token, Sign::Bar) {
         return behind_bar(group, done, stack);
     }
-    expect(token, closing_of(&group))?;
-    Ok(Outcome::Goes(State::Read(make_group(alloc, group, done))))
+    if is_mark(token, closing_of(&group)) {
+        return Ok(Outcome::Goes(State::Read(make_group(alloc, group, done))));
+    }
+    drop(done);
+    drop(group);
+    Err(SyntaxFault::Syntax)
 }
 
 // A `|` behind the strategies of a list.

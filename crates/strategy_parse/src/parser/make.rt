@@ -80,8 +80,14 @@ pub fn make_if(
 ) -> Result<Strategy, NoMemory>
     ensures { IfOk result (λ made. made ≡ syntax.guard (syntax.test tested) then otherwise) }
 {
-    let tested = make_test(alloc, tested)?;
-    make_guard(alloc, tested, then, otherwise)
+    match make_test(alloc, tested) {
+        Ok(tested) => make_guard(alloc, tested, then, otherwise),
+        Err(error) => {
+            drop(otherwise);
+            drop(then);
+            Err(error)
+        }
+    }
 }
 
 /// What a word before a strategy in brackets stands for.
@@ -176,9 +182,18 @@ pub fn make_closure_where(
     ensures { IfOk result (λ made. made ≡ syntax.scope
         (first_ones same_name [] (variables left)) (rewrite_where left right condition)) }
 {
-    let names = scope_of(alloc, &left)?;
-    let body = make_rewrite_where(alloc, left, right, condition)?;
-    make_scope(alloc, names, body)
+    match scope_of(alloc, &left) {
+        Ok(names) => {
+            let body = make_rewrite_where(alloc, left, right, condition)?;
+            make_scope(alloc, names, body)
+        }
+        Err(error) => {
+            drop(condition);
+            drop(right);
+            drop(left);
+            Err(error)
+        }
+    }
 }
 
 /// `[s1,..,sn|s]`

@@ -8,7 +8,6 @@ ghost use Rattle.strategy_parse.specs.Machine.{no_at};
 ghost use Rattle.strategy_parse.specs.declared.parser.state.Frame.{Frame};
 
 use crate::parser::behind::behind;
-use crate::parser::expect::{expect, expect_word};
 use crate::parser::fault::SyntaxFault;
 use crate::parser::group::{close_patterns, closing_sign_of};
 use crate::parser::lists::PatternList;
@@ -17,7 +16,7 @@ use crate::parser::stack::Stack;
 use crate::parser::state::{Frame, Outcome, PatternFrame, PatternGroup, State, StrategyFrame};
 use std::alloc::Global;
 use strategy_syntax::{Head, Pattern, PatternForm};
-use strategy_tokens::{Keyword, Sign, Token, is_mark};
+use strategy_tokens::{Keyword, Sign, Token, is_mark, is_word};
 use term_core::{Name, NoMemory};
 
 /// A pattern has to begin.
@@ -174,22 +173,58 @@ fn pattern_in_frame(
             let whole = make_seq(alloc, strategy, make_match(pattern))?;
             behind(alloc, whole, stack, token)
         }
-        PatternFrame::Left => {
-            expect(token, Sign::Arrow)?;
-            stack.push(Frame::Pattern(PatternFrame::Right(pattern)))?;
-            Ok(Outcome::Goes(State::Pattern))
-        }
+        PatternFrame::Left => behind_left(pattern, stack, token),
         PatternFrame::Right(left) => behind_closure(alloc, left, pattern, stack, token),
         PatternFrame::List(group, done) => {
             behind_one(alloc, group, done.with(pattern)?, stack, token)
         }
-        PatternFrame::Tail(done) => {
-            expect(token, Sign::CloseSquare)?;
-            let tail = Box::new(alloc, pattern)?;
-            let whole = Pattern::new(PatternForm::WithTail(done.into_vec(), tail));
-            Ok(Outcome::Goes(State::Base(whole)))
-        }
+        PatternFrame::Tail(done) => behind_tail(alloc, done, pattern, token),
     }
+}
+
+// The left side of a closure is read.
+fn behind_left(left: Pattern, stack: &mut Stack, token: &Token) -> Result<Outcome, SyntaxFault>
+    ensures ok { IfOk result (λ o.
+        machine.pattern_in_frame left PatternFrame.Left (forms stack.old) token.now
+        ≡ machine.leads o (forms stack.new)) }
+    ensures none { result ≡ Err SyntaxFault.Syntax →
+        machine.pattern_in_frame left PatternFrame.Left (forms stack.old) token.now
+        ≡ machine.stuck }
+{
+    if is_mark(token, Sign::Arrow) {
+        stack.push(Frame::Pattern(PatternFrame::Right(left)))?;
+        return Ok(Outcome::Goes(State::Pattern));
+    }
+    drop(left);
+    Err(SyntaxFault::Syntax)
+}
+
+// The tail of a list is read.
+fn behind_tail(
+    alloc: Global,
+    done: PatternList,
+    tail: Pattern,
+    token: &Token,
+) -> Result<Outcome, SyntaxFault>
+    ensures ok { IfOk result (λ o. (S : List Frame) →
+        machine.pattern_in_frame tail (PatternFrame.Tail done) S token.now ≡ machine.leads o S) }
+    ensures none { result ≡ Err SyntaxFault.Syntax → (S : List Frame) →
+        machine.pattern_in_frame tail (PatternFrame.Tail done) S token.now ≡ machine.stuck }
+{
+    if is_mark(token, Sign::CloseSquare) {
+        let whole = make_with_tail(alloc, done, tail)?;
+        return Ok(Outcome::Goes(State::Base(whole)));
+    }
+    drop(tail);
+    drop(done);
+    Err(SyntaxFault::Syntax)
+}
+
+fn make_with_tail(alloc: Global, done: PatternList, tail: Pattern) -> Result<Pattern, NoMemory>
+    ensures { IfOk result (λ made. made ≡ syntax.with_tail (syntax.patterns_of done) tail) }
+{
+    let tail = Box::new(alloc, tail)?;
+    Ok(Pattern::new(PatternForm::WithTail(done.into_vec(), tail)))
 }
 
 // The right side of a closure is read.
@@ -210,9 +245,13 @@ fn behind_closure(
     if is_mark(token, Sign::Backslash) {
         return Ok(Outcome::Goes(State::Read(make_closure(alloc, left, right)?)));
     }
-    expect_word(token, Keyword::Where)?;
-    stack.push(Frame::Strategy(StrategyFrame::Where(left, right)))?;
-    Ok(Outcome::Goes(State::Strategy))
+    if is_word(token, Keyword::Where) {
+        stack.push(Frame::Strategy(StrategyFrame::Where(left, right)))?;
+        return Ok(Outcome::Goes(State::Strategy));
+    }
+    drop(right);
+    drop(left);
+    Err(SyntaxFault::Syntax)
 }
 
 // A pattern of a list is read, and is among those done.
@@ -236,12 +275,34 @@ fn behind_one(
     if is_mark(token, closing_sign_of(&group)) {
         return Ok(Outcome::Goes(close_patterns(alloc, group, done)?));
     }
-    expect(token, Sign::Bar)?;
+    if is_mark(token, Sign::Bar) {
+        return pattern_bar(group, done, stack);
+    }
+    drop(done);
+    drop(group);
+    Err(SyntaxFault::Syntax)
+}
+
+// A `|` behind the patterns of a list.
+fn pattern_bar(
+    group: PatternGroup,
+    done: PatternList,
+    stack: &mut Stack,
+) -> Result<Outcome, SyntaxFault>
+    ensures ok { IfOk result (λ o.
+        machine.pattern_bar group done (forms stack.old) ≡ machine.leads o (forms stack.new)) }
+    ensures none { result ≡ Err SyntaxFault.Syntax →
+        machine.pattern_bar group done (forms stack.old) ≡ machine.stuck }
+{
     match group {
         PatternGroup::List => {
             stack.push(Frame::Pattern(PatternFrame::Tail(done)))?;
             Ok(Outcome::Goes(State::Pattern))
         }
-        _ => Err(SyntaxFault::Syntax),
+        other => {
+            drop(done);
+            drop(other);
+            Err(SyntaxFault::Syntax)
+        }
     }
 }

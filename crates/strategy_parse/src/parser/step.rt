@@ -38,11 +38,7 @@ pub fn step(
         State::FirstStrategy(group) => first_strategy(alloc, group, stack, token),
         State::Read(strategy) => behind(alloc, strategy, stack, token),
         State::Used(name) => behind_used(alloc, name, stack, token),
-        State::Opening(frame) => {
-            expect(token, Sign::OpenRound)?;
-            stack.push(Frame::Strategy(frame))?;
-            Ok(Outcome::Goes(State::Strategy))
-        }
+        State::Opening(frame) => open_frame(frame, stack, token),
         State::Rec => rec_name(token),
         State::Prim => {
             expect(token, Sign::OpenRound)?;
@@ -50,20 +46,9 @@ pub fn step(
         }
         State::PrimOpen => prim_name(token),
         State::PrimNamed(name) => behind_prim(alloc, name, stack, token),
-        State::ScopeOpen => {
-            if is_mark(token, Sign::Colon) {
-                return begin_scope(NameList::new(alloc), stack);
-            }
-            scope_name(NameList::new(alloc), token)
-        }
+        State::ScopeOpen => first_scope_name(alloc, stack, token),
         State::ScopeComma(names) => scope_name(names, token),
-        State::ScopeNamed(names) => {
-            if is_mark(token, Sign::Colon) {
-                return begin_scope(names, stack);
-            }
-            expect(token, Sign::Comma)?;
-            Ok(Outcome::Goes(State::ScopeComma(names)))
-        }
+        State::ScopeNamed(names) => behind_scope_name(names, stack, token),
         State::Pattern => begin_pattern(alloc, token),
         State::FirstPattern(group) => first_pattern(alloc, group, stack, token),
         State::Named(name) => behind_named(alloc, name, stack, token),
@@ -90,6 +75,26 @@ fn behind_used(
     }
     let form = StrategyForm::Use(name, Vec::new(alloc), Vec::new(alloc));
     behind(alloc, Strategy::new(form), stack, token)
+}
+
+// A word is read that stands before a strategy in brackets.
+fn open_frame(
+    frame: StrategyFrame,
+    stack: &mut Stack,
+    token: &Token,
+) -> Result<Outcome, SyntaxFault>
+    ensures ok { IfOk result (λ o.
+        machine.step (State.Opening frame) (forms stack.old) token.now
+        ≡ machine.leads o (forms stack.new)) }
+    ensures none { result ≡ Err SyntaxFault.Syntax →
+        machine.step (State.Opening frame) (forms stack.old) token.now ≡ machine.stuck }
+{
+    if is_mark(token, Sign::OpenRound) {
+        stack.push(Frame::Strategy(frame))?;
+        return Ok(Outcome::Goes(State::Strategy));
+    }
+    drop(frame);
+    Err(SyntaxFault::Syntax)
 }
 
 // The name behind `rec` has to come.
@@ -140,9 +145,26 @@ fn behind_prim(
         )))?;
         return Ok(Outcome::Goes(State::Pattern));
     }
-    expect(token, Sign::CloseRound)?;
-    let form = StrategyForm::Prim(name, Vec::new(alloc));
-    Ok(Outcome::Goes(State::Read(Strategy::new(form))))
+    if is_mark(token, Sign::CloseRound) {
+        let form = StrategyForm::Prim(name, Vec::new(alloc));
+        return Ok(Outcome::Goes(State::Read(Strategy::new(form))));
+    }
+    drop(name);
+    Err(SyntaxFault::Syntax)
+}
+
+// The first name of a scope has to come, or the end of none.
+fn first_scope_name(alloc: Global, stack: &mut Stack, token: &Token) -> Result<Outcome, SyntaxFault>
+    ensures ok { IfOk result (λ o.
+        machine.step State.ScopeOpen (forms stack.old) token.now
+        ≡ machine.leads o (forms stack.new)) }
+    ensures none { result ≡ Err SyntaxFault.Syntax →
+        machine.step State.ScopeOpen (forms stack.old) token.now ≡ machine.stuck }
+{
+    if is_mark(token, Sign::Colon) {
+        return begin_scope(NameList::new(alloc), stack);
+    }
+    scope_name(NameList::new(alloc), token)
 }
 
 // A name of a scope has to come.
@@ -159,6 +181,28 @@ fn scope_name(names: NameList, token: &Token) -> Result<Outcome, SyntaxFault>
         }
         _ => Err(SyntaxFault::Syntax),
     }
+}
+
+// A name of a scope is read.
+fn behind_scope_name(
+    names: NameList,
+    stack: &mut Stack,
+    token: &Token,
+) -> Result<Outcome, SyntaxFault>
+    ensures ok { IfOk result (λ o.
+        machine.step (State.ScopeNamed names) (forms stack.old) token.now
+        ≡ machine.leads o (forms stack.new)) }
+    ensures none { result ≡ Err SyntaxFault.Syntax →
+        machine.step (State.ScopeNamed names) (forms stack.old) token.now ≡ machine.stuck }
+{
+    if is_mark(token, Sign::Colon) {
+        return begin_scope(names, stack);
+    }
+    if is_mark(token, Sign::Comma) {
+        return Ok(Outcome::Goes(State::ScopeComma(names)));
+    }
+    drop(names);
+    Err(SyntaxFault::Syntax)
 }
 
 // The names of a scope are read.
