@@ -14,7 +14,7 @@ import tempfile
 
 from measure import build, instructions
 
-USES = "term_core aterm_text strategy_syntax change_log term_changes term_values term_match anyhow"
+USES = "term_core aterm_text strategy_syntax change_log term_values term_match anyhow"
 
 
 def listed(count):

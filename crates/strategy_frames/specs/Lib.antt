@@ -1,5 +1,5 @@
--- What serves private clauses and proofs. Public ones of strategy_run also name `world_of` of Turns, and `AreOutermost` and `IsOf` of
--- Leading.
+-- What serves private clauses and proofs. Public ones of strategy_run also name `world_of` of Turns, and `AreOutermost` of Leading,
+-- which says `IsOf`.
 pub mod Trails
 pub mod Leading
 pub mod Frames

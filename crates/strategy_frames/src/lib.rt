@@ -1,4 +1,5 @@
-//! The machine that runs strategies: its state, and how the forms begin that look at no child. `strategy_run` stands on it.
+//! The machine that runs strategies: its state, and how the forms begin, but for those that go over all children alike. `strategy_run`
+//! stands on it.
 #![tactic(auto)]
 
 mod arguments;

@@ -91,17 +91,6 @@ impl<'t> Value<'t> {
         node.with_annotations_of(alloc, self)
     }
 
-    /// The same for items that lie in the node itself.
-    pub(crate) fn with_items(&self, alloc: Global, items: Items<'t>) -> Result<Value<'t>, NoMemory>
-        ensures { IfOk result (λ value. value ≡ with_children self.now (items_list items.entry)) }
-    {
-        let node = match self.top()? {
-            Top::Borrowed(Kind::Integer(value)) => Value::leaf(Kind::Integer(value)),
-            top => Value::made(alloc, top, items)?,
-        };
-        node.with_annotations_of(alloc, self)
-    }
-
     /// What stands at the root, held once more.
     fn top(&self) -> Result<Top<'t>, NoMemory>
         ensures { IfOk result (λ top. self.now ≡ top_tree top (children self.now) (annotations self.now)) }

@@ -5,12 +5,12 @@ ghost use Rattle.std.specs.Prelude.{◌≡◌, [], ◌∷◌, ◌++◌, ◌≤�
 ghost use Rattle.term_core.specs.Tree.{children, annotations};
 ghost use Rattle.term_core.specs.Kind.{made_of};
 ghost use Rattle.term_changes.specs.Standing.{after, standing_tree};
-ghost use Rattle.term_values.specs.ValueView.{items_list, notes_list, parts_list};
+ghost use Rattle.term_values.specs.ValueView.{items_list, notes_list};
 ghost use Rattle.term_values.specs.Bounded.{Bounded};
 ghost use Rattle.term_values.specs.Walk.{seen_tree, run_list};
 
 use crate::bounds::Bounds;
-use crate::part::{Changed, Part, PartForm, Parts};
+use crate::part::{Changed, Part, PartForm};
 use crate::value::{Form, Items, Joined, Notes, Value};
 use std::marker::Model;
 use term_core::{Kind, NoMemory, Term};
@@ -292,18 +292,6 @@ impl<'t> Items<'t> {
             Items::One(single) => &single.items,
             Items::Two(pair) => &pair.items,
             Items::Many(all) => all,
-        }
-    }
-}
-
-impl<'t> Parts<'t> {
-    pub(crate) fn as_slice(&self) -> &[Part<'t>]
-        ensures { result.now ≡ parts_list self.now }
-    {
-        match self {
-            Parts::One(single) => &single.items,
-            Parts::Two(pair) => &pair.items,
-            Parts::Many(all) => all,
         }
     }
 }

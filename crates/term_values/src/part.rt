@@ -7,7 +7,7 @@ ghost use Rattle.term_core.specs.Size.{height as height_of};
 ghost use Rattle.term_changes.specs.Standing.{after, standing_tree, unchanged, fresh};
 
 use crate::bounds::Bounds;
-use crate::value::{Form, Pair, Single, Value};
+use crate::value::{Form, Value};
 use std::alloc::Global;
 use std::marker::Model;
 use std::rc::Rc;
@@ -34,16 +34,7 @@ pub(crate) enum PartForm<'t> {
 #[cycle(value)]
 pub(crate) struct Changed<'t> {
     pub(crate) of: &'t Term,
-    pub(crate) parts: Parts<'t>,
-}
-
-/// Parts, of which one or two lie in the node itself.
-#[derive(Drop)]
-#[cycle(value)]
-pub(crate) enum Parts<'t> {
-    One(Single<Part<'t>>),
-    Two(Pair<Part<'t>>),
-    Many(Vec<Part<'t>>),
+    pub(crate) parts: Vec<Part<'t>>,
 }
 
 impl<'t> Model for Changed<'t> {

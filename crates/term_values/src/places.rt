@@ -1,15 +1,14 @@
 //! What stands in the places of children, and other parts put there.
 #![tactic(auto, using(crate::proofs::KindLemmas::node_parts))]
 
-ghost use Rattle.std.specs.Prelude.{◌≡◌, ◌∷◌, [], IfOk, map, slice_get, slice_set};
+ghost use Rattle.std.specs.Prelude.{◌≡◌, IfOk, map, slice_get};
 ghost use Rattle.term_core.specs.Tree.{children, annotations, with_children};
-ghost use Rattle.term_changes.specs.Standing.{standing_tree, standing_children, standing_changes, unchanged, altered, fresh, SuitAll, CanHold, with_standing};
+ghost use Rattle.term_changes.specs.Standing.{standing_tree, standing_children, unchanged, altered, fresh, SuitAll, CanHold, with_standing};
 ghost use Rattle.term_values.specs.Bounded.{Bounded, AllBounded, AllWithin};
-ghost use Rattle.term_values.specs.ValueView.{parts_list};
 
 use crate::bounds::Bounds;
-use crate::part::{Changed, Part, PartForm, Parts};
-use crate::value::{Items, Pair, Single, Value, bounds_of};
+use crate::part::{Changed, Part, PartForm};
+use crate::value::{Value, bounds_of};
 use std::alloc::Global;
 use std::rc::Rc;
 use term_core::{NoMemory, Term};
@@ -65,62 +64,10 @@ impl<'t> Part<'t> {
         }
     }
 
-    /// The same root with another part in the place of child `i`.
-    pub fn with_part(&self, alloc: Global, i: usize, part: Part<'t>) -> Result<Part<'t>, NoMemory>
-        requires { CanHold self.now (slice_set (standing_children self.now) i part) }
-        ensures { IfOk result (λ whole.
-            whole ≡ with_standing self.now (slice_set (standing_children self.now) i part.entry)) }
-    {
-        let mut all = self.parts(alloc)?;
-        if i < all.len() {
-            all[i] = part;
-        }
-        self.with_parts(alloc, all)
-    }
-
-    /// The same root over one part.
-    pub fn with_one(&self, alloc: Global, part: Part<'t>) -> Result<Part<'t>, NoMemory>
-        requires { CanHold self.now (part ∷ []) }
-        ensures { IfOk result (λ whole. whole ≡ with_standing self.now (part.entry ∷ [])) }
-    {
-        match &self.form {
-            PartForm::New(value) => Ok(Part::new(one_over(alloc, value, &part)?)),
-            _ => self.over(alloc, Parts::One(Single { items: [part] })),
-        }
-    }
-
-    /// The same root over two parts.
-    pub fn with_two(
-        &self,
-        alloc: Global,
-        first: Part<'t>,
-        second: Part<'t>,
-    ) -> Result<Part<'t>, NoMemory>
-        requires { CanHold self.now (first ∷ second ∷ []) }
-        ensures { IfOk result (λ whole. whole ≡ with_standing self.now (first.entry ∷ second.entry ∷ [])) }
-    {
-        match &self.form {
-            PartForm::New(value) => Ok(Part::new(two_over(alloc, value, &first, &second)?)),
-            _ => self.over(
-                alloc,
-                Parts::Two(Pair {
-                    items: [first, second],
-                }),
-            ),
-        }
-    }
-
     /// The same root over these parts.
     pub fn with_parts(&self, alloc: Global, parts: Vec<Part<'t>>) -> Result<Part<'t>, NoMemory>
         requires { CanHold self.now parts.items }
         ensures { IfOk result (λ whole. whole ≡ with_standing self.now parts.entry.items) }
-    {
-        self.over(alloc, Parts::Many(parts))
-    }
-
-    fn over(&self, alloc: Global, parts: Parts<'t>) -> Result<Part<'t>, NoMemory>
-        requires { CanHold self.now (parts_list parts) }
-        ensures { IfOk result (λ whole. whole ≡ with_standing self.now (parts_list parts.entry)) }
     {
         match &self.form {
             PartForm::Same(term, _) => changed_part(alloc, *term, parts),
@@ -189,43 +136,15 @@ impl<'t> Changed<'t> {
 }
 
 // A subterm with these in the places of its children.
-fn changed_part<'t>(alloc: Global, of: &'t Term, parts: Parts<'t>) -> Result<Part<'t>, NoMemory>
-    requires { SuitAll (children of.now) (parts_list parts) }
-    ensures { IfOk result (λ part. part ≡ with_standing (unchanged of.now) (parts_list parts.entry)) }
+fn changed_part<'t>(alloc: Global, of: &'t Term, parts: Vec<Part<'t>>) -> Result<Part<'t>, NoMemory>
+    requires { SuitAll (children of.now) parts.items }
+    ensures { IfOk result (λ part. part ≡ with_standing (unchanged of.now) parts.entry.items) }
 {
     let bounds = parts_bounds(parts.as_slice()).and(notes_bounds(of)).over();
     let changed = Rc::new(alloc, Changed { of, parts })?;
     Ok(Part {
         form: PartForm::Inside(changed, bounds),
     })
-}
-
-// A value with the tree of one part as its child.
-fn one_over<'t>(alloc: Global, value: &Value<'t>, part: &Part<'t>) -> Result<Value<'t>, NoMemory>
-    ensures { IfOk result (λ new. new ≡ with_children value.now (standing_tree part.now ∷ [])) }
-{
-    let child = part.value()?;
-    value.with_items(alloc, Items::One(Single { items: [child] }))
-}
-
-// And of two.
-fn two_over<'t>(
-    alloc: Global,
-    value: &Value<'t>,
-    first: &Part<'t>,
-    second: &Part<'t>,
-) -> Result<Value<'t>, NoMemory>
-    ensures { IfOk result (λ new. new
-        ≡ with_children value.now (standing_tree first.now ∷ standing_tree second.now ∷ [])) }
-{
-    let left = first.value()?;
-    let right = second.value()?;
-    value.with_items(
-        alloc,
-        Items::Two(Pair {
-            items: [left, right],
-        }),
-    )
 }
 
 // Bounds that each child of a subterm keeps.

@@ -2,8 +2,8 @@
 
 mod picking;
 
-// A must-fail edit makes this module part of the library, so that the closure in `picking` is
-// tried. The edit has no use for the table.
+// A wrong body that is kept makes this module part of the library, so that the closure in `picking`
+// is tried. It has no use for the table.
 #[cfg(test)]
 mod standard;
 

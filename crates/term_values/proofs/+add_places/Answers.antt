@@ -5,14 +5,13 @@ use Rattle.term_paths.specs.Edits.{behind}
 use Rattle.term_changes.specs.Change.{places}
 use Rattle.term_changes.specs.Putting.{entries_at}
 use Rattle.term_changes.specs.Standing.{standing_tree, standing_change}
-use Rattle.term_values.specs.ValueView.{parts_list}
 use Rattle.term_values.proofs.PlaceLemmas.{altered_heights, part_height, gathered, all_there_next}
 use Rattle.term_values.proofs.+add_places.Goals as goal
 
 pub part::Changed::add_places-add_all_places-requires : goal.part::Changed::add_places-add_all_places-requires
 part::Changed::add_places-add_all_places-requires t c =
-    let high = altered_heights c.self.inside.of.now (parts_list c.self.inside.parts) c.args.self.now c.self.view_is c.self.invariant in
-    let same = ap (λ ps. heights (of_list (map standing_tree ps))) c.as_slice.ensures in
+    let high = altered_heights c.self.inside.of.now c.self.inside.parts.items c.args.self.now c.self.view_is c.self.invariant in
+    let same = ap (λ ps. heights (of_list (map standing_tree ps))) c.as_slice.ensures.value in
     (omega (arith, high, same, c.decreases), tt)
 
 pub replacements::add_all_places-add_child_places-requires : goal.replacements::add_all_places-add_child_places-requires

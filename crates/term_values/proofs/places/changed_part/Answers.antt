@@ -4,7 +4,6 @@ use Rattle.term_core.specs.Size.{heights, sizes}
 use Rattle.term_changes.specs.Standing.{after, standing_tree}
 use Rattle.term_changes.proofs.StandingLemmas.{altered_children}
 use Rattle.term_values.specs.Bounded.{AllBounded}
-use Rattle.term_values.specs.ValueView.{parts_list}
 use Rattle.term_values.proofs.SizeLemmas.{node_bounded}
 use Rattle.term_values.proofs.PlaceLemmas.{altered_notes}
 use Rattle.term_values.proofs.places.changed_part.Goals as goal
@@ -12,12 +11,12 @@ use Rattle.term_values.proofs.places.changed_part.Goals as goal
 pub invariant_of-result : goal.invariant_of-result
 invariant_of-result c =
     let t = c.args.of.now in
-    let ps = parts_list c.args.parts in
+    let ps = c.args.parts.items in
     let us = map standing_tree ps in
     let ns = annotations t in
     let x = c.in_ok-changed.changed.value in
     let is = sym c.in_ok-changed.ensures.ok in
-    let parts = subst (λ (l : List Tree). AllBounded l c.parts_bounds.result) (ap (map standing_tree) c.as_slice.ensures) c.parts_bounds.ensures in
+    let parts = subst (λ (l : List Tree). AllBounded l c.parts_bounds.result) (ap (map standing_tree) c.as_slice.ensures.value) c.parts_bounds.ensures in
     let both = c.and.ensures.covers (sizes (of_list us)) (heights (of_list us)) (sizes (of_list ns)) (heights (of_list ns)) parts c.notes_bounds.ensures in
     let over = c.over-bounds.ensures.covers _ _ both in
     node_bounded (after x) us ns c.over-bounds.result (sym (altered_children t ps x is c.requires)) (altered_notes t ps x is) over
