@@ -4,3 +4,5 @@
 
 #[cfg(test)]
 mod rows;
+#[cfg(test)]
+mod short;
