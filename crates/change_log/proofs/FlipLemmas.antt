@@ -1,4 +1,4 @@
--- What flips keep: the places of entries, and which are of module texts.
+-- What flips keep: the places of entries, and which of them hold module texts.
 use Rattle.std.proofs.Common.{◌≡◌, ℕ, zero, suc, ◌+◌, ◌-◌, ◌≤◌, List, [], ◌∷◌, ◌++◌, length, take, drop, slice_get, Some, false, refl, ap, ◌∙◌, arith}
 use Rattle.std.specs.List.{All}
 use Rattle.std.proofs.lemmas.Bool.{ltb-false}
@@ -118,9 +118,9 @@ before_keeps_texts log s h = before_kept log s (without_texts log h)
 pub after_keeps_texts : AfterKeepsTexts
 after_keeps_texts log s h = after_kept log s (without_texts log h)
 
--- ---- counting the entries of module texts
+-- ---- counting the entries that hold module texts
 
--- the first entries, and one more
+-- the first entries and one more
 pub one_counted : (rs : List Replaced) (ps : List ℕ) (i n m : ℕ) (r : Replaced) → slice_get rs i ≡ Some r → n ≡ texts (entries (take i rs) ps)
     → ((j : ℕ) (p : List ℕ) → m ≡ text_of (entry_of j p r.kept)) → n + m ≡ texts (entries (take (i + 1) rs) ps)
 one_counted rs ps i n m r g h k =
@@ -137,11 +137,11 @@ one_counted rs ps i n m r g h k =
         omega (arith, is, first)
     counted_more (x ∷ rs) ps (suc i) r g k = let rest = counted_more rs (drop x.depth ps) i r g k in omega (arith, rest)
 
--- one entry more, which keeps what was found
+-- one more entry, which holds what was found
 pub text_pushed : (es fs : List Entry) (e : Entry) (s : Store) (n m : ℕ) → n ≡ texts es → fs ≡ es ++ found e s ∷ [] → m ≡ text_of e → n + m ≡ texts fs
 text_pushed es fs e s n m h a k = omega (arith, h, ap texts a, texts-append es (found e s ∷ []), text_found e s, k)
 
--- one less
+-- one entry less
 pub text_popped : (es fs : List Entry) (e : Entry) (n m : ℕ) → n ≡ texts es → es ≡ fs ++ e ∷ [] → m ≡ text_of e → (m ≤ n) × (n - m ≡ texts fs)
 text_popped es fs e n m h a k =
     let all = texts-append fs (e ∷ []) in (omega (arith, h, ap texts a, all, k), omega (arith, h, ap texts a, all, k))

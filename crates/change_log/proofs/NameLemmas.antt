@@ -73,7 +73,7 @@ keys-units : (ks : List (List ℕ)) → keys_of (units ks) ≡ ks
 keys-units [] = refl
 keys-units (k ∷ ks) = ap (λ l. k ∷ l) (keys-units ks)
 
--- two that have the same keys are equal
+-- two lists with the same keys are equal
 same_keys : (ks js : List (List ℕ)) → IsStrictlySortedBy (slice_cmp nat_cmp) ks → IsStrictlySortedBy (slice_cmp nat_cmp) js
     → ((q : List ℕ) → list_any (eq_by_cmp (slice_cmp nat_cmp) q) ks ≡ list_any (eq_by_cmp (slice_cmp nat_cmp) q) js) → ks ≡ js
 same_keys ks js s t same =
@@ -85,7 +85,7 @@ same_keys ks js s t same =
     get-from_sorted R (units ks) q h ∙ found_unit q ks ∙ ap (λ b. cond b (Some tt) None) (same q) ∙ sym (get-from_sorted R (units js) q g ∙ found_unit q js)) in
     sym (keys-units ks) ∙ ap keys_of (sym (entries-from_sorted R (units ks) h) ∙ ap entries maps ∙ entries-from_sorted R (units js) g) ∙ keys-units js
 
--- ---- what a sort leaves
+-- ---- the result of a sort
 
 dedup_from-distinct : (k : List ℕ) (ks : List (List ℕ)) → IsDistinct (pointwise nat_eq) (k ∷ ks) → dedup_from (pointwise nat_eq) k ks ≡ k ∷ ks
 dedup_from-distinct k [] h = refl
@@ -106,7 +106,7 @@ strict ks d h = subst (IsStrictlySortedBy (slice_cmp nat_cmp)) (dedup-distinct k
 -- ---- the labels of slots with content
 
 module _ {X : Type 0} where
-  -- a label that is apart from all is apart from those with content
+  -- a label that differs from all labels differs from those with content
   apart_filled : (k : List ℕ) (ss : Slots X) → AllByRecursion (λ y. pointwise nat_eq k y ≡ false) (labels ss) → AllByRecursion (λ y. pointwise nat_eq k y ≡ false) (keys_of (filled ss))
   apart_filled k [] h = tt
   apart_filled k ((l, None) ∷ ss) h = apart_filled k ss h.1
@@ -136,6 +136,6 @@ module _ {X : Type 0} where
       sym (list_any-IsPermutation (eq_by_cmp R q) names sorted p) ∙ ap (list_any (eq_by_cmp R q)) e
       ∙ sym (is_some-found q (filled ss)) ∙ ap is_some (sym (get-from_entries nat_list_cmp_total (filled ss) q)) ∙ contains_key-keys (named ss) q)
 
-  -- once all were taken
+  -- after all slots were visited
   pub all_taken : (es ss rest : Slots X) (names : List (List ℕ)) → es ≡ ss → names ++ keys_of (filled rest) ≡ keys_of (filled ss) → rest ≡ [] → names ≡ keys_of (filled ss)
   all_taken es ss rest names v h e = sym (append-nil names) ∙ ap (λ r. names ++ keys_of (filled r)) (sym e) ∙ h

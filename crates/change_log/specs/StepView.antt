@@ -1,4 +1,4 @@
--- What the fields of a step stand for.
+-- What the fields of a step represent.
 use Rattle.std.specs.Prelude.{List, [], ◌∷◌}
 use Rattle.change_plans.specs.Entries.{Entry}
 use Rattle.change_plans.specs.LogView.{entry_of}

@@ -3,8 +3,7 @@
 
 ghost use Rattle.change_plans.specs.Laws.{FlipsForward, FlipsBack, StoreFromAfter, StoreFromBefore, FlippedBackFits, FlippedForwardFits, PushedFits, RolledBackFits, PushedLeadsBack, RolledBackLeadsBack, FlippedBackIsCompact, FlippedForwardIsCompact, BeforeKeepsTexts, AfterKeepsTexts, NewSlotsAreEmpty, TreePut, TreeTaken, ModulePut, ModuleTaken, SubtermPut, AnnotationsPut, TreeOfName, ModuleOfName, FitsWithMore, FitsForwardWithMore, FitsWithMoreModules, FitsForwardWithMoreModules};
 
-/// Each of the two flips takes back what the other did: the store is that from before, and so is the
-/// log.
+/// The two flips are inverse: each restores the store and the log from before the other.
 pub fn flips_are_inverse()
     ensures forward { FlipsForward }
     ensures back { FlipsBack }
@@ -12,8 +11,9 @@ pub fn flips_are_inverse()
     ensures before { StoreFromBefore }
 {}
 
-/// A log that fits its store fits it after a change at a place that is there was pushed, and after it
-/// was rolled back; flipped back it fits the store forward, and flipped forward it fits it again.
+/// A log that fits its store still fits after a push of a change at an existing place, and after
+/// that change is rolled back. Flipped back it fits the store forward, and flipped forward it fits
+/// it again.
 pub fn logs_fit()
     ensures pushed { PushedFits }
     ensures rolled_back { RolledBackFits }
@@ -21,27 +21,27 @@ pub fn logs_fit()
     ensures flipped_forward { FlippedForwardFits }
 {}
 
-/// A log leads back to the same store after a change was pushed, whether or not its place is there, and
-/// after a part of it was rolled back.
+/// A log leads back to the same store after a push, whether or not the place exists, and after a
+/// part of it is rolled back.
 pub fn logs_lead_back()
     ensures pushed { PushedLeadsBack }
     ensures rolled_back { RolledBackLeadsBack }
 {}
 
-/// Flips keep the places of a log: a compact one stays so.
+/// Flips keep the places of a log: a compact log stays compact.
 pub fn flips_keep_places()
     ensures back { FlippedBackIsCompact }
     ensures forward { FlippedForwardIsCompact }
 {}
 
-/// A log that holds no module text leads back and forward with the texts that the store has.
+/// A log without module texts leads back and forward without changing those of the store.
 pub fn texts_stay()
     ensures back { BeforeKeepsTexts }
     ensures forward { AfterKeepsTexts }
 {}
 
-/// What a store contains by its names: new slots are empty; what is put in the slot of a name is under
-/// that name, and nothing else changes; what is put at a path is the tree, changed there.
+/// The contents of a store by name: new slots are empty; a put in the slot of a name is seen under
+/// that name, and nothing else changes; a put at a path changes the tree there.
 pub fn contents_by_name()
     ensures new_slots { NewSlotsAreEmpty }
     ensures tree_put { TreePut }
@@ -54,7 +54,8 @@ pub fn contents_by_name()
     ensures text { ModuleOfName }
 {}
 
-/// A log that fits a store fits it with a slot more, and leads to what it led to, with that slot.
+/// A log that fits a store also fits it with one more slot, and leads to the same store with that
+/// slot.
 pub fn slots_stay()
     ensures trees { FitsWithMore }
     ensures trees_forward { FitsForwardWithMore }

@@ -1,5 +1,5 @@
-//! Changes of named trees and module texts that can be taken back: a store of slots, and logs that
-//! keep what was replaced in it.
+//! Changes of named trees and module texts that can be undone: a store of slots, and logs that hold
+//! what was replaced in it.
 #![tactic(auto)]
 
 mod compact;

@@ -1,4 +1,4 @@
-//! Logs: what changes of a store replaced, so that they can be taken back.
+//! Logs: what changes of a store replaced, so that they can be undone.
 
 ghost use Rattle.std.specs.Prelude.{◌≡◌, ◌<◌, ◌≤◌, ◌+◌, ◌-◌, ◌*◌, ◌++◌, ℕ, List, [], ◌∷◌, length, take, drop, OnOk, OnErr, vec_len, vec_capacity};
 ghost use Rattle.change_plans.specs.Slots.{Store};
@@ -13,16 +13,16 @@ use std::alloc::Global;
 use std::marker::Model;
 use term_core::NoMemory;
 
-/// What changes of one store replaced, the oldest first. The changes can be taken back, one after the
-/// other or all at once, and made again; neither takes memory.
+/// What changes of one store replaced, the oldest first. The changes can be undone, one by one or
+/// all at once, and redone; neither takes memory.
 #[derive(Drop)]
 pub struct Log {
     replaced: Vec<Replaced>,
-    // The paths of all entries, one behind the other.
+    // The paths of all entries, concatenated.
     paths: Vec<usize>,
-    // How many entries are of module texts.
+    // How many entries hold module texts.
     text_count: usize,
-    // Three numbers for each entry where there is more than one, so that `compact` takes no memory.
+    // Three numbers for each entry if there is more than one, so that `compact` takes no memory.
     space: Vec<usize>,
 }
 
@@ -47,7 +47,7 @@ impl Model for Log {
 }
 
 impl Log {
-    /// A log without entries. It takes no memory.
+    /// An empty log. It takes no memory.
     pub fn new(alloc: Global) -> Log
         ensures { result ≡ [] }
     {
@@ -59,31 +59,31 @@ impl Log {
         }
     }
 
-    /// How many entries there are.
+    /// The number of entries.
     pub fn count(&self) -> usize
         ensures { result ≡ length self.now }
     {
         self.replaced.len()
     }
 
-    /// The mark to roll back to: how many entries there are now.
+    /// The mark to roll back to: the current number of entries.
     pub fn mark(&self) -> usize
         ensures { result ≡ length self.now }
     {
         self.count()
     }
 
-    /// Whether an entry is of a module text.
+    /// Whether any entry holds a module text.
     pub fn has_text(&self) -> bool
         ensures { result ≡ has_text self.now }
     {
         self.text_count > 0
     }
 
-    /// Makes the change: puts what the entry has at its place, and keeps what was found there. Where
-    /// the store doesn't have the place, nothing is put, and the entry is kept as it is.
+    /// Makes the change: puts the entry's value at its place, and records what was there. If the
+    /// store doesn't have the place, nothing is put, and the entry is recorded as it is.
     ///
-    /// Where a growth of memory is refused, log and store stay as they were, and the entry is dropped.
+    /// If memory can't grow, log and store stay as they were and the entry is dropped.
     pub fn push(&mut self, store: &mut Store, change: Entry<'_>) -> Result<(), NoMemory>
         ensures log { OnOk result (self.new ≡ self.old ++ found change.entry store.old ∷ []) }
         ensures store { OnOk result (store.new ≡ put change.entry store.old) }
@@ -108,9 +108,9 @@ impl Log {
         Ok(())
     }
 
-    /// Makes the changes of a plan, the first one first, each as `push` makes one.
+    /// Makes the changes of a plan in order, each as `push` does.
     ///
-    /// Where a growth of memory is refused, log and store stay as they were, and the plan is dropped.
+    /// If memory can't grow, log and store stay as they were and the plan is dropped.
     pub fn make(&mut self, store: &mut Store, plan: Plan) -> Result<(), NoMemory>
         ensures log { OnOk result (self.new ≡ self.old ++ flipped_forward plan store.old) }
         ensures store { OnOk result (store.new ≡ after plan store.old) }
@@ -127,8 +127,8 @@ impl Log {
         Ok(())
     }
 
-    /// Takes back the changes since the mark, the newest first, and drops their entries. It takes no
-    /// memory. A mark past the count of entries takes nothing back.
+    /// Undoes the changes since the mark, the newest first, and drops their entries. It takes no
+    /// memory. A mark past the last entry undoes nothing.
     pub fn roll_back(&mut self, mark: usize, store: &mut Store)
         ensures log { self.new ≡ take mark self.old }
         ensures store { store.new ≡ before (drop mark self.old) store.old }
@@ -138,7 +138,7 @@ impl Log {
         }
     }
 
-    // Takes back the newest change, and drops its entry.
+    // Undoes the newest change and drops its entry.
     fn take_back(&mut self, store: &mut Store)
         requires { 0 < length self.old }
         ensures log { self.new ≡ take (length self.old - 1) self.old }
@@ -152,8 +152,8 @@ impl Log {
         }
     }
 
-    /// Takes all changes back, the newest first. The log then leads forward again: `flip_forward`
-    /// makes them once more. It takes no memory.
+    /// Undoes all changes, the newest first. It leaves the log ready for `flip_forward`, which
+    /// redoes them. It takes no memory.
     pub fn flip_back(&mut self, store: &mut Store)
         ensures log { self.new ≡ flipped_back self.old store.old }
         ensures store { store.new ≡ before self.old store.old }
@@ -161,7 +161,8 @@ impl Log {
         flip_back(&mut self.replaced, &self.paths, store);
     }
 
-    /// Makes all changes again, the oldest first, after `flip_back`. It takes no memory.
+    /// Redoes all changes, the oldest first. It leaves the log ready for `flip_back`. It takes no
+    /// memory.
     pub fn flip_forward(&mut self, store: &mut Store)
         ensures log { self.new ≡ flipped_forward self.old store.old }
         ensures store { store.new ≡ after self.old store.old }
@@ -169,8 +170,8 @@ impl Log {
         flip_forward(&mut self.replaced, &self.paths, store);
     }
 
-    /// Leaves entries of which none's place lies within another's, and which lead back to the same.
-    /// It takes no memory. No mark from before is of use afterwards.
+    /// Leaves entries at disjoint places that lead back to the same store. It takes no memory.
+    /// Earlier marks are no longer valid.
     pub fn compact(&mut self)
         ensures before { (s : Store) → before self.new s ≡ before self.old s }
         ensures fits { (s : Store) → Fits self.old s → Fits self.new s }
@@ -184,7 +185,8 @@ impl Log {
     }
 }
 
-// Makes room for one more: for the first alone, since most logs are of one change.
+// Reserves room for one more entry. The first one is reserved exactly, since most logs have one
+// change.
 fn reserve_one(replaced: &mut Vec<Replaced>) -> Result<(), NoMemory>
     ensures items { replaced.new.items ≡ replaced.old.items }
     ensures room { OnOk result (vec_len replaced.new < vec_capacity replaced.new) }
@@ -197,7 +199,6 @@ fn reserve_one(replaced: &mut Vec<Replaced>) -> Result<(), NoMemory>
     Ok(())
 }
 
-// How many entries are of module texts.
 fn count_texts(replaced: &[Replaced]) -> usize
     ensures { (paths : List ℕ) → result ≡ texts (entries replaced.now paths) }
 {
@@ -208,7 +209,7 @@ fn count_texts(replaced: &[Replaced]) -> usize
     count
 }
 
-// Makes space for so many entries; for one alone there is none.
+// Makes scratch space for `count` entries; a single one needs none.
 fn make_space(space: &mut Vec<usize>, count: usize) -> Result<(), NoMemory>
     ensures room { OnOk result (1 < count → 3 * count ≤ vec_len space.new) }
     ensures kept { vec_len space.old ≤ vec_len space.new }
@@ -225,7 +226,7 @@ fn make_space(space: &mut Vec<usize>, count: usize) -> Result<(), NoMemory>
     Ok(())
 }
 
-// Puts these behind the others, for which there is room.
+// Appends these entries; there is room for them.
 fn add_all(to: &mut Vec<Replaced>, from: Vec<Replaced>)
     requires { vec_len to.old + vec_len from ≤ vec_capacity to.old }
     ensures { to.new.items ≡ to.old.items ++ from.items }
@@ -238,7 +239,7 @@ fn add_all(to: &mut Vec<Replaced>, from: Vec<Replaced>)
     let _added = to.append(&mut from);
 }
 
-// Puts what was replaced at the path back, and drops what takes its place now.
+// Puts what was replaced back at its path, and drops what is there now.
 fn put_back(replaced: Replaced, path: &[usize], store: &mut Store)
     ensures { store.new ≡ put (entry_of replaced.slot path.now replaced.kept) store.old }
 {

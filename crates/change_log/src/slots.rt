@@ -13,7 +13,7 @@ use std::mem;
 use term_core::{Label, NoMemory, Term};
 use term_paths::{swap_annotations_at_parts, swap_at_parts};
 
-/// The contents of the slots by their labels. A slot stays where it is once it is made.
+/// The contents of the slots by label. A slot keeps its number once it is made.
 #[derive(Drop)]
 pub struct Slots<T: Drop> {
     slots: IndexMap<Label, Option<T>>,
@@ -40,7 +40,6 @@ impl<T: Drop> Slots<T> {
         }
     }
 
-    /// The number of the slot of this label.
     pub(crate) fn find(&self, name: &Label) -> Option<usize>
         ensures slot { result ≡ slot_of self.now name.now }
         ensures apart { AreApart self.now }
@@ -48,7 +47,7 @@ impl<T: Drop> Slots<T> {
         self.slots.get_index_of(name)
     }
 
-    /// The number of the slot of this label, which is made, empty, where there was none.
+    /// The number of the slot of this label. It is made, empty, if there is none.
     pub(crate) fn find_or_make(&mut self, name: &Label) -> Result<usize, NoMemory>
         ensures ok { OnOk result (self.new ≡ with_slot self.old name.now) }
         ensures slot { IfOk result (λ i. slot_of self.new name.now ≡ Some i) }
@@ -64,7 +63,7 @@ impl<T: Drop> Slots<T> {
         Ok(i)
     }
 
-    /// What is in slot `i`, if it is there and has content.
+    /// The content of slot `i`, if the slot exists and isn't empty.
     pub(crate) fn content(&self, i: usize) -> Option<&T>
         ensures { option_copied result ≡ content self.now i }
     {
@@ -86,7 +85,7 @@ impl<T: Drop> Slots<T> {
         Ok(names)
     }
 
-    /// Swaps the content of slot `i` for the other; nothing where there is no such slot.
+    /// Swaps the content of slot `i` with `other`; does nothing if there is no such slot.
     pub(crate) fn swap(&mut self, i: usize, other: &mut Option<T>)
         ensures slots { self.new ≡ with_content self.old i other.old }
         ensures other { other.new ≡ unwrap_or (slot_at self.old i) other.old }
@@ -99,8 +98,8 @@ impl<T: Drop> Slots<T> {
 }
 
 impl Slots<Term> {
-    /// Swaps the subterm that the path leads to in the tree of slot `i` for the other; nothing where
-    /// there is none.
+    /// Swaps the subterm at the path in the tree of slot `i` with `other`; does nothing if there is
+    /// none.
     pub(crate) fn swap_subterm(&mut self, i: usize, path: &[usize], other: &mut Term)
         ensures slots { self.new ≡ changed_tree (λ t. set_at t path.now other.old) self.old i }
         ensures other { other.new ≡ unwrap_or (subterm_in self.old i path.now) other.old }
@@ -114,7 +113,7 @@ impl Slots<Term> {
         swap_at_parts(tree, path, other);
     }
 
-    /// The same for the annotations of that subterm.
+    /// Swaps the annotations of that subterm with `other`.
     pub(crate) fn swap_annotations(&mut self, i: usize, path: &[usize], other: &mut Vec<Term>)
         ensures slots { self.new
             ≡ changed_tree (λ t. set_annotations_at t path.now other.old.items) self.old i }

@@ -1,4 +1,4 @@
-//! Steps: the changes that are taken back and made again together.
+//! Steps: changes that are undone and redone together.
 
 ghost use Rattle.std.specs.Prelude.{◌≡◌, ◌∷◌, [], IfOk, OnOk, OnErr};
 ghost use Rattle.change_plans.specs.Slots.{Store};
@@ -12,8 +12,8 @@ use std::alloc::Global;
 use std::marker::Model;
 use term_core::NoMemory;
 
-/// What the changes of a step replaced, the oldest first. A step of one change of a whole tree or module text
-/// takes no memory.
+/// What the changes of a step replaced, the oldest first. A step with one change of a whole tree or
+/// module text takes no memory.
 #[derive(Drop)]
 pub struct Step {
     changes: Changes,
@@ -22,9 +22,9 @@ pub struct Step {
 /// The changes of a step.
 #[derive(Drop)]
 pub enum Changes {
-    /// One, of a whole tree or module text.
+    /// One change, of a whole tree or module text.
     One(Whole),
-    /// Others.
+    /// All other changes.
     Logged(Log),
 }
 
@@ -51,8 +51,8 @@ impl Model for Step {
 }
 
 impl Step {
-    /// Makes the change, as `Log::push` does, and a step of it. Where a growth of memory is refused, the store
-    /// stays as it was, and the change is dropped.
+    /// Makes the change, as `Log::push` does, and a step of it. If memory can't grow, the store
+    /// stays as it was and the change is dropped.
     pub fn make(alloc: Global, store: &mut Store, change: Entry<'_>) -> Result<Step, NoMemory>
         ensures step { IfOk result (λ step. step ≡ found change.entry store.old ∷ []) }
         ensures store { OnOk result (store.new ≡ put change.entry store.old) }
@@ -72,7 +72,7 @@ impl Step {
         })
     }
 
-    /// The step of what is in the log, once it is compact.
+    /// The step of the entries of the log, compacted.
     pub fn of(log: Log) -> Step
         ensures before { (s : Store) → before result s ≡ before log s }
         ensures fits { (s : Store) → Fits log s → Fits result s }
@@ -85,7 +85,7 @@ impl Step {
         }
     }
 
-    /// Whether a change is of a module text.
+    /// Whether any change is of a module text.
     pub fn has_text(&self) -> bool
         ensures { result ≡ has_text self.now }
     {
@@ -95,8 +95,8 @@ impl Step {
         }
     }
 
-    /// Takes all changes back, the newest first. The step then leads forward again: `flip_forward` makes them
-    /// once more. It takes no memory.
+    /// Undoes all changes, the newest first. It leaves the step ready for `flip_forward`, which
+    /// redoes them. It takes no memory.
     pub fn flip_back(&mut self, store: &mut Store)
         ensures step { self.new ≡ flipped_back self.old store.old }
         ensures store { store.new ≡ before self.old store.old }
@@ -107,7 +107,8 @@ impl Step {
         }
     }
 
-    /// Makes all changes again, the oldest first, after `flip_back`. It takes no memory.
+    /// Redoes all changes, the oldest first. It leaves the step ready for `flip_back`. It takes no
+    /// memory.
     pub fn flip_forward(&mut self, store: &mut Store)
         ensures step { self.new ≡ flipped_forward self.old store.old }
         ensures store { store.new ≡ after self.old store.old }
@@ -119,7 +120,7 @@ impl Step {
     }
 }
 
-// Makes the change by a log of its own.
+// Makes the change with a log of its own.
 fn logged(alloc: Global, store: &mut Store, change: Entry<'_>) -> Result<Step, NoMemory>
     ensures step { IfOk result (λ step. step ≡ found change.entry store.old ∷ []) }
     ensures store { OnOk result (store.new ≡ put change.entry store.old) }
@@ -133,7 +134,7 @@ fn logged(alloc: Global, store: &mut Store, change: Entry<'_>) -> Result<Step, N
 }
 
 impl Whole {
-    // Swaps what is kept for what stands in the slot.
+    // Swaps the held value with the content of the slot.
     fn exchange(&mut self, store: &mut Store)
         ensures store { store.new ≡ put (whole_entry self.old) store.old }
         ensures kept { whole_entry self.new ≡ found (whole_entry self.old) store.old }

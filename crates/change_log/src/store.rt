@@ -1,4 +1,4 @@
-//! Stores: trees and module texts in numbered slots, by their names.
+//! Stores: trees and module texts by name, in numbered slots.
 
 ghost use Rattle.std.specs.Prelude.{◌≡◌, IfOk, OnOk, OnErr, Some, option_copied};
 ghost use Rattle.std.specs.FinMap as finmap;
@@ -12,9 +12,10 @@ use std::alloc::Global;
 use std::marker::Model;
 use term_core::{Label, NoMemory, Term};
 
-/// Trees and module texts in slots. A slot is made for a label when it is first asked for, and stays;
-/// it is empty until a change puts something there. Its number is its index among the slots for trees,
-/// or among those for modules. The contents of a store are those of its slots that aren't empty.
+/// Trees and module texts in slots. A slot is made when a label is first asked for, and is never
+/// removed; it is empty until a change puts something there. Its number is its index among the
+/// slots for trees, or among those for modules. The contents of a store are those of its slots that
+/// aren't empty.
 #[derive(Drop)]
 pub struct Store {
     trees: Slots<Term>,
@@ -33,7 +34,7 @@ impl Model for Store {
 }
 
 impl Store {
-    /// A store without slots. It takes no memory.
+    /// An empty store. It takes no memory.
     pub fn new(alloc: Global) -> Store
         ensures { result ≡ empty_store }
     {
@@ -43,7 +44,7 @@ impl Store {
         }
     }
 
-    /// The slot for the tree of this label, which is made where there was none.
+    /// The slot for the tree of this label. It is made if there is none.
     pub fn tree_slot(&mut self, name: &Label) -> Result<usize, NoMemory>
         ensures ok { OnOk result (self.new ≡ with_tree_slot self.old name.now) }
         ensures slot { IfOk result (λ i. slot_of self.new.trees name.now ≡ Some i) }
@@ -53,7 +54,7 @@ impl Store {
         self.trees.find_or_make(name)
     }
 
-    /// The slot for the module of this label, which is made where there was none.
+    /// The slot for the module of this label. It is made if there is none.
     pub fn module_slot(&mut self, name: &Label) -> Result<usize, NoMemory>
         ensures ok { OnOk result (self.new ≡ with_module_slot self.old name.now) }
         ensures slot { IfOk result (λ i. slot_of self.new.modules name.now ≡ Some i) }
@@ -63,7 +64,7 @@ impl Store {
         self.modules.find_or_make(name)
     }
 
-    /// The slot for the tree of this label, empty or not, or `None` where it has none.
+    /// The slot for the tree of this label, empty or not, or `None` if it has none.
     pub fn find_tree(&self, name: &Label) -> Option<usize>
         ensures slot { result ≡ slot_of self.now.trees name.now }
         ensures apart { AreApart self.now.trees }
@@ -71,7 +72,7 @@ impl Store {
         self.trees.find(name)
     }
 
-    /// The slot for the module of this label, empty or not, or `None` where it has none.
+    /// The slot for the module of this label, empty or not, or `None` if it has none.
     pub fn find_module(&self, name: &Label) -> Option<usize>
         ensures slot { result ≡ slot_of self.now.modules name.now }
         ensures apart { AreApart self.now.modules }
@@ -79,14 +80,14 @@ impl Store {
         self.modules.find(name)
     }
 
-    /// The tree in the slot, or `None` where it is empty, or where there is no such slot.
+    /// The tree in the slot, or `None` if the slot is empty or doesn't exist.
     pub fn tree(&self, slot: usize) -> Option<&Term>
         ensures { option_copied result ≡ content self.now.trees slot }
     {
         self.trees.content(slot)
     }
 
-    /// The module text in the slot, or `None` where it is empty, or where there is no such slot.
+    /// The module text in the slot, or `None` if the slot is empty or doesn't exist.
     pub fn module(&self, slot: usize) -> Option<&[u8]>
         ensures { option_copied result ≡ content self.now.modules slot }
     {
@@ -110,7 +111,7 @@ impl Store {
         self.modules.names(alloc)
     }
 
-    // Swaps what stands at a place for what is kept; nothing where the store doesn't have the place.
+    // Swaps what is at a place with `kept`; does nothing if the store doesn't have the place.
     #[inline(always)]
     pub(crate) fn exchange(&mut self, slot: usize, path: &[usize], kept: &mut Kept)
         ensures store { self.new ≡ put (entry_of slot path.now kept.old) self.old }
@@ -123,7 +124,7 @@ impl Store {
         }
     }
 
-    // The same for what is no subterm.
+    // The same for everything but a subterm.
     #[inline(never)]
     fn exchange_other(&mut self, slot: usize, path: &[usize], kept: &mut Kept)
         ensures store { self.new ≡ put (entry_of slot path.now kept.old) self.old }

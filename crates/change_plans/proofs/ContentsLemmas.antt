@@ -26,13 +26,14 @@ further : (o : Option ℕ) (i : ℕ) → option_map (λ i. i + 1) o ≡ Some i �
 further None i e = absurd (cc)
 further (Some j) i e = (j, refl, (let is : j + 1 ≡ i = cc in omega (arith, is)))
 
--- ---- what the map of slots has under a label
+-- ---- what the map of slots has for a label
 
 module _ {X : Type 0} where
   look : Slots X → List ℕ → Option X
   look ss q = find (slice_cmp nat_cmp) q (filled ss)
 
-  -- a slot with content c over what the others give, where b tells whether its label is meant
+  -- a slot with content c on top of what the other slots give; b says whether its label is the one
+  -- sought
   over : Option X → Bool → Option X → Option X
   over None b o = o
   over (Some x) b o = cond b (Some x) o
@@ -51,21 +52,21 @@ module _ {X : Type 0} where
   over-false None o = refl
   over-false (Some x) o = refl
 
-  -- what is put over a slot of the same label
+  -- a put in a slot of the same label
   put_over : (b : Bool) (d c o : Option X) → (b ≡ true → d ≡ None → o ≡ None) → over d b o ≡ cond b d (over c b o)
   unfolding over
   put_over true None c o h = h refl refl
   put_over true (Some x) c o h = refl
   put_over false d c o h = over-false d o ∙ sym (over-false c o)
 
-  -- a slot of another label stays over what is put below it
+  -- a slot of another label, on top of a put below it
   put_below : (b n : Bool) (c d o : Option X) → (b ≡ true → n ≡ false) → over c b (cond n d o) ≡ cond n d (over c b o)
   unfolding over
   put_below b n None d o h = refl
   put_below false n (Some x) d o h = refl
   put_below true n (Some x) d o h = ap (λ n. cond n d (Some x)) {x = false} {y = n} (sym (h refl))
 
-  -- no other slot has the label of the first
+  -- no other slot has the label of the first one
   absent : (k q : List ℕ) (ss : Slots X) → AllByRecursion (λ y. pointwise nat_eq k y ≡ false) (labels ss) → same q k ≡ true → look ss q ≡ None
   unfolding look same
   absent k q [] h e = refl
@@ -134,7 +135,7 @@ module _ {X : Type 0} where
   pub named_under : (ss : Slots X) (name : List ℕ) → AreApart ss → get (named ss) name ≡ option_and_then (content ss) (slot_of ss name)
   named_under ss name a = named-look ss name ∙ look_under ss name a
 
-  -- ---- a slot more
+  -- ---- one more slot
 
   filled_empty : (ss : Slots X) (name : List ℕ) → filled (ss ++ (name, None) ∷ []) ≡ filled ss
   filled_empty [] name = refl

@@ -1,4 +1,4 @@
--- Putting what was found takes a put back, so the two flips of a log take each other back.
+-- Putting back what was found undoes a put, so the two flips of a log are inverse.
 use Rattle.std.proofs.Common.{◌≡◌, zero, suc, ◌<◌, List, [], ◌∷◌, ◌++◌, refl, sym, ap, subst, ◌∙◌}
 use Rattle.change_plans.specs.Slots.{Store}
 use Rattle.change_plans.specs.Entries.{Entry, slot_tree, subterm, subterm_annotations, slot_text, HasPlace, put, found, before, after, flipped_back, flipped_forward, FitsForward}
@@ -19,7 +19,7 @@ found_back (subterm i p u) s = ap (subterm i p) (subterm_found_twice p s.trees i
 found_back (subterm_annotations i p us) s = ap (subterm_annotations i p) (annotations_found_twice p s.trees i us)
 found_back (slot_text i c) s = ap (slot_text i) (slot_found_twice s.modules i c)
 
--- the place of an entry is there after it was put
+-- the place of an entry exists after a put there
 pub place_stays : (e : Entry) (s : Store) → HasPlace e s → HasPlace (found e s) (put e s)
 place_stays (slot_tree i c) s h = subst (λ n. i < n) (sym (length-with_content s.trees i c)) h
 place_stays (subterm i p u) s h = subterm_stays p s.trees i u h
@@ -62,7 +62,7 @@ flipped_forward_fits (e ∷ es) s h =
     let next = put e s in
     (subst (HasPlace (found e s)) (sym (store_from_before es next)) (place_stays e s h.0), flipped_forward_fits es next h.1)
 
--- ---- logs one behind the other
+-- ---- concatenated logs
 
 pub before-append : (es fs : List Entry) (s : Store) → before (es ++ fs) s ≡ before es (before fs s)
 before-append [] fs s = refl

@@ -1,4 +1,4 @@
--- Entries whose paths stand one behind the other.
+-- Entries whose paths are concatenated.
 use Rattle.std.proofs.Common.{◌≡◌, ℕ, zero, suc, ◌+◌, ◌-◌, ◌<◌, ◌≤◌, List, [], ◌∷◌, ◌++◌, length, take, drop, set, slice_get, min, Some, refl, sym, ap, subst, ◌∙◌, arith}
 use Rattle.std.proofs.lemmas.List.{drop-drop, drop-take, length-set, take-take, take_all, take-set, length-take, length-drop, length-append, take-append-le, drop-append-le, take-append-drop}
 use Rattle.std.proofs.Math.Seq.{take-append_seam, drop-append_seam}
@@ -13,7 +13,7 @@ pub length-entries : (rs : List Replaced) (ps : List ℕ) → length (entries rs
 length-entries [] ps = refl
 length-entries (r ∷ rs) ps = ap suc (length-entries rs (drop r.depth ps))
 
--- ---- entries behind others
+-- ---- concatenated entries
 
 pub depths-both : (rs qs : List Replaced) → depths (rs ++ qs) ≡ depths rs + depths qs
 depths-both [] qs = omega arith
@@ -52,7 +52,7 @@ entries-append (x ∷ rs) r ps q h l =
     λ i. entry_of x.slot (take-append-le x.depth ps q inside i) x.kept
     ∷ (ap (entries (rs ++ r ∷ [])) (drop-append-le x.depth ps q inside) ∙ entries-append rs r (drop x.depth ps) q rest l) i
 
--- an entry more
+-- one more entry
 pub pushed_depths : (rs all : List Replaced) (r : Replaced) (ps path qs : List ℕ) → depths rs ≡ length ps → r.depth ≡ length path
     → all ≡ rs ++ r ∷ [] → qs ≡ ps ++ path → depths all ≡ length qs
 pushed_depths rs all r ps path qs h d a q = ap depths a ∙ depths-append rs r ∙ (λ i. h i + d i) ∙ sym (length-append ps path) ∙ sym (ap length q)
@@ -61,7 +61,7 @@ pub pushed_entries : (rs all : List Replaced) (r : Replaced) (ps path qs : List 
     → all ≡ rs ++ r ∷ [] → qs ≡ ps ++ path → entries all qs ≡ entries rs ps ++ entry_of r.slot path r.kept ∷ []
 pushed_entries rs all r ps path qs h d a q = (λ i. entries (a i) (q i)) ∙ entries-append rs r ps path h (sym d)
 
--- an entry less
+-- one entry less
 pub popped_depth : (rs all : List Replaced) (r : Replaced) (ps : List ℕ) → all ≡ rs ++ r ∷ [] → depths all ≡ length ps → r.depth ≤ length ps
 popped_depth rs all r ps a h = omega (arith, ap depths a, depths-append rs r, h)
 
@@ -90,7 +90,7 @@ before_newest log es e s h = sym (ap (λ l. before (drop (length l - 1) l) s) h 
 
 -- ---- rolling back
 
--- rolling back one entry more
+-- rolling back one more entry
 pub rolled_one : (n : ℕ) (all log : List Entry) (start s : Store) → n < length all → log ≡ take (suc n) all → s ≡ before (drop (suc n) all) start
     → (take (length log - 1) log ≡ take n all) × (before (drop (length log - 1) log) s ≡ before (drop n all) start)
 rolled_one n all log start s l h k =
@@ -150,7 +150,7 @@ next_begin_set (suc n) (x ∷ rs) r q g d = let rest = next_begin_set n rs r q g
 
 -- ---- flipping back, the newest entry first
 
--- Of the entries with these paths all but the first n were flipped back.
+-- Of the entries with these paths all but the first n are flipped back.
 abbrev pub FlippedFrom : ℕ → List Replaced → List Replaced → List ℕ → Store → Store → Type 0
 FlippedFrom zero old now ps start s =
     (entries now ps ≡ flipped_back (entries old ps) start) × (s ≡ before (entries old ps) start) × (depths now ≡ depths old)
@@ -162,7 +162,7 @@ pub none_flipped_back : (rs : List Replaced) (ps : List ℕ) (s : Store) → Fli
 none_flipped_back [] ps s = (refl, refl, refl)
 none_flipped_back (r ∷ rs) ps s = (refl, none_flipped_back rs (drop r.depth ps) s)
 
--- one entry more
+-- one more entry
 pub flipped_one_back : (n : ℕ) (old now : List Replaced) (ps path : List ℕ) (start s next : Store) (r q : Replaced)
     → FlippedFrom (suc n) old now ps start s
     → slice_get now n ≡ Some r
@@ -196,7 +196,7 @@ flipped_one_back (suc n) (x ∷ old) (y ∷ now) ps path start s next r q h g p 
 
 -- ---- flipping forward, the oldest entry first
 
--- Of the entries with these paths the first n were flipped forward.
+-- Of the entries with these paths the first n are flipped forward.
 abbrev pub FlippedTo : ℕ → List Replaced → List Replaced → List ℕ → Store → Store → Type 0
 FlippedTo zero old now ps start s = (now ≡ old) × (s ≡ start)
 FlippedTo (suc n) [] now ps start s = (now ≡ []) × (s ≡ start)
@@ -250,7 +250,7 @@ all_flipped_forward (suc n) (x ∷ old) (y ∷ now) ps start s l h =
       (λ i. h.0 i + rest.2 i),
     )
 
--- ---- one turn of each loop
+-- ---- one iteration of each loop
 
 module _ (ps : List ℕ) (old now : List Replaced) (start s next : Store) (r : Replaced) (kept : Kept) (path : List ℕ) where
   abbrev exchanged : Replaced
@@ -292,7 +292,7 @@ module _ (ps : List ℕ) (old now : List Replaced) (start s next : Store) (r : R
         subst (λ m. FlippedTo m old (set now n exchanged) ps start next) more done,
       )
 
--- the path of the next entry is left
+-- the path of the next entry remains
 pub path_left_back : (n left : ℕ) (rs : List Replaced) (r : Replaced) (ps rest : List ℕ) → left ≡ suc n → slice_get rs n ≡ Some r
     → rest ≡ take (path_begin left rs) ps → path_begin left rs ≤ length ps → r.depth ≤ length rest
 path_left_back n left rs r ps rest l g e h =

@@ -1,4 +1,4 @@
--- What stands in slots after a swap.
+-- The content of slots after a swap.
 use Rattle.std.proofs.Common.{◌≡◌, ℕ, zero, suc, ◌+◌, cond, List, [], ◌∷◌, ◌++◌, length, map, slice_get, Option, Some, None, option_map, option_and_then, unwrap_or, is_some, IsSome, Bool, true, false, refl, sym, ap, subst, ◌∙◌, arith}
 use Rattle.std.specs.Bool.{OnTrue, OnFalse}
 use Rattle.std.specs.Prelude.{nat_eq, nat_lt, position, if◌then◌else◌}
@@ -19,7 +19,7 @@ module _ {X : Type 0} where
   length-with_content (s ∷ ss) zero c = refl
   length-with_content (s ∷ ss) (suc i) c = ap suc (length-with_content ss i c)
 
-  -- swapping the content of a slot twice leaves it
+  -- swapping the content of a slot twice restores it
   pub slot_twice : (ss : Slots X) (i : ℕ) (c : Option X) → with_content (with_content ss i c) i (unwrap_or (slot_at ss i) c) ≡ ss
   slot_twice [] i c = refl
   slot_twice (s ∷ ss) zero c = refl
@@ -30,19 +30,19 @@ module _ {X : Type 0} where
   slot_found_twice (s ∷ ss) zero c = refl
   slot_found_twice (s ∷ ss) (suc i) c = slot_found_twice ss i c
 
-  -- where there is no such slot, nothing is put
+  -- if there is no such slot, nothing is put
   pub no_slot : (ss : Slots X) (i : ℕ) (c : Option X) → slice_get ss i ≡ None → with_content ss i c ≡ ss
   no_slot [] i c e = refl
   no_slot (s ∷ ss) zero c e = absurd (cc)
   no_slot (s ∷ ss) (suc i) c e = ap (λ l. s ∷ l) (no_slot ss i c e)
 
-  -- what is there already is put
+  -- putting what is already there changes nothing
   pub same_content : (ss : Slots X) (i : ℕ) → with_content ss i (content ss i) ≡ ss
   same_content [] i = refl
   same_content (s ∷ ss) zero = refl
   same_content (s ∷ ss) (suc i) = ap (λ l. s ∷ l) (same_content ss i)
 
-  -- the same by what the list of contents has there
+  -- the same in terms of the list of contents
   value_at : (es : Slots X) (i : ℕ) → slice_get (map (λ e. e.1) es) i ≡ slot_at es i
   value_at [] i = refl
   value_at (e ∷ es) zero = refl
@@ -67,7 +67,7 @@ module _ {X : Type 0} where
   pub content_at : (es ss : Slots X) (i : ℕ) (o : Option (Option X)) → es ≡ ss → o ≡ slice_get (map (λ e. e.1) es) i → content ss i ≡ option_and_then (λ c. c) o
   content_at es ss i o v h = ap (λ l. content l i) (sym v) ∙ content_slot_at es i ∙ ap (option_and_then (λ c. c)) (sym (value_at es i) ∙ sym h)
 
--- ---- a part of a slot's tree, which f puts and g gets
+-- ---- a part of a slot's tree: f puts it and g gets it
 
 module _ {Y : Type 0} (f : Tree → Y → Tree) (g : Tree → Y → Y) where
   -- what is found in the tree, if there is one
@@ -94,11 +94,11 @@ module _ {Y : Type 0} (f : Tree → Y → Tree) (g : Tree → Y → Y) where
     part_found_twice (s ∷ ss) zero y = found_twice s.1 y
     part_found_twice (s ∷ ss) (suc i) y = part_found_twice ss i y
 
-  -- a slot without a tree stays
+  -- a slot without a tree is unchanged
   pub no_tree : (h : Tree → Tree) (ss : Slots Tree) (i : ℕ) → content ss i ≡ None → changed_tree h ss i ≡ ss
   no_tree h ss i e = ap (λ o. with_content ss i (option_map h o)) e ∙ ap (with_content ss i) (sym e) ∙ same_content ss i
 
-  -- what a tree that is there is changed to
+  -- what an existing tree becomes
   pub content-changed_tree : (h : Tree → Tree) (ss : Slots Tree) (i : ℕ) → content (changed_tree h ss i) i ≡ option_map h (content ss i)
   content-changed_tree h [] i = refl
   content-changed_tree h (s ∷ ss) zero = refl
@@ -146,7 +146,7 @@ annotations_found_twice p ss i us =
     ∙ sym (annotations_found p (content (changed_tree (λ t. set_annotations_at t p us) ss i) i) (found_in (λ t us. set_annotations_at t p us) (λ t us. unwrap_or (annotations_at t p) us) (content ss i) us))
     ∙ part_found_twice (λ t us. set_annotations_at t p us) (λ t us. unwrap_or (annotations_at t p) us) (λ t us. ap (λ a. a.0) (swapping_annotations_twice p t us)) (λ t us. ap (λ a. a.1) (swapping_annotations_twice p t us)) ss i us
 
--- ---- a place that is there stays there
+-- ---- a place that exists still exists
 
 some : {X : Type 0} (o : Option X) → IsSome o → (x : X) × (o ≡ Some x)
 some None h = absurd (cc)
@@ -194,7 +194,7 @@ empty_put h es ss i c v g n =
     ap (with_content es i) (sym (content_at es ss i (Some c) v g)) ∙ ap (λ l. with_content l i (content ss i)) v ∙ same_content ss i
     ∙ sym (no_tree (λ t (y : Tree). t) (λ t (y : Tree). y) h ss i (content_at es ss i (Some c) v g ∙ n))
 
--- what is found of a tree, by what the list of contents has
+-- what is found in a tree, in terms of the list of contents
 pub found_part : {Y : Type 0} (f : Tree → Option Y) (es ss : Slots Tree) (i : ℕ) (o : Option (Option Tree)) (y : Y) → es ≡ ss → o ≡ slice_get (map (λ e. e.1) es) i
     → unwrap_or (option_and_then f (option_and_then (λ c. c) o)) y ≡ unwrap_or (option_and_then f (content ss i)) y
 found_part f es ss i o y v g = ap (λ o. unwrap_or (option_and_then f o) y) (sym (content_at es ss i o v g))
@@ -205,7 +205,7 @@ pub tree_put : (h : Tree → Tree) (es ss : Slots Tree) (i : ℕ) (t u : Tree) �
 tree_put h es ss i t u v g e =
     ap (λ l. with_content l i (Some u)) v ∙ ap (with_content ss i) (ap Some e ∙ ap (option_map h) (sym (content_at es ss i (Some (Some t)) v g)))
 
--- what a swap at a path leaves, be the place there or not
+-- what a swap at a path leaves, whether or not the place exists
 pub set_or_stays : (r : Bool) (t new u old : Tree) (p : List ℕ) → r ≡ leads t p → OnTrue r (new ≡ set_at t p u) → OnFalse r ((new ≡ t) × (old ≡ u)) → new ≡ set_at t p u
 set_or_stays true t new u old p l h k = h
 set_or_stays false t new u old p l h k = k.0 ∙ sym (set_nowhere t u p (nowhere (at t p) l))
@@ -224,7 +224,7 @@ old_annotations_or_stay false t new us old p l h k = k.1 ∙ ap (λ o. unwrap_or
 
 -- ---- the slot of a label
 
--- the first place where p passes, or the length
+-- the first index where p holds, or the length
 abbrev place : {A : Type 0} → (A → Bool) → List A → ℕ
 place p [] = 0
 place p (x ∷ xs) = cond (p x) 0 (1 + place p xs)
@@ -256,7 +256,7 @@ module _ {X : Type 0} where
   slot_of-place (s ∷ ss) name =
       next_place (pointwise nat_eq name s.0) (place (pointwise nat_eq name) (labels ss)) (length (labels ss)) (slot_of ss name) (slot_of-place ss name)
 
-  -- a map finds a label where its slot is
+  -- a map finds a label at the index of its slot
   pub position-slot_of : (ss : Slots X) (name : List ℕ) → position (pointwise nat_eq name) (labels ss) ≡ slot_of ss name
   position-slot_of ss name = by_place (pointwise nat_eq name) (labels ss) ∙ slot_of-place ss name
 
@@ -277,7 +277,7 @@ module _ {X : Type 0} where
         | false ↦ λ e. ap (option_map (λ i. i + 1)) (slot_of_last ss name c (none_further (slot_of ss name) e)) ∙ ap Some (omega arith)
       ] e
 
-  -- a label that has a slot
+  -- a label that already has a slot
   pub slot_stays : (ss es : Slots X) (name : List ℕ) (i : ℕ) → es ≡ ss → Some i ≡ position (pointwise nat_eq name) (labels es) → (es ≡ with_slot ss name) × (slot_of es name ≡ Some i)
   slot_stays ss es name i v h =
       let found : slot_of es name ≡ Some i = sym (h ∙ position-slot_of es name) in

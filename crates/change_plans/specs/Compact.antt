@@ -1,12 +1,12 @@
--- Compact logs: of their entries none changes what another one changes too.
+-- Compact logs: no two entries change the same thing.
 use Rattle.std.specs.Prelude.{◌≡◌, List}
 use Rattle.std.specs.List.{AllPairs}
 use Rattle.term_paths.specs.Paths as path
 use Rattle.change_plans.specs.Entries.{Entry, slot_tree, subterm, subterm_annotations, slot_text}
 
--- Whether the place of the first entry lies within that of the second. Within a slot's tree lies all of
--- that tree; within a subterm lie the subterms and annotations at paths within its own; within
--- annotations only these, and within a slot's module text only that.
+-- Whether the place of the first entry lies within that of the second. A slot's tree contains all
+-- its subterms and annotations; a subterm contains the subterms and annotations at paths that
+-- extend its own; annotations contain only themselves, and so does a module text.
 abbrev pub LiesWithin : Entry → Entry → Type 0
 LiesWithin (slot_tree i t) (slot_tree j u) = i ≡ j
 LiesWithin (subterm i p t) (slot_tree j u) = i ≡ j

@@ -1,4 +1,4 @@
--- Laws of logs. Places that a store doesn't have are no exception: nothing is put there.
+-- Laws of logs. They hold also for places that a store doesn't have: nothing is put there.
 use Rattle.std.specs.Prelude.{◌≡◌, ℕ, List, ◌++◌, [], ◌∷◌, Some, None, false, take, drop, option_and_then}
 use Rattle.std.specs.FinMap as finmap
 use Rattle.term_core.specs.Tree.{Tree}
@@ -8,7 +8,7 @@ use Rattle.change_plans.specs.Slots.{Store, AreApart, content, contents, slot_of
 use Rattle.change_plans.specs.Entries.{Entry, slot_tree, subterm, subterm_annotations, slot_text, HasPlace, put, found, before, after, flipped_back, flipped_forward, Fits, FitsForward, has_text}
 use Rattle.change_plans.specs.Compact.{IsCompact}
 
--- After a log was flipped back, going forward gives the store from before the flip and the log.
+-- Redoing a log that was flipped back gives the store from before the flip, and the same log.
 abbrev pub StoreFromAfter : Type 0
 StoreFromAfter = (log : List Entry) (s : Store) → after (flipped_back log s) (before log s) ≡ s
 
@@ -16,7 +16,7 @@ abbrev pub FlipsForward : Type 0
 FlipsForward = (log : List Entry) (s : Store)
     → flipped_forward (flipped_back log s) (before log s) ≡ log
 
--- And the other way round.
+-- The same for undoing a log that was flipped forward.
 abbrev pub StoreFromBefore : Type 0
 StoreFromBefore = (log : List Entry) (s : Store)
     → before (flipped_forward log s) (after log s) ≡ s
@@ -25,8 +25,8 @@ abbrev pub FlipsBack : Type 0
 FlipsBack = (log : List Entry) (s : Store)
     → flipped_back (flipped_forward log s) (after log s) ≡ log
 
--- A log that fits leads forward where it fits once it was flipped back, and back where it was
--- flipped forward.
+-- A log that fits still fits forward after it is flipped back, and backward after it is flipped
+-- forward.
 abbrev pub FlippedBackFits : Type 0
 FlippedBackFits = (log : List Entry) (s : Store)
     → Fits log s → FitsForward (flipped_back log s) (before log s)
@@ -35,7 +35,7 @@ abbrev pub FlippedForwardFits : Type 0
 FlippedForwardFits = (log : List Entry) (s : Store)
     → FitsForward log s → Fits (flipped_forward log s) (after log s)
 
--- What was put before a push is found by rolling back, and the log fits as it did.
+-- Rolling back finds what was put before a push, and the log still fits.
 abbrev pub PushedFits : Type 0
 PushedFits = (log : List Entry) (e : Entry) (s : Store)
     → Fits log s → HasPlace e s → Fits (log ++ found e s ∷ []) (put e s)
@@ -44,22 +44,22 @@ abbrev pub RolledBackFits : Type 0
 RolledBackFits = (mark : ℕ) (log : List Entry) (s : Store)
     → Fits log s → Fits (take mark log) (before (drop mark log) s)
 
--- Flips keep the places of a log, so a compact one stays so.
+-- Flips keep the places of a log, so a compact log stays compact.
 abbrev pub FlippedBackIsCompact : Type 0
 FlippedBackIsCompact = (log : List Entry) (s : Store) → IsCompact log → IsCompact (flipped_back log s)
 
 abbrev pub FlippedForwardIsCompact : Type 0
 FlippedForwardIsCompact = (log : List Entry) (s : Store) → IsCompact log → IsCompact (flipped_forward log s)
 
--- A log without module texts leaves those of the store.
+-- A log without module texts leaves those of the store unchanged.
 abbrev pub BeforeKeepsTexts : Type 0
 BeforeKeepsTexts = (log : List Entry) (s : Store) → has_text log ≡ false → (before log s).modules ≡ s.modules
 
 abbrev pub AfterKeepsTexts : Type 0
 AfterKeepsTexts = (log : List Entry) (s : Store) → has_text log ≡ false → (after log s).modules ≡ s.modules
 
--- What a log leads back to: a push keeps it, since it keeps what the change replaces, and rolling back
--- keeps it too.
+-- Which store a log leads back to: a push keeps it, since it records what the change replaces, and
+-- rolling back keeps it too.
 abbrev pub PushedLeadsBack : Type 0
 PushedLeadsBack = (log : List Entry) (e : Entry) (s : Store)
     → before (log ++ found e s ∷ []) (put e s) ≡ before log s
@@ -70,12 +70,12 @@ RolledBackLeadsBack = (mark : ℕ) (log : List Entry) (s : Store)
 
 -- ---- the contents of a store
 
--- A new slot is empty, so it leaves the contents.
+-- A new slot is empty, so the contents stay the same.
 abbrev pub NewSlotsAreEmpty : Type 0
 NewSlotsAreEmpty = (s : Store) (name : List ℕ)
     → (contents (with_tree_slot s name) ≡ contents s) × (contents (with_module_slot s name) ≡ contents s)
 
--- What is put in the slot of a name is under that name in the contents, and nothing else changes.
+-- A tree put in the slot of a name is in the contents under that name, and nothing else changes.
 abbrev pub TreePut : Type 0
 TreePut = (s : Store) (name : List ℕ) (i : ℕ) (t : Tree) → slot_of s.trees name ≡ Some i
     → contents (put (slot_tree i (Some t)) s) ≡ with_tree (contents s) name t
@@ -92,7 +92,7 @@ abbrev pub ModuleTaken : Type 0
 ModuleTaken = (s : Store) (name : List ℕ) (i : ℕ) → AreApart s.modules → slot_of s.modules name ≡ Some i
     → contents (put (slot_text i None) s) ≡ without_module (contents s) name
 
--- What is put at a path of a tree is that tree, changed there.
+-- Putting a subterm at a path changes the tree there.
 abbrev pub SubtermPut : Type 0
 SubtermPut = (s : Store) (i : ℕ) (p : List ℕ) (t u : Tree) → content s.trees i ≡ Some t
     → put (subterm i p u) s ≡ put (slot_tree i (Some (set_at t p u))) s
@@ -101,7 +101,7 @@ abbrev pub AnnotationsPut : Type 0
 AnnotationsPut = (s : Store) (i : ℕ) (p : List ℕ) (t : Tree) (us : List Tree) → content s.trees i ≡ Some t
     → put (subterm_annotations i p us) s ≡ put (slot_tree i (Some (set_annotations_at t p us))) s
 
--- What the contents have under a name is the content of its slot, and nothing where it has none.
+-- The contents have under a name the content of its slot, and nothing if it has no slot.
 abbrev pub TreeOfName : Type 0
 TreeOfName = (s : Store) (name : List ℕ) → AreApart s.trees
     → finmap.get (contents s).trees name ≡ option_and_then (content s.trees) (slot_of s.trees name)
@@ -110,10 +110,10 @@ abbrev pub ModuleOfName : Type 0
 ModuleOfName = (s : Store) (name : List ℕ) → AreApart s.modules
     → finmap.get (contents s).modules name ≡ option_and_then (content s.modules) (slot_of s.modules name)
 
--- ---- stores that get slots
+-- ---- stores with more slots
 
--- A log fits the store with one slot more where it fitted the store, and leads to what it led to,
--- with that slot.
+-- A log that fits a store also fits the store with one more slot, and leads to the same store with
+-- that slot.
 abbrev pub FitsWithMore : Type 0
 FitsWithMore = (log : List Entry) (s : Store) (name : List ℕ) → Fits log s
     → Fits log (with_tree_slot s name) × (before log (with_tree_slot s name) ≡ with_tree_slot (before log s) name)
@@ -122,7 +122,7 @@ abbrev pub FitsForwardWithMore : Type 0
 FitsForwardWithMore = (log : List Entry) (s : Store) (name : List ℕ) → FitsForward log s
     → FitsForward log (with_tree_slot s name) × (after log (with_tree_slot s name) ≡ with_tree_slot (after log s) name)
 
--- And so for slots of modules.
+-- The same for slots of modules.
 abbrev pub FitsWithMoreModules : Type 0
 FitsWithMoreModules = (log : List Entry) (s : Store) (name : List ℕ) → Fits log s
     → Fits log (with_module_slot s name) × (before log (with_module_slot s name) ≡ with_module_slot (before log s) name)

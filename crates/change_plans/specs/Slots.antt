@@ -1,5 +1,5 @@
--- Slots: places with a label each, which stay, so that their numbers can be kept. A slot has content
--- or is empty.
+-- Slots: places with a label each. They are never removed, so their numbers stay valid. A slot has
+-- content or is empty.
 use Rattle.std.specs.Prelude.{ℕ, List, [], ◌∷◌, ◌++◌, Some, None, map, slice_get, ◌+◌, is_some, option_map, option_and_then, filter_map, if◌then◌else◌, nat_eq}
 use Rattle.std.specs.declared.option.Option.{Option}
 use Rattle.std.specs.Cmp.Lexicographic.{pointwise}
@@ -17,19 +17,19 @@ module _ {X : Type 0} where
   abbrev pub labels : Slots X → List (List ℕ)
   labels slots = map (λ s. s.0) slots
 
-  -- no two slots have one label
+  -- no two slots have the same label
   abbrev pub AreApart : Slots X → Type 0
   AreApart slots = IsDistinct (pointwise nat_eq) (labels slots)
 
-  -- what is in slot i, which may be nothing, if there is that slot
+  -- the content of slot i, which may be empty, if there is such a slot
   abbrev pub slot_at : Slots X → ℕ → Option (Option X)
   slot_at slots i = option_map (λ s. s.1) (slice_get slots i)
 
-  -- the content of slot i, if it is there and has content
+  -- the content of slot i, if it exists and isn't empty
   abbrev pub content : Slots X → ℕ → Option X
   content slots i = option_and_then (λ s. s.1) (slice_get slots i)
 
-  -- the slots with c in slot i; they stay where there is no such slot
+  -- the slots with c in slot i; unchanged if there is no such slot
   abbrev pub with_content : Slots X → ℕ → Option X → Slots X
   with_content slots i c = set_value_at slots i c
 
@@ -39,12 +39,12 @@ module _ {X : Type 0} where
   slot_of (s ∷ slots) name =
       if pointwise nat_eq name s.0 then Some 0 else option_map (λ i. i + 1) (slot_of slots name)
 
-  -- the slots, with an empty one for the label where it had none
+  -- the slots, with an empty one for the label if it had none
   abbrev pub with_slot : Slots X → List ℕ → Slots X
   with_slot slots name =
       if is_some (slot_of slots name) then slots else slots ++ (name, None) ∷ []
 
-  -- the slots that have content, with it
+  -- the slots that have content, each with it
   abbrev pub filled : Slots X → List (List ℕ × X)
   filled slots = filter_map (λ s. option_map (λ x. (s.0, x)) s.1) slots
 
@@ -61,7 +61,7 @@ pub record Store : Type 0 where
 abbrev pub empty_store : Store
 empty_store = record { trees = []; modules = [] }
 
--- The contents that a store has: those of its slots with content. An empty slot is no part of them.
+-- The contents of a store: those of its slots that aren't empty.
 abbrev pub contents : Store → Contents
 contents s = record { trees = named s.trees; modules = named s.modules }
 

@@ -8,8 +8,8 @@ use crate::text::Text;
 use std::marker::Model;
 use term_core::Term;
 
-/// A place in a store, with what is to stand there. A slot of trees or of module texts is told by its
-/// number, a subterm by its path, the numbers of the children from the root on.
+/// A place in a store and what to put there. A slot of trees or of module texts is given by its
+/// number, a subterm by its path: the numbers of the children from the root.
 #[derive(Drop)]
 pub struct Entry<'a> {
     pub slot: usize,
@@ -17,7 +17,7 @@ pub struct Entry<'a> {
     pub kept: Kept,
 }
 
-/// What an entry keeps for its place.
+/// What an entry holds for its place.
 #[derive(Drop)]
 pub enum Kept {
     /// A slot's tree, or none.
@@ -57,7 +57,7 @@ impl<'a> Model for Entry<'a> {
 }
 
 impl<'a> Entry<'a> {
-    /// The tree of a slot, or none.
+    /// An entry that sets the tree of a slot, or empties it.
     pub fn tree(slot: usize, tree: Option<Term>) -> Entry<'a>
         ensures { result ≡ slot_tree slot tree }
     {
@@ -68,7 +68,7 @@ impl<'a> Entry<'a> {
         }
     }
 
-    /// The subterm that the path leads to in a slot's tree.
+    /// An entry that replaces the subterm at the path in a slot's tree.
     #[inline(always)]
     pub fn subterm(slot: usize, path: &'a [usize], term: Term) -> Entry<'a>
         ensures { result ≡ subterm slot path.now term }
@@ -80,7 +80,7 @@ impl<'a> Entry<'a> {
         }
     }
 
-    /// The annotations of that subterm.
+    /// An entry that replaces the annotations of the subterm at the path in a slot's tree.
     pub fn annotations(slot: usize, path: &'a [usize], annotations: Vec<Term>) -> Entry<'a>
         ensures { result ≡ subterm_annotations slot path.now annotations.items }
     {
@@ -91,7 +91,7 @@ impl<'a> Entry<'a> {
         }
     }
 
-    /// The module text of a slot, or none.
+    /// An entry that sets the module text of a slot, or empties it.
     pub fn text(slot: usize, text: Option<Vec<u8>>) -> Entry<'a>
         ensures { result ≡ slot_text slot (option_map (λ bytes. bytes.items) text) }
     {

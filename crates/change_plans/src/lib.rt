@@ -1,4 +1,5 @@
-//! Changes of named trees and module texts that are still to be made, and what stores and logs are as plain data.
+//! Changes of named trees and module texts that are yet to be made, and stores and logs as plain
+//! data.
 #![tactic(auto)]
 
 mod entry;

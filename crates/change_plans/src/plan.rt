@@ -1,4 +1,4 @@
-//! Changes that are still to be made.
+//! Changes that are yet to be made.
 
 ghost use Rattle.std.specs.Prelude.{◌≡◌, ◌≤◌, ◌+◌, ◌++◌, [], ◌∷◌, length, vec_len, vec_capacity, OnOk, OnErr};
 ghost use Rattle.change_plans.specs.Entries.{subterm};
@@ -8,20 +8,21 @@ use std::alloc::Global;
 use std::marker::Model;
 use term_core::{NoMemory, Term};
 
-/// A change without the path of its place: of a plan what is to stand there, of a log what was replaced.
+/// A change without the path of its place: in a plan it holds what to put there, in a log what was
+/// replaced.
 #[derive(Drop)]
 pub struct Replaced {
     pub slot: usize,
-    /// How long the path is.
+    /// The length of the path.
     pub depth: usize,
     pub kept: Kept,
 }
 
-/// Changes that are still to be made, the first one first. A log makes them.
+/// Changes that are yet to be made, the first one first. A log makes them.
 #[derive(Drop)]
 pub struct Plan {
     pub changes: Vec<Replaced>,
-    /// The paths of all changes, one behind the other.
+    /// The paths of all changes, concatenated.
     pub paths: Vec<usize>,
 }
 
@@ -43,7 +44,7 @@ impl Model for Plan {
 }
 
 impl Plan {
-    /// No changes. It takes no memory.
+    /// An empty plan. It takes no memory.
     pub fn new(alloc: Global) -> Plan
         ensures { result ≡ [] }
     {
@@ -53,7 +54,7 @@ impl Plan {
         }
     }
 
-    /// Makes room for so many changes more.
+    /// Reserves room for `count` more changes.
     pub fn reserve(&mut self, count: usize) -> Result<(), NoMemory>
         ensures { self.new ≡ self.old }
     {
@@ -61,9 +62,9 @@ impl Plan {
         Ok(())
     }
 
-    /// One change more: the subterm behind the path at this child.
+    /// Adds a change: the subterm at `path` followed by this child.
     ///
-    /// Where a growth of memory is refused, the plan stays as it was, and the term is dropped.
+    /// If memory can't grow, the plan stays as it was and the term is dropped.
     #[inline(always)]
     pub fn add_child(
         &mut self,
@@ -89,9 +90,9 @@ impl Plan {
         Ok(())
     }
 
-    /// One change more.
+    /// Adds a change.
     ///
-    /// Where a growth of memory is refused, the plan stays as it was, and the entry is dropped.
+    /// If memory can't grow, the plan stays as it was and the entry is dropped.
     #[inline(always)]
     pub fn add(&mut self, change: Entry<'_>) -> Result<(), NoMemory>
         ensures ok { OnOk result (self.new ≡ self.old ++ change.entry ∷ []) }
@@ -109,7 +110,7 @@ impl Plan {
     }
 }
 
-// Puts the path that goes on to the child behind the others, for which there is room.
+// Appends the path and the child to the paths, which have room.
 #[inline(always)]
 fn add_steps(paths: &mut Vec<usize>, path: &[usize], child: usize)
     requires { vec_len paths.old + length path.now + 1 ≤ vec_capacity paths.old }

@@ -4,7 +4,7 @@ ghost use Rattle.std.specs.Prelude.{◌≡◌};
 
 use std::marker::Model;
 
-/// The text of a module, as it was given.
+/// The text of a module, as given.
 #[derive(Drop)]
 pub struct Text {
     bytes: Vec<u8>,
@@ -19,14 +19,12 @@ impl Model for Text {
 }
 
 impl Text {
-    /// The text of these bytes.
     pub fn new(bytes: Vec<u8>) -> Text
         ensures { result ≡ bytes.items }
     {
         Text { bytes }
     }
 
-    /// Its bytes.
     pub fn bytes(&self) -> &[u8]
         ensures { result.now ≡ self.now }
     {

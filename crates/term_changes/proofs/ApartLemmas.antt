@@ -1,4 +1,4 @@
--- The places of a change lie apart.
+-- The places of a change are disjoint.
 use Rattle.std.proofs.Common.{◌≡◌, ℕ, ◌+◌, ◌≤◌, List, [], ◌∷◌, ◌++◌, refl, sym, ap, subst, arith}
 use Rattle.term_paths.specs.Paths.{LiesWithin}
 use Rattle.term_paths.specs.Laws.{AreApart}
@@ -22,7 +22,7 @@ all_below : (i : ℕ) (ps : Edits) → AllApart ps → AllApart (below i ps)
 all_below i [] h = tt
 all_below i (p ∷ ps) h = (from_all_below i p.path ps h.0, all_below i ps h.1)
 
--- behind a path
+-- below a path
 behind_child : (i : ℕ) (q : List ℕ) (ps : Edits) → behind (i ∷ q) ps ≡ below i (behind q ps)
 behind_child i q [] = refl
 behind_child i q (p ∷ ps) = ap (λ l. record { path = i ∷ (q ++ p.path); new = p.new } ∷ l) (behind_child i q ps)
@@ -33,7 +33,7 @@ behind_root (p ∷ ps) = ap (λ l. p ∷ l) (behind_root ps)
 
 -- ---- below different children
 
--- the path leads through child k or one behind it
+-- the path leads through child k or a later one
 abbrev HeadFrom : ℕ → List ℕ → Type 0
 HeadFrom k [] = ⊥
 HeadFrom k (j ∷ p) = k ≤ j

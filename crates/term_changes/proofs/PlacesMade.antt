@@ -27,7 +27,7 @@ put_below (p ∷ ps) t kid i h =
     ∙ put_below ps (with_child t i next) next i (child-with_child t i kid next h)
     ∙ with_child-with_child t i next (put_all ps next)
 
--- and where there is no such child
+-- the same where there is no such child
 set_no_child : (t u : Tree) (i : ℕ) (p : List ℕ) → length (children t) ≤ i → set_at t (i ∷ p) u ≡ t
 set_no_child t u i p h = rw (slice_get_past (children t) i h) refl
 

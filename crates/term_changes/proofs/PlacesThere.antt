@@ -1,4 +1,4 @@
--- The places of a change are in the trees that have them.
+-- The places of a change exist in the trees that have them.
 use Rattle.std.proofs.Common.{◌≡◌, ℕ, ◌+◌, List, [], ◌∷◌, ◌++◌, length, slice_get, Some, IsSome, refl, sym, ap, subst, ◌∙◌, arith, append_assoc, length-append}
 use Rattle.std.specs.Prelude.{slice_set}
 use Rattle.term_core.specs.Tree.{Tree, children, with_children, with_child}
@@ -10,7 +10,7 @@ use Rattle.term_changes.specs.Putting.{HasPlaces, HaveAllPlaces}
 use Rattle.term_changes.proofs.NodeLemmas.{children-with_children}
 use Rattle.term_changes.proofs.PlacesMade.{put_all, put_below, put_places, get_seam, set_seam}
 
--- each place is there when its turn comes
+-- each place exists when its turn comes
 abbrev pub AllThere : Edits → Tree → Type 0
 AllThere [] t = Unit {0}
 AllThere (p ∷ ps) t = IsSome (at t p.path) × AllThere ps (set_at t p.path p.new)

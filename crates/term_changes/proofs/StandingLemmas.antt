@@ -1,4 +1,4 @@
--- What stands in the places of a term's children.
+-- What takes the places of a term's children.
 use Rattle.std.proofs.Common.{◌≡◌, ℕ, List, [], ◌∷◌, length, map, ◌<◌, ◌≤◌, get_or, Some, None, zero, refl, sym, arith, ap, ◌∙◌, suc}
 use Rattle.std.specs.List.{slice_get}
 use Rattle.std.proofs.lemmas.Option.{slice_get_past}
@@ -67,7 +67,7 @@ pub altered_past : (t : Tree) (ps : List Standing) (x : Altered) (i : ℕ) → r
     → length ps ≤ i → slice_get (children (after x)) i ≡ None
 altered_past t ps x i e h l = slice_get_past (children (after x)) i (omega (arith, l, altered_count t ps x e h))
 
--- the tree of a node over what stands for its children
+-- the tree of a node over new standings of its children
 pub tree-with_standing : (s : Standing) (ps : List Standing) → CanHold s ps → standing_tree (with_standing s ps) ≡ with_children (standing_tree s) (map standing_tree ps)
 tree-with_standing (unchanged t) ps h = ap (with_children t) (changed-suit (children t) ps h)
 tree-with_standing (altered a) ps h =

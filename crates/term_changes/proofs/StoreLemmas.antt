@@ -1,4 +1,4 @@
--- Replaced places, put into a store.
+-- Putting replaced subterms into a store.
 use Rattle.std.proofs.Common.{◌≡◌, ℕ, List, [], ◌∷◌, ◌++◌, Some, None, IsSome, refl, sym, ap, subst, ◌∙◌, zero, suc}
 use Rattle.std.specs.Prelude.{option_and_then}
 use Rattle.std.specs.declared.option.Option.{Option}
@@ -50,7 +50,7 @@ put_places_at (q ∷ ps) t u slot p s h k =
     ∙ ap (λ x. put (slot_tree slot (Some x)) s1) (last_set_stays t v (put_all ps v) p)
     ∙ (λ i. record s { trees = content_twice s.trees slot (Some next) (Some (set_at t p (put_all ps v))) i })
 
--- the tree of the slot, where it has one with that subterm
+-- the slot's tree, given that it has that subterm
 whole : (o : Option Tree) (p : List ℕ) (u : Tree) → option_and_then (λ t. at t p) o ≡ Some u → (t : Tree) × (o ≡ Some t) × (at t p ≡ Some u)
 whole None p u h = absurd (cc)
 whole (Some t) p u h = (t, refl, h)
@@ -62,7 +62,7 @@ places_put_the_change c u slot p s h =
     ∙ ap (λ x. put (slot_tree slot (Some (set_at w.0 p x))) s) (places_make_the_change c u)
     ∙ sym (subterm_put s slot p w.0 (changed c u) w.1)
 
--- ---- that they are there
+-- ---- the places exist
 
 fit_places_at : (ps : Edits) (t u : Tree) (slot : ℕ) (p : List ℕ) (s : Store) → content s.trees slot ≡ Some t → at t p ≡ Some u
     → AllThere ps u → FitsForward (entries_at slot (behind p ps)) s

@@ -1,4 +1,4 @@
--- What a run replaced in a tree. A change speaks of no tree: it can be made in any.
+-- What a run replaced in a tree. A change mentions no tree: it can be made in any.
 use Rattle.std.specs.Prelude.{ℕ, ◌+◌, List, [], ◌∷◌, ◌++◌, map}
 use Rattle.term_core.specs.Tree.{Tree, children, with_children}
 use Rattle.term_paths.specs.Edits.{Edits}
@@ -7,7 +7,7 @@ mutual
   pub data Change : Type 0 where
     -- nothing was replaced
     same : Change
-    -- these changes of the children, the first child first
+    -- the changes of the children, the first child first
     inside : Changes → Change
     -- the whole tree was replaced
     replaced : Tree → Change
@@ -33,7 +33,7 @@ abbrev pub below : ℕ → Edits → Edits
 below i e = map (λ x. record { path = i ∷ x.path; new = x.new }) e
 
 abbrev mutual
-  -- the outermost places that were replaced, and what stands there now
+  -- the outermost places that were replaced, each with its new subterm
   pub places : Change → Edits
   places same = []
   places (inside cs) = places_from 0 cs

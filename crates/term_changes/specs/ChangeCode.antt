@@ -1,4 +1,4 @@
--- How the logic stores changes, as terms, and edits.
+-- How the logic stores changes and edits, as terms.
 use Rattle.std.specs.Prelude.{◌≡◌, ℕ, pos, List, refl}
 use Rattle.std.proofs.Common.{ap}
 use Rattle.std.specs.Coded.{Coded, code_by, coded×, coded_list, coded_ℕ}

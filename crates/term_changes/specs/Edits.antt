@@ -1,5 +1,5 @@
--- Edits in the order in which they were made, and the change that they come to: of edits one within
--- the other only the outer place is left.
+-- Edits in the order in which they were made, and the change they amount to: of two edits one
+-- within the other only the outer place remains.
 use Rattle.std.specs.Prelude.{◌≡◌, ℕ, List, [], ◌∷◌}
 use Rattle.std.proofs.Common.{zero, suc}
 use Rattle.term_core.specs.Tree.{Tree}
@@ -13,14 +13,14 @@ nth_change no_more i = same
 nth_change (and_then c cs) zero = c
 nth_change (and_then c cs) (suc i) = nth_change cs i
 
--- the changes with d as the change of child i
+-- the changes, with d as that of child i
 abbrev pub with_nth : Changes → ℕ → Change → Changes
 with_nth no_more zero d = and_then d no_more
 with_nth no_more (suc i) d = and_then same (with_nth no_more i d)
 with_nth (and_then c cs) zero d = and_then d cs
 with_nth (and_then c cs) (suc i) d = and_then c (with_nth cs i d)
 
--- the change, and then u put at the path
+-- the change, followed by putting u at the path
 abbrev pub and_edit : Change → List ℕ → Tree → Change
 and_edit c [] u = replaced u
 and_edit same (i ∷ p) u = inside (with_nth no_more i (and_edit same p u))
@@ -31,6 +31,7 @@ abbrev pub and_edits : Change → Edits → Change
 and_edits c [] = c
 and_edits c (e ∷ es) = and_edits (and_edit c e.path e.new) es
 
--- The change that edits come to makes of a tree what the edits make of it, one after the other.
+-- Making the change that a list of edits amounts to has the same result as making the edits one
+-- after the other.
 abbrev pub EditsComeTo : Type 0
 EditsComeTo = (c : Change) (es : Edits) (t : Tree) → changed (and_edits c es) t ≡ edited (changed c t) es

@@ -9,7 +9,7 @@ IsFresh (unchanged t) = ⊥
 IsFresh (altered a) = ⊥
 IsFresh (fresh t) = Unit {0}
 
--- whether q can stand wherever p can: what is kept of a subterm is that subterm
+-- whether q can stand wherever p can: a subterm that is kept stays the same subterm
 abbrev pub Follows : Standing → Standing → Type 0
 Follows (unchanged t) q = Suits t q
 Follows (altered a) q = Suits a.before q
@@ -35,16 +35,16 @@ FollowersCanStand = (p : Standing) (qs : List Standing) → AllFollow (standing_
 abbrev pub SameRootFollows : Type 0
 SameRootFollows = (p : Standing) (qs : List Standing) → Follows p (with_standing p qs)
 
--- The trees of what stands in the places of the children are the children.
+-- The trees of the standings of the children are the children.
 abbrev pub TreesOfChildren : Type 0
 TreesOfChildren = (p : Standing) → map standing_tree (standing_children p) ≡ children (standing_tree p)
 
--- What follows a subterm is the tree that its change makes of the subterm.
+-- A standing that follows an unchanged subterm has the tree that its change makes of that subterm.
 abbrev pub FollowersAreTheChange : Type 0
 FollowersAreTheChange = (t : Tree) (q : Standing) → Follows (unchanged t) q
     → changed (standing_change q) t ≡ standing_tree q
 
--- The same root over what can stand in the places of the children is the tree with their trees.
+-- The same root over new standings of the children has as its tree the same root over their trees.
 abbrev pub TreeOverChildren : Type 0
 TreeOverChildren = (p : Standing) (qs : List Standing) → CanHold p qs
     → standing_tree (with_standing p qs) ≡ with_children (standing_tree p) (map standing_tree qs)

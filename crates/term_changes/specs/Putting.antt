@@ -1,4 +1,4 @@
--- Replaced places, put into a store one after the other.
+-- Putting replaced subterms into a store one after the other.
 use Rattle.std.specs.Prelude.{◌≡◌, ℕ, List, [], ◌∷◌, ◌++◌, map, Some}
 use Rattle.term_core.specs.Tree.{Tree, children}
 use Rattle.term_paths.specs.Laws.{AreApart}
@@ -7,7 +7,7 @@ use Rattle.change_plans.specs.Entries.{Entry, subterm, subterm_in, put, before, 
 use Rattle.term_paths.specs.Edits.{Edit, Edits, edited, behind}
 use Rattle.term_changes.specs.Change.{Change, same, inside, replaced, Changes, no_more, and_then, changed, places}
 
--- the entry that puts what stands at the place into the tree of a slot
+-- the entry that puts the new subterm at its place in the tree of a slot
 abbrev pub entry_at : ℕ → Edit → Entry
 entry_at slot x = subterm slot x.path x.new
 
@@ -18,12 +18,12 @@ abbrev pub ApartFromAll : List ℕ → Edits → Type 0
 ApartFromAll q [] = Unit {0}
 ApartFromAll q (x ∷ e) = AreApart q x.path × ApartFromAll q e
 
--- no place lies within another one
+-- no place lies within another
 abbrev pub AllApart : Edits → Type 0
 AllApart [] = Unit {0}
 AllApart (x ∷ e) = ApartFromAll x.path e × AllApart e
 
--- The places of a change lie apart.
+-- The places of a change are disjoint.
 abbrev pub PlacesLieApart : Type 0
 PlacesLieApart = (c : Change) (p : List ℕ) → AllApart (behind p (places c))
 
@@ -31,13 +31,13 @@ PlacesLieApart = (c : Change) (p : List ℕ) → AllApart (behind p (places c))
 abbrev pub PlacesMakeTheChange : Type 0
 PlacesMakeTheChange = (c : Change) (t : Tree) → edited t (places c) ≡ changed c t
 
--- And so in a store, where the subterm that is changed stands in a slot's tree.
+-- The same in a store, where the changed subterm is part of a slot's tree.
 abbrev pub PlacesPutTheChange : Type 0
 PlacesPutTheChange = (c : Change) (u : Tree) (slot : ℕ) (p : List ℕ) (s : Store)
     → subterm_in s.trees slot p ≡ Some u
     → after (entries_at slot (behind p (places c))) s ≡ put (subterm slot p (changed c u)) s
 
--- ---- that the places are there
+-- ---- the places exist
 
 abbrev mutual
   -- whether the tree has the places of the change
@@ -57,14 +57,14 @@ PlacesAreThere = (c : Change) (u : Tree) (slot : ℕ) (p : List ℕ) (s : Store)
     → subterm_in s.trees slot p ≡ Some u → HasPlaces u c
     → FitsForward (entries_at slot (behind p (places c))) s
 
--- ---- logs of several changes, made one after the other
+-- ---- logs of several changes
 
--- They keep the store that the log leads back to.
+-- The log still leads back to the same store.
 abbrev pub AllLeadBack : Type 0
 AllLeadBack = (log es : List Entry) (s : Store)
     → before (log ++ flipped_forward es s) (after es s) ≡ before log s
 
--- Where each finds its place, the log fits as it did.
+-- If each new entry finds its place, the log still fits.
 abbrev pub AllFit : Type 0
 AllFit = (log es : List Entry) (s : Store) → Fits log s → FitsForward es s
     → Fits (log ++ flipped_forward es s) (after es s)

@@ -15,7 +15,7 @@ pub record Altered : Type 0 where
 abbrev pub after : Altered → Tree
 after a = changed (inside a.changes) a.before
 
--- What stands in the place of a subterm: that subterm itself, that subterm with places in it replaced,
+-- What takes the place of a subterm: that subterm itself, that subterm with some places replaced,
 -- or another tree.
 pub data Standing : Type 0 where
   unchanged : Tree → Standing
@@ -32,7 +32,7 @@ standing_change (unchanged t) = same
 standing_change (altered a) = inside a.changes
 standing_change (fresh t) = replaced t
 
--- whether it can stand in the place of u: what was kept is u
+-- whether it can take the place of u: what it keeps is u
 abbrev pub Suits : Tree → Standing → Type 0
 Suits u (unchanged t) = t ≡ u
 Suits u (altered a) = a.before ≡ u
@@ -48,9 +48,9 @@ abbrev pub standing_changes : List Standing → Changes
 standing_changes [] = no_more
 standing_changes (p ∷ ps) = and_then (standing_change p) (standing_changes ps)
 
--- ---- down to the children, and up again
+-- ---- down to the children and up again
 
--- what stands in the place of u after a change
+-- what takes the place of u after a change
 abbrev pub stand : Tree → Change → Standing
 stand u same = unchanged u
 stand u (inside cs) = altered (record { before = u; changes = cs })
@@ -61,13 +61,13 @@ stand_all us no_more = map unchanged us
 stand_all [] (and_then c cs) = []
 stand_all (u ∷ us) (and_then c cs) = stand u c ∷ stand_all us cs
 
--- what stands in the places of the children
+-- what takes the places of the children
 abbrev pub standing_children : Standing → List Standing
 standing_children (unchanged t) = map unchanged (children t)
 standing_children (altered a) = stand_all (children a.before) a.changes
 standing_children (fresh t) = map fresh (children t)
 
--- whether these can stand in the places of the children
+-- whether these can take the places of the children
 abbrev pub CanHold : Standing → List Standing → Type 0
 CanHold (unchanged t) ps = SuitAll (children t) ps
 CanHold (altered a) ps = SuitAll (children a.before) ps

@@ -4,8 +4,8 @@ ghost use Rattle.term_changes.specs.Edits.{EditsComeTo};
 ghost use Rattle.term_changes.specs.Follows.{FollowsItself, FollowsOn, FollowersCanStand, SameRootFollows, TreesOfChildren, FollowersAreTheChange, TreeOverChildren};
 ghost use Rattle.term_changes.specs.Putting.{PlacesLieApart, PlacesMakeTheChange, PlacesPutTheChange, PlacesAreThere, AllLeadBack, AllFit};
 
-/// The places of a change lie apart, and setting them makes the change, in a tree and in a store that
-/// has the places.
+/// The places of a change are disjoint. Setting them one by one makes the change, in a tree and in
+/// any store that has the places.
 pub fn places_of_changes()
     ensures apart { PlacesLieApart }
     ensures make { PlacesMakeTheChange }
@@ -13,7 +13,7 @@ pub fn places_of_changes()
     ensures there { PlacesAreThere }
 {}
 
-/// Changes that are made one after the other are taken back by their log.
+/// A log of several changes, made one after the other, takes them all back.
 pub fn logs_of_changes()
     ensures back { AllLeadBack }
     ensures fit { AllFit }
@@ -30,7 +30,7 @@ pub fn followers()
     ensures over { TreeOverChildren }
 {}
 
-/// Edits, made one after the other, come to one change.
+/// A sequence of edits amounts to one change.
 pub fn edits()
     ensures { EditsComeTo }
 {}

@@ -1,4 +1,4 @@
-//! What a run of a strategy replaced in a term, as plain data with its laws.
+//! What a run of a strategy replaced in a term, as plain data, and the laws of such changes.
 #![tactic(auto)]
 
 pub mod laws;

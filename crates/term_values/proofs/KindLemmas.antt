@@ -1,4 +1,4 @@
--- Terms and what they are made of.
+-- Terms and their parts.
 use Rattle.std.proofs.Common.{◌≡◌, List, refl, sym, ap, ◌∙◌, subst}
 use Rattle.term_core.specs.Tree.{Tree, integer, branch, children, annotations, with_children, with_annotations, of_list}
 use Rattle.term_core.specs.Kind.{made_of}
@@ -60,7 +60,7 @@ pub with_annotations-same : (t : Tree) → with_annotations t (annotations t) �
 with_annotations-same (integer z notes) = ap (integer z) (of_list-to_list notes)
 with_annotations-same (branch head kids notes) = ap (branch head kids) (of_list-to_list notes)
 
--- ---- what stands at the root
+-- ---- roots
 
 abbrev pub IsOfKind : Kind → Tree → Type 0
 IsOfKind k t = t ≡ made_of k (children t) (annotations t)
@@ -88,7 +88,7 @@ kind-after k t x e h =
     kind-with_children k x.before (changed_all x.changes (children x.before))
     (subst (λ (u : Tree). IsOfKind k u) (sym e) h)
 
--- of a tree that is known under another name
+-- the same for a tree known by another name
 pub kind_along : (k : Kind) (t u : Tree) → t ≡ u → IsOfKind k t → IsOfKind k u
 kind_along k t u e h = subst (λ (x : Tree). IsOfKind k x) e h
 

@@ -10,11 +10,11 @@ use Rattle.term_values.proofs.KindLemmas.{with_annotations-same, with_annotation
 pub list_children : (us : List Tree) (t : Tree) → t ≡ list_term us → children t ≡ us
 list_children us t e = ap children e ∙ to_list-of_list us
 
--- a list of these is a list of its children
+-- a list of these trees is a list of its children
 pub is_list : (us : List Tree) (t : Tree) → t ≡ list_term us → t ≡ list_term (children t)
 is_list us t e = e ∙ ap list_term (sym (list_children us t e))
 
--- ---- rests
+-- ---- suffixes
 
 pub rest_again : (us : List Tree) (t : Tree) (n k : ℕ) → t ≡ list_term (drop n us) → list_term (drop (n + k) us) ≡ list_term (drop k (children t))
 rest_again us t n k e = ap list_term (sym (drop-drop k n us) ∙ ap (drop k) (sym (list_children (drop n us) t e)))
@@ -45,7 +45,7 @@ chunk_left all left rest n m h l e f =
     let same : rest ≡ take m all = f ∙ ap (take m) e ∙ take-take m n all l in
     (omega (arith, ap length same, length-take m all, h, l), same)
 
--- one element more in front of the rest of a chunk
+-- one more element in front of the rest of a chunk
 pub link_more : (us ch : List Tree) (i : ℕ) (v rest next : Tree) → i < length us → v ≡ get_or us i v → rest ≡ list_term (drop (i + 1) us ++ ch)
     → next ≡ list_term (v ∷ children rest) → next ≡ list_term (drop i us ++ ch)
 link_more us ch i v rest next h e k g =

@@ -1,4 +1,4 @@
--- Parts in the places of children, and places of changes gathered one child after the other.
+-- Parts in the places of children, and the places of changes, gathered child by child.
 use Rattle.std.proofs.Common.{◌≡◌, ℕ, ◌+◌, ◌-◌, ◌<◌, ◌≤◌, List, [], ◌∷◌, ◌++◌, length, map, take, drop, get_or, Some, refl, sym, ap, ◌∙◌, subst, arith, zero, suc, append_assoc, length-append}
 use Rattle.std.specs.List.{slice_get}
 use Rattle.std.proofs.lemmas.List.{map-append, take_more, drop_more}
@@ -26,7 +26,7 @@ get_unchanged [] i v h e = absurd (omega (arith, h))
 get_unchanged (u ∷ us) zero v h e = ap (λ t. Some (unchanged t)) (sym e)
 get_unchanged (u ∷ us) (suc i) v h e = get_unchanged us i v (omega (arith, h)) e
 
--- the trees of the first parts, and one more
+-- the trees of the first parts and one more
 pub trees_more : (ps : List Standing) (i : ℕ) (p : Standing) → i < length ps → p ≡ get_or ps i p
     → map standing_tree (take (i + 1) ps) ≡ map standing_tree (take i ps) ++ standing_tree p ∷ []
 trees_more ps i p h e =
@@ -42,7 +42,7 @@ pub altered_notes : (t : Tree) (ps : List Standing) (x : Altered) → record { b
 altered_notes t ps x e =
     sym (annotations-with_children t (changed_all (standing_changes ps) (children t))) ∙ ap (λ a. annotations (after a)) e
 
--- ---- how high parts are
+-- ---- heights of parts
 
 pub part_height : (ps : List Standing) (i : ℕ) (p : Standing) → i < length ps → p ≡ get_or ps i p
     → height (standing_tree p) ≤ heights (of_list (map standing_tree ps))
@@ -74,14 +74,14 @@ next_places q k zero (x ∷ ps) p h e =
     ∙ (λ j. (behind-below q k (places (standing_change x)) ∙ ap (λ y. behind (q ++ k ∷ []) (places (standing_change y))) (sym e)) j ++ behind q (places_from (k + 1) (standing_changes ps)))
 next_places q k (suc i) (x ∷ ps) p h e = next_places q k i ps p (omega (arith, h)) e
 
--- none are left behind the last child
+-- none remain after the last child
 pub no_places : (q : List ℕ) (k i : ℕ) (ps : List Standing) → length ps ≤ i → behind q (places_from k (standing_changes (drop i ps))) ≡ []
 no_places q k zero [] h = refl
 no_places q k (suc i) [] h = refl
 no_places q k zero (x ∷ ps) h = absurd (omega (arith, h))
 no_places q k (suc i) (x ∷ ps) h = no_places q k i ps (omega (arith, h))
 
--- one child more
+-- one more child
 pub gathered : (slot : ℕ) (q : List ℕ) (i : ℕ) (ps : List Standing) (p : Standing) (all next total : List Entry) → i < length ps → p ≡ get_or ps i p
     → next ≡ all ++ entries_at slot (behind (q ++ i ∷ []) (places (standing_change p)))
     → all ++ entries_at slot (behind q (places_from i (standing_changes (drop i ps)))) ≡ total
@@ -103,9 +103,9 @@ popped xs old new i n e k h =
     count : length (xs ++ i ∷ []) - 1 ≡ length xs
     count = omega (arith, length-append xs (i ∷ []))
 
--- ---- that the places are there
+-- ---- the places exist
 
--- Whether subterms in whose places these can stand have the places of their changes.
+-- Whether subterms whose places these can take have the places of the changes.
 abbrev pub AllThere : List Standing → Type 0
 AllThere ps = (us : List Tree) → SuitAll us ps → HaveAllPlaces us (standing_changes ps)
 

@@ -23,7 +23,7 @@ pub heights-append : (us vs : List Tree) → heights (of_list (us ++ vs)) ≡ ma
 heights-append [] vs = omega arith
 heights-append (u ∷ us) vs = omega (arith, heights-append us vs)
 
--- one of n trees that together have the size s and are below the height h
+-- one of n trees whose sizes add up to s and whose heights are below h
 pub within_all : (us : List Tree) (b : Bounds) (n s h : ℕ)
     → ((u : Tree) → size u + n ≤ s → height u + 1 ≤ h → Bounded u b)
     → sizes (of_list us) + n + 1 ≤ s + length us → heights (of_list us) + 1 ≤ h → AllWithin us b
@@ -85,7 +85,7 @@ bare_bounded t us b e f h =
 pub leaf_bounded : (t : Tree) (b : Bounds) → length (children t) ≡ 0 → length (annotations t) ≡ 0 → Covers 1 1 b → Bounded t b
 leaf_bounded t b e f h = node_bounded t [] [] b (sym (nothing (children t) e)) (sym (nothing (annotations t) f)) h
 
--- ---- the nodes that are made
+-- ---- new nodes
 
 kind_bounded : (k : Kind) (us : List Tree) (b : Bounds) → kind_shape k us
     → Covers (sizes (of_list us) + 1) (heights (of_list us) + 1) b → Bounded (made_of k us []) b

@@ -1,4 +1,4 @@
--- What is true of a node's fields.
+-- What holds of a node's fields.
 use Rattle.std.specs.Prelude.{◌≡◌, ℕ, ◌<◌, List, [], ◌++◌, length}
 use Rattle.term_core.specs.Tree.{Tree, children, annotations, list_term}
 use Rattle.term_core.specs.declared.kind.Kind.{Kind}
@@ -11,13 +11,13 @@ kind_shape (Application name) us = Unit {0}
 kind_shape AList us = Unit {0}
 kind_shape Tuple us = Unit {0}
 
--- Elements in front of a list without annotations; all are counted.
+-- Elements in front of a list without annotations; the count covers both.
 pub record JoinedShape (front : List Tree) (behind : Tree) (count : ℕ) : Type 0 where
   pub some : 0 < length front
   pub list : behind ≡ list_term (children behind)
   pub counted : count ≡ length (front ++ children behind)
 
--- A node without annotations that is given some.
+-- A node without annotations, given some.
 pub record NotedShape (node : Tree) (notes : List Tree) : Type 0 where
   pub bare : annotations node ≡ []
   pub some : 0 < length notes

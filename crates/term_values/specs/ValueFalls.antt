@@ -1,4 +1,4 @@
--- A part of a value is lower than the value.
+-- Parts of a value have a lower measure than the value.
 use Rattle.std.specs.Prelude.{◌≡◌, ◌≤◌, ◌<◌, ◌+◌, ◌*◌, List, [], ◌∷◌, ◌++◌, length, max}
 use Rattle.std.proofs.Common.{arith, ap}
 use denote.Param.Weighed.{most}

@@ -1,4 +1,4 @@
--- What the fields of a `Value`, of a `Changed` and of a `Part` stand for.
+-- What the fields of a `Value`, of a `Changed` and of a `Part` represent.
 use Rattle.std.specs.Prelude.{◌+◌, ◌*◌, ◌≤◌, ℕ, List, [], ◌++◌, drop, length}
 use Rattle.term_core.specs.Tree.{Tree, branch, application, children, annotations, with_annotations, bare, list_term, of_list}
 use Rattle.term_core.specs.Size.{size, sizes}
@@ -27,7 +27,7 @@ items_list (One us) = us.items
 items_list (Two us) = us.items
 items_list (Many us) = us.items
 
--- a node with this at its root and these children and annotations; an integer has no children
+-- a node with this root and these children and annotations; an integer has no children
 abbrev pub top_tree : Top → List Tree → List Tree → Tree
 top_tree (Borrowed k) us ns = made_of k us ns
 top_tree (Owned name) us ns = branch (application name.value) (of_list us) (of_list ns)
@@ -97,7 +97,7 @@ PartHasShape a = part_shape a.form
 
 -- ---- measures
 
--- A changed subterm may be held without its annotations, which aren't counted.
+-- A changed subterm may be held without its annotations; these aren't counted.
 abbrev pub altered_size : Altered → ℕ
 altered_size a = 4 * sizes (of_list (children (after a))) + 4
 

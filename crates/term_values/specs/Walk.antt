@@ -1,4 +1,4 @@
--- What is walked over.
+-- The trees that a walk visits.
 use Rattle.std.specs.Prelude.{◌≡◌, List, [], ◌++◌, map, Some, None}
 use Rattle.std.specs.declared.option.Option.{Option}
 use denote.Ref.{Bor}
@@ -28,6 +28,6 @@ behind_list (Some v) = children v.now
 abbrev pub elements_list : ElementsFields → List Tree
 elements_list a = run_list a.run ++ behind_list a.behind
 
--- an empty run has nothing behind it
+-- an empty run has no value after it
 abbrev pub NoGap : ElementsFields → Type 0
 NoGap a = run_list a.run ≡ [] → a.behind ≡ None

@@ -1,4 +1,4 @@
-//! Values without annotations, and with others.
+//! Values with their annotations dropped or replaced.
 #![tactic(auto, using(crate::proofs::KindLemmas::node_parts))]
 
 ghost use Rattle.std.specs.Prelude.{◌≡◌, IfOk};
@@ -18,7 +18,7 @@ use std::rc::Rc;
 use term_core::{NoMemory, Term};
 
 impl<'t> Value<'t> {
-    /// The same without annotations. It takes no memory.
+    /// The same value without annotations. It takes no memory.
     pub fn bare(&self) -> Result<Value<'t>, NoMemory>
         ensures { IfOk result (λ value. value ≡ bare_of self.now) }
     {
@@ -39,7 +39,7 @@ impl<'t> Value<'t> {
         }
     }
 
-    /// The same with these annotations in place of its own.
+    /// The same value with these annotations in place of its own.
     pub fn with_annotations(
         &self,
         alloc: Global,
@@ -55,8 +55,8 @@ impl<'t> Value<'t> {
         noted(alloc, node, Notes::Own(all), within)
     }
 
-    /// The same with the annotations of another value in place of its own. Those of a part of the
-    /// borrowed term aren't copied.
+    /// The same value with the annotations of another in place of its own. If that is part of the
+    /// borrowed term, they aren't copied.
     pub fn with_annotations_of(&self, alloc: Global, of: &Value<'t>) -> Result<Value<'t>, NoMemory>
         ensures { IfOk result (λ value. value ≡ with_annotations self.now (annotations of.now)) }
     {
@@ -68,7 +68,7 @@ impl<'t> Value<'t> {
         noted(alloc, node, notes, of.notes_bounds())
     }
 
-    // The annotations, held once more.
+    // Another holder of the annotations.
     fn share_notes(&self, alloc: Global) -> Result<Notes<'t>, NoMemory>
         ensures { IfOk result (λ notes. notes_list notes ≡ annotations self.now) }
     {
@@ -79,7 +79,7 @@ impl<'t> Value<'t> {
         }
     }
 
-    // Bounds of the annotations together.
+    // Bounds of all annotations together.
     fn notes_bounds(&self) -> Bounds
         ensures { AllBounded (annotations self.now) result }
     {
@@ -88,7 +88,7 @@ impl<'t> Value<'t> {
 }
 
 impl<'t> Changed<'t> {
-    // The subterm, which has the annotations.
+    // The subterm that has the annotations.
     fn subterm(&self) -> &'t Term
         ensures { annotations result.now ≡ annotations (after self.now) }
     {
@@ -96,7 +96,7 @@ impl<'t> Changed<'t> {
     }
 }
 
-// A node without annotations that is given some.
+// Gives annotations to a node that has none.
 fn noted<'t>(
     alloc: Global,
     node: Value<'t>,

@@ -1,4 +1,5 @@
-//! Upper bounds of size and height, kept with each reference so that few tests of fitting need a walk.
+//! Upper bounds of size and height, stored with each reference so that few tests of fitting need a
+//! walk.
 
 ghost use Rattle.std.specs.Prelude.{◌≡◌, ℕ, ◌+◌, ◌≤◌, ◌↔◌, IsTrue, max, true};
 ghost use Rattle.term_core.specs.Tree.{Tree};
@@ -7,18 +8,18 @@ ghost use Rattle.term_values.specs.Bounded.{Covers, Bounded};
 
 use term_core::{MAX_HEIGHT, MAX_SIZE};
 
-/// A size and a height that a tree, or a list of trees, doesn't exceed. The greatest numbers stand
-/// for no bound.
+/// A size and a height that a tree, or a list of trees, doesn't exceed. The greatest numbers mean
+/// that there is no bound.
 #[derive(Clone, Copy)]
 pub struct Bounds {
     pub(crate) size: u32,
     pub(crate) height: u16,
-    /// Whether they are the size and the height themselves, as far as these numbers go.
+    /// Whether these are the exact size and height, as far as the number types reach.
     pub(crate) exact: bool,
 }
 
 impl Bounds {
-    /// Nothing is known.
+    /// No bound is known.
     pub(crate) fn unknown() -> Bounds
         ensures { (s h : ℕ) → Covers s h result }
     {
@@ -29,7 +30,7 @@ impl Bounds {
         }
     }
 
-    /// Those of a term without children and annotations.
+    /// Bounds of a term without children and annotations.
     pub(crate) fn of_leaf() -> Bounds
         ensures { Covers 1 1 result }
     {
@@ -40,7 +41,7 @@ impl Bounds {
         }
     }
 
-    /// Those of no trees.
+    /// Bounds of no trees.
     pub(crate) fn of_none() -> Bounds
         ensures covers { Covers 0 0 result }
         ensures exact { result.exact ≡ true }
@@ -52,7 +53,7 @@ impl Bounds {
         }
     }
 
-    /// Those of trees and more trees.
+    /// Bounds of these trees and more trees together.
     pub(crate) fn and(self, more: Bounds) -> Bounds
         ensures covers { (s h r k : ℕ) → Covers s h self → Covers r k more → Covers (s + r) (max h k) result }
         ensures exact { self.exact ≡ true → more.exact ≡ true → result.exact ≡ true }
@@ -64,7 +65,7 @@ impl Bounds {
         }
     }
 
-    /// Those of a node over trees.
+    /// Bounds of a node over these trees.
     pub(crate) fn over(self) -> Bounds
         ensures covers { (s h : ℕ) → Covers s h self → Covers (s + 1) (h + 1) result }
         ensures exact { self.exact ≡ true → result.exact ≡ true }
@@ -76,7 +77,7 @@ impl Bounds {
         }
     }
 
-    /// Those of a list with these trees in front of the elements of another one.
+    /// Bounds of a list with these trees in front of the elements of another.
     pub(crate) fn before(self, list: Bounds) -> Bounds
         ensures { (s h r k : ℕ) → Covers s h self → Covers r k list → Covers (s + r) (max (h + 1) k) result }
     {
@@ -87,7 +88,8 @@ impl Bounds {
         }
     }
 
-    /// Those of a part, beside which there are at least so many other terms, that many levels lower.
+    /// Bounds of a part, if the whole has at least `terms` other terms and the part lies `levels`
+    /// lower.
     pub(crate) fn less(self, terms: usize, levels: u16) -> Bounds
         ensures { (s h r k : ℕ) → Covers s h self → r + terms ≤ s → k + levels ≤ h → Covers r k result }
     {
@@ -108,7 +110,7 @@ impl Bounds {
         }
     }
 
-    /// Those of one tree whose height is at most this.
+    /// Bounds of one tree whose height is at most `height`.
     pub(crate) fn of_height(height: u64) -> Bounds
         ensures { (s h : ℕ) → h ≤ height → Covers s h result }
     {
@@ -124,21 +126,21 @@ impl Bounds {
         }
     }
 
-    // Whether trees of these sizes and heights are larger or higher than the others may be.
+    // Whether the exact size or height here exceeds the other's bound.
     fn above(self, other: Bounds) -> bool
         ensures { IsTrue result → (s h : ℕ) → Covers s h self → Covers s h other → ⊥ }
     {
         self.exact && (other.size < self.size || other.height < self.height)
     }
 
-    /// Whether trees with these bounds can't be the same, as far as they tell.
+    /// Whether the bounds show that two trees can't be equal.
     pub(crate) fn excludes(self, other: Bounds) -> bool
         ensures { IsTrue result → (s h : ℕ) → Covers s h self → Covers s h other → ⊥ }
     {
         self.above(other) || other.above(self)
     }
 
-    /// Whether a tree with these bounds fits at the level, as far as they tell.
+    /// Whether the bounds show that a tree fits at the level.
     pub(crate) fn fit(self, level: u64) -> bool
         ensures sure { IsTrue result → (t : Tree) → Bounded t self → IsTrue (fits level t) }
         ensures exact { self.exact ≡ true → (t : Tree) → Bounded t self → result ≡ fits level t }

@@ -51,7 +51,7 @@ impl<'t> Value<'t> {
     }
 
     /// A node with these children. An integer has none. A long list is cut into chunks, so that its
-    /// rests needn't be copied.
+    /// suffixes needn't be copied.
     pub fn build(
         alloc: Global,
         kind: Kind<'t>,
@@ -78,7 +78,7 @@ impl<'t> Value<'t> {
         Value::made(alloc, Top::Borrowed(Kind::List), Items::Many(elements))
     }
 
-    /// The same with these children in place of its own. An integer has none.
+    /// The same root over these children. An integer has none.
     pub fn with_children(
         &self,
         alloc: Global,
@@ -91,7 +91,7 @@ impl<'t> Value<'t> {
         node.with_annotations_of(alloc, self)
     }
 
-    /// What stands at the root, held once more.
+    /// Another holder of the root.
     fn top(&self) -> Result<Top<'t>, NoMemory>
         ensures { IfOk result (λ top. self.now ≡ top_tree top (children self.now) (annotations self.now)) }
     {
@@ -108,7 +108,7 @@ impl<'t> Value<'t> {
         }
     }
 
-    /// A node with this at its root and these children. An integer has none.
+    /// A node with this root and these children. An integer has none.
     pub(crate) fn topped(
         alloc: Global,
         top: Top<'t>,
@@ -122,7 +122,7 @@ impl<'t> Value<'t> {
         }
     }
 
-    // A node of a kind that can have children, or that has none.
+    // A node whose kind is known to take children, or which has none.
     fn made(alloc: Global, top: Top<'t>, items: Items<'t>) -> Result<Value<'t>, NoMemory>
         requires { top_shape top (items_list items) }
         ensures { IfOk result (λ value. value ≡ top_tree top.entry (items_list items.entry) []) }
@@ -142,7 +142,7 @@ fn top_of<'t>(term: &'t Term) -> Top<'t>
     Top::Borrowed(term.kind())
 }
 
-/// Bounds of these values together.
+/// Bounds of all these values together.
 pub(crate) fn all_bounds(values: &[Value<'_>]) -> Bounds
     ensures { AllBounded values.now result }
 {

@@ -12,7 +12,7 @@ use std::alloc::Global;
 use term_core::{NoMemory, Term};
 
 impl<'t> Value<'t> {
-    /// Child `i`, counted from 0, or `None` where there are no more than `i`. It takes no memory.
+    /// Child `i`, counted from 0, or `None` if there is none. It takes no memory.
     pub fn child(&self, i: usize) -> Result<Option<Value<'t>>, NoMemory>
         ensures { IfOk result (λ child. child ≡ slice_get (children self.now) i) }
     {
@@ -30,7 +30,7 @@ impl<'t> Value<'t> {
         }
     }
 
-    // The same for any form.
+    // The same for the forms that `child` doesn't treat itself.
     fn other_child(&self, i: usize) -> Result<Option<Value<'t>>, NoMemory>
         ensures { IfOk result (λ child. child ≡ slice_get (children self.now) i) }
     {
@@ -38,7 +38,7 @@ impl<'t> Value<'t> {
         self.elements().value_at(i, within)
     }
 
-    /// The children, each held once more.
+    /// New holders of the children.
     pub fn share_children(&self, alloc: Global) -> Result<Vec<Value<'t>>, NoMemory>
         ensures { IfOk result (λ all. all.items ≡ children self.now) }
     {
@@ -46,14 +46,14 @@ impl<'t> Value<'t> {
         self.elements().values(alloc, within)
     }
 
-    /// How many annotations there are.
+    /// The number of annotations.
     pub fn annotation_count(&self) -> usize
         ensures { result ≡ length (annotations self.now) }
     {
         self.notes().len()
     }
 
-    /// The annotations, each held once more.
+    /// New holders of the annotations.
     pub fn share_annotations(&self, alloc: Global) -> Result<Vec<Value<'t>>, NoMemory>
         ensures { IfOk result (λ all. all.items ≡ annotations self.now) }
     {
@@ -61,14 +61,14 @@ impl<'t> Value<'t> {
         Elements::alone(self.notes()).values(alloc, within)
     }
 
-    // Bounds that each child keeps.
+    // Bounds that hold for each child.
     fn child_bounds(&self) -> Bounds
         ensures { AllWithin (children self.now) result }
     {
         self.bounds_below(self.child_count())
     }
 
-    // The same where it is known how many children there are.
+    // The same if the number of children is known.
     fn bounds_below(&self, count: usize) -> Bounds
         requires { count ≡ length (children self.now) }
         ensures { AllWithin (children self.now) result }
@@ -77,7 +77,7 @@ impl<'t> Value<'t> {
     }
 }
 
-// Term `i`, counted from 0, of those that keep within these bounds.
+// Term `i`, counted from 0, of terms that are within these bounds.
 #[inline(always)]
 fn original_at<'t>(terms: &'t [Term], i: usize, within: Bounds) -> Option<Value<'t>>
     requires { AllWithin terms.now within }
@@ -111,7 +111,7 @@ impl<'a, 't> Elements<'a, 't> {
         }
     }
 
-    /// Holders of the trees, of which these bounds are known.
+    /// New holders of the trees, which are within these bounds.
     pub(crate) fn values(self, alloc: Global, within: Bounds) -> Result<Vec<Value<'t>>, NoMemory>
         requires { AllWithin self within }
         ensures { IfOk result (λ all. all.items ≡ self.entry) }

@@ -1,4 +1,4 @@
-//! Walks over children and annotations, which take no memory and no holder.
+//! Walks over children and annotations. They take no memory and make no holders.
 #![tactic(auto, using(crate::proofs::KindLemmas::node_parts))]
 
 ghost use Rattle.std.specs.Prelude.{◌≡◌, [], ◌∷◌, ◌++◌, ◌≤◌, ◌<◌, ◌↔◌, IsTrue, length, drop, map, IfOk, IfSome, MatchOption, slice_get, Some, None};
@@ -15,7 +15,7 @@ use crate::value::{Form, Items, Joined, Notes, Value};
 use std::marker::Model;
 use term_core::{Kind, NoMemory, Term};
 
-/// A tree that is looked at.
+/// A tree that a walk visits.
 #[derive(Clone, Copy)]
 pub(crate) enum Seen<'a, 't> {
     Term(&'t Term),
@@ -23,7 +23,7 @@ pub(crate) enum Seen<'a, 't> {
     Part(&'a Part<'t>),
 }
 
-/// Trees that lie side by side.
+/// A slice of trees.
 #[derive(Clone, Copy)]
 pub(crate) enum Run<'a, 't> {
     Empty,
@@ -32,8 +32,8 @@ pub(crate) enum Run<'a, 't> {
     Parts(&'a [Part<'t>]),
 }
 
-/// The trees of a run and the children of the value behind it, from left to right. An empty run has
-/// nothing behind it.
+/// The trees of a run, followed by the children of the value after it. An empty run has no value
+/// after it.
 #[derive(Drop)]
 pub(crate) struct Elements<'a, 't> {
     run: Run<'a, 't>,
@@ -86,7 +86,7 @@ impl<'a, 't> Seen<'a, 't> {
         Elements::alone(self.note_run())
     }
 
-    /// The annotations, side by side.
+    /// The annotations as a run.
     pub(crate) fn note_run(self) -> Run<'a, 't>
         ensures { run_list result ≡ annotations (seen_tree self.entry) }
     {
@@ -97,7 +97,7 @@ impl<'a, 't> Seen<'a, 't> {
         }
     }
 
-    /// The term where it is a subterm of the borrowed term.
+    /// The term, if it is a subterm of the borrowed term.
     pub(crate) fn term(self) -> Option<&'t Term>
         ensures { IfSome result (λ term. term.now ≡ seen_tree self.entry) }
     {
@@ -111,7 +111,7 @@ impl<'a, 't> Seen<'a, 't> {
         }
     }
 
-    /// The bounds that are kept with the reference.
+    /// The bounds stored with the reference.
     pub(crate) fn bounds(self) -> Bounds
         ensures { Bounded (seen_tree self.entry) result }
     {
@@ -122,7 +122,7 @@ impl<'a, 't> Seen<'a, 't> {
         }
     }
 
-    /// A holder of the tree, of which these bounds are known.
+    /// A holder of the tree, which is within these bounds.
     pub(crate) fn value(self, within: Bounds) -> Result<Value<'t>, NoMemory>
         requires { Bounded (seen_tree self) within }
         ensures { IfOk result (λ value. value ≡ seen_tree self.entry) }
@@ -160,7 +160,7 @@ impl<'t> Part<'t> {
         }
     }
 
-    /// Bounds of the tree that stands there.
+    /// Bounds of the tree.
     pub(crate) fn bounds(&self) -> Bounds
         ensures { Bounded (standing_tree self.now) result }
     {
@@ -173,7 +173,7 @@ impl<'t> Part<'t> {
 }
 
 impl<'a, 't> Run<'a, 't> {
-    /// The first tree and the others.
+    /// The first tree and the rest.
     fn split_first(self) -> Option<(Seen<'a, 't>, Run<'a, 't>)>
         ensures { MatchOption result (run_list self.entry ≡ [])
             (λ p. run_list self.entry ≡ seen_tree p.0 ∷ run_list p.1) }
@@ -195,7 +195,7 @@ impl<'a, 't> Run<'a, 't> {
         }
     }
 
-    /// How many trees there are.
+    /// The number of trees.
     pub(crate) fn len(self) -> usize
         ensures { result ≡ length (run_list self.entry) }
     {
@@ -239,7 +239,7 @@ impl<'a, 't> Elements<'a, 't> {
         Elements { run, behind: None }
     }
 
-    /// How many trees lie side by side here.
+    /// The number of trees in the first run.
     pub(crate) fn room(&self) -> usize {
         self.run.len()
     }
@@ -311,7 +311,7 @@ impl<'t> Notes<'t> {
 }
 
 impl<'t> Changed<'t> {
-    /// The parts in the places of the children.
+    /// The parts that took the places of the children.
     pub(crate) fn run(&self) -> Run<'_, 't>
         ensures { run_list result ≡ children (after self.now) }
     {
@@ -377,7 +377,7 @@ fn terms_of<'a, 't>(term: &'t Term) -> Run<'a, 't>
     Run::Terms(term.children())
 }
 
-/// The children behind the first `skipped`.
+/// The children after the first `skipped`.
 pub(crate) fn terms_behind<'t>(term: &'t Term, skipped: usize) -> &'t [Term]
     requires { skipped ≤ length (children term.now) }
     ensures { result.now ≡ drop skipped (children term.now) }

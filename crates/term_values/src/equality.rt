@@ -1,4 +1,4 @@
-//! Whether two values are the same tree.
+//! Equality of values.
 #![tactic(auto, using(crate::proofs::KindLemmas::node_parts))]
 
 ghost use Rattle.std.specs.Prelude.{◌≡◌, ◌↔◌, IsTrue, List};
@@ -58,7 +58,7 @@ fn all_same(these: Elements<'_, '_>, those: Elements<'_, '_>) -> bool
     right.next().is_none()
 }
 
-/// Whether nodes of the two kinds are the same where their children and annotations are.
+/// Whether nodes of the two kinds are equal if their children and annotations are.
 fn same_kind(a: Kind<'_>, b: Kind<'_>) -> bool
     ensures yes { IsTrue result → (us ns : List Tree) → made_of a.entry us ns ≡ made_of b.entry us ns }
     ensures no { (us vs ns ms : List Tree) → made_of a.entry us ns ≡ made_of b.entry vs ms → IsTrue result }

@@ -1,5 +1,5 @@
-//! Values: trees that share subterms of a borrowed term and nodes made since, and what stands in the
-//! places of the borrowed term.
+//! Values: trees that share subterms of a borrowed term and nodes made since; and parts: what took
+//! the places of its subterms.
 #![tactic(auto)]
 
 mod annotate;

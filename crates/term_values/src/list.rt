@@ -1,7 +1,7 @@
-//! Rests of lists, and elements in front of lists.
+//! Suffixes of lists, and lists with elements put in front.
 //!
-//! A long list that is built lies in chunks that are shared. A rest or elements in front copy no more
-//! than one of them.
+//! A long list that is built lies in shared chunks. Taking a suffix, or putting elements in front,
+//! copies no more than one of them.
 #![tactic(auto, using(crate::proofs::KindLemmas::node_parts))]
 
 ghost use Rattle.std.specs.Prelude.{◌≡◌, ◌≤◌, ◌<◌, ◌+◌, ◌^◌, ◌++◌, ◌∷◌, drop, length, IfOk, OnOk, IsTrue};
@@ -15,10 +15,10 @@ use std::alloc::Global;
 use std::rc::Rc;
 use term_core::{Kind, NoMemory, Term};
 
-/// How many elements a chunk has at most.
+/// The greatest number of elements in a chunk.
 pub(crate) const CHUNK: usize = 64;
 
-/// How many single elements follow one another before they are gathered into a chunk.
+/// The number of single elements in a row after which they are gathered into a chunk.
 const RUN: usize = 63;
 
 impl<'t> Value<'t> {
@@ -59,7 +59,7 @@ impl<'t> Value<'t> {
         put_before(alloc, first, behind.as_list(alloc)?)
     }
 
-    /// The same for a value that is given away.
+    /// The same, consuming the other value.
     pub fn cons_owned(
         alloc: Global,
         first: Value<'t>,
@@ -115,7 +115,7 @@ impl<'t> Value<'t> {
         }
     }
 
-    // How many single elements follow one another at the front.
+    // The number of single elements in a row at the front.
     fn run(&self) -> usize {
         match &self.form {
             Form::Joined(joined) => joined.run,
@@ -123,7 +123,7 @@ impl<'t> Value<'t> {
         }
     }
 
-    // The children of the term, which are those of this value, behind the first `skipped`.
+    // The children after the first `skipped` of the term, whose children are those of this value.
     fn rest_of(&self, term: &'t Term, skipped: usize) -> Value<'t>
         requires same { children term.now ≡ children self.now }
         requires within { skipped ≤ length (children self.now) }
@@ -135,7 +135,7 @@ impl<'t> Value<'t> {
         }
     }
 
-    // The same where this value is a rest already.
+    // The same if this value is a suffix already.
     fn rest_behind(&self, term: &'t Term, before: usize, skipped: usize) -> Value<'t>
         requires rest { self.now ≡ list_term (drop before (children term.now)) }
         requires before { before ≤ length (children term.now) }
@@ -164,8 +164,8 @@ fn put_before<'t>(alloc: Global, first: Value<'t>, list: Value<'t>) -> Result<Va
     gathered(alloc, front, &list)
 }
 
-// The elements of a joined list behind the first `skipped`, one by one, so that their rests are at
-// hand.
+// The elements of a joined list after the first `skipped`, one by one, so that each later suffix is
+// a node already.
 fn joined_rest<'t>(alloc: Global, list: &Joined<'t>, skipped: usize) -> Result<Value<'t>, NoMemory>
     requires within { skipped < length (items_list list.now.front) }
     requires shape { JoinedShape (items_list list.now.front) list.now.behind list.now.count }
@@ -183,7 +183,7 @@ fn joined_rest<'t>(alloc: Global, list: &Joined<'t>, skipped: usize) -> Result<V
     Ok(rest)
 }
 
-// The list of the only one of these elements in front of the children of another value.
+// The list of the single element of this vector in front of the children of another value.
 fn join_one<'t>(
     alloc: Global,
     front: Vec<Value<'t>>,
@@ -200,7 +200,7 @@ fn join_one<'t>(
     }
 }
 
-// The list of the values behind the first `skipped` in front of another list, in chunks.
+// The list of the values after the first `skipped` in front of another list, in chunks.
 pub(crate) fn chunked<'t>(
     alloc: Global,
     values: Vec<Value<'t>>,
@@ -222,7 +222,7 @@ pub(crate) fn chunked<'t>(
     Ok(list)
 }
 
-// The elements and the short chunks that follow, as one chunk.
+// The elements and the short chunks after them, as one chunk.
 fn gathered<'t>(
     alloc: Global,
     front: Vec<Value<'t>>,
@@ -247,7 +247,7 @@ fn gathered<'t>(
     joined(alloc, Items::Many(all), behind.try_clone()?, 0)
 }
 
-// Adds holders of the values behind those that are there.
+// Appends holders of the values.
 fn add_all<'t>(all: &mut Vec<Value<'t>>, values: &[Value<'t>]) -> Result<(), NoMemory>
     ensures { OnOk result (all.new.items ≡ all.old.items ++ values.now) }
 {

@@ -1,4 +1,4 @@
-//! Whether values fit. Bounds that are kept with each reference decide it mostly without a walk.
+//! Whether values fit. The bounds stored with each reference mostly decide it without a walk.
 #![tactic(auto, using(crate::proofs::KindLemmas::node_parts))]
 
 ghost use Rattle.std.specs.Prelude.{◌≡◌, ◌≤◌, ◌<◌, ◌+◌, ◌↔◌, IsTrue, IfSome, IfNone};
@@ -13,16 +13,16 @@ use crate::value::Value;
 use term_core::{MAX_SIZE, Term};
 
 impl<'t> Value<'t> {
-    /// Whether the bounds that are known tell that the value fits at the level. It looks at nothing
-    /// but them, so a value that fits may get a false.
+    /// Whether the known bounds show that the value fits at the level. It looks at nothing else, so
+    /// the answer may be false for a value that fits.
     pub fn surely_fits(&self, level: u64) -> bool
         ensures { IsTrue result → IsTrue (fits level self.now) }
     {
         self.bounds.fit(level)
     }
 
-    /// Whether the size is at most `limit`. Then size and height are kept with this reference. It looks
-    /// at no more than `limit` nodes, and at none below a reference that knows its size.
+    /// Whether the size is at most `limit`. If so, size and height are stored with this reference.
+    /// It visits at most `limit` nodes, and none below a reference that knows its size.
     pub fn measure(&mut self, limit: u64) -> bool
         ensures stays { self.new ≡ self.old }
         ensures result { IsTrue result ↔ (size_of self.old ≤ limit) }
@@ -36,7 +36,7 @@ impl<'t> Value<'t> {
         }
     }
 
-    /// Whether the value fits at the level. It looks at its nodes only where the bounds don't tell.
+    /// Whether the value fits at the level. It visits nodes only if the bounds don't decide it.
     pub fn fits(&mut self, level: u64) -> bool
         ensures stays { self.new ≡ self.old }
         ensures result { result ≡ fits level self.old }
@@ -53,7 +53,7 @@ impl<'t> Value<'t> {
         }
     }
 
-    // Size and height, where the size is at most `limit`.
+    // Size and height, if the size is at most `limit`.
     fn measured(&self, limit: u64) -> Option<Bounds>
         ensures some { IfSome result (λ bounds. Measures self.now bounds × (size_of self.now ≤ limit)) }
         ensures none { IfNone result (limit < size_of self.now) }
@@ -63,7 +63,8 @@ impl<'t> Value<'t> {
     }
 }
 
-// Size and height of a tree whose size is at most `left`, from which it is taken; `None` for any other.
+// Size and height of a tree whose size is at most `left`, which goes down by it; `None` for any
+// other tree.
 #[cycle(measured)]
 fn measured_within(seen: Seen<'_, '_>, left: &mut u64) -> Option<Bounds>
     ensures some { IfSome result (λ bounds. Measures (seen_tree seen.entry) bounds

@@ -1,4 +1,4 @@
-//! Values made into terms of their own, and of other terms.
+//! Values to owned terms, and terms to values.
 #![tactic(auto, using(crate::proofs::KindLemmas::node_parts))]
 
 ghost use Rattle.std.specs.Prelude.{◌≡◌, [], List, IfOk, IfSome};
@@ -14,7 +14,7 @@ use std::rc::Rc;
 use term_core::{Kind, NoMemory, Term};
 
 impl<'t> Value<'t> {
-    /// A term of its own with the same tree.
+    /// An owned term of the same tree.
     #[inline(always)]
     pub fn to_term(&self, alloc: Global) -> Result<Term, NoMemory>
         ensures { IfOk result (λ term. term ≡ self.now) }
@@ -65,7 +65,7 @@ fn all_copied<'t>(alloc: Global, terms: &[Term]) -> Result<Vec<Value<'t>>, NoMem
     Ok(all)
 }
 
-/// What stands at the root, with a name of its own.
+/// The root, with an owned name.
 fn own_top<'t>(alloc: Global, kind: Kind<'_>) -> Result<Top<'t>, NoMemory>
     ensures { IfOk result (λ top. (us ns : List Tree) → top_tree top us ns ≡ made_of kind.entry us ns) }
 {
@@ -108,7 +108,7 @@ fn all_owned(alloc: Global, elements: Elements<'_, '_>) -> Result<Vec<Term>, NoM
     Ok(all)
 }
 
-// A term of its own, where it is a subterm of the borrowed term or a node without children.
+// An owned term, if this is a subterm of the borrowed term or a node without children.
 #[inline(always)]
 fn plain(alloc: Global, seen: Seen<'_, '_>) -> Result<Option<Term>, NoMemory>
     ensures { IfOk result (λ found. IfSome found (λ term. term ≡ seen_tree seen.entry)) }
@@ -127,7 +127,7 @@ fn plain(alloc: Global, seen: Seen<'_, '_>) -> Result<Option<Term>, NoMemory>
     }
 }
 
-/// A term of this kind with these children and no annotations.
+/// An owned term of this kind with these children and no annotations.
 #[inline(always)]
 pub(crate) fn node(alloc: Global, kind: Kind<'_>, children: Vec<Term>) -> Result<Term, NoMemory>
     ensures { IfOk result (λ term. term ≡ made_of kind.entry children.items []) }

@@ -1,4 +1,4 @@
-//! What stands in the place of a subterm of the borrowed term.
+//! Parts: what took the place of a subterm of the borrowed term.
 
 ghost use Rattle.std.specs.Prelude.{◌≡◌, ◌≤◌, drop, length, IfOk};
 ghost use Rattle.term_core.specs.Tree.{children, annotations, list_term};
@@ -13,8 +13,8 @@ use std::marker::Model;
 use std::rc::Rc;
 use term_core::{Kind, NoMemory, Term};
 
-/// What stands in the place of a subterm of the borrowed term: the subterm itself, the subterm with
-/// places in it replaced, or another value.
+/// What took the place of a subterm of the borrowed term: the subterm itself, the subterm with some
+/// places replaced, or another value.
 #[derive(Drop)]
 #[cycle(value)]
 pub struct Part<'t> {
@@ -29,7 +29,7 @@ pub(crate) enum PartForm<'t> {
     New(Value<'t>),
 }
 
-/// A subterm of the borrowed term, and what stands in the places of its children.
+/// A subterm of the borrowed term, and what took the places of its children.
 #[derive(Drop)]
 #[cycle(value)]
 pub(crate) struct Changed<'t> {
@@ -102,7 +102,7 @@ impl<'t> Part<'t> {
         }
     }
 
-    /// The subterm itself, which is known to be at most so high.
+    /// The subterm itself, whose height is known to be at most `height`.
     pub fn original_within(term: &'t Term, height: u64) -> Part<'t>
         requires { height_of term.now ≤ height }
         ensures { result ≡ unchanged term.now }
@@ -121,7 +121,7 @@ impl<'t> Part<'t> {
         }
     }
 
-    /// Another holder of the same. It takes no memory.
+    /// Another holder of the same part. It takes no memory.
     pub fn try_clone(&self) -> Result<Part<'t>, NoMemory>
         ensures { IfOk result (λ part. part ≡ self.now) }
     {
@@ -136,7 +136,7 @@ impl<'t> Part<'t> {
         }
     }
 
-    /// What stands at the root.
+    /// The root of the tree.
     pub fn kind(&self) -> Kind<'_>
         ensures { standing_tree self.now
             ≡ made_of result (children (standing_tree self.now)) (annotations (standing_tree self.now)) }
@@ -151,7 +151,7 @@ impl<'t> Part<'t> {
         }
     }
 
-    /// How many children the tree has that stands there.
+    /// The number of children of the tree.
     #[inline(always)]
     pub fn child_count(&self) -> usize
         ensures { result ≡ length (children (standing_tree self.now)) }
@@ -163,7 +163,7 @@ impl<'t> Part<'t> {
         }
     }
 
-    /// How many annotations the tree has that stands there.
+    /// The number of annotations of the tree.
     pub fn annotation_count(&self) -> usize
         ensures { result ≡ length (annotations (standing_tree self.now)) }
     {
@@ -181,7 +181,7 @@ impl<'t> Part<'t> {
         }
     }
 
-    /// The tree that stood there. Nothing is held once more.
+    /// The tree, consuming the part. It makes no new holder.
     pub fn into_value(self) -> Value<'t>
         ensures { result ≡ standing_tree self.entry }
     {
@@ -198,7 +198,7 @@ impl<'t> Part<'t> {
         }
     }
 
-    /// The tree that stands there. Nothing is copied, and it takes no memory.
+    /// The tree. Nothing is copied, and it takes no memory.
     pub fn value(&self) -> Result<Value<'t>, NoMemory>
         ensures { IfOk result (λ value. value ≡ standing_tree self.now) }
     {

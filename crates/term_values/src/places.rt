@@ -1,4 +1,4 @@
-//! What stands in the places of children, and other parts put there.
+//! The parts in the places of children.
 #![tactic(auto, using(crate::proofs::KindLemmas::node_parts))]
 
 ghost use Rattle.std.specs.Prelude.{◌≡◌, IfOk, map, slice_get};
@@ -14,8 +14,8 @@ use std::rc::Rc;
 use term_core::{NoMemory, Term};
 
 impl<'t> Part<'t> {
-    /// What stands in the place of child `i`, counted from 0, or `None` where there are no more than
-    /// `i`. It takes no memory.
+    /// What took the place of child `i`, counted from 0, or `None` if there is none. It takes no
+    /// memory.
     #[inline(always)]
     pub fn child(&self, i: usize) -> Result<Option<Part<'t>>, NoMemory>
         ensures { IfOk result (λ child. child ≡ slice_get (standing_children self.now) i) }
@@ -29,7 +29,7 @@ impl<'t> Part<'t> {
         }
     }
 
-    // The same where it isn't the subterm itself.
+    // The same if it isn't the original child.
     #[inline(never)]
     fn other_child(&self, i: usize) -> Result<Option<Part<'t>>, NoMemory>
         ensures { IfOk result (λ child. child ≡ slice_get (standing_children self.now) i) }
@@ -47,7 +47,7 @@ impl<'t> Part<'t> {
         }
     }
 
-    /// What stands in the places of the children, the first child first.
+    /// What took the places of the children, the first child first.
     pub fn parts(&self, alloc: Global) -> Result<Vec<Part<'t>>, NoMemory>
         ensures { IfOk result (λ all. all.items ≡ standing_children self.now) }
     {
@@ -80,7 +80,7 @@ impl<'t> Part<'t> {
     }
 }
 
-// A subterm that is itself in its place, if there are more than `i`.
+// The original subterm at index `i`, if there is one.
 fn same_at<'t>(terms: &'t [Term], i: usize, within: Bounds) -> Option<Part<'t>>
     requires { AllWithin terms.now within }
     ensures { result ≡ slice_get (map (λ t. unchanged t) terms.now) i }
@@ -135,7 +135,7 @@ impl<'t> Changed<'t> {
     }
 }
 
-// A subterm with these in the places of its children.
+// A subterm with these parts in the places of its children.
 fn changed_part<'t>(alloc: Global, of: &'t Term, parts: Vec<Part<'t>>) -> Result<Part<'t>, NoMemory>
     requires { SuitAll (children of.now) parts.items }
     ensures { IfOk result (λ part. part ≡ with_standing (unchanged of.now) parts.entry.items) }
@@ -147,7 +147,7 @@ fn changed_part<'t>(alloc: Global, of: &'t Term, parts: Vec<Part<'t>>) -> Result
     })
 }
 
-// Bounds that each child of a subterm keeps.
+// Bounds that hold for each child of a subterm.
 fn child_bounds(term: &Term, bounds: Bounds) -> Bounds
     requires { Bounded term.now bounds }
     ensures { AllWithin (children term.now) result }
@@ -155,7 +155,7 @@ fn child_bounds(term: &Term, bounds: Bounds) -> Bounds
     bounds.less(term.child_count(), 1)
 }
 
-// Bounds of the trees of these together.
+// Bounds of the trees of these parts together.
 fn parts_bounds(parts: &[Part<'_>]) -> Bounds
     ensures { AllBounded (map standing_tree parts.now) result }
 {
@@ -166,7 +166,7 @@ fn parts_bounds(parts: &[Part<'_>]) -> Bounds
     all
 }
 
-// Bounds of the annotations of a subterm: where it has some, nothing is known.
+// Bounds of the annotations of a subterm: unknown if it has any.
 fn notes_bounds(of: &Term) -> Bounds
     ensures { AllBounded (annotations of.now) result }
 {

@@ -16,9 +16,9 @@ use std::alloc::Global;
 use term_core::NoMemory;
 
 impl<'t> Part<'t> {
-    /// The outermost places that were replaced in the tree of a slot, each with a term of its own, from
-    /// left to right. The path leads to this part. Each of them is there in a subterm in whose place this
-    /// part can stand.
+    /// The outermost places that were replaced in the tree of a slot, each with an owned term, from
+    /// left to right. The path leads to this part. The places exist in each subterm whose place
+    /// this part can take.
     pub fn replacements(&self, alloc: Global, slot: usize, path: &[usize]) -> Result<Plan, NoMemory>
         ensures all { IfOk result (λ plan. plan ≡ entries_at slot (behind path.now (places (standing_change self.now)))) }
         ensures there { IfOk result (λ _. (t : Tree) → Suits t self.now → HasPlaces t (standing_change self.now)) }
@@ -72,7 +72,7 @@ impl<'t> Changed<'t> {
     }
 }
 
-// The places below a subterm with these in the places of its children.
+// Adds the places below a subterm with these parts in the places of its children.
 #[cycle(add_places)]
 fn add_all_places<'t>(
     alloc: Global,
@@ -93,7 +93,7 @@ fn add_all_places<'t>(
     Ok(())
 }
 
-// The places in the place of child `i` of what the path leads to.
+// Adds the places at child `i` of the subterm at the path.
 #[inline(always)]
 #[cycle(add_places)]
 fn add_child_places<'t>(
@@ -130,7 +130,7 @@ fn add_child_places<'t>(
     }
 }
 
-// How many of these are places that were replaced.
+// How many of these parts are replaced whole.
 fn count_new(parts: &[Part<'_>]) -> usize {
     let mut count = 0;
     for part in parts {

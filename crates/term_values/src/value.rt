@@ -16,7 +16,8 @@ use std::marker::Model;
 use std::rc::Rc;
 use term_core::{Kind, Name, NoMemory, Term};
 
-/// A tree: a subterm of the borrowed term, one in which places were replaced, or a node made since.
+/// A tree: a subterm of the borrowed term, such a subterm with places replaced, or a node made
+/// since.
 #[derive(Drop)]
 #[cycle(value)]
 pub struct Value<'t> {
@@ -32,16 +33,16 @@ pub(crate) enum Form<'t> {
     Original(&'t Term),
     // a term without its annotations
     Bare(&'t Term),
-    // the list of the children of a term, without so many in front
+    // the list of the children of a term from this index on
     Rest(&'t Term, usize),
     // a node without annotations
     Built(Rc<Made<'t>>),
     Kept(Rc<Changed<'t>>),
     // a changed subterm without its annotations
     BareKept(Rc<Changed<'t>>),
-    // a list without annotations: elements in front of those of another one
+    // a list without annotations: elements in front of those of another list
     Joined(Rc<Joined<'t>>),
-    // a node without annotations that is given some
+    // a node without annotations, given some
     Noted(Rc<Noted<'t>>),
 }
 
@@ -52,7 +53,7 @@ pub(crate) struct Made<'t> {
     pub(crate) items: Items<'t>,
 }
 
-/// What stands at the root of a node.
+/// The root of a node.
 #[derive(Drop)]
 pub(crate) enum Top<'t> {
     Borrowed(Kind<'t>),
@@ -70,7 +71,7 @@ pub(crate) struct Noted<'t> {
 #[derive(Drop)]
 #[cycle(value)]
 pub(crate) enum Notes<'t> {
-    // those of a term
+    // that of a term
     Of(&'t Term),
     Own(Vec<Value<'t>>),
 }
@@ -87,7 +88,7 @@ pub(crate) struct Pair<T> {
     pub(crate) items: [T; 2],
 }
 
-/// Values, of which one or two lie in the node itself.
+/// Values; one or two are stored in the node itself.
 #[derive(Drop)]
 #[cycle(value)]
 pub(crate) enum Items<'t> {
@@ -101,9 +102,9 @@ pub(crate) enum Items<'t> {
 pub(crate) struct Joined<'t> {
     pub(crate) front: Items<'t>,
     pub(crate) behind: Value<'t>,
-    // how many elements there are in all
+    // the number of elements in all
     pub(crate) count: usize,
-    // how many single elements follow one another from here on
+    // the number of single elements in a row from here on
     pub(crate) run: usize,
 }
 
@@ -136,7 +137,7 @@ impl<'t> Value<'t> {
         Value::original_bounded(term, Bounds::unknown())
     }
 
-    /// A subterm that is known to be at most so high.
+    /// A subterm whose height is known to be at most `height`.
     pub fn original_within(term: &'t Term, height: u64) -> Value<'t>
         requires { height_of term.now ≤ height }
         ensures { result ≡ term.now }
@@ -147,7 +148,7 @@ impl<'t> Value<'t> {
         }
     }
 
-    /// A subterm of which these bounds are known.
+    /// A subterm that is within these bounds.
     #[inline(always)]
     pub(crate) fn original_bounded(term: &'t Term, within: Bounds) -> Value<'t>
         requires { Bounded term.now within }
@@ -179,7 +180,7 @@ impl<'t> Value<'t> {
         })
     }
 
-    /// What stands at the root.
+    /// The root.
     pub fn kind(&self) -> Kind<'_>
         ensures { self.now ≡ made_of result (children self.now) (annotations self.now) }
     {
@@ -202,7 +203,7 @@ impl<'t> Value<'t> {
         }
     }
 
-    /// How many children there are.
+    /// The number of children.
     pub fn child_count(&self) -> usize
         ensures { result ≡ length (children self.now) }
     {
@@ -220,7 +221,7 @@ impl<'t> Value<'t> {
     }
 }
 
-/// The bounds of a term that is known to keep within these. A term without parts tells its own.
+/// The bounds of a term that is known to be within these. A term without parts has exact ones.
 #[inline(always)]
 pub(crate) fn bounds_of(term: &Term, within: Bounds) -> Bounds
     requires { Bounded term.now within }
@@ -245,7 +246,7 @@ impl<'t> Top<'t> {
         }
     }
 
-    /// Another holder of the same. It takes no memory.
+    /// Another holder of the same root. It takes no memory.
     pub(crate) fn try_clone(&self) -> Result<Top<'t>, NoMemory>
         ensures { IfOk result (λ top. (us ns : List Tree) → top_tree top us ns ≡ top_tree self.now us ns) }
     {

@@ -2,7 +2,7 @@ use Rattle.std.proofs.Common.{◌≡◌, ◌≤◌, length, take}
 use Rattle.change_plans.proofs.LogLemmas.{FlippedFrom, path_begin}
 use Rattle.change_log.proofs.log.flip_back.Given as goal
 
--- the entries from the one told on were flipped, and the paths of the others are left
+-- the entries from `left` on are flipped, and the paths of the others remain
 abbrev pub invariant-loop-left : goal.invariant-loop-left
 invariant-loop-left l =
     (l.left ≤ length l.replaced) × (l.rest ≡ take (path_begin l.left l.replaced) l.paths) × (path_begin l.left l.replaced ≤ length l.paths)

@@ -3,7 +3,7 @@ use Rattle.change_plans.specs.LogView.{depths}
 use Rattle.change_plans.proofs.LogLemmas.{FlippedTo, path_begin}
 use Rattle.change_log.proofs.log.flip_forward.Given as goal
 
--- the entries before the one told were flipped, and the paths of the others are left
+-- the entries before `i` are flipped, and the paths of the others remain
 abbrev pub invariant-loop-i : goal.invariant-loop-i
 invariant-loop-i l =
     (length l.replaced ≡ length l.initial.replaced) × (depths l.replaced ≡ length l.paths) × (l.rest ≡ drop (path_begin l.i l.replaced) l.paths)

@@ -11,7 +11,7 @@ decreases-measured_within l = 2 * size (seen_tree l.seen)
 abbrev pub decreases-all_measured : goal.decreases-all_measured
 decreases-all_measured l = 2 * sizes (of_list l.elements) + 1
 
--- what is behind us, and the rest
+-- what was visited, and the rest
 abbrev pub invariant-all_measured-loop-seen : goal.invariant-all_measured-loop-seen
 invariant-all_measured-loop-seen l =
     (us : List Tree) × (us ++ l.rest ≡ l.fn.elements) × MeasuresAll us l.all × (l.left + sizes (of_list us) ≡ l.initial.left)

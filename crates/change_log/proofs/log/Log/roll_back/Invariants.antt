@@ -2,7 +2,7 @@ use Rattle.std.proofs.Common.{◌≡◌, ◌≤◌, length, take, drop, min}
 use Rattle.change_plans.specs.Entries.{before}
 use Rattle.change_log.proofs.log.Log.roll_back.Given as goal
 
--- the entries that are left are the first, and what the others changed was taken back
+-- the first entries remain, and the changes of the others are undone
 abbrev pub invariant-loop-self : goal.invariant-loop-self
 invariant-loop-self l =
     (min l.mark (length l.initial.self) ≤ length l.self)
