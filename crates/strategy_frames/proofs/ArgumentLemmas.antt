@@ -1,4 +1,4 @@
--- Patterns that are built one by one, and cells that are opened for them.
+-- Patterns that are built in order, and the cells opened for them.
 use Rattle.std.proofs.Common.{◌≡◌, ◌<◌, ◌≤◌, ℕ, ◌+◌, List, [], ◌∷◌, ◌++◌, length, take, drop, map, refl, sym, ap, ◌∙◌, arith, Some, None, get_or, zero, suc, true, false}
 use Rattle.std.proofs.lemmas.List.{append-nil, append_assoc, map-append, take_all}
 use Rattle.std.proofs.Math.Seq.{take-suc}

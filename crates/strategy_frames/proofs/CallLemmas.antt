@@ -51,7 +51,7 @@ slice_past xs i le = slice_get_past xs i le
 pub slice_there : {A : Type 0} (xs : List A) (i : ℕ) (x : A) → i < length xs → x ≡ get_or xs i x → slice_get xs i ≡ Some x
 slice_there xs i x lt e = slice_get-get_or xs i x lt ∙ ap Some (sym e)
 
--- where there are no arguments and no other variables, no cells are opened
+-- if there are no arguments and no other variables, no cells are opened
 pub none_more : (B : Bindings) (us : List Tree) (k : ℕ) → length us ≡ 0 → k ≡ 0 → B ≡ (B ++ map Some us) ++ replicate k None
 none_more B [] k e f = sym (ap (λ (n : ℕ). (B ++ []) ++ replicate n None) f ∙ append-nil (B ++ []) ∙ append-nil B)
 none_more B (u ∷ us) k e f = absurd (omega (arith, e))

@@ -1,4 +1,4 @@
--- Strategies over children: one begins, and one is done.
+-- Strategies on children: one starts, and one is done.
 use Rattle.std.proofs.Common.{◌≡◌, ◌≤◌, ℕ, ◌+◌, ◌-◌, zero, suc, List, [], ◌∷◌, ◌++◌, length, refl, sym, ap, ◌∙◌, subst, arith, Some, None, Bool, true, false, cond, not, ◌==◌, Bor, Vec, Global, slice_get, slice_set}
 use Rattle.std.specs.declared.option.Option.{Option}
 use Rattle.std.proofs.lemmas.List.{length-append}
@@ -31,9 +31,9 @@ use Rattle.strategy_frames.proofs.LeadLemmas.{leads_nothing, leads_same}
 use Rattle.strategy_frames.proofs.NodeLeads.{none_stand, child_has, node_has, node_tree, node_count, part_count, node_written, leads_child}
 use Rattle.strategy_frames.proofs.OpenLemmas.{with_edits-done, behind-behind, opens_along, opens_on, opens_new, before_self}
 
--- ---- a child begins
+-- ---- a child's turn comes
 
--- the child that stands there, in the node so far
+-- the child, in the node so far
 pub on_there : (W : World) (E : Scope) (l : ℕ) (s : ResolvedStrategy) (i c : ℕ) (B : Bindings) (t u : Tree) → slice_get (children t) i ≡ Some u
     → on_child (run W E l s) i c B t ≡ put_back i t (run W E l s c B u)
 on_there W E l s i c B t u e =
@@ -60,7 +60,7 @@ walk_at p parts i S = record { node = p; parts = parts; index = i; level = S.lev
 abbrev pub below : State → Frame → State
 below S f = record { cells = S.cells; scopes = S.scopes; trail = S.trail; level = S.level + 1; frames = f ∷ S.frames; steps = S.steps }
 
--- the same, where what was pushed and what is in hand are known by equations
+-- the same, with the pushed frame and the focus given by equations
 pub below_as : (W : World) (sub : Standing) (whole : Answer) (S : State) (f g : Frame) (h k : Hand) → g ≡ f → k ≡ h → HoldsIn W sub whole (below S f) h → HoldsIn W sub whole (below S g) k
 below_as W sub whole S f g h k e d x =
     subst (λ (j : Hand). HoldsIn W sub whole (below S g) j) (sym d) (subst (λ (y : Frame). HoldsIn W sub whole (below S y) h) (sym e) x)
@@ -96,7 +96,7 @@ each_begins W sub whole S acts others s n i k p q parts ke ae e h =
       );
     }
 
--- none is left
+-- no child is left
 pub each_over : (W : World) (sub : Standing) (whole : Answer) (S : State) (acts : Acts) (n i k : ℕ) (p q : Standing) (parts : Vec Standing Global)
     → k ≡ length (children (standing_tree p)) - i → acts_list acts k ≡ [] → q ≡ node_with p parts.items
     → HoldsIn W sub whole S (Each acts n p i parts) → HoldsIn W sub whole S (Done q)
@@ -133,7 +133,7 @@ each_fails W sub whole S acts others s n i k p parts ke ae e h =
           h.opens;
     }
 
--- how many children are left, where there is one at i and where there is none
+-- how many children are left, if there is one at i and if there is none
 one_left : {A : Type 0} (us : List A) (i : ℕ) (u : A) → slice_get us i ≡ Some u → length us - i ≡ suc (length us - (i + 1))
 one_left us i u e = omega (arith, slice_get_within us i u e)
 
@@ -254,7 +254,7 @@ those_none W sub whole S s n i p any parts e a h =
 
 -- ---- a child is done
 
--- what the node is then, and the edits that led to it from what it was
+-- the node after that, and the edits that led to it from the node before
 pub record Settled (w : Walk) (T : Edits) (base : Edits) (path : List ℕ) (d : Edits) (q : Standing) (parts : List Standing) : Type 0 where
   pub leads : Leads (walked w) (behind (w.index ∷ []) d) (node_now w.node parts)
   pub stand : PartsStand w.node parts
@@ -300,7 +300,7 @@ settled_here l w start q base d T trail path parts sh h k e t =
     settled_by (not (trail.count == w.edits)) l w start q base d T path parts
     (λ same. no_edits (path ++ w.index ∷ []) T base d t (sym sh.count ∙ unmoved trail.count w.edits same ∙ h.edits)) h k e t
 
--- the node with a child that is done goes on
+-- the node with its finished child continues
 pub goes_up : (W : World) (sub : Standing) (whole : Answer) (C : Contents) (top : Mark) (es : List Scope) (l : ℕ) (fs : List Frame) (w : Walk) (base d T : Edits) (q : Standing) (parts : List Standing) (B : Bindings) (c : ℕ) (K : Answer → Answer) (k : ℕ → Bindings → Tree → Answer)
     → ((t : Tree) (e : Edits) → K (done t B c e) ≡ with_edits e (k c B t))
     → Settled w T base (path_of fs) d q parts

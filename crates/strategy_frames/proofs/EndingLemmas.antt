@@ -22,7 +22,7 @@ use Rattle.strategy_frames.proofs.OpenLemmas.{with_edits-cut, opens_along, opens
 
 -- ---- the innermost frame
 
--- it is the last one of the stack
+-- it is the last of the stack
 pub last_is : (fs : List Frame) (f : Frame) → slice_get fs (length fs - 1) ≡ Some f → reverse fs ≡ f ∷ reverse (take (length fs - 1) fs)
 last_is fs f e =
     let i = length fs - 1 in
@@ -52,7 +52,7 @@ take_twice (suc k) zero xs le = absurd (omega (arith, le))
 take_twice (suc k) (suc m) [] le = refl
 take_twice (suc k) (suc m) (x ∷ xs) le = ap (λ l. x ∷ l) (take_twice k m xs (omega (arith, le)))
 
--- what stands behind the first scopes doesn't matter
+-- scopes after the first ones don't matter
 fewer_same : (k m : ℕ) (xs mid ys : List Scope) → k ≤ length xs → k ≤ m → mid ≡ take m xs → Starts mid ys → take k ys ≡ take k xs
 fewer_same k m xs mid ys lk le e st =
     let n : length mid ≡ length (take m xs) = ap (λ (l : List Scope). length l) e in
@@ -98,7 +98,7 @@ along W sub whole S p a b e h = record { edits = h.edits; shows = h.shows; opens
 
 -- ---- scopes that end
 
--- a frame for them is pushed
+-- a new frame ends them
 pub leave_pushed : (W : World) (sub : Standing) (whole : Answer) (S : State) (p : Standing) (a : Answer) (es : List Scope) → Starts S.scopes es
     → AnswersIn W sub whole S p a → AnswersIn W sub whole (with_those S S.cells es (Leave (length S.scopes) ∷ S.frames)) p a
 leave_pushed W sub whole S p a es st h = record {
@@ -110,7 +110,7 @@ leave_pushed W sub whole S p a es st h = record {
   )) h.opens;
 }
 
--- the frame that is there ends them
+-- the existing frame ends them
 pub leave_kept : (W : World) (sub : Standing) (whole : Answer) (S : State) (p : Standing) (a : Answer) (k m : ℕ) (mid es : List Scope)
     → LeavesScopes S.frames k → k ≤ m → mid ≡ take m S.scopes → Starts mid es → AnswersIn W sub whole S p a → AnswersIn W sub whole (with_those S S.cells es S.frames) p a
 leave_kept W sub whole S p a k m mid es f le e st h = record {

@@ -1,4 +1,4 @@
--- What a failure leads to when it is given to the frame that waits.
+-- What a failure leads to when it reaches the innermost frame.
 use Rattle.std.proofs.Common.{◌≡◌, ℕ, ◌+◌, List, ◌∷◌, length, take, refl, sym, ap, subst, Bool, Bor, Vec, Global}
 use Rattle.term_changes.specs.Standing.{Standing, standing_tree}
 use Rattle.strategy_syntax.specs.Resolved.{ResolvedStrategy}

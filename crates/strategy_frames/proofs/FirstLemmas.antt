@@ -1,4 +1,4 @@
--- The first element of a list, and the list of the others behind it.
+-- The first element of a list, and the list of the rest.
 use Rattle.std.proofs.Common.{◌≡◌, ◌≤◌, ℕ, ◌+◌, List, [], ◌∷◌, ◌++◌, length, map, take, drop, refl, sym, ap, ◌∙◌, subst, arith, Some, None, Bool, true, false, cond, not, ◌==◌, Bor, Vec, Global, slice_get, slice_set}
 use Rattle.std.specs.declared.option.Option.{Option}
 use Rattle.term_core.specs.Tree.{Tree, integer, branch, application, list, tuple, children}
@@ -28,7 +28,7 @@ use Rattle.strategy_frames.proofs.TakeLemmas.{yes_is, some_is, none_is, puts, ta
 use Rattle.strategy_frames.proofs.ChildLemmas.{walk_at, below, on_there, on_none, no_part, child_inside, goes_up}
 use Rattle.strategy_frames.proofs.GiveLemmas.{st, Cuts, cut_back, settled}
 
--- ---- the first element begins
+-- ---- the first element's turn comes
 
 -- what has elements is a list
 list_is : (t : Tree) → is_list_from 1 (elements t) ≡ true → elements t ≡ Some (children t)
@@ -76,7 +76,7 @@ head_begins W sub whole S s1 s n p q parts none is e h =
       );
     }
 
--- there is none
+-- there is no element
 pub head_over : (W : World) (sub : Standing) (whole : Answer) (S : State) (s1 s : Bor ResolvedStrategy) (n : ℕ) (p : Standing)
     → is_list_from 1 (elements (standing_tree p)) ≡ true → slice_get (standing_children p) 0 ≡ None
     → FormIn W sub whole S (tail_congruence (and_strategy s1.now no_strategies) s.now) n p → HoldsIn W sub whole S Failed
@@ -145,20 +145,20 @@ fail_head W sub whole C es t u l c fs s n w cu h =
       opens = o.is.3;
     }
 
--- ---- the others are done
+-- ---- the rest is done
 
 first_alone : (qs : List Standing) (p : Standing) → slice_get qs 0 ≡ Some p → take 1 (map standing_tree qs) ≡ standing_tree p ∷ []
 first_alone [] p e = absurd (cc)
 first_alone (q ∷ []) p e = let is : q ≡ p = cc in ap (λ x. standing_tree x ∷ []) is
 first_alone (q ∷ r ∷ qs) p e = let is : q ≡ p = cc in ap (λ x. standing_tree x ∷ []) is
 
--- the first element, as it is in front
+-- the first element, in front of the rest
 pub first_in_front : (node : Standing) (first : Option Standing) (p : Standing)
     → slice_get (parts_now node (all_parts node (first_part first))) 0 ≡ Some p
     → take 1 (map standing_tree (parts_now node (all_parts node (first_part first)))) ≡ standing_tree p ∷ []
 first_in_front node first p e = first_alone (parts_now node (all_parts node (first_part first))) p e
 
--- what there is to know of them in a run
+-- what holds of them in a run
 pub behind_list : (W : World) (sub : Standing) (whole : Answer) (C : Contents) (es : List Scope) (t : Trail) (l c : ℕ) (fs : List Frame) (node : Standing) (first : Option Standing) (k : ℕ) (p : Standing)
     → HoldsIn W sub whole (st C es t l c (frames.Behind node first k ∷ fs)) (Done p) → elements (standing_tree node) ≡ Some (children (standing_tree node))
 behind_list W sub whole C es t l c fs node first k p h = h.opens.is.0

@@ -1,4 +1,4 @@
--- Turns by the form of a strategy, and what hands have.
+-- Turns by the form of a strategy, and facts about hands.
 use Rattle.std.proofs.Common.{◌≡◌, ◌<◌, ℕ, length, sym, subst, Bor, Bool, Vec, Global}
 use Rattle.std.specs.Prelude.{IfOk}
 use Rattle.std.specs.declared.result.Result.{Result}

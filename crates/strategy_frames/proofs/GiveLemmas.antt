@@ -1,4 +1,4 @@
--- What an answer leads to when it is given to the frame that waits.
+-- What an answer leads to when it reaches the innermost frame.
 use Rattle.std.proofs.Common.{◌≡◌, ℕ, suc, ◌+◌, ◌-◌, List, [], ◌∷◌, ◌++◌, length, take, refl, sym, ap, ◌∙◌, subst, arith, Some, None, Bool, true, cond, not, ◌==◌, Bor, Vec, Global, slice_set}
 use Rattle.std.proofs.lemmas.List.{append-nil}
 use Rattle.std.proofs.lemmas.Option.{slice_get_within}
@@ -32,7 +32,7 @@ use Rattle.strategy_frames.proofs.TakeLemmas.{puts, some_is, none_is}
 abbrev pub st : Contents → List Scope → Trail → ℕ → ℕ → List Frame → State
 st C es t l c fs = record { cells = C; scopes = es; trail = t; level = l; frames = fs; steps = c }
 
--- the trail is cut to so many edits
+-- the trail is cut to this many edits
 abbrev pub Cuts : ℕ → Trail → Trail → Type 0
 Cuts k old new = (T D : Edits) → k ≡ length T → Shows old (T ++ D) → Shows new T
 
@@ -41,7 +41,7 @@ cut_back {old = old} T base d c e is sh = c base d e (subst (Shows old) is sh)
 
 -- ---- a part is done
 
--- edits before a term that is given
+-- edits followed by a success
 given : (e : Edits) (t : Tree) (B : Bindings) (c : ℕ) (act : ℕ → Bindings → Tree → Answer) → and_then (with_edits e (done t B c [])) act ≡ with_edits e (act c B t)
 given e t B c act = ap (λ (x : Edits). with_edits x (act c B t)) (append-nil e)
 
@@ -109,7 +109,7 @@ give_each W sub whole C es t l c fs acts n i w p parts ie e h =
           (each (run W (scope_at es n) (w.level + 1)) (acts_list acts (left_behind w)) (w.index + 1)) (λ u x. refl) k o.is.2;
     }
 
--- the walk goes on in its frame
+-- the walk moves on in its frame
 pub steps_on : (W : World) (sub : Standing) (whole : Answer) (C : Contents) (es : List Scope) (t : Trail) (l c : ℕ) (fs : List Frame) (acts others : Acts) (n : ℕ) (w v : Walk) (s : Bor ResolvedStrategy) (p q : Standing)
     → ((k : ℕ) → acts_list acts (suc k) ≡ s.now ∷ acts_list others k)
     → StepsOn w p t.count v q
@@ -161,7 +161,7 @@ give_leftmost W sub whole C es t l c fs s n w m p q parts e is h =
           (λ b B u. done u B b []) (λ u x. sym (with_edits-done x u C.bindings c)) k o.is.4);
     }
 
--- what stands there can be put into the node
+-- the part can be put into the node
 pub leftmost_stand : (W : World) (sub : Standing) (whole : Answer) (C : Contents) (es : List Scope) (t : Trail) (l c : ℕ) (fs : List Frame) (s : Bor ResolvedStrategy) (n : ℕ) (w : Walk) (m : Mark) (p : Standing) (parts : List Standing)
     → parts ≡ cond (not (t.count == w.edits)) (slice_set (parts_now w.node (walk_parts w)) w.index p) (walk_parts w)
     → HoldsIn W sub whole (st C es t l c (frames.Leftmost s n w m ∷ fs)) (Done p) → PartsStand w.node parts
@@ -219,7 +219,7 @@ give_rest W sub whole C es t u v l c fs node ps n k p q x cu sh e is qe h =
     (opens_along _ _ (some_is (elements (standing_tree p)) (children (standing_tree p)) c (λ us. done (with_rest n (standing_tree old) us) C.bindings c (at_root (with_rest n (standing_tree old) us))) e
     ∙ ap (λ y. done y C.bindings c (at_root y)) (sym is)) o.is.3)
 
--- what stands there can be put into the node
+-- the part can be put into the node
 pub rest_stands : (W : World) (sub : Standing) (whole : Answer) (C : Contents) (es : List Scope) (t : Trail) (l c : ℕ) (fs : List Frame) (node : Standing) (ps : Vec Standing Global) (n k : ℕ) (p : Standing)
     → HoldsIn W sub whole (st C es t l c (frames.Rest node ps n k ∷ fs)) (Done p) → PartsStand node (all_parts node ps.items)
 rest_stands W sub whole C es t l c fs node ps n k p h = h.opens.is.0
@@ -262,11 +262,11 @@ give_cut W sub whole C D es fewer t l c fs n k p e de b sy h = rw e record {
       (meets_kept W sub whole C D (record { count = n; filled = length C.filled }) (mark_of D) (take k es) l fs start base _ b sy r.2)) h.opens;
 }
 
--- what is done has the places of its change
+-- a finished focus has the places of its change
 pub in_hand_has : (W : World) (sub : Standing) (whole : Answer) (S : State) (p : Standing) → HoldsIn W sub whole S (Done p) → Has p
 in_hand_has W sub whole S p h = subst Has h.in_hand h.opens.leads.has
 
--- nothing waits
+-- no frame is left
 pub done_whole : (W : World) (sub : Standing) (whole : Answer) (C : Contents) (es : List Scope) (t : Trail) (l c : ℕ) (p : Standing)
     → HoldsIn W sub whole (st C es t l c []) (Done p) → IsDone sub whole (st C es t l c []) p
 done_whole W sub whole C es t l c p h =

@@ -1,4 +1,4 @@
--- Failures that the root of a term tells, form by form.
+-- Failures that the root of a term shows, form by form.
 use Rattle.std.proofs.Common.{◌≡◌, ℕ, ◌+◌, List, [], ◌∷◌, ◌++◌, length, map, replicate, refl, sym, ap, ◌∙◌, subst, arith, Some, None, false, Bor, slice_get}
 use Rattle.std.specs.declared.option.Option.{Option}
 use Rattle.term_core.specs.Tree.{Head, Tree}
@@ -75,7 +75,7 @@ fails_param ds known n x t k b c d e is h = ahead ds known (Some n) t (param x) 
     ap (λ (o : Option Closure). with_some o c (λ z. run W z.written_in l z.strategy c B t)) (names x ∙ is)
     ∙ h.fails W i (scope_at known k.inside) (λ y. refl) l B)
 
--- ---- a choice whose first part fails ahead
+-- ---- a choice whose first branch fails ahead
 
 pub take_other : (W : World) (sub : Standing) (whole : Answer) (S : State) (ds : List Resolved) (s1 s2 s3 : Bor ResolvedStrategy) (n : ℕ) (p : Standing) (c : ℕ)
     → W.bodies ≡ ds → FailsAhead ds S.scopes (Some n) s1.now S.steps (standing_tree p) c

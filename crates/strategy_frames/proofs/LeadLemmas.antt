@@ -1,4 +1,4 @@
--- Edits lead on.
+-- How edits lead on.
 use Rattle.std.proofs.Common.{◌≡◌, ℕ, List, [], ◌∷◌, ◌++◌, ◌⊎◌, inl, inr, refl, subst}
 use Rattle.term_core.specs.Tree.{Tree, children}
 use Rattle.term_paths.specs.Edits.{Edits}
@@ -11,7 +11,7 @@ use Rattle.term_changes.proofs.FollowLemmas.{follows_itself, follows_on}
 use Rattle.strategy_frames.specs.Leading.{IsOf, IsPlace, IsWithin, Has, Leads}
 use Rattle.strategy_frames.proofs.PlaceLemmas.{of_left, of_right, of_either}
 
--- what was kept, in the place of what it is
+-- a kept subterm has the places of the change
 pub suits_has : (u : Tree) (q : Standing) → Suits u q → Has q → HasPlaces u (standing_change q)
 suits_has u (unchanged t) s h = tt
 suits_has u (altered a) s h = subst (λ v. HaveAllPlaces (children v) a.changes) s h

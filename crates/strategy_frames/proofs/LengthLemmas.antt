@@ -16,7 +16,7 @@ use Rattle.strategy_meaning.specs.Meaning.{World, primitive_answer, Evaluation, 
 
 -- ---- matching
 
--- where there is one, it has so many cells
+-- if there are bindings, there are n cells
 abbrev Holds : ℕ → Option Bindings → Type 0
 Holds n None = ⊤
 Holds n (Some B) = length B ≡ n
@@ -25,7 +25,7 @@ and_then-holds : {A : Type 0} (n : ℕ) (o : Option A) (f : A → Option Binding
 and_then-holds n None f h = tt
 and_then-holds n (Some x) f h = h x
 
--- the second goes on with what the first has bound
+-- the second match continues with the bindings of the first
 then-holds : (n : ℕ) (o : Option Bindings) (f : Bindings → Option Bindings) → Holds n o → ((B : Bindings) → length B ≡ n → Holds n (f B)) → Holds n (option_and_then f o)
 then-holds n None f h g = tt
 then-holds n (Some B) f h g = g B h
@@ -135,7 +135,7 @@ built_all-has n l no_places E B c go h = h []
 built_all-has n l (and_place p ps) E B c go h =
     built-has n l (build_place p E B) c _ (λ u. built_all-has n l ps E B c _ (λ us. h (u ∷ us)))
 
--- cells that were opened are gone, and no others
+-- exactly the opened cells are gone
 cut-has : (B new : Bindings) (a : Answer) → Has (length (B ++ new)) a → Has (length B) (cut (length B) a)
 cut-has B new (done u C b e) h = length-take-le (length B) C (omega (arith, h, length-append B new))
 cut-has B new (failed b) h = tt
@@ -184,7 +184,7 @@ bounded-has W (suc k) E l s n (suc c) B t e = form-has W (run_bounded W k) (boun
 pub run_has : (W : World) (E : Scope) (l : ℕ) (s : ResolvedStrategy) (b : ℕ) (B : Bindings) (t : Tree) → Has (length B) (run W E l s b B t)
 run_has W E l s b B t = bounded-has W b E l s (length B) b B t refl
 
--- so a cut to as many cells cuts nothing
+-- so a cut to the same number of cells removes nothing
 pub cut_none : (n : ℕ) (a : Answer) → Has n a → cut n a ≡ a
 cut_none n (done t B b e) h = ap (λ (C : Bindings). done t C b e) (take_all n B (omega (arith, h)))
 cut_none n (failed b) h = refl

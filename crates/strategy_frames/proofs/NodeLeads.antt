@@ -18,7 +18,7 @@ use Rattle.strategy_frames.specs.Leading.{IsOf, IsPlace, IsWithin, Has, AllHave,
 use Rattle.strategy_frames.proofs.PlaceLemmas.{of_behind, behind_of}
 use Rattle.strategy_frames.proofs.LeadLemmas.{suits_has}
 
--- ---- what stands in the places of the children
+-- ---- the parts in the places of the children
 
 all_follow_themselves : (ps : List Standing) → AllFollow ps ps
 all_follow_themselves [] = tt
@@ -113,7 +113,7 @@ node_tree node parts i c h e =
 
 -- ---- one of them set
 
--- where one was, there is still one
+-- an index that had a part still has one
 set_some : (node : Standing) (ps : List Standing) (i : ℕ) (c r : Standing) → slice_get ps i ≡ Some c → parts_now node (slice_set ps i r) ≡ slice_set ps i r
 set_some node [] i c r e = absurd (cc)
 set_some node (p ∷ ps) zero c r e = refl
@@ -199,8 +199,8 @@ nth_stand [] (and_then c cs) j h = absurd h
 nth_stand (u ∷ us) (and_then c cs) zero h = change_stand u c
 nth_stand (u ∷ us) (and_then c cs) (suc j) h = nth_stand us cs j h.1
 
--- The changes of the children are those of the parts so far, where the node itself was kept: in the
--- terms of places and of what lies within them.
+-- The changes of the children are those of the parts so far, if the node itself was kept: in terms
+-- of places and of the paths within them.
 pub record Parted (c : Change) (cs : Changes) : Type 0 where
   pub place : (x : List ℕ) → IsPlace (inside cs) x → IsPlace c x
   pub within : (x : List ℕ) → IsWithin c x → IsWithin (inside cs) x
@@ -226,7 +226,7 @@ parted_inside us cs h = record { place = at_place; within = in_place }
 parted_itself : (cs : Changes) → Parted (inside cs) cs
 parted_itself cs = record { place = λ x h. h; within = λ x h. h }
 
--- One more edit in child i.
+-- One more edit, in child i.
 pub record OneMore (c : Change) (ps : List Standing) (i : ℕ) (d : Edits) (r : Standing) : Type 0 where
   pub among : (x : List ℕ) → IsPlace (inside (standing_changes (slice_set ps i r))) x → IsPlace c x ⊎ IsOf x (behind (i ∷ []) d)
   pub covers : (x : List ℕ) → IsWithin c x ⊎ IsOf x (behind (i ∷ []) d) → IsWithin (inside (standing_changes (slice_set ps i r))) x
@@ -275,7 +275,7 @@ one_more b ps i c r d p e l = record {
 
 -- ---- the node leads on
 
--- what it takes besides, of the node so far and the node over the parts
+-- what else is needed of the node so far and of the node over the parts
 pub record Moves (p q : Standing) (e : Edits) : Type 0 where
   pub follows : Follows p q
   pub among : (x : List ℕ) → IsPlace (standing_change q) x → IsPlace (standing_change p) x ⊎ IsOf x e

@@ -1,4 +1,4 @@
--- Parts that were opened, and answers behind edits.
+-- Opened parts, and answers after edits.
 use Rattle.std.proofs.Common.{◌≡◌, ℕ, ◌+◌, List, [], ◌∷◌, ◌++◌, take, reverse, true, refl, sym, ap, ◌∙◌, subst, arith}
 use Rattle.std.proofs.lemmas.List.{append-nil, append_assoc, map-append, reverse-append}
 use Rattle.term_core.specs.Tree.{Tree}
@@ -83,7 +83,7 @@ opens_map f h = record {
   is = f h.start h.base _ h.is;
 }
 
--- what comes of the answer with the edits before it
+-- the whole answer from the part's answer after some edits
 pub opens_through : {R S : Becomes} {path : List ℕ} {p : Standing} {T : Edits} (a b : Answer)
     → ((start : Standing) (base e : Edits) → R start base (with_edits e a) → S start base (with_edits e b)) → Opens R path p T a → Opens S path p T b
 opens_through a b f h = record {
@@ -95,7 +95,7 @@ opens_through a b f h = record {
   is = f h.start h.base h.before h.is;
 }
 
--- it goes on, with some more edits
+-- the part continues after some more edits
 pub opens_on : {R : Becomes} (path : List ℕ) (p q : Standing) (T U d : Edits) (a : Answer)
     → Leads p d q → U ≡ T ++ behind path d → Opens R path p T (with_edits d a) → Opens R path q U a
 opens_on {R = R} path p q T U d a l e h = record {
@@ -108,7 +108,7 @@ opens_on {R = R} path p q T U d a l e h = record {
   is = subst (R h.start h.base) (with_edits-append h.before d a) h.is;
 }
 
--- another part begins here
+-- another part is opened here
 pub opens_new : {R : Becomes} (path : List ℕ) (p : Standing) (T : Edits) (a : Answer) → Has p → R p T a → Opens R path p T a
 opens_new {R = R} path p T a h r = record {
   start = p;
@@ -130,7 +130,7 @@ before_on a b c h k = (omega (arith, h.0, k.0), omega (arith, h.1, k.1))
 pub stays_self : (m : Mark) (C : Contents) → Stays m C C
 stays_self m C k b = refl
 
--- What cells keep for the marks that will be asked for is all that the frames look at.
+-- The frames look at no more than what the cells hold for the marks that may be asked for.
 pub meets_kept : (W : World) (sub : Standing) (whole : Answer) (C D : Contents) (top up : Mark) (es : List Scope) (l : ℕ) (fs : List Frame) (start : Standing) (base : Edits) (a : Answer)
     → Before top up → Stays top C D → Meets W sub whole C top es l fs start base a → Meets W sub whole D up es l fs start base a
 meets_kept W sub whole C D top up es l [] start base a b st h = h
@@ -188,7 +188,7 @@ pub opens_kept : (W : World) (sub : Standing) (whole : Answer) (C D : Contents) 
 opens_kept W sub whole C D top up es l fs path p T a b st h =
     opens_map (λ s e x g. meets_kept W sub whole C D top up es l fs s e x b st g) h
 
--- ---- a stopped part stops the whole
+-- ---- a part that stops makes the whole stop
 
 pub meets_stopped : (W : World) (sub : Standing) (whole : Answer) (C : Contents) (top : Mark) (es : List Scope) (l : ℕ) (fs : List Frame) (start : Standing) (base : Edits) (w : Stop)
     → Meets W sub whole C top es l fs start base (stopped w) → whole ≡ stopped w

@@ -1,4 +1,4 @@
--- What stands in the places of all children, where some of the first ones were kept.
+-- The parts in the places of all children, given those of some first ones.
 use Rattle.std.proofs.Common.{◌≡◌, ◌<◌, ◌≤◌, ℕ, zero, suc, List, [], ◌∷◌, ◌++◌, ◌⊎◌, inl, inr, length, map, take, drop, slice_get, slice_set, Some, None, Bool, true, false, cond, refl, sym, ap, subst, ◌∙◌, arith, ◌==◌}
 use Rattle.std.proofs.lemmas.Bool.{eqb-true}
 use Rattle.std.proofs.lemmas.List.{append-nil, length-append}
@@ -15,7 +15,7 @@ pub parts_over : (p : Standing) (qs : List Standing) → parts_now p (all_parts 
 parts_over p [] = refl
 parts_over p (q ∷ qs) = refl
 
--- how many children there are
+-- the number of children
 pub count_is : (p : Standing) → length (standing_children p) ≡ length (children (standing_tree p))
 count_is p = sym (length-map_tree (standing_children p)) ∙ ap length (trees_of_children p)
 
@@ -89,7 +89,7 @@ more_over (x ∷ qs) (d ∷ cs) c e = ap (λ l. x ∷ l) (more_over qs cs c e)
 
 -- ---- the first n filled in
 
--- the first n filled in, on the way
+-- the first n filled in, partway
 pub record Filling (cs qs : List Standing) (n : ℕ) (new : List Standing) : Type 0 where
   pub same : over new cs ≡ over qs cs
   pub most : length qs ≤ n → length new ≤ n
@@ -118,12 +118,12 @@ nil_is : (cs : List Standing) → length cs ≡ 0 → cs ≡ []
 nil_is [] e = refl
 nil_is (c ∷ cs) e = absurd (omega (arith, e))
 
--- where none is kept, there are no children
+-- if no part is held, there are no children
 all_over : (p : Standing) (new : List Standing) → (length new ≡ 0 → length (standing_children p) ≡ 0) → all_parts p new ≡ over new (standing_children p)
 all_over p [] f = sym (nil_is (standing_children p) (f refl))
 all_over p (q ∷ qs) f = refl
 
--- ---- what was in hand, settled
+-- ---- the focus, settled
 
 pub settled_in : (p : Standing) (qs : List Standing) (i : ℕ) (q : Standing) (new : List Standing) → i < length qs → new ≡ slice_set qs i q
     → all_parts p new ≡ slice_set (parts_now p (all_parts p qs)) i q
@@ -171,7 +171,7 @@ pub when_changed : (v : Bool) (xs ys : List Standing) → v ≡ true → xs ≡ 
 when_changed true xs ys e = refl
 when_changed false xs ys e = absurd (cc)
 
--- ---- the node finished
+-- ---- the finished node
 
 all_filled : (cs qs new : List Standing) → Fills cs qs (length cs) new → new ≡ over qs cs
 all_filled cs qs new f =
@@ -197,7 +197,7 @@ pub unfinished_is : (p : Standing) (qs : List Standing) (b : Bool) → b ≡ (le
 unfinished_is p [] b e f = refl
 unfinished_is p (q ∷ qs) b e f = absurd (omega (arith, eqb-true (length (q ∷ qs)) 0 (sym e ∙ f)))
 
--- ---- a list behind its first elements
+-- ---- the rest of a list after its first elements
 
 dropped_over : {A : Type 0} (f : Standing → A) (qs cs : List Standing) (n : ℕ) → length qs ≤ n → drop n (map f (over qs cs)) ≡ drop n (map f cs)
 dropped_over f [] cs n le = refl

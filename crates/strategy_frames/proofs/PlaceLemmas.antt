@@ -38,7 +38,7 @@ behind_of p x [] h = absurd h
 behind_of p x (y ∷ e) (inl h) = (y.path, sym h, inl refl)
 behind_of p x (y ∷ e) (inr h) = let r = behind_of p x e h in (r.0, r.1, inr r.2)
 
--- ---- from a place to its path, and back
+-- ---- from a place to its path and back
 
 mutual
   pub place_is : (c : Change) (x : List ℕ) → IsOf x (places c) → IsPlace c x
@@ -84,7 +84,7 @@ mutual
       let next : k + suc j ≡ (k + 1) + j = omega arith in
       (r.0, of_right r.0 (below k (places c)) (places_from (k + 1) cs) r.1, (r.2.0, ap (λ n. n ∷ x) next ∙ r.2.1))
 
--- ---- the places of what edits come to
+-- ---- the places of what edits amount to
 
 pub outermost : (p : List ℕ) (t : Tree) (e : Edits) (q : Standing) → Leads (unchanged t) e q → AreOutermost (behind p (places (standing_change q))) (behind p e)
 outermost p t e q h = record { apart = places_lie_apart (standing_change q) p; among = of_edits; covers = covered }

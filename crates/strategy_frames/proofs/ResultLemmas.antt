@@ -1,4 +1,4 @@
--- What is true of an Ok.
+-- What holds of an Ok.
 use Rattle.std.specs.Prelude.{IfOk, Ok, Err}
 use Rattle.std.specs.declared.result.Result.{Result}
 

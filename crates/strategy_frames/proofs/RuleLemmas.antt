@@ -1,4 +1,4 @@
--- Rules, done at once: what their parts come to, and that their variables end with them.
+-- Rules, done at once: the answers of their parts, and the end of their variables.
 use Rattle.std.proofs.Common.{◌≡◌, ◌≤◌, ℕ, ◌+◌, zero, suc, List, [], ◌∷◌, ◌++◌, length, take, replicate, sym, ap, ◌∙◌, refl, arith, Some, None, true, false}
 use Rattle.term_core.specs.Tree.{Tree}
 use Rattle.term_core.specs.Size.{fits}
@@ -21,7 +21,7 @@ use Rattle.strategy_frames.proofs.ArgumentLemmas.{stays_on}
 use Rattle.strategy_frames.proofs.OpenLemmas.{with_edits-none, opens_along, opens_kept, before_on}
 use Rattle.strategy_frames.proofs.TakeLemmas.{run_step, some_is, none_is, built_is, big_is, unbuilt_is, take_stops, puts, celled, paid}
 
--- ---- what the parts come to, in the scope with the variables
+-- ---- the answers of the parts, in the scope with the variables
 
 module _ (W : World) (E : Scope) (l : ℕ) (q r : Place) (B : Bindings) (t : Tree) where
   abbrev both : ResolvedStrategy
@@ -85,7 +85,7 @@ module _ (W : World) (sub : Standing) (whole : Answer) (S : State) (k : ℕ) (q 
       → FormIn W sub whole S rule n p → HoldsIn W sub whole (celled (paid S c) D) Failed
   rule_unmatched D c b st e m h = fails D c b st (ap cuts (unmatched W (widened S n k) S.level q r (more_cells S k) (standing_tree p) S.steps c e m)) h
 
-  -- it has matched, with these bindings
+  -- the match succeeded with these bindings
   module _ (C : Bindings) (m : match_place q (standing_tree p) (cells_in (widened S n k)) (more_cells S k) ≡ Some C) where
     pub rule_matched_few : S.steps ≡ 2 → FormIn W sub whole S rule n p → whole ≡ stopped spent
     rule_matched_few e h = take_stops W sub whole S rule n p spent (ap cuts (matched_few W (widened S n k) S.level q r (more_cells S k) (standing_tree p) S.steps 0 C e m refl)) h

@@ -1,4 +1,4 @@
--- The walk over children that goes on in its frame, the innermost one.
+-- A walk over children that moves on in its frame, the innermost one.
 use Rattle.std.proofs.Common.{◌≡◌, ◌<◌, ℕ, ◌+◌, ◌-◌, List, ◌∷◌, length, take, reverse, slice_index_or, slice_set, refl, sym, ap, ◌∙◌, subst, arith, Bor, vec_len}
 use Rattle.std.proofs.lemmas.List.{set-get_or, length-set, take_all}
 use Rattle.std.proofs.lemmas.Grind.{take-set_at}
@@ -16,7 +16,7 @@ use Rattle.strategy_frames.proofs.OpenLemmas.{pushed}
 use Rattle.strategy_frames.proofs.TakeLemmas.{framed, with_frames}
 use Rattle.strategy_frames.proofs.GiveLemmas.{goes_on}
 
--- the innermost frame, when it is written
+-- the innermost frame after it is written
 written_last : (fs : List Frame) (i : ℕ) (g : Frame) → length fs ≡ i + 1 → reverse (slice_set fs i g) ≡ g ∷ reverse (take i fs)
 written_last fs i g e =
     pushed (take i fs) (slice_set fs i g) g

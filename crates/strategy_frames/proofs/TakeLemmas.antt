@@ -1,4 +1,4 @@
--- What a form leads to when its step is paid.
+-- What a form leads to once its step is charged.
 use Rattle.std.proofs.Common.{◌≡◌, ◌<◌, ℕ, ◌+◌, ◌-◌, zero, suc, List, [], ◌∷◌, ◌++◌, length, replicate, reverse, refl, sym, ap, ◌∙◌, subst, arith, Some, None, Bool, true, false, cond, Bor, Vec, Global}
 use Rattle.std.specs.declared.option.Option.{Option}
 use Rattle.std.proofs.lemmas.List.{append-nil}
@@ -36,14 +36,14 @@ use Rattle.strategy_frames.proofs.LengthLemmas.{run_has}
 use Rattle.strategy_frames.proofs.EndingLemmas.{form_answers, begun, along}
 use Rattle.strategy_frames.proofs.OpenLemmas.{with_edits-none, with_edits-and_then, and_then-done, opens_along, opens_through, opens_on, opens_new, before_self, opens_kept, meets_stopped}
 
--- the same with other frames
+-- the same state with other frames
 abbrev pub framed : State → List Frame → State
 framed S fs = record { cells = S.cells; scopes = S.scopes; trail = S.trail; level = S.level; frames = fs; steps = S.steps }
 
 pub with_frames : (W : World) (sub : Standing) (whole : Answer) (S : State) (hand : Hand) (fs gs : List Frame) → gs ≡ fs → HoldsIn W sub whole (framed S fs) hand → HoldsIn W sub whole (framed S gs) hand
 with_frames W sub whole S hand fs gs e h = subst (λ (x : List Frame). HoldsIn W sub whole (framed S x) hand) (sym e) h
 
--- ---- a step is paid
+-- ---- a step is charged
 
 pub run_step : (W : World) (E : Scope) (l : ℕ) (s : ResolvedStrategy) (b c : ℕ) (B : Bindings) (t : Tree) → b ≡ c + 1 → run W E l s b B t ≡ form W (run W) E l s c B t
 run_step W E l s zero c B t e = absurd (omega (arith, e))
@@ -77,7 +77,7 @@ is_spent W sub whole S s n p e h =
 abbrev answers : World → State → ResolvedStrategy → ℕ → Standing → Answer
 answers W S r n p = form W (run W) (scope_at S.scopes n) S.level r S.steps S.cells.bindings (standing_tree p)
 
--- it gives the term itself
+-- the form succeeds with the term itself
 pub take_same : (W : World) (sub : Standing) (whole : Answer) (S : State) (r : ResolvedStrategy) (n : ℕ) (p : Standing)
     → answers W S r n p ≡ done (standing_tree p) S.cells.bindings S.steps [] → FormIn W sub whole S r n p → HoldsIn W sub whole S (Done p)
 take_same W sub whole S r n p e h = record { now = p; edits = h.edits; shows = h.shows; in_hand = refl; opens = opens_along _ _ e h.opens }
@@ -104,7 +104,7 @@ none_is {A = A} o c go e = ap (λ (y : Option A). with_some y c go) e
 pub with_cells : (W : World) (sub : Standing) (whole : Answer) (S : State) {hand : Hand} (D : Contents) → D ≡ S.cells → HoldsIn W sub whole S hand → HoldsIn W sub whole (celled S D) hand
 with_cells W sub whole S {hand = hand} D e h = subst (λ (x : Contents). HoldsIn W sub whole (celled S x) hand) (sym e) h
 
--- the pattern matches, or not
+-- the pattern matches, or it doesn't
 pub take_matched : (W : World) (sub : Standing) (whole : Answer) (S : State) (q : Place) (n : ℕ) (p : Standing) (D : Contents)
     → Before (mark_of S.cells) (mark_of D) → Stays (mark_of S.cells) S.cells D
     → match_place q (standing_tree p) (cells_in (scope_at S.scopes n)) S.cells.bindings ≡ Some D.bindings
@@ -133,7 +133,7 @@ take_unmatched W sub whole S q n p D b st e h = record {
 
 -- ---- edits
 
--- another term is put in the place in hand
+-- the focus is replaced by another term
 pub puts : (W : World) (sub : Standing) (whole : Answer) (S : State) (p q : Standing) (T : Edits) (u : Tree) (trail : Trail)
     → q ≡ fresh u → Shows trail (T ++ record { path = path_of S.frames; new = u } ∷ [])
     → Opens (Meets W sub whole S.cells (mark_of S.cells) S.scopes S.level S.frames) (path_of S.frames) p T (done u S.cells.bindings S.steps (at_root u))
@@ -157,7 +157,7 @@ big_is l c u o go e f = rw (e, f) refl
 pub unbuilt_is : (l c : ℕ) (o : Option Tree) (go : Tree → Answer) → o ≡ None → built o l c go ≡ failed c
 unbuilt_is l c o go e = rw e refl
 
--- the form comes to a build of u
+-- the form amounts to a build of u
 pub take_built : (W : World) (sub : Standing) (whole : Answer) (S : State) (r : ResolvedStrategy) (n : ℕ) (p q : Standing) (o : Option Tree) (u : Tree) (trail : Trail)
     → answers W S r n p ≡ built o S.level S.steps (λ v. done v S.cells.bindings S.steps (at_root v))
     → o ≡ Some u → fits S.level u ≡ true → q ≡ fresh u
@@ -168,7 +168,7 @@ take_built W sub whole S r n p q o u trail a e f is sh h =
     puts W sub whole S p q h.edits u trail is (sh h.edits h.shows)
     (opens_along _ _ (a ∙ built_is S.level S.steps u o _ e f) h.opens)
 
--- ---- one after the other
+-- ---- sequences
 
 pub take_then : (W : World) (sub : Standing) (whole : Answer) (S : State) (s1 s2 : Bor ResolvedStrategy) (n : ℕ) (p : Standing)
     → FormIn W sub whole S (seq s1.now s2.now) n p → HoldsIn W sub whole (framed S (Then s2 n ∷ S.frames)) (Begin s1 n p)
@@ -185,7 +185,7 @@ take_then W sub whole S s1 s2 n p h = record {
       h.opens;
 }
 
--- a match, whose step is paid with that of the whole, and a strategy after it
+-- a match, whose step is charged with that of the sequence, followed by a strategy
 match_spent : (W : World) (E : Scope) (l : ℕ) (q : Place) (s : ResolvedStrategy) (b : ℕ) (B : Bindings) (t : Tree) → b ≡ 0
     → form W (run W) E l (seq (matches q) s) b B t ≡ stopped spent
 match_spent W E l q s b B t e = ap (λ (a : Answer). and_then a (run W E l s)) (no_steps W E l (matches q) b B t e)
@@ -260,7 +260,7 @@ take_test W sub whole S s1 n p h = record {
 
 -- ---- scopes
 
--- Room for more cells and a scope, which end behind the strategy.
+-- Room for more cells and a scope, which end after the strategy.
 pub take_opened : (W : World) (sub : Standing) (whole : Answer) (S : State) (r : ResolvedStrategy) (s : Bor ResolvedStrategy) (n inner : ℕ) (p : Standing) (E : Scope) (new : Bindings) (D : Contents) (es : List Scope) (fs : List Frame)
     → answers W S r n p ≡ opened (run W) E new S.level s.now S.steps S.cells.bindings (standing_tree p)
     → inner < length es → scope_at es inner ≡ E → D.bindings ≡ S.cells.bindings ++ new
@@ -270,7 +270,7 @@ take_opened W sub whole S r s n inner p E new D es fs a lt is de room h =
     begun W sub whole (with_those S D es fs) s inner p lt
     (room _ (run_has W (scope_at es inner) S.level s.now S.steps D.bindings (standing_tree p)) (along W sub whole S p _ _ (a ∙ (λ i. cut (length S.cells.bindings) (run W ((sym is) i) S.level s.now S.steps ((sym de) i) (standing_tree p)))) (form_answers W sub whole S r n p h)))
 
--- `rec`: room for a scope, which ends behind the strategy
+-- `rec`: room for a scope, which ends after the strategy
 pub take_named : (W : World) (sub : Standing) (whole : Answer) (S : State) (s body : Bor ResolvedStrategy) (n inner : ℕ) (p : Standing) (mid es : List Scope) (fs : List Frame)
     → s.now ≡ rec body.now → inner ≡ length mid → scope_at mid n ≡ scope_at S.scopes n
     → es ≡ mid ++ with_name (scope_at mid n) s.now (scope_at mid n) ∷ []
@@ -301,7 +301,7 @@ unknown_is W S x n p e = none_is (stands_for (scope_at S.scopes n) x) S.steps (�
 minus_none : (n : ℕ) → n ≡ n - 0
 minus_none n = omega arith
 
--- a node none of whose children has changed
+-- a node with no changed child
 over_none : (p : Standing) (parts : List Standing) → parts ≡ [] → Has p → PartsStand p (all_parts p parts) × (p ≡ node_now p (all_parts p parts))
 over_none p parts e h = rw e (none_stand p h, refl)
 
@@ -401,7 +401,7 @@ child_is W S s ss n (suc i) j k p e is =
     ∙ sym (and_then-done (on_child (run W (scope_at S.scopes n) (S.level + 1) s.now) j S.steps S.cells.bindings (standing_tree p)))
     ∙ ap (λ (l : List ResolvedStrategy). each (run W (scope_at S.scopes n) (S.level + 1)) l j S.steps S.cells.bindings (standing_tree p)) (sym e)
 
--- the form comes to a build of u, which was put in the place
+-- the form amounts to a build of u, which replaced the focus
 pub replaced_in : (W : World) (sub : Standing) (whole : Answer) (m0 m new : Machine) (r : ResolvedStrategy) (n : ℕ) (p q : Standing) (o : Option Tree) (u : Tree)
     → m.frames ≡ m0.frames → m.scopes ≡ m0.scopes → m.trail ≡ m0.trail → m.level ≡ m0.level → m.steps ≡ m0.steps → m.cells ≡ m0.cells
     → answers W (state_of m0) r n p ≡ built o m0.level m0.steps (λ v. done v m0.cells.bindings m0.steps (at_root v))

@@ -1,4 +1,4 @@
--- The path through frames that come outermost first, and trails.
+-- The path through the frames, the outermost first, and trails.
 use Rattle.std.proofs.Common.{◌≡◌, ◌<◌, ◌≤◌, ℕ, ◌+◌, List, [], ◌∷◌, ◌++◌, length, take, reverse, refl, sym, ap, ◌∙◌, arith, get_or, suc}
 use Rattle.std.proofs.lemmas.List.{append-nil, take_all, map-append}
 use Rattle.std.proofs.Math.Seq.{take-suc}
@@ -30,7 +30,7 @@ path_step (Behind p first k) fs = sym (append-nil (path_of fs))
 path_step (Leave n) fs = sym (append-nil (path_of fs))
 path_step (Cut n k) fs = sym (append-nil (path_of fs))
 
--- one frame more
+-- one more frame
 pub path_more : (fs : List Frame) (i : ℕ) (f : Frame) (old new : List ℕ) → i < length fs → f ≡ get_or fs i f → old ≡ path_of (reverse (take i fs)) → new ≡ old ++ step_of f → new ≡ path_of (reverse (take (i + 1) fs))
 path_more fs i f old new lt e o n =
     n ∙ ap (λ x. x ++ step_of f) o ∙ sym (path_step f (reverse (take i fs))) ∙ ap path_of (sym (pushed (take i fs) (take (i + 1) fs) f (taken fs i f lt e)))
@@ -38,13 +38,13 @@ path_more fs i f old new lt e o n =
 pub path_whole : (fs : List Frame) (i : ℕ) (p : List ℕ) → length fs ≤ i → p ≡ path_of (reverse (take i fs)) → p ≡ path_of (reverse fs)
 path_whole fs i p le e = e ∙ ap (λ x. path_of (reverse x)) (take_all i fs le)
 
--- ---- edits, as places to be put in place
+-- ---- edits as entries of a plan
 
 behind-append : (p : List ℕ) (e d : Edits) → behind p (e ++ d) ≡ behind p e ++ behind p d
 behind-append p [] d = refl
 behind-append p (x ∷ e) d = ap (λ l. record { path = p ++ x.path; new = x.new } ∷ l) (behind-append p e d)
 
--- one edit more
+-- one more edit
 pub planned_more : (slot : ℕ) (p : List ℕ) (es : Edits) (i : ℕ) (x : Edit) (old new : List Entry) → i < length es → x ≡ get_or es i x → old ≡ entries_at slot (behind p (take i es))
     → new ≡ old ++ entry_at slot (record { path = p ++ x.path; new = x.new }) ∷ [] → new ≡ entries_at slot (behind p (take (i + 1) es))
 planned_more slot p es i x old new lt e o n =

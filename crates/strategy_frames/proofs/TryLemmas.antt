@@ -1,4 +1,4 @@
--- Calls that try a strategy.
+-- Calls of the shape of `try(s)`.
 use Rattle.std.proofs.Common.{◌≡◌, ◌≤◌, ℕ, ◌+◌, zero, suc, List, [], ◌∷◌, ◌++◌, length, map, replicate, sym, ap, ◌∙◌, refl, arith, get_or, slice_get, Some, None}
 use Rattle.std.proofs.lemmas.List.{append-nil}
 use Rattle.term_core.specs.Tree.{Tree}
@@ -17,7 +17,7 @@ use Rattle.strategy_frames.proofs.OpenLemmas.{opens_along}
 use Rattle.strategy_frames.proofs.LengthLemmas.{run_has, cut_none}
 use Rattle.strategy_frames.proofs.TakeLemmas.{run_step, some_is, take_stops, paid}
 
--- the only one of a list
+-- the only strategy of a list
 pub alone : (ss : List ResolvedStrategy) (s : ResolvedStrategy) → length ss ≡ 1 → s ≡ get_or ss 0 s → resolveds_of ss ≡ and_strategy s no_strategies
 alone [] s n e = absurd (omega (arith, n))
 alone (r ∷ []) s n e = ap (λ (x : ResolvedStrategy). and_strategy x no_strategies) (sym e)
@@ -27,13 +27,13 @@ pub only_one : (ss : List ResolvedStrategy) (s t : ResolvedStrategy) → length 
 only_one [] s t n e f = absurd (omega (arith, n))
 only_one (r ∷ ss) s t n e f = e ∙ sym f
 
--- `id` looks at no scope
+-- `id` doesn't use its scope
 id_same : (W : World) (E F : Scope) (l b : ℕ) (B : Bindings) (t : Tree) → run W E l id b B t ≡ run W F l id b B t
 id_same W E F l zero B t = refl
 id_same W E F l (suc b) B t = refl
 
 module _ (W : World) (E : Scope) (l : ℕ) (B : Bindings) (u : Tree) where
-  -- the scope of the body, and what it is
+  -- the scope of the body
   abbrev body_scope : ResolvedStrategy → Scope
   body_scope s = inside [] (and_closure s E no_closures)
 
@@ -84,7 +84,7 @@ try_few W sub whole S f ss ps t n p k e h =
     take_stops W sub whole S (call f (resolveds_of ss) (places_of ps)) n p spent
     (tries W E S.level S.cells.bindings (standing_tree p) f ss ps t S.steps k ∙ few W E S.level S.cells.bindings (standing_tree p) t.first.now S.steps e) h
 
--- the choice begins
+-- the choice starts
 pub try_begins : (W : World) (sub : Standing) (whole : Answer) (S : State) (f : ℕ) (ss : List ResolvedStrategy) (ps : List Place) (t : Try) (n : ℕ) (p : Standing) (c : ℕ)
     → IsTry W.bodies f ss ps t → S.steps ≡ c + 2 → FormIn W sub whole S (call f (resolveds_of ss) (places_of ps)) n p
     → FormIn W sub whole (paid S c) (guard t.first.now t.second.now t.other.now) n p

@@ -1,4 +1,4 @@
--- Turns that give an answer to a frame, by what the machine's fields are then.
+-- Turns that give an answer to a frame, in terms of the machine's fields.
 use Rattle.std.proofs.lemmas.List.{length-append, reverse-append, reverse-reverse}
 use Rattle.strategy_syntax.specs.Resolved.{ResolvedStrategy}
 use Rattle.std.proofs.Common.{◌≡◌, ℕ, ◌-◌, List, [], ◌∷◌, ◌++◌, length, take, reverse, Bor, refl, sym, ap, ◌∙◌, subst, arith, Vec, Global}
@@ -15,7 +15,7 @@ use Rattle.strategy_frames.specs.declared.frames.Frame.TheVariants.{Then, Choose
 use Rattle.strategy_frames.specs.Hands.{Hand}
 use Rattle.strategy_frames.proofs.OpenLemmas.{pushed}
 
--- the frame that was taken off
+-- the popped frame
 pub popped : (W : World) (sub : Standing) (whole : Answer) (m : Machine) (hand : Hand) (old new : List Frame) (f : Frame) → old ≡ new ++ f ∷ [] → old ≡ m.frames.items
     → Holds W sub whole m hand
     → HoldsIn W sub whole (record { cells = m.cells; scopes = scopes m.scopes; trail = m.trail; level = m.level; frames = f ∷ reverse new; steps = m.steps }) hand
@@ -23,7 +23,7 @@ popped W sub whole m hand old new f e is h =
     subst (λ (fs : List Frame). HoldsIn W sub whole (record { cells = m.cells; scopes = scopes m.scopes; trail = m.trail; level = m.level; frames = fs; steps = m.steps }) hand)
     (ap reverse (sym is) ∙ pushed new old f e) h
 
--- the same machine but for the level
+-- the same machine, except for the level
 pub came_up : (W : World) (sub : Standing) (whole : Answer) (m new : Machine) {hand : Hand} (w : Walk) (p : Standing) (up : Standing × Vec Standing Global) → ComesUp m w p new up
     → HoldsIn W sub whole (record { cells = m.cells; scopes = scopes m.scopes; trail = m.trail; level = w.level; frames = reverse m.frames.items; steps = m.steps }) hand
     → HoldsIn W sub whole (state_of new) hand
@@ -31,7 +31,7 @@ came_up W sub whole m new {hand = hand} w p up k h =
     subst (λ (S : State). HoldsIn W sub whole S hand)
     (λ i. record { cells = sym k.rest.1 i; scopes = scopes (sym k.rest.2 i); trail = sym k.rest.3 i; level = sym k.level i; frames = reverse (sym k.rest.0 i).items; steps = sym k.rest.4 i }) h
 
--- the same machine but for the trail
+-- the same machine, except for the trail
 pub was_put : (W : World) (sub : Standing) (whole : Answer) (m new : Machine) {hand : Hand} (u : Tree) (q : Standing) → Replaced m u new q
     → HoldsIn W sub whole (record { cells = m.cells; scopes = scopes m.scopes; trail = new.trail; level = m.level; frames = reverse m.frames.items; steps = m.steps }) hand
     → HoldsIn W sub whole (state_of new) hand
@@ -39,7 +39,7 @@ was_put W sub whole m new {hand = hand} u q k h =
     subst (λ (S : State). HoldsIn W sub whole S hand)
     (λ i. record { cells = sym k.rest.1 i; scopes = scopes (sym k.rest.2 i); trail = new.trail; level = sym k.rest.3 i; frames = reverse (sym k.rest.0 i).items; steps = sym k.rest.4 i }) h
 
--- nothing waits
+-- no frame is left
 pub none_waits : (W : World) (sub : Standing) (whole : Answer) (m : Machine) (hand : Hand) → m.frames.items ≡ [] → Holds W sub whole m hand
     → HoldsIn W sub whole (record { cells = m.cells; scopes = scopes m.scopes; trail = m.trail; level = m.level; frames = []; steps = m.steps }) hand
 none_waits W sub whole m hand e h =
@@ -54,7 +54,7 @@ take_front [] [] = refl
 take_front [] (y ∷ ys) = refl
 take_front (x ∷ xs) ys = ap (λ l. x ∷ l) (take_front xs ys)
 
--- the frame that waits for the first elements of a list, taken off
+-- the popped frame that waits for the first elements of a list
 pub tail_taken : (xs new ys : List Frame) (s : Bor ResolvedStrategy) (n k len : ℕ) → ys ≡ reverse xs → Waits ys s n k → new ≡ take len xs → len ≡ length xs - 1
     → reverse xs ≡ Tail s n k ∷ reverse new
 tail_taken xs new [] s n k len e w is le = absurd w

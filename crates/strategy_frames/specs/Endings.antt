@@ -17,26 +17,26 @@ use Rattle.strategy_frames.specs.declared.frames.Frame.{Frame}
 use Rattle.strategy_frames.specs.declared.frames.Frame.TheVariants.{Leave, Cut}
 use Rattle.strategy_frames.specs.declared.machine.Machine.{Machine}
 
--- the innermost frame ends scopes, and leaves the first k
+-- the innermost frame ends scopes and keeps the first k
 abbrev pub LeavesScopes : List Frame → ℕ → Type 0
 LeavesScopes [] k = ⊥
 LeavesScopes (Leave n ∷ fs) k = n ≡ k
 LeavesScopes (Cut n j ∷ fs) k = j ≡ k
 LeavesScopes (f ∷ fs) k = ⊥
 
--- the innermost frame ends cells and scopes, and leaves the first k scopes
+-- the innermost frame ends cells and scopes and keeps the first k scopes
 abbrev pub LeavesCells : List Frame → ℕ → Type 0
 LeavesCells [] k = ⊥
 LeavesCells (Cut n j ∷ fs) k = j ≡ k
 LeavesCells (f ∷ fs) k = ⊥
 
--- What is at p now answers a, which taken through the frames is the whole answer.
+-- The run from p has the answer a; through the frames it becomes the whole answer.
 pub record AnswersIn (W : World) (sub : Standing) (whole : Answer) (S : State) (p : Standing) (a : Answer) : Type 0 where
   pub edits : Edits
   pub shows : Shows S.trail edits
   pub opens : Opens (Meets W sub whole S.cells (mark_of S.cells) S.scopes S.level S.frames) (path_of S.frames) p edits a
 
--- where it gives a term, there are so many cells
+-- if the answer is a success, it has n cells
 abbrev pub HasCells : ℕ → Answer → Type 0
 HasCells n a = IfDone a (λ t B b e. length B ≡ n)
 
@@ -47,7 +47,7 @@ with_those S C es fs = record { cells = C; scopes = es; trail = S.trail; level =
 abbrev pub frames_of : Machine → List Frame
 frames_of m = reverse m.frames.items
 
--- The frames end scopes that are added now, and scope n is still there.
+-- The frames end scopes that are added from now on, and scope n still exists.
 pub record ScopesEnd (m : Machine) (n : ℕ) (new : Machine) : Type 0 where
   pub there : n < length (scopes new.scopes)
   pub same : scope_at (scopes new.scopes) n ≡ scope_at (scopes m.scopes) n
@@ -57,7 +57,7 @@ pub record ScopesEnd (m : Machine) (n : ℕ) (new : Machine) : Type 0 where
   pub rest : (new.cells ≡ m.cells) × (new.trail ≡ m.trail) × (new.arguments ≡ m.arguments) × (new.level ≡ m.level) × (new.steps ≡ m.steps)
   pub frames : vec_len new.frames ≤ vec_len m.frames + 1
 
--- The same of cells and scopes: the answer is cut to the cells of now.
+-- The same for cells and scopes: the answer is cut to the current cells.
 pub record CellsEnd (m : Machine) (n : ℕ) (new : Machine) : Type 0 where
   pub there : n < length (scopes new.scopes)
   pub same : scope_at (scopes new.scopes) n ≡ scope_at (scopes m.scopes) n
@@ -68,8 +68,8 @@ pub record CellsEnd (m : Machine) (n : ℕ) (new : Machine) : Type 0 where
   pub rest : (new.cells ≡ m.cells) × (new.trail ≡ m.trail) × (new.arguments ≡ m.arguments) × (new.level ≡ m.level) × (new.steps ≡ m.steps)
   pub frames : vec_len new.frames ≤ vec_len m.frames + 1
 
--- The body of a definition was entered, whose strategies were written in scope n: cells hold the
--- arguments, others are empty, and the frames end cells and scopes, where there are new ones.
+-- The body of a definition was entered, with strategies that belong to scope n: cells hold the
+-- arguments, the others are empty, and the frames end cells and scopes, if there are new ones.
 pub record Enters (m : Machine) (ss : ResolvedStrategies) (d : Resolved) (n : ℕ) (new : Machine) (inner : ℕ) : Type 0 where
   pub there : inner < length (scopes new.scopes)
   pub scope : scope_at (scopes new.scopes) inner

@@ -1,4 +1,4 @@
--- How the answer of what is in hand goes through what waits for it.
+-- How the answer of the focus passes through the frames.
 use Rattle.std.specs.Prelude.{◌≡◌, ◌<◌, ◌≤◌, ℕ, suc, ◌+◌, ◌-◌, ◌==◌, not, cond, Bool, true, List, [], ◌∷◌, ◌++◌, length, replicate, take, slice_get, slice_set, Some, None}
 use Rattle.std.specs.Borrow.{Bor}
 use Rattle.std.specs.declared.option.Option.{Option}
@@ -27,16 +27,17 @@ abbrev pub acts_list : Acts → ℕ → List ResolvedStrategy
 acts_list (Same s) k = replicate k s.now
 acts_list (Listed ss) k = ss.now
 
--- The parent goes on with child i where it is done.
+-- The parent continues with child i after the child's answer.
 abbrev pub put_back : ℕ → Tree → Answer → Answer
 put_back i t a = if_done a (λ v B b e. done (with_child t i v) B b (behind (i ∷ []) e))
 
--- What a part's answer becomes, by what it began with and the edits of the run before.
+-- How the answer of a part, given its start and the earlier edits of the run, determines that of
+-- the whole.
 abbrev pub Becomes : Type 1
 Becomes = Standing → Edits → Answer → Type 0
 
--- A part that has begun somewhere and is at p now: T are the edits of the run so far, and `a` what is
--- still to come of it.
+-- A part that was opened and is now p: T are the edits of the run so far, and `a` is the answer
+-- from here.
 pub record Opens (R : Becomes) (path : List ℕ) (p : Standing) (T : Edits) (a : Answer) : Type 0 where
   pub start : Standing
   pub base : Edits
@@ -45,11 +46,11 @@ pub record Opens (R : Becomes) (path : List ℕ) (p : Standing) (T : Edits) (a :
   pub trail : T ≡ base ++ behind path before
   pub is : R start base (with_edits before a)
 
--- what stands in the places of the children so far
+-- the parts in the places of the children so far
 abbrev pub walk_parts : Walk → List Standing
 walk_parts w = all_parts w.node w.parts.items
 
--- A child that began as `start`, when there were these edits, is in hand.
+-- The focus is a child that was `start` when there were these edits.
 pub record Inside (l : ℕ) (w : Walk) (start : Standing) (base : Edits) : Type 0 where
   pub level : l ≡ w.level + 1
   pub has : Has w.node
@@ -61,7 +62,7 @@ pub record Inside (l : ℕ) (w : Walk) (start : Standing) (base : Edits) : Type 
 abbrev pub walked : Walk → Standing
 walked w = node_with w.node w.parts.items
 
--- The walk goes on from its child, which is p now, when there are these edits, to the next one, q.
+-- The walk moves on from its child, which is now p, to the next one, q, when there are these edits.
 pub record StepsOn (w : Walk) (p : Standing) (count : ℕ) (v : Walk) (q : Standing) : Type 0 where
   pub node : v.node ≡ w.node
   pub level : v.level ≡ w.level
@@ -71,12 +72,12 @@ pub record StepsOn (w : Walk) (p : Standing) (count : ℕ) (v : Walk) (q : Stand
       ≡ cond (not (count == w.edits)) (slice_set (parts_now w.node (walk_parts w)) w.index p) (walk_parts w)
   pub child : slice_get (parts_now w.node (all_parts w.node v.parts.items)) v.index ≡ Some q
 
--- the frame has strategy s, in scope m, for the child behind the one in hand, and others for those behind it
+-- the frame has strategy s, in scope m, for the next child, and others for the children after it
 abbrev pub HasNext : Frame → Bor ResolvedStrategy → ℕ → Acts → Type 0
 HasNext (Each acts n w) s m others = (m ≡ n) × ((k : ℕ) → acts_list acts (suc k) ≡ s.now ∷ acts_list others k)
 HasNext f s m others = ⊥
 
--- the walk of the frame goes on from its child, which is p now, to q
+-- the walk of the frame moves on from its child, which is now p, to q
 abbrev pub WalksOn : Frame → Standing → ℕ → Frame → Standing → Type 0
 WalksOn (Each acts n w) p edits g q = (v : Walk) × (g ≡ Each acts n v) × StepsOn w p edits v q
 WalksOn f p edits g q = ⊥
@@ -85,16 +86,17 @@ abbrev pub with_acts : Frame → Acts → Frame
 with_acts (Each acts n w) others = Each others n w
 with_acts f others = f
 
--- The frame, with strategies for children, goes on from the one that is p now to q: by s, in scope m.
+-- The frame has strategies for children and moves on from p to q with s, in scope m.
 abbrev pub GoesOn : Frame → Standing → ℕ → Bor ResolvedStrategy → ℕ → Frame → Standing → Type 0
 GoesOn f p edits s m g q =
     (others : Acts) × (h : Frame) × HasNext f s m others × WalksOn f p edits h q × (g ≡ with_acts h others)
 
--- how many children stand behind the one in hand
+-- how many children come after the current one
 abbrev pub left_behind : Walk → ℕ
 left_behind w = length (children (standing_tree w.node)) - (w.index + 1)
 
--- what comes after a child that is done or not, and what after one where strategies go by choice
+-- how the run continues after a child's success or failure, and how it does if the strategies are
+-- tried by choice
 abbrev pub after_each : World → Scope → Acts → Walk → Answer → Answer
 after_each W E acts w a =
     and_then (put_back w.index (standing_tree (walked w)) a)
@@ -123,12 +125,12 @@ after_rest n t a =
     if_done a (λ u B b e. with_some (elements u) b
     (λ us. done (with_rest n t us) B b (at_root (with_rest n t us))))
 
--- what stands in the place of the first child, where that has changed
+-- the part in the place of the first child, if that has changed
 abbrev pub first_part : Option Standing → List Standing
 first_part None = []
 first_part (Some p) = p ∷ []
 
--- The first element of a list is in hand.
+-- The focus is the first element of a list.
 pub record IsFirst (w : Walk) : Type 0 where
   pub none : w.parts.items ≡ []
   pub first : w.index ≡ 0
@@ -137,9 +139,10 @@ pub record IsFirst (w : Walk) : Type 0 where
 abbrev pub after_head : World → Scope → ResolvedStrategy → Walk → Answer → Answer
 after_head W E s w a = and_then (put_back w.index (standing_tree (walked w)) a) (on_rest (run W E w.level s) 1)
 
--- Through the frames, the innermost first, the answer of the innermost part, which began with `start`
--- after the edits `base`, becomes the whole answer of what began with `sub`. C is what the cells hold,
--- of which marks up to `top` will be asked for, es are the scopes and l the level of what is in hand.
+-- Through the frames, the innermost first, the answer of the innermost part, which was `start` when
+-- the edits were `base`, becomes the whole answer of the run on `sub`. C is the content of the
+-- cells, of which marks up to `top` may be asked for; es are the scopes; l is the level of the
+-- focus.
 abbrev pub Meets : World → Standing → Answer → Contents → Mark → List Scope → ℕ → List Frame → Becomes
 Meets W sub whole C top es l [] start base a = (start ≡ sub) × (base ≡ []) × (a ≡ whole)
 Meets W sub whole C top es l (Then s n ∷ fs) start base a =

@@ -1,4 +1,4 @@
--- What is in hand, with what comes next for it.
+-- The focus and what to do next with it.
 use Rattle.std.specs.Prelude.{ℕ, Bool, Vec}
 use Rattle.std.specs.Borrow.{Bor}
 use Rattle.std.specs.Global.{Global}
@@ -10,17 +10,18 @@ use Rattle.strategy_frames.specs.declared.frames.Next.TheVariants as nexts
 use Rattle.strategy_frames.specs.declared.machine.Machine.{Machine}
 
 pub data Hand : Type 0 where
-  -- a strategy in a scope is to be evaluated on it
+  -- evaluate a strategy on it, in a scope
   Begin : Bor ResolvedStrategy → ℕ → Standing → Hand
-  -- a strategy has given it
+  -- a strategy succeeded with it
   Done : Standing → Hand
-  -- a strategy has failed
+  -- a strategy failed
   Failed : Hand
-  -- strategies for its children from one on, with what stands in their places
+  -- run strategies on its children from an index on, with the parts in their places
   Each : Acts → ℕ → Standing → ℕ → Vec Standing Global → Hand
-  -- a strategy for the leftmost of its children from one on where it gives a term
+  -- run a strategy on the leftmost of its children from an index on on which it succeeds
   Leftmost : Bor ResolvedStrategy → ℕ → Standing → ℕ → Hand
-  -- a strategy for those of its children from one on where it gives a term, and whether it has given one
+  -- run a strategy on those of its children from an index on on which it succeeds; the flag says
+  -- whether it has succeeded on any
   Those : Bor ResolvedStrategy → ℕ → Standing → ℕ → Bool → Vec Standing Global → Hand
 
 abbrev pub hand_of : Next → Standing → Vec Standing Global → Hand

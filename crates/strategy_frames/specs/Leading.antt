@@ -1,4 +1,4 @@
--- How what stands in a place comes from what stood there, by edits.
+-- How edits lead from what was in a place to what is there now.
 use Rattle.std.specs.Prelude.{◌≡◌, ◌≤◌, ◌⊎◌, ℕ, List, [], ◌∷◌, ◌++◌, length, drop}
 use Rattle.term_core.specs.Tree.{children}
 use Rattle.term_paths.specs.Paths.{LiesWithin}
@@ -22,14 +22,14 @@ IsPlace (inside cs) (i ∷ x) = IsPlace (nth_change cs i) x
 IsPlace (replaced u) [] = Unit {0}
 IsPlace (replaced u) (i ∷ x) = ⊥
 
--- whether a place of the change is there or above
+-- whether a place of the change is at this path or above it
 abbrev pub IsWithin : Change → List ℕ → Type 0
 IsWithin same x = ⊥
 IsWithin (inside cs) [] = ⊥
 IsWithin (inside cs) (i ∷ x) = IsWithin (nth_change cs i) x
 IsWithin (replaced u) x = Unit {0}
 
--- what was kept has the places of the change
+-- a kept subterm has the places of the change
 abbrev pub Has : Standing → Type 0
 Has (unchanged t) = Unit {0}
 Has (altered a) = HaveAllPlaces (children a.before) a.changes
@@ -39,46 +39,46 @@ abbrev pub AllHave : List Standing → Type 0
 AllHave [] = Unit {0}
 AllHave (p ∷ ps) = Has p × AllHave ps
 
--- the node so far: none of its children has changed, or these stand in their places
+-- the node so far: unchanged, or with these parts in the places of its first children
 abbrev pub node_now : Standing → List Standing → Standing
 node_now p [] = p
 node_now p (q ∷ qs) = with_standing p (q ∷ qs)
 
--- what stands in the places of its children so far
+-- the parts in the places of its children so far
 abbrev pub parts_now : Standing → List Standing → List Standing
 parts_now p [] = standing_children p
 parts_now p (q ∷ qs) = q ∷ qs
 
--- what stands in the places of all its children, where these stand in those of the first ones
+-- the parts in the places of all its children, given those of the first ones
 abbrev pub all_parts : Standing → List Standing → List Standing
 all_parts p [] = []
 all_parts p (q ∷ qs) = (q ∷ qs) ++ drop (length (q ∷ qs)) (standing_children p)
 
--- the node with those in the places of its first children
+-- the node with these parts in the places of its first children
 abbrev pub node_with : Standing → List Standing → Standing
 node_with p qs = node_now p (all_parts p qs)
 
--- these can stand there
+-- These parts can stand there.
 pub record PartsStand (p : Standing) (qs : List Standing) : Type 0 where
   pub follow : AllFollow (standing_children p) (parts_now p qs)
   pub have : AllHave (parts_now p qs)
 
--- ---- the parts that are kept
+-- ---- the retained parts
 
--- qs in the places of the first of cs
+-- cs with qs in place of its first elements
 abbrev pub over : List Standing → List Standing → List Standing
 over qs cs = qs ++ drop (length qs) cs
 
--- qs and more of cs, up to the first n
+-- qs, continued with elements of cs up to the first n
 pub record Fills (cs qs : List Standing) (n : ℕ) (new : List Standing) : Type 0 where
   pub same : over new cs ≡ over qs cs
   pub most : length qs ≤ n → length new ≤ n
   pub least : (n ≤ length new) ⊎ (length cs ≤ length new)
 
--- ---- what a part comes from
+-- ---- where a part comes from
 
--- q stands where p stood, after these edits: what it keeps is what was kept, each of its places was one
--- of p or is that of an edit, and none of these lies outside its places
+-- q is in the place of p after these edits: a subterm that q keeps was kept in p; each place of q
+-- was a place of p or is that of an edit; and no edit lies outside the places of q.
 pub record Leads (p : Standing) (e : Edits) (q : Standing) : Type 0 where
   pub follows : Follows p q
   pub made : Replaces e (standing_tree p) (standing_tree q)

@@ -1,4 +1,4 @@
--- Failures that the root of a term tells, whatever its variables are bound to.
+-- Failures that the root of a term shows, whatever the variables are bound to.
 use Rattle.std.specs.Prelude.{◌≡◌, ℕ, List, None, Some, ⊤}
 use Rattle.std.specs.declared.option.Option.{Option}
 use Rattle.term_core.specs.Tree.{Tree}
@@ -14,12 +14,12 @@ use Rattle.strategy_scopes.specs.Table.{scope_at}
 pub record Misses (p : Place) (t : Tree) : Type 0 where
   pub never : (E : List ℕ) (B : Bindings) → match_place p t E B ≡ None
 
--- the strategy names of the scope are those of scope n, where that is known
+-- the strategy names of the scope are those of scope n, if n is known
 abbrev pub HasNames : List Scope → Option ℕ → Scope → Type 0
 HasNames known None E = ⊤
 HasNames known (Some n) E = (x : ℕ) → stands_for E x ≡ stands_for (scope_at known n) x
 
--- From b steps the strategy fails on the term with c left, at each level and with all bindings, in each
--- scope with these names.
+-- With b steps the strategy fails on the term and leaves c, at each level, with all bindings and in
+-- each scope with these names.
 pub record FailsAhead (ds : List Resolved) (known : List Scope) (n : Option ℕ) (s : ResolvedStrategy) (b : ℕ) (t : Tree) (c : ℕ) : Type 0 where
   pub fails : (W : World) → W.bodies ≡ ds → (E : Scope) → HasNames known n E → (l : ℕ) (B : Bindings) → run W E l s b B t ≡ failed c

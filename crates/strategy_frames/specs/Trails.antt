@@ -1,4 +1,4 @@
--- The edits of a run, and the place that is in hand.
+-- The edits of a run, and the path of the focus.
 use Rattle.std.specs.Prelude.{◌≡◌, ℕ, List, [], ◌∷◌, ◌++◌, length, Some, None, ⊤, Vec}
 use Rattle.std.specs.Global.{Global}
 use Rattle.std.specs.declared.option.Option.{Option}
@@ -7,7 +7,7 @@ use Rattle.strategy_frames.specs.declared.frames.Frame.{Frame}
 use Rattle.strategy_frames.specs.declared.frames.Frame.TheVariants.{Then, Choose, Restore, Each, Leftmost, Those, Tail, Rest, Head, Behind, Leave, Cut}
 use Rattle.strategy_frames.specs.declared.trail.Trail.{Trail}
 
--- the path through frames, the innermost of which comes first
+-- the path through the frames, the innermost first
 abbrev pub path_of : List Frame → List ℕ
 path_of [] = []
 path_of (Then s n ∷ fs) = path_of fs
@@ -23,7 +23,7 @@ path_of (Behind p first k ∷ fs) = path_of fs
 path_of (Leave n ∷ fs) = path_of fs
 path_of (Cut n k ∷ fs) = path_of fs
 
--- the child that a frame has in hand
+-- the child that a frame visits
 abbrev pub step_of : Frame → List ℕ
 step_of (Then s n) = []
 step_of (Choose s r n p k m) = []
@@ -38,7 +38,7 @@ step_of (Behind p first k) = []
 step_of (Leave n) = []
 step_of (Cut n k) = []
 
--- where edits are kept, they are these
+-- if edits are kept, they are these
 abbrev pub Keeps : Option (Vec Edit Global) → Edits → Type 0
 Keeps None T = ⊤
 Keeps (Some made) T = made.items ≡ T

@@ -1,16 +1,16 @@
--- Calls that try a strategy.
+-- Calls of the shape of `try(s)`.
 use Rattle.std.specs.Prelude.{◌≡◌, ℕ, List, slice_get, Some}
 use Rattle.strategy_syntax.specs.Resolved.{Place, ResolvedStrategy, id, guard, param, no_strategies, and_strategy, resolveds_of, no_places, places_of}
 use Rattle.strategy_syntax.specs.declared.resolved.Resolved.{Resolved}
 use Rattle.strategy_meaning.specs.Scopes.{Scope, argument}
 use Rattle.strategy_frames.specs.declared.tries.Try.{Try}
 
--- As an argument it stands for itself, in each scope.
+-- As an argument the strategy stands for itself, in each scope.
 pub record IsItself (s : ResolvedStrategy) : Type 0 where
   pub argument : (E : Scope) → argument E s ≡ record { strategy = s; written_in = E }
 
--- The definition f has no variables and is `s <+ id`, for its first strategy s; and it is called with
--- one strategy alone, which is no name.
+-- The definition f has no variables and its body is `s <+ id` with its first strategy name s; the
+-- call has a single strategy, which is no name.
 pub record IsTry (ds : List Resolved) (f : ℕ) (ss : List ResolvedStrategy) (ps : List Place) (t : Try) : Type 0 where
   pub body : Resolved
   pub defined : slice_get ds f ≡ Some body

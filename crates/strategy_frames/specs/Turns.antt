@@ -1,4 +1,4 @@
--- What a turn of the machine keeps, and that a run ends.
+-- The invariant of a turn of the machine, and termination.
 use Rattle.std.specs.Prelude.{◌≡◌, ◌<◌, ℕ, ◌+◌, ◌-◌, ◌*◌, ◌==◌, not, cond, List, [], ◌∷◌, ◌++◌, length, reverse, slice_set, vec_len, Vec}
 use Rattle.std.specs.Borrow.{Bor}
 use Rattle.std.specs.Global.{Global}
@@ -28,7 +28,7 @@ use Rattle.strategy_frames.specs.declared.frames.Turned.{Turned}
 use Rattle.strategy_frames.specs.declared.frames.Turned.TheVariants as turns
 use Rattle.strategy_frames.specs.declared.machine.Machine.{Machine}
 
--- What a turn works on, with the frames innermost first.
+-- The state that a turn works on, with the frames innermost first.
 pub record State : Type 0 where
   pub cells : Contents
   pub scopes : List Scope
@@ -47,7 +47,7 @@ state_of m = record {
   steps = m.steps;
 }
 
--- what is to come of what is in hand
+-- the answer of the focus from here
 abbrev pub coming : World → State → Hand → Answer
 coming W S (Begin s n p) = run W (scope_at S.scopes n) S.level s.now S.steps S.cells.bindings (standing_tree p)
 coming W S (Done p) = done (standing_tree p) S.cells.bindings S.steps []
@@ -62,7 +62,7 @@ coming W S (Those s n p i any parts) =
     those_done (run W (scope_at S.scopes n) (S.level + 1) s.now) (length (children (standing_tree p)) - i) any i
     S.steps S.cells.bindings (standing_tree (node_with p parts.items))
 
--- p is what is in hand, and its scope is there
+-- p is the focus, and its scope exists
 abbrev pub IsInHand : State → Standing → Hand → Type 0
 IsInHand S p (Begin s n q) = (n < length S.scopes) × (p ≡ q)
 IsInHand S p (Done q) = p ≡ q
@@ -71,7 +71,7 @@ IsInHand S p (Each acts n q i parts) = (n < length S.scopes) × Has q × PartsSt
 IsInHand S p (Leftmost s n q i) = (n < length S.scopes) × Has q × (p ≡ q)
 IsInHand S p (Those s n q i any parts) = (n < length S.scopes) × Has q × PartsStand q (all_parts q parts.items) × (p ≡ node_with q parts.items)
 
--- The answer of what is in hand, taken through the frames, is the whole answer.
+-- The answer of the focus, passed through the frames, is the whole answer.
 pub record HoldsIn (W : World) (sub : Standing) (whole : Answer) (S : State) (hand : Hand) : Type 0 where
   pub now : Standing
   pub edits : Edits
@@ -83,7 +83,7 @@ pub record HoldsIn (W : World) (sub : Standing) (whole : Answer) (S : State) (ha
 abbrev pub Holds : World → Standing → Answer → Machine → Hand → Type 0
 Holds W sub whole m hand = HoldsIn W sub whole (state_of m) hand
 
--- The run is done with p.
+-- The run succeeds with p.
 pub record IsDone (sub : Standing) (whole : Answer) (S : State) (p : Standing) : Type 0 where
   pub edits : Edits
   pub leads : Leads sub edits p
@@ -98,7 +98,7 @@ After W sub whole m turns.Failed = whole ≡ failed m.steps
 After W sub whole m turns.Spent = whole ≡ stopped spent
 After W sub whole m turns.Big = whole ≡ stopped big
 
--- A turn keeps the whole answer.
+-- A turn preserves the whole answer.
 pub record Turn (W : World) (m : Machine) (hand : Hand) (new : Machine) (next : Turned) : Type 0 where
   pub keeps : (sub : Standing) (whole : Answer) → Holds W sub whole m hand → After W sub whole new next
 
@@ -107,7 +107,7 @@ abbrev pub world_of : (List ℕ → List Tree → Option Tree) → List Resolved
 world_of meaning definitions primitives =
     record { bodies = definitions; primitives = primitives; meaning = meaning }
 
--- ---- that a run ends
+-- ---- termination
 
 abbrev pub weight : Hand → ℕ
 weight (Begin s n p) = 0
@@ -117,7 +117,7 @@ weight (Each acts n p i parts) = 3
 weight (Leftmost s n p i) = 3
 weight (Those s n p i any parts) = 3
 
--- what is left to do at most
+-- a bound on what is left to do
 abbrev pub load : Machine → Hand → ℕ
 load m hand = 7 * m.steps + 2 * vec_len m.frames + weight hand
 
@@ -128,9 +128,10 @@ Falls m hand new turns.Failed = Unit {0}
 Falls m hand new turns.Spent = Unit {0}
 Falls m hand new turns.Big = Unit {0}
 
--- ---- a form, when its step is paid
+-- ---- a form whose step is charged
 
--- The answer that the line of the form in the table gives, taken through the frames, is the whole answer.
+-- The answer that the table's line for the form gives, passed through the frames, is the whole
+-- answer.
 pub record FormIn (W : World) (sub : Standing) (whole : Answer) (S : State) (r : ResolvedStrategy) (n : ℕ) (p : Standing) : Type 0 where
   pub edits : Edits
   pub shows : Shows S.trail edits
@@ -138,7 +139,7 @@ pub record FormIn (W : World) (sub : Standing) (whole : Answer) (S : State) (r :
   pub opens : Opens (Meets W sub whole S.cells (mark_of S.cells) S.scopes S.level S.frames) (path_of S.frames) p edits
       (form W (run W) (scope_at S.scopes n) S.level r S.steps S.cells.bindings (standing_tree p))
 
--- A turn that goes on with the form keeps it.
+-- A turn that continues with the form preserves it.
 pub record Takes (W : World) (m : Machine) (r : ResolvedStrategy) (n : ℕ) (p : Standing) (new : Machine) (next : Turned) : Type 0 where
   pub keeps : (sub : Standing) (whole : Answer) → FormIn W sub whole (state_of m) r n p → After W sub whole new next
 
@@ -149,14 +150,14 @@ TakeFalls m new turns.Failed = Unit {0}
 TakeFalls m new turns.Spent = Unit {0}
 TakeFalls m new turns.Big = Unit {0}
 
--- A value was put in the place in hand: one edit more.
+-- The focus was replaced by a value: one more edit.
 pub record Replaced (m : Machine) (u : Tree) (new : Machine) (p : Standing) : Type 0 where
   pub part : p ≡ fresh u
   pub shows : (T : Edits) → Shows m.trail T
       → Shows new.trail (T ++ record { path = path_of (reverse m.frames.items); new = u } ∷ [])
   pub rest : (new.frames ≡ m.frames) × (new.cells ≡ m.cells) × (new.scopes ≡ m.scopes) × (new.level ≡ m.level) × (new.steps ≡ m.steps)
 
--- ---- an answer, given to a frame that was taken off
+-- ---- an answer, given to a frame that was popped
 
 abbrev pub under : Frame → Machine → State
 under f m = record {
@@ -168,7 +169,7 @@ under f m = record {
   steps = m.steps;
 }
 
--- Going on from there keeps the whole answer.
+-- Continuing from there preserves the whole answer.
 pub record Gives (W : World) (f : Frame) (m : Machine) (hand : Hand) (new : Machine) (next : Turned) : Type 0 where
   pub keeps : (sub : Standing) (whole : Answer) → HoldsIn W sub whole (under f m) hand → After W sub whole new next
 
@@ -183,13 +184,13 @@ GiveFalls m new turns.Failed = Unit {0}
 GiveFalls m new turns.Spent = Unit {0}
 GiveFalls m new turns.Big = Unit {0}
 
--- what waits for the first elements of a list
+-- the innermost frame waits for the first elements of a list
 abbrev pub Waits : List Frame → Bor ResolvedStrategy → ℕ → ℕ → Type 0
 Waits [] s n k = ⊥
 Waits (Tail t m j ∷ fs) s n k = (t ≡ s) × (m ≡ n) × (j ≡ k)
 Waits (f ∷ fs) s n k = ⊥
 
--- less is left to do than where a child was to come
+-- less is left to do than before the next child's turn
 abbrev pub EndFalls : Machine → Machine → Turned → Type 0
 EndFalls m new turns.On = load new (in_hand new) < 7 * m.steps + 2 * vec_len m.frames + 3
 EndFalls m new turns.Done = Unit {0}
@@ -197,7 +198,8 @@ EndFalls m new turns.Failed = Unit {0}
 EndFalls m new turns.Spent = Unit {0}
 EndFalls m new turns.Big = Unit {0}
 
--- The child in hand is done with p: where no edit was made since it began, nothing has changed.
+-- The walk moves up from its child, which is now p; if there was no edit since the child's turn
+-- came, nothing has changed.
 pub record ComesUp (m : Machine) (w : Walk) (p : Standing) (new : Machine) (up : Standing × Vec Standing Global) : Type 0 where
   pub node : up.0 ≡ w.node
   pub parts : all_parts w.node up.1.items ≡ cond (not (m.trail.count == w.edits)) (slice_set (parts_now w.node (walk_parts w)) w.index p) (walk_parts w)

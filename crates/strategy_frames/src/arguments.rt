@@ -18,18 +18,18 @@ use term_core::{NoMemory, Term};
 use term_match::{Built, Cells};
 use term_values::Value;
 
-/// The answer where several patterns are built.
+/// The result of building several patterns.
 #[derive(Clone, Copy, Drop)]
 pub enum BuiltAll {
-    /// Their instances are there.
+    /// All instances are built.
     All,
-    /// One of them has no instance.
+    /// One pattern has no instance.
     Nothing,
-    /// One of them doesn't fit.
+    /// One instance doesn't fit.
     Big,
 }
 
-/// Builds the instances of the patterns, one by one.
+/// Builds the instances of the patterns in order.
 #[inline(always)]
 pub(crate) fn build_all<'t>(
     alloc: Global,
@@ -56,7 +56,7 @@ pub(crate) fn build_all<'t>(
     Ok(BuiltAll::All)
 }
 
-/// New cells that hold the arguments.
+/// Opens cells for the arguments.
 pub(crate) fn open_arguments<'t>(
     cells: &mut Cells<'t>,
     arguments: &[Value<'t>],
@@ -71,7 +71,7 @@ pub(crate) fn open_arguments<'t>(
     Ok(())
 }
 
-/// The arguments as terms of their own.
+/// The arguments as owned terms.
 pub(crate) fn owned_terms(alloc: Global, arguments: &[Value<'_>]) -> Result<Vec<Term>, NoMemory>
     ensures { IfOk result (λ all. all.items ≡ arguments.now) }
 {

@@ -1,4 +1,4 @@
-//! Calls of definitions and primitives, and what else opens scopes.
+//! Calls of definitions and primitives, and the other forms that open scopes.
 
 ghost use Rattle.std.specs.Prelude.{◌≡◌, ◌<◌, ◌++◌, map, replicate, length, Some, None, IfOk};
 ghost use Rattle.strategy_syntax.specs.Resolved.{scope as scope_form, rec, param, call, prim, resolveds_of, places_of};
@@ -21,7 +21,7 @@ use strategy_syntax::{Place, Resolved, ResolvedForm as Form, ResolvedStrategy};
 use term_core::{NoMemory, Term};
 use term_values::Value;
 
-/// So many new variables in a strategy. Where that is a rule, it is done at once.
+/// A strategy with `count` new variables. A rule is done at once.
 pub fn take_scope<'t>(
     alloc: Global,
     m: &mut Machine<'t>,
@@ -51,7 +51,7 @@ pub fn take_scope<'t>(
     Ok(Turned::On)
 }
 
-/// A strategy in which a new name stands for the whole.
+/// A strategy in which a new name stands for the whole strategy.
 pub fn take_rec<'t>(
     m: &mut Machine<'t>,
     whole: &'t ResolvedStrategy,
@@ -73,7 +73,7 @@ pub fn take_rec<'t>(
     Ok(Turned::On)
 }
 
-/// What a strategy name stands for.
+/// The strategy that a name stands for.
 pub fn take_param<'t>(m: &mut Machine<'t>, name: usize, scope: usize) -> Turned
     requires { scope < length (scopes_of m.old.scopes) }
     ensures ok { (W : World) → Takes W m.old (param name) scope m.old.part m.new result }
@@ -91,7 +91,7 @@ pub fn take_param<'t>(m: &mut Machine<'t>, name: usize, scope: usize) -> Turned
     }
 }
 
-/// A call of a definition. Where it tries a strategy, the choice begins at once.
+/// A call of a definition. A call of the shape of `try(s)` starts its choice at once.
 pub fn take_call<'t, M: Meaning>(
     alloc: Global,
     host: &Host<'t, M>,
@@ -138,8 +138,9 @@ pub fn take_call<'t, M: Meaning>(
     }
 }
 
-// Opens the cells and the scope of a definition's body; the arguments are those that were built. Where
-// there are no cells to open, and what it takes is what this one took, that stays.
+// Opens the cells and the scope of a definition's body, with the arguments built so far. If there
+// are no cells to open, a scope is reused: the empty one if the call passes no strategies, or the
+// current one if the call passes all its names on.
 fn enter<'t>(
     m: &mut Machine<'t>,
     strategies: &'t [ResolvedStrategy],
@@ -172,7 +173,7 @@ fn enter<'t>(
     Ok(m.scopes.add_call(scope, strategies, first, count)?)
 }
 
-/// A primitive.
+/// A call of a primitive.
 pub fn take_prim<'t, M: Meaning>(
     alloc: Global,
     host: &Host<'t, M>,
@@ -217,7 +218,7 @@ pub fn take_prim<'t, M: Meaning>(
     }
 }
 
-// What a primitive answers on these terms; nothing where there is no such primitive, or where it takes
+// What a primitive answers on these terms; nothing if there is no such primitive, or if it takes
 // another number of terms.
 fn answer_of<M: Meaning>(
     alloc: Global,

@@ -18,14 +18,14 @@ use strategy_syntax::{Head, ResolvedStrategy};
 use term_core::{Kind, NoMemory};
 use term_values::Part;
 
-/// Whether it is this head over so many children.
+/// Whether the part has this head and `count` children.
 pub(crate) fn is_over(head: &Head, count: usize, part: &Part<'_>) -> bool
     ensures { result ≡ is_headed_over (head_of head.now) count (standing_tree part.now) }
 {
     head.is_head_of(part.kind()) && part.child_count() == count
 }
 
-/// Whether it is a list of at least so many elements.
+/// Whether the part is a list of at least `count` elements.
 pub(crate) fn is_list_from(count: usize, part: &Part<'_>) -> bool
     ensures { result ≡ has_elements count (elements (standing_tree part.now)) }
 {
@@ -35,7 +35,7 @@ pub(crate) fn is_list_from(count: usize, part: &Part<'_>) -> bool
     }
 }
 
-/// A strategy for each child, where the head is over so many.
+/// A strategy for each child, if the head and the number of children agree.
 pub fn take_congruence<'t>(
     alloc: Global,
     m: &mut Machine<'t>,
@@ -55,7 +55,7 @@ pub fn take_congruence<'t>(
     Ok(Turned::On)
 }
 
-/// A strategy for each of the first elements of a list, and one for the list of the others.
+/// A strategy for each of the first elements of a list, and one for the list of the rest.
 pub fn take_tail<'t>(
     alloc: Global,
     m: &mut Machine<'t>,
@@ -80,7 +80,7 @@ pub fn take_tail<'t>(
     Ok(Turned::On)
 }
 
-// A strategy for the first element of a list, and one for the list of the others.
+// A strategy for the first element of a list, and one for the list of the rest.
 fn take_head<'t>(
     alloc: Global,
     m: &mut Machine<'t>,

@@ -1,7 +1,7 @@
-//! Where scopes and cells that a strategy adds end: behind it, by a frame. What a frame that ends scopes
-//! waits for is all that is left of a strategy; so what is begun there needs no frame of its own, and the
-//! scopes that it doesn't need end at once. A loop there by `rec`, or by calls that hand all
-//! names on, is flat.
+//! Where the scopes and cells that a strategy adds end: after it, by a frame. If the innermost
+//! frame already ends scopes, nothing else is left to do after the current strategy. A tail call
+//! then reuses that frame, and the scopes that it doesn't need end at once. So a tail-recursive
+//! loop, by `rec` or by calls that pass all names on, takes constant space.
 
 ghost use Rattle.std.specs.Prelude.{◌≡◌, ◌<◌, ◌≤◌, ◌-◌, ◌^◌, length, reverse, IfSome, OnOk};
 ghost use Rattle.strategy_scopes.specs.Table.{scopes as scopes_of};
@@ -11,7 +11,7 @@ use crate::frames::{Frame, wait};
 use crate::machine::Machine;
 use term_core::NoMemory;
 
-// How many scopes the innermost frame leaves, if it ends some.
+// How many scopes the innermost frame keeps, if it ends any.
 fn scopes_left(frames: &[Frame<'_>]) -> Option<usize>
     ensures { IfSome result (λ k. LeavesScopes (reverse frames.now) k) }
 {
@@ -22,7 +22,7 @@ fn scopes_left(frames: &[Frame<'_>]) -> Option<usize>
     }
 }
 
-// How many scopes the innermost frame leaves, if it ends cells too.
+// How many scopes the innermost frame keeps, if it ends cells too.
 fn scopes_left_with_cells(frames: &[Frame<'_>]) -> Option<usize>
     ensures { IfSome result (λ k. LeavesCells (reverse frames.now) k) }
 {
@@ -32,7 +32,7 @@ fn scopes_left_with_cells(frames: &[Frame<'_>]) -> Option<usize>
     }
 }
 
-// How many scopes are needed where these are left, and this one is used.
+// How many scopes are needed if `left` are kept and this one is used.
 fn needed(left: usize, scope: usize) -> usize
     requires { scope < 2 ^ 64 - 1 }
     ensures left { left ≤ result }
@@ -41,7 +41,7 @@ fn needed(left: usize, scope: usize) -> usize
     if scope < left { left } else { scope + 1 }
 }
 
-/// Sees to it that scopes which are added from now on end behind the strategy in hand; this scope stays.
+/// Makes scopes that are added from now on end after the current strategy. This scope stays.
 pub(crate) fn end_scopes<'t>(m: &mut Machine<'t>, scope: usize) -> Result<(), NoMemory>
     requires { scope < length (scopes_of m.old.scopes) }
     ensures { OnOk result (ScopesEnd m.old scope m.new) }
@@ -59,8 +59,8 @@ pub(crate) fn end_scopes<'t>(m: &mut Machine<'t>, scope: usize) -> Result<(), No
     }
 }
 
-/// Sees to it that cells and scopes which are added from now on end behind the strategy in hand; this
-/// scope stays.
+/// Makes cells and scopes that are added from now on end after the current strategy. This scope
+/// stays.
 pub(crate) fn end_cells<'t>(m: &mut Machine<'t>, scope: usize) -> Result<(), NoMemory>
     requires { scope < length (scopes_of m.old.scopes) }
     ensures { OnOk result (CellsEnd m.old scope m.new) }

@@ -1,4 +1,4 @@
-//! Matching, building, and strategies one after the other.
+//! Matching, building, sequences, choices and tests.
 
 ghost use Rattle.std.specs.Prelude.{◌≡◌, IfOk, OnOk};
 ghost use Rattle.strategy_syntax.specs.Resolved.{matches, builds, seq, guard, test};
@@ -15,7 +15,7 @@ use term_core::NoMemory;
 use term_match::Built;
 use term_values::{Part, Value};
 
-/// A pattern that is matched.
+/// A match of a pattern.
 pub fn take_match<'t>(
     alloc: Global,
     m: &mut Machine<'t>,
@@ -41,7 +41,7 @@ pub fn take_match<'t>(
     }
 }
 
-/// A pattern that is built.
+/// A build of a pattern.
 #[inline(always)]
 pub fn take_build<'t>(
     alloc: Global,
@@ -70,7 +70,7 @@ pub fn take_build<'t>(
     }
 }
 
-/// Puts a value in the place that is in hand, which is an edit.
+/// Replaces the focus by a value, which is an edit.
 #[inline(always)]
 pub fn replace<'t>(alloc: Global, m: &mut Machine<'t>, value: Value<'t>) -> Result<(), NoMemory>
     ensures { OnOk result (Replaced m.old value.entry m.new m.new.part) }
@@ -87,7 +87,7 @@ pub fn replace<'t>(alloc: Global, m: &mut Machine<'t>, value: Value<'t>) -> Resu
     }
 }
 
-/// One strategy after the other. Where the first one is a match, it is done at once.
+/// A sequence. If its first strategy is a match, that is done at once.
 #[inline(always)]
 pub fn take_seq<'t>(
     alloc: Global,
@@ -109,7 +109,7 @@ pub fn take_seq<'t>(
     }
 }
 
-// A match, which costs a step of its own, and a strategy after it.
+// A match, which costs a step of its own, followed by a strategy.
 #[inline(never)]
 fn match_first<'t>(
     alloc: Global,
@@ -141,8 +141,8 @@ fn match_first<'t>(
     }
 }
 
-/// A strategy after the first one, or in its place where that fails. Where it is told ahead that the first
-/// one fails, its steps are paid, and nothing waits for it.
+/// A guarded choice. If the root symbol rules out the first branch, its steps are charged and the
+/// machine goes straight to the other, with no frame.
 #[inline(always)]
 pub fn take_guard<'t, M: Meaning>(
     host: &Host<'t, M>,
@@ -181,7 +181,7 @@ pub fn take_guard<'t, M: Meaning>(
     Ok(Turned::On)
 }
 
-/// A strategy whose term is taken back.
+/// A strategy whose result is dropped.
 pub fn take_test<'t>(
     m: &mut Machine<'t>,
     inner: &'t ResolvedStrategy,

@@ -1,4 +1,4 @@
-//! What waits for an answer, and what comes next.
+//! Frames, which wait for an answer, and what to do next.
 
 ghost use Rattle.std.specs.Prelude.{◌≡◌, ◌+◌, ◌++◌, ◌∷◌, [], vec_len, OnOk};
 
@@ -7,82 +7,83 @@ use term_core::NoMemory;
 use term_match::Mark;
 use term_values::{Part, Value};
 
-/// The strategies for the children from one on.
+/// The strategies for the children from some index on.
 #[derive(Clone, Copy)]
 pub enum Acts<'t> {
-    /// This one for each child that there is.
+    /// The same strategy for each child.
     Same(&'t ResolvedStrategy),
-    /// One for each child.
+    /// One strategy for each child.
     List(&'t [ResolvedStrategy]),
 }
 
-/// A node of which one child is in hand.
+/// A node whose child is the focus.
 #[derive(Drop)]
 pub struct Walk<'t> {
     pub node: Part<'t>,
-    /// What stands in the places of its first children, up to the last one that has changed.
+    /// While children are visited, only the prefix up to the last changed child is held here.
     pub parts: Vec<Part<'t>>,
-    /// The child in hand.
+    /// The index of the child.
     pub index: usize,
     /// The level of the node.
     pub level: u64,
-    /// How many edits there were when the child was begun.
+    /// How many edits there were when the child's turn came.
     pub edits: usize,
 }
 
-/// What waits for the answer of the part in hand. Scopes are numbers of the table, edits how many there
-/// were when the frame was made.
+/// Continuations: each waits for the answer of the focus. Scopes are indices into the table; a
+/// count of edits is the one from when the frame was made.
 #[derive(Drop)]
 pub enum Frame<'t> {
-    /// Then this strategy, in this scope.
+    /// Continue with this strategy, in this scope.
     Then(&'t ResolvedStrategy, usize),
-    /// The second and the third part of a guard in their scope, with the part at its start, the edits
-    /// and the mark of the cells.
+    /// The second and the third branch of a guarded choice and their scope, with the focus at the
+    /// start, the count of edits and the mark of the cells.
     Choose(&'t ResolvedStrategy, &'t ResolvedStrategy, usize, Part<'t>, usize, Mark),
-    /// The part that comes back, and the edits.
+    /// The focus to go back to, and the count of edits.
     Restore(Part<'t>, usize),
-    /// Strategies for the children behind the one in hand.
+    /// Strategies for the children after this one.
     Each(Acts<'t>, usize, Walk<'t>),
-    /// A strategy for the leftmost child where it gives a term: the next one's turn comes where it
-    /// fails, with the cells of the mark.
+    /// A strategy for the leftmost child on which it succeeds: after a failure the next child's
+    /// turn comes, with the cells of the mark.
     Leftmost(&'t ResolvedStrategy, usize, Walk<'t>, Mark),
-    /// A strategy for those children where it gives a term, and whether it has given one.
+    /// A strategy for each child on which it succeeds, and whether it has succeeded on any.
     Those(&'t ResolvedStrategy, usize, Walk<'t>, Mark, bool),
-    /// Then this strategy on the list of the elements behind the first so many.
+    /// Continue with this strategy on the list of the elements after the first `n`.
     Tail(&'t ResolvedStrategy, usize, usize),
-    /// The list whose elements behind the first so many are in hand as a list of their own, what stands
-    /// in the places of its first elements, and the edits.
+    /// A list whose elements after the first `n` are the focus, as a list of their own, with the
+    /// parts in the places of the first elements and the count of edits.
     Rest(Part<'t>, Vec<Part<'t>>, usize, usize),
-    /// Then this strategy on the list of the elements behind the first one, which is in hand.
+    /// Continue with this strategy on the list of the elements after the first, which is the focus.
     Head(&'t ResolvedStrategy, usize, Walk<'t>),
-    /// The list whose elements behind the first one are in hand as a list of their own, what stands in
-    /// the place of the first one where that has changed, and the edits.
+    /// A list whose elements after the first are the focus, as a list of their own, with the part
+    /// in the place of the first if that has changed, and the count of edits.
     Behind(Part<'t>, Option<Part<'t>>, usize),
-    /// Scopes behind the first so many end.
+    /// End all scopes but the first `n`.
     Leave(usize),
-    /// Cells and scopes behind the first so many end.
+    /// End all cells and scopes but the first ones.
     Cut(usize, usize),
 }
 
-/// What comes next for the part in hand.
+/// What to do next with the focus.
 #[derive(Clone, Copy)]
 pub enum Next<'t> {
-    /// This strategy begins, in this scope.
+    /// Start this strategy, in this scope.
     Begin(&'t ResolvedStrategy, usize),
-    /// It is what a strategy has given.
+    /// A strategy succeeded with it.
     Done,
-    /// A strategy has failed.
+    /// A strategy failed.
     Failed,
-    /// Strategies in this scope for its children from this one on.
+    /// Run strategies in this scope on its children from this index on.
     Each(Acts<'t>, usize, usize),
-    /// A strategy in this scope for the leftmost of its children from this one on where it gives a term.
+    /// Run a strategy in this scope on the leftmost of its children from this index on on which it
+    /// succeeds.
     Leftmost(&'t ResolvedStrategy, usize, usize),
-    /// A strategy in this scope for those of its children from this one on where it gives a term, and
-    /// whether it has given one before.
+    /// Run a strategy in this scope on those of its children from this index on on which it
+    /// succeeds; the flag says whether it succeeded on an earlier one.
     Those(&'t ResolvedStrategy, usize, usize, bool),
 }
 
-/// What a turn leads to.
+/// The outcome of a turn.
 #[derive(Clone, Copy, Drop)]
 pub enum Turned {
     On,
@@ -92,8 +93,8 @@ pub enum Turned {
     Big,
 }
 
-// What owns memory is dropped by small functions: a drop is proved again at each place that has one, and each way
-// out of a function is such a place for all that it holds.
+// Small functions drop what owns memory: a drop is proved again at each place that has one, and
+// each way out of a function is such a place for everything it holds.
 
 #[inline(always)]
 pub fn drop_value(value: Value<'_>) {}
@@ -134,7 +135,7 @@ fn drop_frame(frame: Frame<'_>) {
     }
 }
 
-/// Puts a part in the place of another one, which is dropped here.
+/// Replaces a part, and drops the old one here.
 #[inline(always)]
 pub fn put<'t>(place: &mut Part<'t>, part: Part<'t>)
     ensures { place.new ≡ part.entry }
@@ -142,13 +143,13 @@ pub fn put<'t>(place: &mut Part<'t>, part: Part<'t>)
     *place = part;
 }
 
-/// Has a frame wait for the answer of the part in hand, the innermost one.
+/// Pushes a frame.
 #[inline(always)]
 pub fn wait<'t>(frames: &mut Vec<Frame<'t>>, frame: Frame<'t>) -> Result<(), NoMemory>
     ensures items { OnOk result (frames.new.items ≡ frames.old.items ++ frame.entry ∷ []) }
     ensures len { OnOk result (vec_len frames.new ≡ vec_len frames.old + 1) }
 {
-    // a push hands the frame back where it is refused, which costs a copy
+    // a refused push would hand the frame back, which costs a copy
     match frames.reserve(1) {
         Ok(()) => {
             frames.push_reserved(frame);

@@ -1,4 +1,4 @@
-//! Failures that are told by the root of a term, before anything waits for them.
+//! Failures that the root of a term shows before any frame is pushed.
 
 ghost use Rattle.std.specs.Prelude.{◌≡◌, ◌<◌, cond, Some, None, IfSome};
 ghost use Rattle.term_core.specs.Tree.{children};
@@ -15,12 +15,12 @@ use strategy_syntax::{Head, Place, PlaceForm, Resolved, ResolvedForm as Form, Re
 use term_core::Kind;
 use term_values::Part;
 
-/// How many forms, one inside or behind the other, are looked at.
+/// How many nested or successive forms are examined.
 pub(crate) const MOST: usize = 16;
 
-/// The steps that are left when the strategy has failed on the part, where that is told by its root
-/// alone: by a pattern with another head, say, behind calls, choices and new variables. Names are
-/// looked up in the scope, if one is given.
+/// The steps that remain once the strategy has failed on the part, if the root alone shows that it
+/// fails: because of a pattern with another head, for example, below calls, choices and new
+/// variables. Names are looked up in the scope, if one is given.
 pub(crate) fn left_by_failure<'t>(
     definitions: &'t [Resolved],
     scopes: &Scopes<'t>,
@@ -95,7 +95,7 @@ pub(crate) fn left_by_failure<'t>(
     }
 }
 
-// Whether the root of the part is another one than the pattern's, told by its kind.
+// Whether the root's kind shows that the pattern can't match.
 fn misses(pattern: &Place, part: &Part<'_>) -> bool
     ensures { OnTrue result (Misses pattern.now (standing_tree part.now)) }
 {
@@ -107,7 +107,7 @@ fn misses(pattern: &Place, part: &Part<'_>) -> bool
     }
 }
 
-// Whether it is this integer, with whatever annotations.
+// Whether the part is this integer, whatever its annotations.
 fn is_integer(number: i64, part: &Part<'_>) -> bool
     ensures { result ≡ is_this_integer number (standing_tree part.now) }
 {
@@ -117,14 +117,13 @@ fn is_integer(number: i64, part: &Part<'_>) -> bool
     }
 }
 
-// Whether it has this head.
+// Whether the part has this head.
 fn is_headed(head: &Head, part: &Part<'_>) -> bool
     ensures { result ≡ has_head (head_of head.now) (standing_tree part.now) }
 {
     head.is_head_of(part.kind())
 }
 
-/// Whether it is a list.
 pub fn is_list(part: &Part<'_>) -> bool
     ensures { elements (standing_tree part.now) ≡ cond result (Some (children (standing_tree part.now))) None }
 {

@@ -1,5 +1,5 @@
-//! The machine that runs strategies: its state, and how the forms begin, but for those that go over all children alike. `strategy_run`
-//! stands on it.
+//! The machine that runs strategies: its state, and how each form starts, except for those that
+//! treat all children alike. `strategy_run` builds on it.
 #![tactic(auto)]
 
 mod arguments;

@@ -21,27 +21,27 @@ pub struct Host<'t, M: Meaning> {
     pub primitives: &'t Primitives<M>,
 }
 
-/// What is in hand and what comes next for it, what waits, what variables and names stand for, the edits,
-/// the level of what is in hand, and the steps left. The vectors are used again by all parts of a run.
+/// The focus and what to do next with it; the frames; what variables and names stand for; the
+/// edits; the level of the focus; and the steps left. All parts of a run reuse the vectors.
 #[derive(Drop)]
 pub struct Machine<'t> {
     pub next: Next<'t>,
     pub part: Part<'t>,
-    /// What stands in the places of its first children, up to the last one that has changed. It counts
-    /// where strategies for its children come next.
+    /// Parts in the places of the first children of the focus, up to the last changed one. They
+    /// count if its children are visited next.
     pub parts: Vec<Part<'t>>,
     pub frames: Vec<Frame<'t>>,
     pub cells: Cells<'t>,
     pub scopes: Scopes<'t>,
     pub trail: Trail<'t>,
-    /// The term arguments of the call at hand.
+    /// The term arguments of the current call.
     pub arguments: Vec<Value<'t>>,
     pub level: u64,
     pub steps: u64,
 }
 
 impl<'t> Machine<'t> {
-    /// A machine with a term in hand, in which nothing waits.
+    /// A machine whose focus is a term, without frames.
     pub fn new(
         alloc: Global,
         trail: Trail<'t>,
@@ -71,7 +71,7 @@ impl<'t> Machine<'t> {
     }
 }
 
-/// A scope of the table, as the cells of its variables.
+/// A scope of the table, with the cells of its variables.
 #[derive(Clone, Copy)]
 pub struct InTable<'s, 't> {
     pub scopes: &'s Scopes<'t>,

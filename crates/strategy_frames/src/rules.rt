@@ -1,4 +1,4 @@
-//! Rules: a match and a build behind it, with variables of their own, which end with them.
+//! Rules: a match followed by a build, with variables of their own that end with the rule.
 
 ghost use Rattle.std.specs.Prelude.{◌<◌, length, IfOk};
 ghost use Rattle.strategy_meaning.specs.Meaning.{World};
@@ -14,7 +14,7 @@ use strategy_syntax::Place;
 use term_core::NoMemory;
 use term_match::Built;
 
-/// A rule with so many variables. Its steps are paid one by one, and nothing waits for it.
+/// A rule with `count` variables. Its steps are charged one by one, and it needs no frame.
 #[inline(never)]
 pub(crate) fn take_rule<'t>(
     alloc: Global,

@@ -1,4 +1,4 @@
-//! The edits of a run: how many there are, and where they are asked for, what they are.
+//! The edits of a run: their count and, on request, the edits themselves.
 
 ghost use Rattle.std.specs.Prelude.{◌≡◌, ◌++◌, ◌∷◌, [], length, reverse, IfOk, OnOk};
 ghost use Rattle.term_paths.specs.Edits.{Edits, behind};
@@ -12,7 +12,7 @@ use std::marker::Model;
 use term_core::NoMemory;
 use term_values::Value;
 
-/// A place that was replaced, by its path in the term of the run, and what it was given.
+/// A replaced place, by its path in the term of the run, and its new value.
 #[derive(Drop)]
 pub struct Made<'t> {
     pub path: Vec<usize>,
@@ -31,7 +31,7 @@ impl<'t> Model for Made<'t> {
 }
 
 impl<'t> Made<'t> {
-    // Adds it to the plan, with the path in front, as a term of its own.
+    // Adds the edit to the plan, with `path` in front of its own, as an owned term.
     fn add_to(
         &self,
         alloc: Global,
@@ -55,7 +55,7 @@ pub struct Trail<'t> {
 }
 
 impl<'t> Trail<'t> {
-    /// No edits, of which only the count will be kept.
+    /// No edits; only their count will be kept.
     pub fn counted() -> Trail<'t>
         ensures { Shows result [] }
     {
@@ -65,7 +65,7 @@ impl<'t> Trail<'t> {
         }
     }
 
-    /// No edits, which will be kept.
+    /// No edits; they will be kept.
     pub fn listed(alloc: Global) -> Trail<'t>
         ensures { Shows result [] }
     {
@@ -75,7 +75,7 @@ impl<'t> Trail<'t> {
         }
     }
 
-    /// Forgets the edits behind the first so many.
+    /// Forgets all edits but the first `count`.
     pub fn cut(&mut self, count: usize)
         ensures { (T D : Edits) → count ≡ length T → Shows self.old (T ++ D) → Shows self.new T }
     {
@@ -85,7 +85,7 @@ impl<'t> Trail<'t> {
         }
     }
 
-    /// One edit more, at the place that the frames lead to.
+    /// Adds an edit at the place that the frames lead to.
     #[inline(always)]
     pub fn push(
         &mut self,
@@ -106,8 +106,8 @@ impl<'t> Trail<'t> {
         Ok(())
     }
 
-    /// The edits in the tree of a slot as terms of their own, in their order, with the path in front of
-    /// theirs. Where they weren't kept, there is no memory of them.
+    /// The edits in the tree of a slot as owned terms, in order, with `path` in front of their own.
+    /// A trail that keeps only the count answers `NoMemory`.
     pub fn replacements(&self, alloc: Global, slot: usize, path: &[usize]) -> Result<Plan, NoMemory>
         ensures { IfOk result (λ plan. (T : Edits) → Shows self.now T → plan ≡ entries_at slot (behind path.now T)) }
     {
@@ -122,7 +122,7 @@ impl<'t> Trail<'t> {
     }
 }
 
-// One edit more.
+// Adds an edit.
 #[inline(never)]
 fn keep<'t>(
     alloc: Global,
@@ -140,7 +140,7 @@ fn keep<'t>(
     Ok(())
 }
 
-// The path that the frames lead to, the outermost first.
+// The path that the frames lead to, the outermost frame first.
 fn path_through(alloc: Global, frames: &[Frame<'_>]) -> Result<Vec<usize>, NoMemory>
     ensures { IfOk result (λ path. path.items ≡ path_of (reverse frames.now)) }
 {
@@ -151,7 +151,7 @@ fn path_through(alloc: Global, frames: &[Frame<'_>]) -> Result<Vec<usize>, NoMem
     Ok(path)
 }
 
-// The child that the frame has in hand, if it has one.
+// The child that the frame visits, if it visits one.
 fn add_step(path: &mut Vec<usize>, frame: &Frame<'_>) -> Result<(), NoMemory>
     ensures { OnOk result (path.new.items ≡ path.old.items ++ step_of frame.now) }
 {

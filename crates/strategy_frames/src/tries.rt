@@ -1,5 +1,5 @@
-//! Calls that try a strategy, as `try(s)` where `try(s) = s <+ id`: the choice begins at once, with the
-//! strategy itself in the place of its name.
+//! Calls of the shape `try(s)` with `try(s) = s <+ id`: the choice starts at once, with the
+//! strategy itself in place of its name.
 
 ghost use Rattle.std.specs.Prelude.{◌≡◌, ℕ, List, IfOk, IfSome};
 ghost use Rattle.std.specs.Bool.{OnTrue};
@@ -14,7 +14,7 @@ use prim_core::Meaning;
 use strategy_syntax::{Place, Resolved, ResolvedForm as Form, ResolvedStrategy};
 use term_core::NoMemory;
 
-/// A strategy that is tried, with the second and the third part of the choice.
+/// A strategy to try, with the second and the third branch of the choice.
 #[derive(Clone, Copy)]
 pub struct Try<'t> {
     pub first: &'t ResolvedStrategy,
@@ -22,7 +22,7 @@ pub struct Try<'t> {
     pub other: &'t ResolvedStrategy,
 }
 
-/// The strategy that a call tries, if it is such a call, and the strategy no name.
+/// The strategy to try, if the call has this shape and the strategy is no name.
 #[inline(always)]
 pub(crate) fn tried<'t>(
     definitions: &'t [Resolved],
@@ -52,7 +52,7 @@ pub(crate) fn tried<'t>(
     None
 }
 
-// Whether it is the first strategy name.
+// Whether the strategy is the first strategy name.
 #[inline(always)]
 fn is_first(strategy: &ResolvedStrategy) -> bool
     ensures { OnTrue result (strategy.now ≡ param 0) }
@@ -63,7 +63,7 @@ fn is_first(strategy: &ResolvedStrategy) -> bool
     }
 }
 
-// Whether it is `id`.
+// Whether the strategy is `id`.
 #[inline(always)]
 fn is_id(strategy: &ResolvedStrategy) -> bool
     ensures { OnTrue result (strategy.now ≡ id) }
@@ -74,7 +74,7 @@ fn is_id(strategy: &ResolvedStrategy) -> bool
     }
 }
 
-// Whether it stands for itself where it is an argument: it is no name.
+// Whether the strategy, as an argument, is itself and no name.
 #[inline(always)]
 fn is_itself(strategy: &ResolvedStrategy) -> bool
     ensures { OnTrue result (IsItself strategy.now) }
@@ -85,7 +85,7 @@ fn is_itself(strategy: &ResolvedStrategy) -> bool
     }
 }
 
-/// The choice of a call that tries a strategy. Its step and that of the name are paid.
+/// The choice of such a call. Its step and that of the name are charged already.
 #[inline(always)]
 pub(crate) fn take_try<'t, M: Meaning>(
     host: &Host<'t, M>,

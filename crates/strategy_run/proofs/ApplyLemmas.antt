@@ -1,4 +1,4 @@
--- Strategies applied in a slot's tree.
+-- Applying strategies in a slot's tree.
 use Rattle.std.proofs.Common.{◌≡◌, ◌≤◌, ◌+◌, ℕ, suc, List, [], ◌∷◌, ◌++◌, length, slice_get, Some, None, IsSome, IfSome, refl, sym, ap, subst, ◌∙◌, arith}
 use Rattle.std.proofs.lemmas.Option.{slice_get_within, get_or_from_slice_get}
 use Rattle.std.specs.Prelude.{option_and_then}
@@ -35,7 +35,7 @@ use Rattle.strategy_frames.proofs.PlaceLemmas.{outermost}
 
 -- ---- heights
 
--- a subterm is as much lower as it is deeper
+-- the deeper a subterm lies, the lower it is
 pub low_at : (p : List ℕ) (t u : Tree) → at t p ≡ Some u → length p + height u ≤ height t
 low_at [] t u e = let same : t ≡ u = cc in omega (arith, ap height same)
 low_at (i ∷ p) t u e =
@@ -67,7 +67,7 @@ edits_make (x ∷ e) t u slot s h r =
       );
     }
 
--- ---- what a run finds
+-- ---- the outcome of a run
 
 at_place : (s : Store) (slot : ℕ) (t u : Tree) (p : List ℕ) → content s.trees slot ≡ Some t → at t p ≡ Some u → subterm_in s.trees slot p ≡ Some u
 at_place s slot t u p h k = ap (option_and_then (λ y. at y p)) h ∙ k
@@ -113,7 +113,7 @@ finds Each W p path es t u r b S s slot k d l h =
       edits_make (behind path d.edits) t (set_at t path v) slot s h (edits_of_a_subterm d.edits t u v path k d.leads.made),
     )
 
--- ---- what was found is put in place
+-- ---- the outcome is put in place
 
 pub puts : (listing : Listing) (whole : Outcome) (es : List Entry) (slot : ℕ) (s t : Store) (log longer : List Entry)
     → FindsAll listing s slot whole es → t ≡ after es s → longer ≡ log ++ flipped_forward es s
@@ -145,7 +145,7 @@ pub low_there : (s : Store) (slot : ℕ) (p : List ℕ) (t : Tree) → content s
     → IfSome (subterm_in s.trees slot p) (λ u. length p + height u ≤ MAX_HEIGHT) → IfSome (at t p) (λ u. length p + height u ≤ MAX_HEIGHT)
 low_there s slot p t h low = subst (λ o. IfSome (option_and_then (λ y. at y p) o) (λ u. length p + height u ≤ MAX_HEIGHT)) h low
 
--- what applying comes to where the slot has a tree, or none
+-- the outcome if the slot has a tree, and if it has none
 pub in_tree : (W : World) (s : Store) (slot : ℕ) (p : List ℕ) (r : Resolved) (b : ℕ) (t : Tree) → content s.trees slot ≡ Some t → applied_in W s.trees slot p r b ≡ applied W p r b t
 in_tree W s slot p r b t h = ap (λ o. option_map_or (applied W p r b) o fails) h
 

@@ -1,4 +1,4 @@
--- Where a run begins, and what its end is.
+-- The start of a run, and its end.
 use Rattle.std.proofs.Common.{◌≡◌, ℕ, List, [], ◌∷◌, ◌++◌, length, replicate, reverse, refl, sym, ap, ◌∙◌, subst, None, Bor}
 use Rattle.term_core.specs.Tree.{Tree}
 use Rattle.term_changes.specs.Standing.{Standing, unchanged, standing_tree}

@@ -1,4 +1,4 @@
--- Strategies applied in the tree of a slot, through a log.
+-- Applying strategies in the tree of a slot, through a log.
 use Rattle.std.specs.Prelude.{◌≡◌, ℕ, List, ◌++◌, Some}
 use Rattle.std.specs.Option.{option_map_or}
 use Rattle.term_core.specs.Tree.{Tree}
@@ -22,13 +22,13 @@ use Rattle.strategy_run.specs.declared.application.Listing.TheVariants.{Outermos
 use Rattle.strategy_frames.specs.Trails.{Shows}
 use Rattle.strategy_frames.specs.declared.trail.Trail.{Trail}
 
--- what applying comes to in a slot's tree; where the slot has none, it fails
+-- the outcome of applying in a slot's tree; it fails if the slot has none
 abbrev pub applied_in : World → Slots Tree → ℕ → List ℕ → Resolved → ℕ → Outcome
 applied_in W slots i p r b = option_map_or (applied W p r b) (content slots i) fails
 
--- From a store and a log to these: the slot's tree is u, by an entry behind the log for each of the
--- edits, in their order. These entries lead back, and fit; so the log as a whole leads back to where it did,
--- and fits if it did.
+-- From a store and a log to these: the slot's tree is u, and the log has a new entry for each of
+-- the edits, in order. The new entries lead back, and fit; so the whole log still leads back to the
+-- same store, and fits if it did.
 pub record PutsAll (slot : ℕ) (e : Edits) (u : Tree) (s : Store) (log : List Entry) (t : Store) (longer : List Entry) : Type 0 where
   pub tree : t ≡ put (slot_tree slot (Some u)) s
   pub behind : longer ≡ log ++ flipped_forward (entries_at slot e) s
@@ -37,28 +37,28 @@ pub record PutsAll (slot : ℕ) (e : Edits) (u : Tree) (s : Store) (log : List E
   pub log_back : before longer t ≡ before log s
   pub log_fits : Fits log s → Fits longer t
 
--- The same with an entry for each of the outermost places of the edits alone. What `places` has as new terms
--- says nothing: entries keep what was there.
+-- The same with an entry only for each of the outermost places of the edits. The new terms in
+-- `places` are arbitrary: entries hold what was there before.
 pub record PutsOutermost (slot : ℕ) (e : Edits) (u : Tree) (s : Store) (log : List Entry) (t : Store) (longer : List Entry) : Type 0 where
   pub places : Edits
   pub outermost : AreOutermost places e
   pub puts : PutsAll slot places u s log t longer
 
--- How applying ends, by what it comes to. Where it gives a tree, that is put in place; else all stays.
+-- How applying ends, by its outcome. If that is a tree, it is put in place; else nothing changes.
 abbrev pub Applies : (Edits → Tree → Type 0) → Type 0 → Outcome → Ending → Type 0
 Applies Puts Stays whole Done = (u : Tree) × (e : Edits) × (whole ≡ gives u e) × Puts e u
 Applies Puts Stays whole Failed = (whole ≡ fails) × Stays
 Applies Puts Stays whole Spent = (whole ≡ stops spent) × Stays
 Applies Puts Stays whole Big = (whole ≡ stops big) × Stays
 
--- a store and a log that stay
+-- store and log are unchanged
 pub record Stay (s : Store) (entries : List Entry) (t : Store) (longer : List Entry) : Type 0 where
   pub store : t ≡ s
   pub log : longer ≡ entries
 
 -- ---- on the way
 
--- These are the edits that get an entry.
+-- The edits that get an entry.
 abbrev pub AreListed : Listing → Edits → Edits → Type 0
 AreListed Outermost ps e = AreOutermost ps e
 AreListed Each ps e = ps ≡ e
@@ -71,19 +71,19 @@ pub record Makes (slot : ℕ) (ps : Edits) (u : Tree) (s : Store) : Type 0 where
   pub tree : after (entries_at slot ps) s ≡ put (slot_tree slot (Some u)) s
   pub places : FitsForward (entries_at slot ps) s
 
--- What is planned for the slot puts them in place.
+-- The plan for the slot puts them in place.
 abbrev pub FindsAll : Listing → Store → ℕ → Outcome → List Entry → Type 0
 FindsAll listing s slot whole es =
     (u : Tree) × (e : Edits) × (whole ≡ gives u e) × (ps : Edits) × AreListed listing ps e × (es ≡ entries_at slot ps) × Makes slot ps u s
 
--- What applying comes to, before anything is put in place.
+-- The outcome before anything is put in place.
 abbrev pub Finds : Listing → Store → ℕ → Outcome → Found → Type 0
 Finds listing s slot whole (founds.Replaced es) = FindsAll listing s slot whole es
 Finds listing s slot whole founds.Failed = whole ≡ fails
 Finds listing s slot whole founds.Spent = whole ≡ stops spent
 Finds listing s slot whole founds.Big = whole ≡ stops big
 
--- What is planned for a run that ended with p, at the path in the tree of the slot.
+-- The plan for a run that ended with p, at the path in the tree of the slot.
 abbrev pub Lists : Listing → Trail → Standing → ℕ → List ℕ → List Entry → Type 0
 Lists Outermost trail p slot path es =
     (es ≡ entries_at slot (behind path (places (standing_change p)))) × ((t : Tree) → Suits t p → HasPlaces t (standing_change p))

@@ -13,7 +13,7 @@ use Rattle.strategy_run.specs.declared.evaluation.Ended.TheVariants as ends
 use Rattle.strategy_run.specs.declared.evaluation.Evaluated.{Evaluated}
 use Rattle.strategy_run.specs.declared.evaluation.Evaluated.TheVariants.{Done, Failed, Spent, Big}
 
--- nothing waits, and nothing was done
+-- no frame is left, and nothing was done
 pub record IsEmpty (m : Machine) : Type 0 where
   pub frames : m.frames.items ≡ []
   pub cells : m.cells.bindings ≡ []
@@ -26,7 +26,7 @@ Ends sub m ends.Failed whole = (b : ℕ) × (whole ≡ failed b)
 Ends sub m ends.Spent whole = whole ≡ stopped spent
 Ends sub m ends.Big whole = whole ≡ stopped big
 
--- The answer is this one: of a term that is given, the term alone.
+-- The answer agrees with this one; of a success, only the term counts.
 abbrev pub IsAnswered : Evaluated → Answer → Type 0
 IsAnswered (Done t) whole = (B : Bindings) × (b : ℕ) × (e : Edits) × (whole ≡ done t B b e)
 IsAnswered Failed whole = (b : ℕ) × (whole ≡ failed b)

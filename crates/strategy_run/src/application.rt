@@ -1,4 +1,4 @@
-//! Strategies, applied in the tree of a slot.
+//! Applying strategies in the tree of a slot.
 
 ghost use Rattle.std.specs.Prelude.{[], ◌≡◌, ◌≤◌, ◌+◌, ℕ, Some, length, Decides, IfOk, IfSome, OnErr};
 ghost use Rattle.term_core.specs.Tree.{Tree};
@@ -24,27 +24,27 @@ use term_core::{MAX_HEIGHT, NoMemory, Term};
 use term_paths::{Path, at};
 use term_values::Part;
 
-/// How applying a strategy ends.
+/// The outcome of applying a strategy.
 #[derive(Clone, Copy, Debug, PartialEq, Eq, Drop)]
 pub enum Outcome {
-    /// It gives a term, which stands in the tree now.
+    /// It succeeded, and its result is in the tree now.
     Done,
-    /// It fails, or there is no subterm at the path.
+    /// It failed, or there is no subterm at the path.
     Failed,
-    /// No step is left.
+    /// No step was left.
     Spent,
-    /// A term doesn't fit.
+    /// A term didn't fit.
     Big,
 }
 
-// Which of the edits of a run get an entry in the log.
+// Which edits of a run get an entry in the log.
 #[derive(Clone, Copy, Drop)]
 pub(crate) enum Listing {
     Outermost,
     Each,
 }
 
-// What applying comes to, before anything is put in place.
+// The outcome of a run before anything is put into the tree.
 #[derive(Drop)]
 pub(crate) enum Found {
     Replaced(Plan),
@@ -53,9 +53,9 @@ pub(crate) enum Found {
     Big,
 }
 
-/// Whether what stands at the path of the slot's tree is low enough for [`apply`] and
-/// [`apply_outermost`]: the length of the path and the height of the subterm are together at most
-/// 1,000, or there is no subterm. It walks over the subterm.
+/// Whether the subterm at the path of the slot's tree is low enough for [`apply`] and
+/// [`apply_outermost`]: the length of the path plus the height of the subterm is at most 1,000, or
+/// there is no subterm. It walks over the subterm.
 pub fn is_low_enough(store: &Store, slot: usize, path: &Path) -> bool
     ensures { Decides result (IfSome (subterm_in store.now.trees slot path.now) (λ u. length path.now + height u ≤ MAX_HEIGHT)) }
 {
@@ -71,14 +71,15 @@ pub fn is_low_enough(store: &Store, slot: usize, path: &Path) -> bool
     }
 }
 
-/// Applies a strategy to the subterm at the path of the slot's tree, in at most so many steps. The log
-/// gets an entry for each of the outermost places that were replaced, and none where nothing was. What
-/// was built and replaced again on the way costs no term of its own. The subterm has to be low enough at
-/// its level, which is the length of the path ([`is_low_enough`]); in a tree that fits, each is.
+/// Applies a strategy to the subterm at the path of the slot's tree, in at most `steps` steps. The
+/// log gets an entry for each of the outermost places that were replaced, so none if nothing was.
+/// Terms that were built and replaced again on the way are never copied. The subterm has to be low
+/// enough at its level, the length of the path ([`is_low_enough`]); in a tree that fits, every
+/// subterm is.
 ///
-/// On every answer but `Done`, and where a growth of memory is refused, store and log stay as they were.
+/// On every outcome but `Done`, and if memory can't grow, store and log stay as they were.
 ///
-/// Errors: want of memory alone.
+/// Errors: only want of memory.
 pub fn apply_outermost<M: Meaning>(
     alloc: Global,
     program: &Program,
@@ -111,9 +112,8 @@ pub fn apply_outermost<M: Meaning>(
     )
 }
 
-/// The same as [`apply_outermost`], with an entry in the log for each edit, in the order in which they
-/// were made, so that each rewriting step can be read there. What a branch did that failed, or a test, is
-/// no edit.
+/// The same as [`apply_outermost`], but with an entry in the log for each edit, in order, so that
+/// each rewriting step can be read there. What a failed branch or a test did is no edit.
 pub fn apply<M: Meaning>(
     alloc: Global,
     program: &Program,
@@ -181,7 +181,7 @@ fn apply_listing<M: Meaning>(
     }
 }
 
-// Runs the strategy on the subterm at the path of the tree, which stays.
+// Runs the strategy on the subterm at the path of the tree, which is left unchanged.
 fn find<M: Meaning>(
     alloc: Global,
     program: &Program,
@@ -207,8 +207,8 @@ fn find<M: Meaning>(
     )
 }
 
-// Runs it by a machine in which nothing waits. The machine is lent, since whoever holds it drops it on each way
-// out.
+// Runs it on a machine without frames. The machine is borrowed, since its owner drops it on each
+// way out.
 fn find_by<'t, M: Meaning>(
     alloc: Global,
     program: &'t Program,
@@ -241,7 +241,7 @@ fn find_by<'t, M: Meaning>(
     }
 }
 
-// The trail that the listing needs, without edits.
+// An empty trail of the kind that the listing needs.
 fn trail_for<'t>(alloc: Global, listing: Listing) -> Trail<'t>
     ensures { Shows result [] }
 {
@@ -251,7 +251,7 @@ fn trail_for<'t>(alloc: Global, listing: Listing) -> Trail<'t>
     }
 }
 
-// What is to be put in place in the tree of the slot, as terms of their own.
+// The plan of what to put into the tree of the slot, as owned terms.
 fn replacements(
     alloc: Global,
     listing: Listing,

@@ -1,4 +1,4 @@
-//! Strategies, begun.
+//! How a strategy starts.
 
 ghost use Rattle.std.specs.Prelude.{◌≡◌, ◌<◌, length, IfOk};
 ghost use Rattle.strategy_scopes.specs.Table.{scopes as scopes_of};
@@ -15,7 +15,7 @@ use strategy_frames::{
 use strategy_syntax::{ResolvedForm as Form, ResolvedStrategy};
 use term_core::NoMemory;
 
-/// Begins with a strategy, which costs a step.
+/// Starts a strategy, which costs a step.
 #[inline(always)]
 pub(crate) fn begin<'t, M: Meaning>(
     alloc: Global,
@@ -36,7 +36,7 @@ pub(crate) fn begin<'t, M: Meaning>(
     take(alloc, host, m, strategy, scope)
 }
 
-// Goes on with a strategy by its form.
+// Continues with a strategy by its form.
 #[inline(always)]
 fn take<'t, M: Meaning>(
     alloc: Global,

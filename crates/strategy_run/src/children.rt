@@ -1,4 +1,4 @@
-//! Strategies over children.
+//! Strategies on children.
 
 ghost use Rattle.std.specs.Prelude.{◌≡◌, ℕ, suc, ◌-◌, [], ◌∷◌, ◌++◌, cond, MatchOption, IfOk, IfSome, OnOk, slice_get, slice_set};
 ghost use Rattle.term_core.specs.Tree.{children};
@@ -17,7 +17,7 @@ use strategy_syntax::ResolvedStrategy;
 use term_core::NoMemory;
 use term_values::Part;
 
-// The strategy for the next child and those behind it, where so many children are left.
+// The strategy for the next child and those for the children after it, if `left` children remain.
 pub(crate) fn next_act<'t>(acts: Acts<'t>, left: usize) -> Option<(&'t ResolvedStrategy, Acts<'t>)>
     ensures { MatchOption result (acts_list acts.entry left ≡ [])
         (λ found. acts_list acts.entry left ≡ found.0.now ∷ acts_list found.1 (left - 1)) }
@@ -38,7 +38,7 @@ pub(crate) fn next_act<'t>(acts: Acts<'t>, left: usize) -> Option<(&'t ResolvedS
     }
 }
 
-/// The strategy for the next child and those behind it, where a child is left.
+/// The same if a child is known to remain.
 #[inline(always)]
 pub(crate) fn first_act<'t>(acts: Acts<'t>) -> Option<(&'t ResolvedStrategy, Acts<'t>)>
     ensures { IfSome result (λ found. (k : ℕ) → acts_list acts.entry (suc k) ≡ found.0.now ∷ acts_list found.1 k) }
@@ -54,7 +54,7 @@ pub(crate) fn first_act<'t>(acts: Acts<'t>) -> Option<(&'t ResolvedStrategy, Act
     }
 }
 
-/// What stands in the place of child `i`, where parts stand in those of the first ones.
+/// The part in the place of child `i`, given those of the first children.
 #[inline(always)]
 pub(crate) fn child_now<'t>(
     node: &Part<'t>,
@@ -69,7 +69,7 @@ pub(crate) fn child_now<'t>(
     Ok(Some(parts[i].try_clone()?))
 }
 
-// Adds what stands in the places of the other children until there are so many, or all.
+// Appends parts for further children until there are `count`, or one for each child.
 #[inline(always)]
 fn fill<'t>(parts: &mut Vec<Part<'t>>, node: &Part<'t>, count: usize) -> Result<(), NoMemory>
     ensures { OnOk result (Fills (standing_children node.now) parts.old.items count parts.new.items) }
@@ -81,7 +81,7 @@ fn fill<'t>(parts: &mut Vec<Part<'t>>, node: &Part<'t>, count: usize) -> Result<
     Ok(())
 }
 
-// The same, one after the other.
+// The same, one by one.
 #[inline(never)]
 fn fill_missing<'t>(
     parts: &mut Vec<Part<'t>>,
@@ -99,7 +99,7 @@ fn fill_missing<'t>(
     Ok(())
 }
 
-/// Puts the node with these parts in the places of its first children in the place of the node.
+/// Replaces the node by the node with these parts in the places of its first children.
 #[inline(always)]
 pub(crate) fn finish<'t>(
     alloc: Global,
@@ -119,7 +119,8 @@ pub(crate) fn finish<'t>(
     Ok(())
 }
 
-/// Adds to the parts what stands in the place of child `i` now, where it has changed.
+/// If child `i` has changed, appends its part, and before it those of the unchanged children that
+/// are still missing.
 #[inline(always)]
 pub(crate) fn settle<'t>(
     parts: &mut Vec<Part<'t>>,
@@ -159,7 +160,7 @@ pub(crate) fn settle<'t>(
     }
 }
 
-// Adds it behind the others.
+// Appends the part.
 #[inline(always)]
 fn add<'t>(parts: &mut Vec<Part<'t>>, part: Part<'t>) -> Result<(), NoMemory>
     ensures { OnOk result (parts.new.items ≡ parts.old.items ++ part.entry ∷ []) }
@@ -176,7 +177,7 @@ fn add<'t>(parts: &mut Vec<Part<'t>>, part: Part<'t>) -> Result<(), NoMemory>
     }
 }
 
-/// Goes on with the children from this one on.
+/// Continues with the children from this index on.
 pub(crate) fn go_on<'t>(
     alloc: Global,
     m: &mut Machine<'t>,
@@ -224,7 +225,7 @@ pub(crate) fn go_on<'t>(
     Ok(Turned::On)
 }
 
-/// Tries the children from this one on, until the strategy gives a term.
+/// Tries the children from this index on until the strategy succeeds on one.
 pub(crate) fn try_on<'t>(
     alloc: Global,
     m: &mut Machine<'t>,
@@ -267,7 +268,7 @@ pub(crate) fn try_on<'t>(
     Ok(Turned::On)
 }
 
-/// Goes on with the children from this one on, whether the strategy gives a term there or not.
+/// Continues with the children from this index on, whether or not the strategy succeeds on them.
 pub(crate) fn go_over<'t>(
     alloc: Global,
     m: &mut Machine<'t>,

@@ -1,4 +1,4 @@
-//! Strategies, run to their ends.
+//! Running strategies to their end.
 
 ghost use Rattle.std.specs.Prelude.{◌≡◌, ◌≤◌, ◌+◌, IfOk};
 ghost use Rattle.term_core.specs.Size.{height};
@@ -24,31 +24,31 @@ use term_values::Part;
 /// The answer of a strategy.
 #[derive(Drop)]
 pub enum Evaluated {
-    /// It gives this term.
+    /// It succeeded with this term.
     Done(Term),
-    /// It fails.
+    /// It failed.
     Failed,
-    /// No step is left.
+    /// No step was left.
     Spent,
-    /// A term doesn't fit.
+    /// A term didn't fit.
     Big,
 }
 
 /// How a run ends.
 #[derive(Clone, Copy, Drop)]
 pub(crate) enum Ended {
-    /// It gives what is in hand.
+    /// It succeeds with the focus.
     Done,
     Failed,
     Spent,
     Big,
 }
 
-/// Evaluates a strategy on a term at a level, which is the number of terms above it, in at most so many
-/// steps. The term has to be low enough at its level: level and height are together at most 1,000. It is
-/// left as it is.
+/// Evaluates a strategy on a term at a level, the number of terms above it, in at most `steps`
+/// steps. The term has to be low enough at its level: level plus height is at most 1,000. It is
+/// left unchanged.
 ///
-/// Errors: want of memory alone.
+/// Errors: only want of memory.
 pub fn evaluate<M: Meaning>(
     alloc: Global,
     program: &Program,
@@ -66,8 +66,8 @@ pub fn evaluate<M: Meaning>(
     evaluate_by(alloc, program, primitives, &mut m, term, strategy)
 }
 
-// Evaluates it by a machine in which nothing waits. The machine is lent, since whoever holds it drops it on each
-// way out.
+// Evaluates it on a machine without frames. The machine is borrowed, since its owner drops it on
+// each way out.
 fn evaluate_by<'t, M: Meaning>(
     alloc: Global,
     program: &'t Program,
@@ -93,7 +93,7 @@ fn evaluate_by<'t, M: Meaning>(
     }
 }
 
-/// Runs a machine in which nothing waits to its end.
+/// Runs a machine without frames to its end.
 pub(crate) fn run_to_end<'t, M: Meaning>(
     alloc: Global,
     host: &Host<'t, M>,
@@ -106,7 +106,7 @@ pub(crate) fn run_to_end<'t, M: Meaning>(
     ensures { IfOk result (λ ended. Ends (unchanged term.entry.now) m.new ended
         (run_whole (world_of M.meaning host.now.definitions.now host.now.primitives.now) m.old.level strategy.entry.now m.old.steps term.entry.now)) }
 {
-    // whoever is called with nothing finds a scope with nothing
+    // the strategy runs in a scope without variables and names
     m.scopes.add_variables(None, 0, 0)?;
     m.cells.open_cells(strategy.variables)?;
     let scope = m.scopes.add_variables(None, 0, strategy.variables)?;
@@ -125,7 +125,6 @@ pub(crate) fn run_to_end<'t, M: Meaning>(
     }
 }
 
-// One turn.
 #[inline(always)]
 fn turn<'t, M: Meaning>(
     alloc: Global,

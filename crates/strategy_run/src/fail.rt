@@ -1,4 +1,4 @@
-//! Failures, given to what waits for them.
+//! Giving failures to frames.
 
 ghost use Rattle.std.specs.Prelude.{◌≡◌, IfOk};
 ghost use Rattle.strategy_meaning.specs.Answer.{Answer};
@@ -13,7 +13,7 @@ use strategy_frames::{
 use term_core::NoMemory;
 use term_values::Part;
 
-/// Gives a failure to the frame that waits.
+/// Gives a failure to the innermost frame.
 pub(crate) fn give_failed<'t>(m: &mut Machine<'t>) -> Result<Turned, NoMemory>
     requires { (W : World) × (sub : Standing) × (whole : Answer) × Holds W sub whole m.old Failed }
     ensures ok { (W : World) → IfOk result (λ next. Turn W m.old Failed m.new next) }
@@ -25,7 +25,7 @@ pub(crate) fn give_failed<'t>(m: &mut Machine<'t>) -> Result<Turned, NoMemory>
     }
 }
 
-// Puts parts in the place of others, which are dropped here.
+// Replaces parts, and drops the old ones here.
 #[inline(always)]
 fn put_parts<'t>(place: &mut Vec<Part<'t>>, parts: Vec<Part<'t>>)
     ensures { place.new ≡ parts.entry }
@@ -33,7 +33,6 @@ fn put_parts<'t>(place: &mut Vec<Part<'t>>, parts: Vec<Part<'t>>)
     *place = parts;
 }
 
-// Gives it to this frame.
 #[inline(always)]
 fn fail<'t>(m: &mut Machine<'t>, frame: Frame<'t>) -> Result<Turned, NoMemory>
     requires { IsOfRun frame m.old Failed }

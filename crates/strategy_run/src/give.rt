@@ -1,4 +1,4 @@
-//! Answers, given to what waits for them.
+//! Giving successes to frames.
 
 ghost use Rattle.std.specs.Prelude.{◌≡◌, cond, IfOk, IfSome, MatchOption, OnOk};
 ghost use Rattle.strategy_meaning.specs.Answer.{Answer};
@@ -18,7 +18,7 @@ use term_core::NoMemory;
 use term_match::Mark;
 use term_values::Part;
 
-/// Gives a part that was done to the frame that waits.
+/// Gives a success to the innermost frame.
 pub(crate) fn give_done<'t>(alloc: Global, m: &mut Machine<'t>) -> Result<Turned, NoMemory>
     requires { (W : World) × (sub : Standing) × (whole : Answer) × Holds W sub whole m.old (Done m.old.part) }
     ensures ok { (W : World) → IfOk result (λ next. Turn W m.old (Done m.old.part) m.new next) }
@@ -34,7 +34,7 @@ pub(crate) fn give_done<'t>(alloc: Global, m: &mut Machine<'t>) -> Result<Turned
     Ok(Turned::Done)
 }
 
-// Gives it to the innermost frame, which is taken off.
+// Pops the innermost frame and gives it the success.
 #[inline(always)]
 fn give_last<'t>(alloc: Global, m: &mut Machine<'t>) -> Result<Turned, NoMemory>
     requires { (W : World) × (sub : Standing) × (whole : Answer) × Holds W sub whole m.old (Done m.old.part) }
@@ -47,8 +47,8 @@ fn give_last<'t>(alloc: Global, m: &mut Machine<'t>) -> Result<Turned, NoMemory>
     }
 }
 
-// The next child's turn comes in the place of the one that is done, where the frame has strategies for children
-// and one is left; else all stays.
+// If the innermost frame has a strategy for a next child, that child becomes the focus in place of
+// the finished one; else nothing changes.
 #[inline(always)]
 fn next_in<'t>(
     frame: &mut Frame<'t>,
@@ -69,8 +69,8 @@ fn next_in<'t>(
     Ok(Some((strategy, scope)))
 }
 
-// The strategy for the child behind the one in hand, if there is one, its scope and the strategies behind it,
-// if the frame has one.
+// If the frame has a strategy for the child after the current one: that strategy, its scope and the
+// strategies after it.
 #[inline(always)]
 fn next_of<'t>(frame: &Frame<'t>) -> Option<(&'t ResolvedStrategy, usize, Acts<'t>)>
     ensures { IfSome result (λ x. HasNext frame.now x.0 x.1 x.2) }
@@ -84,7 +84,8 @@ fn next_of<'t>(frame: &Frame<'t>) -> Option<(&'t ResolvedStrategy, usize, Acts<'
     }
 }
 
-// Whether the walk of the frame has a next child, which is in hand then in the place of the one that is done.
+// Whether the walk of the frame has a next child, which then becomes the focus in place of the
+// finished one.
 #[inline(always)]
 fn walk_on<'t>(frame: &mut Frame<'t>, part: &mut Part<'t>, edits: usize) -> Result<bool, NoMemory>
     ensures { IfOk result (λ yes. cond yes (WalksOn frame.old part.old edits frame.new part.new)
@@ -123,7 +124,7 @@ fn to_next<'t>(walk: &mut Walk<'t>, part: &mut Part<'t>, edits: usize) -> Result
     Ok(true)
 }
 
-// Has these strategies for the children to come.
+// Sets the strategies for the later children.
 #[inline(always)]
 fn set_acts<'t>(frame: &mut Frame<'t>, others: Acts<'t>)
     ensures { frame.new ≡ with_acts frame.old others.entry }
@@ -134,7 +135,6 @@ fn set_acts<'t>(frame: &mut Frame<'t>, others: Acts<'t>)
     }
 }
 
-// Gives it to this frame.
 #[inline(always)]
 fn give<'t>(alloc: Global, m: &mut Machine<'t>, frame: Frame<'t>) -> Result<Turned, NoMemory>
     requires { IsOfRun frame m.old (Done m.old.part) }
@@ -181,7 +181,7 @@ fn give<'t>(alloc: Global, m: &mut Machine<'t>, frame: Frame<'t>) -> Result<Turn
     }
 }
 
-// Takes the node in hand again, of which the child in hand is done.
+// Moves up from the finished child: its parent becomes the focus.
 #[inline(always)]
 fn come_up<'t>(m: &mut Machine<'t>, walk: Walk<'t>) -> Result<(), NoMemory>
     ensures { OnOk result (ComesUp m.old walk.entry m.old.part m.new (m.new.part, m.new.parts)) }
@@ -201,7 +201,7 @@ fn come_up<'t>(m: &mut Machine<'t>, walk: Walk<'t>) -> Result<(), NoMemory>
     Ok(())
 }
 
-// The next child's turn comes.
+// Continues with the next child.
 fn give_each<'t>(
     m: &mut Machine<'t>,
     acts: Acts<'t>,
@@ -219,7 +219,7 @@ fn give_each<'t>(
     Ok(Turned::On)
 }
 
-// The leftmost child that gives a term has given one.
+// The strategy succeeded on a child, the leftmost such one.
 fn give_leftmost<'t>(
     alloc: Global,
     m: &mut Machine<'t>,
@@ -238,7 +238,7 @@ fn give_leftmost<'t>(
     Ok(Turned::On)
 }
 
-// The next child's turn comes, and one has given a term.
+// Continues with the next child after a success.
 fn give_those<'t>(
     m: &mut Machine<'t>,
     strategy: &'t ResolvedStrategy,

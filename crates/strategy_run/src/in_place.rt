@@ -1,4 +1,4 @@
-//! Places that were replaced, put in place.
+//! Putting replaced subterms into the tree.
 
 ghost use Rattle.std.specs.Prelude.{◌≡◌, ◌++◌, OnOk, OnErr};
 ghost use Rattle.change_plans.specs.Entries.{before, after, flipped_forward, Fits, FitsForward};
@@ -6,9 +6,9 @@ ghost use Rattle.change_plans.specs.Entries.{before, after, flipped_forward, Fit
 use change_log::{Log, Plan, Store};
 use term_core::NoMemory;
 
-/// Puts what is planned in place, the first place first, through the log.
+/// Makes the planned changes in order, through the log.
 ///
-/// Where a growth of memory is refused, store and log stay as they were.
+/// If memory can't grow, store and log stay as they were.
 pub(crate) fn put_in_place(plan: Plan, store: &mut Store, log: &mut Log) -> Result<(), NoMemory>
     ensures store { OnOk result (store.new ≡ after plan store.old) }
     ensures log { OnOk result (log.new ≡ log.old ++ flipped_forward plan store.old) }

@@ -1,4 +1,4 @@
-//! Strategies, run on terms by one machine.
+//! One machine that runs strategies on terms.
 #![tactic(auto)]
 
 mod application;

@@ -1,4 +1,4 @@
-//! Lists whose first elements and whose rest are done by strategies of their own.
+//! Lists whose first elements and whose rest have strategies of their own.
 
 ghost use Rattle.std.specs.Prelude.{◌≡◌, ◌≤◌, ◌++◌, cond, length, map, reverse, slice_get, take, Some, None, IfOk, IfSome, MatchOption};
 ghost use Rattle.term_core.specs.Tree.{children, with_children};
@@ -22,7 +22,7 @@ use strategy_syntax::ResolvedStrategy;
 use term_core::NoMemory;
 use term_values::{Part, Value};
 
-// The first elements are done, and the list with them is what is in hand.
+// The first elements are done; the list with them becomes the focus.
 #[inline(never)]
 pub(crate) fn give_tail<'t>(
     alloc: Global,
@@ -39,8 +39,8 @@ pub(crate) fn give_tail<'t>(
     begin_tail(alloc, m, tail, scope, count)
 }
 
-// What waits for the first elements of a list: the strategy for the list of the others, its scope, and how
-// many elements come before.
+// If the innermost frame waits for the first elements of a list: the strategy for the rest, its
+// scope, and the number of elements before the rest.
 fn waiting_tail<'t>(frames: &[Frame<'t>]) -> Option<(&'t ResolvedStrategy, usize, usize)>
     ensures { IfSome result (λ w. Waits (reverse frames.now) w.0 w.1 w.2) }
 {
@@ -50,8 +50,8 @@ fn waiting_tail<'t>(frames: &[Frame<'t>]) -> Option<(&'t ResolvedStrategy, usize
     }
 }
 
-/// Gives the node so far to the frame that waits. Where that waits for the first elements of a list, the
-/// list with these isn't made.
+/// Gives the node so far to the innermost frame. If that waits for the first elements of a list,
+/// the list with them isn't built.
 pub(crate) fn end_each<'t>(alloc: Global, m: &mut Machine<'t>) -> Result<Turned, NoMemory>
     requires { PartsStand m.old.part (all_parts m.old.part m.old.parts.items) }
     ensures ok { (W : World) → IfOk result (λ next. Turn W m.old (Done (node_with m.old.part m.old.parts.items)) m.new next) }
@@ -68,7 +68,8 @@ pub(crate) fn end_each<'t>(alloc: Global, m: &mut Machine<'t>) -> Result<Turned,
     Ok(Turned::On)
 }
 
-// The first elements are done, and stand among the parts: the list of the others is a part of its own.
+// The first elements are done and kept as parts; the list of the rest is opened as a part of its
+// own.
 fn begin_tail<'t>(
     alloc: Global,
     m: &mut Machine<'t>,
@@ -93,7 +94,7 @@ fn begin_tail<'t>(
     Ok(Turned::On)
 }
 
-// The others have become a list, or something else, which fails.
+// The rest succeeded. It has to be a list, else the whole fails.
 pub(crate) fn give_rest<'t>(
     alloc: Global,
     m: &mut Machine<'t>,
@@ -122,8 +123,8 @@ pub(crate) fn give_rest<'t>(
     }
 }
 
-// The same root over what stands in the places of the first so many children and the children of a list behind
-// them, where it is a list.
+// The same root over the parts of the first `count` children followed by the children of `rest`, if
+// that is a list.
 #[inline(always)]
 fn behind_those<'t>(
     alloc: Global,
@@ -179,7 +180,7 @@ fn with_list<'t>(
     with_rest_behind(alloc, list, front, rest)
 }
 
-// The first element is done: the list of the others is a part of its own.
+// The first element is done; the list of the rest is opened as a part of its own.
 pub(crate) fn give_head<'t>(
     alloc: Global,
     m: &mut Machine<'t>,
@@ -206,7 +207,7 @@ pub(crate) fn give_head<'t>(
     Ok(Turned::On)
 }
 
-// The part, where it has changed.
+// The part, if it has changed.
 #[inline(always)]
 fn where_changed<'t>(part: Part<'t>, changed: bool) -> Option<Part<'t>>
     ensures { result ≡ cond changed (Some part.entry) None }
@@ -214,7 +215,7 @@ fn where_changed<'t>(part: Part<'t>, changed: bool) -> Option<Part<'t>>
     if changed { Some(part) } else { None }
 }
 
-// What stands in the place of the first child.
+// The part in the place of the first child.
 #[inline(always)]
 fn first_now<'t>(node: &Part<'t>, first: Option<Part<'t>>) -> Result<Option<Part<'t>>, NoMemory>
     ensures { IfOk result (λ child. child ≡ slice_get (parts_now node.now (all_parts node.now (first_part first.entry))) 0) }
@@ -225,7 +226,7 @@ fn first_now<'t>(node: &Part<'t>, first: Option<Part<'t>>) -> Result<Option<Part
     }
 }
 
-// The same root over what stands in the place of the first child and the children of a list behind it.
+// The same root over the part of the first child followed by the children of a list.
 #[inline(always)]
 fn behind_first<'t>(
     alloc: Global,
@@ -252,7 +253,7 @@ fn behind_first<'t>(
     }
 }
 
-// The others have become a list, or something else, which fails.
+// The rest succeeded. It has to be a list, else the whole fails.
 pub(crate) fn give_behind<'t>(
     alloc: Global,
     m: &mut Machine<'t>,

@@ -1,4 +1,4 @@
-//! Lists behind their first elements.
+//! The rest of a list after its first elements.
 
 ghost use Rattle.std.specs.Prelude.{◌≡◌, ◌++◌, ◌∷◌, cond, map, take, IfOk, Some, None};
 ghost use Rattle.term_core.specs.Tree.{children, with_children};
@@ -13,7 +13,6 @@ use strategy_frames::drop_value;
 use term_core::{Kind, NoMemory};
 use term_values::{Part, Value};
 
-/// Whether it is a list.
 pub(crate) fn is_list(value: &Value<'_>) -> bool
     ensures { elements value.now ≡ cond result (Some (children value.now)) None }
 {
@@ -23,7 +22,7 @@ pub(crate) fn is_list(value: &Value<'_>) -> bool
     }
 }
 
-/// The children behind the first so many, as a list without annotations.
+/// The children after the first `count`, as a list without annotations.
 pub(crate) fn rest_behind<'t>(
     alloc: Global,
     value: &Value<'t>,
@@ -52,7 +51,7 @@ pub(crate) fn rest_of_part<'t>(
     part.rest(alloc, count)
 }
 
-/// The same root over these children and those of a list behind them.
+/// The same root over these children followed by those of a list.
 pub(crate) fn with_rest_behind<'t>(
     alloc: Global,
     value: &Value<'t>,
@@ -71,7 +70,7 @@ pub(crate) fn with_rest_behind<'t>(
     value.with_children(alloc, all)
 }
 
-/// The same root over what stands in the place of the first child and the children of a list behind it.
+/// The same root over the part of the first child followed by the children of a list.
 #[inline(always)]
 pub(crate) fn in_front<'t>(
     alloc: Global,
@@ -107,7 +106,7 @@ pub(crate) fn in_front<'t>(
     }
 }
 
-/// What stands in the places of the first so many children, or of all where there are no more.
+/// The parts in the places of the first `count` children, or of all if there are fewer.
 pub(crate) fn first_values<'t>(
     alloc: Global,
     node: &Part<'t>,

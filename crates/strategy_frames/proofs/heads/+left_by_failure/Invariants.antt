@@ -7,7 +7,7 @@ use Rattle.strategy_frames.proofs.heads.+left_by_failure.Given as goal
 abbrev pub decreases-left_by_failure : goal.decreases-left_by_failure
 decreases-left_by_failure l = l.most
 
--- where what is looked at now fails ahead, the whole does
+-- if the form examined now fails ahead, the whole does
 abbrev pub invariant-inward : goal.invariant-inward
 invariant-inward l = record {
   less : l.left ≤ l.fn.steps;

@@ -3,7 +3,7 @@ use Rattle.term_changes.specs.Standing.{standing_children}
 use Rattle.strategy_frames.proofs.PartsLemmas.{Filling}
 use Rattle.strategy_run.proofs.children.fill_missing.Given as goal
 
--- what was kept, and more of the children
+-- the parts that were held, and more of the children
 abbrev pub invariant-fill : goal.invariant-fill
 invariant-fill l = Filling (standing_children l.node) l.fn.parts.items l.count l.parts.items
 

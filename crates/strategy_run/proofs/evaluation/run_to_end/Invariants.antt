@@ -4,7 +4,7 @@ use Rattle.strategy_frames.specs.Hands.{in_hand}
 use Rattle.strategy_frames.specs.Turns.{Holds, load, world_of}
 use Rattle.strategy_run.proofs.evaluation.run_to_end.Given as goal
 
--- the answer of what is in hand, taken through the frames, is the whole answer
+-- the answer of the focus, passed through the frames, is the whole answer
 abbrev pub invariant-run : goal.invariant-run
 invariant-run g l = Holds (world_of g.M.Meaning.meaning l.host.definitions.now l.host.primitives.now) (unchanged l.term) (run_whole (world_of g.M.Meaning.meaning l.host.definitions.now l.host.primitives.now) l.fn.m.level l.strategy l.fn.m.steps l.term) l.m (in_hand l.m)
 
