@@ -63,7 +63,7 @@ module _ (Rule : ByBudget) where
   pub goes_on_is : (old new : Running) (h g : History) (a b : Option (List ℕ)) (goes_on : Bool) → goes_on ≡ true → AnswersReady Rule old new h g a b goes_on → AnswersReady Rule old new h g a b true
   goes_on_is old new h g a b goes_on e r = subst (λ (x : Bool). AnswersReady Rule old new h g a b x) e r
 
-  -- ---- commands behind commands
+  -- ---- commands after commands
 
   GoesBehind-none : (s : Split) → GoesBehind s s [] []
   GoesBehind-none s x out h = subst (λ (xs : List ℕ). StandsBehind xs (out ++ []) s.left) (sym (append-nil x)) (subst (λ (hs : List Handed). StandsBehind x hs s.left) (sym (append-nil out)) h)
@@ -73,7 +73,7 @@ module _ (Rule : ByBudget) where
       subst (λ (zs : List ℕ). StandsBehind zs (out ++ (cs ++ ds)) c.left) (append_assoc x xs ys)
       (subst (λ (hs : List Handed). StandsBehind ((x ++ xs) ++ ys) hs c.left) (append_assoc out cs ds) (q (x ++ xs) (out ++ cs) (p x out h)))
 
-  -- all commands of these bytes are those that were handed out and those of the rest
+  -- all commands of these bytes are those taken so far followed by those of the rest
   hands_behind : (old new : Split) (taken rest : List ℕ) (commands : List Handed) → GoesBehind old new taken commands → HandsBehind old (taken ++ rest) (commands ++ rest_of new.left rest)
   hands_behind old new taken rest commands b x out h =
       ap handed (sym (append_assoc x taken rest)) ∙ (b x out h).rest rest ∙ append_assoc out commands (rest_of new.left rest)
@@ -118,7 +118,7 @@ module _ (Rule : ByBudget) where
   pub Underway-none : (s : Running) (h : History) (a : Option (List ℕ)) (bytes : List ℕ) → Underway Rule s s h h a a bytes bytes true
   Underway-none s h a bytes = record { taken = []; all = refl; commands = []; behind = GoesBehind-none s.splitter; counts = Counts-none s h a; few = omega arith }
 
-  -- One more command was handed out, and is answered.
+  -- One more command was taken, and is answered.
   module _ (old s t : Running) (h g k : History) (a b c : Option (List ℕ)) (bytes rest behind : List ℕ) (n : ℕ) (u : Underway Rule old s h g a b bytes rest true)
       (fed : FedRight (Command n) s.splitter t.splitter rest) (rest_is : behind ≡ drop n rest) (summary : t.summary ≡ s.summary) (settings : t.settings ≡ s.settings) where
     split : bytes ≡ (u.taken ++ take n rest) ++ behind
@@ -149,7 +149,7 @@ module _ (Rule : ByBudget) where
               (BreaksOff-append old.settings.stop (Rule old.settings.steps) u.commands (fed.2 ∷ []) h g k a b c u.counts.yes u.counts.no u.counts.goes u.counts.completes one);
         }
 
-  -- No command is complete in what is left.
+  -- No command is complete in the rest.
   pub Underway-all : (old s t : Running) (h g : History) (a b : Option (List ℕ)) (bytes rest : List ℕ) → Underway Rule old s h g a b bytes rest true → GoesBehind s.splitter t.splitter rest [] →
       t.summary ≡ s.summary → t.settings ≡ s.settings → Underway Rule old t h g a b bytes [] true
   Underway-all old s t h g a b bytes rest u fed summary settings = record {
@@ -195,7 +195,7 @@ module _ (Rule : ByBudget) where
     breaks = subst (λ (s : Settings). BreaksOff s.stop (Rule s.steps) (command ∷ []) h g a b) settings broken;
   }
 
-  -- no command stands at the end
+  -- there is no command at the end
   pub Ends-none : (old mid : Running) (h : History) (a : Option (List ℕ)) →
       ((x : List ℕ) (out : List Handed) → StandsBehind x out old.splitter.left → handed x ≡ out ++ option_to_list mid.splitter.to_hand_out) →
       mid.summary ≡ old.summary → is_some mid.splitter.to_hand_out ≡ false → Ends Rule old mid h h a a []
@@ -223,7 +223,7 @@ module _ (Rule : ByBudget) where
     breaks = BreaksOff-longer old.settings.stop (Rule old.settings.steps) [] (option_to_list old.splitter.left.command) h h a b (BreaksOff-flush old.settings.stop (Rule old.settings.steps) [] h h a a b 0 0 (Completes-none old.settings.stop (Rule old.settings.steps) h a) k);
   }
 
-  -- what comes behind a flush
+  -- what comes after a flush
   pub Breaks-after : (old : Running) (h g : History) (a b c : Option (List ℕ)) (bytes : List ℕ) → Keeps a b → Breaks Rule old h g b c bytes → Breaks Rule old h g a c bytes
   Breaks-after old h g a b c bytes k p = record { all = p.all; hands = p.hands; breaks = BreaksOff-after old.settings.stop (Rule old.settings.steps) p.all h g a b c k p.breaks }
 
@@ -292,7 +292,7 @@ module _ (Rule : ByBudget) where
 
   -- ---- how far a run has come
 
-  -- so many turns from the start
+  -- this many turns after the start
   pub record Progress (old s : Running) (h g : History) (a b : Streams) (turns : ℕ) : Type 0 where
     pub script : List ℕ
     pub read : Consumes a.left b.left script
@@ -334,7 +334,7 @@ module _ (Rule : ByBudget) where
   -- ---- the end of a run
 
   module _ (old s : Running) (h g : History) (a b : Streams) (turns : ℕ) (p : Progress old s h g a b turns) where
-    -- a turn that broke off
+    -- a turn that failed
     pub Progress-fault : (t : Running) (k : History) (c : Streams) (most : ℕ) (fault : RunFault) → TurnRight Rule (Err fault) s t g k b c most → RunRight Rule (Err fault) old.settings h k a c
     Progress-fault t k c most Read (count, writes, kept, same, held) = (
       omega (arith, count, p.calm.0),
@@ -365,7 +365,7 @@ module _ (Rule : ByBudget) where
     Progress-fault t k c most Turns r = absurd r
     Progress-fault t k c most Memory r = absurd r
 
-    -- a flush that failed behind the last turn
+    -- a flush that failed after the last turn
     pub Progress-unflushed : (c : Streams) → Consumes b.left c.left [] → Keeps b.held c.held → c.write_failures ≡ b.write_failures + 1 → c.read_failures ≡ b.read_failures → RunRight Rule (Err Write) old.settings h g a c
     Progress-unflushed c read held count reads = (
       omega (arith, count, p.calm.1),
@@ -396,7 +396,7 @@ module _ (Rule : ByBudget) where
       },
     )
 
-    -- the last turn, and what a flush does behind it
+    -- the last turn, and what a flush does after it
     module _ (t : Running) (k : History) (c d : Streams) (most : ℕ) (r : TurnRight Rule (Ok false) s t g k b c most) (read : Consumes c.left d.left []) (held : Keeps c.held d.held) where
       abbrev bytes : List ℕ
       bytes = r.1.0

@@ -1,4 +1,4 @@
--- How far a run has come: what its parts do, from which the whole run follows.
+-- The progress of a run: what its parts do, from which the whole run follows.
 use Rattle.std.specs.Prelude.{◌≡◌, ◌<◌, ◌≤◌, ◌+◌, ◌⊎◌, ℕ, Bool, true, false, List, [], ◌∷◌, ◌++◌, length, Some}
 use Rattle.std.specs.declared.option.Option.{Option}
 use Rattle.std.specs.Prelude.{Ok, Err}
@@ -22,7 +22,7 @@ use Rattle.script_forms.specs.Run.{Completes, BreaksOff, Answers, AnswersPart, A
 abbrev pub ByBudget : Type 1
 ByBudget = ℕ → Replying
 
--- A run that is to stop at a refusal goes on where none came, and ends where one came.
+-- A run that is to stop at a refusal goes on without one, and ends at one.
 abbrev pub GoesOnBy : Bool → ℕ → Bool → Type 0
 GoesOnBy stop n true = stop ≡ true → n ≡ 0
 GoesOnBy stop n false = (stop ≡ true) × (0 < n)
@@ -39,14 +39,14 @@ pub record Counts (Rule : ByBudget) (commands : List Handed) (old new : Running)
   pub goes : GoesOnBy old.settings.stop no goes_on
   pub settings : new.settings ≡ old.settings
 
--- The command that can be handed out is answered.
+-- The next complete command is answered.
 abbrev pub AnswersReady : ByBudget → Running → Running → History → History → Option (List ℕ)
     → Option (List ℕ) → Bool → Type 0
 AnswersReady Rule old new h g held held' goes_on =
     (command : Handed) × (old.splitter.to_hand_out ≡ Some command)
     × Counts Rule (command ∷ []) old new h g held held' goes_on
 
--- Of these bytes all but the rest are taken, and the commands that they make complete are answered.
+-- All of these bytes but the rest are consumed, and the commands that they complete are answered.
 pub record Underway (Rule : ByBudget) (old new : Running) (h g : History) (held held' : Option (List ℕ))
     (bytes rest : List ℕ) (goes_on : Bool) : Type 0 where
   pub taken : List ℕ
@@ -56,26 +56,26 @@ pub record Underway (Rule : ByBudget) (old new : Running) (h g : History) (held 
   pub counts : Counts Rule commands old new h g held held' goes_on
   pub few : length commands ≤ length taken
 
--- All bytes are taken where the run goes on.
+-- All bytes are consumed if the run goes on.
 abbrev pub AnswersBytes : ByBudget → Running → Running → History → History → Option (List ℕ)
     → Option (List ℕ) → List ℕ → Bool → Type 0
 AnswersBytes Rule old new h g held held' bytes true = Underway Rule old new h g held held' bytes [] true
 AnswersBytes Rule old new h g held held' bytes false =
     (rest : List ℕ) × Underway Rule old new h g held held' bytes rest false
 
--- Behind what came before, these bytes give all of these commands.
+-- After what came before, these bytes complete exactly these commands.
 abbrev pub HandsBehind : Split → List ℕ → List Handed → Type 0
 HandsBehind old bytes all =
     (x : List ℕ) (out : List Handed) → StandsBehind x out old.left → handed (x ++ bytes) ≡ out ++ all
 
--- Answering these bytes breaks off.
+-- Answering these bytes fails partway.
 pub record Breaks (Rule : ByBudget) (old : Running) (h g : History) (held held' : Option (List ℕ)) (bytes : List ℕ) : Type 0
   where
     pub all : List Handed
     pub hands : HandsBehind old.splitter bytes all
     pub breaks : BreaksOff old.settings.stop (Rule old.settings.steps) all h g held held'
 
--- Answering these bytes comes to an end.
+-- Answering these bytes reaches the end.
 pub record Ends (Rule : ByBudget) (old new : Running) (h g : History) (held held' : Option (List ℕ)) (bytes : List ℕ) : Type 0
   where
     pub all : List Handed
@@ -86,7 +86,7 @@ pub record Ends (Rule : ByBudget) (old new : Running) (h g : History) (held held
     pub accepted : new.summary.accepted ≡ old.summary.accepted + yes
     pub refused : new.summary.refused ≡ old.summary.refused + no
 
--- These bytes are answered up to a refusal at which the run stops, in a command that they make complete.
+-- These bytes are answered up to a refusal at which the run stops, in a command that they complete.
 pub record Stops (Rule : ByBudget) (old : Running) (h g : History) (held held' : Option (List ℕ)) (bytes : List ℕ)
     (yes no : ℕ) : Type 0 where
   pub stop : old.settings.stop ≡ true
@@ -96,7 +96,7 @@ pub record Stops (Rule : ByBudget) (old : Running) (h g : History) (held held' :
       → completed (x ++ bytes) ≡ out ++ all
   pub completes : Completes old.settings.stop (Rule old.settings.steps) all h g held held' yes no
 
--- what a reader and a writer tell, and how often they failed
+-- the ghost state of a reader and a writer, and how often they failed
 pub record Streams : Type 0 where
   pub left : Option (List ℕ)
   pub held : Option (List ℕ)
@@ -110,8 +110,8 @@ streams left held reads writes =
 abbrev pub Calm : Streams → Streams → Type 0
 Calm old new = (new.read_failures ≡ old.read_failures) × (new.write_failures ≡ old.write_failures)
 
--- One turn of a run: at most so many bytes are read and their commands answered, and it goes on; or the
--- run comes to its end, or breaks off.
+-- One turn of a run: at most this many bytes are read and their commands answered, and the run goes
+-- on; or it reaches the end, or fails.
 abbrev pub TurnRight : ByBudget → Result Bool RunFault → Running → Running → History → History → Streams → Streams
     → ℕ → Type 0
 TurnRight Rule (Ok true) old new h g a b most =
@@ -131,7 +131,7 @@ TurnRight Rule (Err Write) old new h g a b most =
 TurnRight Rule (Err Turns) old new h g a b most = ⊥
 TurnRight Rule (Err Memory) old new h g a b most = ⊥
 
--- A whole run, but for the memory that it begins with.
+-- A whole run, apart from the memory that it starts with.
 abbrev pub RunRight : ByBudget → Result Summary RunFault → Settings → History → History → Streams → Streams → Type 0
 RunRight Rule (Ok summary) settings h g a b =
     Calm a b × Answers settings.stop (Rule settings.steps) h g a.left b.left a.held b.held summary.accepted summary.refused

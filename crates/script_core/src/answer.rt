@@ -29,9 +29,9 @@ use std::alloc::Global;
 use term_core::{Label, NoMemory, Term};
 use term_paths::{Path, at};
 
-/// Answers a command behind what the buffer holds, and tells whether it was accepted. Where a
-/// growth of memory is refused, the answer is `refused 1 memory` and the session stays as it was.
-/// `steps`, from 1 to 1,000,000, is the budget of a command that names none.
+/// Appends the answer of a command to the buffer, and returns whether the command was accepted. If
+/// memory can't grow, the answer is `refused 1 memory` and the session stays as it was. `steps`,
+/// from 1 to 1,000,000, is the budget of a command that names none.
 pub fn answer_text<M: Meaning>(
     alloc: Global,
     session: &mut Session<M>,
@@ -51,7 +51,8 @@ pub fn answer_text<M: Meaning>(
     }
 }
 
-// A command `tree` is read and answered apart, in fewer steps: scripts are mostly of these.
+// A command `tree` is read and answered apart, at less cost: most commands of scripts are of this
+// form.
 fn answer_line<M: Meaning>(
     alloc: Global,
     session: &mut Session<M>,
@@ -71,8 +72,8 @@ fn answer_line<M: Meaning>(
     }
 }
 
-// Answers the command `tree` with this text behind its keyword. A refusal is told where it comes up: it is larger
-// than a truth value, and would be handed on from call to call.
+// Answers the command `tree` with this text after its keyword. A refusal is written where it
+// occurs: it is larger than a truth value, and would be passed on from call to call.
 #[inline(never)]
 fn answer_tree<M: Meaning>(
     alloc: Global,
@@ -120,8 +121,7 @@ fn answer_other<M: Meaning>(
     }
 }
 
-// Appends the answer of a command that is accepted. A refusal leaves session and buffer as they
-// were.
+// Appends the answer of an accepted command. A refusal leaves session and buffer unchanged.
 fn try_answer<M: Meaning>(
     alloc: Global,
     session: &mut Session<M>,
@@ -146,8 +146,8 @@ fn try_answer<M: Meaning>(
     }
 }
 
-// A command `put` is read and answered apart as well. It isn't inlined, so that the others don't pay for its
-// variables.
+// A command `put` is read and answered apart as well. It isn't inlined, so that the others don't
+// pay for its variables.
 #[inline(never)]
 fn answer_put<M: Meaning>(
     alloc: Global,
@@ -202,8 +202,7 @@ fn answer_form<M: Meaning>(
     }
 }
 
-// Does what a command says, and appends its answer. A refusal leaves session and buffer as they
-// were.
+// Does what a command says and appends its answer. A refusal leaves session and buffer unchanged.
 fn perform<M: Meaning>(
     alloc: Global,
     session: &mut Session<M>,
@@ -251,7 +250,7 @@ fn perform<M: Meaning>(
     }
 }
 
-// Appends `ok` where the step was accepted.
+// Appends `ok` if the step was accepted.
 fn say_ok(outcome: Result<(), Refusal>, answer: &mut Vec<u8>) -> Result<(), Refusal>
     requires { vec_len answer.old + ANSWER_ROOM ≤ vec_capacity answer.old }
     ensures same { result ≡ outcome }
@@ -335,7 +334,7 @@ fn annotate<M: Meaning>(
     }
 }
 
-// The subterm at the path of the name's tree, or which of the two isn't there.
+// The subterm at the path of the name's tree, or the refusal that says which of the two is missing.
 fn find_place<'s, M: Meaning>(
     session: &'s Session<M>,
     name: &Label,
@@ -430,7 +429,7 @@ fn list_modules<M: Meaning>(session: &Session<M>, answer: &mut Vec<u8>) -> Resul
     list_names(b"modules", &session.module_names()?, answer)
 }
 
-// The text of the name's module.
+// Appends the text of the name's module.
 fn show_text<M: Meaning>(
     session: &Session<M>,
     name: &Label,
@@ -449,7 +448,7 @@ fn show_text<M: Meaning>(
     }
 }
 
-// The numbers of steps to undo and to redo, for which there is room.
+// Appends the numbers of steps to undo and to redo, for which there is room.
 fn count_steps<M: Meaning>(session: &Session<M>, answer: &mut Vec<u8>)
     requires { vec_len answer.old + ANSWER_ROOM ≤ vec_capacity answer.old }
     ensures text { answer.new.items ≡ answer.old.items ++ counted session.now }

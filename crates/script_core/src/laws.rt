@@ -1,4 +1,4 @@
-//! Laws over definitions alone: of runs, and of the bounds that definitions name.
+//! Laws over definitions alone: about runs, and about the bounds that definitions name.
 
 ghost use Rattle.std.specs.Prelude.{◌≡◌, ◌&&◌, ℕ, List, length, Some, None, nat_le, if◌then◌else◌};
 ghost use Rattle.term_core.specs.Word.{is_word, label_of};
@@ -17,27 +17,27 @@ use aterm_text::laws::{
 };
 use strategy_parse::laws::{one_module, one_result};
 
-/// A run of commands in which the same growths of memory are refused has one outcome.
+/// A run of commands has one outcome, given which of them were refused memory.
 pub fn one_run()
     ensures { OneRun }
 {
-    // Called for their contracts: at most one tree, one list of annotations, one module and one strategy
-    // comes of a text.
+    // Called for their contracts: a text is at most one tree, one list of annotations, one module
+    // and one strategy.
     one_term();
     one_module();
     one_result();
 }
 
-/// A dump reads back: run on a session with nothing in it and no open group, the dump of contents gives
-/// the same contents, and every answer is `ok`. The contents are sound under the session's primitives,
-/// the module texts are such as commands give, no command of the dump is over 65,536 bytes, and no growth
-/// of memory is refused.
+/// A dump reads back: run on a session with empty contents and no open group, the dump of contents
+/// restores the same contents, and every answer is `ok`. This holds if the contents are sound under
+/// the session's primitives, commands can give the module texts, no command of the dump is longer
+/// than 65,536 bytes, and memory can grow.
 pub fn dump_reads_back()
     ensures contents { DumpReadsBack }
     ensures answered { DumpIsAnswered }
 {
-    // Called for their contracts: what is printed of a tree is one line, within the bounds, and gives
-    // that tree; and a run has one outcome.
+    // Called for their contracts: the printed text of a tree is one line, within the bounds, and
+    // reads back as that tree; and a run has one outcome.
     one_run();
     printed_text_reads_back();
     printed_text_is_one_line();
@@ -45,10 +45,10 @@ pub fn dump_reads_back()
     printed_text_is_as_long();
 }
 
-/// The bounds that definitions name are these numbers: of the height and the size of terms, the bytes of
-/// names, the brackets open in a term's text, the tokens of a strategy's or module's, the bytes of
-/// commands, the steps of `undo` and `redo`, the reads of a run, and the bytes that an answer's buffer has
-/// to spare.
+/// The values of the bounds that definitions name: the height and the size of terms, the bytes of
+/// names, the open brackets in a term's text, the tokens of a strategy's or module's text, the
+/// bytes of commands, the steps of `undo` and `redo`, the reads of a run, and the spare bytes of an
+/// answer's buffer.
 pub fn bounds()
     ensures height { MAX_HEIGHT ≡ 1000 }
     ensures size { MAX_SIZE ≡ 100000 }

@@ -1,4 +1,5 @@
-//! Scripts: commands cut out of bytes as they come, each answered when it is complete.
+//! Scripts: commands are split off the bytes as they arrive, and each is answered when it is
+//! complete.
 #![tactic(auto)]
 
 mod answer;

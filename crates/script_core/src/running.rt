@@ -1,4 +1,4 @@
-//! Running a script: reading it piece by piece, answering each command when it is complete, and writing
+//! Running a script: reading it in pieces, answering each command when it is complete, and writing
 //! the answers.
 
 ghost use Rattle.std.specs.Prelude.{◌≡◌, ◌≤◌, ◌<◌, ◌+◌, ◌*◌, ◌^◌, ◌∷◌, [], Ok, Err, OnOk, OnErr, IfOk, true, false, not, is_some, Some, vec_capacity, length};
@@ -20,7 +20,7 @@ use thiserror::Error;
 /// The greatest number of reads in a run.
 pub const MAX_READS: u64 = 1_000_000_000;
 
-/// The bytes that are read at a time.
+/// The number of bytes per read.
 pub const PIECE: usize = 4096;
 
 /// How a script is run.
@@ -28,18 +28,18 @@ pub const PIECE: usize = 4096;
 pub struct Settings {
     /// The budget of commands that name none, from 1 to 1,000,000.
     pub steps: u32,
-    /// Whether the run ends behind the first command that is refused.
+    /// Whether the run ends after the first refused command.
     pub stop: bool,
 }
 
-/// How many commands were accepted and how many refused.
+/// The numbers of accepted and refused commands.
 #[derive(Clone, Copy, Debug, PartialEq, Eq)]
 pub struct Summary {
     pub accepted: u64,
     pub refused: u64,
 }
 
-/// Why a run didn't come to its end.
+/// Why a run ended early.
 #[derive(Clone, Copy, Debug, PartialEq, Eq, Error)]
 pub enum RunFault {
     /// A read failed.
@@ -48,15 +48,15 @@ pub enum RunFault {
     /// A write or a flush failed.
     #[error("write fault")]
     Write,
-    /// There were 1,000,000,000 reads, and the end wasn't reached.
+    /// After 1,000,000,000 reads the end wasn't reached.
     #[error("read bound")]
     Turns,
-    /// A growth of memory was refused before the first command.
+    /// Memory couldn't grow before the first command.
     #[error("no memory")]
     Memory,
 }
 
-// What is kept over a run.
+// The state of a run.
 #[derive(Drop)]
 struct Running {
     splitter: Splitter,
@@ -65,13 +65,13 @@ struct Running {
     settings: Settings,
 }
 
-/// Runs a script: each command is answered when it is complete, and its answer written. A command is
-/// complete when the first byte of the next one was read, or the end. Before each read, and at the end,
-/// the sink is flushed.
+/// Runs a script: each command is answered when it is complete, and its answer is written. A
+/// command is complete once the first byte of the next one, or the end, was read. The sink is
+/// flushed before each read and at the end.
 ///
-/// Errors: `Memory` before the first command alone. After `Read` and `Turns` all complete commands of
-/// what was read are answered; a command that was begun isn't run. After `Write` the first so many commands
-/// are answered, and the sink took their answers, but perhaps for an end of the last.
+/// Errors: `Memory` only before the first command. After `Read` and `Turns` all complete commands
+/// of the bytes read are answered; an incomplete one isn't run. After `Write` some first commands
+/// are answered, and the sink took their answers, except perhaps for a suffix of the last.
 pub fn run<M: Meaning, I: Source, O: Sink>(
     alloc: Global,
     session: &mut Session<M>,
@@ -83,15 +83,15 @@ pub fn run<M: Meaning, I: Source, O: Sink>(
     requires source_counts { I.failed source.old + 1 < 2 ^ 64 }
     requires sink_counts { O.failed sink.old + 1 < 2 ^ 64 }
 
-    // All that was read is answered, up to its end; or the run stopped at a refusal.
+    // Everything read is answered, up to the end of the script; or the run stopped at a refusal.
     ensures done { IfOk result (λ summary. Answers settings.stop (ReplyInRun M.meaning settings.steps) session.old session.new
         (I.left source.old) (I.left source.new) (O.held sink.old) (O.held sink.new)
         summary.accepted summary.refused) }
     ensures calm { OnOk result ((I.failed source.new ≡ I.failed source.old)
         × (O.failed sink.new ≡ O.failed sink.old)) }
 
-    // Where a read fails, the complete commands are answered; and so after so many reads that at
-    // least as many bytes were read.
+    // If a read fails, the complete commands are answered; so too after the bound on reads, and
+    // then at least that many bytes were read.
     ensures read { result ≡ Err RunFault.Read → (I.failed source.new ≡ I.failed source.old + 1)
         × (O.failed sink.new ≡ O.failed sink.old)
         × AnswersPart settings.stop (ReplyInRun M.meaning settings.steps) session.old session.new
@@ -101,7 +101,7 @@ pub fn run<M: Meaning, I: Source, O: Sink>(
         × AnswersPart settings.stop (ReplyInRun M.meaning settings.steps) session.old session.new
         (I.left source.old) (I.left source.new) (O.held sink.old) (O.held sink.new) MAX_READS }
 
-    // Where a write or a flush fails, the first commands of what was read are answered.
+    // If a write or a flush fails, some first commands of what was read are answered.
     ensures write { result ≡ Err RunFault.Write → (O.failed sink.new ≡ O.failed sink.old + 1)
         × (I.failed source.new ≡ I.failed source.old)
         × AnswersFirst settings.stop (ReplyInRun M.meaning settings.steps) session.old session.new
@@ -130,7 +130,7 @@ pub fn run<M: Meaning, I: Source, O: Sink>(
 }
 
 impl Running {
-    // Answers the command that can be handed out, and tells whether the run goes on.
+    // Answers the next complete command, and returns whether the run goes on.
     fn answer_ready<M: Meaning, O: Sink>(
         &mut self,
         alloc: Global,
@@ -164,8 +164,8 @@ impl Running {
         self.summary.count(accepted);
         Ok(accepted || !self.settings.stop)
     }
-    // Answers the commands that these bytes make complete, up to where the run stops, and tells whether
-    // it goes on.
+    // Answers the commands that these bytes complete, until the run stops, and returns whether it
+    // goes on.
     fn answer_bytes<M: Meaning, O: Sink>(
         &mut self,
         alloc: Global,
@@ -196,7 +196,7 @@ impl Running {
         Ok(true)
     }
 
-    // Answers the command that stands at the end, if there is one.
+    // Answers the command at the end, if there is one.
     fn answer_last<M: Meaning, O: Sink>(
         &mut self,
         alloc: Global,
@@ -219,8 +219,8 @@ impl Running {
         }
         Ok(())
     }
-    // Flushes what was written, reads once and answers what is complete then. Tells whether the run goes
-    // on.
+    // Flushes what was written, reads once and answers the commands that are then complete. Returns
+    // whether the run goes on.
     fn turn<M: Meaning, I: Source, O: Sink>(
         &mut self,
         alloc: Global,
@@ -258,7 +258,7 @@ impl Running {
             },
         }
     }
-    // Reads and answers up to the end, or to where the run stops.
+    // Reads and answers until the end, or until the run stops.
     fn answer_all<M: Meaning, I: Source, O: Sink>(
         &mut self,
         alloc: Global,

@@ -39,9 +39,9 @@ read_refused Spelled text NoMemory deep only none = inl refl
 pub read_well : {X : Type 0} (Spelled : List ℕ → X → Type 0) (text : List ℕ) (x : X) → (MAX_NESTING < nesting text → ⊥) → Spelled text x → ReadAs Spelled text (Ok x)
 read_well Spelled text x not_deep spelled = (omega (arith, not_deep), spelled)
 
--- ---- acts that are answered `ok`
+-- ---- acts answered with `ok`
 
--- an act's outcome that is told
+-- the reply to an act, given its outcome
 pub told_ok : {T : Type 0} (Comes : Outcome → Type 0) (r : Result T Refusal) (new : History) → OnOk r (Comes (Ok new)) → OnOk r (Told Comes (Ok (ok_with new)))
 told_ok Comes (Ok x) new p = (Ok new, p, refl)
 told_ok Comes (Err refusal) new p = tt
@@ -55,7 +55,7 @@ pub told_surely_refused : {T : Type 0} (Comes : Outcome → Type 0) (none : Bool
 told_surely_refused Comes none (Ok x) p = tt
 told_surely_refused Comes none (Err refusal) comes = inr (Err refusal, comes, refl)
 
--- one with what a text gives
+-- the same with the value of a text
 module _ {X : Type 0} (Gives : Result X Refusal → Type 0) (next : X → Outcome → Type 0) where
   pub unread : (refusal : Refusal) → (refusal ≡ Memory) ⊎ Gives (Err refusal) → Refuses (Told (Given Gives next)) false refusal
   unread refusal (inl memory) = inl (memory, refl)
@@ -70,7 +70,7 @@ module _ {X : Type 0} (Gives : Result X Refusal → Type 0) (next : X → Outcom
   read_then_refused (Err refusal) x gives (inl memory) = inl (memory, refl)
   read_then_refused (Err refusal) x gives (inr p) = inr (Err refusal, (Ok x, gives, p), refl)
 
--- one at a place with what a text gives
+-- the same at a place and with the value of a text
 module _ {X : Type 0} (test : Result Place Refusal) (Gives : Result X Refusal → Type 0) (next : Place → X → Outcome → Type 0) where
   abbrev AtPlace : Outcome → Type 0
   AtPlace = Passing test (λ place. Given Gives (next place))
@@ -98,7 +98,7 @@ module _ {X : Type 0} (test : Result Place Refusal) (Gives : Result X Refusal �
     placed_refused (Err refusal) x gives (inl memory) = inl (memory, refl)
     placed_refused (Err refusal) x gives (inr p) = inr (Err refusal, at_place (Ok x) (Err refusal) gives (found x (Err refusal) p), refl)
 
--- a command whose outcome is told
+-- a command whose outcome is known
 module _ (meaning : Meaning) (command known : Command) (h : History) (r outcome : Result (Unit {0}) Refusal) (is : command ≡ known) (same : r ≡ outcome) where
   pub performed_ok : (new : History) (before after : List ℕ) → OnOk outcome (Replies meaning (form known) h (Ok (ok_with new))) → OnOk r (after ≡ before ++ line (codes "ok")) → OnOk r (Accepts (Replies meaning (form command) h) new before after)
   performed_ok new before after ok text =
@@ -114,7 +114,7 @@ module _ (meaning : Meaning) (command known : Command) (h : History) (r outcome 
       subst (λ (c : Command). IfErr r (Refuses (Replies meaning (form c) h) (is_without_memory (form c)))) (sym is)
       (subst (λ (x : Result (Unit {0}) Refusal). IfErr x (Refuses (Replies meaning (form known) h) (is_without_memory (form known)))) (sym same) refused)
 
--- A command of this form is answered as the form is.
+-- The reply to a command is that to its form.
 abbrev replies_to : Meaning → History → Reply → Result Form Refusal → Type 0
 replies_to meaning h reply read = MatchResult read (λ form. Replies meaning form h reply) (λ refusal. reply ≡ Err refusal)
 
@@ -130,7 +130,7 @@ formed_refused meaning steps command told r h read quiet by_form =
     subst (λ (b : Bool). IfErr r (Refuses (ReplyToText meaning steps command h) b)) (sym quiet)
     (subst (λ (x : Result Form Refusal). IfErr r (Refuses (λ (reply : Reply). replies_to meaning h reply x) (is_without_memory told))) (sym read) by_form)
 
--- the commands that are read and answered apart: what they ask for
+-- the commands that are read and answered apart: their forms
 told_by : (steps : ℕ) (command word rest : List ℕ) → front_word (without_end is_blank command) ≡ word → behind_word (without_end is_blank command) ≡ rest → command_of steps command ≡ checked (form_with steps word rest)
 told_by steps command word rest front behind = λ i. checked (form_with steps (front i) (behind i))
 
@@ -191,7 +191,7 @@ answered_refused meaning steps command h g before after refusal (inr reply) same
   accepted = refl;
 }
 
--- ---- commands that take no memory are refused without a fault to tell
+-- ---- commands that take no memory are refused without reporting a fault
 
 abbrev tells_fault : Reply → Bool
 tells_fault (Ok accepted) = false
@@ -274,7 +274,7 @@ answered_wanting meaning steps command h g before after refusal refuses fault sa
     may (inl memory) = memory.1
     may (inr reply) = told_shortly meaning steps command h refusal fault reply
 
--- a refusal that is told
+-- a refusal that is written
 pub answered_told : (meaning : Meaning) (steps : ℕ) (command : Handed) (h g : History) (before after : List ℕ) (refusal : Refusal) (verdict : Bool) → Refuses (ReplyTo meaning steps command h) (takes_none command) refusal →
     g ≡ h → TellsRefusal before after refusal → verdict ≡ false → Answered (ReplyInRun meaning steps) command h g before after verdict
 answered_told meaning steps command h g before after refusal verdict refuses same tells is =
@@ -284,7 +284,7 @@ answered_told meaning steps command h g before after refusal verdict refuses sam
     by (inl told) = answered_refused meaning steps command h g before after refusal refuses same told
     by (inr wanting) = answered_wanting meaning steps command h g before after refusal refuses wanting.0 same wanting.1
 
--- a command that is read and answered apart, told at once
+-- a command that is read and answered apart
 module _ (meaning : Meaning) (steps : ℕ) (command : List ℕ) (h g : History) (before after : List ℕ) (asked : Option Form) (command_is : command_of steps command ≡ checked asked) (may_take_memory : takes_no_memory command ≡ false) where
   pub apart_unread_told : (refusal : Refusal) (verdict : Bool) → (refusal ≡ Memory) ⊎ (checked asked ≡ Err refusal) → g ≡ h → TellsRefusal before after refusal → verdict ≡ false →
       Answered (ReplyInRun meaning steps) (handed_text command) h g before after verdict

@@ -1,4 +1,4 @@
--- The definitions, computed at worked rows.
+-- The definitions, computed on worked rows.
 use Rattle.std.proofs.Common.{◌≡◌, [], ◌∷◌, ◌++◌, None, Ok, Err, refl, codes, true, false}
 use Rattle.session_steps.specs.History.{empty_history}
 use Rattle.session_steps.specs.declared.refusal.Refusal.TheVariants.{Line, Name, Memory}
@@ -8,18 +8,18 @@ use Rattle.script_forms.specs.Form.{tree, show, put, apply, undo, command_of, ta
 use Rattle.script_forms.specs.Answer.{ReplyInRun}
 use Rattle.script_forms.specs.Run.{Replied}
 
--- `a CR LF CR LF SPACE b CR` is one command of three lines; a last piece of CRs only is none
+-- `a CR LF CR LF SPACE b CR` is one command of three lines; a last piece of CRs alone is no line
 joined_lines : commands (codes "a" ++ 13 ∷ (10 ∷ (13 ∷ (10 ∷ (codes " b" ++ 13 ∷ []))))) ≡ (codes "a" ++ 10 ∷ (10 ∷ codes " b")) ∷ []
 joined_lines = refl
 
 no_lines : commands (10 ∷ (13 ∷ (13 ∷ []))) ≡ []
 no_lines = refl
 
--- CRs that stand elsewhere stay
+-- CRs elsewhere stay
 inner_return : commands (13 ∷ (codes "a" ++ 13 ∷ (codes "b" ++ 10 ∷ []))) ≡ (13 ∷ (codes "a" ++ 13 ∷ codes "b")) ∷ []
 inner_return = refl
 
--- a comment is no line, wherever it stands; lines that go on before the first command are dropped
+-- a comment is no line, wherever it is; continuation lines before the first command are dropped
 comment_between : commands (codes " x" ++ 10 ∷ (codes "a" ++ 10 ∷ (codes "#b" ++ 10 ∷ codes " c"))) ≡ (codes "a" ++ 10 ∷ codes " c") ∷ []
 comment_between = refl
 
@@ -45,7 +45,7 @@ reads_no_place = refl
 reads_apply : command_of 100 (codes "apply t at /1 within 07 do id; f") ≡ Ok (apply (codes "t") (1 ∷ []) 7 (codes "id; f"))
 reads_apply = refl
 
--- names are no keywords, and the budget is that of a command that names none
+-- names aren't keywords, and the budget is that of a command that names none
 reads_names : command_of 100 (codes "apply do do id") ≡ Ok (apply (codes "do") [] 100 (codes "id"))
 reads_names = refl
 
@@ -84,10 +84,10 @@ commit_may_not = refl
 
 -- ---- runs
 
--- behind a refusal at which the run stops, nothing is replied
+-- nothing after the refusal at which the run stops is replied to
 stops_at_a_refusal : Replied true (ReplyInRun (λ name terms. None) 1) (handed (codes "undo 0" ++ 10 ∷ codes "trees")) (false ∷ []) (empty_history []) (Err Line ∷ [])
 stops_at_a_refusal = (refl, (refl, refl))
 
--- else the next command is replied to, at the same history; or memory was refused in it
+-- otherwise the next command is replied to, at the same history; or memory couldn't grow in it
 goes_on_without_memory : Replied false (ReplyInRun (λ name terms. None) 1) (handed (codes "undo 0" ++ 10 ∷ codes "trees")) (false ∷ (true ∷ [])) (empty_history []) (Err Line ∷ (Err Memory ∷ []))
 goes_on_without_memory = (refl, ((refl, refl), tt))

@@ -1,5 +1,5 @@
--- Lemmas on dumps and maps: what is dumped of each entry, and a map whose entries are put one after
--- another.
+-- Lemmas on dumps and maps: what is dumped of each entry, and maps whose entries are inserted one
+-- after another.
 use Rattle.std.proofs.Common.{◌≡◌, ◌≤◌, ℕ, Bool, true, false, cond, T, List, [], ◌∷◌, ◌++◌, map, codes, Some, None, Ok, refl, sym, ap, ◌∙◌, subst}
 use Rattle.std.specs.Prelude.{IfSome}
 use Rattle.std.specs.declared.option.Option.{Option}
@@ -24,14 +24,14 @@ use Rattle.session_steps.specs.Dump.{tree_line, module_line, module_lines, group
 use Rattle.session_steps.proofs.MapLemmas.{R, later, earlier, tied, find_below, all_there}
 use Rattle.script_forms.specs.Laws.{IsCommandText}
 
--- ---- a map whose entries are put one after another
+-- ---- a map whose entries are inserted one after another
 
 module _ {X : Type 0} where
   abbrev pub inserted : Named X → List (List ℕ × X) → Named X
   inserted m [] = m
   inserted m (e ∷ es) = inserted (finmap.insert m e.0 e.1) es
 
-  -- what is found first, else what was there before
+  -- the first value if there is one, else the earlier one
   abbrev over : Option X → Option X → Option X
   over None o = o
   over (Some t) o = Some t
@@ -52,7 +52,7 @@ module _ {X : Type 0} where
       ∙ one_over (eq_by_cmp R q e.0) e.1 (find R q es) (finmap.get m q)
       (λ same. ap (λ (k : List ℕ). find R k es) (exact_bytes q e.0 (tied (R q e.0) same)) ∙ find_below e.0 es (earlier _ (is_sorted R es) h))
 
-  -- the entries of a map, put into none, give the map
+  -- inserting all entries of a map into the empty map gives the map
   pub inserted-all : (m : Named X) → inserted finmap.empty (entries m) ≡ m
   inserted-all m = same_map nat_list_cmp_total exact_bytes _ _ (λ q.
       get-inserted (entries m) (entries_sorted m) finmap.empty q
@@ -66,19 +66,19 @@ TreeEntry = List ℕ × Tree
 abbrev pub TextEntry : Type 0
 TextEntry = List ℕ × List ℕ
 
--- a tree that can be given again
+-- a tree that can be restored
 pub record IsGiven (e : TreeEntry) : Type 0 where
   pub label : label_of e.0 ≡ Some e.0
   pub term : IsTerm e.1
   pub low : height e.1 ≤ MAX_HEIGHT
 
--- a module that can be given again
+-- a module that can be restored
 pub record IsTold (e : TextEntry) : Type 0 where
   pub label : label_of e.0 ≡ Some e.0
   pub text : IsCommandText e.1
   pub reads : (m : Module) × ReadsAsModule e.1 (Ok m)
 
--- the modules by their entries, in a group where there are some
+-- the modules by their entries, in a group if there are any
 abbrev pub group_text : List TextEntry → List ℕ
 group_text [] = []
 group_text (e ∷ es) = (codes "begin" ++ 10 ∷ []) ++ flat_map (λ e. module_line e.0 e.1) (e ∷ es) ++ (codes "commit" ++ 10 ∷ [])
@@ -129,6 +129,6 @@ module _ (c : Contents) where
   group_is [] h = refl
   group_is (e ∷ es) h = λ i. (codes "begin" ++ 10 ∷ []) ++ modules_text (e ∷ es) h i ++ (codes "commit" ++ 10 ∷ [])
 
-  -- a line for each tree, and the modules
+  -- a line for each tree, followed by the modules
   pub dumped-is : dumped c ≡ flat_map (λ e. tree_line e.0 e.1) (entries c.trees) ++ group_text (entries c.modules)
   dumped-is = λ i. trees_text (entries c.trees) (all_there c.trees) i ++ group_is (entries c.modules) (all_there c.modules) i

@@ -64,7 +64,7 @@ inside-changed : (c : Contents) (h : History) (g : HistoryGroup) → h.group ≡
 inside-changed c h g some =
     ap (λ (o : Option HistoryGroup). (option_map_or (λ g. record h { now = c; group = Some (record g { changed = true }) }) o (record (stepped h.now h) { now = c })).group) some
 
--- what the trees leave, one after another
+-- the history after the trees, one after another
 abbrev trees_after : History → List TreeEntry → History
 trees_after h [] = h
 trees_after h (e ∷ es) = trees_after (changed (with_tree h.now e.0 e.1) h) es
@@ -85,7 +85,7 @@ has_trees (e ∷ es) h none =
       group = rest.group;
     }
 
--- what the modules leave
+-- the history after the modules
 abbrev modules_after : History → List TextEntry → History
 modules_after h [] = h
 modules_after h (e ∷ es) = modules_after (changed (with_module h.now e.0 e.1) h) es
@@ -115,7 +115,7 @@ now-committed g h = at g.changed
     at true = refl
     at false = refl
 
--- where the checker finds no fault, there is a program
+-- if the checker finds no fault, there is a program
 gives : (primitives : Primitives) (texts : Texts) → Finds primitives texts None → (p : Program) × GivesProgram primitives texts p
 gives primitives texts finds = (program finds.modules primitives, record { modules = finds.modules; are = finds.are; faultless = no_fault (faults finds.modules primitives) finds.fault; given = refl })
   where
@@ -123,7 +123,7 @@ gives primitives texts finds = (program finds.modules primitives, record { modul
     no_fault [] e = refl
     no_fault (f ∷ fs) e = absurd (cc)
 
--- ---- commands that are answered `ok`
+-- ---- commands answered with `ok`
 
 stays : (stop : Bool) → (stop && false) ≡ false
 stays true = refl
@@ -134,7 +134,7 @@ falses [] = []
 falses (c ∷ cs) = false ∷ falses cs
 
 module _ (meaning : Meaning) (steps : ℕ) where
-  -- the commands lead from one history to another, and each is answered `ok`
+  -- the commands lead from one history to another, and each is answered with `ok`
   abbrev Oks : List (List ℕ) → History → History → Type 0
   Oks [] h g = h ≡ g
   Oks (c ∷ cs) h g = (k : History) × ReplyTo meaning steps (text c) h (Ok (ok_with k)) × Oks cs k g
@@ -234,7 +234,7 @@ module _ (meaning : Meaning) (steps : ℕ) where
         refl,
       )
 
-  -- the group of all modules, where there are some
+  -- the group of all modules, if there are any
   abbrev group_commands : List TextEntry → List (List ℕ)
   group_commands [] = []
   group_commands (e ∷ es) = codes "begin" ∷ (module_commands (e ∷ es) ++ codes "commit" ∷ [])
@@ -386,7 +386,7 @@ module _ (back : PrintedTextReadsBack) (oneline : PrintedTextIsOneLine) (nests :
     handed-are : handed (dumped c) ≡ map (λ c. text c) all_commands
     handed-are = ap (map handed_as) commands-are ∙ as_texts all_commands short
 
-    -- what the commands leave
+    -- the outcome of the commands
     record IsLed : Type 0 where
       last : History
       oks : Oks meaning steps all_commands h last

@@ -18,15 +18,15 @@ use Rattle.script_forms.specs.Laws.{IsCommandText}
 use Rattle.script_forms.specs.Form.{Form, tree, set_module, front_word, behind_word, has_bytes, form_with, form_of, checked, command_of}
 use Rattle.script_commands.proofs.LineLemmas.{IsCore, with_line, first_piece, lines-line_feed, lines-kept}
 
--- the command that gives a name the tree that a text spells
+-- the command that sets the tree of a name to the term of a text
 abbrev pub tree_command : List ℕ → List ℕ → List ℕ
 tree_command name x = codes "tree " ++ (name ++ 32 ∷ x)
 
--- the command that gives a name the module that a text spells
+-- the command that sets the module of a name to that of a text
 abbrev pub module_command : List ℕ → List ℕ → List ℕ
 module_command name text = codes "module " ++ (name ++ behind_name text)
 
--- a label, and what is printed of a tree
+-- a label, and the printed text of a tree
 pub record IsDumped (name x : List ℕ) : Type 0 where
   pub label : label_of name ≡ Some name
   pub line : IsOneLine x
@@ -37,7 +37,7 @@ both : (a b : Bool) → (a && b) ≡ true → (a ≡ true) × (b ≡ true)
 both true b h = (refl, h)
 both false b h = absurd (cc)
 
--- a byte that passes a test is none that fails it
+-- a byte that passes a test differs from one that fails it
 other_byte : (p : ℕ → Bool) (k b : ℕ) → p k ≡ false → p b ≡ true → (b == k) ≡ false
 other_byte p k b fails passes = ne_eqb b k (λ e. true≢false (sym passes ∙ ap p e ∙ fails))
 
@@ -136,7 +136,7 @@ lone_behind name h =
     ap (λ (text : List ℕ). drop (position_or_len is_blank text) text) (lone_starts name h)
     ∙ ap (λ (n : ℕ). drop n name) (lone_length name h.all) ∙ drop-length name
 
--- what a form makes of a name and what stands behind it
+-- the form of a name and what follows it
 abbrev named : (List ℕ → List ℕ → Form) → List ℕ → List ℕ → Option Form
 named form word rest = if has_bytes word then Some (form word (without_blanks rest)) else None
 
@@ -187,7 +187,7 @@ pub command-is : (steps : ℕ) (name x : List ℕ) → IsDumped name x → comma
 command-is steps name x h =
     ap checked (form-is steps name x h) ∙ ap (λ (label : Option (List ℕ)). if is_some label then Ok (tree name x) else Err Name) h.label
 
--- ---- commands that give a module
+-- ---- commands that set a module
 
 module_form-is : (steps : ℕ) (name text : List ℕ) → label_of name ≡ Some name → IsCommandText text → form_of steps (module_command name text) ≡ Some (set_module name text)
 module_form-is steps name [] label h =
@@ -205,7 +205,7 @@ module_command-is steps name text label h =
 
 -- ---- lines
 
--- bytes that end no line
+-- bytes that don't end a line
 record IsInner (b : ℕ) : Type 0 where
   no_feed : is_line_feed b ≡ false
   no_return : is_carriage_return b ≡ false
@@ -255,23 +255,23 @@ commit_keyword =
 
 -- ---- lines and commands
 
--- A line that is whole: what a line feed behind it ends is this line.
+-- A whole line: a line feed after it ends exactly this line.
 abbrev IsLine : List ℕ → Type 0
 IsLine x = (y : List ℕ) → lines (x ++ 10 ∷ y) ≡ with_line x (lines y)
 
 core_line : (x : List ℕ) → IsCore x → IsLine x
 core_line x h y = lines-line_feed x y 0 h
 
--- without a line feed in it or a carriage return at its end
+-- one without a line feed in it or a carriage return at its end
 kept_line : (x : List ℕ) → All (λ b. is_line_feed b ≡ false) x → suffix_len is_carriage_return x ≡ 0 → IsLine x
 kept_line x inner end y = lines-kept x y inner (no_end is_carriage_return x end)
 
--- A command that is whole: with a line feed behind it, it is a command of its own where what follows begins
--- with one, or is nothing.
+-- A whole command: followed by a line feed, it is a command of its own if what comes next begins a
+-- command, or is nothing.
 abbrev pub IsWhole : List ℕ → Type 0
 IsWhole x = (y : List ℕ) (cs : List (List ℕ)) → cut (lines y) ≡ record { going_on = []; commands = cs } → cut (lines (x ++ 10 ∷ y)) ≡ record { going_on = []; commands = x ∷ cs }
 
--- a line by whether it begins a command
+-- a line, depending on whether it begins a command
 abbrev cut_by : Bool → List ℕ → Cut → Cut
 cut_by b line rest =
     if b then record { going_on = []; commands = (line ++ rest.going_on) ∷ rest.commands } else record { going_on = 10 ∷ line ++ rest.going_on; commands = rest.commands }
@@ -284,7 +284,7 @@ no_comment (b ∷ line) h = by (b == 35) refl
     by false e = refl
     by true e = let is : b ≡ 35 = eqb-true b 35 e in let begins : begins_command (b ∷ line) ≡ true = ap (λ (k : ℕ). begins_command (k ∷ line)) is in absurd (true≢false (sym begins ∙ h))
 
--- the lines behind the first go on with the command
+-- the lines after the first continue the command
 record IsFurther (line : List ℕ) : Type 0 where
   whole : IsLine line
   goes_on : begins_command line ≡ false
@@ -318,7 +318,7 @@ whole first others line comment begins h y cs e =
 one_line : (x : List ℕ) → IsCore x → is_comment x ≡ false → begins_command x ≡ true → IsWhole x
 one_line x h comment begins = subst IsWhole (append-nil x) (whole x [] (core_line x h) comment begins tt)
 
--- commands, each with a line feed behind it
+-- commands, each followed by a line feed
 abbrev pub script_of : List (List ℕ) → List ℕ
 script_of cs = flat_map (λ c. c ++ 10 ∷ []) cs
 
@@ -342,7 +342,7 @@ abbrev joined : List (List ℕ) → List ℕ
 joined [] = []
 joined (line ∷ others) = line ++ behind_feeds others
 
--- what the line feeds part
+-- the parts between line feeds
 record IsParted (text : List ℕ) : Type 0 where
   same : joined (slice_split is_line_feed text) ≡ text
   inner : AllByRecursion (λ line. All (λ b. is_line_feed b ≡ false) line) (slice_split is_line_feed text)
@@ -367,13 +367,13 @@ parted (b ∷ text) = by (is_line_feed b) refl (first_piece text) (parted text)
           inner = subst (AllByRecursion (λ line. All (λ b. is_line_feed b ≡ false) line)) (sym split) (All-cons (λ b. is_line_feed b ≡ false) b rest.0 e inner.0, inner.1);
         }
 
--- the lines behind the first, as a command keeps them
+-- the lines after the first, as a command keeps them
 further_lines : (others : List (List ℕ)) → AllByRecursion (λ line. All (λ b. is_line_feed b ≡ false) line) others → AllByRecursion (λ line. suffix_len is_carriage_return line ≡ 0) others →
     AllByRecursion (λ line. begins_command line ≡ false) others → AllByRecursion IsFurther others
 further_lines [] inner end goes_on = tt
 further_lines (line ∷ others) inner end goes_on = (record { whole = kept_line line inner.0 end.0; goes_on = goes_on.0 }, further_lines others inner.1 end.1 goes_on.1)
 
--- the first line with the keyword and the name before it
+-- the first line, with the keyword and the name before it
 first_line : (name first : List ℕ) → AllByRecursion IsInk name → 0 < length first → All (λ b. is_line_feed b ≡ false) first → suffix_len is_carriage_return first ≡ 0
     → IsLine (codes "module " ++ (name ++ 32 ∷ first))
 first_line name first ink some inner end =

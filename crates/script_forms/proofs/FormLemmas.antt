@@ -1,11 +1,11 @@
--- A command's keyword, as its bytes come one by one.
+-- A command's keyword, read byte by byte.
 use Rattle.std.proofs.Common.{◌≡◌, ◌+◌, List, ◌∷◌, ℕ, take, drop, ap, ◌∙◌}
 use Rattle.std.specs.Prelude.{codes}
 use Rattle.std.specs.List.{position_or_len}
 use Rattle.aterm_text.specs.Tokens.{is_blank}
 use Rattle.script_forms.specs.Form.{front_word, behind_word}
 
--- the word `tree` in front of a text, and what stands behind it
+-- the word `tree` at the start of a text, and what follows it
 pub tree_in_front : (text r e f rest : List ℕ) → text ≡ 116 ∷ r → r ≡ 114 ∷ e → e ≡ 101 ∷ f → f ≡ 101 ∷ rest → position_or_len is_blank rest ≡ 0
     → (front_word text ≡ codes "tree") × (behind_word text ≡ rest)
 tree_in_front text r e f rest first second third fourth end =
@@ -15,7 +15,7 @@ tree_in_front text r e f rest first second third fourth end =
       ap behind_word all ∙ ap (λ (n : ℕ). drop (1 + (1 + (1 + (1 + n)))) (116 ∷ 114 ∷ 101 ∷ 101 ∷ rest)) end,
     )
 
--- the word `put`
+-- the same for the word `put`
 pub put_in_front : (text u t rest : List ℕ) → text ≡ 112 ∷ u → u ≡ 117 ∷ t → t ≡ 116 ∷ rest → position_or_len is_blank rest ≡ 0
     → (front_word text ≡ codes "put") × (behind_word text ≡ rest)
 put_in_front text u t rest first second third end =

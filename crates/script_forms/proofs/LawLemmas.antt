@@ -1,5 +1,5 @@
--- The replies to commands are determined, since a text spells at most one term and at most one list of
--- annotations, and gives at most one module and at most one strategy.
+-- The replies to commands are determined, since a text spells at most one term and at most one list
+-- of annotations, and is at most one module and at most one strategy.
 use Rattle.std.proofs.Common.{◌≡◌, ◌<◌, ◌≤◌, ◌⊎◌, ℕ, Some, None, Bool, true, false, ◌&&◌, ◌+◌, List, [], ◌∷◌, length, Ok, Err, Result, refl, sym, ap, ◌∙◌, subst, inl, inr, arith}
 use Rattle.std.specs.Prelude.{is_err, is_none, ok_or, IsSomeAnd}
 use Rattle.std.specs.declared.option.Option.{Option}
@@ -39,8 +39,8 @@ use Rattle.script_forms.specs.Machine.{ReadAs, Told, done, Reply, Replies, histo
 use Rattle.script_forms.specs.Answer.{ReplyInRun}
 use Rattle.script_forms.specs.Run.{Replied}
 
--- What a text gives, which has at most so many of something: else the refusal is the first, and where it
--- gives nothing, the second.
+-- What a text is read as, if its count of something is at most the bound: else the first refusal,
+-- and the second if it can't be read.
 abbrev Reading : {X : Type 0} → (X → Type 0) → ℕ → ℕ → Refusal → Refusal → Result X Refusal → Type 0
 Reading Gives n most over miss (Ok x) = (n ≤ most) × Gives x
 Reading Gives n most over miss (Err refusal) = ((refusal ≡ over) × (most < n)) ⊎ ((refusal ≡ miss) × (n ≤ most) × ((x : _) → Gives x → ⊥))
@@ -138,7 +138,7 @@ module _ (one : OneModule) where
   Finds-one primitives texts a b p q =
       p.fault ∙ ap (λ (ms : Modules). first (faults ms primitives)) (AreRead-one texts (finmap.keys texts) p.modules q.modules p.are q.are) ∙ sym q.fault
 
-  -- modules with a fault give no program
+  -- modules with a fault have no program
   faultless : (primitives : Primitives) (texts : Texts) (p : Program) (fault : Fault) → GivesProgram primitives texts p → Finds primitives texts (Some fault) → ⊥
   faultless primitives texts p fault gives finds = none (finds.fault
       ∙ ap (λ (ms : Modules). first (faults ms primitives)) (AreRead-one texts (finmap.keys texts) finds.modules gives.modules finds.are gives.are) ∙ ap first gives.faultless)

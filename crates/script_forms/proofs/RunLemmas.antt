@@ -1,4 +1,4 @@
--- Lemmas on runs: one command, one after the other, and where a run breaks off.
+-- Lemmas on runs: one command, several in order, and a run that fails partway.
 use Rattle.std.proofs.Common.{◌≡◌, ◌<◌, ◌+◌, ℕ, Bool, cond, true, false, not, ◌&&◌, List, [], ◌∷◌, ◌++◌, Some, None, Ok, Err, refl, sym, ap, ◌∙◌, subst, append_assoc, append-nil, arith}
 use Rattle.std.specs.declared.option.Option.{Option}
 use Rattle.std.specs.Prelude.{is_ok, is_err, count_by}
@@ -37,7 +37,7 @@ goes-rest : (stop : Bool) (r : Reply) (rs : List Reply) → GoesBehind stop (r �
 goes-rest stop (Ok x) rs g e = g e
 goes-rest stop (Err x) rs g e = absurd (some_refused (Err x) rs (g e) refl)
 
--- replies behind which the run goes on, and those to the commands behind
+-- the replies after which the run goes on, followed by those to the later commands
 Replied-append : (stop : Bool) (Rule : Replying) (cs ds : List Handed) (fs gs : List Bool) (h : History) (rs ss : List Reply) → GoesBehind stop rs → Replied stop Rule cs fs h rs →
     Replied stop Rule ds gs (history_after_all h rs) ss → Replied stop Rule (cs ++ ds) (fs ++ gs) h (rs ++ ss)
 Replied-append stop Rule [] ds [] gs h [] ss g p q = q
@@ -53,7 +53,7 @@ Replied-append stop Rule [] ds (f ∷ fs) gs h rs ss g p q = absurd p
 Replied-append stop Rule (c ∷ cs) ds [] gs h rs ss g p q = absurd p
 Replied-append stop Rule (c ∷ cs) ds (f ∷ fs) gs h [] ss g p q = absurd p
 
--- where the run stopped, no command behind is replied
+-- if the run stopped, no later command is replied to
 Replied-stopped : (stop : Bool) (Rule : Replying) (cs ds : List Handed) (fs : List Bool) (h : History) (rs : List Reply) → stop ≡ true → 0 < count_by is_err rs → Replied stop Rule cs fs h rs →
     Replied stop Rule (cs ++ ds) fs h rs
 Replied-stopped stop Rule [] ds [] h [] e some p = absurd (omega (arith, some))
@@ -143,7 +143,7 @@ BreaksOff-one stop Rule command h g bytes verdict old new lost a w = record {
   last = sym a.answer ∙ w.all;
 }
 
--- ---- one after the other
+-- ---- several in order
 
 pub Completes-none : (stop : Bool) (Rule : Replying) (h : History) (a : Option (List ℕ)) → Completes stop Rule [] h h a a 0 0
 Completes-none stop Rule h a = record { flags = []; replies = []; leads = record { replied = tt; history = refl }; written = Appends-none a a (kept a); accepted = refl; refused = refl }
@@ -166,7 +166,7 @@ Completes-append stop Rule cs ds h g k a b c y n z m goes p q = record {
   refused = omega (arith, p.refused, q.refused, count_by-append is_err p.replies q.replies);
 }
 
--- a run that stopped answers no command behind
+-- a run that stopped answers no later command
 pub Completes-stopped : (stop : Bool) (Rule : Replying) (cs ds : List Handed) (h g : History) (a b : Option (List ℕ)) (y n : ℕ) → stop ≡ true → 0 < n → Completes stop Rule cs h g a b y n → Completes stop Rule (cs ++ ds) h g a b y n
 Completes-stopped stop Rule cs ds h g a b y n e some p = record {
   flags = p.flags;
@@ -203,7 +203,7 @@ BreaksOff-append stop Rule cs ds h g k a b c y n goes p q = record {
     last rs [] front lost e = (last_answer (rs ++ []), sym (append-nil _) ∙ ap (λ (xs : List ℕ). last_answer (rs ++ []) ++ xs) (sym (append-empty front lost e)))
     last rs (s ∷ ss) front lost e = (front, last_answer-append rs s ss ∙ e)
 
--- commands behind those that a run broke off at are not answered
+-- the commands after those at which a run failed aren't answered
 pub BreaksOff-longer : (stop : Bool) (Rule : Replying) (cs ds : List Handed) (h g : History) (a b : Option (List ℕ)) → BreaksOff stop Rule cs h g a b → BreaksOff stop Rule (cs ++ ds) h g a b
 BreaksOff-longer stop Rule cs ds h g a b p = record {
   first = p.first;

@@ -10,18 +10,18 @@ use Rattle.script_forms.specs.Form.{takes_no_memory}
 use Rattle.script_forms.specs.Machine.{Reply, Replying, ReplyTo, history_after, written, line, refused}
 use Rattle.script_commands.specs.Handed.{Handed, text, long}
 
--- whether a command that is handed out takes no memory
+-- whether the command is of a form that takes no memory
 abbrev pub takes_none : Handed → Bool
 takes_none (text command) = takes_no_memory command
 takes_none long = true
 
--- The reply to a command in a run. Where the flag says that a growth of memory was refused, it is
--- `refused 1 memory`; no command that takes no memory has a flag.
+-- The reply to a command in a run. If the flag says that memory couldn't grow, it is `refused 1
+-- memory`; a command that takes no memory never has the flag.
 abbrev pub ReplyInRun : Meaning → ℕ → Handed → Bool → History → Reply → Type 0
 ReplyInRun meaning steps command false h reply = ReplyTo meaning steps command h reply
 ReplyInRun meaning steps command true h reply = (takes_none command ≡ false) × (reply ≡ Err Memory)
 
--- A command is answered: what the answer's buffer held before, it holds with the answer behind it.
+-- A command is answered: the answer's buffer holds what it held before, followed by the answer.
 pub record Answered (Rule : Replying) (command : Handed) (old new : History) (before after : List ℕ)
     (verdict : Bool) : Type 0 where
   pub flag : Bool
@@ -31,27 +31,27 @@ pub record Answered (Rule : Replying) (command : Handed) (old new : History) (be
   pub answer : after ≡ before ++ written reply
   pub accepted : verdict ≡ is_ok reply
 
--- ---- the parts of it: a rule accepts or refuses
+-- ---- parts of this: a rule accepts or refuses
 
--- The rule accepts, with an answer that the buffer holds behind what it held.
+-- The rule accepts, with an answer that the buffer holds after its earlier bytes.
 pub record Accepts (Rule : Reply → Type 0) (new : History) (before after : List ℕ) : Type 0 where
   pub text : List ℕ
   pub reply : Rule (Ok (record { answer = text; history = new }))
   pub answer : after ≡ before ++ text
 
--- The rule gives this refusal; or memory is wanted, where it may be.
+-- The rule gives this refusal; or memory is wanted, if it may be.
 abbrev pub Refuses : (Reply → Type 0) → Bool → Refusal → Type 0
 Refuses Rule takes_none refusal =
     ((refusal ≡ Memory) × (takes_none ≡ false)) ⊎ Rule (Err refusal)
 
--- what a fault of reading a term or annotations is told as
+-- the refusal for a fault in reading a term or annotations
 abbrev pub reading_refusal : ReadFault → Refusal
 reading_refusal DeepText = Deep
 reading_refusal NoTerm = Term
 reading_refusal NoMemory = Memory
 
--- Whether a refusal tells a fault of the checker. The name in it may be so long that memory is wanted to
--- write it.
+-- Whether a refusal reports a fault of the checker. The name in it may be so long that it takes
+-- memory to write it.
 abbrev pub is_fault : Refusal → Bool
 is_fault Memory = false
 is_fault Line = false
@@ -72,8 +72,8 @@ is_fault NoRedo = false
 is_fault Group = false
 is_fault NoGroup = false
 
--- A refusal is told behind what was there: its line, or, of a fault for whose name there is no memory, that
--- memory is wanted.
+-- A refusal is appended to the earlier bytes: its line or, if there is no memory for the name of a
+-- fault, the refusal for memory.
 abbrev pub TellsRefusal : List ℕ → List ℕ → Refusal → Type 0
 TellsRefusal before after refusal =
     (after ≡ before ++ line (refused refusal))

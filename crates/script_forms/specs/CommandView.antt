@@ -1,4 +1,4 @@
--- A command that was read, as its form.
+-- A parsed command, as its form.
 use Rattle.script_forms.specs.Form as f
 use Rattle.script_forms.specs.declared.command.Command.{Command}
 use Rattle.script_forms.specs.declared.command.Command.TheVariants.{Tree, Copy, Drop, Put, Annotate, Module, Unload, Apply, Undo, Redo, Begin, Commit, Abandon, Show, Trees, Modules, Text, History, Dump}

@@ -1,4 +1,4 @@
--- The forms of commands, as a command's bytes spell them.
+-- The forms of commands, as their bytes spell them.
 use Rattle.std.specs.Prelude.{ℕ, Bool, true, false, not, ◌||◌, ◌&&◌, nat_eq, nat_le, List, [], ◌∷◌, drop, codes, Some, None, Ok, Err, is_some, option_map, option_and_then, if◌then◌else◌}
 use Rattle.std.specs.declared.option.Option.{Option}
 use Rattle.std.specs.declared.result.Result.{Result}
@@ -14,26 +14,27 @@ use Rattle.session_steps.specs.Steps.{AreSteps}
 use Rattle.session_steps.specs.declared.TheConstants.{MAX_STEPS}
 
 pub data Form : Type 0 where
-  -- gives the name the tree that the text spells
+  -- sets the tree of the name to the term that the text spells
   tree : List ℕ → List ℕ → Form
-  -- gives the second name a copy of the tree of the first
+  -- sets the tree of the second name to a copy of that of the first
   copy : List ℕ → List ℕ → Form
-  -- takes the tree of the name away
+  -- removes the tree of the name
   drop_tree : List ℕ → Form
-  -- replaces the subterm at the path of the name's tree by what the text spells
+  -- replaces the subterm at the path of the name's tree by the term that the text spells
   put : List ℕ → List ℕ → List ℕ → Form
   -- replaces the annotations there by those that the text spells
   annotate : List ℕ → List ℕ → List ℕ → Form
-  -- gives the name the module that the text spells
+  -- sets the module of the name to the one that the text spells
   set_module : List ℕ → List ℕ → Form
-  -- takes the module of the name away
+  -- removes the module of the name
   unload : List ℕ → Form
-  -- applies the strategy that the text spells at the path of the name's tree, within so many steps
+  -- applies the strategy that the text spells at the path of the name's tree, within this many
+  -- steps
   apply : List ℕ → List ℕ → ℕ → List ℕ → Form
-  -- goes so many steps back, or forward
+  -- goes this many steps back, or forward
   undo : ℕ → Form
   redo : ℕ → Form
-  -- begins a group, makes what it changed one step, or takes that back
+  -- begins a group, makes its changes one step, or undoes them
   begin : Form
   commit : Form
   abandon : Form
@@ -47,16 +48,16 @@ pub data Form : Type 0 where
   module_text : List ℕ → Form
   -- counts the steps
   history : Form
-  -- gives a script that makes the contents again
+  -- writes a script that restores the contents
   dump : Form
 
--- ---- words, which blanks part: spaces, tabs, line feeds and carriage returns
+-- ---- words, separated by blanks: spaces, tabs, line feeds and carriage returns
 
--- the word in front, with nothing in it where there is none
+-- the first word, empty if there is none
 abbrev pub front_word : List ℕ → List ℕ
 front_word text = before_first is_blank (without_blanks text)
 
--- what stands behind the word in front
+-- the rest after the first word
 abbrev pub behind_word : List ℕ → List ℕ
 behind_word text = drop (position_or_len is_blank (without_blanks text)) (without_blanks text)
 
@@ -73,43 +74,43 @@ is_same word other = pointwise nat_eq word other
 
 -- ---- parts of forms
 
--- A form goes on with a word, and what that makes of the rest.
+-- A form that continues with a word, given what that makes of the rest.
 abbrev pub with_word : List ℕ → (List ℕ → List ℕ → Option Form) → Option Form
 with_word rest next = if has_word rest then next (front_word rest) (behind_word rest) else None
 
--- A form ends here.
+-- A form that ends here.
 abbrev pub ended : Form → List ℕ → Option Form
 ended form rest = if has_word rest then None else Some form
 
--- A form ends with a text: all from the first byte that isn't a blank on. It may be empty.
+-- A form that ends with a text: everything from the first byte that isn't a blank. It may be empty.
 abbrev pub last_text : List ℕ → List ℕ
 last_text rest = without_blanks rest
 
--- A form goes on with a path, and ends with a text.
+-- A form that continues with a path and ends with a text.
 abbrev pub with_path_and_text : (List ℕ → List ℕ → Form) → List ℕ → Option Form
 with_path_and_text form rest =
     option_map (λ path. form path (last_text (behind_word rest))) (path_of (front_word rest))
 
--- A form ends with a name.
+-- A form that ends with a name.
 abbrev pub last_name : List ℕ → Option (List ℕ)
 last_name rest =
     if has_word rest && not (has_word (behind_word rest)) then Some (front_word rest) else None
 
--- a number of steps, from 1 to 1,000,000, written as a part of a path is
+-- a number of steps, from 1 to 1,000,000, written as a number in a path is
 abbrev pub within_steps : ℕ → Option ℕ
 within_steps n = if nat_le 1 n && nat_le n MAX_STEPS then Some n else None
 
 abbrev pub steps_of : List ℕ → Option ℕ
 steps_of digits = option_and_then within_steps (part_of digits)
 
--- A form ends with a number of steps, which may be missing and is 1 then.
+-- A form that ends with a number of steps, which is 1 if it is missing.
 abbrev pub last_steps : List ℕ → Option ℕ
 last_steps rest =
     if has_word rest
     then (if has_word (behind_word rest) then None else steps_of (front_word rest))
     else Some 1
 
--- A keyword may come next, with a word behind it: that word, if it does, and what stands behind.
+-- An optional keyword followed by a word: that word, if the keyword comes next, and the rest.
 abbrev pub option_word : List ℕ → List ℕ → Option (List ℕ)
 option_word keyword rest =
     if is_same (front_word rest) keyword then Some (front_word (behind_word rest)) else None
@@ -118,29 +119,29 @@ abbrev pub behind_option : List ℕ → List ℕ → List ℕ
 behind_option keyword rest =
     if is_same (front_word rest) keyword then behind_word (behind_word rest) else rest
 
--- the path of a word, or the root where there is none
+-- the path of a word, or the root if there is none
 abbrev pub path_or_root : Option (List ℕ) → Option (List ℕ)
 path_or_root None = Some []
 path_or_root (Some word) = path_of word
 
--- the number of steps of a word, or this one where there is none
+-- the number of steps of a word, or this one if there is none
 abbrev pub steps_or : ℕ → Option (List ℕ) → Option ℕ
 steps_or steps None = Some steps
 steps_or steps (Some word) = steps_of word
 
--- A form ends with `at` and a path, which may both be missing.
+-- A form that ends with `at` and a path, both optional.
 abbrev pub last_place : List ℕ → Option (List ℕ)
 last_place rest =
     if has_word (behind_option (codes "at") rest) then None
     else path_or_root (option_word (codes "at") rest)
 
--- A form ends with `do` and a text.
+-- A form that ends with `do` and a text.
 abbrev pub with_do : (List ℕ → Form) → List ℕ → Option Form
 with_do form rest =
     if is_same (front_word rest) (codes "do") then Some (form (last_text (behind_word rest))) else None
 
--- A form goes on with `within` and a number of steps, which may both be missing, and ends with `do` and a
--- text.
+-- A form that continues with `within` and a number of steps, both optional, and ends with `do` and
+-- a text.
 abbrev pub with_budget : ℕ → (ℕ → List ℕ → Form) → List ℕ → Option Form
 with_budget steps form rest =
     option_and_then (λ n. with_do (form n) (behind_option (codes "within") rest))
@@ -170,7 +171,7 @@ module_form rest = with_word rest (λ name behind. Some (set_module name (last_t
 abbrev pub unload_form : List ℕ → Option Form
 unload_form rest = option_map unload (last_name rest)
 
--- Both `at` and `within`, in this order, may be missing.
+-- Both `at` and `within`, in this order, are optional.
 abbrev pub apply_form : ℕ → List ℕ → Option Form
 apply_form steps rest =
     with_word rest (λ name behind. option_and_then
@@ -183,7 +184,7 @@ text_form rest = option_map module_text (last_name rest)
 abbrev pub show_form : List ℕ → Option Form
 show_form rest = with_word rest (λ name behind. option_map (show name) (last_place behind))
 
--- the form that a keyword begins, by the budget of a command that names none
+-- the form that a keyword starts, given the budget of a command that names none
 abbrev pub form_with : ℕ → List ℕ → List ℕ → Option Form
 form_with steps keyword rest =
     if is_same keyword (codes "tree") then tree_form rest else
@@ -206,7 +207,7 @@ form_with steps keyword rest =
     if is_same keyword (codes "history") then ended history rest else
     if is_same keyword (codes "dump") then ended dump rest else None
 
--- the form of a command, without the blanks at its end, by that budget
+-- the form of a command, without the blanks at its end, given that budget
 abbrev pub form_of : ℕ → List ℕ → Option Form
 form_of steps command =
     let text = without_end is_blank command in form_with steps (front_word text) (behind_word text)
@@ -238,11 +239,11 @@ abbrev pub checked : Option Form → Result Form Refusal
 checked None = Err Line
 checked (Some form) = if has_labels form then Ok form else Err Name
 
--- What a command says. The steps are the budget of a command that names none.
+-- The meaning of a command's bytes. The number of steps is the budget of a command that names none.
 abbrev pub command_of : ℕ → List ℕ → Result Form Refusal
 command_of steps command = checked (form_of steps command)
 
--- the budget of a form, where it has one, is a number of steps
+-- the budget of a form, if it has one, is a number of steps
 abbrev pub HasBudget : Form → Type 0
 HasBudget (apply name path steps text) = AreSteps steps
 HasBudget form = Unit {0}
@@ -258,7 +259,7 @@ takes_no_memory_with word =
 abbrev pub takes_no_memory : List ℕ → Bool
 takes_no_memory command = takes_no_memory_with (front_word (without_end is_blank command))
 
--- the same of a form
+-- the same for a form
 abbrev pub is_without_memory : Form → Bool
 is_without_memory (tree name text) = false
 is_without_memory (copy name other) = false

@@ -1,11 +1,11 @@
--- What a command's first word begins.
+-- The forms that a command's first word starts.
 use Rattle.std.specs.Prelude.{ℕ, Bool, true, false, List, Some, None, option_map}
 use Rattle.std.specs.declared.option.Option.{Option}
 use Rattle.script_forms.specs.declared.keyword.Keyword.{Keyword}
 use Rattle.script_forms.specs.declared.keyword.Keyword.TheVariants.{Tree, Copy, Drop, Put, Annotate, Module, Unload, Apply, Undo, Redo, Begin, Commit, Abandon, Show, Trees, Modules, Text, History, Dump, Other}
 use Rattle.script_forms.specs.Form.{Form, undo, redo, begin, commit, abandon, trees, modules, history, dump, tree_form, copy_form, drop_form, put_form, annotate_form, module_form, unload_form, apply_form, text_form, show_form, last_steps, ended}
 
--- the form, by the budget of a command that names none, and by what stands behind the word
+-- the form, given the budget of a command that names none and the rest after the word
 abbrev pub form_behind : Keyword → ℕ → List ℕ → Option Form
 form_behind Tree steps rest = tree_form rest
 form_behind Copy steps rest = copy_form rest

@@ -15,8 +15,8 @@ use Rattle.script_forms.specs.Machine.{Reply, line}
 use Rattle.script_forms.specs.Answer.{ReplyInRun}
 use Rattle.script_forms.specs.Run.{Replied, Leads, out}
 
--- The commands, the flags and the history before them determine the replies, and so all that is
--- written and the history after them, by what primitives mean.
+-- The commands, the flags and the history before them determine the replies, and so everything that
+-- is written and the history after them, given the meaning of primitives.
 abbrev pub OneRun : Type 0
 OneRun =
     (meaning : Meaning) (stop : Bool) (steps : ℕ) (commands : List Handed) (flags : List Bool) (h : History)
@@ -25,8 +25,8 @@ OneRun =
 
 -- ---- dumps
 
--- A module text as a command can give it: white space stands at neither end, no line of it ends with a
--- carriage return, and none but the first begins a command.
+-- A module text that a command can give: it neither begins nor ends with white space, no line of it
+-- ends with a carriage return, and no line but the first begins a command.
 pub record IsCommandText (text : List ℕ) : Type 0 where
   pub front : prefix_len is_blank text ≡ 0
   pub end : suffix_len is_blank text ≡ 0
@@ -35,39 +35,41 @@ pub record IsCommandText (text : List ℕ) : Type 0 where
   pub goes_on : AllByRecursion (λ line. begins_command line ≡ false)
       (drop 1 (slice_split is_line_feed text))
 
--- Contents that a script can give again in a session with these primitives: their names are labels and
--- their trees terms, they are sound, each module text is one that a command can give, and no command of
--- their dump has over 65,536 bytes.
+-- Contents that a script can restore in a session with these primitives: their names are labels and
+-- their trees terms, they are sound, a command can give each module text, and no command of their
+-- dump is longer than 65,536 bytes.
 pub record CanBeGiven (primitives : Primitives) (c : Contents) : Type 0 where
   pub named : AreNamedTerms c
   pub sound : AreSound primitives c
   pub texts : (name : List ℕ) → IfSome (finmap.get c.modules name) IsCommandText
   pub short : AllByRecursion (λ command. length command ≤ MAX_COMMAND) (commands (dumped c))
 
--- Nothing is there now, and no group is open.
+-- The current contents are empty, and no group is open.
 pub record IsBare (h : History) : Type 0 where
   pub contents : h.now ≡ no_contents
   pub group : h.group ≡ None
 
--- in none of the commands a growth of memory was refused
+-- memory could grow in all of the commands
 abbrev pub AreClear : List Bool → Type 0
 AreClear flags = AllByRecursion (λ flag. flag ≡ false) flags
 
--- The contents are now c, and the answer to each command of its dump is `ok`.
+-- The current contents are c, and the answer to each command of the dump is `ok`.
 pub record GivesAgain (c : Contents) (g : History) (replies : List Reply) : Type 0 where
   pub contents : g.now ≡ c
   pub answers : out replies ≡ repeat (length (commands (dumped c))) (line (codes "ok"))
   pub accepted : count_by is_ok replies ≡ length (commands (dumped c))
   pub refused : count_by is_err replies ≡ 0
 
--- A dump reads back: on a session with nothing in it, whatever its settings, it gives the same contents.
+-- A dump reads back: on a session with empty contents, whatever its settings, it restores the same
+-- contents.
 abbrev pub DumpReadsBack : Type 0
 DumpReadsBack =
     (meaning : Meaning) (stop : Bool) (steps : ℕ) (c : Contents) (h g : History) (flags : List Bool) (replies : List Reply)
     → CanBeGiven h.primitives c → IsBare h → AreClear flags
     → Leads stop (ReplyInRun meaning steps) (handed (dumped c)) h g flags replies → GivesAgain c g replies
 
--- Such a run there is, on every such session: a dump is answered without a refused growth.
+-- Such a run exists on each such session: the dump is answered, and memory can grow in all its
+-- commands.
 abbrev pub DumpIsAnswered : Type 0
 DumpIsAnswered =
     (meaning : Meaning) (stop : Bool) (steps : ℕ) (c : Contents) (h : History) → CanBeGiven h.primitives c → IsBare h

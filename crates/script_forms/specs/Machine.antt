@@ -1,4 +1,4 @@
--- What is answered to each command, and the history after it.
+-- The reply to each command, and the history after it.
 use Rattle.std.specs.Prelude.{◌≡◌, ◌<◌, ◌≤◌, ◌⊎◌, ℕ, Bool, List, [], ◌∷◌, ◌++◌, length, codes, decimal, Ok, Err, MatchResult}
 use Rattle.std.specs.declared.result.Result.{Result}
 use Rattle.std.specs.List.{flat_map}
@@ -18,52 +18,52 @@ use Rattle.session_steps.specs.declared.refusal.Refusal.TheVariants.{Long, Term,
 use Rattle.script_commands.specs.Handed.{Handed, text as handed_text, long}
 use Rattle.script_forms.specs.Form.{Form, tree, copy, drop_tree, put, annotate, set_module, unload, apply, undo, redo, begin, commit, abandon, show, trees, modules, module_text, history, dump, command_of}
 
--- an accepted command: what it answers, its line feeds included, and the history after it
+-- an accepted command: its answer, line feeds included, and the history after it
 pub record Accepted : Type 0 where
   pub answer : List ℕ
   pub history : History
 
--- A command is accepted, or refused; a refused command leaves the history.
+-- A command is accepted or refused; a refused command leaves the history unchanged.
 abbrev pub Reply : Type 0
 Reply = Result Accepted Refusal
 
 abbrev pub line : List ℕ → List ℕ
 line text = text ++ 10 ∷ []
 
--- What a text gives that is to spell something: what it spells. One with over 1,000 brackets open
--- at one place is refused before it is read.
+-- What a text is read as, by a relation on its bytes. A text with over 1,000 brackets open at one
+-- place is refused before it is read.
 abbrev pub ReadAs : {X : Type 0} → (List ℕ → X → Type 0) → List ℕ → Result X Refusal → Type 0
 ReadAs Spelled text (Ok x) = (nesting text ≤ MAX_NESTING) × Spelled text x
 ReadAs Spelled text (Err refusal) =
     ((refusal ≡ Deep) × (MAX_NESTING < nesting text))
     ⊎ ((refusal ≡ Term) × (nesting text ≤ MAX_NESTING) × ((x : _) → Spelled text x → ⊥))
 
--- what is told at a history, which stays
+-- an answer that leaves the history unchanged
 abbrev pub told_of : History → List ℕ → Accepted
 told_of h answer = record { answer = answer; history = h }
 
 abbrev pub ok_with : History → Accepted
 ok_with h = told_of h (line (codes "ok"))
 
--- a step of the session that is answered `ok`
+-- a step of the session, answered with `ok`
 abbrev pub done : session.Outcome → Reply
 done (Ok h) = Ok (ok_with h)
 done (Err refusal) = Err refusal
 
--- what comes of it is answered `ok`, or is the refusal
+-- the outcome is answered with `ok`, or is the refusal
 abbrev pub Told : (session.Outcome → Type 0) → Reply → Type 0
 Told Comes reply = (outcome : session.Outcome) × Comes outcome × (reply ≡ done outcome)
 
--- what is shown of a place, if it is there
+-- the answer that shows a place, if it exists
 abbrev pub shown : History → Result session.Place Refusal → Reply
 shown h (Ok place) = Ok (told_of h (line (print place.part)))
 shown h (Err refusal) = Err refusal
 
--- a word, and a space and a name for each of these, on one line
+-- a word, followed by a space and a name for each of these, on one line
 abbrev pub listed : List ℕ → List (List ℕ) → List ℕ
 listed word names = line (word ++ flat_map (λ name. 32 ∷ name) names)
 
--- what is shown of a module's text, if it is there
+-- the answer that shows a module's text, if it exists
 abbrev pub shown_text : History → Result (List ℕ) Refusal → Reply
 shown_text h (Ok text) = Ok (told_of h (line text))
 shown_text h (Err refusal) = Err refusal
@@ -79,8 +79,8 @@ told h answer = Ok (told_of h answer)
 abbrev pub Is : Reply → Reply → Type 0
 Is is reply = reply ≡ is
 
--- The reply to a form, at a history, where primitives mean this. What a command finds in the session comes
--- before its text.
+-- The reply to a form at a history, given the meaning of primitives. What a command finds in the
+-- session comes before its text.
 abbrev pub Replies : Meaning → Form → History → Reply → Type 0
 Replies meaning (tree name text) h =
     Told (session.Given (ReadAs Spells text) (λ t. session.ComesTo (session.set_tree name t) h))
@@ -108,18 +108,18 @@ Replies meaning (module_text name) h = Is (shown_text h (session.text_of h.now n
 Replies meaning history h = Is (told h (counted h))
 Replies meaning dump h = Is (told h (dumped h.now))
 
--- The reply to a text that is a command. The steps are the budget where it names none.
+-- The reply to a text that is a command. The number of steps is its budget if it names none.
 abbrev pub ReplyToText : Meaning → ℕ → List ℕ → History → Reply → Type 0
 ReplyToText meaning steps command h reply =
     MatchResult (command_of steps command) (λ form. Replies meaning form h reply) (λ refusal. reply ≡ Err refusal)
 
--- the reply to a command as it is handed out
+-- the reply to a command as the splitter gives it
 abbrev pub ReplyTo : Meaning → ℕ → Handed → History → Reply → Type 0
 ReplyTo meaning steps (handed_text command) h reply = ReplyToText meaning steps command h reply
 ReplyTo meaning steps long h reply = reply ≡ Err Long
 
--- What a run asks of each reply: how the command as it is handed out, whether a growth of memory was
--- refused in it, and the history before it stand to the reply.
+-- A condition on each reply of a run: it relates the command as the splitter gives it, whether
+-- memory couldn't grow, and the history before it to the reply.
 abbrev pub Replying : Type 1
 Replying = Handed → Bool → History → Reply → Type 0
 
@@ -130,14 +130,14 @@ history_after h (Err refusal) = h
 
 -- ---- how replies are written
 
--- What is told behind a refusal's number: its word; of a fault the kind, the name as terms are printed, and
--- the two numbers.
+-- What follows a refusal's number: its word; for a fault also the kind, the name as terms are
+-- printed, and the two numbers.
 abbrev pub reason : Refusal → List ℕ
 reason (Check kind name n m) =
     kind_word kind ++ 32 ∷ print_symbol name ++ 32 ∷ decimal n ++ 32 ∷ decimal m
 reason refusal = word_of refusal
 
--- a refusal's number and why
+-- a refusal's number and reason
 abbrev pub refused : Refusal → List ℕ
 refused refusal = codes "refused " ++ decimal (number_of refusal) ++ 32 ∷ reason refusal
 

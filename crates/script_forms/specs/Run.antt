@@ -1,4 +1,4 @@
--- What a run of a script writes, and the history that it leaves.
+-- What a run of a script writes, and the history afterwards.
 use Rattle.std.specs.Prelude.{◌≡◌, ◌<◌, ◌≤◌, ◌⊎◌, ◌&&◌, ℕ, Bool, true, false, List, [], ◌∷◌, ◌++◌, length, count_by, is_ok, is_err}
 use Rattle.std.specs.declared.option.Option.{Option}
 use Rattle.std.specs.Bool.{MatchBool}
@@ -8,9 +8,9 @@ use Rattle.session_steps.specs.History.{History}
 use Rattle.script_commands.specs.Handed.{Handed, handed, completed}
 use Rattle.script_forms.specs.Machine.{Reply, Replying, history_after, written}
 
--- The replies to commands one after another, each at the history that the one before leaves. The
--- flag of each says whether a growth of memory was refused in it. Where a refusal stops the run, nothing
--- is replied behind the first.
+-- The replies to commands in order, each at the history that the one before leaves. The flag of
+-- each says whether memory couldn't grow. If a refusal stops the run, nothing after it is replied
+-- to.
 abbrev pub Replied : Bool → Replying → List Handed → List Bool → History → List Reply → Type 0
 Replied stop Rule [] [] h [] = Unit {0}
 Replied stop Rule (command ∷ commands) (flag ∷ flags) h (reply ∷ replies) =
@@ -22,7 +22,7 @@ Replied stop Rule [] (flag ∷ flags) h replies = ⊥
 Replied stop Rule (command ∷ commands) [] h replies = ⊥
 Replied stop Rule (command ∷ commands) (flag ∷ flags) h [] = ⊥
 
--- the history that all replies leave
+-- the history after all replies
 abbrev pub history_after_all : History → List Reply → History
 history_after_all h [] = h
 history_after_all h (reply ∷ replies) = history_after_all (history_after h reply) replies
@@ -31,7 +31,7 @@ history_after_all h (reply ∷ replies) = history_after_all (history_after h rep
 abbrev pub out : List Reply → List ℕ
 out replies = flat_map written replies
 
--- the last answer, or nothing where there is none
+-- the last answer, or nothing if there is none
 abbrev pub last_answer : List Reply → List ℕ
 last_answer [] = []
 last_answer (reply ∷ []) = written reply
@@ -41,14 +41,14 @@ abbrev pub one_if : Bool → ℕ
 one_if true = 1
 one_if false = 0
 
--- These commands lead from the history h to g by these replies.
+-- These commands lead from the history h to g with these replies.
 pub record Leads (stop : Bool) (Rule : Replying) (commands : List Handed) (h g : History) (flags : List Bool)
     (replies : List Reply) : Type 0 where
   pub replied : Replied stop Rule commands flags h replies
   pub history : g ≡ history_after_all h replies
 
--- The commands are answered, and their answers written: so many accepted, and so many refused. What is
--- written is known of a writer that tells what it holds.
+-- The commands are answered and their answers written: this many were accepted, and this many
+-- refused. What is written is known if the writer's bytes are.
 pub record Completes (stop : Bool) (Rule : Replying) (commands : List Handed) (h g : History)
     (old new : Option (List ℕ)) (yes no : ℕ) : Type 0 where
   pub flags : List Bool
@@ -58,14 +58,14 @@ pub record Completes (stop : Bool) (Rule : Replying) (commands : List Handed) (h
   pub accepted : yes ≡ count_by is_ok replies
   pub refused : no ≡ count_by is_err replies
 
--- The front of these bytes is written, and the rest of them is lost.
+-- A prefix of these bytes is written, and the rest is lost.
 pub record WritesFront (old new : Option (List ℕ)) (bytes lost : List ℕ) : Type 0 where
   pub kept : List ℕ
   pub all : bytes ≡ kept ++ lost
   pub written : Appends old new kept
 
--- The first commands are answered, and no other. Their answers are written, but perhaps for a
--- suffix of the last.
+-- Only the first commands are answered. Their answers are written, except perhaps for a suffix of
+-- the last.
 pub record BreaksOff (stop : Bool) (Rule : Replying) (commands : List Handed) (h g : History)
     (old new : Option (List ℕ)) : Type 0 where
   pub first : List Handed
@@ -79,10 +79,10 @@ pub record BreaksOff (stop : Bool) (Rule : Replying) (commands : List Handed) (h
   pub front : List ℕ
   pub last : last_answer replies ≡ front ++ lost
 
--- ---- whole runs, by what was read. Of a reader that doesn't tell its bytes, that is some text.
+-- ---- whole runs, given what was read; if the reader's bytes aren't known, that is some text
 
--- The script is answered, and was read to its end; or the run stopped at the refusal of a command that is
--- complete in what was read.
+-- The script is answered, and was read to its end; or the run stopped at the refusal of a command
+-- that is complete in what was read.
 pub record Answers (stop : Bool) (Rule : Replying) (h g : History) (left left' held held' : Option (List ℕ))
     (yes no : ℕ) : Type 0 where
   pub script : List ℕ
@@ -91,8 +91,8 @@ pub record Answers (stop : Bool) (Rule : Replying) (h g : History) (left left' h
   pub end : IsAtEnd left'
       ⊎ ((stop ≡ true) × (0 < no) × Completes stop Rule (completed script) h g held held' yes no)
 
--- A part of the script was read, of at least so many bytes, and its complete commands are answered; the
--- run didn't stop.
+-- A prefix of the script was read, of at least this many bytes, and its complete commands are
+-- answered; the run didn't stop.
 pub record AnswersPart (stop : Bool) (Rule : Replying) (h g : History) (left left' held held' : Option (List ℕ))
     (least : ℕ) : Type 0 where
   pub part : List ℕ
@@ -103,7 +103,7 @@ pub record AnswersPart (stop : Bool) (Rule : Replying) (h g : History) (left lef
   pub goes_on : stop ≡ true → no ≡ 0
   pub long : least ≤ length part
 
--- A part of the script was read, and the first of its commands are answered.
+-- A prefix of the script was read, and the first of its commands are answered.
 pub record AnswersFirst (stop : Bool) (Rule : Replying) (h g : History) (left left' held held' : Option (List ℕ)) : Type 0
   where
     pub part : List ℕ

@@ -18,34 +18,34 @@ use std::alloc::Global;
 use term_core::Label;
 use term_paths::{Path, PathFault, read_number, read_path};
 
-/// A command, with what it names.
+/// A command, with its operands.
 #[derive(Drop)]
 pub enum Command<'a> {
-    /// Gives the name the tree that the text spells.
+    /// Sets the tree of the name to the term of the text.
     Tree(Label, &'a [u8]),
-    /// Gives the second name a copy of the tree of the first.
+    /// Sets the tree of the second name to a copy of that of the first.
     Copy(Label, Label),
-    /// Takes the tree of the name away.
+    /// Removes the tree of the name.
     Drop(Label),
-    /// Replaces the subterm at the path by what the text spells.
+    /// Replaces the subterm at the path by the term of the text.
     Put(Label, Path, &'a [u8]),
-    /// Replaces the annotations there by those that the text spells.
+    /// Replaces the annotations there by those of the text.
     Annotate(Label, Path, &'a [u8]),
-    /// Gives the name the module that the text gives.
+    /// Sets the text of the name's module.
     Module(Label, &'a [u8]),
-    /// Takes the module of the name away.
+    /// Removes the module of the name.
     Unload(Label),
-    /// Applies the strategy that the text gives at the path, within so many steps, from 1 to 1,000,000.
+    /// Applies the strategy of the text at the path, within this many steps, from 1 to 1,000,000.
     Apply(Label, Path, u32, &'a [u8]),
-    /// Goes so many steps back.
+    /// Goes this many steps back.
     Undo(u32),
-    /// Goes so many steps forward.
+    /// Goes this many steps forward.
     Redo(u32),
     /// Begins a group.
     Begin,
-    /// Makes what a group changed one step.
+    /// Makes the changes of a group one step.
     Commit,
-    /// Takes back what a group changed.
+    /// Undoes the changes of a group.
     Abandon,
     /// Shows the subterm at the path.
     Show(Label, Path),
@@ -57,16 +57,16 @@ pub enum Command<'a> {
     Text(Label),
     /// Counts the steps.
     History,
-    /// Gives a script that makes the contents again.
+    /// Writes a script that restores the contents.
     Dump,
 }
 
 impl<'a> Command<'a> {
-    /// Reads a command. Its form is tested before its names. `undo`, `redo`, `begin` and `abandon` take
-    /// no memory. The steps, from 1 to 1,000,000, are the budget of a command that names none.
+    /// Reads a command. Its form is tested before its names. `undo`, `redo`, `begin` and `abandon`
+    /// take no memory. `steps`, from 1 to 1,000,000, is the budget of a command that names none.
     ///
-    /// Errors: `Line` where the command has no form of those above; `Name` where a name is no word or has
-    /// more than 64 bytes; `Memory` where a growth of memory is refused.
+    /// Errors: `Line` if the command has none of the forms above; `Name` if a name is no word or is
+    /// longer than 64 bytes; `Memory` if memory can't grow.
     pub fn read(alloc: Global, command: &'a [u8], steps: u32) -> Result<Command<'a>, Refusal>
         requires { AreSteps steps }
         ensures ok { IfOk result (λ read. command_of steps command.now ≡ Ok (form_seen read)) }
@@ -83,7 +83,7 @@ impl<'a> Command<'a> {
     }
 }
 
-// The form that the word begins. The steps are the budget of one that names none.
+// The form that this keyword starts. `steps` is the budget of a form that names none.
 fn read_form(
     alloc: Global,
     keyword: Keyword,
@@ -134,7 +134,7 @@ fn read_tree(alloc: Global, rest: &[u8]) -> Result<Command<'_>, Refusal>
     Ok(Command::Tree(name, text))
 }
 
-/// The name and the text of a command `tree`, whose keyword stands before `rest`.
+/// The name and the text of a command `tree`, given what follows its keyword.
 ///
 /// Errors: those of `Command::read`.
 #[inline(always)]
@@ -151,8 +151,8 @@ pub fn read_name_and_text(alloc: Global, rest: &[u8]) -> Result<(Label, &[u8]), 
     Ok((name, behind_blanks(rest)))
 }
 
-/// What stands behind the keyword `tree`, where the command begins with it, and not with blanks. Most other
-/// commands are told by their first byte.
+/// What follows the keyword `tree`, if the command begins with it and not with blanks. The first
+/// byte rules out most other commands.
 pub fn behind_tree(command: &[u8]) -> Option<&[u8]>
     ensures { IfSome result (λ rest.
         (front_word (without_end is_blank command.now) ≡ codes "tree")
@@ -169,7 +169,7 @@ pub fn behind_tree(command: &[u8]) -> Option<&[u8]>
     Some(rest)
 }
 
-// Whether no word goes on with this text.
+// Whether a word ends before this text.
 fn ends_word(rest: &[u8]) -> bool
     ensures { result ≡ true → position_or_len is_blank rest.now ≡ 0 }
 {
@@ -207,7 +207,7 @@ fn read_put(alloc: Global, rest: &[u8]) -> Result<Command<'_>, Refusal>
     Ok(Command::Put(name, path, text))
 }
 
-/// The name, the path and the text of a command `put`, whose keyword stands before `rest`.
+/// The name, the path and the text of a command `put`, given what follows its keyword.
 ///
 /// Errors: those of `Command::read`.
 pub fn read_put_parts(alloc: Global, rest: &[u8]) -> Result<(Label, Path, &[u8]), Refusal>
@@ -225,7 +225,7 @@ pub fn read_put_parts(alloc: Global, rest: &[u8]) -> Result<(Label, Path, &[u8])
     Ok((name, path, behind_blanks(rest)))
 }
 
-/// What stands behind the keyword `put`, where the command begins with it, and not with blanks.
+/// What follows the keyword `put`, if the command begins with it and not with blanks.
 pub fn behind_put(command: &[u8]) -> Option<&[u8]>
     ensures { IfSome result (λ rest.
         (front_word (without_end is_blank command.now) ≡ codes "put")
@@ -333,7 +333,7 @@ fn read_last_name(alloc: Global, rest: &[u8]) -> Result<Label, Refusal>
     read_label(alloc, name)
 }
 
-// The path of a word, or the root where there is none.
+// The path of a word, or the root if there is none.
 fn read_place(alloc: Global, word: Option<&[u8]>) -> Result<Path, Refusal>
     ensures ok { IfOk result (λ path. path_or_root (option_copied word.entry) ≡ Some path) }
     ensures refused { IfErr result (λ refusal. (refusal ≡ Refusal.Memory)
@@ -357,7 +357,7 @@ fn read_path_word(alloc: Global, word: &[u8]) -> Result<Path, Refusal>
     }
 }
 
-// A number of steps at the end of a form, which may be missing and is 1 then.
+// A number of steps at the end of a form; 1 if it is missing.
 fn read_steps(rest: &[u8]) -> Result<u32, Refusal>
     ensures ok { IfOk result (λ steps. last_steps rest.now ≡ Some steps) }
     ensures refused { IfErr result (λ refusal. (refusal ≡ Refusal.Line)
@@ -373,7 +373,7 @@ fn read_steps(rest: &[u8]) -> Result<u32, Refusal>
     read_steps_word(word)
 }
 
-// The number of steps of a word, or this one where there is none.
+// The number of steps of a word, or `steps` if there is none.
 fn read_budget(word: Option<&[u8]>, steps: u32) -> Result<u32, Refusal>
     requires { AreSteps steps }
     ensures ok { IfOk result (λ n. steps_or steps (option_copied word.entry) ≡ Some n) }
@@ -432,7 +432,7 @@ fn read_label(alloc: Global, name: &[u8]) -> Result<Label, Refusal>
 
 // ---- words
 
-// The text behind the blanks in front. Mostly there is one, so the first is looked at alone.
+// The text after its leading blanks. Usually there is one, so the first is tested alone.
 fn behind_blanks(text: &[u8]) -> &[u8]
     ensures { result.now ≡ without_blanks text.now }
 {
@@ -455,7 +455,7 @@ fn blanks_at_end(text: &[u8]) -> usize
     text.iter().rev().take_while(|b| is_blank(**b)).count()
 }
 
-// The first word of a text, with nothing in it where there is none, and what stands behind it.
+// The first word of a text, empty if there is none, and what follows it.
 fn split_word(text: &[u8]) -> (&[u8], &[u8])
     ensures word { result.0.now ≡ front_word text.now }
     ensures behind { result.1.now ≡ behind_word text.now }
@@ -464,7 +464,8 @@ fn split_word(text: &[u8]) -> (&[u8], &[u8])
     text.split_at(word_len(text))
 }
 
-// Where this keyword comes next, the word behind it; and what stands behind, or all where it doesn't.
+// If this keyword comes next: the word after it, and what follows that; else nothing, and the whole
+// text.
 fn split_option<'a>(keyword: &[u8], rest: &'a [u8]) -> (Option<&'a [u8]>, &'a [u8])
     ensures word { option_copied result.0 ≡ option_word keyword.now rest.now }
     ensures behind { result.1.now ≡ behind_option keyword.now rest.now }

@@ -4,52 +4,33 @@ ghost use Rattle.std.specs.Prelude.{◌≡◌, ℕ, List};
 ghost use Rattle.script_forms.specs.Form.{form_with, takes_no_memory_with};
 ghost use Rattle.script_forms.specs.KeywordView.{form_behind, is_without_memory_behind};
 
-/// What a command begins with.
+/// The first word of a command.
 #[derive(Clone, Copy)]
 pub enum Keyword {
-    /// `tree`
     Tree,
-    /// `copy`
     Copy,
-    /// `drop`
     Drop,
-    /// `put`
     Put,
-    /// `annotate`
     Annotate,
-    /// `module`
     Module,
-    /// `unload`
     Unload,
-    /// `apply`
     Apply,
-    /// `undo`
     Undo,
-    /// `redo`
     Redo,
-    /// `begin`
     Begin,
-    /// `commit`
     Commit,
-    /// `abandon`
     Abandon,
-    /// `show`
     Show,
-    /// `trees`
     Trees,
-    /// `modules`
     Modules,
-    /// `text`
     Text,
-    /// `history`
     History,
-    /// `dump`
     Dump,
-    /// a word that begins no command
+    /// Any word that starts no command.
     Other,
 }
 
-/// Tells the first word of a command.
+/// The keyword that this word is.
 pub(crate) fn keyword_of(word: &[u8]) -> Keyword
     ensures form { (steps : ℕ) → (rest : List ℕ)
         → form_with steps word.now rest ≡ form_behind result steps rest }

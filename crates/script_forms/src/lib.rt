@@ -1,5 +1,5 @@
-//! The commands of scripts and what is answered to them: their forms, read from text; how answers are told; where
-//! scripts come from and answers go.
+//! The commands of scripts and their answers: parsing the forms of commands, writing refusals, and
+//! where scripts come from and answers go.
 #![tactic(auto)]
 
 mod command;

@@ -9,9 +9,9 @@ ghost use Rattle.script_forms.specs.Machine.{line, listed};
 use aterm_text::print;
 use term_core::{Label, NoMemory, Term};
 
-/// Appends a tree, as terms are printed, on a line of its own.
+/// Appends a printed tree as a line.
 ///
-/// Errors: `NoMemory` where a growth of memory is refused; the answer is as before then.
+/// Errors: `NoMemory` if memory can't grow; the answer is then unchanged.
 pub fn append_shown(tree: &Term, answer: &mut Vec<u8>) -> Result<(), NoMemory>
     ensures ok { OnOk result (answer.new.items ≡ answer.old.items ++ line (print_of tree.now)) }
     ensures err { OnErr result (answer.new.items ≡ answer.old.items) }
@@ -25,7 +25,7 @@ pub fn append_shown(tree: &Term, answer: &mut Vec<u8>) -> Result<(), NoMemory>
 
 /// Appends a text and a line feed.
 ///
-/// Errors: `NoMemory` where a growth of memory is refused; the answer is as before then.
+/// Errors: `NoMemory` if memory can't grow; the answer is then unchanged.
 pub fn append_line(text: &[u8], answer: &mut Vec<u8>) -> Result<(), NoMemory>
     ensures ok { OnOk result (answer.new.items ≡ answer.old.items ++ line text.now) }
     ensures err { OnErr result (answer.new.items ≡ answer.old.items) }
@@ -37,7 +37,7 @@ pub fn append_line(text: &[u8], answer: &mut Vec<u8>) -> Result<(), NoMemory>
     end_line(start, answer)
 }
 
-// Ends the line that begins at `start` where there is memory for it, else takes the line away.
+// Ends the line that begins at `start` if there is memory for it, else removes the line.
 fn end_line(start: usize, answer: &mut Vec<u8>) -> Result<(), NoMemory>
     requires { start ≤ length answer.old.items }
     ensures ok { OnOk result (answer.new.items ≡ line answer.old.items) }
@@ -52,9 +52,9 @@ fn end_line(start: usize, answer: &mut Vec<u8>) -> Result<(), NoMemory>
     Ok(())
 }
 
-/// Appends a word and the names, on one line.
+/// Appends a word and the names as one line.
 ///
-/// Errors: `NoMemory` where a growth of memory is refused; the answer is as before then.
+/// Errors: `NoMemory` if memory can't grow; the answer is then unchanged.
 pub fn list_names(word: &[u8], names: &[Label], answer: &mut Vec<u8>) -> Result<(), NoMemory>
     ensures ok { OnOk result (answer.new.items ≡ answer.old.items ++ listed word.now names.now) }
     ensures err { OnErr result (answer.new.items ≡ answer.old.items) }

@@ -9,15 +9,15 @@ use crate::source::{Counted, Failed, MAX_TRIES};
 use std::alloc::Global;
 use std::io::{ErrorKind, Write};
 
-/// What answers are written to.
+/// A sink that answers are written to.
 pub trait Sink {
-    // the bytes that it took, where they are told
+    // the bytes that it took, if known
     ghost held: { Self → Option (List ℕ) };
 
     // how often a write or a flush failed
     ghost failed: { Self → ℕ };
 
-    /// Takes a front of the bytes, and answers how many: at least one where there is one.
+    /// Takes a prefix of the bytes and returns its length: at least 1 if there are bytes.
     fn write(&mut self, bytes: &[u8]) -> Result<usize, Failed>
         requires { failed self.old + 1 < 2 ^ 64 }
         ensures within { IfOk result (λ n. n ≤ length bytes.now) }
@@ -28,7 +28,7 @@ pub trait Sink {
         ensures err { OnErr result (Keeps (held self.old) (held self.new)) }
         ensures count { OnErr result (failed self.new ≡ failed self.old + 1) };
 
-    /// Hands on what it took and may still have with it.
+    /// Passes on what it took and may still buffer.
     fn flush(&mut self) -> Result<(), Failed>
         requires { failed self.old + 1 < 2 ^ 64 }
         ensures keeps { Keeps (held self.old) (held self.new) }
@@ -40,7 +40,7 @@ pub trait Sink {
         ensures { result ≡ failed self.now };
 }
 
-/// Answers that are kept in memory. A write fails where a growth of memory is refused.
+/// Answers that are held in memory. A write fails if memory can't grow.
 #[derive(Drop)]
 pub struct Held {
     bytes: Vec<u8>,
@@ -48,7 +48,7 @@ pub struct Held {
 }
 
 impl Held {
-    /// No bytes. It takes no memory.
+    /// An empty buffer. It takes no memory.
     pub fn new(alloc: Global) -> Held
         ensures bytes { ⟦<Held as Sink>⟧.held result ≡ Some [] }
         ensures failures { ⟦<Held as Sink>⟧.failed result ≡ 0 }
@@ -91,7 +91,7 @@ impl Sink for Held {
     }
 }
 
-/// A write that takes none of some bytes counts as one that failed.
+/// A write that takes none of some bytes counts as failed.
 impl<W: Write> Sink for Counted<W> {
     ghost held = { λ c. W.contents c.inner };
 

@@ -7,13 +7,13 @@ ghost use Rattle.std.specs.Io.KnownBytes.{Consumes, IsAtEnd, Keeps};
 
 use std::io::{ErrorKind, Read};
 
-/// A read or a write failed. It moved no byte.
+/// A read or a write failed. It transferred no byte.
 #[derive(Clone, Copy, Debug, PartialEq, Eq)]
 pub struct Failed;
 
-/// What a script is read from.
+/// A source that scripts are read from.
 pub trait Source {
-    // the bytes that are left, where they are told
+    // the bytes that are left, if known
     ghost left: { Self → Option (List ℕ) };
 
     // how often a read failed
@@ -35,14 +35,13 @@ pub trait Source {
         ensures { result ≡ failed self.now };
 }
 
-/// A script that lies in memory. No read of it fails.
+/// A script in memory. No read of it fails.
 #[derive(Clone, Copy)]
 pub struct Bytes<'a> {
     rest: &'a [u8],
 }
 
 impl<'a> Bytes<'a> {
-    /// These bytes.
     pub fn new(bytes: &'a [u8]) -> Bytes<'a>
         ensures { ⟦<Bytes<'a> as Source>⟧.left result ≡ Some bytes.now }
     {
@@ -68,8 +67,9 @@ impl<'a> Source for Bytes<'a> {
     }
 }
 
-/// A reader or writer of the system, with the count of its failures. It tells what the reader or
-/// writer tells: of memory all bytes, of files and streams of the system none.
+/// A reader or writer of the system, with the count of its failures. The contracts know as many
+/// bytes as those of the reader or writer do: all bytes of memory, none of the system's files and
+/// streams.
 #[derive(Drop)]
 pub struct Counted<T> {
     pub(crate) inner: T,
@@ -77,7 +77,7 @@ pub struct Counted<T> {
 }
 
 impl<T> Counted<T> {
-    /// One that didn't fail yet.
+    /// One that hasn't failed yet.
     pub fn new(inner: T) -> Counted<T>
         ensures failures { result.failures ≡ 0 }
         ensures inner { result.inner ≡ inner }
@@ -86,7 +86,7 @@ impl<T> Counted<T> {
     }
 }
 
-/// The most times that a read or a write is tried again that was interrupted.
+/// How often an interrupted read or write is retried at most.
 pub const MAX_TRIES: u64 = 1_000_000_000;
 
 impl<R: Read> Source for Counted<R> {

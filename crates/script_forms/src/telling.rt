@@ -1,4 +1,4 @@
-//! Refusals, told in an answer.
+//! Writing refusals into an answer.
 
 ghost use Rattle.std.specs.Prelude.{◌≡◌, ◌≤◌, ◌+◌, ◌++◌, ◌∷◌, [], OnOk, OnErr, true, false, codes, decimal, vec_capacity, vec_len};
 ghost use Rattle.aterm_text.specs.Printed.{print_name as name_printed};
@@ -14,11 +14,11 @@ use session_steps::Refusal;
 use strategy_check::Kind;
 use term_core::{Name, NoMemory};
 
-/// The bytes that the answer's buffer has to spare, so that a refusal always has room.
+/// The spare bytes of the answer's buffer, so that a refusal always has room.
 pub const ANSWER_ROOM: usize = 128;
 
-/// Tells a refusal behind what the answer holds, and gives `false`, as no command was accepted. Where there is no
-/// memory for a name in it, that is told.
+/// Appends a refusal to the answer, and returns `false`, since no command was accepted. If there is
+/// no memory for a name in it, the refusal written is the one for memory.
 #[inline(never)]
 pub fn refuse(answer: &mut Vec<u8>, refusal: &Refusal) -> bool
     requires { vec_len answer.old + ANSWER_ROOM ≤ vec_capacity answer.old }
@@ -33,8 +33,8 @@ pub fn refuse(answer: &mut Vec<u8>, refusal: &Refusal) -> bool
     false
 }
 
-// Appends the line of a refusal. Only one that tells a fault may want memory, for the name in it; where
-// that is refused, the answer is as before.
+// Appends the line of a refusal. Only one that reports a fault may need memory, for the name in it;
+// if that can't grow, the answer is unchanged.
 fn append_refusal(answer: &mut Vec<u8>, refusal: &Refusal) -> Result<(), NoMemory>
     requires { vec_len answer.old + ANSWER_ROOM ≤ vec_capacity answer.old }
     ensures ok { OnOk result (answer.new.items ≡ answer.old.items ++ line (refused_text refusal.now)) }
@@ -56,7 +56,7 @@ fn append_refusal(answer: &mut Vec<u8>, refusal: &Refusal) -> Result<(), NoMemor
     told
 }
 
-// Appends the line of a refusal that tells no fault, which the room to spare always has place for.
+// Appends the line of a refusal that reports no fault. The spare bytes always have room for it.
 fn append_short(answer: &mut Vec<u8>, refusal: &Refusal)
     requires room { vec_len answer.old + ANSWER_ROOM ≤ vec_capacity answer.old }
     requires short { is_fault refusal.now ≡ false }
@@ -68,7 +68,7 @@ fn append_short(answer: &mut Vec<u8>, refusal: &Refusal)
     answer.extend_from_slice(b"\n").unwrap();
 }
 
-// The number of a refusal, for which there is room.
+// Appends the number of a refusal, for which there is room.
 fn append_head(answer: &mut Vec<u8>, refusal: &Refusal)
     requires { vec_len answer.old + ANSWER_ROOM ≤ vec_capacity answer.old }
     ensures text { answer.new.items
@@ -84,7 +84,7 @@ fn append_head(answer: &mut Vec<u8>, refusal: &Refusal)
     answer.extend_from_slice(b" ").unwrap();
 }
 
-// Appends what a fault is, and ends the line.
+// Appends the description of a fault and ends the line.
 fn append_fault(
     answer: &mut Vec<u8>,
     kind: Kind,

@@ -1,4 +1,4 @@
-//! Writing an answer whole.
+//! Writing a whole answer.
 #![tactic(auto, using(crate::proofs::WriteLemmas::known_bytes))]
 
 ghost use Rattle.std.specs.Prelude.{◌≡◌, ◌<◌, ◌+◌, ◌^◌, ℕ, List, length, OnOk, OnErr};
@@ -8,7 +8,7 @@ ghost use Rattle.script_forms.specs.Run.{WritesFront};
 use crate::sink::Sink;
 use crate::source::Failed;
 
-/// Writes all of the bytes. After a failure a front of them is written and the rest is lost.
+/// Writes all of the bytes. After a failure a prefix of them is written and the rest is lost.
 pub fn write_whole<O: Sink>(sink: &mut O, bytes: &[u8]) -> Result<(), Failed>
     requires { O.failed sink.old + 1 < 2 ^ 64 }
     ensures ok { OnOk result (Appends (O.held sink.old) (O.held sink.new) bytes.now) }

@@ -1,4 +1,4 @@
--- What applying a strategy in a store says of the history.
+-- What applying a strategy in a store means for the history.
 use Rattle.std.proofs.Common.{◌≡◌, ◌≤◌, ◌+◌, ◌⊎◌, ℕ, List, length, Option, Some, None, IfSome, option_and_then, Result, Ok, Err, IfErr, OnOk, OnErr, inl, inr, refl, sym, ap, subst, ◌∙◌, arith}
 use Rattle.std.specs.Prelude.{IsSomeAnd}
 use Rattle.std.specs.Option.{option_map_or}
@@ -29,7 +29,7 @@ use Rattle.session_steps.proofs.StepLemmas.{passed, stopped}
 use Rattle.session_steps.proofs.ActLemmas.{tree_held, seen_place, the_place}
 use Rattle.session_steps.proofs.CheckLemmas.{none_unread}
 
--- what is so of all primitives is so of these
+-- what holds for all primitives holds for these
 module _ {A : Type 0} (P : List Signature → Type 0) (ps : List Signature) where
   pub ok_at : (r : Result A Refusal) → OnOk r ((ps : List Signature) → P ps) → OnOk r (P ps)
   ok_at (Ok x) all = all ps
@@ -39,7 +39,7 @@ module _ {A : Type 0} (P : List Signature → Type 0) (ps : List Signature) wher
   err_at (Ok x) all = tt
   err_at (Err refusal) all = all ps
 
--- the program that is kept, where one is lent
+-- the cached program, if one is passed
 pub lent_program : (ps : List Signature) (texts : Texts) (kept : Option Program) (lent : Program) → Some lent ≡ kept → IsSomeAnd kept (IsProgram ps texts) → GivesProgram ps texts lent
 lent_program ps texts kept lent is there = let known : IsProgram ps texts lent = subst (λ (o : Option Program). IsSomeAnd o (IsProgram ps texts)) (sym is) there in known.gives
 
@@ -56,7 +56,7 @@ module _ (t : Timeline) (name path : List ℕ) (i : ℕ) (there : IsPlaceOf t.st
   below None e = tt
   below (Some u) e = omega (arith, low_at path there.0 u e, within)
 
-  -- what stands there fits in height at its level, in a store that is this one
+  -- the subterm there is low enough at its level, in a store equal to this one
   pub is_low : (s : Store) → s ≡ t.store → IsLow (subterm_in s.trees i path)
   is_low s same = subst (λ (x : Store). IsLow (subterm_in x.trees i path)) (sym same) (subst (λ (o : Option Tree). IsLow (option_and_then (λ t. at t path) o)) (sym there.3) (below (at there.0 path) refl))
 
@@ -116,7 +116,7 @@ module _ (meaning : Meaning) (ps : List Signature) (t : Timeline) (name path : L
           abbrev ending : Ending
           ending = applied (world_in meaning program ps) path whole steps here.tree
 
-          -- what comes of it in the slot is what comes of it at the place
+          -- the outcome in the slot is the outcome at the place
           in_slot : applied_in (world_in meaning program ps) t.store.trees i path whole steps ≡ ending
           in_slot = ap (λ (o : Option Tree). option_map_or (applied (world_in meaning program ps) path whole steps) o fails) there.3
 
@@ -136,7 +136,7 @@ module _ (meaning : Meaning) (ps : List Signature) (t : Timeline) (name path : L
               (passed (given_by ending) (λ tree. ChangesTo (with_tree (contents t.store) name tree) now) gives.tree (Ok (unfolded ps n)) (sym (ap given_by in_slot) ∙ gives.given)
               (ap Ok (done ∙ ap (λ (c : Contents). changed c now) then)))
 
-          -- what a change by it says
+          -- what a change by the outcome says
           module _ (r : Result (Unit {0}) Refusal) (n : Timeline) where
             pub apply_ok : OnOk r (GivesIn Ends i t.store n.store) → OnOk r (unfolded ps n ≡ changed (contents n.store) now) → OnOk r (Comes (Ok (unfolded ps n)))
             apply_ok gives done = by r gives done

@@ -1,4 +1,4 @@
-//! Strategies, applied to the trees of a session.
+//! Applying strategies to the trees of a session.
 
 ghost use Rattle.std.specs.Prelude.{◌≡◌, ◌≤◌, ◌+◌, ◌⊎◌, length, Ok, Err, IfOk, IfErr, IfSome, OnOk, OnErr};
 ghost use Rattle.term_core.specs.Size.{height};
@@ -22,9 +22,10 @@ use strategy_syntax::{Resolved, Strategy};
 use term_core::{Label, MAX_HEIGHT};
 use term_paths::Path;
 
-/// Applies the strategy that the text gives to the subterm at the path of the name's tree, in at most
-/// so many steps. The program of the modules is made where it isn't kept, and is kept then.
-// What was read is given to `drop`, and not left to the ends of scopes: there its drop is proved anew on each way out.
+/// Applies the strategy given as text to the subterm at the path of the name's tree, in at most
+/// `steps` steps. The program of the modules is compiled if it isn't cached, and is cached then.
+// What was read is passed to `drop` instead of being left to the ends of scopes: there its drop
+// would be proved anew on each way out.
 pub(crate) fn apply_strategy<M: Meaning>(
     timeline: &mut Timeline,
     primitives: &Primitives<M>,
@@ -109,8 +110,8 @@ fn apply_in_slot<M: Meaning>(
     })
 }
 
-// Applies a strategy in the tree of a slot, to a subterm that is low enough at its level. Where it gives a
-// term, the log leads back from there; else store and log stay.
+// Applies a strategy in the tree of a slot, to a subterm that is low enough at its level. If it
+// succeeds, the log leads back from the new tree; else store and log stay unchanged.
 fn apply_in<M: Meaning>(
     alloc: Global,
     program: &Program,
@@ -150,7 +151,7 @@ fn apply_in<M: Meaning>(
     }
 }
 
-// The strategy that a text gives.
+// Parses a strategy.
 fn read_strategy(alloc: Global, text: &[u8]) -> Result<Strategy, Refusal>
     ensures ok { IfOk result (λ s. ReadsAsStrategy text.now (Ok s)) }
     ensures refused { IfErr result (λ refusal. (refusal ≡ Refusal.Memory)
@@ -164,7 +165,7 @@ fn read_strategy(alloc: Global, text: &[u8]) -> Result<Strategy, Refusal>
     }
 }
 
-// The strategy with numbers for names, where the checker finds no fault in it beside the program.
+// Resolves the strategy's names to numbers, if the checker finds no fault in it, given the program.
 fn resolve_strategy<M: Meaning>(
     alloc: Global,
     program: &Program,

@@ -1,4 +1,4 @@
-//! Laws of undo and redo, over every history, and of the logs that a session keeps.
+//! Laws of undo and redo over every history, and of the logs that a session keeps.
 
 ghost use Rattle.std.specs.Prelude.{◌≡◌};
 ghost use Rattle.session_steps.specs.Laws.{ChangeIsToContents, ChangeIsUndone, GroupIsUndone, RedoTakesUndoBack, UndoTakesRedoBack};
@@ -8,8 +8,8 @@ use crate::Session;
 use prim_core::Meaning;
 use session_steps::Timeline;
 
-/// Each accepted change gives some contents by a change, and undo takes that, or a group of them, back and
-/// redo brings it again; each of the two takes back what the other did, over as many places, and gives back
+/// Each accepted change makes new contents; undo takes that change, or a group of changes, back,
+/// and redo makes it again. Undo and redo are inverse over the same number of steps, and restore
 /// the whole history.
 pub fn undo_and_redo_are_inverse()
     ensures contents { ChangeIsToContents }
@@ -19,8 +19,8 @@ pub fn undo_and_redo_are_inverse()
     ensures undo { UndoTakesRedoBack }
 {}
 
-/// The steps that a session keeps: its history is what they unfold to, and the log of each is compact. So what
-/// is kept of a change is what it replaced at places that don't lie within one another.
+/// The steps that a session keeps: they unfold to its history, and the log of each is compact. So a
+/// change costs only what it replaced, at disjoint places.
 pub fn steps_are_compact<M: Meaning>(session: &Session<M>) -> &Timeline
     ensures history { unfolded session.now.primitives result.now ≡ session.now }
     ensures compact { AllCompact (logs_of result.now) }

@@ -1,5 +1,4 @@
-//! Sessions: named trees and modules, with every accepted change kept so that it can be undone and
-//! redone.
+//! Sessions: named trees and modules, in which every accepted change can be undone and redone.
 #![tactic(auto)]
 
 mod applying;

@@ -1,4 +1,4 @@
-//! Sessions: contents that change in steps, which are undone and redone.
+//! Sessions: contents that change in steps, which can be undone and redone.
 
 ghost use Rattle.std.specs.Prelude.{◌≡◌, ◌≤◌, ◌↔◌, ◌⊎◌, ◌++◌, Ok, Err, vec_capacity, OnOk, OnErr, IfOk, IfErr, None, length, option_copied, if◌then◌else◌};
 ghost use Rattle.std.specs.FinMap as finmap;
@@ -18,13 +18,14 @@ use strategy_meaning::laws::heights_are_kept;
 use term_core::{Label, NoMemory, Term};
 use term_paths::Path;
 
-/// Named trees and modules, with the contents from before each step and those that were undone. A step
-/// is an accepted change, or a group of them. What is kept of a change is what it replaced.
+/// Named trees and modules, with the contents from before each step and those that were undone. A
+/// step is an accepted change, or a group of them. Of a change only what it replaced is kept.
 #[derive(Drop)]
 pub struct Session<M: Meaning> {
     primitives: Primitives<M>,
     timeline: Timeline,
-    // The program of the modules now, where it is known; undo, redo and abandon of module texts forget it.
+    // The program of the current modules, if it is known; undo, redo and abandon forget it where
+    // module texts may change.
     program: Option<Program>,
 }
 
@@ -48,8 +49,8 @@ impl<M: Meaning> Model for Session<M> {
 }
 
 impl<M: Meaning> Session<M> {
-    /// A session with these primitives and without trees and modules, in which nothing can be undone or
-    /// redone. It takes no memory.
+    /// A session with these primitives, without trees and modules, in which nothing can be undone
+    /// or redone. It takes no memory.
     pub fn new(alloc: Global, primitives: Primitives<M>) -> Session<M>
         ensures value { result ≡ empty_history primitives }
         ensures sound { HasSoundContents result }
@@ -69,7 +70,7 @@ impl<M: Meaning> Session<M> {
         &self.timeline
     }
 
-    /// The tree of this name, or `None` where there is none.
+    /// The tree of this name, or `None` if there is none.
     pub fn tree(&self, name: &Label) -> Option<&Term>
         ensures value { option_copied result ≡ finmap.get self.now.now.trees name.now }
         ensures sound { HasSoundContents self.now }
@@ -85,7 +86,7 @@ impl<M: Meaning> Session<M> {
         self.timeline.tree_names()
     }
 
-    /// The text of the module of this name, or `None` where there is none.
+    /// The text of the module of this name, or `None` if there is none.
     pub fn module_text(&self, name: &Label) -> Option<&[u8]>
         ensures value { option_copied result ≡ finmap.get self.now.now.modules name.now }
         ensures sound { HasSoundContents self.now }
@@ -101,8 +102,8 @@ impl<M: Meaning> Session<M> {
         self.timeline.module_names()
     }
 
-    /// How many steps there are to undo, and how many to redo. In a group these are those from
-    /// outside it.
+    /// The number of steps that can be undone, and of those that can be redone. In a group these
+    /// are the numbers from outside it.
     pub fn counts(&self) -> (u64, u64)
         ensures undo { result.0 ≡ length self.now.past }
         ensures redo { result.1 ≡ length self.now.later }
@@ -111,9 +112,10 @@ impl<M: Meaning> Session<M> {
         (self.timeline.past() as u64, self.timeline.later() as u64)
     }
 
-    /// Appends a line for each tree, in byte order of the names: `tree`, the name and the tree. Where
-    /// there are modules, a group of commands follows that gives them again: `module`, the name and the
-    /// text. Where a growth of memory is refused, `out` is as before. Its capacity never shrinks.
+    /// Appends a line for each tree, in byte order of the names: `tree`, the name and the tree. If
+    /// there are modules, a group of commands follows that restores them, with `module`, the name
+    /// and the text of each. If memory can't grow, `out` is unchanged, except that its capacity may
+    /// have grown.
     pub fn dump(&self, out: &mut Vec<u8>) -> Result<(), NoMemory>
         ensures ok { OnOk result (out.new.items ≡ out.old.items ++ dumped self.now.now) }
         ensures terms { OnOk result (AreNamedTerms self.now.now) }
@@ -124,11 +126,11 @@ impl<M: Meaning> Session<M> {
         self.timeline.dump(out)
     }
 
-    /// Gives the name this tree, also where it has one. That is a step, which can be undone, and
-    /// nothing can be redone after it; in a group it is part of the group's step. The tree has to fit
-    /// at level 0, else the refusal is `Big`.
+    /// Sets the tree of this name, whether or not it has one. That is a step, which can be undone;
+    /// after it nothing can be redone. In a group it is part of the group's step. The tree has to
+    /// fit at level 0, else the refusal is `Big`.
     ///
-    /// A refusal leaves the session as it was. The tree is dropped then.
+    /// A refusal leaves the session as it was, and the tree is dropped.
     #[inline(always)]
     pub fn set_tree(&mut self, name: &Label, tree: Term) -> Result<(), Refusal>
         ensures ok { OnOk result (ComesTo (set_tree name.now tree) self.old (Ok self.new)) }
@@ -140,8 +142,9 @@ impl<M: Meaning> Session<M> {
         self.timeline.set_tree(name, tree)
     }
 
-    /// Gives the name `copy` a copy of the tree of `name`, also where it has a tree or is that name.
-    /// Where there is no such tree, the refusal is `NoTree`. A refusal leaves the session as it was.
+    /// Sets the tree of `copy` to a copy of the tree of `name`, whether or not `copy` has a tree,
+    /// and even if the two are the same name. If there is no tree of `name`, the refusal is
+    /// `NoTree`. A refusal leaves the session as it was.
     pub fn copy_tree(&mut self, name: &Label, copy: &Label) -> Result<(), Refusal>
         ensures ok { OnOk result (ComesTo (copy_tree name.now copy.now) self.old (Ok self.new)) }
         ensures refused { IfErr result (λ refusal. (refusal ≡ Refusal.Memory)
@@ -152,7 +155,7 @@ impl<M: Meaning> Session<M> {
         self.timeline.copy_tree(name, copy)
     }
 
-    /// Takes the tree of the name away. Where there is none, the refusal is `NoTree`. A refusal leaves
+    /// Removes the tree of this name. If there is none, the refusal is `NoTree`. A refusal leaves
     /// the session as it was.
     pub fn drop_tree(&mut self, name: &Label) -> Result<(), Refusal>
         ensures ok { OnOk result (ComesTo (drop_tree name.now) self.old (Ok self.new)) }
@@ -164,11 +167,11 @@ impl<M: Meaning> Session<M> {
         self.timeline.drop_tree(name)
     }
 
-    /// Replaces the subterm at the path of the name's tree, annotations and all. Where there is no such
-    /// tree, the refusal is `NoTree`; where it has no subterm there, `Path`; where the term doesn't fit
-    /// at the level that is the length of the path, `Big`.
+    /// Replaces the subterm at the path of the name's tree, annotations included. If there is no
+    /// such tree, the refusal is `NoTree`; if it has no subterm there, `Path`; if the term doesn't
+    /// fit at the level that is the length of the path, `Big`.
     ///
-    /// A refusal leaves the session as it was. The term is dropped then.
+    /// A refusal leaves the session as it was, and the term is dropped.
     pub fn put(&mut self, name: &Label, path: &Path, part: Term) -> Result<(), Refusal>
         ensures ok { OnOk result (ComesTo (put name.now path.now part) self.old (Ok self.new)) }
         ensures refused { IfErr result (λ refusal. (refusal ≡ Refusal.Memory)
@@ -179,10 +182,11 @@ impl<M: Meaning> Session<M> {
         self.timeline.put(name, path, part)
     }
 
-    /// Replaces the annotations of the subterm at the path of the name's tree; none takes them away.
-    /// The refusals are those of `put`; each annotation has to fit one level below the subterm.
+    /// Replaces the annotations of the subterm at the path of the name's tree; an empty vector
+    /// removes them. The refusals are those of `put`; each annotation has to fit one level below
+    /// the subterm.
     ///
-    /// A refusal leaves the session as it was. The annotations are dropped then.
+    /// A refusal leaves the session as it was, and the annotations are dropped.
     pub fn annotate(
         &mut self,
         name: &Label,
@@ -198,10 +202,10 @@ impl<M: Meaning> Session<M> {
         self.timeline.annotate(name, path, annotations)
     }
 
-    /// Gives the name this module text, also where it has one. That is a step, as `set_tree` is. The text
-    /// has at most 4,000 tokens, else the refusal is `Deep`; it gives a module, else `Syntax`. Outside a
-    /// group the checker has to find no fault in all modules then, else the refusal is `Check` with the
-    /// first fault; in a group that waits for `commit`.
+    /// Sets the text of the module of this name, whether or not it has one. That is a step, as with
+    /// `set_tree`. The text has at most 4,000 tokens, else the refusal is `Deep`; it is a module,
+    /// else `Syntax`. Outside a group the checker must then find no fault in all modules, else the
+    /// refusal is `Check` with the first fault; in a group this check waits for `commit`.
     ///
     /// A refusal leaves the session as it was.
     pub fn set_module(&mut self, name: &Label, text: &[u8]) -> Result<(), Refusal>
@@ -215,9 +219,9 @@ impl<M: Meaning> Session<M> {
         Ok(())
     }
 
-    /// Takes the module of the name away. Where there is none, the refusal is `NoModule`. Outside a group
-    /// the checker has to find no fault in the modules that are left, else the refusal is `Check`. A
-    /// refusal leaves the session as it was.
+    /// Removes the module of this name. If there is none, the refusal is `NoModule`. Outside a
+    /// group the checker must find no fault in the remaining modules, else the refusal is `Check`.
+    /// A refusal leaves the session as it was.
     pub fn unload(&mut self, name: &Label) -> Result<(), Refusal>
         ensures ok { OnOk result (ComesTo (unload name.now) self.old (Ok self.new)) }
         ensures refused { IfErr result (λ refusal. (refusal ≡ Refusal.Memory)
@@ -229,16 +233,17 @@ impl<M: Meaning> Session<M> {
         Ok(())
     }
 
-    /// Replaces the subterm at the path of the name's tree by what the strategy of the text gives for it
-    /// within so many steps, from 1 to 1,000,000. That is a step, as `set_tree` is, also where the term
-    /// stays the same. The modules are those now, and their program is kept until they change.
+    /// Replaces the subterm at the path of the name's tree by the result of a strategy, given as
+    /// text, within at most `steps` steps, from 1 to 1,000,000. That is a step, as with `set_tree`,
+    /// even if the term stays the same. The strategy may call what the current modules define;
+    /// their program is cached until they change.
     ///
-    /// The refusals, in the order of their tests: where there is no such tree, `NoTree`; where it has no
-    /// subterm there, `Path`; where the text has more than 4,000 tokens, `Deep`; where it is no strategy,
-    /// `Syntax`; where the checker finds a fault in the modules, which comes in a group alone, or in the
-    /// strategy, `Check` with the first. Then, as the run comes to it: where the strategy fails, `Fails`;
-    /// where no step is left, `Spent`; where a term doesn't fit at its level, `Big`. A refusal leaves the
-    /// session as it was.
+    /// The refusals, in the order of their tests: `NoTree` if there is no such tree; `Path` if it
+    /// has no subterm there; `Deep` if the text has more than 4,000 tokens; `Syntax` if it is no
+    /// strategy; `Check` with the first fault if the checker finds one in the modules, which
+    /// happens only in a group, or in the strategy. Then, as the run goes: `Fails` if the strategy
+    /// fails; `Spent` if no step is left; `Big` if a term doesn't fit at its level. A refusal
+    /// leaves the session as it was.
     pub fn apply(
         &mut self,
         name: &Label,
@@ -254,7 +259,7 @@ impl<M: Meaning> Session<M> {
         ensures err { OnErr result (self.new ≡ self.old) }
         ensures sound { HasSoundContents self.new }
     {
-        // Called for its contract: no tree gets too high.
+        // Called for its contract: no tree becomes too high.
         heights_are_kept();
         apply_strategy(
             &mut self.timeline,
@@ -267,9 +272,9 @@ impl<M: Meaning> Session<M> {
         )
     }
 
-    /// Goes `n` steps back: the contents are those from before the last `n` steps, and with 0 they stay.
-    /// In a group the refusal is `Group`; where there are fewer steps, `NoUndo`. A refusal leaves the
-    /// session as it was. It takes no memory.
+    /// Goes `n` steps back: the contents become those from before the last `n` steps; 0 changes
+    /// nothing. In a group the refusal is `Group`; if there are fewer steps, `NoUndo`. A refusal
+    /// leaves the session as it was. It takes no memory.
     pub fn undo(&mut self, n: u32) -> Result<(), Refusal>
         ensures ok { OnOk result (ComesTo (undo n) self.old (Ok self.new)) }
         ensures refused { IfErr result (λ refusal. ComesTo (undo n) self.old (Err refusal)) }
@@ -280,9 +285,9 @@ impl<M: Meaning> Session<M> {
         Ok(())
     }
 
-    /// Goes `n` steps forward again after `undo`. In a group the refusal is `Group`; where fewer steps
-    /// were undone since the last change, `NoRedo`. A refusal leaves the session as it was. It takes no
-    /// memory.
+    /// Goes `n` steps forward again after `undo`. In a group the refusal is `Group`; if fewer steps
+    /// were undone since the last change, `NoRedo`. A refusal leaves the session as it was. It
+    /// takes no memory.
     pub fn redo(&mut self, n: u32) -> Result<(), Refusal>
         ensures ok { OnOk result (ComesTo (redo n) self.old (Ok self.new)) }
         ensures refused { IfErr result (λ refusal. ComesTo (redo n) self.old (Err refusal)) }
@@ -293,8 +298,8 @@ impl<M: Meaning> Session<M> {
         Ok(())
     }
 
-    /// Opens a group: all changes until `commit` are one step. Where a group is open, the refusal is
-    /// `Group`, and leaves the session as it was. It takes no memory.
+    /// Opens a group: all changes until `commit` are one step. If a group is open, the refusal is
+    /// `Group`, and the session stays as it was. It takes no memory.
     pub fn begin(&mut self) -> Result<(), Refusal>
         ensures ok { OnOk result (ComesTo begin self.old (Ok self.new)) }
         ensures refused { IfErr result (λ refusal. ComesTo begin self.old (Err refusal)) }
@@ -304,10 +309,10 @@ impl<M: Meaning> Session<M> {
         self.timeline.begin()
     }
 
-    /// Closes the group. What was changed since it began is one step, and nothing can be redone after
-    /// it; a group without a change is no step and leaves what can be redone. Where no group is open, the
-    /// refusal is `NoGroup`; where the checker finds a fault in the modules, `Check` with the first. A
-    /// refusal leaves the session as it was, the group open.
+    /// Closes the group. Its changes are one step, and nothing can be redone after it; a group
+    /// without changes is no step and leaves what can be redone. If no group is open, the refusal
+    /// is `NoGroup`; if the checker finds a fault in the modules, `Check` with the first. A refusal
+    /// leaves the session as it was, with the group open.
     pub fn commit(&mut self) -> Result<(), Refusal>
         ensures ok { OnOk result (ComesTo commit self.old (Ok self.new)) }
         ensures refused { IfErr result (λ refusal. (refusal ≡ Refusal.Memory)
@@ -318,9 +323,9 @@ impl<M: Meaning> Session<M> {
         self.timeline.commit(&self.primitives, &mut self.program)
     }
 
-    /// Closes the group and takes back what was changed since it began; what can be undone and redone
-    /// is that from before. Where no group is open, the refusal is `NoGroup`, and leaves the session as
-    /// it was. It takes no memory.
+    /// Closes the group and undoes its changes; what can be undone and redone is the same as before
+    /// the group. If no group is open, the refusal is `NoGroup`, and the session stays as it was.
+    /// It takes no memory.
     pub fn abandon(&mut self) -> Result<(), Refusal>
         ensures ok { OnOk result (ComesTo abandon self.old (Ok self.new)) }
         ensures refused { IfErr result (λ refusal. ComesTo abandon self.old (Err refusal)) }
@@ -332,7 +337,7 @@ impl<M: Meaning> Session<M> {
     }
 }
 
-// Forgets the program where module texts may have changed.
+// Forgets the program if module texts may have changed.
 fn forget_changed(program: &mut Option<Program>, changed: bool)
     ensures { program.new ≡ (if changed then None else program.old) }
 {

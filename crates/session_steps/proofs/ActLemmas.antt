@@ -1,4 +1,4 @@
--- What the calls that change a tree leave, and what a session says of a call on its timeline.
+-- What the calls that change a tree leave, and what a call on the timeline means for the session.
 use Rattle.std.proofs.Common.{◌≡◌, ◌⊎◌, ℕ, ◌+◌, List, length, Option, Some, None, Bool, true, false, is_some, IsSome, option_map, option_and_then, option_copied, Bor, Result, Ok, Err, ok_or, is_none, IfErr, OnOk, OnErr, inl, inr, refl, sym, ap, subst, ◌∙◌}
 use Rattle.std.specs.Prelude.{IsSomeAnd, if◌then◌else◌}
 use Rattle.std.specs.FinMap as finmap
@@ -34,7 +34,7 @@ tree_told t m n name tree i e ps here is same done =
     let put_now = ap (λ e. contents (put e m.store)) is ∙ tree_put m.store name i tree here ∙ ap (λ c. with_tree c name tree) now in
     done ∙ (λ j. changed (put_now j) (same j))
 
--- A program is kept where module texts stay, and forgotten where they may not.
+-- A program is kept if module texts stay the same, and forgotten if they may not.
 pub kept_where_same : (ps : List Signature) (t u : Timeline) (changed : Bool) (p q : Option Program) → (changed ≡ false → u.store.modules ≡ t.store.modules)
     → q ≡ (if changed then None else p) → IsKept ps (contents t.store).modules p → IsKept ps (contents u.store).modules q
 kept_where_same ps t u true p q same is k = subst (IsKept ps (contents u.store).modules) (sym is) tt
@@ -82,29 +82,29 @@ module _ {A : Type 0} (act : Act) (r : Result A Refusal) (ps : List Signature) (
       → HasSoundContents (unfolded ps old) → HasSoundContents (unfolded ps new)
   sound_seen stands ok err sound = act_sound act r h (unfolded ps new) stands (ok_seen ok) (err_seen err) (subst HasSoundContents seen sound)
 
-  -- the same where it is known what came of the call
+  -- the same if the outcome of the call is known
   pub stepped_sound : StandsOn act → ((ps : List Signature) → ComesTo act (unfolded ps old) (Ok (unfolded ps new))) → HasSoundContents (unfolded ps old) → HasSoundContents (unfolded ps new)
   stepped_sound stands ok sound = step_sound act (unfolded ps old) (unfolded ps new) stands sound (ok ps)
 
--- ---- the program that a session keeps
+-- ---- the program that a session caches
 
 module _ (ps : List Signature) (old new : Timeline) (kept : Option Program) where
   pub kept_same : unfolded ps new ≡ unfolded ps old → IsKept ps (contents old.store).modules kept → IsKept ps (contents new.store).modules kept
   kept_same same k = subst (λ (texts : Texts). IsKept ps texts kept) (sym (ap (λ (h : History). h.now.modules) same)) k
 
-  -- it stays where the modules do
+  -- it stays if the modules do
   pub kept_seen : {A : Type 0} (act : Act) (r : Result A Refusal) → LeavesModules act → OnOk r ((ps : List Signature) → ComesTo act (unfolded ps old) (Ok (unfolded ps new)))
       → OnErr r ((ps : List Signature) → unfolded ps new ≡ unfolded ps old) → IsKept ps (contents old.store).modules kept → IsKept ps (contents new.store).modules kept
   kept_seen act (Ok x) leaves ok err k = subst (λ (texts : Texts). IsKept ps texts kept) (sym (step_leaves act (unfolded ps old) (unfolded ps new) leaves (ok ps))) k
   kept_seen act (Err e) leaves ok err k = kept_same (err ps) k
 
-  -- the same of an act that is known of these primitives alone
+  -- the same for an act that is known for these primitives only
   pub kept_said : {A : Type 0} (act : Act) (r : Result A Refusal) → LeavesModules act → OnOk r (ComesTo act (unfolded ps old) (Ok (unfolded ps new)))
       → OnErr r (unfolded ps new ≡ unfolded ps old) → IsKept ps (contents old.store).modules kept → IsKept ps (contents new.store).modules kept
   kept_said act (Ok x) leaves ok err k = subst (λ (texts : Texts). IsKept ps texts kept) (sym (step_leaves act (unfolded ps old) (unfolded ps new) leaves ok)) k
   kept_said act (Err e) leaves ok err k = kept_same err k
 
-  -- and where a group was closed
+  -- the same after a group was closed
   pub kept_closed : (group : HistoryGroup) → (unfolded ps old).group ≡ Some group → IsSomeAnd (unfolded ps old).group (λ g. unfolded ps new ≡ committed g (unfolded ps old))
       → IsKept ps (contents old.store).modules kept → IsKept ps (contents new.store).modules kept
   kept_closed group there closes k =
@@ -112,7 +112,7 @@ module _ (ps : List Signature) (old new : Timeline) (kept : Option Program) wher
       let same : (unfolded ps new).now ≡ (unfolded ps old).now = ap (λ (h : History). h.now) left ∙ committed_leaves group (unfolded ps old) in
       subst (λ (c : Contents). IsKept ps c.modules kept) (sym same) k
 
--- ---- what a session says of a call that its timeline relates to two histories
+-- ---- what a call that its timeline relates to two histories means for the session
 
 module _ {A : Type 0} (Says : History → Result History Refusal → Type 0) (r : Result A Refusal) (old new h : History) (seen : old ≡ h) where
   pub said_ok : OnOk r (Says old (Ok new)) → OnOk r (Says h (Ok new))
@@ -154,7 +154,7 @@ module _ (s : Store) (name : List ℕ) (apart : AreApart s.trees) where
   pub past_leaf : (path : List ℕ) (i : ℕ) (tree : Tree) → Some i ≡ slot_of s.trees name → content s.trees i ≡ Some tree → at tree path ≡ None → place_of (contents s) name path ≡ Err Path
   past_leaf path i tree here is none = place_missing (contents s) name path tree (tree_held i tree here is) none
 
--- a reference that is there, or not
+-- a reference that exists, or doesn't
 pub seen_none : {X : Type 0} (o : Option (Bor X)) (c : Option X) → option_copied o ≡ c → is_some o ≡ false → c ≡ None
 seen_none None c e h = sym e
 seen_none (Some x) c e h = absurd (cc)
@@ -216,7 +216,7 @@ the_part (Some t) h = (t, refl)
 -- ---- a place in a name's tree
 
 module _ (t : Timeline) (name path : List ℕ) (i : ℕ) (there : IsPlaceOf t.store name path i) where
-  -- the place that the definitions know
+  -- the same place in the definitions
   pub seen_place : (part : Tree) × (place_of (contents t.store) name path ≡ Ok (record { tree = there.0; part = part }))
   seen_place =
       let part = the_part (at there.0 path) there.4 in
@@ -277,7 +277,7 @@ some_isnt_none : {X : Type 0} (o : Option X) → is_some o ≡ true → is_none 
 some_isnt_none None h = absurd (cc)
 some_isnt_none (Some x) h = refl
 
--- an act that needs an end of the group, and one that needs a group
+-- an act that needs no open group, and one that needs a group
 module _ (h : History) (Next : Outcome → Type 0) where
   pub outside : (outcome : Outcome) → h.group ≡ None → Next outcome → Holding (is_none h.group) Group Next outcome
   outside outcome closed p = held (is_none h.group) Group Next outcome (ap is_none closed) p
@@ -288,7 +288,7 @@ module _ (h : History) (Next : Outcome → Type 0) where
 pub refused_outside : (h : History) (next : HistoryGroup → Outcome → Type 0) → h.group ≡ None → Passing (ok_or h.group NoGroup) next (Err NoGroup)
 refused_outside h next closed = stopped (ok_or h.group NoGroup) next NoGroup (ap (λ (o : Option HistoryGroup). ok_or o NoGroup) closed)
 
--- going so many places
+-- going this many steps
 module _ (h : History) (o : Option History) (refusal : Refusal) where
   abbrev Goes : Outcome → Type 0
   Goes = Holding (is_none h.group) Group (Passing (ok_or o refusal) Leaves)

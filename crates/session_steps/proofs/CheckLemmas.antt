@@ -1,4 +1,4 @@
--- What reading and checking the modules of a store says of the history.
+-- What parsing and checking the modules of a store means for the history.
 use Rattle.std.proofs.Common.{◌≡◌, ◌<◌, ◌≤◌, ◌⊎◌, ℕ, Bool, true, false, cond, List, [], ◌∷◌, ◌++◌, map, Option, Some, None, IsSome, is_some, IfSome, Result, Ok, Err, IfErr, ok_or, option_and_then, inl, inr, refl, sym, ap, subst, ◌∙◌, arith}
 use Rattle.std.specs.Prelude.{IsSomeAnd, IfOk}
 use Rattle.std.proofs.Common.{append_assoc}
@@ -31,7 +31,7 @@ use Rattle.session_steps.proofs.MapLemmas.{R, same_key}
 use Rattle.session_steps.proofs.StepLemmas.{passed, stopped}
 use Rattle.session_steps.proofs.SoundLemmas.{readable_without, now_changed}
 
--- a text that gives a module isn't refused
+-- a text that is a module isn't refused
 pub reads_one : (text : List ℕ) (m : Module) (refusal : Refusal) → ReadsAsModule text (Ok m) → ReadsAsModule text (Err refusal) → ⊥
 reads_one text m refusal ok (inl (deep, more)) = omega (arith, ok.0, more)
 reads_one text m refusal ok (inr (syntax, few, none)) = none m ok.1
@@ -39,7 +39,7 @@ reads_one text m refusal ok (inr (syntax, few, none)) = none m ok.1
 abbrev Reads : Module → Option (List ℕ) → Type 0
 Reads m o = IsSomeAnd o (λ text. ReadsAsModule text (Ok m))
 
--- a text under one of the names that were read gives a module
+-- a text under one of the names that were read is a module
 read_found : (texts : Texts) (es : List (List ℕ × List ℕ)) (ms : Modules) (q x : List ℕ) → AreRead texts (map (λ e. e.0) es) ms → find R q es ≡ Some x → (m : Module) × Reads m (finmap.get texts q)
 read_found texts [] ms q x h e = absurd (cc)
 read_found texts (d ∷ es) [] q x h e = absurd h
@@ -54,9 +54,9 @@ module_of texts ms name text are e =
     let there = read_found texts (entries texts) ms name text are (sym (get-entries texts name) ∙ e) in
     (there.0, subst (Reads there.0) e there.1)
 
--- ---- a module more, or less
+-- ---- one module more, or one less
 
--- where all texts give modules, the one that doesn't is the new one
+-- if all earlier texts are modules, the one that is none is the new one
 pub unread_new : (texts : Texts) (name text : List ℕ) (refusal : Refusal) → AreReadable texts → IsUnread (finmap.insert texts name text) refusal → ReadsAsModule text (Err refusal)
 unread_new texts name text refusal readable (q, x, e, unread) = by (eq_by_cmp (slice_cmp nat_cmp) q name) (sym (get-insert nat_list_cmp_total texts name text q) ∙ e)
   where
@@ -113,7 +113,7 @@ module _ (texts : Texts) (name text : List ℕ) (is : finmap.get texts name ≡ 
       by (Err e) (inl memory) = inl memory
       by (Err e) (inr unread) = inr (name, text, is, unread)
 
--- ---- what comes of a text, and of what the checker found
+-- ---- the outcome, given a text and what the checker found
 
 module _ (c : Contents) (h : History) where
   becomes_found : (g : History) (p : Program) → h.group ≡ None → GivesProgram h.primitives c.modules p → g ≡ changed c h → ChangesModules h.group c h (Ok g)
@@ -129,14 +129,14 @@ module _ (h : History) (name text : List ℕ) where
   abbrev with_text : Contents
   with_text = with_module h.now name text
 
-  -- a text that gives no module changes nothing
+  -- a text that is no module changes nothing
   pub set_unread : (refusal : Refusal) → ReadsAsModule text (Err refusal) → ComesTo (set_module name text) h (Err refusal)
   set_unread refusal unread = (Err refusal, unread, refl)
 
   set_read : (m : Module) (outcome : Outcome) → ReadsAsModule text (Ok m) → ChangesModules h.group with_text h outcome → ComesTo (set_module name text) h outcome
   set_read m outcome reads becomes = (Ok m, reads, becomes)
 
-  -- the module that the text gives, where all texts give one
+  -- the module of the text, if all texts are modules
   given : (ms : Modules) → AreModules with_text.modules ms → (m : Module) × ReadsAsModule text (Ok m)
   given ms are = module_of with_text.modules ms name text are (get_new h.now.modules name text)
 
@@ -195,7 +195,7 @@ module _ (h : History) where
   pub commit_outside : h.group ≡ None → ComesTo commit h (Err NoGroup)
   commit_outside none = stopped (ok_or h.group NoGroup) Closes NoGroup (ap (λ (o : Option HistoryGroup). ok_or o NoGroup) none)
 
--- ---- the modules of names, one after another
+-- ---- the modules of names, in order
 
 pub few_tokens : (n m : ℕ) → (m < n → ⊥) → n ≤ m
 few_tokens n m h = by (cases_lt m n)
@@ -243,11 +243,11 @@ text_taken t name i e apart here is = ap (λ e. contents (put e t.store)) is ∙
 
 -- ---- the program of the modules
 
--- one that is kept is there
+-- one that is cached exists
 pub kept_there : (ps : Primitives) (texts : Texts) (kept : Option Program) → is_some kept ≡ true → IsKept ps texts kept → IsSomeAnd kept (IsProgram ps texts)
 kept_there ps texts None there is = absurd (cc)
 kept_there ps texts (Some p) there is = is
 
--- the program of the modules that a change left
+-- the program of the modules after a change
 pub program_then : (n : Timeline) (c : Contents) (h : History) (p : Program) (ps : List Signature) → unfolded ps n ≡ changed c h → IsProgram ps c.modules p → IsProgram ps (contents n.store).modules p
 program_then n c h p ps done is = subst (λ (x : Contents). IsProgram ps x.modules p) (sym (ap (λ h. h.now) done ∙ now_changed c h)) is

@@ -1,4 +1,4 @@
--- One place back and one place forward take each other back, and so do as many places as one likes.
+-- One step back and one step forward are inverse, and so are any number of them.
 use Rattle.std.proofs.Common.{◌≡◌, ◌<◌, ℕ, zero, suc, List, [], ◌∷◌, ◌++◌, length, arith, true, cond, is_none, Some, None, Ok, Option, option_and_then, ok_or, refl, sym, ap, subst, ◌∙◌}
 use Rattle.std.specs.Option.{option_map_or}
 use Rattle.change_plans.specs.Contents.{Contents}
@@ -10,7 +10,7 @@ use Rattle.session_steps.specs.declared.refusal.Refusal.{Refusal}
 use Rattle.session_steps.specs.declared.refusal.Refusal.TheVariants.{NoUndo, NoRedo, Group, NoGroup}
 use Rattle.session_steps.proofs.StepLemmas.{same_Ok, passing_Ok, holding_Ok, given_Ok, passed, held, ok_or-Ok, none_of}
 
--- ---- the last of a row
+-- ---- the last of a list
 
 older-append : (c : Contents) (cs : List Contents) (x : Contents) → older c (cs ++ x ∷ []) ≡ c ∷ cs
 older-append c [] x = refl
@@ -29,7 +29,7 @@ pub back_to-append : (h : History) (past : List Contents) (x : Contents)
 back_to-append h [] x = refl
 back_to-append h (c ∷ cs) x = λ i. Some (record h { past = older-append c cs x i; now = newest-append c cs x i; later = h.now ∷ h.later })
 
--- ---- one place
+-- ---- one step
 
 same_Some : (g h : History) → Some g ≡ Some h → g ≡ h
 same_Some g h e = cc
@@ -50,13 +50,13 @@ step_back-step_forward h g e = back_after_forward h g h.later refl e
 pub step_forward-step_back : (h g : History) → step_back h ≡ Some g → step_forward g ≡ Some h
 step_forward-step_back h g e = forward_after_back h g h.past refl e
 
--- ---- so many places
+-- ---- several steps
 
 and_then-Some : (o : Option History) → option_and_then (λ g. Some g) o ≡ o
 and_then-Some None = refl
 and_then-Some (Some g) = refl
 
--- the last place in place of the first
+-- the last step taken first
 pub redone_last : (k : ℕ) (h : History) → redone (suc k) h ≡ option_and_then step_forward (redone k h)
 redone_last zero h = and_then-Some (step_forward h)
 redone_last (suc k) h =
@@ -89,7 +89,7 @@ undone-redone (suc k) h g e = by (step_forward h) refl (λ m. undone-redone k m 
     by None p rest q = absurd (cc)
     by (Some m) p rest q = undone_last k g ∙ ap (option_and_then step_back) (rest m q) ∙ step_back-step_forward h m p
 
--- fewer places than asked for
+-- fewer steps than asked for
 length-older : (c : Contents) (cs : List Contents) → length (older c cs) ≡ length cs
 length-older c [] = refl
 length-older c (d ∷ ds) = ap suc (length-older d ds)
@@ -138,7 +138,7 @@ redone_group (suc k) h g e = by (step_forward h) refl (λ m. redone_group k m g)
 
 -- ---- the laws
 
--- going so many places, which are there, outside a group
+-- going this many steps, which exist, outside a group
 module _ (h g : History) (o : Option History) (refusal : Refusal) where
   abbrev Goes : Outcome → Type 0
   Goes = Holding (is_none h.group) Group (Passing (ok_or o refusal) Leaves)
@@ -164,7 +164,7 @@ undo_takes_redo_back k h g done =
     let forth = went h g (redone k h) NoRedo done in
     goes g h (undone k g) NoUndo (redone_group k h g forth.1 ∙ forth.0) (undone-redone k h g forth.1)
 
--- a step from these contents to those now is undone and redone
+-- a step from these contents to the current ones is undone and redone
 step_is_undone : (from c : Contents) (h : History) → h.group ≡ None → (g : History) → record (stepped from h) { now = c } ≡ g
     → ComesTo (undo 1) g (Ok (record h { now = from; later = g.now ∷ [] })) × ComesTo (redo 1) (record h { now = from; later = g.now ∷ [] }) (Ok g)
 step_is_undone from c h none g e =

@@ -75,11 +75,11 @@ module _ {X : Type 0} where
   some m [] h = tt
   some m (e ∷ es) h = (subst (λ (o : Option X). IsSome o) (sym h.0) refl, some m es h.1)
 
-  -- a key has something under it
+  -- each key of a map has a value
   pub keys_there : (m : Named X) → AllByRecursion (λ name. IsSome (finmap.get m name)) (finmap.keys m)
   keys_there m = some m (entries m) (all_there m)
 
-  -- a map without anything under any key has no keys
+  -- a map without a value for any key has no keys
   pub no_keys : (m : Named X) → ((q : List ℕ) → finmap.get m q ≡ None) → finmap.keys m ≡ []
   no_keys m none = ap (map (λ e. e.0)) (by (entries m) (all_there m))
     where

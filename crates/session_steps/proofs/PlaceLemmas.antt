@@ -1,4 +1,4 @@
--- What each call on a timeline leaves: a timeline that is placed, and the history that it stands for.
+-- What each call on a timeline leaves: a well-placed timeline, and the history that it represents.
 use Rattle.std.proofs.Common.{◌≡◌, ℕ, suc, ◌+◌, ◌-◌, ◌<◌, ◌≤◌, Bool, true, false, cond, List, [], ◌∷◌, ◌++◌, length, take, drop, set, slice_get, Option, Some, None, IsSome, Result, Ok, Err, IfOk, OnOk, OnErr, option_map, refl, sym, ap, subst, subst₂, ◌∙◌, arith}
 use Rattle.std.specs.Bool.{OnFalse}
 use Rattle.std.specs.Global.{Vec}
@@ -139,7 +139,7 @@ adds_one e s t l m place store log = record {
   fits = subst (Fits (found e s ∷ [])) (sym store) (pushed_fits [] e s tt place);
 }
 
--- an entry alone is a compact step
+-- a single entry is a compact step
 pub adds_alone : (logs new : List (List Entry)) (step : List Entry) (e : Entry) → new ≡ logs ++ step ∷ [] → step ≡ e ∷ [] → AddsStep logs step new
 adds_alone logs new step e all one = record {
   left = step;
@@ -149,7 +149,7 @@ adds_alone logs new step e all one = record {
   compact = subst IsCompact (sym one) (λ i j d before within. absurd (omega (arith, before, within)));
 }
 
--- ---- a change of many entries in a group
+-- ---- a change of several entries in a group
 
 module _ (t : Timeline) (s : Store) (log : List Entry) (adds : AddsEntries t.store t.current s log) (h : IsPlaced t) where
   begin_stays : before log s ≡ before t.current t.store
@@ -182,7 +182,7 @@ module _ (t : Timeline) (s : Store) (log : List Entry) (adds : AddsEntries t.sto
       in_group None there = absurd (cc)
       in_group (Some g) there = refl
 
-  -- what was added is taken back
+  -- the appended entries are rolled back
   pub taken_back : (mark : ℕ) (r : Store) (rest : List Entry) → mark ≡ length t.current → r ≡ before (drop mark log) s → rest ≡ take mark log → record t { store = r; current = rest } ≡ t
   taken_back mark r rest is back left =
       let count : mark ≡ length t.current = is in
@@ -190,7 +190,7 @@ module _ (t : Timeline) (s : Store) (log : List Entry) (adds : AddsEntries t.sto
       let current : rest ≡ t.current = left ∙ (λ i. take (count i) (adds.behind i)) ∙ take-append t.current adds.added in
       λ i. record t { store = store i; current = current i }
 
--- ---- a change of many entries as a step of its own
+-- ---- a change of several entries as a step of its own
 
 module _ (t : Timeline) (s : Store) (logs : Vec (List Entry)) (log new : List Entry) (closed : t.group ≡ None) (none : new ≡ []) (adds : AddsEntries t.store new s log)
     (step : AddsStep (take t.position t.logs.items) log logs.items) (h : IsPlaced t) where
@@ -244,7 +244,7 @@ module _ (t : Timeline) (s : Store) (logs : Vec (List Entry)) (log new : List En
         group = option_map (λ g. record { begun = contents (before t.current t.store); changed = g.changed }) (closed i);
       }))
 
--- ---- the store as it was, and room for a step
+-- ---- the same store, and room for a step
 
 module _ (t : Timeline) (s : Store) (logs : Vec (List Entry)) (same : s ≡ t.store) (all : logs.items ≡ t.logs.items) (h : IsPlaced t) where
   pub roomier_placed : IsPlaced (record t { store = s; logs = logs })
@@ -266,7 +266,7 @@ module _ (t : Timeline) (s : Store) (logs : Vec (List Entry)) (same : s ≡ t.st
     group = option_map (λ g. record { begun = contents (before t.current (same i)); changed = g.changed }) t.group;
   }
 
--- ---- a change that was taken back
+-- ---- a change that was rolled back
 
 module _ (t : Timeline) (e : Entry) (pushed s : Store) (logs : Vec (List Entry)) (log : List Entry) (is : pushed ≡ put e t.store) (one : log ≡ [] ++ found e t.store ∷ []) (back : s ≡ before (drop 0 log) pushed)
     (all : logs.items ≡ t.logs.items) (h : IsPlaced t) where
@@ -279,7 +279,7 @@ module _ (t : Timeline) (e : Entry) (pushed s : Store) (logs : Vec (List Entry))
   pub rolled_unfolded : (ps : List Signature) → unfolded ps (record t { store = s; logs = logs }) ≡ unfolded ps t
   rolled_unfolded ps = roomier_unfolded t s logs rolled_store all h ps
 
--- what a closure added to a new log was taken back
+-- what a closure appended to a new log was rolled back
 module _ (t : Timeline) (pushed s : Store) (logs : Vec (List Entry)) (log new : List Entry) (none : new ≡ []) (adds : AddsEntries t.store new pushed log) (back : s ≡ before (drop 0 log) pushed)
     (all : logs.items ≡ t.logs.items) (h : IsPlaced t) where
   undone_store : s ≡ t.store
@@ -291,7 +291,7 @@ module _ (t : Timeline) (pushed s : Store) (logs : Vec (List Entry)) (log new : 
   pub undone_unfolded : (ps : List Signature) → unfolded ps (record t { store = s; logs = logs }) ≡ unfolded ps t
   undone_unfolded ps = roomier_unfolded t s logs undone_store all h ps
 
--- a timeline by its parts
+-- a timeline by its fields
 pub same_timeline : (t : Timeline) (s : Store) (q : ℕ) (g : Option OpenGroup) (log : List Entry) → t.store ≡ s → t.position ≡ q → t.group ≡ g → t.current ≡ log
     → t ≡ record { store = s; logs = t.logs; position = q; group = g; current = log }
 same_timeline t s q g log store position group current = λ i. record { store = store i; logs = t.logs; position = position i; group = group i; current = current i }
@@ -395,7 +395,7 @@ module _ (t : Timeline) (changed : Bool) (there : IsSome t.group) (flag : change
   flagged : opened.changed ≡ changed
   flagged = flag_of t.group opened changed is_open flag
 
-  -- what closing the group leaves, by the flag
+  -- what closing the group leaves, depending on the flag
   abbrev closing : List Signature → Bool → History
   closing ps b = cond b (record (stepped (contents (before t.current t.store)) (unfolded ps t)) { group = None }) (record (unfolded ps t) { group = None })
 

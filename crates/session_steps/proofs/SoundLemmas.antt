@@ -1,4 +1,4 @@
--- What a step leaves is sound.
+-- A step preserves soundness.
 use Rattle.std.proofs.Common.{◌≡◌, ◌≤◌, ◌+◌, ◌-◌, ℕ, zero, suc, Bool, true, false, ◌&&◌, cond, List, [], ◌∷◌, ◌++◌, length, set, slice_get, Option, Some, None, IfSome, Result, Ok, Err, OnOk, OnErr, ok_or, is_none, option_and_then, refl, sym, ap, subst, ◌∙◌, arith}
 use Rattle.std.specs.Option.{option_map_or}
 use Rattle.std.specs.List.{AllByRecursion, list_all}
@@ -103,7 +103,7 @@ with_child_height (branch head kids notes) i v l n h k =
     let low = heights-set (to_list kids) i v (n - (l + 1)) (omega (arith, h, same)) (omega (arith, k)) in
     omega (arith, h, k, low)
 
--- a change that leaves what stands at a path low enough leaves the tree so
+-- a change that keeps the subterm at a path low enough keeps the tree so
 changed_height : (f : Tree → Tree) (t : Tree) (p : List ℕ) (l n : ℕ) → l + height t ≤ n → ((u : Tree) → l + length p + height u ≤ n → l + length p + height (f u) ≤ n) → l + height (changed_at f t p) ≤ n
 changed_height f t [] l n h k = let last = k t (omega (arith, h)) in omega (arith, last)
 changed_height f t (i ∷ p) l n h k =
@@ -158,7 +158,7 @@ module _ (P : Contents → Type 0) where
   All-newest c [] h = h.0
   All-newest c (d ∷ ds) h = All-newest d ds h.1
 
--- the contents now are well formed, and outside a group they are sound
+-- the current contents are well formed, and outside a group they are sound
 pub formed_now : (ps : Primitives) (c : Contents) (o : Option HistoryGroup) → IsSoundNow ps c o → AreFormed c
 formed_now ps c None s = s.0
 formed_now ps c (Some g) s = s.0
@@ -234,13 +234,13 @@ now_changed c h = by h.group
     by None = refl
     by (Some g) = refl
 
--- where the checker gives a program, it finds no fault
+-- if the checker gives a program, it finds no fault
 pub program_finds : (ps : Primitives) (texts : Texts) (p : Program) → GivesProgram ps texts p → Finds ps texts None
 program_finds ps texts p is = record { modules = is.modules; are = is.are; fault = sym (ap first is.faultless) }
 
--- ---- acts that change the trees alone
+-- ---- acts that change only the trees
 
--- what the soundness of an act stands on: of an apply, that strategies keep heights
+-- what the soundness of an act relies on: for an apply, that strategies keep heights
 abbrev pub StandsOn : Act → Type 0
 StandsOn (apply meaning name path steps text) = AppliedKeepsHeights
 StandsOn act = Unit {0}
@@ -269,7 +269,7 @@ ChangesTrees abandon = ⊥
 low_at : (c : Contents) (name : List ℕ) (t : Tree) → get c.trees name ≡ Some t → AreLow c.trees → height t ≤ MAX_HEIGHT
 low_at c name t e low = subst (λ (o : Option Tree). IfSome o (λ t. height t ≤ MAX_HEIGHT)) e (low name)
 
--- what is given where heights are kept
+-- the resulting tree, if heights are kept
 given_low : (o : Ending) (t : Tree) → given_by o ≡ Ok t → IfGiven o (λ u e. height u ≤ MAX_HEIGHT) → height t ≤ MAX_HEIGHT
 given_low (gives u e) t is low = let same : u ≡ t = cc in subst (λ (x : Tree). height x ≤ MAX_HEIGHT) same low
 given_low fails t is low = absurd (cc)
@@ -408,12 +408,12 @@ step_sound abandon h g stands s done =
     let left : History = record h { now = there.0.begun; group = None } in
     subst HasSoundContents (sym (same_Ok left g there.2)) (s.0, sound_begun h there.0 s (ok_or-Ok h.group NoGroup there.0 there.1), s.2)
 
--- an act that is accepted leaves what the machine does, and a refused one leaves all
+-- an accepted act does what the machine does, and a refused one changes nothing
 pub act_sound : {A E : Type 0} (act : Act) (r : Result A E) (old new : History) → StandsOn act → OnOk r (ComesTo act old (Ok new)) → OnErr r (new ≡ old) → HasSoundContents old → HasSoundContents new
 act_sound act (Ok x) old new stands ok err s = step_sound act old new stands s ok
 act_sound act (Err e) old new stands ok err s = subst HasSoundContents (sym err) s
 
--- an accepted change gives contents by a change
+-- an accepted change leads to contents by a change
 pub change_is_to_contents : ChangeIsToContents
 change_is_to_contents (set_tree name tree) h g change done = let t = trees_change (set_tree name tree) h g tt done in (record h.now { trees = t.trees }, t.is)
 change_is_to_contents (copy_tree name copy) h g change done = let t = trees_change (copy_tree name copy) h g tt done in (record h.now { trees = t.trees }, t.is)
@@ -467,7 +467,7 @@ step_leaves begin h g leaves done =
 step_leaves commit h g leaves done = absurd leaves
 step_leaves abandon h g leaves done = absurd leaves
 
--- and so does the end of a group
+-- the same for the end of a group
 pub committed_leaves : (group : HistoryGroup) (h : History) → (committed group h).now ≡ h.now
 committed_leaves group h = by group.changed
   where

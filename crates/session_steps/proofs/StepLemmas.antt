@@ -1,4 +1,5 @@
--- The tests of an act: what an accepted one passed, and what becomes of one whose tests are known.
+-- The tests of an act: what an accepted one passed, and the outcome if the results of the tests are
+-- known.
 use Rattle.std.proofs.Common.{◌≡◌, ℕ, Bool, true, false, List, Option, Some, None, Result, Ok, Err, is_none, ok_or, option_map, refl, sym, ap, subst, ◌∙◌}
 use Rattle.std.specs.FinMap as finmap
 use Rattle.term_core.specs.Tree.{Tree}
@@ -26,7 +27,7 @@ pub given_Ok : {X : Type 0} (Gives : Result X Refusal → Type 0) (next : X → 
 given_Ok Gives next g (Ok x, gives, p) = (x, gives, p)
 given_Ok Gives next g (Err refusal, gives, p) = absurd (cc)
 
--- ---- what becomes of an act
+-- ---- the outcome of an act
 
 module _ {X : Type 0} (test : Result X Refusal) (next : X → Outcome → Type 0) where
   pub passed : (x : X) (outcome : Outcome) → test ≡ Ok x → next x outcome → Passing test next outcome
@@ -35,7 +36,7 @@ module _ {X : Type 0} (test : Result X Refusal) (next : X → Outcome → Type 0
   pub stopped : (refusal : Refusal) → test ≡ Err refusal → Passing test next (Err refusal)
   stopped refusal is = subst (λ (r : Result X Refusal). Passing r next (Err refusal)) (sym is) refl
 
-  -- what stands behind a test whose finding is known
+  -- the rest after a test whose result is known
   pub behind : (x : X) (outcome : Outcome) → test ≡ Ok x → Passing test next outcome → next x outcome
   behind x outcome is p = subst (λ (r : Result X Refusal). Passing r next outcome) is p
 

@@ -1,4 +1,4 @@
--- What logs unfold to, as steps are added, taken back and made again.
+-- What logs unfold to as steps are appended, undone and redone.
 use Rattle.std.proofs.Common.{◌≡◌, ℕ, zero, suc, ◌+◌, ◌<◌, ◌≤◌, List, [], ◌∷◌, ◌++◌, length, take, drop, set, slice_get, Some, refl, sym, ap, subst, ◌∙◌, arith}
 use Rattle.std.proofs.lemmas.List.{length-append, length-take, drop_all, take_all, take-set}
 use Rattle.change_plans.specs.Slots.{Store, contents, with_tree_slot, with_module_slot}
@@ -26,7 +26,7 @@ pub FitBack-split : (ls : List (List Entry)) (l : List Entry) (s : Store) → Fi
 FitBack-split [] l s h = (tt, h.0)
 FitBack-split (k ∷ ls) l s h = let rest = FitBack-split ls l s h.1 in ((subst (Fits k) (rewound-append ls l s) h.0, rest.0), rest.1)
 
--- ---- entries behind entries
+-- ---- concatenated entries
 
 pub fits-append : (es fs : List Entry) (s : Store) → Fits es (before fs s) → Fits fs s → Fits (es ++ fs) s
 fits-append [] fs s h f = f
@@ -40,7 +40,7 @@ pub drop-append : (es fs : List Entry) → drop (length es) (es ++ fs) ≡ fs
 drop-append [] fs = refl
 drop-append (e ∷ es) fs = drop-append es fs
 
--- ---- rows of logs
+-- ---- lists of logs
 
 module _ {A : Type 0} where
   pub take_pushed : (p : ℕ) (ls : List A) (l : A) → p ≤ length ls → take (p + 1) (take p ls ++ l ∷ []) ≡ take p ls ++ l ∷ []
@@ -99,7 +99,7 @@ compact_at q [] l e h = absurd (cc)
 compact_at zero (k ∷ ls) l e h = let same : k ≡ l = cc in subst IsCompact same h.0
 compact_at (suc q) (k ∷ ls) l e h = compact_at q ls l e h.1
 
--- ---- how many contents
+-- ---- the number of contents
 
 pub length-past_of : (ls : List (List Entry)) (s : Store) → length (past_of ls s) ≡ length ls
 length-past_of [] s = refl
@@ -109,9 +109,9 @@ pub length-later_of : (ls : List (List Entry)) (s : Store) → length (later_of 
 length-later_of [] s = refl
 length-later_of (l ∷ ls) s = ap suc (length-later_of ls (after l s))
 
--- ---- an empty slot more
+-- ---- one more empty slot
 
--- how a store gets a slot: it keeps its contents, and logs fit it as before
+-- how a store gets a slot: its contents stay the same, and logs fit it as before
 pub record IsGrowth (grow : Store → Store) : Type 0 where
   pub same : (s : Store) → contents (grow s) ≡ contents s
   pub fits : (log : List Entry) (s : Store) → Fits log s → Fits log (grow s) × (before log (grow s) ≡ grow (before log s))
@@ -174,7 +174,7 @@ module _ (ls : List (List Entry)) (p : ℕ) (s : Store) (log : List Entry) (insi
 -- ---- one step back
 
 module _ (ls : List (List Entry)) (q : ℕ) (s : Store) (log : List Entry) (at : slice_get ls q ≡ Some log) (inside : q < length ls) where
-  -- the log that leads forward again
+  -- the log that redoes the step
   abbrev pub flipped : List Entry
   flipped = flipped_back log s
 
@@ -202,7 +202,7 @@ module _ (ls : List (List Entry)) (q : ℕ) (s : Store) (log : List Entry) (at :
 -- ---- one step forward
 
 module _ (ls : List (List Entry)) (q : ℕ) (s : Store) (log : List Entry) (at : slice_get ls q ≡ Some log) (inside : q < length ls) where
-  -- the log that leads back again
+  -- the log that undoes the step
   abbrev pub returned : List Entry
   returned = flipped_forward log s
 

@@ -1,4 +1,4 @@
--- Strategies that are applied in a session: what their texts give, and what comes of them.
+-- Applying strategies in a session: parsing and resolving their texts, and the outcome.
 use Rattle.std.specs.Prelude.{◌≡◌, ℕ, List, Some, None, Ok, Err}
 use Rattle.std.specs.declared.option.Option.{Option}
 use Rattle.std.specs.declared.result.Result.{Result}
@@ -17,41 +17,41 @@ use Rattle.session_steps.specs.Modules.{ReadsBy, refusal_of}
 use Rattle.session_steps.specs.declared.refusal.Refusal.{Refusal}
 use Rattle.session_steps.specs.declared.refusal.Refusal.TheVariants.{Fails, Spent, Big}
 
--- what primitives mean: from a name and a list of terms to a term, or to nothing
+-- the meaning of primitives: from a name and a list of terms to a term, or to nothing
 abbrev pub Meaning : Type 0
 Meaning = List ℕ → List Tree → Option Tree
 
--- what a text gives that is to be a strategy
+-- what a strategy text is parsed to
 abbrev pub ReadsAsStrategy : List ℕ → Result Strategy Refusal → Type 0
 ReadsAsStrategy = ReadsBy GivesStrategy
 
--- this, or the refusal that tells the fault
+-- this value, or the refusal that reports the fault
 abbrev pub unless_faulty : {X : Type 0} → Option Fault → X → Result X Refusal
 unless_faulty None x = Ok x
 unless_faulty (Some fault) x = Err (refusal_of fault)
 
--- the strategy with numbers for names beside a program, or the refusal that tells its first fault
+-- the strategy resolved in a program, or the refusal that reports its first fault
 abbrev pub resolved_in : Program → Primitives → Strategy → Result Resolved Refusal
 resolved_in program primitives s =
     unless_faulty (first (faults_of program primitives s)) (resolved program primitives s)
 
--- what numbers stand for in a resolved strategy
+-- what the numbers in a resolved strategy stand for
 abbrev pub world_in : Meaning → Program → Primitives → World
 world_in meaning program primitives =
     record { bodies = program.bodies; primitives = primitives; meaning = meaning }
 
--- why a run stops, as a refusal
+-- the refusal for each reason why a run stops
 abbrev pub stopped_as : Stop → Refusal
 stopped_as spent = Spent
 stopped_as big = Big
 
--- the tree that is given, or why there is none
+-- the resulting tree, or why there is none
 abbrev pub given_by : Outcome → Result Tree Refusal
 given_by (gives tree edits) = Ok tree
 given_by fails = Err Fails
 given_by (stops why) = Err (stopped_as why)
 
--- A tree is given, and put in a slot: from a store to this one.
+-- The run succeeded with a tree, which was put in a slot: from one store to the other.
 pub record GivesIn (ending : Outcome) (slot : ℕ) (s t : Store) : Type 0 where
   pub tree : Tree
   pub given : given_by ending ≡ Ok tree

@@ -1,4 +1,4 @@
--- How the logic stores histories: as tuples of their parts.
+-- How the logic stores histories: as tuples of their fields.
 use Rattle.std.specs.Prelude.{ℕ, Bool, List, refl}
 use Rattle.std.specs.declared.option.Option.{Option}
 use Rattle.std.specs.Coded.{Coded, code_by, coded×, coded_ℕ, coded_bool, coded_list, coded_option}
@@ -17,7 +17,7 @@ group_code =
     code_by (Contents × Bool) (coded× contents_code coded_bool) (λ g. (g.begun, g.changed))
     (λ p. record { begun = p.0; changed = p.1 }) (λ _. refl)
 
--- the past and the later contents, those now, the primitives, and the group
+-- the past and the later contents, the current ones, the primitives, and the group
 abbrev Parts : Type 0
 Parts = ((List Contents × List Contents) × Contents) × (List Signature × Option HistoryGroup)
 

@@ -1,4 +1,4 @@
--- The text that gives contents again.
+-- The text that restores contents.
 use Rattle.std.specs.Prelude.{◌≡◌, ℕ, List, [], ◌∷◌, ◌++◌, codes, Some, IfSome}
 use Rattle.std.specs.Option.{option_map_or}
 use Rattle.std.specs.List.{flat_map, AllByRecursion}
@@ -17,12 +17,12 @@ tree_line name tree = codes "tree " ++ name ++ 32 ∷ print tree ++ 10 ∷ []
 abbrev pub dumped_trees : Contents → List ℕ
 dumped_trees c = flat_map (λ name. option_map_or (tree_line name) (finmap.get c.trees name) []) (finmap.keys c.trees)
 
--- a text behind a name: a space and the text, or nothing where it is empty
+-- a text after a name: a space and the text, or nothing if it is empty
 abbrev pub behind_name : List ℕ → List ℕ
 behind_name [] = []
 behind_name (b ∷ text) = 32 ∷ b ∷ text
 
--- The command that gives a name its module text again. Its text may have line feeds.
+-- The command that restores the text of a module. The text may have line feeds.
 abbrev pub module_line : List ℕ → List ℕ → List ℕ
 module_line name text = codes "module " ++ name ++ behind_name text ++ 10 ∷ []
 
@@ -30,7 +30,7 @@ module_line name text = codes "module " ++ name ++ behind_name text ++ 10 ∷ []
 abbrev pub module_lines : Contents → List (List ℕ) → List ℕ
 module_lines c names = flat_map (λ name. option_map_or (module_line name) (finmap.get c.modules name) []) names
 
--- Modules that need one another are given in a group. Where there are none, there is no group.
+-- Modules that depend on one another are loaded in a group. If there are none, there is no group.
 abbrev pub grouped : Contents → List (List ℕ) → List ℕ
 grouped c [] = []
 grouped c (name ∷ names) =
@@ -39,11 +39,11 @@ grouped c (name ∷ names) =
 abbrev pub dumped_modules : Contents → List ℕ
 dumped_modules c = grouped c (finmap.keys c.modules)
 
--- The dump: the trees, and then the modules.
+-- The dump: the trees, followed by the modules.
 abbrev pub dumped : Contents → List ℕ
 dumped c = dumped_trees c ++ dumped_modules c
 
--- what has a tree is a label, and the tree is a term
+-- a name that has a tree is a label, and the tree is a term
 abbrev pub IsNamedTerm : Contents → List ℕ → Type 0
 IsNamedTerm c name =
     IfSome (finmap.get c.trees name) (λ tree. (label_of name ≡ Some name) × IsTerm tree)

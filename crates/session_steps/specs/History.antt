@@ -1,5 +1,5 @@
--- What a session holds: the contents now, those from before each step, those that were undone, and
--- the group that is open.
+-- What a session holds: the current contents, those from before each step, those that were undone,
+-- and the open group.
 use Rattle.std.specs.Prelude.{◌≡◌, ◌≤◌, ℕ, zero, suc, Bool, true, List, [], ◌∷◌, ◌++◌, Some, None, IfSome, option_and_then}
 use Rattle.std.specs.declared.option.Option.{Option}
 use Rattle.std.specs.Option.{option_map_or}
@@ -19,8 +19,8 @@ pub record HistoryGroup : Type 0 where
   pub begun : Contents
   pub changed : Bool
 
--- The primitives of the session; the contents from before each step, the newest last; those now;
--- those that were undone, the nearest first; and the open group, if there is one.
+-- The primitives of the session; the contents from before each step, the newest last; the current
+-- contents; those that were undone, the nearest first; and the open group, if there is one.
 pub record History : Type 0 where
   pub primitives : List Signature
   pub past : List Contents
@@ -33,29 +33,30 @@ abbrev pub empty_history : List Signature → History
 empty_history primitives =
     record { primitives = primitives; past = []; now = no_contents; later = []; group = None }
 
--- One step more, from these contents to those now: they become past, and nothing is later.
+-- One more step, from these contents to the current ones: the former become past, and nothing is
+-- later.
 abbrev pub stepped : Contents → History → History
 stepped from h = record h { past = h.past ++ from ∷ []; later = [] }
 
--- An accepted change to these contents. It is a step of its own, or, in a group, part of the group's
+-- An accepted change to these contents. It is a step of its own or, in a group, part of the group's
 -- step.
 abbrev pub changed : Contents → History → History
 changed c h =
     option_map_or (λ g. record h { now = c; group = Some (record g { changed = true }) }) h.group
     (record (stepped h.now h) { now = c })
 
--- the last of c and those behind it
+-- the last of c and the contents after it
 abbrev pub newest : Contents → List Contents → Contents
 newest c [] = c
 newest c (d ∷ ds) = newest d ds
 
--- c and those behind it but the last
+-- c and the contents after it, without the last
 abbrev pub older : Contents → List Contents → List Contents
 older c [] = []
 older c (d ∷ ds) = c ∷ older d ds
 
--- One place back, where there is a past: the newest past contents are now, and those now are the
--- nearest later ones.
+-- One step back, if there is a past: the newest past contents become current, and the current ones
+-- become the nearest later ones.
 abbrev pub back_to : History → List Contents → Option History
 back_to h [] = None
 back_to h (c ∷ cs) =
@@ -64,8 +65,8 @@ back_to h (c ∷ cs) =
 abbrev pub step_back : History → Option History
 step_back h = back_to h h.past
 
--- One place forward, where something is later: the nearest later contents are now, and those now
--- are the newest past ones.
+-- One step forward, if something is later: the nearest later contents become current, and the
+-- current ones become the newest past ones.
 abbrev pub forward_to : History → List Contents → Option History
 forward_to h [] = None
 forward_to h (c ∷ cs) = Some (record h { past = h.past ++ h.now ∷ []; now = c; later = cs })
@@ -73,12 +74,12 @@ forward_to h (c ∷ cs) = Some (record h { past = h.past ++ h.now ∷ []; now = 
 abbrev pub step_forward : History → Option History
 step_forward h = forward_to h h.later
 
--- k places back, where there are k
+-- k steps back, if there are that many
 abbrev pub undone : ℕ → History → Option History
 undone zero h = Some h
 undone (suc k) h = option_and_then (undone k) (step_back h)
 
--- k places forward, where there are k
+-- k steps forward, if there are that many
 abbrev pub redone : ℕ → History → Option History
 redone zero h = Some h
 redone (suc k) h = option_and_then (redone k) (step_forward h)
@@ -88,23 +89,23 @@ abbrev pub AreLow : Named Tree → Type 0
 AreLow trees =
     (name : List ℕ) → IfSome (finmap.get trees name) (λ tree. height tree ≤ MAX_HEIGHT)
 
--- Contents are well formed where no tree is higher than 1,000, and each module text has at most 4,000
--- tokens and gives a module.
+-- Contents are well formed if no tree is higher than 1,000, and each module text has at most 4,000
+-- tokens and is a module.
 abbrev pub AreFormed : Contents → Type 0
 AreFormed c = AreLow c.trees × AreReadable c.modules
 
--- They are sound where in all their modules together the checker finds no fault, too.
+-- They are sound if in addition the checker finds no fault in all their modules together.
 abbrev pub AreSound : Primitives → Contents → Type 0
 AreSound primitives c = AreFormed c × Finds primitives c.modules None
 
--- The contents now are sound outside a group. Inside one they are well formed, and those where it
--- began are sound; these are still those now where nothing was changed.
+-- Outside a group the current contents are sound. Inside one they are well formed, and those where
+-- it began are sound; these are still the current ones if nothing has changed.
 abbrev pub IsSoundNow : Primitives → Contents → Option HistoryGroup → Type 0
 IsSoundNow primitives c None = AreSound primitives c
 IsSoundNow primitives c (Some g) =
     AreFormed c × AreSound primitives g.begun × OnFalse g.changed (c ≡ g.begun)
 
--- All contents of a history are sound: the past, those now and the later ones.
+-- All contents of a history are sound: the past, the current and the later ones.
 abbrev pub HasSoundContents : History → Type 0
 HasSoundContents h =
     AllByRecursion (AreSound h.primitives) h.past × IsSoundNow h.primitives h.now h.group

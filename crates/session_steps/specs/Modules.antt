@@ -1,4 +1,5 @@
--- Modules in the contents of a session: what their texts give, and what the checker finds in them.
+-- The modules in the contents of a session: parsing their texts, and what the checker finds in
+-- them.
 use Rattle.std.specs.Prelude.{◌≡◌, ◌<◌, ◌≤◌, ◌⊎◌, ℕ, List, [], ◌∷◌, length, Some, Ok, Err, IfSome, IsSomeAnd}
 use Rattle.std.specs.declared.option.Option.{Option}
 use Rattle.std.specs.declared.result.Result.{Result}
@@ -20,8 +21,8 @@ use Rattle.session_steps.specs.declared.refusal.Refusal.TheVariants.{Memory, Dee
 abbrev pub Texts : Type 0
 Texts = Named (List ℕ)
 
--- What a text gives whose tokens are to give something. One of over 4,000 tokens is refused before it is
--- read.
+-- What a text is parsed to, by a relation on its tokens. A text of over 4,000 tokens is refused
+-- before it is parsed.
 abbrev pub ReadsBy : {X : Type 0} → (List Token → X → Type 0) → List ℕ → Result X Refusal → Type 0
 ReadsBy Gives text (Ok x) = (length (tokens text) ≤ MAX_TOKENS) × Gives (tokens text) x
 ReadsBy {X} Gives text (Err refusal) =
@@ -29,16 +30,16 @@ ReadsBy {X} Gives text (Err refusal) =
     ⊎ ((refusal ≡ Syntax) × (length (tokens text) ≤ MAX_TOKENS)
     × ((x : X) → Gives (tokens text) x → ⊥))
 
--- what a text gives that is to be a module
+-- what a module text is parsed to
 abbrev pub ReadsAsModule : List ℕ → Result Module Refusal → Type 0
 ReadsAsModule = ReadsBy GivesModule
 
--- each text gives a module
+-- each text is a module
 abbrev pub AreReadable : Texts → Type 0
 AreReadable texts =
     (name : List ℕ) → IfSome (finmap.get texts name) (λ text. (m : Module) × ReadsAsModule text (Ok m))
 
--- These are the modules that the texts of these names give, one after another.
+-- The texts of these names are parsed to these modules, in order.
 abbrev pub AreRead : Texts → List (List ℕ) → Modules → Type 0
 AreRead texts [] [] = Unit {0}
 AreRead texts (name ∷ names) (m ∷ ms) =
@@ -47,17 +48,18 @@ AreRead texts (name ∷ names) (m ∷ ms) =
 AreRead texts [] (m ∷ ms) = ⊥
 AreRead texts (name ∷ names) [] = ⊥
 
--- These are the modules of all the texts, in byte order of their names.
+-- These are the modules of all texts, in byte order of their names.
 abbrev pub AreModules : Texts → Modules → Type 0
 AreModules texts ms = AreRead texts (finmap.keys texts) ms
 
--- What the checker finds in the modules of these texts, with these primitives: the first fault, or none.
+-- What the checker finds in the modules of these texts, with these primitives: the first fault, or
+-- none.
 pub record Finds (primitives : Primitives) (texts : Texts) (found : Option Fault) : Type 0 where
   pub modules : Modules
   pub are : AreModules texts modules
   pub fault : found ≡ first (faults modules primitives)
 
--- The program that these texts give with these primitives: the checker finds no fault in their modules.
+-- The program of these texts with these primitives: the checker finds no fault in their modules.
 pub record GivesProgram (primitives : Primitives) (texts : Texts) (checked : Program) : Type 0 where
   pub modules : Modules
   pub are : AreModules texts modules
@@ -69,24 +71,24 @@ pub record IsProgram (primitives : Primitives) (texts : Texts) (checked : Progra
   pub gives : GivesProgram primitives texts checked
   pub in_range : BodiesInRange checked primitives
 
--- A program that is kept is that of these texts.
+-- A cached program is that of these texts.
 abbrev pub IsKept : Primitives → Texts → Option Program → Type 0
 IsKept primitives texts kept = IfSome kept (IsProgram primitives texts)
 
--- the refusal that tells a fault
+-- the refusal that reports a fault
 abbrev pub refusal_of : Fault → Refusal
 refusal_of fault = Check fault.kind fault.name fault.first fault.second
 
--- What the checker makes of the modules of these texts: their program, or the refusal that tells the first
--- fault.
+-- What the checker makes of the modules of these texts: their program, or the refusal that reports
+-- the first fault.
 abbrev pub Checks : Primitives → Texts → Result Program Refusal → Type 0
 Checks primitives texts (Ok checked) = GivesProgram primitives texts checked
 Checks primitives texts (Err refusal) =
     (fault : Fault) × Finds primitives texts (Some fault) × (refusal ≡ refusal_of fault)
 
--- ---- why modules are refused: for want of memory, for a text that gives none, or for a fault
+-- ---- why modules are refused: for want of memory, for a text that is no module, or for a fault
 
--- one of the texts gives no module, and this is why
+-- one of the texts is no module, and this is why
 abbrev pub IsUnread : Texts → Refusal → Type 0
 IsUnread texts refusal =
     (name : List ℕ) × (text : List ℕ) × (finmap.get texts name ≡ Some text)

@@ -47,7 +47,7 @@ word_of NoRedo = codes "noredo"
 word_of Group = codes "group"
 word_of NoGroup = codes "nogroup"
 
--- the refusal that tells why a text is no label
+-- the refusal for a text that is no label
 abbrev pub label_refusal : LabelFault → Refusal
 label_refusal NoLabel = Name
 label_refusal NoLabelMemory = Memory

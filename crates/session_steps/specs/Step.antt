@@ -1,5 +1,5 @@
--- What each act does to a session: the history after it, or the one refusal, which leaves all as it
--- was.
+-- What each act does to a session: the history after it, or the one refusal, which leaves the
+-- history unchanged.
 use Rattle.std.specs.Prelude.{◌≡◌, ℕ, ◌+◌, Bool, true, false, List, length, Some, None, Ok, Err, is_none, ok_or, option_map, if◌then◌else◌}
 use Rattle.std.specs.declared.option.Option.{Option}
 use Rattle.std.specs.declared.result.Result.{Result}
@@ -19,39 +19,39 @@ use Rattle.session_steps.specs.declared.refusal.Refusal.{Refusal}
 use Rattle.session_steps.specs.declared.refusal.Refusal.TheVariants.{NoTree, NoModule, Path, Big, NoUndo, NoRedo, Group, NoGroup}
 
 pub data Act : Type 0 where
-  -- gives the label this tree
+  -- sets the tree of a label
   set_tree : List ℕ → Tree → Act
-  -- gives the second label the tree of the first
+  -- sets the tree of the second label to that of the first
   copy_tree : List ℕ → List ℕ → Act
-  -- takes the tree of the label away
+  -- removes the tree of the label
   drop_tree : List ℕ → Act
   -- puts this tree at a path of the label's tree
   put : List ℕ → List ℕ → Tree → Act
-  -- gives the subterm at a path of the label's tree these annotations
+  -- sets the annotations of the subterm at a path of the label's tree
   annotate : List ℕ → List ℕ → List Tree → Act
-  -- gives the label this module text
+  -- sets the text of the label's module
   set_module : List ℕ → List ℕ → Act
-  -- takes the module of the label away
+  -- removes the label's module
   unload : List ℕ → Act
-  -- applies the strategy of this text at a path of the label's tree, within so many steps, where primitives
-  -- mean this
+  -- applies the strategy with this text at a path of the label's tree, within this many steps,
+  -- given the meaning of primitives
   apply : Meaning → List ℕ → List ℕ → ℕ → List ℕ → Act
-  -- goes so many places back
+  -- goes this many steps back
   undo : ℕ → Act
-  -- goes so many places forward
+  -- goes this many steps forward
   redo : ℕ → Act
-  -- begins a group, makes what it changed one step, or takes that back
+  -- begins a group, makes its changes one step, or undoes them
   begin : Act
   commit : Act
   abandon : Act
 
--- what an act comes to: the history after it, or the refusal
+-- the outcome of an act: the history after it, or the refusal
 abbrev pub Outcome : Type 0
 Outcome = Result History Refusal
 
--- ---- the order of refusals: each test refuses, or what stands behind it decides
+-- ---- the order of refusals: each test refuses, or the rest decides
 
--- A test hands on what it found, or refuses.
+-- A test passes on what it found, or refuses.
 abbrev pub Passing : {X : Type 0} → Result X Refusal → (X → Outcome → Type 0) → Outcome → Type 0
 Passing (Ok x) next outcome = next x outcome
 Passing (Err refusal) next outcome = outcome ≡ Err refusal
@@ -61,16 +61,16 @@ abbrev pub Holding : Bool → Refusal → (Outcome → Type 0) → Outcome → T
 Holding true refusal next outcome = next outcome
 Holding false refusal next outcome = outcome ≡ Err refusal
 
--- What is related to a value goes on with it; what is related to a refusal is refused so.
+-- A value continues with the rest; a refusal is the outcome.
 abbrev pub Given : {X : Type 0} → (Result X Refusal → Type 0) → (X → Outcome → Type 0) → Outcome
     → Type 0
 Given {X} Gives next outcome = (given : Result X Refusal) × Gives given × Passing given next outcome
 
--- this is the history then
+-- this is the history afterwards
 abbrev pub Leaves : History → Outcome → Type 0
 Leaves g outcome = outcome ≡ Ok g
 
--- These are the contents then, by a change.
+-- These are the contents afterwards, by a change.
 abbrev pub ChangesTo : Contents → History → Outcome → Type 0
 ChangesTo c h = Leaves (changed c h)
 
@@ -84,7 +84,7 @@ tree_of c name = ok_or (finmap.get c.trees name) NoTree
 abbrev pub text_of : Contents → List ℕ → Result (List ℕ) Refusal
 text_of c name = ok_or (finmap.get c.modules name) NoModule
 
--- A place in a tree: the tree, and the subterm that stands there.
+-- A place in a tree: the tree, and the subterm there.
 pub record Place : Type 0 where
   pub tree : Tree
   pub part : Tree
@@ -94,20 +94,20 @@ place_in path (Ok tree) =
     ok_or (option_map (λ part. record { tree = tree; part = part }) (at tree path)) Path
 place_in path (Err refusal) = Err refusal
 
--- the place that a path leads to in the tree of a label
+-- the place at a path in the tree of a label
 abbrev pub place_of : Contents → List ℕ → List ℕ → Result Place Refusal
 place_of c name path = place_in path (tree_of c name)
 
 -- ---- acts
 
--- Modules become those of these contents, by a change. Outside a group the checker has to find no fault
--- in them.
+-- The modules become those of these contents, by a change. Outside a group the checker has to find
+-- no fault in them.
 abbrev pub ChangesModules : Option HistoryGroup → Contents → History → Outcome → Type 0
 ChangesModules None c h = Given (Checks h.primitives c.modules) (λ program. ChangesTo c h)
 ChangesModules (Some g) c h = ChangesTo c h
 
--- What is put at a place has to fit at its level, which is the length of the path; annotations one
--- below.
+-- A tree put at a place has to fit at its level, the length of the path; annotations have to fit
+-- one level below.
 abbrev pub PutsAt : List ℕ → List ℕ → Tree → History → Place → Outcome → Type 0
 PutsAt name path part h place =
     Holding (fits (length path) part) Big
@@ -118,21 +118,21 @@ AnnotatesAt name path annotations h place =
     Holding (list_all (fits (length path + 1)) annotations) Big
     (ChangesTo (with_tree h.now name (set_annotations_at place.tree path annotations)) h)
 
--- What the strategy gives there becomes the label's tree, by a change.
+-- The result of the strategy there becomes the label's tree, by a change.
 abbrev pub AppliesAt : Meaning → List ℕ → List ℕ → ℕ → History → Place → Program → Resolved → Outcome → Type 0
 AppliesAt meaning name path steps h place program strategy =
     Passing (given_by (applied (world_in meaning program h.primitives) path strategy steps place.tree))
     (λ tree. ChangesTo (with_tree h.now name tree) h)
 
--- What an open group changed becomes one step, where something was changed in it.
+-- The changes of an open group become one step, if there are any.
 abbrev pub committed : HistoryGroup → History → History
 committed g h =
     if g.changed then record (stepped g.begun h) { group = None } else record h { group = None }
 
--- What each act comes to at a history. A copy needs no test of its size. A strategy is applied where the
--- checker finds no fault in the modules now, nor in it beside their program. Going back or forward needs as
--- many places there, and no open group; a group is committed where the checker finds no fault in the
--- modules then.
+-- The outcome of each act at a history. A copy needs no test of its size. A strategy is applied if
+-- the checker finds no fault in the current modules, nor in the strategy, given their program.
+-- Going back or forward needs that many steps, and no open group; a group is committed if the
+-- checker finds no fault in the modules.
 abbrev pub ComesTo : Act → History → Outcome → Type 0
 ComesTo (set_tree name tree) h = Holding (fits 0 tree) Big (ChangesTo (with_tree h.now name tree) h)
 ComesTo (copy_tree name copy) h =
@@ -162,7 +162,7 @@ ComesTo commit h =
 ComesTo abandon h =
     Passing (ok_or h.group NoGroup) (λ g. Leaves (record h { now = g.begun; group = None }))
 
--- which acts are a change of the contents, where they are accepted
+-- which acts change the contents, if they are accepted
 abbrev pub IsChange : Act → Type 0
 IsChange (set_tree name tree) = Unit {0}
 IsChange (copy_tree name copy) = Unit {0}

@@ -1,4 +1,4 @@
--- What the logs of a session stand for: the whole contents before and after each step.
+-- What the logs of a session represent: the whole contents before and after each step.
 use Rattle.std.specs.Prelude.{◌≡◌, ◌≤◌, ℕ, List, [], ◌∷◌, ◌++◌, length, take, drop, true, Some, None, option_map}
 use Rattle.std.specs.declared.option.Option.{Option}
 use Rattle.std.specs.Bool.{OnFalse}
@@ -24,23 +24,23 @@ abbrev pub past_of : List (List Entry) → Store → List Contents
 past_of [] s = []
 past_of (log ∷ logs) s = contents (before log (rewound logs s)) ∷ past_of logs s
 
--- the contents after each of the steps that these logs make again, the nearest first
+-- the contents after each of the steps that these logs redo, the nearest first
 abbrev pub later_of : List (List Entry) → Store → List Contents
 later_of [] s = []
 later_of (log ∷ logs) s = contents (after log s) ∷ later_of logs (after log s)
 
--- each log leads back where it stands
+-- each log fits where undo reaches it
 abbrev pub FitBack : List (List Entry) → Store → Type 0
 FitBack [] s = Unit {0}
 FitBack (log ∷ logs) s = Fits log (rewound logs s) × FitBack logs s
 
--- each log leads forward where it stands
+-- each log fits forward where redo reaches it
 abbrev pub FitForward : List (List Entry) → Store → Type 0
 FitForward [] s = Unit {0}
 FitForward (log ∷ logs) s = FitsForward log s × FitForward logs (after log s)
 
--- The history that a timeline stands for, in a session with these primitives. The current log has
--- what was changed since the open group began, and is empty outside a group.
+-- The history that a timeline represents, in a session with these primitives. The current log holds
+-- the changes since the open group began, and is empty outside a group.
 abbrev pub unfolded : List Signature → Timeline → History
 unfolded primitives t =
     let start = before t.current t.store in
@@ -52,12 +52,12 @@ unfolded primitives t =
       group = option_map (λ g. record { begun = contents start; changed = g.changed }) t.group;
     }
 
--- where nothing was changed in a group, or no group is open, the current log is empty
+-- if nothing has changed in a group, or no group is open, the current log is empty
 abbrev pub IsCurrent : Option OpenGroup → List Entry → Type 0
 IsCurrent None log = log ≡ []
 IsCurrent (Some g) log = OnFalse g.changed (log ≡ [])
 
--- in each log no entry's place lies within another's
+-- in each log the entries are at disjoint places
 abbrev pub AllCompact : List (List Entry) → Type 0
 AllCompact [] = Unit {0}
 AllCompact (log ∷ logs) = IsCompact log × AllCompact logs
@@ -66,8 +66,8 @@ AllCompact (log ∷ logs) = IsCompact log × AllCompact logs
 abbrev pub logs_of : Timeline → List (List Entry)
 logs_of t = t.logs.items
 
--- The position is one of the logs or their end; the logs before it lead back, the others forward. All are
--- compact. What an open group changed leads back too.
+-- The position is that of a log or the end; the logs before it lead back, the others forward. All
+-- are compact. The changes of an open group lead back too.
 pub record IsPlaced (t : Timeline) : Type 0 where
   pub within : t.position ≤ length t.logs.items
   pub back : FitBack (take t.position t.logs.items) (before t.current t.store)
@@ -76,8 +76,8 @@ pub record IsPlaced (t : Timeline) : Type 0 where
   pub fits : Fits t.current t.store
   pub current : IsCurrent t.group t.current
 
--- A step is added behind these logs: what is left of the given log once it is compact, which leads back to
--- the same.
+-- A step is appended to these logs: the given log after compacting, which leads back to the same
+-- store.
 pub record AddsStep (logs : List (List Entry)) (log : List Entry) (new : List (List Entry)) : Type 0 where
   pub left : List Entry
   pub all : new ≡ logs ++ left ∷ []
@@ -85,7 +85,7 @@ pub record AddsStep (logs : List (List Entry)) (log : List Entry) (new : List (L
   pub fits : (s : Store) → Fits log s → Fits left s
   pub compact : IsCompact left
 
--- the slot of a name's tree, in which the path leads to a subterm
+-- the slot of a name's tree, which has a subterm at the path
 abbrev pub IsPlaceOf : Store → List ℕ → List ℕ → ℕ → Type 0
 IsPlaceOf s name path slot =
     (t : Tree) × (slot_of s.trees name ≡ Some slot) × (AreApart s.trees)
@@ -93,18 +93,18 @@ IsPlaceOf s name path slot =
 
 -- ---- a change of many entries
 
--- From a store and its log to these: entries were added behind the log, which lead back and fit.
+-- From one store and log to the other: entries were appended to the log, which lead back and fit.
 pub record AddsEntries (s : Store) (log : List Entry) (t : Store) (longer : List Entry) : Type 0 where
   pub added : List Entry
   pub behind : longer ≡ log ++ added
   pub back : before added t ≡ s
   pub fits : Fits added t
 
--- what a call may leave of the store and the log that it is lent
+-- what a call may leave of the store and the log that it borrows
 abbrev pub Leaving : Type 1
 Leaving = MutBor Store → MutBor (List Entry) → MutBor Store → MutBor (List Entry) → Type 0
 
--- a call that is lent this store leaves that one
+-- a call that borrows this store leaves that one
 pub record CallLeaves (Leaves : Leaving) (s t : Store) : Type 0 where
   pub store : MutBor Store
   pub log : MutBor (List Entry)
@@ -114,7 +114,7 @@ pub record CallLeaves (Leaves : Leaving) (s t : Store) : Type 0 where
   pub lent : store.now ≡ s
   pub left : store_left.now ≡ t
 
--- a call that is lent this store refuses, whatever it leaves
+-- a call that borrows this store refuses, whatever it leaves
 pub record CallRefuses (Leaves : Leaving) (s : Store) : Type 0 where
   pub store : MutBor Store
   pub log : MutBor (List Entry)

@@ -1,5 +1,5 @@
-//! What commands do to a timeline: each is a step of the session machine, or is refused and leaves
-//! all as it was.
+//! What commands do to a timeline: each is a step of the session's machine, or is refused and
+//! changes nothing.
 
 ghost use Rattle.std.specs.Prelude.{◌≡◌, ◌⊎◌, List, false, Ok, Err, IfOk, OnOk, OnErr, IfErr};
 ghost use Rattle.std.specs.List.{list_all};
@@ -15,7 +15,7 @@ use term_core::{Label, Term};
 use term_paths::{Path, at};
 
 impl Timeline {
-    /// Gives the name this tree.
+    /// Sets the tree of this name.
     #[inline(always)]
     pub fn set_tree(&mut self, name: &Label, tree: Term) -> Result<(), Refusal>
         requires { IsPlaced self.old }
@@ -34,7 +34,7 @@ impl Timeline {
         Ok(())
     }
 
-    /// Gives the name `copy` a copy of the tree of `name`.
+    /// Sets the tree of `copy` to a copy of the tree of `name`.
     pub fn copy_tree(&mut self, name: &Label, copy: &Label) -> Result<(), Refusal>
         requires { IsPlaced self.old }
         ensures placed { IsPlaced self.new }
@@ -53,7 +53,7 @@ impl Timeline {
         Ok(())
     }
 
-    /// Takes the tree of the name away.
+    /// Removes the tree of this name.
     pub fn drop_tree(&mut self, name: &Label) -> Result<(), Refusal>
         requires { IsPlaced self.old }
         ensures placed { IsPlaced self.new }
@@ -73,7 +73,7 @@ impl Timeline {
         Ok(())
     }
 
-    /// Replaces the subterm that the path leads to in the tree of the name.
+    /// Replaces the subterm at the path in the tree of this name.
     pub fn put(&mut self, name: &Label, path: &Path, part: Term) -> Result<(), Refusal>
         requires { IsPlaced self.old }
         ensures placed { IsPlaced self.new }
@@ -94,7 +94,7 @@ impl Timeline {
         Ok(())
     }
 
-    /// Replaces the annotations of the subterm that the path leads to in the tree of the name.
+    /// Replaces the annotations of the subterm at the path in the tree of this name.
     pub fn annotate(
         &mut self,
         name: &Label,
@@ -122,7 +122,7 @@ impl Timeline {
         Ok(())
     }
 
-    /// The slot of the name's tree, where the path leads to a subterm of it.
+    /// The slot of the name's tree, if that has a subterm at the path.
     pub fn place(&self, name: &Label, path: &Path) -> Result<usize, Refusal>
         ensures there { IfOk result (λ slot. IsPlaceOf self.now.store name.now path.now slot) }
         ensures refused { IfErr result (λ refusal. place_of (contents self.now.store) name.now path.now
@@ -140,7 +140,7 @@ impl Timeline {
         Ok(slot)
     }
 
-    /// Goes `n` steps back, and tells whether that may have changed module texts.
+    /// Goes `n` steps back. Returns whether module texts may have changed.
     pub fn undo(&mut self, n: u32) -> Result<bool, Refusal>
         requires { IsPlaced self.old }
         ensures placed { IsPlaced self.new }
@@ -161,7 +161,7 @@ impl Timeline {
         Ok(self.back_by(steps))
     }
 
-    /// Goes `n` steps forward, and tells whether that may have changed module texts.
+    /// Goes `n` steps forward. Returns whether module texts may have changed.
     pub fn redo(&mut self, n: u32) -> Result<bool, Refusal>
         requires { IsPlaced self.old }
         ensures placed { IsPlaced self.new }
@@ -198,8 +198,8 @@ impl Timeline {
         Ok(())
     }
 
-    /// Takes back what the open group changed, and closes it, and tells whether that may have changed module
-    /// texts.
+    /// Undoes the changes of the open group and closes it. Returns whether module texts may have
+    /// changed.
     pub fn abandon(&mut self) -> Result<bool, Refusal>
         requires { IsPlaced self.old }
         ensures placed { IsPlaced self.new }
@@ -217,7 +217,7 @@ impl Timeline {
     }
 }
 
-// Whether each of the terms fits at the level.
+// Whether all terms fit at the level.
 fn all_fit(terms: &[Term], level: u64) -> bool
     ensures { result ≡ list_all (fits level) terms.now }
 {

@@ -1,4 +1,4 @@
-//! The text that gives the trees and the modules again.
+//! The text that restores the trees and the modules.
 
 ghost use Rattle.std.specs.Prelude.{◌≡◌, ◌≤◌, ◌++◌, ◌∷◌, [], codes, Some, OnOk, OnErr, vec_capacity};
 ghost use Rattle.std.specs.Option.{option_map_or};
@@ -15,8 +15,8 @@ use aterm_text::print;
 use term_core::{Label, NoMemory, Term};
 
 impl Timeline {
-    /// Appends a line for each tree and a command for each module, in byte order of the names. Where a
-    /// growth of memory is refused, `out` is as before.
+    /// Appends a line for each tree and a command for each module, in byte order of the names. If
+    /// memory can't grow, `out` is unchanged.
     pub fn dump(&self, out: &mut Vec<u8>) -> Result<(), NoMemory>
         ensures ok { OnOk result (out.new.items ≡ out.old.items ++ dumped (contents self.now.store)) }
         ensures terms { OnOk result (AreNamedTerms (contents self.now.store)) }
@@ -33,7 +33,7 @@ impl Timeline {
         dumped
     }
 
-    // The trees of these names, and then these modules.
+    // The trees of these names, followed by these modules.
     fn dump_all(
         &self,
         trees: &[Label],
@@ -80,7 +80,7 @@ impl Timeline {
         }
     }
 
-    // The modules of these names in a group, or nothing where there is none.
+    // The modules of these names in a group, or nothing if there are none.
     fn dump_modules(&self, names: &[Label], out: &mut Vec<u8>) -> Result<(), NoMemory>
         ensures ok { OnOk result (out.new.items ≡ out.old.items
             ++ grouped (contents self.now.store) names.now) }

@@ -1,5 +1,5 @@
-//! The steps of a session: changes of named trees and modules, each kept by what it replaced, so that it can be
-//! undone and redone.
+//! The steps of a session: changes of named trees and modules. Each step holds what it replaced, so
+//! that it can be undone and redone.
 #![tactic(auto)]
 
 mod acts;
@@ -12,5 +12,5 @@ pub use modules::keep_program;
 pub use refusal::Refusal;
 pub use timeline::{OpenGroup, Timeline};
 
-/// The most steps that one `undo` or `redo` goes, and the greatest budget of an evaluation.
+/// The most steps of one `undo` or `redo`, and the greatest budget of an evaluation.
 pub const MAX_STEPS: u32 = 1_000_000;

@@ -1,4 +1,4 @@
-//! The modules of a session: what their texts give, and whether the checker finds a fault in them.
+//! The modules of a session: reading their texts, and checking them.
 
 ghost use Rattle.std.specs.Prelude.{◌≡◌, ◌⊎◌, Ok, Err, None, IfOk, IfErr, OnOk, OnErr, IsSome, IsSomeAnd};
 ghost use Rattle.std.specs.FinMap as finmap;
@@ -17,8 +17,8 @@ use strategy_syntax::Module;
 use term_core::{Label, NoMemory};
 
 impl Timeline {
-    /// Gives the name this module text. Outside a group the checker has to find no fault in the modules
-    /// then, and their program is given.
+    /// Sets the text of the module of this name. Outside a group the checker must then find no
+    /// fault in the modules, and their program is returned.
     pub fn set_module<M: Meaning>(
         &mut self,
         primitives: &Primitives<M>,
@@ -49,7 +49,7 @@ impl Timeline {
         }
     }
 
-    // In a group the text has to give a module; the checker waits for the end of the group.
+    // In a group the text has to be a module; the check waits for the end of the group.
     fn set_module_in_group<M: Meaning>(
         &mut self,
         primitives: &Primitives<M>,
@@ -73,8 +73,8 @@ impl Timeline {
         Ok(())
     }
 
-    /// Takes the module of the name away. Outside a group the checker has to find no fault in the modules
-    /// then, and their program is given.
+    /// Removes the module of this name. Outside a group the checker must then find no fault in the
+    /// modules, and their program is returned.
     pub fn unload<M: Meaning>(
         &mut self,
         primitives: &Primitives<M>,
@@ -108,9 +108,9 @@ impl Timeline {
         }
     }
 
-    /// Makes what the open group changed one step, and closes it, where the checker finds no fault in the
-    /// modules now. The checker isn't asked where their program is known; one that it gives is known from
-    /// then on, also where the step wants memory that isn't there.
+    /// Makes the changes of the open group one step and closes it, if the checker finds no fault in
+    /// the modules. They are checked only if their program isn't known. A program that the check
+    /// makes is kept, even if there is no memory for the step.
     pub fn commit<M: Meaning>(
         &mut self,
         primitives: &Primitives<M>,
@@ -138,8 +138,8 @@ impl Timeline {
     }
 }
 
-/// Keeps the program of the modules of the store, where the checker finds no fault in them: then there is
-/// one. A program that is kept already is theirs.
+/// Keeps the program of the modules of the store, if the checker finds no fault in them. A program
+/// that is kept already is theirs.
 pub fn keep_program<M: Meaning>(
     alloc: Global,
     store: &Store,
@@ -160,7 +160,7 @@ pub fn keep_program<M: Meaning>(
     Ok(())
 }
 
-/// The program of the modules of the store, where the checker finds no fault in them.
+/// The program of the modules of the store, if the checker finds no fault in them.
 pub fn check_modules<M: Meaning>(
     alloc: Global,
     store: &Store,
@@ -224,7 +224,7 @@ fn read_named(alloc: Global, store: &Store, name: &Label) -> Result<Module, Refu
     read_module(alloc, text)
 }
 
-// The module that a text gives.
+// Parses a module.
 fn read_module(alloc: Global, text: &[u8]) -> Result<Module, Refusal>
     ensures ok { IfOk result (λ m. ReadsAsModule text.now (Ok m)) }
     ensures refused { IfErr result (λ refusal. (refusal ≡ Refusal.Memory)

@@ -11,43 +11,44 @@ use thiserror::Error;
 /// Why a command is refused. A refused command leaves the session as it was.
 #[derive(Drop, Error)]
 pub enum Refusal {
-    /// A growth of memory was refused.
+    /// Memory couldn't grow.
     #[error("memory")]
     Memory,
-    /// There is no such form of a command, a path is malformed, or a number is out of range.
+    /// The command has no known form, a path is malformed, or a number is out of range.
     #[error("line")]
     Line,
-    /// The command has over 65,536 bytes.
+    /// The command is longer than 65,536 bytes.
     #[error("long")]
     Long,
     /// A name isn't a word, or is longer than 64 bytes.
     #[error("name")]
     Name,
-    /// There is no tree of that name.
+    /// There is no tree of this name.
     #[error("notree")]
     NoTree,
-    /// There is no module of that name.
+    /// There is no module of this name.
     #[error("nomodule")]
     NoModule,
-    /// The text spells no term.
+    /// The text is no term.
     #[error("term")]
     Term,
     /// The text nests too deep or has too many tokens.
     #[error("deep")]
     Deep,
-    /// The tree has no subterm there.
+    /// The tree has no subterm at the path.
     #[error("path")]
     Path,
     /// The text is no strategy, or no module.
     #[error("syntax")]
     Syntax,
-    /// The checker found a fault: its kind, the name, and two numbers, mostly of strategies and terms.
+    /// The checker found a fault: its kind, the name, and two numbers, usually of strategies and
+    /// terms.
     #[error("check")]
     Check(Kind, Name, u64, u64),
     /// The strategy fails.
     #[error("fails")]
     Fails,
-    /// The steps are spent.
+    /// No step is left.
     #[error("spent")]
     Spent,
     /// A term doesn't fit at its level.
@@ -94,7 +95,7 @@ impl Refusal {
         }
     }
 
-    /// The word of the refusal, as an answer writes it behind the number.
+    /// The word of the refusal, which an answer has after the number.
     pub fn word(&self) -> &'static str
         ensures { result.now ≡ word_of self.now }
     {

@@ -1,4 +1,4 @@
-//! Steps over one store: the logs that lead back from each, and forward again.
+//! Steps over one store: the logs that lead back from each, or forward again.
 
 ghost use Rattle.std.specs.Prelude.{◌≡◌, ◌⊎◌, ◌<◌, ◌≤◌, ◌+◌, ◌-◌, ◌++◌, ℕ, List, [], ◌∷◌, length, take, vec_capacity, IfOk, OnOk, OnErr, Some, None, Ok, Err, IsSome, IsSomeAnd, true, false, is_some, option_copied, IfErr};
 ghost use Rattle.std.specs.Option.{option_map_or};
@@ -23,20 +23,20 @@ use std::mem;
 use strategy_check::Program;
 use term_core::{Label, NoMemory, Term};
 
-/// The contents now, and the steps from and to other contents.
+/// The current contents, and the steps that lead back and forward from them.
 #[derive(Drop)]
 pub struct Timeline {
     pub store: Store,
-    // The steps, the oldest first. Those before the position lead back, the others were undone and lead
-    // forward.
+    // The steps, the oldest first. Those before the position lead back; the others are undone and
+    // lead forward.
     logs: Vec<Step>,
     position: usize,
     group: Option<OpenGroup>,
-    // What was changed since the open group began; nothing outside a group.
+    // The changes since the open group began; empty outside a group.
     current: Log,
 }
 
-/// A group that is open.
+/// An open group.
 #[derive(Clone, Copy)]
 pub struct OpenGroup {
     // Whether a change was accepted since it began.
@@ -44,7 +44,7 @@ pub struct OpenGroup {
 }
 
 impl Timeline {
-    /// No contents and no steps. It takes no memory.
+    /// A timeline without contents and steps. It takes no memory.
     pub fn new(alloc: Global) -> Timeline
         ensures value { (ps : List Signature) → unfolded ps result ≡ empty_history ps }
         ensures placed { IsPlaced result }
@@ -58,12 +58,12 @@ impl Timeline {
         }
     }
 
-    /// The allocator of what is kept.
+    /// The allocator of everything kept.
     pub fn allocator(&self) -> Global {
         *self.logs.allocator()
     }
 
-    /// How many steps there are to undo.
+    /// The number of steps to undo.
     pub fn past(&self) -> usize
         requires { IsPlaced self.now }
         ensures value { (ps : List Signature) → length (unfolded ps self.now).past ≡ result }
@@ -72,7 +72,7 @@ impl Timeline {
         self.position
     }
 
-    /// How many steps there are to redo.
+    /// The number of steps to redo.
     pub fn later(&self) -> usize
         requires { IsPlaced self.now }
         ensures value { (ps : List Signature) → length (unfolded ps self.now).later ≡ result }
@@ -90,7 +90,7 @@ impl Timeline {
         self.group.is_some()
     }
 
-    /// The tree of this name, or `None` where there is none.
+    /// The tree of this name, or `None` if there is none.
     pub fn tree(&self, name: &Label) -> Option<&Term>
         ensures { option_copied result ≡ finmap.get (contents self.now.store).trees name.now }
     {
@@ -106,7 +106,7 @@ impl Timeline {
         self.store.tree_names(*self.logs.allocator())
     }
 
-    /// The module text of this name, or `None` where there is none.
+    /// The module text of this name, or `None` if there is none.
     pub fn module_text(&self, name: &Label) -> Option<&[u8]>
         ensures { option_copied result ≡ finmap.get (contents self.now.store).modules name.now }
     {
@@ -122,7 +122,7 @@ impl Timeline {
         self.store.module_names(*self.logs.allocator())
     }
 
-    /// The slot for the tree of this name, which is made where there was none.
+    /// The slot for the tree of this name. It is made if there is none.
     pub fn tree_slot(&mut self, name: &Label) -> Result<usize, NoMemory>
         requires { IsPlaced self.old }
         ensures placed { IsPlaced self.new }
@@ -133,7 +133,7 @@ impl Timeline {
         self.store.tree_slot(name)
     }
 
-    /// The slot for the module of this name, which is made where there was none.
+    /// The slot for the module of this name. It is made if there is none.
     pub fn module_slot(&mut self, name: &Label) -> Result<usize, NoMemory>
         requires { IsPlaced self.old }
         ensures placed { IsPlaced self.new }
@@ -146,8 +146,8 @@ impl Timeline {
         self.store.module_slot(name)
     }
 
-    /// Makes a change, as a step, or as part of the group that is open. Where a growth of memory is
-    /// refused, all stays as it was.
+    /// Makes a change, as a step or as part of the open group. If memory can't grow, nothing
+    /// changes.
     pub fn change(&mut self, entry: Entry<'_>) -> Result<(), NoMemory>
         requires placed { IsPlaced self.old }
         requires place { HasPlace entry self.old.store }
@@ -179,7 +179,7 @@ impl Timeline {
         Ok(())
     }
 
-    // The place in the list of steps is reserved before anything is changed.
+    // The place in the list of steps is reserved before anything changes.
     fn change_as_step(&mut self, entry: Entry<'_>) -> Result<(), NoMemory>
         requires placed { IsPlaced self.old }
         requires place { HasPlace entry self.old.store }
@@ -196,9 +196,9 @@ impl Timeline {
         Ok(())
     }
 
-    /// Makes a change of as many entries as the closure adds behind the log that it is lent, or of none:
-    /// as a step, or as part of the group that is open. Where the closure refuses, or a growth of memory
-    /// is refused, all stays as it was.
+    /// Makes a change of the entries, if any, that the closure appends to the log that it borrows:
+    /// as a step or as part of the open group. If the closure refuses, or memory can't grow,
+    /// nothing changes.
     pub fn change_by<F: FnOnce(&mut Store, &mut Log) -> Result<(), Refusal> + Drop>(
         &mut self,
         change: F,
@@ -226,7 +226,7 @@ impl Timeline {
         }
     }
 
-    // What the closure added to the group's log before it refused is taken back from there.
+    // If the closure refuses, the entries that it appended to the group's log are rolled back.
     fn change_in_group_by<F: FnOnce(&mut Store, &mut Log) -> Result<(), Refusal> + Drop>(
         &mut self,
         change: F,
@@ -257,7 +257,7 @@ impl Timeline {
         Ok(())
     }
 
-    // The place in the list of steps is reserved before anything is changed.
+    // The place in the list of steps is reserved before anything changes.
     fn change_as_step_by<F: FnOnce(&mut Store, &mut Log) -> Result<(), Refusal> + Drop>(
         &mut self,
         change: F,
@@ -291,8 +291,8 @@ impl Timeline {
         Ok(())
     }
 
-    /// Makes a change as a step, where the checker finds no fault in the modules then, and gives their
-    /// program. Else all stays as it was.
+    /// Makes a change as a step, if the checker then finds no fault in the modules, and returns
+    /// their program. Else nothing changes.
     pub fn change_checked<M: Meaning>(
         &mut self,
         primitives: &Primitives<M>,
@@ -328,7 +328,7 @@ impl Timeline {
         }
     }
 
-    // Adds a step of the log, made compact, where there is room for it. Those that were undone are dropped.
+    // Appends a step of the compacted log, for which there is room, and drops the undone steps.
     fn add_step(&mut self, log: Log)
         requires within { self.old.position ≤ length self.old.logs.items }
         requires room { length self.old.logs.items < vec_capacity self.old.logs }
@@ -341,7 +341,7 @@ impl Timeline {
         self.add(Step::of(log));
     }
 
-    // Adds a step where there is room for it. Those that were undone are dropped.
+    // Appends a step, for which there is room, and drops the undone steps.
     #[inline(always)]
     fn add(&mut self, step: Step)
         requires within { self.old.position ≤ length self.old.logs.items }
@@ -357,7 +357,7 @@ impl Timeline {
         self.position += 1;
     }
 
-    /// Goes one step back, and tells whether that may have changed module texts.
+    /// Goes one step back. Returns whether module texts may have changed.
     pub fn back(&mut self) -> bool
         requires placed { IsPlaced self.old }
         requires some { 0 < self.old.position }
@@ -376,7 +376,7 @@ impl Timeline {
         texts
     }
 
-    /// Goes so many steps back, and tells whether that may have changed module texts.
+    /// Goes this many steps back. Returns whether module texts may have changed.
     pub fn back_by(&mut self, steps: usize) -> bool
         requires placed { IsPlaced self.old }
         requires enough { steps ≤ self.old.position }
@@ -397,7 +397,7 @@ impl Timeline {
         texts
     }
 
-    /// Goes one step forward, and tells whether that may have changed module texts.
+    /// Goes one step forward. Returns whether module texts may have changed.
     pub fn forward(&mut self) -> bool
         requires placed { IsPlaced self.old }
         requires some { self.old.position < length self.old.logs.items }
@@ -417,7 +417,7 @@ impl Timeline {
         texts
     }
 
-    /// Goes so many steps forward, and tells whether that may have changed module texts.
+    /// Goes this many steps forward. Returns whether module texts may have changed.
     pub fn forward_by(&mut self, steps: usize) -> bool
         requires placed { IsPlaced self.old }
         requires enough { self.old.position + steps ≤ length self.old.logs.items }
@@ -448,8 +448,8 @@ impl Timeline {
         self.group = Some(OpenGroup { changed: false });
     }
 
-    /// Makes what the open group changed one step, and closes it. Where a growth of memory is refused,
-    /// all stays as it was.
+    /// Makes the changes of the open group one step and closes it. If memory can't grow, nothing
+    /// changes.
     pub fn close_group(&mut self) -> Result<(), NoMemory>
         requires placed { IsPlaced self.old }
         requires inside { IsSome self.old.group }
@@ -471,15 +471,15 @@ impl Timeline {
         Ok(())
     }
 
-    // Whether something was changed in the open group.
+    // Whether the open group has changes.
     fn has_changed(&self) -> bool
         ensures { result ≡ option_map_or (λ g. g.changed) self.now.group false }
     {
         self.group.is_some_and(|group| group.changed)
     }
 
-    /// Takes back what the open group changed, and closes it, and tells whether that may have changed
-    /// module texts. It takes no memory.
+    /// Undoes the changes of the open group and closes it. Returns whether module texts may have
+    /// changed. It takes no memory.
     pub fn leave_group(&mut self) -> bool
         requires placed { IsPlaced self.old }
         requires inside { IsSome self.old.group }

@@ -3,7 +3,7 @@ use Rattle.std.specs.List.{flat_map}
 use Rattle.aterm_text.specs.Printing.{Extends}
 use Rattle.script_forms.proofs.lines.append_names.Given as goal
 
--- the names that were written and those still to come make the whole
+-- the names written so far, followed by those still to come, are the whole line
 abbrev pub invariant-loop-name : goal.invariant-loop-name
 invariant-loop-name l = record {
   text : l.initial.answer.items ++ flat_map (λ name. 32 ∷ name) l.names ≡ l.answer.items ++ flat_map (λ name. 32 ∷ name) (drop l.name-index l.names);

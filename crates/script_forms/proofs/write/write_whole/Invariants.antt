@@ -2,7 +2,7 @@ use Rattle.std.proofs.Common.{◌≡◌, length}
 use Rattle.script_forms.specs.Run.{WritesFront}
 use Rattle.script_forms.proofs.write.write_whole.Given as goal
 
--- what is written so far, and what is left
+-- what was written so far, and what is left
 abbrev pub invariant-loop-rest : goal.invariant-loop-rest
 invariant-loop-rest g l = record {
   front : WritesFront (g.O.Sink.held l.fn.sink) (g.O.Sink.held l.sink) l.bytes l.rest;

@@ -6,7 +6,7 @@ use Rattle.change_plans.specs.Slots.{contents}
 use Rattle.session_steps.specs.Modules.{AreRead}
 use Rattle.session_steps.proofs.modules.read_modules.Given as goal
 
--- the modules that were read, and those of the names that are left, are those of all names
+-- the modules parsed so far, followed by those of the names that are left, are those of all names
 abbrev pub invariant-loop-name : goal.invariant-loop-name
 invariant-loop-name l = record {
   read : (rest : Modules) → AreRead (contents l.store).modules (drop l.name-index l.name-items) rest → AreRead (contents l.store).modules l.name-items (l.modules.items ++ rest);

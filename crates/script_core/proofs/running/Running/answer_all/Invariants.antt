@@ -6,7 +6,7 @@ use Rattle.script_core.specs.Running.{streams}
 use Rattle.script_core.proofs.RunningLemmas.{Progress}
 use Rattle.script_core.proofs.running.Running.answer_all.Given as goal
 
--- how far the run has come by so many turns
+-- the progress of the run after this many turns
 abbrev pub invariant-loop : goal.invariant-loop
 invariant-loop g l = record {
   progress : Progress (ReplyInRun g.M.Meaning.meaning) l.fn.self l.self l.fn.session l.session

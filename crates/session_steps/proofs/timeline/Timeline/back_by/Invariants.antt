@@ -4,7 +4,7 @@ use Rattle.session_steps.specs.History.{undone}
 use Rattle.session_steps.specs.Unfolded.{unfolded, IsPlaced}
 use Rattle.session_steps.proofs.timeline.Timeline.back_by.Given as goal
 
--- the steps that are left lead where all of them led
+-- the remaining steps lead where all of them led
 abbrev pub invariant-loop-left : goal.invariant-loop-left
 invariant-loop-left l = record {
   placed : IsPlaced l.self;

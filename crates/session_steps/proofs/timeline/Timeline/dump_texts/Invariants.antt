@@ -6,7 +6,7 @@ use Rattle.change_plans.specs.Slots.{contents}
 use Rattle.session_steps.specs.Dump.{module_lines}
 use Rattle.session_steps.proofs.timeline.Timeline.dump_texts.Given as goal
 
--- the commands that were written and those still to come make the whole
+-- the commands written so far, followed by those still to come, are the whole text
 abbrev pub invariant-loop-name : goal.invariant-loop-name
 invariant-loop-name l = record {
   text : l.initial.out.items ++ module_lines (contents l.self.store) l.names ≡ l.out.items ++ module_lines (contents l.self.store) (drop l.name-index l.names);

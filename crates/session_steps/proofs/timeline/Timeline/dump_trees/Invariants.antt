@@ -7,7 +7,7 @@ use Rattle.change_plans.specs.Slots.{contents}
 use Rattle.session_steps.specs.Dump.{tree_line, IsNamedTerm}
 use Rattle.session_steps.proofs.timeline.Timeline.dump_trees.Given as goal
 
--- the lines that were written and those still to come make the whole
+-- the lines written so far, followed by those still to come, are the whole text
 abbrev pub invariant-loop-name : goal.invariant-loop-name
 invariant-loop-name l = record {
   text : l.initial.out.items ++ flat_map (λ name. option_map_or (tree_line name) (finmap.get (contents l.self.store).trees name) []) l.names
