@@ -1,4 +1,4 @@
--- Open brackets: the innermost beside those around it.
+-- Open brackets: the innermost, stored apart from those around it.
 use Rattle.std.proofs.Common.{◌≡◌, List, [], ◌∷◌, ◌++◌}
 use Rattle.std.specs.Prelude.{reverse}
 use Rattle.std.proofs.lemmas.List.{reverse-append, length-reverse}

@@ -1,4 +1,4 @@
--- The tokens of a text and the brackets that are open: only a bracket outside of quotes counts.
+-- Tokens and open brackets: only brackets outside quotes count.
 use Rattle.std.proofs.Common.{◌≡◌, ℕ, suc, ◌+◌, ◌-◌, ◌<◌, ◌≤◌, ◌==◌, ◌||◌, ◌&&◌, not, cond, if◌then◌else◌, max, Bool, MatchBool, true, false, List, [], ◌∷◌, length, drop, take, Some, None, refl, sym, ap, ◌∙◌, arith, nat_lt}
 use Rattle.std.specs.List.{prefix_len}
 use Rattle.std.specs.Char.{is_ascii_digit}
@@ -21,7 +21,7 @@ use Rattle.aterm_text.specs.declared.reader.machine.Step.{Step}
 use Rattle.aterm_text.specs.declared.reader.machine.Step.TheVariants.{More, Done}
 use Rattle.aterm_text.proofs.ScanLemmas.{same_pair}
 
--- the greatest number of brackets open in x, where n are before it
+-- the greatest number of brackets open in x, if n are open before it
 abbrev Greatest : ℕ → List ℕ → ℕ
 Greatest n x = greatest_open n (outside_quotes x)
 
@@ -157,7 +157,7 @@ items-inside : (bytes x y : List ℕ) → ReadsItems bytes x y → inside_quotes
 items-inside [] x y h = ap inside_quotes h
 items-inside (b ∷ bs) x y h = item-inside x b h.0 h.1 ∙ items-inside bs h.0 y h.2
 
--- ---- what a term begins with
+-- ---- how a term begins
 
 integer_so : (n b : ℕ) (x : List ℕ) (minus : Bool) → (b == 45) ≡ minus
     → Greatest n (drop (if minus then 1 + prefix_len is_ascii_digit x else prefix_len is_ascii_digit (b ∷ x)) (b ∷ x)) ≡ Greatest n (b ∷ x)
@@ -217,7 +217,7 @@ nothing_so (g ∷ gs) e = absurd (cc)
 pub depth-nothing : (s : Stack) → first_closing s ≡ None → depth s ≡ 0
 depth-nothing s e = nothing_so s.open_brackets e
 
--- closing takes one bracket away
+-- closing removes one bracket
 pub depth-left : (s s1 s' : Stack) (o : Opening) (ts : List Tree) (t : Tree) → s ≡ inside o ts s1 → s' ≡ with_top t s1 → depth s' ≡ depth s - 1
 depth-left s s1 s' o ts t e f = omega (arith, depth-inside s1 s o ts e, depth-top s1 s' t f)
 
@@ -254,7 +254,7 @@ module _ (s s' : Stack) (x y : List ℕ) where
 pub keeps-comma : (s : Stack) (x y : List ℕ) → x ≡ 44 ∷ y → depth s ≤ MAX_NESTING → IsAsDeep (depth s) x (depth s) y
 keeps-comma s x y next few = as_deep (depth s) (depth s) x y (ap (Greatest (depth s)) next ∙ comma-neutral (depth s) y) few
 
--- a step from a text that is as deep
+-- a step from a text that is equally deep
 pub keeps-after : (s s' : Stack) (x text : List ℕ) (step : Step) → Greatest (depth s) x ≡ Greatest (depth s) text → KeepsDepth s text step s' → KeepsDepth s x step s'
 keeps-after s s' x text (More state rest) e keeps = λ few.
     let k = keeps few in

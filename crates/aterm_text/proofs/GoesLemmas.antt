@@ -1,4 +1,5 @@
--- The steps of the machine, as the answers of its functions cite them: each premise is what a call ensures.
+-- The steps of the machine, as the answers of its functions cite them: each premise is what a call
+-- ensures.
 use Rattle.std.proofs.Common.{◌≡◌, ℕ, ℤ, ◌<◌, ◌≤◌, List, [], ◌∷◌, ◌++◌, length, Some, None, Ok, Err, IfOk, refl, sym, ap, ◌∙◌, subst, arith}
 use Rattle.std.specs.declared.option.Option.{Option}
 use Rattle.std.proofs.lemmas.Int.{to_z-of_z}
@@ -23,7 +24,7 @@ use Rattle.aterm_text.specs.declared.reader.machine.Step.TheVariants.{More, Done
 use Rattle.aterm_text.proofs.StepLemmas.{step-integer, step-list, step-tuple, step-arguments, step-constant, step-closing, step-entered, step-annotations, step-bare, step-comma, step-close, stuck-whole, stuck-no_term, end-whole, continues_on, stuck_after, end_after}
 use Rattle.aterm_text.proofs.TrimLemmas.{continues-trimmed}
 
--- ---- what the state tells of the reading
+-- ---- what the state says about the reading
 
 pub at_expected : (r : Reading) (levels : List Level) (s : Stack) → Stands r levels Expected s → (r ≡ expected) × Holds levels s
 at_expected expected levels s h = (refl, h.1)
@@ -92,7 +93,7 @@ leads-trimmed state s s' x text step e le leads r levels h =
 pub lost-trimmed : (state : State) (s : Stack) (x text : List ℕ) → text ≡ without_blanks x → IsLost state s text → IsLost state s x
 lost-trimmed state s x text e lost r levels h = stuck_after r r levels levels x text (subst (λ l. Continues r levels x r levels l) (sym e) (continues-trimmed r levels x)) (lost r levels h)
 
--- ---- where a term has to begin
+-- ---- a term has to begin
 
 pub lost-no_term : (s : Stack) (x : List ℕ) → NoTerm x → IsLost Expected s x
 lost-no_term s x absent r levels h = subst (λ q. IsStuck q levels x) (sym (at_expected r levels s h).0) (stuck-no_term levels x absent)
@@ -180,7 +181,7 @@ module _ (s s' : Stack) (name : Symbol) (x a text : List ℕ) (h : NextName name
         shorter = shorter;
       }
 
--- ---- behind an opening bracket
+-- ---- after an opening bracket
 
 module _ (s : Stack) (closing : ℕ) (x : List ℕ) (closes_so : first_closing s ≡ Some closing) where
   entered-goes : (s' : Stack) (state : State) (y : List ℕ) → NextSign closing x y → IsClosed s state s' → length y < length x
@@ -225,7 +226,7 @@ lost-nothing-entered s x e r levels stands =
     let at = at_entered r levels s stands in
     subst (λ q. IsStuck q levels x) (sym at.0) (nothing-entered s x e levels at.1)
 
--- ---- behind a base
+-- ---- after a base
 
 module _ (s : Stack) (x : List ℕ) (absent : (y : List ℕ) → NextSign 123 x y → ⊥) where
   pub leads-bare : (s' : Stack) (step : Step) → Leads Whole s x step s' → Leads Base s x step s'
@@ -241,7 +242,7 @@ module _ (s : Stack) (x : List ℕ) (absent : (y : List ℕ) → NextSign 123 x 
       subst (λ q. IsStuck q levels x) (sym at.1)
       (stuck_after (base at.0) (whole at.0) levels levels x x (step-bare levels at.0 x absent at.2) (lost (whole at.0) levels (at.3.below, refl, at.3.is, at.3.holds)))
 
--- ---- behind a whole term
+-- ---- after a whole term
 
 one-more : (level : Level) (levels : List Level) (s : Stack) (t : Tree) → Last (level ∷ levels) s t → Holds (with_term level t ∷ levels) s
 one-more level levels s t h = (h.holds.0, h.holds.1, h.is ∙ ap (with_top t) h.holds.2)
@@ -292,7 +293,7 @@ module _ (s : Stack) (closing : ℕ) (x : List ℕ) (closes_so : first_closing s
       let at = at_whole r levels s stands in
       subst (λ q. IsStuck q levels x) (sym at.1) (whole-stuck at.0 no_comma no_closing levels at.2)
 
--- where no bracket is open
+-- if no bracket is open
 
 all-closed : (levels : List Level) (s : Stack) (t : Tree) → None ≡ first_closing s → Last levels s t → (levels ≡ []) × (s ≡ with_top t no_terms)
 all-closed [] s t e h = (refl, h.is ∙ ap (with_top t) h.holds)
@@ -316,7 +317,7 @@ lost-more s x e more r levels stands =
 
 -- ---- closing
 
--- the bracket that is left is the innermost of the levels
+-- the closed bracket is the innermost of the levels
 module _ (s s1 : Stack) (opening : Opening) (terms : List Tree) (left : s ≡ inside opening terms s1) (level : Level) (levels : List Level) (h : Holds (level ∷ levels) s) where
   both : inside (opening_of level.opened) level.done (with_top (bearer level.opened) h.0) ≡ inside opening terms s1
   both = sym h.2 ∙ left

@@ -1,4 +1,4 @@
--- Printed text has at least a byte for each term in it.
+-- Printed text has at least one byte for each term in it.
 use Rattle.std.proofs.Common.{◌+◌, ◌≤◌, ℕ, List, [], ◌∷◌, ◌++◌, length, arith}
 use Rattle.std.proofs.lemmas.List.{length-append}
 use Rattle.std.specs.Fmt.{signed_decimal}
@@ -9,7 +9,7 @@ use Rattle.aterm_text.specs.Printed.{print_name, bracketed, print, print_all, pr
 use Rattle.aterm_text.specs.Laws.{PrintedTextIsAsLong}
 use Rattle.aterm_text.proofs.LawOneLine.{integer-line, name-line}
 
--- brackets and what stands in them
+-- brackets and their content
 length-bracketed : (o c : ℕ) (ts : Trees) (inner : List ℕ) → sizes ts ≤ length inner → sizes ts ≤ length (bracketed o c ts inner)
 length-bracketed o c none inner h = omega arith
 length-bracketed o c (more t ts) inner h = omega (arith, h, length-append inner (c ∷ []))

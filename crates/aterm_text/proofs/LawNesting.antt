@@ -16,7 +16,7 @@ use Rattle.aterm_text.specs.Printed.{escaped, octal_escape, print_name, brackete
 use Rattle.aterm_text.specs.Laws.{PrintedTextNests}
 use Rattle.aterm_text.proofs.LawTokens.{both, other_byte, decimal_digits}
 
--- ---- how deep a text nests in front of another one, which begins with as many brackets open
+-- ---- how deep a text nests before a text that begins with as many open brackets
 
 record Nests (x : List ℕ) (m : ℕ) : Type 0 where
   most : (n : ℕ) (y : List ℕ) → greatest_open n (outside_quotes (x ++ y)) ≤ max (n + m) (greatest_open n (outside_quotes y))
@@ -33,7 +33,7 @@ nests-append x z m k h g = record {
 nests-higher : (x : List ℕ) (m k : ℕ) → m ≤ k → Nests x m → Nests x k
 nests-higher x m k le h = record { most = λ n y. omega (arith, h.most n y, le) }
 
--- what is skipped, up to its end
+-- skipped bytes, up to their end
 nests-skipped : (x : List ℕ) → ((y : List ℕ) → outside_quotes (x ++ y) ≡ outside_quotes y) → Nests x 0
 nests-skipped x h = record { most = λ n y. subst (λ (w : List ℕ). greatest_open n w ≤ max (n + 0) (greatest_open n (outside_quotes y))) (sym (h y)) (omega arith) }
 
@@ -48,7 +48,7 @@ nests-plain b m x p h = record {
   most = λ n y. rw (p.no_quote, p.same n) (omega (arith, h.most n y));
 }
 
--- a byte that passes a test which quotes and brackets fail
+-- a byte that passes a test that quotes and brackets fail
 plain-passes : (p : ℕ → Bool) (b : ℕ) → p 34 ≡ false → p 40 ≡ false → p 91 ≡ false → p 123 ≡ false → p 41 ≡ false → p 93 ≡ false → p 125 ≡ false → p b ≡ true → IsPlain b
 plain-passes p b q n0 n1 n2 n3 n4 n5 t = record {
   no_quote = other_byte p 34 b q t;

@@ -20,7 +20,7 @@ use Rattle.aterm_text.proofs.LawTokens.{both, decimal_digits}
 
 -- ---- bytes
 
--- a byte that is printed, and no space
+-- a printed byte other than the space
 record IsSolid (b : ℕ) : Type 0 where
   least : 33 ≤ b
   most : b ≤ 126
@@ -147,7 +147,7 @@ plain_printed : (q : Bool) (b : ℕ) → b < 256 → (q ≡ true → IsPrinted b
 plain_printed true b h p = (p refl, tt)
 plain_printed false b h p = octal_printed b h
 
--- a byte behind a backslash
+-- a byte after a backslash
 behind_backslash : (b : ℕ) → IsSolid b → ArePrinted (92 ∷ (b ∷ []))
 behind_backslash b h = (printed 92 (solid 92 refl), (printed b h, tt))
 

@@ -19,7 +19,7 @@ use Rattle.aterm_text.proofs.LawTokens.{integer-read, name-read}
 other_sign : (b c : ℕ) (x a : List ℕ) → (b == c) ≡ false → b ∷ x ≡ c ∷ a → ⊥
 other_sign b c x a h e = eqb-false b c h (ap (λ l. get_or l 0 0) e)
 
--- the front of the text can't belong to a term before it
+-- the start of the text can't belong to a term before it
 record Ends (x : List ℕ) : Type 0 where
   no_word : prefix_len continues_word x ≡ 0
   no_digit : prefix_len is_ascii_digit x ≡ 0
@@ -50,7 +50,7 @@ Ends-more : (c : ℕ) (us : Trees) (y : List ℕ) → Closes c → Ends (print_m
 Ends-more c none y h = h.ends y
 Ends-more c (more u us) y h = Ends-comma _
 
--- ---- terms in brackets, where there are any
+-- ---- terms in brackets, if there are any
 
 abbrev arguments : Trees → List ℕ
 arguments ts = bracketed 40 41 ts (print_all ts)
@@ -130,7 +130,7 @@ append-nil (x ∷ xs) = ap (λ l. x ∷ l) (append-nil xs)
 pub printed-spells : (t : Tree) → IsTerm t → Spells (print t) t
 printed-spells t h = ([], subst (λ (x : List ℕ). Reads t x []) (append-nil (print t)) (reads t [] h Ends-empty), refl)
 
--- what is said of the text that was printed without want of memory
+-- what holds of a printed text if memory could grow
 pub spells-on_ok : {A E : Type 0} (printed : Result A E) (t : Tree) → OnOk printed (IsTerm t) → OnOk printed (Spells (print t) t)
 spells-on_ok (Ok x) t h = printed-spells t h
 spells-on_ok (Err e) t h = tt

@@ -1,4 +1,4 @@
--- Each printed token is read back, where what follows can't belong to it.
+-- Each printed token is read back, if what follows can't belong to it.
 use Rattle.std.proofs.Common.{◌≡◌, ◌≢◌, ℕ, ℤ, pos, negsuc, neg_ℤ, ◌+◌, ◌*◌, ◌-◌, ◌/◌, ◌%◌, ◌^◌, ◌<◌, ◌==◌, ◌||◌, ◌&&◌, Bool, true, false, IsTrue, cond, if◌then◌else◌, nat_lt, List, [], ◌∷◌, ◌++◌, length, take, drop, Some, None, refl, sym, ap, ◌∙◌, subst, arith, append_assoc, suc, inl, inr, MatchBool}
 use Rattle.std.proofs.Math.Seq.{take-append_seam, drop-append_seam}
 use Rattle.std.proofs.lemmas.Bool.{lt-ltb, true≢false}
@@ -28,14 +28,14 @@ both false b h = absurd (cc)
 unequal : (a b : ℕ) → a ≢ b → (a == b) ≡ false
 unequal a b ne = elim (eqb_tells a b) [ inl h ↦ absurd (ne h.1) | inr h ↦ h.0 ]
 
--- a byte that passes a test is none that fails it
+-- a byte that passes a test differs from one that fails it
 pub other_byte : (p : ℕ → Bool) (k b : ℕ) → p k ≡ false → p b ≡ true → (b == k) ≡ false
 other_byte p k b fails passes = unequal b k (λ e. true≢false (sym passes ∙ ap p e ∙ fails))
 
 no_blank : (p : ℕ → Bool) (b : ℕ) → p 32 ≡ false → p 9 ≡ false → p 10 ≡ false → p 13 ≡ false → p b ≡ true → is_blank b ≡ false
 no_blank p b n0 n1 n2 n3 passes = rw (other_byte p 32 b n0 passes, other_byte p 9 b n1 passes, other_byte p 10 b n2 passes, other_byte p 13 b n3 passes) refl
 
--- ---- fronts of lists
+-- ---- prefixes of lists
 
 drop_none : (q : Bool) (n : ℕ) (x : List ℕ) → q ≡ false → drop (cond q n 0) x ≡ x
 drop_none true n x h = absurd (cc)
@@ -48,7 +48,7 @@ count_more : (q : Bool) (m n : ℕ) → q ≡ true → m ≡ n → cond q (1 + m
 count_more true m n h e = omega arith
 count_more false m n h e = absurd (cc)
 
--- all of the elements pass, and the next one doesn't
+-- all elements pass, and the next one doesn't
 prefix_whole : (p : ℕ → Bool) (s y : List ℕ) → list_all p s ≡ true → prefix_len p y ≡ 0 → prefix_len p (s ++ y) ≡ length s
 prefix_whole p [] y h stop = stop
 prefix_whole p (b ∷ s) y h stop = count_more (p b) (prefix_len p (s ++ y)) (length s) (both (p b) (list_all p s) h).0 (prefix_whole p s y (both (p b) (list_all p s) h).1 stop)

@@ -1,4 +1,4 @@
--- The limit that the definitions speak of, in numbers.
+-- The value of the limit that the definitions name.
 use Rattle.std.proofs.Common.{◌≡◌, refl}
 use Rattle.aterm_text.specs.declared.TheConstants.{MAX_NESTING}
 

@@ -35,7 +35,7 @@ quoted-byte x true s = refl
 quoted-byte x false true = refl
 quoted-byte x false false = refl
 
--- one byte more, where n brackets are open and g were at most
+-- one more byte, if n brackets are open and at most g were
 pub counted-byte : (p : Place) (n g b : ℕ) (x : List ℕ) → n ≤ g →
     max g (greatest_open n (counted p (b ∷ x))) ≡ max (max (depth_after p b n) g) (greatest_open (depth_after p b n) (counted (place_after p b) x))
 counted-byte OutsideQuotes n g b x h = outside-byte n g b x (b == 34) (λ e. quote_leaves b n (eqb-true b 34 e)) h

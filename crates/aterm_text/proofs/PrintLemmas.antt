@@ -53,7 +53,7 @@ run_more : (q : Bool) (b n : ℕ) (s : List ℕ) → (q ≡ true → escaped b �
 run_more true b n s h k = let e : 1 + n ≡ suc n = omega arith in rw (e, h refl) (ap (λ l. b ∷ l) k)
 run_more false b n s h k = refl
 
--- a run of bytes that stand as they are
+-- a run of bytes that need no escape
 escaped-run : (s : List ℕ) → flat_map escaped s ≡ take (prefix_len is_plain s) s ++ flat_map escaped (drop (prefix_len is_plain s) s)
 escaped-run [] = refl
 escaped-run (b ∷ s) = run_more (is_plain b) b (prefix_len is_plain s) s (escaped-plain b) (escaped-run s)
@@ -66,7 +66,7 @@ stopped : (s : List ℕ) (c : ℕ) (r : List ℕ) → drop (prefix_len is_plain 
 stopped [] c r e = absurd (cc)
 stopped (b ∷ s) c r e = behind_run (is_plain b) b (prefix_len is_plain s) c s r refl (stopped s c r) e
 
--- the byte behind the run needs an escape
+-- the byte after the run needs an escape
 pub escape-behind : (s : List ℕ) (n c : ℕ) (r : List ℕ) → n ≡ prefix_len is_plain s → drop n s ≡ c ∷ r → is_plain c ≡ false
 escape-behind s n c r e h = stopped s c r (sym (ap (λ m. drop m s) e) ∙ h)
 
@@ -77,11 +77,11 @@ no_items : (s : List ℕ) → length s ≡ 0 → s ≡ []
 no_items [] h = refl
 no_items (b ∷ s) h = absurd (omega arith)
 
--- all of a text is a run
+-- the whole text is a run
 pub escaped-all : (first out s : List ℕ) (n : ℕ) → n ≡ prefix_len is_plain s → length (drop n s) ≡ 0 → first ≡ out ++ flat_map escaped s → out ++ take n s ≡ first
 escaped-all first out s n e h k = sym (k ∙ ap (λ l. out ++ l) (run_split s n e ∙ ap (λ l. take n s ++ flat_map escaped l) (no_items (drop n s) h) ∙ sym (append-nil (take n s))))
 
--- a run, an escape and what is behind them
+-- a run, an escape and the rest
 pub escaped-split : (first out s r : List ℕ) (n c : ℕ) → n ≡ prefix_len is_plain s → drop n s ≡ c ∷ r → first ≡ out ++ flat_map escaped s → first ≡ ((out ++ take n s) ++ escaped c) ++ flat_map escaped r
 escaped-split first out s r n c e h k =
     k ∙ ap (λ l. out ++ l) (run_split s n e ∙ ap (λ l. take n s ++ flat_map escaped l) h)
@@ -118,7 +118,7 @@ bracketed-some : (o c : ℕ) (us : List Tree) (inner : List ℕ) → length us �
 bracketed-some o c [] inner h = absurd (h refl)
 bracketed-some o c (u ∷ us) inner h = refl
 
--- terms in brackets are printed, where there are any
+-- terms in brackets are printed, if there are any
 pub bracketed-printed : {T E : Type 0} (r : Result T E) (out new : List ℕ) (o c : ℕ) (us : List Tree) → (length us == 0) ≡ false →
     OnOk r (new ≡ out ++ o ∷ (print_all (of_list us) ++ c ∷ [])) → OnOk r (new ≡ out ++ bracketed o c (of_list us) (print_all (of_list us)))
 bracketed-printed (Ok x) out new o c us h e = e ∙ ap (λ l. out ++ l) (sym (bracketed-some o c us _ (eqb-false (length us) 0 h)))
@@ -133,7 +133,7 @@ print-bare (branch (application name) kids notes) = rw of_list-to_list (ap (λ l
 print-bare (branch list kids notes) = rw of_list-to_list (ap (λ l. 91 ∷ l) (sym (append_assoc (print_all kids) (93 ∷ []) _)))
 print-bare (branch tuple kids notes) = rw of_list-to_list (ap (λ l. 40 ∷ l) (sym (append_assoc (print_all kids) (41 ∷ []) _)))
 
--- the annotations are printed behind the bare term
+-- the annotations are printed after the bare term
 pub annotated-printed : {T E : Type 0} (r : Result T E) (out mid new : List ℕ) (t : Tree) (ns : List Tree) → ns ≡ annotations t → mid ≡ out ++ print (bare t) →
     OnOk r (new ≡ mid ++ bracketed 123 125 (of_list ns) (print_all (of_list ns))) → OnOk r (new ≡ out ++ print t)
 annotated-printed (Ok x) out mid new t ns n p q =

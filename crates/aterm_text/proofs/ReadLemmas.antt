@@ -1,4 +1,4 @@
--- What the machine finds from its start is what the grammar spells.
+-- What the machine finds from its start is what the grammar says.
 use Rattle.std.proofs.Common.{◌≡◌, ◌≢◌, ℕ, ◌<◌, Err, inl, inr, List, [], ◌∷◌, length, Some, None, Bor, refl, sym, ap, ◌∙◌, subst}
 use Rattle.term_core.specs.Tree.{Tree, to_list, of_list, list_term, annotations, with_annotations}
 use Rattle.term_core.proofs.TreeLemmas.{to_list-of_list, of_list-to_list}
@@ -30,7 +30,7 @@ stands-expected s e = (refl, e)
 pub stands-bearer : (s s0 : Stack) (t : Tree) (us : List Tree) → s0 ≡ no_terms → t ≡ list_term us → us ≡ [] → s ≡ with_top t s0 → Stands (base (list_term [])) [] Base s
 stands-bearer s s0 t us e made empty same = (no_terms, refl, same ∙ (λ i. with_top ((made ∙ ap list_term empty) i) (e i)), refl, refl)
 
--- the annotations of a term that was read behind an empty list
+-- the annotations of a term that was read after an empty list
 module _ (x text : List ℕ) (trim : text ≡ without_blanks x) where
   from_text : (a : List ℕ) → text ≡ 123 ∷ a → NextSign 123 x a
   from_text a h = sym trim ∙ h
@@ -60,7 +60,7 @@ module _ (x text : List ℕ) (trim : text ≡ without_blanks x) where
   pub only_annotations : (found : Tree) → ((all : Tree) → Unread (base (list_term [])) [] text all → all ≡ found) → (notes : List Tree) → SpellsAnnotations x notes → notes ≡ annotations found
   only_annotations found only notes h = sym (to_list-of_list notes) ∙ ap annotations (only _ (spells_annotations-unread notes h))
 
--- reading from r, where no bracket is open, has come to this state, this stack and this rest
+-- reading from r, with no bracket open, has reached this state, this stack and this rest
 pub record IsUnderWay (r : Reading) (x : List ℕ) (state : State) (s : Stack) (rest : List ℕ) : Type 0 where
   pub reading : Reading
   pub levels : List Level
@@ -107,7 +107,7 @@ module _ (r : Reading) (x : List ℕ) (state : State) (s : Stack) (rest : List �
       let no : ◌≡◌ {A = Option Tree} None (Some end.0) = sym e ∙ only end.0 end.1 in
       cc
 
--- the fault that is answered is the one that was met, where it isn't `Deep`
+-- the returned fault is the one that was met, unless it is `Deep`
 pub met_term : {X : Type 0} (answered met : ReadFault) → (answered ≢ Deep → answered ≡ met) → ◌≡◌ {A = Result X ReadFault} (Err answered) (Err Term) → ◌≡◌ {A = Result X ReadFault} (Err met) (Err Term)
 met_term answered met other e =
     let term : answered ≡ Term = cc in

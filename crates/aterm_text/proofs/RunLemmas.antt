@@ -1,4 +1,4 @@
--- The bytes up to the first quote or backslash, as a search finds it.
+-- The bytes up to the first quote or backslash, as a search finds them.
 use Rattle.std.proofs.Common.{◌≡◌, ◌<◌, ℕ, Bool, true, false, not, ◌&&◌, ◌||◌, ◌==◌, List, length, get_or, refl, ap, ◌∙◌, arith}
 use Rattle.std.specs.List.{prefix_len}
 use Rattle.std.proofs.lemmas.List.Sums.{prefix_len_is}

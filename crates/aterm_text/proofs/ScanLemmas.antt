@@ -23,7 +23,7 @@ use Rattle.aterm_text.specs.Tokens.{item_at, escape_at, is_plain, ReadsItems}
 pub drop-rest : {X : Type 0} (n : ℕ) (xs : List X) → n ≤ length xs → take (length xs - n) (drop n xs) ≡ drop n xs
 drop-rest n xs h = grind (arith, common_steps)
 
--- behind the longest front that passes, the next element doesn't
+-- after the longest prefix that passes, the next element doesn't pass
 rest_more : (p : ℕ → Bool) (b : ℕ) (bs : List ℕ) (passes : Bool) → p b ≡ passes → prefix_len p (drop (prefix_len p bs) bs) ≡ 0
     → prefix_len p (drop (cond passes (1 + prefix_len p bs) 0) (b ∷ bs)) ≡ 0
 rest_more p b bs true e h =
@@ -49,7 +49,8 @@ integer_ascii (b ∷ bs) h = first_ascii b bs (b == 45) (b == 43) refl refl h
 pub integer_utf8 : (text : List ℕ) → IsNumeral 10 (without_leading_sign text) → IsUtf8 text
 integer_utf8 text h = IsUtf8-from_ascii text (integer_ascii text h)
 
--- ---- quoted bytes read so far: what the whole text spells is what was read and what the rest spells
+-- ---- quoted bytes read so far: the whole text spells what was read followed by what the rest
+-- spells
 
 pub record IsReadSoFar (text bytes rest : List ℕ) : Type 0 where
   pub forth : (all y : List ℕ) → ReadsItems all text y → (more : List ℕ) × (all ≡ bytes ++ more) × ReadsItems more rest y
@@ -84,7 +85,7 @@ not_item rest no_item no_quote (c ∷ cs) y r = let no = sym no_item ∙ r.1 in 
 pub all_read : (text bytes rest left : List ℕ) → IsReadSoFar text bytes rest → rest ≡ 34 ∷ left → ReadsItems bytes text left
 all_read text bytes rest left so_far e = subst (λ all. ReadsItems all text left) (append-nil bytes) (so_far.back [] left e)
 
--- no item and no quote comes next
+-- neither an item nor a quote comes next
 pub none_read : (text bytes rest : List ℕ) → IsReadSoFar text bytes rest → item_at rest ≡ None → ((left : List ℕ) → rest ≡ 34 ∷ left → ⊥) → (all y : List ℕ) → ReadsItems all text y → ⊥
 none_read text bytes rest so_far no_item no_quote all y r = let before = so_far.forth all y r in not_item rest no_item no_quote before.0 y before.2
 
@@ -134,7 +135,7 @@ run_at_start text run rest bytes n e f g h =
     subst (λ l. IsReadSoFar text l rest) (sym (h ∙ f ∙ ap (λ k. take k text) e))
     (subst (IsReadSoFar text (take (prefix_len is_plain text) text)) (sym (g ∙ ap (λ k. drop k text) e)) (run_read text [] text (nothing_read text)))
 
--- an escape, and the run behind it
+-- an escape, and the run after it
 pub run_behind : (text bytes rest behind left run rest' bytes' : List ℕ) (b : ℕ) → IsReadSoFar text bytes rest → rest ≡ 92 ∷ behind → escape_at behind ≡ Some (b, left) → length left < length behind
     → run ≡ take (prefix_len is_plain left) left → rest' ≡ drop (prefix_len is_plain left) left → bytes' ≡ (bytes ++ b ∷ []) ++ run → IsReadSoFar text bytes' rest'
 run_behind text bytes rest behind left run rest' bytes' b so_far e escaped shorter f g h =
@@ -159,7 +160,7 @@ plain-stop b bs true k p r h other = ap (λ c. cond c None (cond (b == 92) (esca
 plain-stop b bs false true p r h other = let is : b ≡ 92 = grind (arith, nat_tests) in absurd (other bs (ap (λ n. n ∷ bs) is))
 plain-stop b bs false false p r h other = absurd (omega (arith, h))
 
--- where a run stops before no backslash, no item comes next
+-- if a run doesn't stop at a backslash, no item comes next
 pub no_item : (rest : List ℕ) → prefix_len is_plain rest ≡ 0 → ((left : List ℕ) → rest ≡ 92 ∷ left → ⊥) → item_at rest ≡ None
 no_item [] h other = refl
 no_item (b ∷ bs) h other = plain-stop b bs (b == 34) (b == 92) refl refl h other

@@ -1,4 +1,4 @@
--- The reader's stack: its terms, cut where the brackets stand.
+-- The reader's stack: its terms, split at the brackets.
 use Rattle.std.proofs.Common.{◌≡◌, ℕ, ◌+◌, ◌<◌, List, [], ◌∷◌, ◌++◌, ◌-◌, min, length, take, drop, get_or, refl, sym, ap, ◌∙◌, subst, arith, append_assoc, length-append, Some, option_map}
 use Rattle.std.specs.declared.option.Option.{Option}
 use Rattle.std.proofs.Math.ListN.{set}
@@ -45,7 +45,7 @@ is_cut-longer (b ∷ bs) ts k h =
       subst (IsCut bs) (sym same) h.1,
     )
 
--- the brackets that are left stand within all terms
+-- the remaining brackets come within all terms
 pub still_cut : (bs bs' : List Bracket) (b : Bracket) (ts : List Tree) → IsCut bs ts → bs ≡ b ∷ bs' → IsCut bs' ts
 still_cut bs bs' b ts h e =
     let whole : IsCut (b ∷ bs') ts = subst (λ l. IsCut l ts) e h in
@@ -110,13 +110,13 @@ cut-change change bs ts n x x' t below h len got made e =
     ∙ ap (λ u. b.front ++ u ∷ []) (made ∙ ap change was) in
     ap (cut bs) written ∙ cut-push bs b.front (change t) b.is_cut ∙ ap (with_top (change t)) b.is_below
 
--- where there is no term, none is on top
+-- if there is no term, none is on top
 pub no_top : (bs : List Bracket) (ts : List Tree) (t : Tree) (below : Stack) → IsCut bs ts → cut bs ts ≡ with_top t below → length ts ≡ 0 → ⊥
 no_top bs ts t below h e len =
     let b = below-top bs ts t below h e in
     omega (arith, len, length-append b.front (t ∷ []), ap length b.is)
 
--- the one term, where no bracket is open
+-- the only term, if no bracket is open
 pub only_term : (bs : List Bracket) (ts : List Tree) (t : Tree) (n : ℕ) (popped : Option Tree) → IsCut bs ts → cut bs ts ≡ with_top t no_terms → n ≡ length ts
     → ((d : Tree) → 0 < n → popped ≡ Some (get_or ts (n - 1) d)) → popped ≡ Some t
 only_term bs ts t n popped h e len last =

@@ -1,4 +1,5 @@
--- Each step of the machine loses nothing: what the rest had to spell before, it has to spell after it.
+-- Each step of the machine loses nothing: what the rest had to spell before is what it has to spell
+-- afterwards.
 use Rattle.std.proofs.Common.{◌≡◌, ℕ, ℤ, inl, inr, List, [], ◌∷◌, ◌++◌, refl, sym, ap, ◌∙◌, subst, arith, append_assoc, append-nil}
 use Rattle.term_core.specs.Tree.{Symbol, Head, application, list, tuple, Tree, Trees, integer, branch, none, more, to_list, of_list, integer_term, application_term, with_annotations}
 use Rattle.term_core.proofs.TreeLemmas.{of_list-to_list}
@@ -23,14 +24,14 @@ beginning_at (branch (application name) kids notes) = a_name name
 beginning_at (branch list kids notes) = a_list
 beginning_at (branch tuple kids notes) = a_tuple
 
--- the text from behind the beginning of a term on
+-- the text after the beginning of a term
 pub reads-begins : (t : Tree) (x y : List ℕ) → Reads t x y → (a : List ℕ) × Begins (beginning_at t) x a
 reads-begins (integer z notes) x y h = (h.0, h.1)
 reads-begins (branch (application name) kids notes) x y h = (h.0, h.2)
 reads-begins (branch list kids notes) x y h = (h.0, h.2)
 reads-begins (branch tuple kids notes) x y h = (h.0, h.2)
 
--- a term that begins at x has the beginning that stands there
+-- a term that begins at x has the beginning found there
 pub beginning_is : (beginning : Beginning) (t : Tree) (x y z : List ℕ) → Begins beginning x y → Reads t x z → beginning ≡ beginning_at t
 beginning_is beginning t x y z h r = let found = reads-begins t x z r in (begins_only beginning (beginning_at t) x y found.0 h found.1).0
 
@@ -49,7 +50,7 @@ closing-comma elements e = omega arith
 closing-comma components e = omega arith
 closing-comma (annotating t) e = omega arith
 
--- ---- what closing gives
+-- ---- the result of closing
 
 abbrev Outside : List Level → Tree → List ℕ → Tree → Type 0
 Outside levels = λ t x all. BehindWhole levels t x all

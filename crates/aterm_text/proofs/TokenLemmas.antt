@@ -1,4 +1,4 @@
--- What a term begins with is determined by the text.
+-- The text determines how a term begins.
 use Rattle.std.proofs.Common.{◌≡◌, ◌≢◌, ℕ, ℤ, ◌+◌, ◌<◌, ◌==◌, ◌||◌, ◌&&◌, cond, MatchBool, rules, Bool, true, false, Some, None, List, [], ◌∷◌, length, take, drop, refl, sym, ap, ◌∙◌, subst, arith}
 use Rattle.std.proofs.lemmas.Bool.Decides.{nat_tests}
 use Rattle.std.specs.Char.{is_ascii_digit}
@@ -11,7 +11,7 @@ use Rattle.aterm_text.specs.Beginnings.{Beginning, an_integer, a_name, a_list, a
 use Rattle.aterm_text.specs.declared.reader.lexeme.Lexeme.TheVariants.{Integer, Named}
 use Rattle.aterm_text.proofs.ScanLemmas.{items_only, same_pair}
 
--- ---- the first byte tells the kind of beginning: 0 where no term begins so
+-- ---- the first byte determines the kind of beginning: 0 if no term begins with it
 
 abbrev pub class_of : ℕ → ℕ
 class_of b = cond (b == 34) 2 (cond (b == 91) 3 (cond (b == 40) 4 (cond (begins_word b) 1 (cond (is_ascii_digit b || (b == 45)) 5 0))))

@@ -1,4 +1,4 @@
--- White space where a token comes next takes nothing away.
+-- Skipping white space before a token loses nothing.
 use Rattle.std.proofs.Common.{◌≡◌, ℕ, Bool, MatchBool, true, false, inl, inr, List, [], ◌∷◌, length, ◌==◌, drop, take, refl, sym, ap, ◌∙◌, subst, arith}
 use Rattle.std.proofs.lemmas.Bool.Decides.{nat_tests}
 use Rattle.term_core.specs.Word.{first_word}
@@ -12,7 +12,7 @@ use Rattle.aterm_text.proofs.ScanLemmas.{prefix_len-rest}
 pub trimmed : (x : List ℕ) → without_blanks (without_blanks x) ≡ without_blanks x
 trimmed x = ap (λ n. drop n (without_blanks x)) (prefix_len-rest is_blank x)
 
--- the end of a text, where no white space comes next
+-- the end of a text, if no white space comes next
 pub no_more : (x : List ℕ) → (length x == 0) ≡ true → without_blanks x ≡ []
 no_more [] e = refl
 no_more (b ∷ x) e = let zero : length (b ∷ x) ≡ 0 = grind (arith, nat_tests) in absurd (omega (arith, zero))
@@ -23,7 +23,7 @@ some_more x trim e nothing =
     let no : false ≡ true = sym e ∙ ap (λ l. length l == 0) empty in
     cc
 
--- ---- two texts that differ in white space at their fronts alone
+-- ---- two texts that differ only in leading white space
 
 module _ (x y : List ℕ) (same : without_blanks x ≡ without_blanks y) where
   sign_in : (sign : ℕ) (a : List ℕ) → NextSign sign x a → NextSign sign y a

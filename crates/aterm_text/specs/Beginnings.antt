@@ -1,4 +1,4 @@
--- What a term begins with.
+-- How a term begins.
 use Rattle.std.specs.Prelude.{ℕ, ℤ, List}
 use Rattle.term_core.specs.Tree.{Symbol}
 use Rattle.aterm_text.specs.Tokens.{NextSign, NextInteger, NextName}
@@ -13,14 +13,14 @@ pub data Beginning : Type 0 where
   a_list : Beginning
   a_tuple : Beginning
 
--- it comes first in x, and y follows it
+-- it comes first in x, and y is the rest
 abbrev pub Begins : Beginning → List ℕ → List ℕ → Type 0
 Begins (an_integer z) x y = NextInteger z x y
 Begins (a_name name) x y = NextName name x y
 Begins a_list x y = NextSign open_square x y
 Begins a_tuple x y = NextSign open_round x y
 
--- no term begins at the front of x
+-- no term begins at the start of x
 abbrev pub NoTerm : List ℕ → Type 0
 NoTerm x = (b : Beginning) (y : List ℕ) → Begins b x y → ⊥
 
@@ -28,6 +28,6 @@ abbrev pub beginning_of : Lexeme → Beginning
 beginning_of (Integer z) = an_integer z
 beginning_of (Named name) = a_name name
 
--- no integer and no name comes first in x
+-- neither an integer nor a name comes first in x
 abbrev pub NoLexeme : List ℕ → Type 0
 NoLexeme x = (lexeme : Lexeme) (y : List ℕ) → Begins (beginning_of lexeme) x y → ⊥

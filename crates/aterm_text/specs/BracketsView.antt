@@ -1,4 +1,4 @@
--- What the fields of open brackets stand for.
+-- What the fields of open brackets represent.
 use Rattle.std.specs.Prelude.{◌≡◌, List, [], ◌∷◌, Some, None, reverse}
 use Rattle.std.specs.declared.option.Option.{Option}
 use Rattle.aterm_text.specs.declared.reader.open_brackets.Bracket.{Bracket}
@@ -8,7 +8,7 @@ abbrev pub brackets_of : Option Bracket → List Bracket → List Bracket
 brackets_of None others = []
 brackets_of (Some b) others = b ∷ reverse others
 
--- where none is the innermost, there are no others
+-- if there is no innermost one, there are no others
 abbrev pub AreBrackets : Option Bracket → List Bracket → Type 0
 AreBrackets None others = others ≡ []
 AreBrackets (Some b) others = Unit {0}

@@ -4,16 +4,16 @@ use Rattle.term_core.specs.Tree.{application, list, tuple, Tree, Trees, integer,
 use Rattle.aterm_text.specs.Tokens.{NextSign, NextInteger, NextName, IsBlank}
 use Rattle.aterm_text.specs.Signs.{comma, open_round, close_round, open_square, close_square, open_curly, close_curly}
 
--- What may stand in brackets: an opening bracket and what R reads behind it, up to y; or no terms,
--- and y is x. Where the bracket stands it has to be read, so that each front of a text is read in one
--- way; over whole texts this changes nothing, since an opening bracket never follows a term. R reads
--- these very terms.
+-- An optional part in brackets: an opening bracket followed by what R reads, up to y; or no terms,
+-- and y is x. If the bracket is there, it has to be read, so that each prefix of a text is read in
+-- one way; over whole texts this makes no difference, since an opening bracket never follows a
+-- term. R reads exactly these terms.
 abbrev pub Optional : ℕ → (List ℕ → List ℕ → Type 0) → Trees → List ℕ → List ℕ → Type 0
 Optional opening R ts x y =
     ((a : List ℕ) × NextSign opening x a × R a y)
     ⊎ (((a : List ℕ) → NextSign opening x a → ⊥) × (ts ≡ none) × (y ≡ x))
 
--- Each relation says that the front of x spells the term or terms, and that y is what follows.
+-- Each relation says that x begins with the term or terms, and that y is the rest.
 --   term = base [ "{" [ term { "," term } ] "}" ]
 --   base = integer | name [ "(" [ term { "," term } ] ")" ]
 --        | "[" [ term { "," term } ] "]" | "(" [ term { "," term } ] ")"
@@ -33,22 +33,22 @@ abbrev mutual
       (a : List ℕ) × (b : List ℕ) × NextSign open_round x a × ReadsUntil kids close_round a b
       × Optional open_curly (λ u v. ReadsUntil notes close_curly u v) notes b y
 
-  -- the terms between an opening bracket and the closing one: none, or some, with commas between
+  -- the terms from an opening bracket to the closing one: none, or some separated by commas
   pub ReadsUntil : Trees → ℕ → List ℕ → List ℕ → Type 0
   ReadsUntil none close x y = NextSign close x y
   ReadsUntil (more t ts) close x y = (a : List ℕ) × Reads t x a × ReadsMore ts close a y
 
-  -- the terms behind the first one, each after a comma, and the closing bracket
+  -- the terms after the first one, each after a comma, and the closing bracket
   pub ReadsMore : Trees → ℕ → List ℕ → List ℕ → Type 0
   ReadsMore none close x y = NextSign close x y
   ReadsMore (more t ts) close x y =
       (a : List ℕ) × (b : List ℕ) × NextSign comma x a × Reads t a b × ReadsMore ts close b y
 
--- the text spells the term: white space, tokens with white space between them, white space
+-- the text spells the term: tokens with white space before, between and after them
 abbrev pub Spells : List ℕ → Tree → Type 0
 Spells x t = (y : List ℕ) × Reads t x y × IsBlank y
 
--- the text spells an annotation part, alone, with white space round it
+-- the text is an annotation part with white space around it
 abbrev pub SpellsAnnotations : List ℕ → List Tree → Type 0
 SpellsAnnotations x ts =
     (a : List ℕ) × (y : List ℕ) × NextSign open_curly x a × ReadsUntil (of_list ts) close_curly a y

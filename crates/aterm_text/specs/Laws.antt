@@ -9,7 +9,7 @@ use Rattle.aterm_text.specs.Nesting.{nesting}
 use Rattle.aterm_text.specs.Printed.{print}
 use Rattle.aterm_text.specs.Tokens.{is_blank}
 
--- what is printed of a term spells this term
+-- the printed text of a term spells this term
 abbrev pub PrintedTextReadsBack : Type 0
 PrintedTextReadsBack = (t : Tree) → IsTerm t → Spells (print t) t
 
@@ -23,21 +23,21 @@ pub record OneTerm : Type 0 where
 abbrev pub IsPrinted : ℕ → Type 0
 IsPrinted b = (32 ≤ b) × (b ≤ 126)
 
--- a line, with no white space at its ends
+-- a line without white space at its ends
 pub record IsOneLine (x : List ℕ) : Type 0 where
   pub bytes : AllByRecursion IsPrinted x
   pub some : 0 < length x
   pub front : prefix_len is_blank x ≡ 0
   pub end : suffix_len is_blank x ≡ 0
 
--- what is printed of a term is one line
+-- the printed text of a term is one line
 abbrev pub PrintedTextIsOneLine : Type 0
 PrintedTextIsOneLine = (t : Tree) → IsTerm t → IsOneLine (print t)
 
--- its brackets are nested no deeper than the term is high
+-- its brackets nest no deeper than the term is high
 abbrev pub PrintedTextNests : Type 0
 PrintedTextNests = (t : Tree) → IsTerm t → nesting (print t) ≤ height t
 
--- it has at least a byte for each term in it
+-- it has at least one byte for each term in it
 abbrev pub PrintedTextIsAsLong : Type 0
 PrintedTextIsAsLong = (t : Tree) → IsTerm t → size t ≤ length (print t)

@@ -2,8 +2,8 @@
 use Rattle.std.specs.Prelude.{ℕ, ◌+◌, ◌-◌, ◌==◌, ◌||◌, max, List, [], ◌∷◌, if◌then◌else◌}
 use Rattle.aterm_text.specs.Signs.{quote, backslash, open_round, close_round, open_square, close_square, open_curly, close_curly}
 
--- The text without what stands in quotes. A backslash there takes the next byte with it, and a
--- quote that isn't closed takes the rest.
+-- The text without its quoted parts. A backslash there escapes the next byte, and a quote that
+-- isn't closed extends to the end.
 abbrev mutual
   pub outside_quotes : List ℕ → List ℕ
   outside_quotes [] = []
@@ -19,14 +19,14 @@ abbrev mutual
   behind_backslash [] = []
   behind_backslash (b ∷ bs) = inside_quotes bs
 
--- how many brackets are open after this byte, where n were before it: a closing one, of any kind,
--- takes 1 where there is one
+-- the number of open brackets after this byte, if n are open before it: a closing one, of any kind,
+-- closes one if one is open
 abbrev pub open_after : ℕ → ℕ → ℕ
 open_after b n =
     if ((b == open_round) || (b == open_square) || (b == open_curly)) then n + 1 else
     if ((b == close_round) || (b == close_square) || (b == close_curly)) then n - 1 else n
 
--- the greatest number of brackets open at one place, where n are open before the text
+-- the greatest number of brackets open at one place, if n are open before the text
 abbrev pub greatest_open : ℕ → List ℕ → ℕ
 greatest_open n [] = n
 greatest_open n (b ∷ bs) = max n (greatest_open (open_after b n) bs)

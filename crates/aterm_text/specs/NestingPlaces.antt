@@ -1,24 +1,24 @@
--- The places of a text as to quotes, for the pass that measures its nesting.
+-- Places in a text, inside or outside quotes, for the pass that measures its nesting.
 use Rattle.std.specs.Prelude.{ℕ, ◌==◌, if◌then◌else◌, List}
 use Rattle.aterm_text.specs.declared.brackets.Place.{Place}
 use Rattle.aterm_text.specs.declared.brackets.Place.TheVariants.{OutsideQuotes, InsideQuotes, BehindBackslash}
 use Rattle.aterm_text.specs.Signs.{quote, backslash}
 use Rattle.aterm_text.specs.Nesting.{outside_quotes, inside_quotes, behind_backslash, open_after}
 
--- where the byte behind b stands, where b stands at p
+-- the place after byte b, if b is at p
 abbrev pub place_after : Place → ℕ → Place
 place_after OutsideQuotes b = if (b == quote) then InsideQuotes else OutsideQuotes
 place_after InsideQuotes b =
     if (b == quote) then OutsideQuotes else if (b == backslash) then BehindBackslash else InsideQuotes
 place_after BehindBackslash b = InsideQuotes
 
--- how many brackets are open behind b at p, where n were before it
+-- the number of open brackets after b at p, if n are open before it
 abbrev pub depth_after : Place → ℕ → ℕ → ℕ
 depth_after OutsideQuotes b n = open_after b n
 depth_after InsideQuotes b n = n
 depth_after BehindBackslash b n = n
 
--- what is counted of a text that begins at p
+-- the counted part of a text that begins at p
 abbrev pub counted : Place → List ℕ → List ℕ
 counted OutsideQuotes x = outside_quotes x
 counted InsideQuotes x = inside_quotes x

@@ -1,4 +1,4 @@
--- The one printed spelling of a term: no white space between tokens, no brackets without need.
+-- The printed text of a term: no white space between tokens, no optional brackets.
 use Rattle.std.specs.Prelude.{ℕ, ◌+◌, ◌/◌, ◌%◌, ◌==◌, ◌&&◌, nat_lt, List, [], ◌∷◌, ◌++◌, if◌then◌else◌}
 use Rattle.std.specs.List.{flat_map}
 use Rattle.std.specs.Fmt.{signed_decimal}
@@ -23,7 +23,7 @@ abbrev pub print_name : Symbol → List ℕ
 print_name name =
     if name.is_quoted then quote ∷ (flat_map escaped name.text ++ quote ∷ []) else name.text
 
--- brackets round the terms, where there are any
+-- brackets around the terms, if there are any
 abbrev pub bracketed : ℕ → ℕ → Trees → List ℕ → List ℕ
 bracketed opening closing none inner = []
 bracketed opening closing (more t ts) inner = opening ∷ (inner ++ closing ∷ [])
@@ -42,12 +42,12 @@ abbrev mutual
       open_round ∷ (print_all kids
       ++ close_round ∷ bracketed open_curly close_curly notes (print_all notes))
 
-  -- the terms, with commas between them
+  -- the terms, separated by commas
   pub print_all : Trees → List ℕ
   print_all none = []
   print_all (more t ts) = print t ++ print_more ts
 
-  -- the terms behind the first one
+  -- the terms after the first one
   pub print_more : Trees → List ℕ
   print_more none = []
   print_more (more t ts) = comma ∷ (print t ++ print_more ts)

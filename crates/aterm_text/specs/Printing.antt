@@ -1,12 +1,12 @@
--- Words for the parts of the printer.
+-- Definitions for the parts of the printer.
 use Rattle.std.specs.Prelude.{◌≡◌, ℕ, Bool, ◌==◌, ◌&&◌, not, nat_lt, List, ◌++◌}
 use Rattle.aterm_text.specs.Signs.{quote, backslash}
 
--- the new list is the old one with something behind it
+-- the new list extends the old one
 pub record Extends (old new : List ℕ) : Type 0 where
   pub more : List ℕ
   pub is : new ≡ old ++ more
 
--- this byte stands as it is in a quoted name
+-- this byte needs no escape in a quoted name
 abbrev pub is_plain : ℕ → Bool
 is_plain b = nat_lt 31 b && nat_lt b 127 && not (b == quote) && not (b == backslash)

@@ -1,5 +1,5 @@
--- The terms of a text that were read so far: those outside of all brackets, and those in each open
--- bracket. The term that they will be given to stands on top of those before the bracket.
+-- The terms of a text that were read so far: those outside all brackets, and those in each open
+-- bracket. The term that a bracket belongs to is the last of those before it.
 use Rattle.std.specs.Prelude.{◌≡◌, ℕ, List, [], ◌∷◌, ◌++◌, Bool, true, false, Some, None, refl}
 use Rattle.std.specs.declared.option.Option.{Option}
 use Rattle.std.specs.Coded.{Coded, code_by, coded×, coded_list, coded_bool, coded_option}
@@ -49,11 +49,11 @@ abbrev pub closes_first : List OpenBracket → Option ℕ
 closes_first [] = None
 closes_first (g ∷ gs) = Some (closes g.opening)
 
--- the bracket that closes the innermost one, where one is open
+-- the bracket that closes the innermost one, if one is open
 abbrev pub first_closing : Stack → Option ℕ
 first_closing s = closes_first s.open_brackets
 
--- ---- how the logic stores a stack: as the tuple of its parts
+-- ---- how the logic stores a stack: as the tuple of its fields
 
 abbrev to_parts : Opening → Option Bool
 to_parts Round = Some true

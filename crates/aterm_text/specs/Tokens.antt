@@ -1,5 +1,5 @@
--- The tokens of a text of the ATerm format. White space may stand before any of them, and a token
--- is as long as it can be.
+-- The tokens of a text of the ATerm format. White space may come before any of them, and a token is
+-- as long as possible.
 use Rattle.std.specs.Prelude.{◌≡◌, ℕ, ℤ, ◌+◌, ◌*◌, ◌-◌, ◌==◌, ◌||◌, ◌&&◌, nat_lt, Bool, not, List, [], ◌∷◌, drop, take, Some, None, if◌then◌else◌, FitsSigned, MatchBool}
 use Rattle.std.specs.Int.{w64}
 use Rattle.std.specs.declared.option.Option.{Option}
@@ -17,7 +17,7 @@ use Rattle.aterm_text.specs.Signs.{quote, backslash, minus}
 abbrev pub is_blank : ℕ → Bool
 is_blank b = (b == 32) || (b == 9) || (b == 10) || (b == 13)
 
--- the text from its first byte on that is no white space
+-- the text without its leading white space
 abbrev pub without_blanks : List ℕ → List ℕ
 without_blanks x = drop (prefix_len is_blank x) x
 
@@ -27,25 +27,25 @@ IsBlank x = without_blanks x ≡ []
 
 -- ---- signs
 
--- the sign b comes first in x, and y follows it
+-- the sign b comes first in x, and y is the rest
 abbrev pub NextSign : ℕ → List ℕ → List ℕ → Type 0
 NextSign b x y = without_blanks x ≡ b ∷ y
 
 -- ---- integers
 
--- the length of the `-` that there may be, and of the digits after it
+-- the length of the optional `-` and the digits after it
 abbrev pub integer_len : List ℕ → ℕ
 integer_len [] = 0
 integer_len (b ∷ bs) =
     if (b == minus) then 1 + prefix_len is_ascii_digit bs else prefix_len is_ascii_digit (b ∷ bs)
 
--- These bytes are an integer: at least one digit, after a `-` or none. Leading zeros are accepted,
--- and `-0` is 0.
+-- These bytes are an integer: at least one digit, after an optional `-`. Leading zeros are
+-- accepted, and `-0` is 0.
 abbrev pub IsInteger : List ℕ → ℤ → Type 0
 IsInteger text z =
     IsNumeral 10 (without_leading_sign text) × (signed_digits_value 10 text ≡ z) × FitsSigned w64 z
 
--- the integer z comes first in x, and y follows it
+-- the integer z comes first in x, and y is the rest
 abbrev pub NextInteger : ℤ → List ℕ → List ℕ → Type 0
 NextInteger z x y =
     let text = without_blanks x in
@@ -68,7 +68,7 @@ octal_byte a b c =
     if (are_octal_digits a b c && nat_lt (octal_value a b c) 256)
     then Some (octal_value a b c) else None
 
--- the byte that one of `" \ n t r` stands for behind a backslash
+-- the byte that one of `" \ n t r` stands for after a backslash
 abbrev pub short_escape : ℕ → Option ℕ
 short_escape b =
     if (b == quote) then Some quote else
@@ -92,8 +92,8 @@ abbrev pub escape_at : List ℕ → Option (ℕ × List ℕ)
 escape_at [] = None
 escape_at (b ∷ rest) = short_or_octal (short_escape b) b rest
 
--- the first item between quotes, as the byte that it stands for, and what follows it: any byte but
--- a quote and a backslash stands for itself
+-- the first item between quotes, as the byte that it stands for, and the rest: any byte but a quote
+-- and a backslash stands for itself
 abbrev pub item_at : List ℕ → Option (ℕ × List ℕ)
 item_at [] = None
 item_at (b ∷ rest) =
@@ -103,21 +103,21 @@ item_at (b ∷ rest) =
 abbrev pub is_plain : ℕ → Bool
 is_plain b = not (b == quote) && not (b == backslash)
 
--- items that stand for these bytes come first in x, then a quote, and y follows it
+-- items that stand for these bytes come first in x, then a quote, and y is the rest
 abbrev pub ReadsItems : List ℕ → List ℕ → List ℕ → Type 0
 ReadsItems [] x y = x ≡ quote ∷ y
 ReadsItems (b ∷ bs) x y = (a : List ℕ) × (item_at x ≡ Some (b, a)) × ReadsItems bs a y
 
 -- ---- names
 
--- the word comes first in x, and y follows it
+-- the word comes first in x, and y is the rest
 abbrev pub NextWord : List ℕ → List ℕ → List ℕ → Type 0
 NextWord bytes x y = first_word (without_blanks x) ≡ Some (bytes, y)
 
--- the quoted name of these bytes comes first in x, and y follows it
+-- the quoted name of these bytes comes first in x, and y is the rest
 abbrev pub NextQuoted : List ℕ → List ℕ → List ℕ → Type 0
 NextQuoted bytes x y = (a : List ℕ) × NextSign quote x a × ReadsItems bytes a y
 
--- the name comes first in x, and y follows it
+-- the name comes first in x, and y is the rest
 abbrev pub NextName : Symbol → List ℕ → List ℕ → Type 0
 NextName name x y = MatchBool name.is_quoted (NextQuoted name.text x y) (NextWord name.text x y)

@@ -1,4 +1,4 @@
--- What the rest of a text has still to spell while it is read, for the clauses of the reader's own
+-- What the rest of a text must still spell during reading, for the clauses of the reader's own
 -- functions.
 use Rattle.std.specs.Prelude.{◌≡◌, ◌<◌, ℕ, List, [], ◌∷◌, ◌++◌, length}
 use Rattle.term_core.specs.Tree.{Tree, Trees, to_list, application_term, list_term, tuple_term, with_annotations}
@@ -14,29 +14,30 @@ use Rattle.aterm_text.specs.declared.reader.machine.Step.{Step}
 use Rattle.aterm_text.specs.declared.reader.machine.Step.TheVariants.{More, Done}
 use Rattle.aterm_text.specs.Signs.{open_curly, close_curly}
 
--- What was read last: the start of the text or a comma, an opening bracket, a term without
--- annotations that may come now, or a term with its annotations.
+-- What was read last: the start of the text or a comma, an opening bracket, a term that may still
+-- get annotations, or a term with its annotations.
 pub data Reading : Type 0 where
   expected : Reading
   entered : Reading
   base : Tree → Reading
   whole : Tree → Reading
 
--- what closing a bracket gives: a base, to which annotations may be added, or a term that has them
+-- the result of closing a bracket: a base, to which annotations may be added, or a term that has
+-- them
 abbrev pub closed : Bracket → List Tree → Reading
 closed (arguments name) us = base (application_term name us)
 closed elements us = base (list_term us)
 closed components us = base (tuple_term us)
 closed (annotating t) us = whole (with_annotations t us)
 
--- Behind a base: the annotations that there may be, and then what R says of the whole term.
+-- After a base: optional annotations, and then what R says of the whole term.
 abbrev pub BehindBase : (Tree → List ℕ → Tree → Type 0) → Tree → List ℕ → Tree → Type 0
 BehindBase R t x all =
     (notes : Trees) × (y : List ℕ)
     × Optional open_curly (λ u v. ReadsUntil notes close_curly u v) notes x y
     × R (with_annotations t (to_list notes)) y all
 
--- behind what closing a bracket gives
+-- after the result of closing a bracket
 abbrev pub BehindClosed : (Tree → List ℕ → Tree → Type 0) → Bracket → List Tree → List ℕ → Tree
     → Type 0
 BehindClosed R (arguments name) us x all = BehindBase R (application_term name us) x all
@@ -44,8 +45,9 @@ BehindClosed R elements us x all = BehindBase R (list_term us) x all
 BehindClosed R components us x all = BehindBase R (tuple_term us) x all
 BehindClosed R (annotating t) us x all = R (with_annotations t us) x all
 
--- Behind a whole term t, inside these levels, x makes the text spell `all`: nothing more is open
--- and only white space follows, or more terms and the closing bracket do, and so on outside.
+-- After a whole term t, inside these levels, x completes the text to one that spells `all`: if no
+-- bracket is open, only white space follows; else more terms and the closing bracket do, and so on
+-- outside.
 abbrev pub BehindWhole : List Level → Tree → List ℕ → Tree → Type 0
 BehindWhole [] t x all = IsBlank x × (all ≡ t)
 BehindWhole (level ∷ levels) t x all =
@@ -57,37 +59,37 @@ BehindWhole (level ∷ levels) t x all =
 abbrev pub BeforeTerm : List Level → List ℕ → Tree → Type 0
 BeforeTerm levels x all = (t : Tree) × (y : List ℕ) × Reads t x y × BehindWhole levels t y all
 
--- just behind an opening bracket
+-- right after an opening bracket
 abbrev pub BehindOpening : List Level → List ℕ → Tree → Type 0
 BehindOpening [] x all = ⊥
 BehindOpening (level ∷ levels) x all =
     (us : Trees) × (y : List ℕ) × ReadsUntil us (closing_of level.opened) x y
     × BehindClosed (λ u v w. BehindWhole levels u v w) level.opened (level.done ++ to_list us) y all
 
--- what x has still to spell, so that the whole text spells `all`
+-- what x must still spell, so that the whole text spells `all`
 abbrev pub Unread : Reading → List Level → List ℕ → Tree → Type 0
 Unread expected levels x all = BeforeTerm levels x all
 Unread entered levels x all = BehindOpening levels x all
 Unread (base t) levels x all = BehindBase (λ u v w. BehindWhole levels u v w) t x all
 Unread (whole t) levels x all = BehindWhole levels t x all
 
--- Reading went from one place to another and lost or added nothing: what the rest had to spell
--- before, it has to spell now.
+-- Reading moved from one place to another and lost or added nothing: what the rest had to spell
+-- before is what it has to spell now.
 pub record Continues (r : Reading) (levels : List Level) (x : List ℕ) (r' : Reading)
     (levels' : List Level) (x' : List ℕ) : Type 0 where
   pub forth : (all : Tree) → Unread r levels x all → Unread r' levels' x' all
   pub back : (all : Tree) → Unread r' levels' x' all → Unread r levels x all
 
--- the rest can't make the text spell a term
+-- no rest can make the text spell a term
 abbrev pub IsStuck : Reading → List Level → List ℕ → Type 0
 IsStuck r levels x = (all : Tree) → Unread r levels x all → ⊥
 
--- only this term is what the whole text spells
+-- the whole text spells only this term
 pub record IsEnd (r : Reading) (levels : List Level) (x : List ℕ) (t : Tree) : Type 0 where
   pub found : Unread r levels x t
   pub only : (all : Tree) → Unread r levels x all → all ≡ t
 
--- ---- what the reader's state and its stack stand for
+-- ---- what the reader's state and its stack represent
 
 abbrev pub opening_of : Bracket → Opening
 opening_of (arguments name) = Round
@@ -95,22 +97,22 @@ opening_of elements = Square
 opening_of components = Round
 opening_of (annotating t) = Curly
 
--- the term before a bracket, to which what is in it will be given
+-- the term that a bracket belongs to
 abbrev pub bearer : Bracket → Tree
 bearer (arguments name) = application_term name []
 bearer elements = list_term []
 bearer components = tuple_term []
 bearer (annotating t) = t
 
--- the stack holds these levels and the bearers of their brackets, and no other term
+-- the stack holds these levels and the terms that their brackets belong to, and no other term
 abbrev pub Holds : List Level → Stack → Type 0
 Holds [] s = s ≡ no_terms
 Holds (level ∷ levels) s =
     (below : Stack) × Holds levels below
     × (s ≡ inside (opening_of level.opened) level.done (with_top (bearer level.opened) below))
 
--- The state and the stack stand for this reading within these levels. The term that was read last is
--- on top of the stack.
+-- The state and the stack represent this reading within these levels. The term that was read last
+-- is on top of the stack.
 abbrev pub Stands : Reading → List Level → State → Stack → Type 0
 Stands expected levels state s = (state ≡ Expected) × Holds levels s
 Stands entered levels state s = (state ≡ Entered) × Holds levels s
@@ -122,7 +124,7 @@ Stands (whole t) levels state s =
 
 -- ---- the steps of the machine
 
--- a step that goes on takes at least a byte and loses nothing
+-- a step that goes on consumes at least one byte and loses nothing
 pub record GoesOn (r : Reading) (levels : List Level) (x : List ℕ) (state' : State) (s' : Stack)
     (x' : List ℕ) : Type 0 where
   pub reading : Reading
@@ -131,17 +133,17 @@ pub record GoesOn (r : Reading) (levels : List Level) (x : List ℕ) (state' : S
   pub continues : Continues r levels x reading levels' x'
   pub shorter : length x' < length x
 
--- where a step leads to from one reading
+-- where a step leads from one reading
 abbrev pub Goes : Reading → List Level → List ℕ → Step → Stack → Type 0
 Goes r levels x (More state' rest) s' = GoesOn r levels x state' s' rest.now
 Goes r levels x Done s' = (t : Tree) × (s' ≡ with_top t no_terms) × IsEnd r levels x t
 
--- where a step leads to, for all that the state and the stack may stand for
+-- where a step leads, for all readings that the state and the stack may represent
 abbrev pub Leads : State → Stack → List ℕ → Step → Stack → Type 0
 Leads state s x step s' =
     (r : Reading) (levels : List Level) → Stands r levels state s → Goes r levels x step s'
 
--- the text spells no term, whatever the state and the stack stand for
+-- the text spells no term, whatever the state and the stack represent
 abbrev pub IsLost : State → Stack → List ℕ → Type 0
 IsLost state s x =
     (r : Reading) (levels : List Level) → Stands r levels state s → IsStuck r levels x

@@ -5,7 +5,7 @@ ghost use Rattle.std.specs.Prelude.{◌≡◌, ◌+◌, ◌^◌, ◌<◌};
 ghost use Rattle.aterm_text.specs.Nesting.{nesting as nesting_of};
 ghost use Rattle.aterm_text.specs.NestingPlaces.{place_after, depth_after as depth_after_of};
 
-// Where the next byte stands.
+// Where the next byte is.
 #[derive(Clone, Copy)]
 enum Place {
     OutsideQuotes,
@@ -39,8 +39,8 @@ impl Place {
 }
 
 /// The greatest number of brackets `(`, `[` and `{` that are open at one place of the text. A
-/// closing bracket of any kind closes one, where one is open. What stands in quotes isn't counted;
-/// a backslash there takes the next byte with it, and a quote that isn't closed takes the rest.
+/// closing bracket of any kind closes one, if one is open. Quoted bytes aren't counted; a backslash
+/// there escapes the next byte, and a quote that isn't closed extends to the end.
 pub fn nesting(text: &[u8]) -> u64
     ensures { result ≡ nesting_of text.now }
 {

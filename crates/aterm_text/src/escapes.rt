@@ -1,11 +1,10 @@
-//! What stands behind a backslash between quotes.
+//! Escapes after a backslash between quotes.
 #![tactic(auto)]
 
 ghost use Rattle.std.specs.Prelude.{◌≡◌};
 ghost use Rattle.aterm_text.specs.Tokens.{octal_byte, short_escape, is_octal_digit};
 
-/// The byte that one of `"`, `\`, `n`, `t` and `r` stands for, or `None` where the byte is none of
-/// these.
+/// The byte that one of `"`, `\`, `n`, `t` and `r` stands for, or `None` for any other byte.
 pub fn short_escape(byte: u8) -> Option<u8>
     ensures { result ≡ short_escape byte }
 {
@@ -19,8 +18,8 @@ pub fn short_escape(byte: u8) -> Option<u8>
     }
 }
 
-/// The byte that three octal digits stand for, or `None` where they aren't, or stand for more than
-/// 255.
+/// The byte that three octal digits stand for, or `None` if they are no octal digits or stand for
+/// more than 255.
 pub fn octal_byte(a: u8, b: u8, c: u8) -> Option<u8>
     ensures { result ≡ octal_byte a b c }
 {

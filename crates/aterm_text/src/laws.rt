@@ -3,7 +3,7 @@
 
 ghost use Rattle.aterm_text.specs.Laws.{OneTerm, PrintedTextIsAsLong, PrintedTextIsOneLine, PrintedTextNests, PrintedTextReadsBack};
 
-/// The text that is printed of a term spells this term.
+/// The printed text of a term spells this term.
 pub fn printed_text_reads_back()
     ensures { PrintedTextReadsBack }
 {}
@@ -13,18 +13,17 @@ pub fn one_term()
     ensures { OneTerm }
 {}
 
-/// The text that is printed of a term is one line: bytes from 32 to 126, with no white space at its
-/// ends.
+/// The printed text of a term is one line: bytes from 32 to 126, without white space at its ends.
 pub fn printed_text_is_one_line()
     ensures { PrintedTextIsOneLine }
 {}
 
-/// The brackets of the text that is printed of a term are nested no deeper than the term is high.
+/// The printed text of a term nests brackets no deeper than the term is high.
 pub fn printed_text_nests()
     ensures { PrintedTextNests }
 {}
 
-/// The text that is printed of a term has at least a byte for each term in it.
+/// The printed text of a term has at least one byte for each term in it.
 pub fn printed_text_is_as_long()
     ensures { PrintedTextIsAsLong }
 {}

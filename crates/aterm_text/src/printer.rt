@@ -16,11 +16,10 @@ use term_core::{Kind, Name, NoMemory, Term};
 
 const QUOTE: u8 = b'"';
 
-/// Appends the one printed spelling of the term, which has no white space between tokens and is read
-/// as this term.
-/// It recurses as deep as the term is high.
+/// Appends the printed text of the term, which has no white space between tokens and reads back as
+/// this term. The recursion is as deep as the term is high.
 ///
-/// Where a growth of memory is refused, `out` is as before. Its capacity never shrinks.
+/// If memory can't grow, `out` is unchanged, except that its capacity may have grown.
 pub fn print(term: &Term, out: &mut Vec<u8>) -> Result<(), NoMemory>
     ensures ok { OnOk result (out.new.items ≡ out.old.items ++ print_of term.now) }
     ensures term { OnOk result (IsTerm term.now) }
@@ -36,10 +35,10 @@ pub fn print(term: &Term, out: &mut Vec<u8>) -> Result<(), NoMemory>
     printed
 }
 
-/// Appends the name as it is printed in a term: a word as it stands, a quoted name in quotes with its
+/// Appends the name as it is printed in a term: a word as it is, a quoted name in quotes with its
 /// escapes.
 ///
-/// Where a growth of memory is refused, `out` is as before. Its capacity never shrinks.
+/// If memory can't grow, `out` is unchanged, except that its capacity may have grown.
 pub fn print_name(name: &Name, out: &mut Vec<u8>) -> Result<(), NoMemory>
     ensures ok { OnOk result (out.new.items ≡ out.old.items ++ print_name_of name.now) }
     ensures err { OnErr result (out.new.items ≡ out.old.items) }
@@ -64,7 +63,7 @@ fn print_term(term: &Term, out: &mut Vec<u8>) -> Result<(), NoMemory>
     print_bracketed(b'{', term.annotations(), b'}', out)
 }
 
-// The term without its annotations.
+// Prints the term without its annotations.
 #[cycle(print)]
 fn print_bare(term: &Term, out: &mut Vec<u8>) -> Result<(), NoMemory>
     ensures ok { OnOk result (out.new.items ≡ out.old.items ++ print_of (bare term.now)) }
@@ -83,7 +82,7 @@ fn print_bare(term: &Term, out: &mut Vec<u8>) -> Result<(), NoMemory>
     }
 }
 
-// The terms in brackets, or nothing where there are none.
+// Prints the terms in brackets, or nothing if there are none.
 #[cycle(print)]
 fn print_bracketed(
     opening: u8,
@@ -123,7 +122,7 @@ fn print_between(
     Ok(())
 }
 
-// The terms, with commas between them.
+// Prints the terms, separated by commas.
 #[cycle(print)]
 fn print_all(terms: &[Term], out: &mut Vec<u8>) -> Result<(), NoMemory>
     ensures ok { OnOk result (out.new.items ≡ out.old.items ++ print_all_of (of_list terms.now)) }
@@ -179,7 +178,7 @@ fn print_quoted(bytes: &[u8], out: &mut Vec<u8>) -> Result<(), NoMemory>
     Ok(())
 }
 
-// A run of bytes that stand as they are is appended at once.
+// A run of bytes that need no escape is appended at once.
 fn print_escaped(bytes: &[u8], out: &mut Vec<u8>) -> Result<(), NoMemory>
     ensures ok { OnOk result (out.new.items ≡ out.old.items ++ flat_map escaped_of bytes.now) }
     ensures err { Extends out.old.items out.new.items }

@@ -48,7 +48,7 @@ numeral-number_of (b ∷ bs) n e =
 
 -- ---- a sign and digits
 
--- the digits, where m and p tell whether a minus or a plus stands first
+-- the digits, where m and p say whether a minus or a plus comes first
 abbrev rest : Bool → Bool → ℕ → List ℕ → List ℕ
 rest m p b bs = cond m bs (drop (cond p 1 0) (b ∷ bs))
 
@@ -100,7 +100,7 @@ numeral_utf8 : (bs : List ℕ) → IsNumeral 10 (without_leading_sign bs) → Is
 numeral_utf8 [] h = IsUtf8-from_ascii [] (IsAscii-from_digits [] tt)
 numeral_utf8 (b ∷ bs) h = IsUtf8-from_ascii (b ∷ bs) (first_ascii b bs (b == 45) (b == 43) refl refl h)
 
--- ---- what is read of a text without a plus
+-- ---- the result of parsing a text without a plus
 
 abbrev answer : List ℕ → Option Tree
 answer bs = option_and_then integer_in_range (integer_of bs)
@@ -111,7 +111,7 @@ answer-outside z h = sym (ap (λ t. cond t (Some (integer_term z)) None) (is_i64
 answer-fits : (z : ℤ) → FitsSigned w64 z → Some (integer_term z) ≡ integer_in_range z
 answer-fits z h = sym (ap (λ t. cond t (Some (integer_term z)) None) (is_i64-fits z h))
 
--- The text that is parsed has the bytes that were given.
+-- The parsed text has the given bytes.
 pub answer-some : (text bs : List ℕ) (z : ℤ) → text ≡ bs → (get_or bs 0 0 ≡ 43 → ⊥) → (IsNumeral 10 (without_leading_sign text) × FitsSigned w64 (signed_digits_value 10 text)) × (z ≡ signed_digits_value 10 text) → Some (integer_term (cast_signed w64 (cast_unsigned w64 z))) ≡ answer bs
 answer-some text bs z e no_plus h =
     let P : List ℕ → Type 0 = λ t. (IsNumeral 10 (without_leading_sign t) × FitsSigned w64 (signed_digits_value 10 t)) × (z ≡ signed_digits_value 10 t) in

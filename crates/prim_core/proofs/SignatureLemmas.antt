@@ -1,4 +1,4 @@
--- What stands at the index that `find` gives.
+-- The primitive at the index that `find` returns.
 use Rattle.std.proofs.Common.{◌≡◌, ℕ, ◌==◌, ◌&&◌, Bool, true, false, List, length, get_or, Some, None, IfSome, refl, sym}
 use Rattle.std.specs.declared.option.Option.{Option}
 use Rattle.std.specs.List.{slice_get}

@@ -1,4 +1,4 @@
--- The standard meaning, computed at worked rows.
+-- The standard meaning, computed on worked rows.
 use Rattle.std.proofs.Common.{◌≡◌, ◌-◌, ◌^◌, [], ◌∷◌, Some, None, refl, codes, true, false}
 use Rattle.std.specs.Prelude.{ℤ, pos, negsuc, List}
 use Rattle.std.specs.Fmt.{digits}

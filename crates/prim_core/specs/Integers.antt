@@ -1,5 +1,5 @@
--- The standard primitives on integers. A result out of the range of `i64` is nothing, and so is an
--- argument that is no integer.
+-- The standard primitives on integers. They give nothing if the result is out of the range of
+-- `i64`, or if an argument is no integer.
 use Rattle.std.specs.Prelude.{ℤ, pos, ◌+ℤ◌, ◌-ℤ◌, ◌*ℤ◌, int_div, int_lt, List, [], ◌∷◌, Some, None, if◌then◌else◌, option_and_then}
 use Rattle.std.specs.declared.option.Option.{Option}
 use Rattle.std.specs.Ordering.{int_eq}
@@ -21,12 +21,12 @@ difference_of = on_integers (λ a b. integer_in_range (a -ℤ b))
 abbrev pub product_of : List Tree → Option Tree
 product_of = on_integers (λ a b. integer_in_range (a *ℤ b))
 
--- a / b, cut towards zero; nothing where b is 0
+-- a / b, truncated towards zero; nothing if b is 0
 abbrev pub quotient_of : List Tree → Option Tree
 quotient_of =
     on_integers (λ a b. if (int_eq b (pos 0)) then None else integer_in_range (int_div a b))
 
--- the tuple (a,b) where a > b
+-- the tuple (a,b) if a > b
 abbrev pub greater_of : List Tree → Option Tree
 greater_of =
     on_integers (λ a b. if (int_lt b a)

@@ -6,11 +6,11 @@ use Rattle.std.specs.Str.{bytes_eq}
 use Rattle.term_core.specs.Tree.{Tree, application_term}
 use Rattle.prim_core.specs.Values.{integer_value, one}
 
--- the word of these bytes, applied to nothing
+-- the word with these bytes, applied to nothing
 abbrev pub constant : List ℕ → Tree
 constant text = application_term (record { text = text; is_quoted = false }) []
 
--- what there is to pick
+-- the terms to pick from
 abbrev pub choices : List Tree
 choices = constant (codes "a") ∷ (constant (codes "b") ∷ (constant (codes "c") ∷ []))
 

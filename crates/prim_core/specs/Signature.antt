@@ -1,4 +1,4 @@
--- What a primitive is found by.
+-- How a primitive is looked up.
 use Rattle.std.specs.Prelude.{ℕ, Bool, ◌==◌, ◌&&◌, List, position}
 use Rattle.std.specs.declared.option.Option.{Option}
 use Rattle.std.specs.Str.{bytes_eq}
@@ -11,6 +11,6 @@ pub record Signature : Type 0 where
 abbrev pub has_signature : List ℕ → ℕ → Signature → Bool
 has_signature name arity s = (s.arity == arity) && bytes_eq s.name name
 
--- the index of the first of this name and arity, if there is one
+-- the index of the first one with this name and arity, if there is one
 abbrev pub index_of : List ℕ → ℕ → List Signature → Option ℕ
 index_of name arity signatures = position (has_signature name arity) signatures

@@ -6,7 +6,7 @@ use Rattle.term_core.specs.Tree.{Tree}
 use Rattle.prim_core.specs.Integers.{sum_of, difference_of, product_of, quotient_of, greater_of}
 use Rattle.prim_core.specs.Strings.{joined_of, length_of, printed_of, read_of}
 
--- by their names; any other name means nothing
+-- by name; any other name means nothing
 abbrev pub standard : List ℕ → List Tree → Option Tree
 standard name arguments =
     if (bytes_eq name (codes "addi")) then sum_of arguments else

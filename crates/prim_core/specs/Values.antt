@@ -1,4 +1,4 @@
--- The values of arguments, and of answers. Annotations of arguments don't count; answers and their
+-- The values of arguments and of answers. Annotations of arguments are ignored; answers and their
 -- parts have none.
 use Rattle.std.specs.Prelude.{ℕ, ℤ, pos, negsuc, ◌-◌, ◌^◌, int_le, Bool, ◌&&◌, List, [], ◌∷◌, Some, None, true, if◌then◌else◌}
 use Rattle.std.specs.declared.option.Option.{Option}
@@ -10,7 +10,7 @@ use Rattle.term_core.specs.Tree.{application, list, tuple, Tree, integer, branch
 abbrev pub is_i64 : ℤ → Bool
 is_i64 z = int_le (negsuc (2 ^ 63 - 1)) z && int_le z (pos (2 ^ 63 - 1))
 
--- the integer, or nothing where it is out of range
+-- the integer, or nothing if it is out of range
 abbrev pub integer_in_range : ℤ → Option Tree
 integer_in_range z = if is_i64 z then Some (integer_term z) else None
 

@@ -1,4 +1,4 @@
-//! Primitives: operations of a host, each kept beside the fact that it answers its named meaning.
+//! Primitives: operations of a host, each with a proof that it computes the meaning of its name.
 #![tactic(auto)]
 
 mod meaning;

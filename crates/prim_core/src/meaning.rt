@@ -1,4 +1,4 @@
-//! What primitives mean, and the operations that are kept for them.
+//! The meaning of primitives, and the operations that compute it.
 
 ghost use Rattle.std.specs.Prelude.{◌≡◌, ℕ, List, IfOk, Ok, Some};
 ghost use Rattle.std.specs.declared.option.Option.{Option};
@@ -9,13 +9,13 @@ use term_core::{NoMemory, Term};
 
 /// The meaning of primitives: from a name and a list of terms to a term, or to nothing.
 pub trait Meaning {
-    /// The operations that are kept, as a rule `BoxedOperation`.
+    /// The type of the operations, usually `BoxedOperation`.
     type Operation: Operation;
 
     ghost meaning: { List ℕ → List Tree → Option Tree };
 }
 
-/// An operation on terms, which answers a term, or nothing.
+/// An operation on terms, which returns a term or nothing.
 pub trait Operation: Drop {
     // whether it may be run on these terms
     ghost may_run: { Self → List Tree → Type 0 };
@@ -23,13 +23,12 @@ pub trait Operation: Drop {
     // whether this may be its answer on them
     ghost answers: { Self → List Tree → Option Tree → Type 0 };
 
-    /// Runs it.
     fn run(&self, alloc: Global, arguments: &[Term]) -> Result<Option<Term>, NoMemory>
         requires { may_run self.now arguments.now }
         ensures { IfOk result (answers self.now arguments.now) };
 }
 
-/// A closure of the host, which may own terms and the like. The host makes the box.
+/// A closure of the host, which may own terms and other values. The host makes the box.
 pub type BoxedOperation = Box<dyn Fn(Global, &[Term]) -> Result<Option<Term>, NoMemory>>;
 
 impl Operation for BoxedOperation {

@@ -7,7 +7,7 @@ use term_core::{NoMemory, Term};
 /// The meaning of a host without primitives: no name means anything.
 pub struct NoPrimitives;
 
-/// The one operation of such a host: it finds nothing, whatever name it is kept by.
+/// The only operation of such a host: it returns nothing, whatever its name.
 #[derive(Drop)]
 pub struct NoOperation;
 

@@ -1,4 +1,4 @@
-//! One primitive: an operation beside the fact that it answers its named meaning.
+//! One primitive: an operation with a proof that it computes the meaning of its name.
 
 ghost use Rattle.std.specs.Prelude.{◌≡◌, length, IfOk};
 ghost use Rattle.prim_core.specs.Signature.{has_signature};
@@ -30,8 +30,9 @@ impl<M: Meaning> Model for Primitive<M> {
 }
 
 impl<M: Meaning> Primitive<M> {
-    /// The operation as the primitive of this name and number of arguments. It has to be safe to
-    /// run on every list of as many terms, and each of its answers has to be what the name means.
+    /// The primitive of this name and number of arguments that the operation computes. The
+    /// operation has to be safe to run on every list of that many terms, and each of its answers
+    /// has to be what the name means.
     pub fn new(name: Vec<u8>, arity: usize, operation: M::Operation) -> Primitive<M>
         requires { Computes M.Operation.may_run M.Operation.answers operation arity
             (M.meaning name.items) }

@@ -1,4 +1,4 @@
-//! The primitives of a host, by position.
+//! The primitives of a host, by index.
 
 ghost use Rattle.std.specs.Prelude.{◌≡◌, length, IfOk, IfSome, Some, IsSomeAnd, slice_get, option_map};
 ghost use Rattle.prim_core.specs.Signature.{index_of};
@@ -24,14 +24,13 @@ impl<M: Meaning> Model for Primitives<M> {
 }
 
 impl<M: Meaning> Primitives<M> {
-    /// These primitives, in this order.
     pub fn new(primitives: Vec<Primitive<M>>) -> Primitives<M>
         ensures { result ≡ primitives.items }
     {
         Primitives { items: primitives }
     }
 
-    /// The index of the first primitive of this name and number of arguments, or `None` where there
+    /// The index of the first primitive with this name and number of arguments, or `None` if there
     /// is none.
     pub fn find(&self, name: &[u8], arity: usize) -> Option<usize>
         ensures first { result ≡ index_of name.now arity self.now }
@@ -41,7 +40,7 @@ impl<M: Meaning> Primitives<M> {
         first_index(&self.items, name, arity)
     }
 
-    /// How many terms the primitive at `index` takes, or `None` where there is no such primitive.
+    /// How many terms the primitive at `index` takes, or `None` if there is none.
     pub fn arity(&self, index: usize) -> Option<usize>
         ensures { result ≡ option_map (λ primitive. primitive.arity) (slice_get self.now index) }
     {

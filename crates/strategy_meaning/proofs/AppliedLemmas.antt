@@ -1,4 +1,4 @@
--- Strategies that are applied to a subterm.
+-- Applying strategies to a subterm.
 use Rattle.std.proofs.Common.{◌≡◌, ◌≢◌, ℕ, ◌+◌, ◌≤◌, List, [], ◌∷◌, length, refl, sym, ap, ◌∙◌, subst, slice_get, Some, None, arith}
 use Rattle.std.specs.Option.{option_map_or}
 use Rattle.term_core.specs.Tree.{Tree, children}
@@ -57,7 +57,7 @@ height-set (i ∷ p) l whole t u is h low =
           low)
     ] refl
 
--- ---- what is true of the whole tree, from what is true of the subterm
+-- ---- what holds of the whole tree, from what holds of the subterm
 
 given : (P : Tree → Edits → Type 0) (Q : Tree → Bindings → ℕ → Edits → Type 0) (t : Tree) (p : List ℕ) (a : Answer)
     → IfDone a Q → ((u : Tree) (B : Bindings) (b : ℕ) (e : Edits) → Q u B b e → P (set_at t p u) (behind p e)) → IfGiven (placed t p a) P
@@ -65,7 +65,7 @@ given P Q t p (done u B b e) h g = g u B b e h
 given P Q t p (failed b) h g = tt
 given P Q t p (stopped why) h g = tt
 
--- where there is a subterm, and a run on it
+-- if there is a subterm, and a run on it
 applied-given : (P : Tree → Edits → Type 0) (W : World) (p : List ℕ) (r : Resolved) (b : ℕ) (t : Tree)
     → ((u : Tree) → at t p ≡ Some u → IfGiven (placed t p (run_whole W (length p) r b u)) P) → IfGiven (applied W p r b t) P
 applied-given P W p r b t h =

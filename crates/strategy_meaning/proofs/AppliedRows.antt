@@ -1,4 +1,4 @@
--- Strategies applied at paths, computed.
+-- Applying strategies at paths, computed.
 use Rattle.std.specs.Prelude.{◌≡◌, refl, ℕ, zero, suc, [], ◌∷◌, replicate}
 use Rattle.term_core.specs.Tree.{Tree}
 use Rattle.strategy_meaning.proofs.RowTerms.{edit, A, G, pattern, body}
@@ -27,7 +27,7 @@ it_fails = refl
 it_is_spent : applied no_program [] (body id) 0 (G A) ≡ stops spent
 it_is_spent = refl
 
--- so many times G above A
+-- G n times above A
 abbrev nested : ℕ → Tree
 nested zero = A
 nested (suc n) = G (nested n)

@@ -1,4 +1,4 @@
--- What calls, scopes and `rec` do, computed at worked rows.
+-- Calls, scopes and `rec`, computed on worked rows.
 use Rattle.std.specs.Prelude.{◌≡◌, refl, ℕ, [], ◌∷◌, Some}
 use Rattle.term_core.specs.Tree.{Tree}
 use Rattle.prim_core.specs.StandardTable.{standard_signatures}
@@ -33,12 +33,12 @@ scope_in_an_argument : answer 0 (call1 1 (scope 1 (seq to_B (matches (variable 0
     ≡ done (F A A) [] 89 (edit [] B ∷ (edit [] (F A A) ∷ []))
 scope_in_an_argument = refl
 
--- `h(?x|B()); !G(x)`: an argument binds for its caller, who keeps it after the call
+-- `h(?x|B()); !G(x)`: an argument binds for its caller, who keeps the binding after the call
 argument_and_term : answer 1 (seq (call 2 (resolveds_of (matches (variable 0) ∷ [])) (places_of (pattern 66 [] ∷ [])))
     (builds (pattern 71 (variable 0 ∷ [])))) 100 A ≡ done (G A) (Some A ∷ []) 93 (edit [] (F B B) ∷ (edit [] (G A) ∷ []))
 argument_and_term = refl
 
--- `rec x(G(try(x)) <+ !B())`: a name that is handed on alone
+-- `rec x(G(try(x)) <+ !B())`: a name that is passed on alone
 name_handed_on : answer 0 (rec (or_else (cong 71 (call1 3 (param 0) ∷ [])) to_B)) 100 (G A) ≡ done (G B) [] 88 (edit (0 ∷ []) B ∷ [])
 name_handed_on = refl
 
@@ -53,11 +53,12 @@ first_not_built = refl
 instance_before_its_size : run_whole definitions 1000 (with_free 1 (builds (pattern 70 (pattern 65 [] ∷ (variable 0 ∷ []))))) 100 B ≡ failed 99
 instance_before_its_size = refl
 
--- `{: rec x(test(try(!A())) < !A() + fail)}` at level 999, where only a leaf fits: all at the level of the whole
+-- `{: rec x(test(try(!A())) < !A() + fail)}` at level 999, where only a leaf fits: everything is at
+-- the level of the whole
 one_level : run_whole definitions 999 (body (scope 0 (rec (guard (test (call1 3 to_A)) to_A fail)))) 100 B ≡ done A [] 90 (edit [] A ∷ [])
 one_level = refl
 
--- `rec` alone takes a step, and each use of its name another one
+-- `rec` alone takes a step, and each use of its name takes another
 rec_without_use : answer 0 (rec id) 2 A ≡ done A [] 0 []
 rec_without_use = refl
 

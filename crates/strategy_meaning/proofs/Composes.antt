@@ -1,4 +1,4 @@
--- What is true of each term that is given, with its edits, is shown once for all forms.
+-- What holds of each success, with its edits, is shown once for all forms.
 use Rattle.std.proofs.Common.{◌≡◌, ℕ, ◌+◌, zero, suc, List, [], ◌∷◌, ◌++◌, length, map, replicate, Bool, true, false, cond, refl, slice_get, Some, None}
 use Rattle.std.specs.declared.option.Option.{Option}
 use Rattle.term_core.specs.Tree.{Tree, children, with_child}
@@ -10,9 +10,9 @@ use Rattle.strategy_meaning.specs.Scopes.{Scope, cells_in, stands_for, with_vari
 use Rattle.strategy_meaning.specs.Answer.{Answer, done, failed, stopped, big, IfDone, Act, either, with_edits, and_then, at_root}
 use Rattle.strategy_meaning.specs.Meaning.{World, primitive_answer, Evaluation, with_some, on_child, each, leftmost, those_done, on_child_number, is_over, is_list_from, rest_of, with_rest, on_rest, built, built_all, opened, form, run_bounded}
 
--- A relation at a level of a term, the one that is given and its edits, that each way in which a
--- strategy comes to a term has: it is left, one is given after the other, one is built, a child is
--- replaced, or the elements behind the first n are.
+-- A relation between a term, the result and its edits at a level, which every way to a success
+-- preserves: the term is unchanged, one success follows another, a term is built, a child is
+-- replaced, or the elements after the first n are.
 pub record Composes (K : ℕ → Tree → Tree → Edits → Type 0) : Type 0 where
   pub left : (l : ℕ) (t : Tree) → K l t t []
   pub after : (l : ℕ) (t u v : Tree) (e f : Edits) → K l t u e → K l u v f → K l t v (e ++ f)

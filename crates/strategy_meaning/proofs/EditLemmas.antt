@@ -1,4 +1,4 @@
--- Edits lead from the term before to the one that is given.
+-- Edits lead from the old term to the result.
 use Rattle.std.proofs.Common.{ℕ, refl}
 use Rattle.term_core.specs.Tree.{Tree}
 use Rattle.term_paths.specs.Edits.{Edits, Replaces}

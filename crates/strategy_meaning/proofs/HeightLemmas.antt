@@ -13,7 +13,7 @@ use Rattle.strategy_meaning.proofs.Composes.{Composes, if_done-map, bounded-give
 
 -- ---- heights of lists
 
--- how high the highest of them is
+-- the height of the highest of them
 abbrev top : List Tree → ℕ
 top us = heights (of_list us)
 
@@ -47,7 +47,7 @@ below_top : (t : Tree) → top (children t) < height t
 below_top (integer z notes) = omega arith
 below_top (branch h kids notes) = omega (arith, ap heights (of_list-to_list kids))
 
--- with other children a term is as high as from before, or as these are
+-- with other children a term is at most as high as before, or as these require
 with_children-height : (t : Tree) (us : List Tree) → height (with_children t us) ≤ max (height t) (suc (top us))
 with_children-height (integer z notes) us = omega arith
 with_children-height (branch h kids notes) us = omega arith
@@ -63,7 +63,7 @@ and-left : (a b : Bool) → a && b ≡ true → a ≡ true
 and-left true b e = refl
 and-left false b e = e
 
--- ---- what strategies do
+-- ---- the meaning of strategies
 
 abbrev Kept : ℕ → Tree → Tree → Edits → Type 0
 Kept l t u e = l + height t ≤ MAX_HEIGHT → l + height u ≤ MAX_HEIGHT

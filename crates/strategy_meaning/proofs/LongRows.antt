@@ -1,4 +1,4 @@
--- What strategies do, computed at rows that take many steps.
+-- The meaning of strategies, computed on rows that take many steps.
 use Rattle.std.specs.Prelude.{◌≡◌, refl, ℕ, pos, [], ◌∷◌, Some}
 use Rattle.term_core.specs.Tree.{tuple, Tree, integer_term, application_term}
 use Rattle.prim_core.specs.StandardTable.{standard_signatures}
@@ -50,7 +50,7 @@ under = scope 1 (seq (matches (variable 0)) (builds (pattern 83 (variable 0 ∷ 
 too_high : run_whole arith 0 (body (call1 1 under)) 100000 (number_term 0) ≡ stopped big
 too_high = refl
 
--- `repeat(?x; !S(x))`: x stays bound, so the second turn fails
+-- `repeat(?x; !S(x))`: x stays bound, so the second round fails
 abbrev Z : Tree
 Z = application_term (word 90) []
 
@@ -61,7 +61,7 @@ repeat_binds_once : run_whole arith 0 (with_free 1 (call1 1 (seq (matches (varia
     ≡ done (S Z) (Some Z ∷ []) 99981 (edit [] (S Z) ∷ [])
 repeat_binds_once = refl
 
--- `addi` doesn't answer where the sum isn't an integer
+-- `addi` has no answer if the sum isn't an integer
 no_sum : run_whole arith 0 (body (call1 3 (call0 5))) 100000 (Plus (number_term 9223372036854775807) (number_term 1))
     ≡ done (Plus (number_term 9223372036854775807) (number_term 1)) [] 99948 []
 no_sum = refl

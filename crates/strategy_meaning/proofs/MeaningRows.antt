@@ -1,4 +1,4 @@
--- What strategies do, computed at worked rows.
+-- The meaning of strategies, computed on worked rows.
 use Rattle.std.specs.Prelude.{◌≡◌, refl, ℕ, pos, [], ◌∷◌, Some, None, true}
 use Rattle.term_core.specs.Tree.{application, list, Tree, integer_term, list_term, with_annotations}
 use Rattle.prim_core.specs.StandardTable.{standard_signatures}
@@ -19,7 +19,7 @@ library = record {
   meaning = standard;
 }
 
--- from so many steps at the root, with so many free variables
+-- with this many steps at the root, and this many free variables
 abbrev answer : ℕ → ResolvedStrategy → ℕ → Tree → Answer
 answer n s b t = run_whole library 0 (with_free n s) b t
 
@@ -117,7 +117,7 @@ tails : answer 2 (seq (matches (with_tail (places_of (variable 0 ∷ [])) (varia
     ≡ done (list_term (list_term (A ∷ []) ∷ (A ∷ (A ∷ [])))) (Some A ∷ (Some (list_term (A ∷ [])) ∷ [])) 97 (edit [] (list_term (list_term (A ∷ []) ∷ (A ∷ (A ∷ [])))) ∷ [])
 tails = refl
 
--- `?[x|y]` binds y to a list without annotations, also where the list has some
+-- `?[x|y]` binds y to a list without annotations, even if the list has some
 noted_list : answer 2 (seq (matches (with_tail (places_of (variable 0 ∷ [])) (variable 1))) (builds (variable 1))) 100 (both A)
     ≡ done (list_term (A ∷ [])) (Some A ∷ (Some (list_term (A ∷ [])) ∷ [])) 97 (edit [] (list_term (A ∷ [])) ∷ [])
 noted_list = refl
@@ -190,7 +190,8 @@ one_goes_on = refl
 all_fails_with_one : answer 0 (all A_to_B) 100 (F A B) ≡ failed 94
 all_fails_with_one = refl
 
--- what a child bound on which it failed is forgotten: `one(?x; ?A())` and `some(?x; ?A())` on F(B,A)
+-- bindings made at a child on which it failed are dropped: `one(?x; ?A())` and `some(?x; ?A())` on
+-- F(B,A)
 abbrev bound_A : ResolvedStrategy
 bound_A = seq (matches (variable 0)) (matches (pattern 65 []))
 
@@ -200,18 +201,18 @@ one_forgets_failed_children = refl
 some_forgets_failed_children : answer 1 (some bound_A) 100 (F B A) ≡ done (F B A) (Some A ∷ []) 93 []
 some_forgets_failed_children = refl
 
--- `F(?x,?x)` hands the bindings from child to child
+-- `F(?x,?x)` passes the bindings from child to child
 congruence_hands_bindings_on : answer 1 (cong 70 (matches (variable 0) ∷ (matches (variable 0) ∷ []))) 100 (F A A1) ≡ failed 97
 congruence_hands_bindings_on = refl
 
--- `all(id)` has no edits, `test(all(!B()))` neither
+-- `all(id)` has no edits, nor has `test(all(!B()))`
 all_without_edits : answer 0 (all id) 100 (F A B) ≡ done (F A B) [] 97 []
 all_without_edits = refl
 
 test_without_edits : answer 0 (test (all to_B)) 100 (F A A) ≡ done (F A A) [] 96 []
 test_without_edits = refl
 
--- `test(all(!B()); ?F(x,y)); !D(x,y)`: what is bound in a test is of the changed term
+-- `test(all(!B()); ?F(x,y)); !D(x,y)`: bindings made in a test are of the changed term
 test_binds_changed_terms : answer 2 (seq (test (seq (all to_B) (matches (pattern 70 (variable 0 ∷ (variable 1 ∷ []))))))
     (builds (pattern 68 (variable 0 ∷ (variable 1 ∷ []))))) 100 (F A A) ≡ done (D B B) (Some B ∷ (Some B ∷ [])) 92 (edit [] (D B B) ∷ [])
 test_binds_changed_terms = refl
@@ -271,12 +272,12 @@ no_answer = refl
 scope_is_left : answer 1 (seq (scope 1 (matches (variable 1))) (matches (variable 0))) 100 A ≡ done A (Some A ∷ []) 96 []
 scope_is_left = refl
 
--- `{y: ?y}; !B(); ?x`: what y was bound to says nothing of x
+-- `{y: ?y}; !B(); ?x`: the binding of y doesn't affect x
 scope_is_new : answer 1 (seq (scope 1 (matches (variable 1))) (seq to_B (matches (variable 0)))) 100 A
     ≡ done B (Some B ∷ []) 94 (edit [] B ∷ [])
 scope_is_new = refl
 
--- a congruence looks at the head and the number of children, words and quoted names apart
+-- a congruence tests the head and the number of children; words and quoted names differ
 other_number_of_children : answer 0 (cong 70 (id ∷ [])) 100 (F A A) ≡ failed 99
 other_number_of_children = refl
 
@@ -314,7 +315,7 @@ outer_name : answer 0 (rec (or_else A_to_B (rec (cong 71 (param 0 ∷ []))))) 10
     ≡ done (G B) [] 87 (edit (0 ∷ []) B ∷ [])
 outer_name = refl
 
--- where a definition does nothing, and a primitive answers whatever it is asked
+-- a world in which a definition does nothing, and a primitive always has an answer
 abbrev idle : World
 idle = record {
   bodies = body id ∷ [];
@@ -322,11 +323,11 @@ idle = record {
   meaning = λ name us. Some A;
 }
 
--- an argument is tested, though nothing is built of it
+-- an argument is tested even if nothing is built from it
 idle_argument_too_big : run_whole idle 1000 (body (call 0 (resolveds_of []) (places_of (pattern 65 [] ∷ [])))) 100 B
     ≡ stopped big
 idle_argument_too_big = refl
 
--- a primitive takes as many terms as it says
+-- a primitive takes exactly its number of terms
 other_number_of_terms : run_whole idle 0 (body (prim 0 (places_of (number (pos 1) ∷ [])))) 100 B ≡ failed 99
 other_number_of_terms = refl

@@ -1,4 +1,4 @@
--- Two evaluations that are related give related answers to each form.
+-- Related evaluations give related answers to each form.
 use Rattle.std.proofs.Common.{◌≡◌, ℕ, ◌+◌, zero, suc, List, [], ◌∷◌, ◌++◌, length, map, replicate, Bool, true, false, cond, refl, slice_get, Some, None}
 use Rattle.std.specs.declared.option.Option.{Option}
 use Rattle.term_core.specs.Tree.{Tree, children}
@@ -10,7 +10,7 @@ use Rattle.strategy_meaning.specs.Scopes.{Scope, cells_in, stands_for, with_vari
 use Rattle.strategy_meaning.specs.Answer.{Answer, done, failed, stopped, spent, big, Act, either, if_done, with_edits, and_then}
 use Rattle.strategy_meaning.specs.Meaning.{World, primitive_answer, Evaluation, with_some, on_child, each, leftmost, those_done, on_child_number, is_over, is_list_from, rest_of, on_rest, built, built_all, opened, form}
 
--- The same answer, with steps left that S relates; where the first is spent, Q holds of the second.
+-- The same answer, with the steps left related by S; if the first is spent, Q holds of the second.
 abbrev pub Related : (ℕ → ℕ → Type 0) → (Answer → Type 0) → Answer → Answer → Type 0
 Related S Q (done t B b e) a = (c : ℕ) × (a ≡ done t B c e) × S b c
 Related S Q (failed b) a = (c : ℕ) × (a ≡ failed c) × S b c

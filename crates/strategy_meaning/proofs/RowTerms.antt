@@ -1,4 +1,4 @@
--- Terms and strategies that the rows are about.
+-- The terms and strategies of the rows.
 use Rattle.std.specs.Prelude.{ℕ, pos, List, [], ◌∷◌, false}
 use Rattle.term_core.specs.Tree.{Symbol, application, Tree, integer_term, application_term, list_term, with_annotations}
 use Rattle.term_paths.specs.Edits.{Edit}
@@ -53,14 +53,14 @@ cong n ss = congruence (application (word n)) (resolveds_of ss)
 abbrev pub or_else : ResolvedStrategy → ResolvedStrategy → ResolvedStrategy
 or_else s1 s2 = guard s1 id s2
 
--- a call with one strategy, and one with none and no terms
+-- a call with one strategy, and one with neither strategies nor terms
 abbrev pub call1 : ℕ → ResolvedStrategy → ResolvedStrategy
 call1 f s = call f (resolveds_of (s ∷ [])) (places_of [])
 
 abbrev pub call0 : ℕ → ResolvedStrategy
 call0 f = call f (resolveds_of []) (places_of [])
 
--- with so many free variables
+-- with this many free variables
 abbrev pub with_free : ℕ → ResolvedStrategy → Resolved
 with_free n s = record { variables = n; strategy = s }
 

@@ -1,4 +1,4 @@
--- Terms are the same exactly where they are equal.
+-- The test for equal terms is equality.
 use Rattle.std.proofs.Common.{◌≡◌, Bool, true, false, ◌&&◌, refl, sym, ap, ◌∙◌}
 use Rattle.std.proofs.lemmas.Bool.Decides.{Decides-int_eq}
 use Rattle.term_core.specs.Tree.{Head, application, list, tuple, Tree, Trees, integer, branch, none, more}

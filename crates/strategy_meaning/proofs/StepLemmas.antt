@@ -38,7 +38,7 @@ more_steps_give_the_same W E l s b B t k n =
 
 -- ---- enough steps
 
--- the same number, and not above the bound
+-- the same number, which is within the bound
 abbrev Same : ℕ → ℕ → ℕ → Type 0
 Same d b c = (c ≡ b) × (b ≤ d)
 

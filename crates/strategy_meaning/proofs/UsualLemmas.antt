@@ -1,4 +1,4 @@
--- What strategies are reasoned with.
+-- What one reasons with about strategies.
 use Rattle.std.proofs.Common.{append-nil, ◌≡◌, ℕ, ◌+◌, zero, suc, Bool, true, false, List, [], ◌∷◌, length, replicate, refl, sym, ap, ◌∙◌, subst, slice_get, Some, None}
 use Rattle.std.specs.declared.option.Option.{Option}
 use Rattle.std.specs.Prelude.{cond}
@@ -45,9 +45,9 @@ choice_goes_on W E l s1 s2 s3 b c B t is =
     one_step_is_one_form W E l (guard s1 s2 s3) b B t
     ∙ ap (λ a. either a (λ t1 B1 b1 e. with_edits e (run W E l s2 b1 B1 t1)) (λ b1. run W E l s3 b1 B t)) is
 
--- ---- what an answer of one step more is true of
+-- ---- what holds of an answer with one more step
 
--- where there is a step; without one it is spent
+-- if there is a step; without one it is spent
 from_form : (P : Tree → Bindings → ℕ → Edits → Type 0) (W : World) (E : Scope) (l : ℕ) (s : ResolvedStrategy) (b : ℕ) (B : Bindings) (t : Tree)
     → ((c : ℕ) → IfDone (form W (run W) E l s c B t) P) → IfDone (run W E l s b B t) P
 from_form P W E l s zero B t h = tt
@@ -82,7 +82,7 @@ edits-kept t e (done u B b f) h = h
 edits-kept t e (failed b) h = tt
 edits-kept t e (stopped why) h = tt
 
--- of a term with the same annotations
+-- for a term with the same annotations
 other-kept : (t u : Tree) (a : Answer) → annotations u ≡ annotations t → Kept u a → Kept t a
 other-kept t u (done v B b e) is h = h ∙ is
 other-kept t u (failed b) is h = tt

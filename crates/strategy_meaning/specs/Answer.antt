@@ -1,4 +1,4 @@
--- What a strategy answers, and how answers are put together.
+-- The answers of strategies, and how they are combined.
 use Rattle.std.specs.Prelude.{ℕ, [], ◌∷◌, ◌++◌, ⊤}
 use Rattle.term_core.specs.Tree.{Tree}
 use Rattle.term_paths.specs.Edits.{Edits}
@@ -9,30 +9,30 @@ pub data Stop : Type 0 where
   spent : Stop
   big : Stop
 
--- It gives a term, with the bindings, the steps left, and the subterms that were replaced on the way
--- to it; or it fails, with the steps left; or the whole run stops.
+-- A strategy succeeds with a term, the bindings, the steps left, and the subterms that were
+-- replaced on the way; or it fails, with the steps left; or the whole run stops.
 pub data Answer : Type 0 where
   done : Tree → Bindings → ℕ → Edits → Answer
   failed : ℕ → Answer
   stopped : Stop → Answer
 
--- from so many steps, bindings and a term to an answer
+-- from a number of steps, bindings and a term to an answer
 abbrev pub Act : Type 0
 Act = ℕ → Bindings → Tree → Answer
 
--- what is true of a term that is given, with the bindings, the steps and the edits
+-- what holds of a success: of its term, bindings, steps and edits
 abbrev pub IfDone : Answer → (Tree → Bindings → ℕ → Edits → Type 0) → Type 0
 IfDone (done t B b e) P = P t B b e
 IfDone (failed b) P = ⊤
 IfDone (stopped why) P = ⊤
 
--- goes on in one way where a term is given, and in another where it fails
+-- continues in one way after a success, and in another after a failure
 abbrev pub either : Answer → (Tree → Bindings → ℕ → Edits → Answer) → (ℕ → Answer) → Answer
 either (done t B b e) go back = go t B b e
 either (failed b) go back = back b
 either (stopped why) go back = stopped why
 
--- goes on where a term is given
+-- continues after a success
 abbrev pub if_done : Answer → (Tree → Bindings → ℕ → Edits → Answer) → Answer
 if_done a go = either a go failed
 

@@ -23,7 +23,7 @@ abbrev pub is_headed : Head → Tree → Bool
 is_headed h (integer z notes) = false
 is_headed h (branch k kids notes) = same_head h k
 
--- the elements, where the term is a list
+-- the elements, if the term is a list
 abbrev pub elements : Tree → Option (List Tree)
 elements (integer z notes) = None
 elements (branch (application f) kids notes) = None
@@ -38,7 +38,7 @@ put_or_same B i t None = None
 put_or_same B i t (Some None) = Some (slice_set B i (Some t))
 put_or_same B i t (Some (Some u)) = cond (same_tree u t) (Some B) None
 
--- variable x with a term
+-- binds variable x to a term
 abbrev pub bind : List ℕ → ℕ → Tree → Bindings → Option Bindings
 bind E x t B = option_and_then (λ i. put_or_same B i t (slice_get B i)) (slice_get E x)
 
@@ -60,7 +60,7 @@ abbrev mutual
   match_place (annotated p ps) t E B =
       option_and_then (λ B1. match_places ps (annotations t) E B1) (match_place p (bare t) E B)
 
-  -- as many patterns as terms, from left to right
+  -- patterns and terms in equal number, from left to right
   pub match_places : Places → List Tree → List ℕ → Bindings → Option Bindings
   match_places no_places [] E B = Some B
   match_places no_places (t ∷ ts) E B = None
@@ -74,8 +74,8 @@ abbrev mutual
 abbrev pub bound_to : List ℕ → ℕ → Bindings → Option Tree
 bound_to E x B = option_and_then (λ i. option_and_then (λ o. o) (slice_get B i)) (slice_get E x)
 
--- The instance of a pattern, or nothing where a variable has no binding, a tail is no list, or the
--- pattern holds `_` or `x@p`. Annotations are those that the pattern says, and those of bindings.
+-- The instance of a pattern, or nothing if a variable has no binding, a tail is no list, or the
+-- pattern contains `_` or `x@p`. Annotations are those of the pattern and those of bindings.
 abbrev mutual
   pub build_place : Place → List ℕ → Bindings → Option Tree
   build_place wildcard E B = None

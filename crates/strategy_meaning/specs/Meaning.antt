@@ -24,7 +24,7 @@ use Rattle.strategy_meaning.specs.Scopes.{Scope, inside, no_closures, cells_in, 
 use Rattle.strategy_meaning.specs.Answer.{Answer, done, failed, stopped, spent, big, Act, either, if_done, with_edits, and_then, at_root}
 
 -- What the numbers of definitions and primitives stand for: the bodies of a program, and the
--- primitives with what each name means on terms.
+-- primitives with the meaning of each name on terms.
 pub record World : Type 0 where
   pub bodies : List Resolved
   pub primitives : List Signature
@@ -34,14 +34,14 @@ pub record World : Type 0 where
 abbrev pub Evaluation : Type 0
 Evaluation = Scope → ℕ → ResolvedStrategy → Act
 
--- goes on with what there is, and fails where there is nothing
+-- continues with a value, and fails if there is none
 abbrev pub with_some : {A : Type 0} → Option A → ℕ → (A → Answer) → Answer
 with_some None c go = failed c
 with_some (Some x) c go = go x
 
 -- ---- children, counted from 0
 
--- on child i of the term, whose other children, head and annotations stay
+-- on child i of the term; its other children, head and annotations stay the same
 abbrev pub on_child : Act → ℕ → Act
 on_child act i c B t =
     with_some (slice_get (children t) i) c (λ u. if_done (act c B u)
@@ -53,14 +53,14 @@ each act [] i c B t = done t B c []
 each act (s ∷ ss) i c B t =
     and_then (on_child (act s) i c B t) (λ b B1 t1. each act ss (i + 1) b B1 t1)
 
--- on the leftmost of so many children from child i on where it gives a term
+-- on the leftmost of n children from child i on on which it succeeds
 abbrev pub leftmost : Act → ℕ → ℕ → Act
 leftmost act zero i c B t = failed c
 leftmost act (suc n) i c B t =
     either (on_child act i c B t) done (λ b. leftmost act n (i + 1) b B t)
 
--- on each of so many children from child i on where it gives a term; `any` tells whether it gave one
--- before them, and in the end it has to have given one
+-- on each of n children from child i on on which it succeeds; `any` says whether it succeeded on an
+-- earlier one, and in the end it has to have succeeded on one
 abbrev pub those_done : Act → ℕ → Bool → ℕ → Act
 those_done act zero any i c B t = cond any (done t B c []) (failed c)
 those_done act (suc n) any i c B t =
@@ -75,24 +75,24 @@ on_child_number act (suc i) c B t = on_child act i c B t
 
 -- ---- congruences
 
--- this head over so many children
+-- the term has this head and n children
 abbrev pub is_over : Head → ℕ → Tree → Bool
 is_over h n t = is_headed h t && (length (children t) == n)
 
--- a list of at least so many elements
+-- a list of at least n elements
 abbrev pub is_list_from : ℕ → Option (List Tree) → Bool
 is_list_from n None = false
 is_list_from n (Some us) = nat_le n (length us)
 
--- the children behind the first n, as a list without annotations
+-- the children after the first n, as a list without annotations
 abbrev pub rest_of : ℕ → Tree → Tree
 rest_of n t = list_term (drop n (children t))
 
--- the term with other children behind the first n
+-- the term with other children after the first n
 abbrev pub with_rest : ℕ → Tree → List Tree → Tree
 with_rest n t us = with_children t (take n (children t) ++ us)
 
--- on the list of the rest: it has to give a list, whose elements become the rest
+-- on the list of the rest: the result has to be a list, whose elements become the rest
 abbrev pub on_rest : Act → ℕ → Act
 on_rest act n c B t =
     if_done (act c B (rest_of n t)) (λ u B1 b e. with_some (elements u) b
@@ -100,17 +100,17 @@ on_rest act n c B t =
 
 -- ---- what is built
 
--- goes on with a term that was built, which has to fit
+-- continues with a built term, which has to fit
 abbrev pub built : Option Tree → ℕ → ℕ → (Tree → Answer) → Answer
 built o l c go = with_some o c (λ u. cond (fits l u) (go u) (stopped big))
 
--- goes on with the term arguments of a call or a primitive, built one by one
+-- continues with the term arguments of a call or a primitive, built one by one
 abbrev pub built_all : Places → List ℕ → Bindings → ℕ → ℕ → (List Tree → Answer) → Answer
 built_all no_places E B l c go = go []
 built_all (and_place p ps) E B l c go =
     built (build_place p E B) l c (λ u. built_all ps E B l c (λ us. go (u ∷ us)))
 
--- what the primitive of this number answers; nothing for any other number of terms than it takes
+-- the answer of the primitive with this number; nothing if it takes another number of terms
 abbrev pub primitive_answer : World → ℕ → List Tree → Option Tree
 primitive_answer W n us =
     option_and_then (λ p. cond (length us == p.arity) (W.meaning p.name us) None)
@@ -122,12 +122,12 @@ primitive_answer W n us =
 abbrev pub cut : ℕ → Answer → Answer
 cut n a = if_done a (λ t B b e. done t (take n B) b e)
 
--- in a scope E, with these new cells behind the others; afterwards they are gone
+-- in a scope E, with these new cells after the others; afterwards they are gone
 abbrev pub opened : Evaluation → Scope → Bindings → ℕ → ResolvedStrategy → Act
 opened part E new l s c B t = cut (length B) (part E l s c (B ++ new) t)
 
--- The body of a definition, with these strategies, written in E, and these terms: the terms have new
--- cells, and so do its free variables, whose cells are empty.
+-- The body of a definition, with these strategies, which belong to E, and these terms: the terms
+-- get new cells, and so do its free variables, whose cells are empty.
 abbrev pub enter : Evaluation → ResolvedStrategies → Scope → List Tree → Resolved → ℕ → Act
 enter part ss E us d l c B t =
     opened part (inside (numbers_from (length B) (length us + d.variables)) (arguments E ss))
@@ -179,7 +179,7 @@ run_bounded W zero E l s b B t = stopped spent
 run_bounded W (suc n) E l s zero B t = stopped spent
 run_bounded W (suc n) E l s (suc c) B t = form W (run_bounded W n) E l s c B t
 
--- the answer from b steps
+-- the answer with b steps
 abbrev pub run : World → Evaluation
 run W E l s b B t = run_bounded W b E l s b B t
 

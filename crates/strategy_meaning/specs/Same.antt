@@ -1,4 +1,4 @@
--- When two terms are the same, as a test. The laws say that this is equality.
+-- A test for equal terms. The laws say that it is equality.
 use Rattle.std.specs.Prelude.{Bool, true, false, ◌&&◌}
 use Rattle.std.specs.Ordering.{int_eq}
 use Rattle.term_core.specs.Tree.{same_name, Head, application, list, tuple, Tree, Trees, integer, branch, none, more}

@@ -3,8 +3,8 @@ use Rattle.std.specs.Prelude.{ℕ, zero, suc, ◌+◌, List, [], ◌∷◌, ◌+
 use Rattle.std.specs.declared.option.Option.{Option}
 use Rattle.strategy_syntax.specs.Resolved.{ResolvedStrategy, param, ResolvedStrategies, no_strategies, and_strategy}
 
--- A scope has a cell among the bindings for each variable, by its number, and for each strategy name
--- the strategy that it stands for with the scope where that was written.
+-- A scope has, for each variable by its number, a cell among the bindings, and for each strategy
+-- name the strategy that it stands for, with the scope that this belongs to.
 mutual
   pub data Scope : Type 0 where
     inside : List ℕ → Closures → Scope
@@ -31,16 +31,16 @@ closure_at (and_closure s E more) (suc x) = closure_at more x
 abbrev pub stands_for : Scope → ℕ → Option Closure
 stands_for (inside cells names) x = closure_at names x
 
--- so many numbers from first on
+-- n numbers from first on
 abbrev pub numbers_from : ℕ → ℕ → List ℕ
 numbers_from first zero = []
 numbers_from first (suc n) = first ∷ numbers_from (first + 1) n
 
--- the scope with so many more variables, whose cells are those from first on
+-- the scope with n more variables, whose cells are those from first on
 abbrev pub with_variables : Scope → ℕ → ℕ → Scope
 with_variables (inside cells names) first n = inside (cells ++ numbers_from first n) names
 
--- one more, behind the others
+-- one more, after the others
 abbrev pub with_closure : Closures → ResolvedStrategy → Scope → Closures
 with_closure no_closures s E = and_closure s E no_closures
 with_closure (and_closure r F more) s E = and_closure r F (with_closure more s E)
@@ -49,8 +49,8 @@ with_closure (and_closure r F more) s E = and_closure r F (with_closure more s E
 abbrev pub with_name : Scope → ResolvedStrategy → Scope → Scope
 with_name (inside cells names) s E = inside cells (with_closure names s E)
 
--- What a strategy argument stands for: the name of a strategy parameter or of a `rec` alone stands for
--- what that name stands for.
+-- What a strategy argument stands for: if it is just the name of a strategy parameter or of a
+-- `rec`, what that name stands for.
 abbrev pub argument : Scope → ResolvedStrategy → Closure
 argument E (param x) = unwrap_or (stands_for E x) (record { strategy = param x; written_in = E })
 argument E s = record { strategy = s; written_in = E }

@@ -2,23 +2,23 @@
 
 ghost use Rattle.strategy_meaning.specs.Laws.{SameIsEqual, OneStepIsOneForm, MoreStepsGiveTheSame, MoreStepsApplyTheSame, HeightsAreKept, AppliedKeepsHeights, EditsReplace, AppliedEditsReplace, NoEditsNoChange, IdFirst, IdLast, FailFirst, ChoiceGoesOn, WhereLeaves, TraversalsKeepAnnotations};
 
-/// Terms are the same exactly where they are equal.
+/// The test for equal terms is equality.
 pub fn same_is_equal()
     ensures { SameIsEqual }
 {}
 
-/// With a step left, an answer is that of one form of the table.
+/// With a step left, an answer is that of one line of the table.
 pub fn one_step_is_one_form()
     ensures { OneStepIsOneForm }
 {}
 
-/// Where the steps aren't spent, more steps give the same answer.
+/// If the steps don't run out, more steps give the same answer.
 pub fn more_steps_give_the_same()
     ensures run { MoreStepsGiveTheSame }
     ensures applied { MoreStepsApplyTheSame }
 {}
 
-/// A term that isn't too high at its level gives one that isn't too high there.
+/// If a term isn't too high at its level, neither is the result.
 pub fn heights_are_kept()
     ensures run { HeightsAreKept }
     ensures applied { AppliedKeepsHeights }
@@ -38,13 +38,13 @@ pub fn sequences()
     ensures fail_first { FailFirst }
 {}
 
-/// A guard whose first part fails, and so a choice whose left side does, goes on with the original
-/// term and bindings.
+/// If the first branch of a guard fails, or the left side of a choice, the rest starts from the
+/// original term and bindings.
 pub fn choices()
     ensures { ChoiceGoesOn }
 {}
 
-/// `where(s)` leaves the term.
+/// `where(s)` leaves the term unchanged.
 pub fn tests()
     ensures { WhereLeaves }
 {}

@@ -1,4 +1,4 @@
--- Strategy arguments, added one by one.
+-- Adding strategy arguments one by one.
 use Rattle.std.proofs.Common.{◌≡◌, ℕ, Bool, true, false, ◌+◌, ◌≤◌, ◌<◌, List, [], ◌∷◌, ◌++◌, length, take, get_or, zero, suc, refl, sym, ap, subst, ◌∙◌, arith, Some, None}
 use Rattle.std.specs.Prelude.{unwrap_or}
 use Rattle.std.specs.Bool.{OnTrue}
@@ -37,7 +37,7 @@ arguments-more : (E : Scope) (ss : List ResolvedStrategy) (s : ResolvedStrategy)
 arguments-more E [] s = refl
 arguments-more E (r ∷ ss) s = ap (and_closure (argument E r).strategy (argument E r).written_in) (arguments-more E ss s)
 
--- the first of the strategies have been added
+-- the first i strategies have been added
 pub record Added (old now : List Scope) (scope : ℕ) (ss : List ResolvedStrategy) (i : ℕ) (names : Option ℕ) : Type 0 where
   pub stay : Starts old now
   pub there : IsThere (length now) names
@@ -77,7 +77,7 @@ added_all old now scope ss i names a h k =
     let e : i ≡ length ss = omega (arith, h, k) in
     a.given ∙ ap (λ l. inside [] (arguments (scope_at old scope) (resolveds_of l))) (ap (λ j. take j ss) e ∙ all_taken ss)
 
--- ---- all names handed on
+-- ---- all names passed on
 
 -- From name i on, the strategies are the names of the scope.
 names_stay : (E : Scope) (cs : Closures) (i : ℕ) (ss : List ResolvedStrategy) → ((x : ℕ) → stands_for E (i + x) ≡ closure_at cs x)
@@ -106,7 +106,7 @@ one_more : (i : ℕ) (ss : List ResolvedStrategy) (s : ResolvedStrategy) → Are
 one_more i [] s a h = (h ∙ ap param (omega arith), tt)
 one_more i (r ∷ ss) s a h = (a.0, one_more (suc i) ss s a.1 (h ∙ ap param (omega arith)))
 
--- one name more behind the first ones
+-- one more name after the first ones
 pub names_more : (ss : List ResolvedStrategy) (i : ℕ) (s : ResolvedStrategy) → i < length ss → s ≡ get_or ss i s → AreNames 0 (take i ss) → s ≡ param i
     → AreNames 0 (take (i + 1) ss)
 names_more ss i s lt e a is =

@@ -1,4 +1,4 @@
--- What variables and names are in a scope that widens another one.
+-- Looking up variables and names in a scope that extends another.
 use Rattle.std.proofs.Common.{◌≡◌, ℕ, ◌+◌, ◌-◌, ◌≤◌, ◌<◌, List, [], ◌∷◌, ◌++◌, length, zero, suc, refl, sym, ap, ◌∙◌, arith, Some, None}
 use Rattle.std.specs.Prelude.{MatchOption}
 use Rattle.std.specs.declared.option.Option.{Option}
@@ -70,7 +70,7 @@ closure-outer no_closures s E x h = absurd (omega (arith, h))
 closure-outer (and_closure r F more) s E zero h = refl
 closure-outer (and_closure r F more) s E (suc x) h = closure-outer more s E x (omega (arith, h))
 
--- the one name that is added
+-- the one name of the addition
 abbrev added_one : ResolvedStrategy → Scope → ℕ → Option Closure
 added_one s E zero = Some (record { strategy = s; written_in = E })
 added_one s E (suc x) = None
@@ -144,7 +144,7 @@ module _ (all : List Scope) (b : ℕ) (E : Scope) (e : Entry) (h : IsAt all b E 
       counted (Variables first n) F = ap closure_count (names-variables F first n) ∙ omega arith
       counted (Name k) F = ap closure_count (names-name F k.strategy.now (scope_at all k.inside)) ∙ count-with (names_in F) k.strategy.now (scope_at all k.inside)
 
--- what is found there is what the name stands for
+-- what is found is what the name stands for
 found : (all : List Scope) (a : Adds) (b i n x : ℕ) (o : Option Known) → o ≡ slice_get (added_names a) i → AddsFit b a → b ≤ length all
     → stands_for (scope_at all n) x ≡ own_closure all a i → MatchOption o (stands_for (scope_at all n) x ≡ None) (λ k. Stands all n x k)
 found all (Variables first m) b i n x o e f le h = rw e h
@@ -171,7 +171,7 @@ pub fits-room : (b : ℕ) (a : Adds) → AddsFit b a → AddsRoom a
 fits-room b (Variables first n) h = h
 fits-room b (Name k) h = tt
 
--- ---- how many a scope has
+-- ---- the sizes of a scope
 
 module _ (all : List Scope) (b n : ℕ) (e : Entry) (o : Option ℕ) (h : IsAt all b (scope_at all n) e) (is : o ≡ Some n) where
   cells-from : length (cells_in (scope_from all o)) ≡ e.variables + length (added_cells (addition_of e.adds))

@@ -1,4 +1,4 @@
--- The scopes of a table as entries are added to it and cut off.
+-- The scopes of a table after entries are added and after they are cut off.
 use Rattle.std.proofs.Common.{◌≡◌, ℕ, ◌+◌, ◌≤◌, ◌<◌, List, [], ◌∷◌, ◌++◌, length, take, get_or, map, zero, suc, refl, sym, ap, ◌∙◌, subst, arith, Some, None}
 use Rattle.std.specs.declared.option.Option.{Option}
 use Rattle.std.proofs.lemmas.List.{append-nil, append_assoc, length-append, get_or_append_left, get_or_past}
@@ -35,7 +35,7 @@ pub map-more : {A B : Type 0} (f : A → B) (xs : List A) (x : A) → map f (xs 
 map-more f [] x = refl
 map-more f (y ∷ xs) x = ap (λ l. f y ∷ l) (map-more f xs x)
 
--- ---- more scopes behind
+-- ---- more scopes at the end
 
 scope_from-append : (known more : List Scope) (o : Option ℕ) → IsThere (length known) o → scope_from (known ++ more) o ≡ scope_from known o
 scope_from-append known more None h = refl
@@ -63,7 +63,7 @@ sound-more known more e s =
 
 -- ---- an entry of the table
 
--- entry e is the n-th, and all is known
+-- entry e is the n-th, and its invariant holds
 pub record IsAt (all : List Scope) (b : ℕ) (E : Scope) (e : Entry) : Type 0 where
   pub sound : RestsOnOlder all b e
   pub scope : E ≡ widened all (widening_of e)
@@ -134,7 +134,7 @@ cut es new ws n v i =
     ap (λ l. scopes (map widening_of l)) i ∙ ap scopes (map-take widening_of n es) ∙ scopes-take [] n (map widening_of es)
     ∙ ap (λ l. take n (scopes l)) v
 
--- ---- what is widened
+-- ---- the extended scope
 
 below : (b : ℕ) (o : Option ℕ) (n : ℕ) → IsThere b o → o ≡ Some n → n < b
 below b o n h e = subst (IsThere b) e h

@@ -1,4 +1,4 @@
--- What the entries of the table stand for, and what is known of them.
+-- What the entries of the table represent, and the invariant on them.
 use Rattle.std.specs.Prelude.{◌≡◌, ◌<◌, ◌+◌, ◌^◌, ℕ, suc, List, [], ◌∷◌, ◌++◌, length}
 use Rattle.strategy_syntax.specs.Resolved.{ResolvedStrategy, param}
 use Rattle.strategy_meaning.specs.Scopes.{Scope, inside, Closures, no_closures, and_closure, cells_in, numbers_from}
@@ -26,7 +26,7 @@ abbrev pub AddsFit : ℕ → Adds → Type 0
 AddsFit b (Variables first n) = first + n < 2 ^ 64
 AddsFit b (Name k) = k.inside < b
 
--- its cells are numbers of the machine
+-- its cells fit in `usize`
 abbrev pub AddsRoom : Adds → Type 0
 AddsRoom (Variables first n) = first + n < 2 ^ 64
 AddsRoom (Name k) = Unit {0}
@@ -39,7 +39,7 @@ abbrev pub added_names : Adds → List Known
 added_names (Variables first n) = []
 added_names (Name k) = k ∷ []
 
--- An entry that stands behind b scopes, and all that it speaks of is among these.
+-- An entry after b scopes, which refers only to these.
 pub record RestsOnOlder (known : List Scope) (b : ℕ) (e : Entry) : Type 0 where
   pub outer : IsThere b e.outer
   pub variables : e.variables ≡ length (cells_in (scope_from known e.outer))

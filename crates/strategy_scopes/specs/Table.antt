@@ -1,4 +1,4 @@
--- Scopes by their numbers: each is an older one of the table, or the empty one, with something more.
+-- Scopes by their numbers: each is an older one of the table, or the empty one, with an addition.
 use Rattle.std.specs.Prelude.{◌≡◌, ◌<◌, ℕ, List, [], ◌∷◌, ◌++◌, get_or, length, take, Some, None, ⊤}
 use Rattle.std.specs.declared.option.Option.{Option}
 use Rattle.strategy_syntax.specs.Resolved.{ResolvedStrategy}
@@ -6,9 +6,9 @@ use Rattle.strategy_meaning.specs.Scopes.{Scope, Closure, inside, no_closures, s
 use Rattle.strategy_scopes.specs.declared.scopes.Known.{Known}
 
 pub data Addition : Type 0 where
-  -- variables: the cell of the first one, and how many
+  -- variables: the cell of the first one, and their number
   variables : ℕ → ℕ → Addition
-  -- a strategy name: what it stands for, and the number of the scope where that was written
+  -- a strategy name: what it stands for, and the number of the scope that this belongs to
   name : ResolvedStrategy → ℕ → Addition
 
 pub record Widening : Type 0 where
@@ -19,7 +19,7 @@ pub record Widening : Type 0 where
 abbrev pub nowhere : Scope
 nowhere = inside [] no_closures
 
--- a number that stands for no scope gives the empty one
+-- a number that belongs to no scope gives the empty one
 abbrev pub scope_at : List Scope → ℕ → Scope
 scope_at known n = get_or known n nowhere
 
@@ -34,7 +34,7 @@ with_addition known (name s k) E = with_name E s (scope_at known k)
 abbrev pub widened : List Scope → Widening → Scope
 widened known w = with_addition known w.adds (scope_from known w.outer)
 
--- the scopes of a table whose older ones are known
+-- the scopes of a table, given those of its older entries
 abbrev pub scopes_behind : List Scope → List Widening → List Scope
 scopes_behind known [] = []
 scopes_behind known (w ∷ ws) = widened known w ∷ scopes_behind (known ++ widened known w ∷ []) ws
@@ -43,12 +43,12 @@ scopes_behind known (w ∷ ws) = widened known w ∷ scopes_behind (known ++ wid
 abbrev pub scopes : List Widening → List Scope
 scopes ws = scopes_behind [] ws
 
--- whether it is one of so many scopes, or none
+-- whether it is one of the first b scopes, or none
 abbrev pub IsThere : ℕ → Option ℕ → Type 0
 IsThere b None = ⊤
 IsThere b (Some n) = n < b
 
--- what is known of a name, with the scope itself
+-- what a name stands for, with the scope itself
 abbrev pub closure_of : List Scope → Known → Closure
 closure_of known k = record { strategy = k.strategy.now; written_in = scope_at known k.inside }
 
@@ -58,6 +58,6 @@ Stands known n x k =
     (k.inside < length known)
     × (stands_for (scope_at known n) x ≡ Some (closure_of known k))
 
--- the first of these scopes are those from before
+-- the new list of scopes extends the old one
 abbrev pub Starts : List Scope → List Scope → Type 0
 Starts old new = take (length old) new ≡ old

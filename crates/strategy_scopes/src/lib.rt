@@ -1,4 +1,4 @@
-//! The scopes of a running strategy, as a flat table in which each widens an older one.
+//! The scopes of a running strategy, as a flat table in which each extends an older one.
 #![tactic(auto)]
 
 mod scopes;

@@ -1,4 +1,4 @@
-//! The table of scopes. A number stands for a scope.
+//! The table of scopes. A scope is given by its number.
 
 ghost use Rattle.std.specs.Prelude.{◌≡◌, ◌≤◌, ◌<◌, ◌+◌, ◌∷◌, ◌++◌, ◌^◌, [], length, take, slice_get, OnErr, IfOk, IfSome, MatchOption, None};
 ghost use Rattle.strategy_meaning.specs.Scopes.{inside, cells_in, stands_for, with_variables, with_name, numbers_from, argument, arguments};
@@ -12,7 +12,7 @@ use std::marker::Model;
 use strategy_syntax::{ResolvedForm, ResolvedStrategy};
 use term_core::NoMemory;
 
-/// What a strategy name stands for: a strategy, and the number of the scope where it was written.
+/// What a strategy name stands for: a strategy, and the number of the scope that it belongs to.
 #[derive(Clone, Copy)]
 pub struct Known<'t> {
     pub strategy: &'t ResolvedStrategy,
@@ -21,9 +21,9 @@ pub struct Known<'t> {
 
 #[derive(Clone, Copy)]
 struct Entry<'t> {
-    // the scope that is widened, if it isn't the empty one
+    // the scope that is extended, unless it is the empty one
     outer: Option<usize>,
-    // how many variables and names that one has
+    // the numbers of variables and names of that scope
     variables: usize,
     names: usize,
     adds: Adds<'t>,
@@ -31,7 +31,7 @@ struct Entry<'t> {
 
 #[derive(Clone, Copy)]
 enum Adds<'t> {
-    // variables: the cell of the first one, and how many
+    // variables: the cell of the first one, and their number
     Variables(usize, usize),
     Name(Known<'t>),
 }
@@ -59,7 +59,7 @@ impl<'t> Model for Scopes<'t> {
 }
 
 impl<'t> Scopes<'t> {
-    /// No scopes.
+    /// An empty table.
     pub fn new(alloc: Global) -> Scopes<'t>
         ensures { scopes result ≡ [] }
     {
@@ -68,21 +68,21 @@ impl<'t> Scopes<'t> {
         }
     }
 
-    /// How many scopes there are.
+    /// The number of scopes.
     pub fn count(&self) -> usize
         ensures { result ≡ length (scopes self.now) }
     {
         self.entries.len()
     }
 
-    /// Keeps the first scopes.
+    /// Keeps only the first `count` scopes.
     pub fn cut(&mut self, count: usize)
         ensures { scopes self.new ≡ take count (scopes self.old) }
     {
         self.entries.truncate(count);
     }
 
-    /// One more scope: this one with so many variables, whose cells are those from `first` on.
+    /// Adds a scope: this one with `count` more variables, whose cells are those from `first` on.
     pub fn add_variables(
         &mut self,
         outer: Option<usize>,
@@ -98,7 +98,7 @@ impl<'t> Scopes<'t> {
         self.add(outer, Adds::Variables(first, count))
     }
 
-    /// One more scope: this one with a name for a strategy that was written in a scope of the table.
+    /// Adds a scope: this one with a name for a strategy that belongs to a scope of the table.
     pub fn add_name(&mut self, outer: Option<usize>, known: Known<'t>) -> Result<usize, NoMemory>
         requires there { IsThere (length (scopes self.old)) outer }
         requires written { known.inside < length (scopes self.old) }
@@ -110,8 +110,8 @@ impl<'t> Scopes<'t> {
         self.add(outer, Adds::Name(known))
     }
 
-    /// The scope of a definition's body: its variables, whose cells are those from `first` on, and what
-    /// its strategy parameters stand for, which are strategies written in this scope.
+    /// Adds the scope of a definition's body: its variables, whose cells are those from `first` on,
+    /// and what its strategy parameters stand for, which are strategies that belong to this scope.
     pub fn add_call(
         &mut self,
         scope: usize,
@@ -138,8 +138,8 @@ impl<'t> Scopes<'t> {
         self.add_variables(names, first, count)
     }
 
-    /// Whether these strategies are the names of this scope, all of them in their order, and it has no
-    /// variables: what they stand for in a scope of their own is what they stand for there.
+    /// Whether these strategies are exactly the names of this scope, in order, and it has no
+    /// variables: then they stand for the same in a scope of their own.
     pub fn hands_all_on(&self, scope: usize, strategies: &[ResolvedStrategy]) -> bool
         requires { scope < length (scopes self.now) }
         ensures { OnTrue result (scope_at (scopes self.now) scope
@@ -154,7 +154,7 @@ impl<'t> Scopes<'t> {
         counts.names == strategies.len() && are_names(strategies)
     }
 
-    /// A scope without variables and names, if the oldest one is so.
+    /// A scope without variables and names, if the oldest one is such a scope.
     pub fn nowhere(&self) -> Option<usize>
         ensures there { IfSome result (λ n. n < length (scopes self.now)) }
         ensures empty { IfSome result (λ n. scope_at (scopes self.now) n ≡ nowhere) }
@@ -166,8 +166,8 @@ impl<'t> Scopes<'t> {
         }
     }
 
-    // A scope without variables, whose names stand for strategies written in this scope; none where
-    // there are no strategies.
+    // A scope without variables, whose names stand for strategies that belong to this scope; none
+    // if there are no strategies.
     fn add_arguments(
         &mut self,
         scope: usize,
@@ -204,7 +204,7 @@ impl<'t> Scopes<'t> {
         }
     }
 
-    // One more scope: this one with something more.
+    // Adds a scope: this one with an addition.
     fn add(&mut self, outer: Option<usize>, adds: Adds<'t>) -> Result<usize, NoMemory>
         requires there { IsThere (length (scopes self.old)) outer }
         requires fit { AddsFit (length (scopes self.old)) adds }
@@ -226,7 +226,7 @@ impl<'t> Scopes<'t> {
         Ok(new)
     }
 
-    // How many variables and names a scope has, where these are numbers of the machine.
+    // The numbers of variables and names of a scope, if they fit in `usize`.
     fn counts(&self, scope: Option<usize>) -> Option<Counts>
         requires { IsThere (length (scopes self.now)) scope }
         ensures variables { IfSome result (λ c. c.variables ≡ length (cells_in (scope_from (scopes self.now) scope))) }
@@ -289,7 +289,7 @@ impl<'t> Scopes<'t> {
     }
 }
 
-// How many variables and names a scope has.
+// The numbers of variables and names of a scope.
 #[derive(Clone, Copy)]
 struct Counts {
     variables: usize,
@@ -308,7 +308,7 @@ fn are_names(strategies: &[ResolvedStrategy]) -> bool
     true
 }
 
-// Whether this is a name alone, with this number.
+// Whether this is just the name with this number.
 fn is_name(strategy: &ResolvedStrategy, x: usize) -> bool
     ensures { OnTrue result (strategy.now ≡ param x) }
 {
@@ -318,7 +318,7 @@ fn is_name(strategy: &ResolvedStrategy, x: usize) -> bool
     }
 }
 
-// The cell of variable i of those that are added.
+// The cell of variable i of the addition.
 fn own_cell(adds: Adds<'_>, i: usize) -> Option<usize>
     requires { AddsRoom adds }
     ensures { result ≡ slice_get (added_cells (addition_of adds.entry)) i }
@@ -329,7 +329,7 @@ fn own_cell(adds: Adds<'_>, i: usize) -> Option<usize>
     }
 }
 
-// What name i of those that are added stands for.
+// What name i of the addition stands for.
 fn own_name<'t>(adds: Adds<'t>, i: usize) -> Option<Known<'t>>
     ensures { result ≡ slice_get (added_names adds.entry) i }
 {

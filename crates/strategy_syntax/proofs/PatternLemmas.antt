@@ -11,7 +11,7 @@ pub patterns_of-pattern_list : (ps : Patterns) → patterns_of (pattern_list ps)
 patterns_of-pattern_list no_patterns = refl
 patterns_of-pattern_list (and_pattern p ps) = ap (and_pattern p) (patterns_of-pattern_list ps)
 
--- the same patterns stand in the same lists
+-- equal lists have equal patterns
 pub patterns_of-only : (ps qs : List Pattern) → patterns_of ps ≡ patterns_of qs → ps ≡ qs
 patterns_of-only ps qs e =
     sym (pattern_list-patterns_of ps) ∙ ap pattern_list e ∙ pattern_list-patterns_of qs

@@ -12,7 +12,7 @@ pub strategies_of-strategy_list : (ss : Strategies) → strategies_of (strategy_
 strategies_of-strategy_list no_strategies = refl
 strategies_of-strategy_list (and_strategy s ss) = ap (and_strategy s) (strategies_of-strategy_list ss)
 
--- the same strategies stand in the same lists
+-- equal lists have equal strategies
 pub strategies_of-only : (ss ts : List Strategy) → strategies_of ss ≡ strategies_of ts → ss ≡ ts
 strategies_of-only ss ts e =
     sym (strategy_list-strategies_of ss) ∙ ap strategy_list e ∙ strategy_list-strategies_of ts

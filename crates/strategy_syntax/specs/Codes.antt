@@ -1,5 +1,5 @@
--- How the logic stores patterns and strategies: as terms. A term's annotations keep what stands at
--- the root, its children the parts.
+-- How the logic stores patterns and strategies: as terms. A term's annotations hold the root, its
+-- children the parts.
 use Rattle.std.specs.Prelude.{◌≡◌, ℕ, pos, nat_abs, ◌==◌, cond, List, [], ◌∷◌, refl, false}
 use Rattle.std.proofs.Common.{ap}
 use Rattle.std.specs.Coded.{Coded, code_by}
@@ -7,7 +7,7 @@ use Rattle.term_core.specs.Tree.{Symbol, Head, application, list, tuple, Tree, T
 use Rattle.term_core.specs.TreeCode.{tree_code}
 use Rattle.strategy_syntax.specs.Syntax.{Pattern, wildcard, variable, at, number, compound, with_tail, annotated, Patterns, no_patterns, and_pattern, Strategy, id, fail, matches, builds, seq, guard, test, scope, uses, congruence, tail_congruence, all, one, some, child, rec, prim, Strategies, no_strategies, and_strategy}
 
--- ---- what stands in the trees
+-- ---- the fields of the roots
 
 abbrev pub symbol_tree : Symbol → Tree
 symbol_tree f = branch (application f) none none
@@ -32,7 +32,7 @@ abbrev pub tree_number : Tree → ℕ
 tree_number (integer z notes) = nat_abs z
 tree_number (branch h ts notes) = 0
 
--- the tree with a number at its root, something beside it, and these children
+-- the tree with a number and a field at its root, and these children
 abbrev pub tagged : ℕ → Tree → Trees → Tree
 tagged tag beside ts = branch list ts (more (number_tree tag) (more beside none))
 
@@ -116,7 +116,7 @@ pattern_code = code_by Tree tree_code pattern_tree tree_pattern pattern_again
 
 -- ---- strategies
 
--- what stands beside the parts of a strategy: a name or a number, names, and patterns
+-- the fields of a root: a name or a number, names, and patterns
 abbrev beside : Tree → Trees → Trees → Tree
 beside t names ps = branch tuple ps (more t names)
 

@@ -1,4 +1,4 @@
--- What stands above the parts of a pattern or a congruence.
+-- The root of a compound pattern or a congruence.
 use Rattle.std.specs.Prelude.{Some, None}
 use Rattle.std.specs.declared.option.Option.{Option}
 use Rattle.term_core.specs.Tree.{Head, application, list, tuple}

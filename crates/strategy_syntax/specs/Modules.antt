@@ -18,8 +18,8 @@ pub record Definition : Type 0 where
   pub term_parameters : List Symbol
   pub body : Strategy
 
--- What a module declares and defines, in the order of its text. Two definitions may have the same
--- name and numbers of parameters.
+-- The declarations and definitions of a module, in the order of its text. Two definitions may have
+-- the same name and numbers of parameters.
 pub record Module : Type 0 where
   pub constructors : List Constructor
   pub definitions : List Definition

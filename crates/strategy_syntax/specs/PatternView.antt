@@ -1,4 +1,4 @@
--- What the forms of a pattern stand for.
+-- What the forms of a pattern represent.
 use Rattle.std.specs.Prelude.{ℕ, max}
 use Rattle.std.proofs.Common.{suc}
 use Rattle.strategy_syntax.specs.Syntax.{Pattern, wildcard, variable, at, number, compound, with_tail, annotated, Patterns, no_patterns, and_pattern, patterns_of}
@@ -15,7 +15,7 @@ pattern_of (Compound h ps) = compound (head_of h) (patterns_of ps.items)
 pattern_of (WithTail ps p) = with_tail (patterns_of ps.items) p.value
 pattern_of (Annotated p ps) = annotated p.value (patterns_of ps.items)
 
--- how many patterns stand one in another
+-- the depth of nested patterns
 abbrev mutual
   pub pattern_depth : Pattern → ℕ
   pattern_depth wildcard = 1

@@ -1,4 +1,4 @@
--- What the forms of a resolved pattern stand for.
+-- What the forms of a resolved pattern represent.
 use Rattle.std.specs.Prelude.{ℕ, max}
 use Rattle.std.proofs.Common.{suc}
 use Rattle.strategy_syntax.specs.Resolved.{Place, wildcard, variable, at, number, compound, with_tail, annotated, Places, no_places, and_place, places_of}
@@ -15,7 +15,7 @@ place_of (Compound h ps) = compound (head_of h) (places_of ps.items)
 place_of (WithTail ps p) = with_tail (places_of ps.items) p.value
 place_of (Annotated p ps) = annotated p.value (places_of ps.items)
 
--- how many patterns stand one in another
+-- the depth of nested patterns
 abbrev mutual
   pub place_depth : Place → ℕ
   place_depth wildcard = 1

@@ -1,8 +1,8 @@
 -- Strategies in which each name that has a binder is a number, as plain data. A variable, a
--- strategy parameter and a `rec` name are the numbers of their binders among those round them,
--- counted from the outermost of the definition or strategy, variables and strategy names apart; a
--- definition and a primitive are their numbers in the program and among the primitives. A whole
--- strategy, with how many free variables it has, is the struct `Resolved`.
+-- strategy parameter and a `rec` name are the numbers of their binders among the enclosing ones,
+-- counted from the outermost of the definition or strategy; variables and strategy names are
+-- counted separately. A definition and a primitive are their numbers in the program and among the
+-- primitives. A whole strategy, with the number of its free variables, is the struct `Resolved`.
 use Rattle.std.specs.Prelude.{ℕ, ℤ, List, [], ◌∷◌}
 use Rattle.term_core.specs.Tree.{Head}
 
@@ -40,7 +40,7 @@ mutual
     seq : ResolvedStrategy → ResolvedStrategy → ResolvedStrategy
     guard : ResolvedStrategy → ResolvedStrategy → ResolvedStrategy → ResolvedStrategy
     test : ResolvedStrategy → ResolvedStrategy
-    -- so many new variables
+    -- new variables, this many
     scope : ℕ → ResolvedStrategy → ResolvedStrategy
     -- a strategy parameter or a `rec` name
     param : ℕ → ResolvedStrategy

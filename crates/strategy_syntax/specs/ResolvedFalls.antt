@@ -1,4 +1,4 @@
--- The parts of a resolved strategy are less deep.
+-- The parts of a resolved strategy have less depth.
 use Rattle.std.specs.Prelude.{◌≤◌, ◌+◌, List, [], ◌∷◌, max}
 use Rattle.std.proofs.Common.{arith}
 use denote.Param.Weighed.{most}

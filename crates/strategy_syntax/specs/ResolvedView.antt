@@ -1,4 +1,4 @@
--- What the forms of a resolved strategy stand for.
+-- What the forms of a resolved strategy represent.
 use Rattle.std.specs.Prelude.{ℕ, max}
 use Rattle.std.proofs.Common.{suc}
 use Rattle.strategy_syntax.specs.Resolved.{places_of, ResolvedStrategy, id, fail, matches, builds, seq, guard, test, scope, param, call, congruence, tail_congruence, all, one, some, child, rec, prim, ResolvedStrategies, no_strategies, and_strategy, resolveds_of}
@@ -26,7 +26,7 @@ resolved_of (Child i s) = child i s.value
 resolved_of (Rec s) = rec s.value
 resolved_of (Prim n ps) = prim n (places_of ps.items)
 
--- how many strategies stand one in another
+-- the depth of nested strategies
 abbrev mutual
   pub depth : ResolvedStrategy → ℕ
   depth id = 1

@@ -1,4 +1,4 @@
--- What the forms of a strategy stand for.
+-- What the forms of a strategy represent.
 use Rattle.std.specs.Prelude.{ℕ, max}
 use Rattle.std.proofs.Common.{suc}
 use Rattle.strategy_syntax.specs.Syntax.{patterns_of, Strategy, id, fail, matches, builds, seq, guard, test, scope, uses, congruence, tail_congruence, all, one, some, child, rec, prim, Strategies, no_strategies, and_strategy, strategies_of}
@@ -25,7 +25,7 @@ strategy_of (Child i s) = child i s.value
 strategy_of (Rec x s) = rec x s.value
 strategy_of (Prim n ps) = prim n (patterns_of ps.items)
 
--- how many strategies stand one in another
+-- the depth of nested strategies
 abbrev mutual
   pub depth : Strategy → ℕ
   depth id = 1

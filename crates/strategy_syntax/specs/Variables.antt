@@ -3,8 +3,8 @@ use Rattle.std.specs.Prelude.{List, [], ◌∷◌, ◌++◌}
 use Rattle.term_core.specs.Tree.{Symbol}
 use Rattle.strategy_syntax.specs.Syntax.{Pattern, wildcard, variable, at, number, compound, with_tail, annotated, Patterns, no_patterns, and_pattern}
 
--- the variables of a pattern: the outer one first, then its parts from left to right, then its
--- annotations
+-- the variables of a pattern: its own first, then those of its parts from left to right, then those
+-- of its annotations
 abbrev mutual
   pub variables : Pattern → List Symbol
   variables wildcard = []

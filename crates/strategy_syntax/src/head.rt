@@ -1,14 +1,14 @@
-//! What stands above the parts of a pattern or a congruence.
+//! The root of a compound pattern or a congruence.
 
 ghost use Rattle.std.specs.Prelude.{◌≡◌, ◌↔◌, IfOk, IsTrue, Some};
 ghost use Rattle.strategy_syntax.specs.Heads.{head_of, head_at};
 
 use term_core::{Kind, Name, NoMemory};
 
-/// What a compound pattern matches at the root, or a congruence.
+/// What a compound pattern or a congruence matches at the root.
 #[derive(Drop)]
 pub enum Head {
-    /// An application of the name. A quoted name stands over no parts.
+    /// An application of the name. A quoted name has no parts.
     Application(Name),
     /// A list.
     List,
@@ -29,7 +29,7 @@ impl Head {
         }
     }
 
-    /// Whether the two are the same.
+    /// Whether the two heads are equal.
     pub fn equals(&self, other: &Head) -> bool
         ensures { IsTrue result ↔ (self.now ≡ other.now) }
     {

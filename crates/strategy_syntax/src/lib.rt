@@ -1,5 +1,5 @@
-//! The syntax of the strategy language: patterns, strategies in their core forms and modules, with
-//! names as their texts have them, and resolved, with numbers in the places of names.
+//! The syntax of the strategy language: patterns, strategies in their core forms and modules; with
+//! names, as their texts have them, and resolved, with numbers in place of names.
 #![tactic(auto)]
 
 mod head;

@@ -50,7 +50,7 @@ impl Model for Definition {
     } };
 }
 
-/// What a module declares and defines, in the order of its text.
+/// The declarations and definitions of a module, in the order of its text.
 #[derive(Drop)]
 pub struct Module {
     constructors: Vec<Constructor>,
@@ -71,28 +71,27 @@ impl Model for Module {
 }
 
 impl Constructor {
-    /// The constructor of this name and number of arguments.
+    /// The constructor with this name and number of arguments.
     pub fn new(name: Name, arity: usize) -> Constructor
         ensures { result ≡ record { name = name; arity = arity } }
     {
         Constructor { name, arity }
     }
 
-    /// The name.
     pub fn name(&self) -> &Name
         ensures { result.now ≡ self.now.name }
     {
         &self.name
     }
 
-    /// How many arguments it has.
+    /// The number of arguments.
     pub fn arity(&self) -> usize
         ensures { result ≡ self.now.arity }
     {
         self.arity
     }
 
-    /// Whether the two are the same.
+    /// Whether the two constructors are equal.
     pub fn equals(&self, other: &Constructor) -> bool
         ensures { IsTrue result ↔ (self.now ≡ other.now) }
     {
@@ -101,7 +100,7 @@ impl Constructor {
 }
 
 impl Definition {
-    /// The definition of this name, with these parameters and this body.
+    /// The definition with this name, these parameters and this body.
     pub fn new(
         name: Name,
         strategy_parameters: Vec<Name>,
@@ -123,35 +122,33 @@ impl Definition {
         }
     }
 
-    /// The name.
     pub fn name(&self) -> &Name
         ensures { result.now ≡ self.now.name }
     {
         &self.name
     }
 
-    /// The names of the parameters that stand for strategies.
+    /// The names of the strategy parameters.
     pub fn strategy_parameters(&self) -> &[Name]
         ensures { result.now ≡ self.now.strategy_parameters }
     {
         self.strategy_parameters.as_slice()
     }
 
-    /// The names of the parameters that stand for terms.
+    /// The names of the term parameters.
     pub fn term_parameters(&self) -> &[Name]
         ensures { result.now ≡ self.now.term_parameters }
     {
         self.term_parameters.as_slice()
     }
 
-    /// What the definition stands for.
     pub fn body(&self) -> &Strategy
         ensures { result.now ≡ self.now.body }
     {
         &self.body
     }
 
-    /// Whether the two are the same, the names of the parameters too.
+    /// Whether the two definitions are equal, names of parameters included.
     pub fn equals(&self, other: &Definition) -> bool
         ensures { IsTrue result ↔ (self.now ≡ other.now) }
     {
@@ -163,7 +160,7 @@ impl Definition {
 }
 
 impl Module {
-    /// The module that declares and defines these, in this order.
+    /// The module with these declarations and definitions, in this order.
     pub fn new(constructors: Vec<Constructor>, definitions: Vec<Definition>) -> Module
         ensures { result ≡ record {
           constructors = constructors.items;
@@ -176,21 +173,19 @@ impl Module {
         }
     }
 
-    /// The constructors that are declared.
     pub fn constructors(&self) -> &[Constructor]
         ensures { result.now ≡ self.now.constructors }
     {
         self.constructors.as_slice()
     }
 
-    /// The definitions.
     pub fn definitions(&self) -> &[Definition]
         ensures { result.now ≡ self.now.definitions }
     {
         self.definitions.as_slice()
     }
 
-    /// Whether the two declare and define the same, in the same order.
+    /// Whether the two modules are equal, in the same order.
     pub fn equals(&self, other: &Module) -> bool
         ensures { IsTrue result ↔ (self.now ≡ other.now) }
     {

@@ -62,14 +62,13 @@ impl Pattern {
         Pattern { form }
     }
 
-    /// The form of the pattern.
     pub fn form(&self) -> &PatternForm
         ensures { self.now ≡ pattern_of result.now }
     {
         &self.form
     }
 
-    /// Whether the two patterns are the same.
+    /// Whether the two patterns are equal.
     #[cycle(same_pattern)]
     pub fn equals(&self, other: &Pattern) -> bool
         ensures { IsTrue result ↔ (self.now ≡ other.now) }
@@ -93,7 +92,7 @@ impl Pattern {
     }
 }
 
-/// Whether these are the same patterns.
+/// Whether the two lists of patterns are equal.
 #[cycle(same_pattern)]
 pub fn same_patterns(patterns: &[Pattern], others: &[Pattern]) -> bool
     ensures { IsTrue result ↔ (patterns.now ≡ others.now) }

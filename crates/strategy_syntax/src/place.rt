@@ -6,15 +6,15 @@ ghost use Rattle.strategy_syntax.specs.PlaceView.{place_of};
 use crate::Head;
 use std::marker::Model;
 
-/// A resolved pattern. A variable is the number of its binder among the binders of variables round
-/// it, counted from the outermost of its definition or strategy.
+/// A resolved pattern. A variable is the number of its binder among the enclosing binders of
+/// variables, counted from the outermost of its definition or strategy.
 #[derive(Drop)]
 #[cycle(place)]
 pub struct Place {
     form: PlaceForm,
 }
 
-/// The forms of a resolved pattern, as those of a pattern.
+/// The forms of a resolved pattern; they are those of a pattern.
 #[derive(Drop)]
 #[cycle(place)]
 pub enum PlaceForm {
@@ -61,7 +61,6 @@ impl Place {
         Place { form }
     }
 
-    /// The form of the resolved pattern.
     pub fn form(&self) -> &PlaceForm
         ensures { self.now ≡ place_of result.now }
     {

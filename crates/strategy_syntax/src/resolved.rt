@@ -6,19 +6,18 @@ ghost use Rattle.strategy_syntax.specs.ResolvedView.{resolved_of};
 use crate::{Head, Place};
 use std::marker::Model;
 
-/// A whole resolved strategy: the body of a definition, or a strategy to be applied.
+/// A whole resolved strategy: the body of a definition, or a strategy to apply.
 #[derive(Drop)]
 pub struct Resolved {
-    /// How many free variables it has, without the term parameters of a definition. They are
-    /// numbered behind these and before the variables of inner binders.
+    /// The number of its free variables, without the term parameters of a definition. They are
+    /// numbered after these and before the variables of inner binders.
     pub variables: usize,
-    /// What it does.
     pub strategy: ResolvedStrategy,
 }
 
 /// A resolved strategy or a part of one. Each name that has a binder is the number of that binder
-/// among those round it, counted from the outermost of its definition or strategy, variables and
-/// strategy names apart.
+/// among the enclosing ones, counted from the outermost of its definition or strategy; variables
+/// and strategy names are counted separately.
 #[derive(Drop)]
 #[cycle(resolved)]
 pub struct ResolvedStrategy {
@@ -29,7 +28,7 @@ pub struct ResolvedStrategy {
 #[derive(Drop)]
 #[cycle(resolved)]
 pub enum ResolvedForm {
-    /// `id`, which gives the term.
+    /// `id`, which succeeds with the term.
     Id,
     /// `fail`.
     Fail,
@@ -39,11 +38,11 @@ pub enum ResolvedForm {
     Build(Place),
     /// `s1; s2`.
     Seq(Box<(ResolvedStrategy, ResolvedStrategy)>),
-    /// `s1 < s2 + s3`: s2 where s1 gives a term, else s3.
+    /// `s1 < s2 + s3`: s2 if s1 succeeds, else s3.
     Guard(Box<(ResolvedStrategy, ResolvedStrategy, ResolvedStrategy)>),
-    /// `where(s)`, which gives the original term where s gives one.
+    /// `where(s)`, which succeeds with the original term if s succeeds.
     Test(Box<ResolvedStrategy>),
-    /// So many new variables in a strategy.
+    /// New variables, this many, in a strategy.
     Scope(usize, Box<ResolvedStrategy>),
     /// A strategy parameter, or the name of a `rec`.
     Param(usize),
@@ -62,7 +61,7 @@ pub enum ResolvedForm {
     Some(Box<ResolvedStrategy>),
     /// `i(s)`: s on child i, counted from 1.
     Child(usize, Box<ResolvedStrategy>),
-    /// `rec x(s)`: s, in which the new name stands for the whole.
+    /// `rec x(s)`: s, in which the new name stands for the whole strategy.
     Rec(Box<ResolvedStrategy>),
     /// A primitive, by its number, with patterns for its arguments.
     Prim(usize, Vec<Place>),
@@ -95,7 +94,6 @@ impl ResolvedStrategy {
         ResolvedStrategy { form }
     }
 
-    /// The form of the resolved strategy.
     pub fn form(&self) -> &ResolvedForm
         ensures { self.now ≡ resolved_of result.now }
     {

@@ -21,7 +21,7 @@ pub struct Strategy {
 #[derive(Drop)]
 #[cycle(strategy)]
 pub enum StrategyForm {
-    /// `id`, which gives the term.
+    /// `id`, which succeeds with the term.
     Id,
     /// `fail`.
     Fail,
@@ -31,9 +31,9 @@ pub enum StrategyForm {
     Build(Pattern),
     /// `s1; s2`.
     Seq(Box<(Strategy, Strategy)>),
-    /// `s1 < s2 + s3`: s2 where s1 gives a term, else s3.
+    /// `s1 < s2 + s3`: s2 if s1 succeeds, else s3.
     Guard(Box<(Strategy, Strategy, Strategy)>),
-    /// `where(s)`, which gives the original term where s gives one.
+    /// `where(s)`, which succeeds with the original term if s succeeds.
     Test(Box<Strategy>),
     /// `{x1,..,xn: s}`: new variables in s.
     Scope(Vec<Name>, Box<Strategy>),
@@ -51,7 +51,7 @@ pub enum StrategyForm {
     Some(Box<Strategy>),
     /// `i(s)`: s on child i, counted from 1.
     Child(usize, Box<Strategy>),
-    /// `rec x(s)`: s, in which x stands for the whole.
+    /// `rec x(s)`: s, in which x stands for the whole strategy.
     Rec(Name, Box<Strategy>),
     /// `prim("n",p1,..,pk)`: the primitive of this quoted name.
     Prim(Name, Vec<Pattern>),
@@ -84,14 +84,13 @@ impl Strategy {
         Strategy { form }
     }
 
-    /// The form of the strategy.
     pub fn form(&self) -> &StrategyForm
         ensures { self.now ≡ strategy_of result.now }
     {
         &self.form
     }
 
-    /// The form of the strategy, by value.
+    /// The form of the strategy, consuming it.
     pub fn into_form(self) -> StrategyForm
         ensures { self ≡ strategy_of result }
     {
@@ -99,7 +98,7 @@ impl Strategy {
         form
     }
 
-    /// Whether the two strategies are the same.
+    /// Whether the two strategies are equal.
     #[cycle(same_strategy)]
     pub fn equals(&self, other: &Strategy) -> bool
         ensures { IsTrue result ↔ (self.now ≡ other.now) }

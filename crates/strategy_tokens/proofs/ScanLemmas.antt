@@ -15,7 +15,7 @@ use Rattle.strategy_tokens.specs.Tokens.{tokens_behind, tokens, and_token, piece
 pub drop-rest : {X : Type 0} (n : ℕ) (xs : List X) → n ≤ length xs → take (length xs - n) (drop n xs) ≡ drop n xs
 drop-rest n xs h = grind (arith, common_steps)
 
--- ---- the bytes of a token: its first one, and so many behind it
+-- ---- the bytes of a token: its first one, and those after it
 
 pub first_and : (k n b : ℕ) (x bs : List ℕ) → k ≡ n → x ≡ b ∷ bs → take (k + 1) x ≡ b ∷ take n bs
 first_and k n b x bs e f = ap (take (k + 1)) f ∙ rw add-one (ap (λ m. b ∷ take m bs) e)
@@ -48,7 +48,7 @@ identifier k b x bs e f h =
     ap is_word (first_and k (ident_len bs) b x bs e f)
     ∙ (ap (λ t. t && list_all continues_word (take (ident_len bs) bs)) h ∙ ident_bytes bs)
 
--- ---- so many more, where there is a number
+-- ---- a larger number, if there is one
 
 abbrev pub later : ℕ → Option ℕ → Option ℕ
 later k None = None
@@ -62,7 +62,7 @@ pub later-suc : (k : ℕ) (o : Option ℕ) → later k (option_map suc o) ≡ la
 later-suc k None = refl
 later-suc k (Some n) = let e : k + suc n ≡ k + 1 + n = omega arith in ap (λ m. Some m) e
 
--- the tokens behind the first n bytes are those of the rest
+-- the tokens after the first n bytes are those of the rest
 pub tokens_behind-drop : (n : ℕ) (x : List ℕ) → tokens_behind n x ≡ tokens (drop n x)
 tokens_behind-drop zero x = refl
 tokens_behind-drop (suc n) [] = refl
@@ -73,7 +73,7 @@ and_token-append : (t : Option Token) (found ts : List Token)
 and_token-append None found ts = ap (λ l. l ++ ts) (append-nil found)
 and_token-append (Some t) found ts = append_assoc found (t ∷ []) ts
 
--- one piece of a text: its token and the tokens behind it
+-- one piece of a text: its token, followed by the tokens after it
 pub tokens_step : (text left rest : List ℕ) (b k : ℕ) (found found' : List Token) (t : Option Token)
     → found ++ tokens left ≡ tokens text → left ≡ b ∷ rest → t ≡ (piece_at b rest).token
     → k ≡ (piece_at b rest).more → k ≤ length rest → found' ≡ found ++ and_token t []
@@ -113,14 +113,14 @@ numeral_from b bs true plus m p d h = absurd (grind (arith, nat_tests))
 numeral_from b bs false true m p d h = absurd (grind (arith, nat_tests))
 numeral_from b bs false false m p d h = (omega arith, (digit_below b d, h))
 
--- a digit and the digits behind it are a numeral
+-- a digit and the digits after it are a numeral
 pub numeral : (k b : ℕ) (x bs : List ℕ) → k ≡ prefix_len is_ascii_digit bs → x ≡ b ∷ bs
     → is_ascii_digit b ≡ true → IsNumeral 10 (without_leading_sign (take (k + 1) x))
 numeral k b x bs e f d = subst (λ l. IsNumeral 10 (without_leading_sign l))
     (sym (first_and k (prefix_len is_ascii_digit bs) b x bs e f))
     (numeral_from b (take (prefix_len is_ascii_digit bs) bs) (b == 45) (b == 43) refl refl d (all_digits bs))
 
--- so they are behind a `-`
+-- the same after a `-`
 pub negative_numeral : (k b : ℕ) (x bs : List ℕ) → k ≡ prefix_len is_ascii_digit bs
     → x ≡ 45 ∷ (b ∷ bs) → is_ascii_digit b ≡ true
     → IsNumeral 10 (without_leading_sign (take (k + 2) x))

@@ -1,4 +1,4 @@
--- Laws of what stands between the quotes of a string.
+-- Laws of what is between the quotes of a string.
 use Rattle.std.proofs.Common.{◌≡◌, ℕ, suc, ◌+◌, ◌==◌, cond, not, Bool, true, false, List, [], ◌∷◌, ◌++◌, length, take, drop, Some, None, refl, sym, ap, ◌∙◌, arith, append_assoc, append-nil}
 use Rattle.std.specs.declared.option.Option.{Option}
 use Rattle.std.specs.Option.{option_map}
@@ -9,7 +9,7 @@ use Rattle.aterm_text.specs.Tokens.{octal_byte}
 use Rattle.strategy_tokens.specs.Tokens.{unescaped, behind_backslash, behind_octal, and_byte, and_found}
 use Rattle.strategy_tokens.specs.Pieces.{is_no_backslash}
 
--- these bytes, and those behind them
+-- these bytes, followed by those
 abbrev pub behind : List ℕ → Option (List ℕ) → Option (List ℕ)
 behind xs = option_map (λ l. xs ++ l)
 
@@ -29,13 +29,13 @@ and_byte-behind : (b : ℕ) (xs : List ℕ) (o : Option (List ℕ)) → and_byte
 and_byte-behind b xs None = refl
 and_byte-behind b xs (Some l) = refl
 
--- three octal digits, and what is behind them
+-- three octal digits, and the rest
 pub octal_items : (a b c byte : ℕ) (x y bs : List ℕ) → x ≡ b ∷ y → y ≡ c ∷ bs
     → Some byte ≡ octal_byte a b c → behind_octal a x ≡ and_byte byte (unescaped bs)
 octal_items a b c byte x y bs e f g = ap (behind_octal a) (e ∙ ap (λ l. b ∷ l) f)
     ∙ ap (λ o. and_found o (unescaped bs)) (sym g)
 
--- ---- the run at the front stands for itself
+-- ---- a leading run stands for itself
 
 run_from : (b : ℕ) (bs : List ℕ) (backslash : Bool) → (b == 92) ≡ backslash
     → unescaped bs ≡ behind (take (prefix_len is_no_backslash bs) bs) (unescaped (drop (prefix_len is_no_backslash bs) bs))
@@ -62,7 +62,7 @@ whole_run x =
     ap (λ l. behind l (unescaped (drop (length x) x))) front
     ∙ (ap (λ l. behind x (unescaped l)) back ∙ ap Some (append-nil x))
 
--- without a backslash all stand for themselves
+-- without a backslash all bytes stand for themselves
 pub all_run : (x : List ℕ) (n : ℕ) → n ≡ prefix_len is_no_backslash x → n ≡ length x → unescaped x ≡ Some x
 all_run x n e f =
     let all : length x ≡ prefix_len is_no_backslash x = sym f ∙ e in
@@ -70,7 +70,7 @@ all_run x n e f =
 
 -- ---- steps
 
--- what a run ends at
+-- where a run ends
 pub ends : (x rest : List ℕ) → rest ≡ drop (prefix_len is_no_backslash x) x → prefix_len is_no_backslash rest ≡ 0
 ends x rest e = ap (prefix_len is_no_backslash) e ∙ prefix_len-rest is_no_backslash x
 
@@ -92,7 +92,7 @@ at_backslash : (b : ℕ) (rest bs : List ℕ) → rest ≡ b ∷ bs → prefix_l
 at_backslash b rest bs e h = ap unescaped e
     ∙ backslash_first b bs (b == 92) refl (ap (prefix_len is_no_backslash) (sym e) ∙ h)
 
--- an escape, and the run behind it
+-- an escape, and the run after it
 pub step : (x bytes rest bs left run_at bytes' rest' : List ℕ) (b byte : ℕ) → unescaped x ≡ behind bytes (unescaped rest)
     → prefix_len is_no_backslash rest ≡ 0 → rest ≡ b ∷ bs → behind_backslash bs ≡ and_byte byte (unescaped left)
     → run_at ≡ take (prefix_len is_no_backslash left) left → rest' ≡ drop (prefix_len is_no_backslash left) left

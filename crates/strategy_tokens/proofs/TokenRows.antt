@@ -1,4 +1,4 @@
--- Rows for the tokens of texts, computed.
+-- The tokens of texts, computed on worked rows.
 use Rattle.std.specs.Prelude.{◌≡◌, refl, ℕ, pos, negsuc, List, [], ◌∷◌, ◌++◌, codes, false, true}
 use Rattle.strategy_tokens.specs.Tokens.{tokens}
 use Rattle.strategy_tokens.specs.declared.token.Token.{Token}
@@ -12,7 +12,7 @@ word x = Ident (record { text = x; is_quoted = false })
 abbrev string : List ℕ → Token
 string x = Text (record { text = x; is_quoted = true })
 
--- a `-` that a `>` follows doesn't belong to an identifier
+-- a `-` followed by `>` doesn't belong to an identifier
 pub arrow : tokens (codes "x-->y") ≡ word (codes "x-") ∷ (Sign Arrow ∷ (word (codes "y") ∷ []))
 arrow = refl
 
@@ -38,7 +38,7 @@ reserved = refl
 pub bad_bytes : tokens (36 ∷ (36 ∷ (195 ∷ (169 ∷ (47 ∷ []))))) ≡ Bad ∷ (Bad ∷ (Bad ∷ (Bad ∷ (Bad ∷ []))))
 bad_bytes = refl
 
--- a comment ends at the next `*/` behind its `/*`
+-- a comment ends at the next `*/` after its `/*`
 pub comments : tokens (codes "a/**/ b /* /* c */ // d") ≡ word (codes "a") ∷ (word (codes "b") ∷ [])
 comments = refl
 
@@ -52,6 +52,6 @@ unclosed_comment = refl
 pub strings : tokens (34 ∷ (97 ∷ (92 ∷ (34 ∷ (98 ∷ (92 ∷ (110 ∷ (92 ∷ (49 ∷ (48 ∷ (49 ∷ (34 ∷ [])))))))))))) ≡ string (97 ∷ (34 ∷ (98 ∷ (10 ∷ (65 ∷ []))))) ∷ []
 strings = refl
 
--- a wrong escape ends at the next quote; an unclosed string takes the rest
+-- an invalid escape ends at the next quote; an unclosed string extends to the end
 pub bad_strings : tokens (34 ∷ (92 ∷ (113 ∷ (34 ∷ (97 ∷ (34 ∷ (98 ∷ (32 ∷ (99 ∷ []))))))))) ≡ Bad ∷ (word (codes "a") ∷ (Bad ∷ []))
 bad_strings = refl

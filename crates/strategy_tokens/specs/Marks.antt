@@ -1,4 +1,4 @@
--- Which sign and which reserved word a token is.
+-- Tests for signs and reserved words.
 use Rattle.std.specs.Prelude.{ℕ, ◌==◌, Bool, false}
 use Rattle.strategy_tokens.specs.declared.token.Token.{Token}
 use Rattle.strategy_tokens.specs.declared.token.Token.TheVariants.{Ident, Wildcard, Reserved, Integer, Text, Sign as ASign, Bad}

@@ -1,5 +1,5 @@
--- The tokens of strategy and module texts. A text is a row of pieces, each the longest that begins
--- at its place: white space, comments, which count as white space, and tokens.
+-- The tokens of strategy and module texts. A text is a sequence of pieces, each as long as
+-- possible: white space, comments, which count as white space, and tokens.
 use Rattle.std.specs.Prelude.{ℕ, zero, suc, ℤ, pos, negsuc, ◌^◌, ◌==◌, ◌||◌, ◌&&◌, not, nat_lt, Bool, true, false, List, [], ◌∷◌, ◌++◌, length, take, Some, None, if◌then◌else◌, codes}
 use Rattle.std.specs.declared.option.Option.{Option}
 use Rattle.std.specs.Char.{is_ascii_alphabetic, is_ascii_alphanumeric, is_ascii_digit}
@@ -16,8 +16,8 @@ use Rattle.strategy_tokens.specs.declared.token.Keyword.TheVariants.{Module, Sig
 use Rattle.strategy_tokens.specs.declared.token.Sign.{Sign}
 use Rattle.strategy_tokens.specs.declared.token.Sign.TheVariants.{OpenRound, CloseRound, OpenSquare, CloseSquare, OpenCurly, CloseCurly, Comma, Semicolon, Colon, Bar, Equals, FatArrow, Arrow, Less, Greater, LeftChoice, Plus, Star, Question, Exclamation, At, Backslash}
 
--- What begins at a place: a token, or white space where there is none; and how many bytes it takes
--- behind its first one.
+-- What begins at a place, a token or white space without one, and the number of its bytes after the
+-- first.
 pub record Piece : Type 0 where
   pub token : Option Token
   pub more : ℕ
@@ -38,18 +38,18 @@ abbrev pub begins_with : ℕ → List ℕ → Bool
 begins_with b [] = false
 begins_with b (c ∷ cs) = c == b
 
--- the bytes of a comment up to its `*/`, and with it, where there is one
+-- the bytes of a comment up to and including its `*/`, if there is one
 abbrev pub comment_len : List ℕ → Option ℕ
 comment_len [] = None
 comment_len (b ∷ bs) =
     if ((b == 42) && begins_with 47 bs) then Some 2 else option_map suc (comment_len bs)
 
--- a comment that isn't closed takes the rest of the text
+-- a comment that isn't closed extends to the end of the text
 abbrev pub closed_comment : Option ℕ → ℕ → Piece
 closed_comment (Some n) rest = white (suc n)
 closed_comment None rest = token_of Bad (suc rest)
 
--- behind a `/`: `//` goes to the end of the line, `/*` to the next `*/`
+-- after a `/`: `//` extends to the end of the line, `/*` to the next `*/`
 abbrev pub comment_piece : List ℕ → Piece
 comment_piece [] = token_of Bad 0
 comment_piece (b ∷ bs) =
@@ -62,13 +62,13 @@ comment_piece (b ∷ bs) =
 abbrev pub begins_ident : ℕ → Bool
 begins_ident b = is_ascii_alphabetic b || (b == 95)
 
--- An identifier goes on with letters, digits, `_`, `'` and `-`; but a `-` that a `>` follows
--- doesn't belong to it.
+-- An identifier continues with letters, digits, `_`, `'` and `-`; but a `-` followed by `>` doesn't
+-- belong to it.
 abbrev pub continues_ident : ℕ → List ℕ → Bool
 continues_ident b bs =
     is_ascii_alphanumeric b || (b == 95) || (b == 39) || ((b == minus) && not (begins_with 62 bs))
 
--- how many bytes at the front go on an identifier
+-- the number of leading bytes that continue an identifier
 abbrev pub ident_len : List ℕ → ℕ
 ident_len [] = 0
 ident_len (b ∷ bs) = if (continues_ident b bs) then suc (ident_len bs) else 0
@@ -76,7 +76,7 @@ ident_len (b ∷ bs) = if (continues_ident b bs) then suc (ident_len bs) else 0
 abbrev pub same_bytes : List ℕ → List ℕ → Bool
 same_bytes = bytes_eq
 
--- what stands beside these bytes in a table
+-- the value for these bytes in a table
 abbrev pub word_in : {X : Type 0} → List (List ℕ × X) → List ℕ → Option X
 word_in [] x = None
 word_in (row ∷ rows) x = if (same_bytes x row.0) then Some row.1 else word_in rows x
@@ -120,7 +120,7 @@ abbrev pub integer_token : List ℕ → Token
 integer_token x =
     let z = signed_digits_value 10 x in if (is_in_range z) then Integer z else Bad
 
--- behind a `-`: `->`, or an integer where a digit follows
+-- after a `-`: `->`, or an integer if a digit follows
 abbrev pub minus_piece : List ℕ → Piece
 minus_piece [] = token_of Bad 0
 minus_piece (b ∷ bs) =
@@ -132,7 +132,7 @@ minus_piece (b ∷ bs) =
 
 -- ---- strings
 
--- this byte, and those behind it
+-- this byte, followed by those
 abbrev pub and_byte : ℕ → Option (List ℕ) → Option (List ℕ)
 and_byte b = option_map (λ l. b ∷ l)
 
@@ -140,14 +140,14 @@ abbrev pub and_found : Option ℕ → Option (List ℕ) → Option (List ℕ)
 and_found None bytes = None
 and_found (Some b) bytes = and_byte b bytes
 
--- this byte and those behind it, or else what there is without it
+-- this byte followed by those, or else the alternative without it
 abbrev pub short_or : Option ℕ → Option (List ℕ) → Option (List ℕ) → Option (List ℕ)
 short_or (Some b) bytes other = and_byte b bytes
 short_or None bytes other = other
 
 -- The bytes that the items between the quotes stand for: any byte but a backslash stands for
--- itself; behind a backslash stand one of `" \ n t r`, or three octal digits. Nothing, where another
--- escape is among them.
+-- itself; after a backslash comes one of `" \ n t r`, or three octal digits. Nothing if an escape
+-- is invalid.
 abbrev mutual
   pub unescaped : List ℕ → Option (List ℕ)
   unescaped [] = Some []
@@ -162,7 +162,7 @@ abbrev mutual
   behind_octal a (b ∷ []) = None
   behind_octal a (b ∷ (c ∷ bs)) = and_found (octal_byte a b c) (unescaped bs)
 
--- how many bytes stand before the next `"` that no backslash takes with it, where there is one
+-- the number of bytes before the next `"` that isn't escaped, if there is one
 abbrev mutual
   pub quote_at : List ℕ → Option ℕ
   quote_at [] = None
@@ -178,7 +178,7 @@ abbrev pub text_or_bad : Option (List ℕ) → Token
 text_or_bad None = Bad
 text_or_bad (Some bytes) = Text (record { text = bytes; is_quoted = true })
 
--- a string that isn't closed takes the rest of the text
+-- a string that isn't closed extends to the end of the text
 abbrev pub closed_string : Option ℕ → List ℕ → Piece
 closed_string None bs = token_of Bad (length bs)
 closed_string (Some n) bs = token_of (text_or_bad (unescaped (take n bs))) (suc n)
@@ -211,7 +211,7 @@ sign_piece b bs =
 
 -- ---- the tokens of a text
 
--- what begins with this byte, and these behind it
+-- what begins with this byte, followed by these
 abbrev pub piece_at : ℕ → List ℕ → Piece
 piece_at b bs =
     if (is_blank b) then white 0 else
@@ -227,7 +227,7 @@ abbrev pub and_token : Option Token → List Token → List Token
 and_token None ts = ts
 and_token (Some t) ts = t ∷ ts
 
--- the tokens behind the first n bytes
+-- the tokens after the first n bytes
 abbrev pub tokens_behind : ℕ → List ℕ → List Token
 tokens_behind n [] = []
 tokens_behind (suc n) (b ∷ bs) = tokens_behind n bs

@@ -1,4 +1,4 @@
-//! How many tokens a text has.
+//! Counting the tokens of a text.
 #![tactic(auto, using(crate::proofs::ScanLemmas::scan_parts))]
 
 ghost use Rattle.std.specs.Prelude.{◌≡◌, ◌≤◌, length};
@@ -6,7 +6,7 @@ ghost use Rattle.strategy_tokens.specs.Tokens.{tokens};
 
 use crate::scan::{Piece, first_piece};
 
-/// How many tokens the text has, bad ones included. It takes no memory.
+/// The number of tokens of the text, bad ones included. It takes no memory.
 pub fn token_count(text: &[u8]) -> u64
     ensures { result ≡ length (tokens text.now) }
 {

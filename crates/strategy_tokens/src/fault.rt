@@ -1,14 +1,14 @@
-//! Why the tokens of a text were not read.
+//! Why the tokens of a text weren't read.
 
 use thiserror::Error;
 
-/// Why the tokens of a text were not read.
+/// Why the tokens of a text weren't read.
 #[derive(Clone, Copy, Debug, PartialEq, Eq, Error)]
 pub enum TokensFault {
     /// The text has more than 4,000 tokens.
     #[error("deep")]
     Deep,
-    /// A growth of memory was refused.
+    /// Memory couldn't grow.
     #[error("memory")]
     Memory,
 }

@@ -44,7 +44,7 @@ fn make_ident(alloc: Global, bytes: &[u8]) -> Result<Token, NoMemory>
     Ok(Token::Ident(name))
 }
 
-// The token of a string, by what stands between its quotes.
+// The token of a string, given what is between its quotes.
 fn make_text(alloc: Global, items: &[u8]) -> Result<Token, NoMemory>
     ensures { IfOk result (λ made. made ≡ text_or_bad (unescaped items.now)) }
 {

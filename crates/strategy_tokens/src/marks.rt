@@ -1,4 +1,4 @@
-//! Which sign and which reserved word a token is.
+//! Tests for signs and reserved words.
 
 ghost use Rattle.std.specs.Prelude.{◌≡◌, ◌==◌};
 ghost use Rattle.strategy_tokens.specs.Marks.{is_mark, is_word, sign_code, word_code};

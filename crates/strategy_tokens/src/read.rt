@@ -10,10 +10,10 @@ use crate::{MAX_TOKENS, Token, TokensFault, token_count};
 use std::alloc::Global;
 use term_core::NoMemory;
 
-/// The tokens of the text, bad ones included. Its bytes are gone over once.
+/// The tokens of the text, bad ones included, in one pass.
 ///
-/// Errors: `Deep` where there are more than 4,000 tokens; `Memory` where a growth of memory is
-/// refused and there are no more.
+/// Errors: `Deep` if there are more than 4,000 tokens; `Memory` if memory can't grow and there are
+/// no more than that.
 pub fn read_tokens(alloc: Global, text: &[u8]) -> Result<Vec<Token>, TokensFault>
     ensures deep { (result ≡ Err TokensFault.Deep) ↔ (MAX_TOKENS < length (tokens text.now)) }
     ensures tokens { IfOk result (λ found. found.items ≡ tokens text.now) }
@@ -34,7 +34,7 @@ pub fn read_tokens(alloc: Global, text: &[u8]) -> Result<Vec<Token>, TokensFault
     Ok(found)
 }
 
-// Puts the token of the piece behind the others, where it is no white space.
+// Appends the token of the piece, unless it is white space.
 fn add_token(alloc: Global, found: &mut Vec<Token>, piece: Piece<'_>) -> Result<(), NoMemory>
     requires { HoldsWord piece }
     ensures { IfOk result (λ _. found.new.items
@@ -46,7 +46,7 @@ fn add_token(alloc: Global, found: &mut Vec<Token>, piece: Piece<'_>) -> Result<
     Ok(())
 }
 
-// The fault where memory was refused behind so many tokens: `Deep` comes first.
+// The fault to return if memory ran out after `count` tokens: `Deep` takes precedence.
 fn refused(count: u64, left: &[u8]) -> TokensFault
     requires { count ≤ MAX_TOKENS }
     ensures deep { (result ≡ TokensFault.Deep) ↔ (MAX_TOKENS < count + length (tokens left.now)) }

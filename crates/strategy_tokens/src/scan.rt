@@ -22,7 +22,7 @@ pub enum Piece<'a> {
     Word(&'a [u8]),
     /// An integer.
     Integer(i64),
-    /// What stands between the quotes of a string, with its escapes, right or wrong.
+    /// What is between the quotes of a string, escapes included, valid or not.
     Text(&'a [u8]),
     /// A sign.
     Sign(Sign),
@@ -45,14 +45,14 @@ fn begins_with(byte: u8, text: &[u8]) -> bool
     }
 }
 
-// Whether an identifier goes on with the byte, where these follow it.
+// Whether an identifier continues with the byte, given the bytes after it.
 fn continues_ident(b: u8, rest: &[u8]) -> bool
     ensures { result ≡ continues_ident b rest.now }
 {
     b.is_ascii_alphanumeric() || b == b'_' || b == b'\'' || (b == b'-' && !begins_with(b'>', rest))
 }
 
-// How many bytes at the front go on an identifier.
+// The number of leading bytes that continue an identifier.
 fn ident_length(text: &[u8]) -> usize
     ensures value { result ≡ ident_len text.now }
     ensures bound { result ≤ length text.now }
@@ -87,7 +87,7 @@ fn ends_comment(first: u8, rest: &[u8]) -> bool
     first == b'*' && begins_with(b'/', rest)
 }
 
-// How many bytes a comment goes on for up to its `*/`, and with it.
+// The number of bytes up to and including the `*/` that ends a comment.
 fn comment_length(text: &[u8]) -> Option<usize>
     ensures value { result ≡ comment_len text.now }
     ensures bound { IfSome result (λ n. n ≤ length text.now) }
@@ -102,7 +102,7 @@ fn comment_length(text: &[u8]) -> Option<usize>
     None
 }
 
-// How many bytes stand before the next `"` that no backslash takes with it.
+// The number of bytes before the next `"` that isn't escaped.
 fn quote_position(text: &[u8]) -> Option<usize>
     ensures value { result ≡ quote_at text.now }
     ensures bound { IfSome result (λ n. n < length text.now) }
@@ -123,7 +123,7 @@ fn quote_position(text: &[u8]) -> Option<usize>
     None
 }
 
-// The integer that these bytes spell, with a `-` or none, or a bad token where it is out of range.
+// The integer that these bytes spell, with an optional `-`, or a bad token if it is out of range.
 fn integer(text: &[u8]) -> Piece<'static>
     requires { IsNumeral 10 (without_leading_sign text.now) }
     ensures token { piece_token result ≡ Some (integer_token text.now) }
@@ -138,7 +138,7 @@ fn integer(text: &[u8]) -> Piece<'static>
     }
 }
 
-// What begins with a `/`, and how many bytes it takes behind it.
+// What begins with a `/`, and the number of bytes after it.
 fn comment(rest: &[u8]) -> (Piece<'static>, usize)
     ensures token { piece_token result.0 ≡ (comment_piece rest.now).token }
     ensures more { result.1 ≡ (comment_piece rest.now).more }
@@ -155,7 +155,7 @@ fn comment(rest: &[u8]) -> (Piece<'static>, usize)
     }
 }
 
-// What begins with a `"`, and how many bytes it takes behind it.
+// What begins with a `"`, and the number of bytes after it.
 fn string(rest: &[u8]) -> (Piece<'_>, usize)
     ensures token { piece_token result.0 ≡ (closed_string (quote_at rest.now) rest.now).token }
     ensures more { result.1 ≡ (closed_string (quote_at rest.now) rest.now).more }
@@ -238,7 +238,7 @@ fn number<'a>(text: &'a [u8], first: u8, rest: &'a [u8]) -> (Piece<'a>, usize)
     (integer(&text[..count + 1]), count)
 }
 
-// The integer that begins with a `-`, where a digit follows it.
+// The integer that begins with a `-` followed by a digit.
 fn negative<'a>(text: &'a [u8], digit: u8, behind: &'a [u8]) -> (Piece<'a>, usize)
     requires front { text.now ≡ minus ∷ (digit ∷ behind.now) }
     requires digit { is_ascii_digit digit ≡ true }
@@ -267,7 +267,7 @@ fn minus<'a>(text: &'a [u8], rest: &'a [u8]) -> (Piece<'a>, usize)
     }
 }
 
-/// What begins the text, and how many bytes it takes behind its first one.
+/// What begins the text, and the number of its bytes after the first.
 pub fn first_piece<'a>(text: &'a [u8], first: u8, rest: &'a [u8]) -> (Piece<'a>, usize)
     requires { text.now ≡ first ∷ rest.now }
     ensures token { piece_token result.0 ≡ (piece_at first rest.now).token }

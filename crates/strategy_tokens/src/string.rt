@@ -1,4 +1,4 @@
-//! What stands between the quotes of a string.
+//! What is between the quotes of a string.
 
 ghost use Rattle.std.specs.Prelude.{◌≡◌, ◌<◌, ◌≤◌, length, take, drop, IfOk, IfSome, IfNone, MatchOption, Some, None};
 ghost use Rattle.std.specs.List.{prefix_len};
@@ -9,7 +9,7 @@ use aterm_text::{octal_byte, short_escape};
 use std::alloc::Global;
 use term_core::NoMemory;
 
-/// The bytes that these items stand for, or `None` where another escape is among them.
+/// The bytes that these items stand for, or `None` if an escape is invalid.
 pub fn unescape(alloc: Global, items: &[u8]) -> Result<Option<Vec<u8>>, NoMemory>
     ensures { IfOk result (λ found. MatchOption found (unescaped items.now ≡ None)
         (λ bytes. unescaped items.now ≡ Some bytes.items)) }
@@ -28,7 +28,7 @@ pub fn unescape(alloc: Global, items: &[u8]) -> Result<Option<Vec<u8>>, NoMemory
     Ok(Some(bytes))
 }
 
-// The bytes at the front up to a backslash, and what follows them.
+// The leading bytes up to a backslash, and the rest.
 fn first_run(items: &[u8]) -> (&[u8], &[u8])
     ensures run { result.0.now ≡ take (prefix_len is_no_backslash items.now) items.now }
     ensures rest { result.1.now ≡ drop (prefix_len is_no_backslash items.now) items.now }
@@ -36,7 +36,7 @@ fn first_run(items: &[u8]) -> (&[u8], &[u8])
     items.split_at(run_length(items))
 }
 
-/// How many bytes stand before a backslash. They stand for themselves.
+/// The number of bytes before a backslash. They stand for themselves.
 pub fn run_length(items: &[u8]) -> usize
     ensures value { result ≡ prefix_len is_no_backslash items.now }
     ensures bound { result ≤ length items.now }
@@ -44,7 +44,7 @@ pub fn run_length(items: &[u8]) -> usize
     items.iter().take_while(|b| **b != b'\\').count()
 }
 
-// The byte that what follows a backslash stands for, and the items behind it.
+// The byte that an escape stands for, given what follows the backslash, and the rest of the items.
 fn escape(items: &[u8]) -> Option<(u8, &[u8])>
     ensures some { IfSome result (λ found.
         behind_backslash items.now ≡ and_byte found.0 (unescaped found.1.now)) }
@@ -58,7 +58,7 @@ fn escape(items: &[u8]) -> Option<(u8, &[u8])>
     }
 }
 
-// The byte that three octal digits stand for, and the items behind them.
+// The byte that three octal digits stand for, and the rest of the items.
 fn octal(first: u8, rest: &[u8]) -> Option<(u8, &[u8])>
     ensures some { IfSome result (λ found.
         behind_octal first rest.now ≡ and_byte found.0 (unescaped found.1.now)) }

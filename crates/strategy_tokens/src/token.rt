@@ -1,4 +1,4 @@
-//! What a token is.
+//! Tokens.
 
 use term_core::Name;
 
@@ -7,7 +7,7 @@ use term_core::Name;
 pub enum Token {
     /// An identifier that is no reserved word, as a word.
     Ident(Name),
-    /// `_`, which stands alone.
+    /// `_` alone.
     Wildcard,
     /// A reserved word, which is no name.
     Reserved(Keyword),
@@ -17,7 +17,7 @@ pub enum Token {
     Text(Name),
     /// A sign.
     Sign(Sign),
-    /// A byte that begins no token, an integer out of range, a string with a wrong escape, or a
+    /// A byte that begins no token, an integer out of range, a string with an invalid escape, or a
     /// string or comment that isn't closed. A text with one is no strategy and no module.
     Bad,
 }

@@ -1,4 +1,4 @@
--- The limits that the definitions speak of, in numbers.
+-- The values of the limits that the definitions name.
 use Rattle.std.proofs.Common.{◌≡◌, refl}
 use Rattle.term_core.specs.declared.TheConstants.{MAX_HEIGHT, MAX_SIZE}
 use Rattle.term_core.specs.declared.label.TheConstants.{MAX_LABEL}

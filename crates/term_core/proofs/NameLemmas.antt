@@ -1,4 +1,4 @@
--- The longest front of a text that may be a word is one.
+-- The longest prefix of a text that may be a word is one.
 use Rattle.std.proofs.Common.{◌≡◌, ℕ, ◌+◌, ◌&&◌, cond, Bool, true, false, List, [], ◌∷◌, take, refl, ap, ◌∙◌, arith, suc}
 use Rattle.std.specs.List.{list_all, prefix_len}
 use Rattle.term_core.specs.Word.{begins_word, continues_word, is_word}

@@ -38,7 +38,7 @@ with_children-node_term Tuple us notes other e h = refl
 
 -- ---- equal terms have equal parts
 
--- what stands at the root
+-- the root
 abbrev root : Tree → Node
 root (integer z notes) = Integer z
 root (branch (application name) kids notes) = Application name
@@ -63,7 +63,7 @@ same_annotations n m us vs ns ms e = sym (annotations-node_term n us ns) ∙ ap 
 pub same_term : (n m : Node) (us vs ns ms : List Tree) → n ≡ m → us ≡ vs → ns ≡ ms → node_term n us ns ≡ node_term m vs ms
 same_term n m us vs ns ms p q r = λ i. node_term (p i) (q i) (r i)
 
--- what a vector's `get_mut` gives is the element there
+-- a vector's `get_mut` gives the element at the index
 pub option_copied_mut-get : (o : Option (MutBor Tree)) (us : List Tree) (n i : ℕ) → n ≡ length us → (IsSome o → i < n) × (i < n → IsSome o) → IfSome o (λ x. x.now ≡ get_or us i x.now) → option_copied_mut o ≡ slice_get us i
 option_copied_mut-get None us n i e h k = let past : n < suc i = lt_of_not-le (λ lt. let no = h.1 lt in cc) in sym (slice_get_past us i (omega (arith, past, e)))
 option_copied_mut-get (Some x) us n i e h k = sym (slice_get_read us n i x.now e (h.0 refl) k)

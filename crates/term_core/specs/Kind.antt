@@ -1,4 +1,4 @@
--- What a term is made of.
+-- Terms from their parts.
 use Rattle.std.specs.Prelude.{List}
 use Rattle.term_core.specs.Tree.{Tree, integer, branch, application, list, tuple, of_list}
 use Rattle.term_core.specs.declared.kind.Kind.{Kind}

@@ -5,7 +5,7 @@ use Rattle.std.specs.Borrow.{Lends, MutBor, Fml, Array}
 use Rattle.term_core.specs.Tree.{Tree, children, with_children}
 use Rattle.term_core.specs.contracts.term.Term.{the_row}
 
--- the term ends with what is left in the slice of its children, whose length stays
+-- the term ends up with what is left in the slice of its children, whose length stays the same
 abbrev pub LendsChildren : MutBor Tree → MutBor (List Tree) → Fml
 LendsChildren t kids =
     Lends the_row (Array the_row 0) t kids

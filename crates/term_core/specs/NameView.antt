@@ -1,4 +1,4 @@
--- What the fields of a `Name` stand for.
+-- What the fields of a `Name` represent.
 use Rattle.std.specs.Prelude.{◌≤◌, ◌||◌, IsTrue, take}
 use Rattle.term_core.specs.Word.{is_word}
 use Rattle.term_core.specs.Tree.{Symbol}
@@ -11,7 +11,7 @@ abbrev pub text_of : Text → Symbol
 text_of (Short quoted n bytes) = record { text = take n bytes; is_quoted = quoted }
 text_of (Long quoted bytes) = record { text = bytes.value.items; is_quoted = quoted }
 
--- a short name lies within its array
+-- a short name fits in its array
 abbrev pub IsText : Text → Type 0
 IsText (Short quoted n bytes) = n ≤ SHORT
 IsText (Long quoted bytes) = Unit {0}

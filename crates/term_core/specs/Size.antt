@@ -1,4 +1,4 @@
--- How high a term is, how many terms it holds, and where it fits.
+-- The height and the size of a term, and where it fits.
 use Rattle.std.specs.Prelude.{ℕ, Bool, ◌+◌, ◌&&◌, nat_le, max}
 use Rattle.std.proofs.Common.{suc}
 use Rattle.term_core.specs.Tree.{Tree, Trees, integer, branch, none, more}
@@ -14,7 +14,7 @@ abbrev mutual
   heights none = 0
   heights (more t ts) = max (height t) (heights ts)
 
--- The size is 1 more than the sizes of children and annotations together.
+-- The size is 1 more than the sum of the sizes of children and annotations.
 abbrev mutual
   pub size : Tree → ℕ
   size (integer z notes) = suc (sizes notes)
@@ -24,7 +24,7 @@ abbrev mutual
   sizes none = 0
   sizes (more t ts) = size t + sizes ts
 
--- A term fits at a level, the number of terms above it, where it is neither too high there nor too
+-- A term fits at a level, the number of terms above it, if it is neither too high there nor too
 -- large.
 abbrev pub fits : ℕ → Tree → Bool
 fits level t = nat_le (level + height t) MAX_HEIGHT && nat_le (size t) MAX_SIZE

@@ -1,4 +1,4 @@
--- What the fields of a `Term` stand for.
+-- What the fields of a `Term` represent.
 use Rattle.std.specs.Prelude.{◌≡◌, ◌≤◌, ◌+◌, ℕ, List, [], ◌∷◌, max}
 use Rattle.std.proofs.Common.{arith}
 use denote.Param.Weighed.{most}

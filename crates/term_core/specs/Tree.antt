@@ -4,7 +4,7 @@ use Rattle.std.specs.Prelude.{ℕ, ℤ, Bool, ◌&&◌, List, [], ◌∷◌, sli
 use Rattle.std.specs.Bool.{beq}
 use Rattle.std.specs.Str.{bytes_eq}
 
--- A name: its bytes, and whether it is quoted. The word `f` and the quoted name `"f"` are two
+-- A name: its bytes, and whether it is quoted. The word `f` and the quoted name `"f"` are different
 -- names.
 pub record Symbol : Type 0 where
   pub text : List ℕ
@@ -13,7 +13,7 @@ pub record Symbol : Type 0 where
 abbrev pub same_name : Symbol → Symbol → Bool
 same_name f g = beq f.is_quoted g.is_quoted && bytes_eq f.text g.text
 
--- what stands above the children of a term that is no integer
+-- the root of a term that is no integer
 pub data Head : Type 0 where
   application : Symbol → Head
   list : Head
@@ -47,17 +47,17 @@ abbrev pub annotations : Tree → List Tree
 annotations (integer z notes) = to_list notes
 annotations (branch head kids notes) = to_list notes
 
--- the term with other children, and all else kept
+-- the term with other children, and all else unchanged
 abbrev pub with_children : Tree → List Tree → Tree
 with_children (integer z notes) us = integer z notes
 with_children (branch head kids notes) us = branch head (of_list us) notes
 
--- the term with other annotations, and all else kept
+-- the term with other annotations, and all else unchanged
 abbrev pub with_annotations : Tree → List Tree → Tree
 with_annotations (integer z notes) us = integer z (of_list us)
 with_annotations (branch head kids notes) us = branch head kids (of_list us)
 
--- the term with u in the place of child i, and all else kept
+-- the term with u in place of child i, and all else unchanged
 abbrev pub with_child : Tree → ℕ → Tree → Tree
 with_child t i u = with_children t (slice_set (children t) i u)
 

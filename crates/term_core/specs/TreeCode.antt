@@ -1,4 +1,5 @@
--- How the logic stores a term: its marks in pre-order, with a mark where each list of terms ends.
+-- How the logic stores a term: its marks in pre-order, with a mark at the end of each list of
+-- terms.
 use Rattle.std.specs.Prelude.{◌≡◌, ℕ, ℤ, pos, Bool, false, ◌==◌, cond, List, [], ◌∷◌, Some, None, ◌⊎◌, refl}
 use Rattle.std.proofs.Common.{inl, inr, ap, ◌∙◌}
 use Rattle.std.specs.declared.option.Option.{Option}

@@ -9,7 +9,7 @@ use Rattle.std.specs.List.{list_all, prefix_len}
 abbrev pub begins_word : ℕ → Bool
 begins_word b = is_ascii_alphabetic b || (b == 95)
 
--- It goes on with letters, digits and the bytes `_ - + * $ . '`.
+-- It continues with letters, digits and the bytes `_ - + * $ . '`.
 abbrev pub continues_word : ℕ → Bool
 continues_word b =
     is_ascii_alphanumeric b || (b == 95) || (b == 45) || (b == 43) || (b == 42) || (b == 36) ||
@@ -20,7 +20,7 @@ abbrev pub is_word : List ℕ → Bool
 is_word [] = false
 is_word (b ∷ bs) = begins_word b && list_all continues_word bs
 
--- the word that a text begins with, as long as it can be, and what follows it
+-- the longest word that a text begins with, and the rest
 abbrev pub first_word : List ℕ → Option (List ℕ × List ℕ)
 first_word [] = None
 first_word (b ∷ bs) =

@@ -1,4 +1,4 @@
-//! What stands at the root of a term.
+//! The root of a term.
 
 use crate::Name;
 

@@ -38,7 +38,7 @@ pub enum LabelFault {
     /// It isn't a word, or is longer than 64 bytes.
     #[error("name")]
     Name,
-    /// A growth of memory was refused.
+    /// Memory couldn't grow.
     #[error("memory")]
     Memory,
 }
@@ -66,7 +66,7 @@ impl From<NoMemory> for LabelFault {
 }
 
 impl Label {
-    /// The label of these bytes.
+    /// The label with these bytes.
     pub fn read(alloc: Global, text: &[u8]) -> Result<Label, LabelFault>
         ensures label { IfOk result (λ label. label_of text.now ≡ Some label) }
         ensures name { (result ≡ Err LabelFault.Name) ↔ (label_of text.now ≡ None) }
@@ -78,7 +78,6 @@ impl Label {
         Ok(Label { name })
     }
 
-    /// The bytes of the label.
     pub fn bytes(&self) -> &[u8]
         ensures value { result.now ≡ self.now }
         ensures label { label_of self.now ≡ Some self.now }

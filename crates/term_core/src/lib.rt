@@ -16,5 +16,5 @@ pub use term::Term;
 /// The greatest sum of a level and the height of a term that fits there.
 pub const MAX_HEIGHT: u64 = 1000;
 
-/// The greatest size of a term that fits, in terms.
+/// The greatest size of a term that fits: a number of terms.
 pub const MAX_SIZE: u64 = 100_000;

@@ -1,9 +1,9 @@
-//! Want of memory, the one error of most calls.
+//! Want of memory, the only error of most calls.
 
 use std::alloc::{AllocError, AllocFailed};
 use thiserror::Error;
 
-/// A growth of memory was refused.
+/// Memory couldn't grow.
 #[derive(Clone, Copy, Debug, PartialEq, Eq, Error)]
 #[error("memory")]
 pub struct NoMemory;

@@ -11,17 +11,17 @@ use std::hash::{Hash, Hasher};
 use std::marker::Model;
 use std::rc::Rc;
 
-/// The greatest length of a name that lies in the value itself, in bytes.
+/// The greatest length in bytes of a name that is stored in the value itself.
 pub const SHORT: usize = 13;
 
 /// A name: a list of bytes that is a word or is quoted. The word `f` and the quoted name `"f"` are
-/// two names.
+/// different names.
 #[derive(Drop)]
 pub struct Name {
     text: Text,
 }
 
-// Short names lie in the value itself, without an allocation; long ones are shared.
+// Short names are stored in the value itself, without an allocation; long ones are shared.
 #[derive(Drop)]
 enum Text {
     Short {
@@ -92,7 +92,7 @@ pub fn begins_word(b: u8) -> bool
     b.is_ascii_alphabetic() || b == b'_'
 }
 
-/// Whether a word may go on with this byte: a letter, a digit or one of `_ - + * $ . '`.
+/// Whether a word may continue with this byte: a letter, a digit or one of `_ - + * $ . '`.
 pub fn continues_word(b: u8) -> bool
     ensures { result ≡ continues_word b }
 {
@@ -105,7 +105,8 @@ fn all_continue_word(rest: &[u8]) -> bool
     rest.iter().all(|b| continues_word(*b))
 }
 
-/// Whether these bytes are a word: a byte that may begin one, and then bytes that may go on one.
+/// Whether these bytes are a word: a byte that may begin one, followed by bytes that may continue
+/// it.
 pub fn is_word(text: &[u8]) -> bool
     ensures { result ≡ is_word text.now }
 {
@@ -115,7 +116,7 @@ pub fn is_word(text: &[u8]) -> bool
     begins_word(*first) && all_continue_word(rest)
 }
 
-// How many bytes at the front may go on a word.
+// The number of leading bytes that may continue a word.
 fn word_length(rest: &[u8]) -> usize
     ensures value { result ≡ prefix_len continues_word rest.now }
     ensures bound { result ≤ length rest.now }
@@ -124,7 +125,7 @@ fn word_length(rest: &[u8]) -> usize
 }
 
 impl Text {
-    // These bytes, where they are to be copied.
+    // A copy of these bytes.
     fn new(alloc: Global, quoted: bool, text: &[u8]) -> Result<Text, NoMemory>
         ensures value { IfOk result (λ made. text_of made
             ≡ record { text = text.now; is_quoted = quoted }) }
@@ -154,7 +155,7 @@ impl Text {
 }
 
 impl Name {
-    /// The word of these bytes, or `None` where they are no word.
+    /// The word with these bytes, or `None` if they are no word.
     pub fn word(alloc: Global, text: &[u8]) -> Result<Option<Name>, NoMemory>
         ensures no_word { (result ≡ Ok None) ↔ (is_word text.now ≡ false) }
         ensures name { IfOk result (λ found. IfSome found (λ name. name
@@ -167,7 +168,7 @@ impl Name {
         Ok(Some(Name { text }))
     }
 
-    /// The word of these bytes, which are one.
+    /// The word with these bytes, which are known to be one.
     pub(crate) fn of_word(alloc: Global, text: &[u8]) -> Result<Name, NoMemory>
         requires { is_word text.now ≡ true }
         ensures { IfOk result (λ name. name ≡ record { text = text.now; is_quoted = false }) }
@@ -176,8 +177,8 @@ impl Name {
         Ok(Name { text })
     }
 
-    /// The word that the text begins with, as long as it can be, and what follows it; `None` where
-    /// the text begins with no word.
+    /// The longest word that the text begins with, and the rest; `None` if the text begins with no
+    /// word.
     pub fn first_word(alloc: Global, text: &[u8]) -> Result<Option<(Name, &[u8])>, NoMemory>
         ensures no_word { (result ≡ Ok None) ↔ (first_word text.now ≡ None) }
         ensures word { IfOk result (λ found. IfSome found (λ found.
@@ -196,7 +197,7 @@ impl Name {
         Ok(Some((Name { text }, rest)))
     }
 
-    /// The quoted name of these bytes, which may be any.
+    /// The quoted name with these bytes, which are arbitrary.
     pub fn quoted(alloc: Global, text: &[u8]) -> Result<Name, NoMemory>
         ensures { IfOk result (λ name. name ≡ record { text = text.now; is_quoted = true }) }
     {
@@ -215,7 +216,6 @@ impl Name {
         }
     }
 
-    /// Whether the name is quoted.
     pub fn is_quoted(&self) -> bool
         ensures { result ≡ self.now.is_quoted }
     {

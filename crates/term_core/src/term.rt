@@ -125,14 +125,14 @@ impl Term {
         self.children.as_slice()
     }
 
-    /// How many children there are.
+    /// The number of children.
     pub fn child_count(&self) -> usize
         ensures { result ≡ length (children self.now) }
     {
         self.children.len()
     }
 
-    /// Child `i`, counted from 0, or `None` where there are no more than `i`.
+    /// Child `i`, counted from 0, or `None` if there is none.
     pub fn child(&self, i: usize) -> Option<&Term>
         ensures { option_copied result ≡ slice_get (children self.now) i }
     {
@@ -143,14 +143,13 @@ impl Term {
         }
     }
 
-    /// The annotations.
     pub fn annotations(&self) -> &[Term]
         ensures { result.now ≡ annotations self.now }
     {
         self.annotations.as_slice()
     }
 
-    /// Changes the annotations for those of the vector, and hands the old ones back in it.
+    /// Swaps the annotations with those in the vector.
     pub fn swap_annotations(&mut self, other: &mut Vec<Term>)
         ensures term { self.new ≡ with_annotations self.old other.old.items }
         ensures old { other.new.items ≡ annotations self.old }
@@ -158,7 +157,7 @@ impl Term {
         mem::swap(&mut self.annotations, other);
     }
 
-    /// Gives the term these children in place of its own. An integer takes none.
+    /// Replaces the children. An integer takes none.
     pub fn set_children(&mut self, new: Vec<Term>)
         ensures { self.new ≡ with_children self.old new.items }
     {
@@ -167,15 +166,15 @@ impl Term {
         }
     }
 
-    /// Child `i` for writing, or `None` where there are no more than `i` children. What a caller's
-    /// proof has to know of the term afterwards, `children_mut` and `swap_child` say.
+    /// Child `i` for writing, or `None` if there is none. The contracts of `children_mut` and
+    /// `swap_child` say more about the term afterwards.
     pub fn child_mut(&mut self, i: usize) -> Option<&mut Term>
         ensures { option_copied_mut result ≡ slice_get (children self.old) i }
     {
         self.children.get_mut(i)
     }
 
-    /// The children for writing. The term ends with what is left in the slice.
+    /// The children for writing. The term ends up with what is left in the slice.
     pub fn children_mut(&mut self) -> &mut [Term]
         ensures value { result.now ≡ children self.old }
         ensures* writes_back { sem 𝓛 (LendsChildren self.entry result) }
@@ -183,8 +182,8 @@ impl Term {
         self.children.as_mut_slice()
     }
 
-    /// Changes child `i` for the other term, and hands the old child back in it; `false`, and no
-    /// change, where there are no more than `i` children.
+    /// Swaps child `i` with the other term. Returns `false`, and changes nothing, if there is no
+    /// such child.
     pub fn swap_child(&mut self, i: usize, other: &mut Term) -> bool
         ensures there { IsTrue result ↔ (i < length (children self.old)) }
         ensures term { OnTrue result (self.new ≡ with_child self.old i other.old) }
@@ -198,7 +197,7 @@ impl Term {
         true
     }
 
-    /// Whether the two terms agree in everything, annotations included.
+    /// Whether the two terms are equal, annotations included.
     #[cycle(equals)]
     pub fn equals(&self, other: &Term) -> bool
         ensures { IsTrue result ↔ (self.now ≡ other.now) }
@@ -213,7 +212,7 @@ impl Term {
     }
 
     /// The height: 1 without children and annotations, else 1 more than the greatest height among
-    /// them. Where it is more than the greatest `u64`, that number.
+    /// them; at most the greatest `u64`.
     #[cycle(height)]
     pub fn height(&self) -> u64
         ensures { result ≡ min (height self.now) (2 ^ 64 - 1) }
@@ -231,8 +230,8 @@ impl Term {
         self.children.is_empty() && self.annotations.is_empty()
     }
 
-    /// The size: 1 more than the sizes of children and annotations together. Where it is more than
-    /// the greatest `u64`, that number.
+    /// The size: 1 more than the sum of the sizes of children and annotations; at most the greatest
+    /// `u64`.
     #[cycle(size)]
     pub fn size(&self) -> u64
         ensures { result ≡ min (size self.now) (2 ^ 64 - 1) }
@@ -242,8 +241,8 @@ impl Term {
         children.saturating_add(annotations).saturating_add(1)
     }
 
-    /// Whether the term fits below `level` other terms: `level` and its height together are at most
-    /// 1,000, and its size is at most 100,000. It looks at no more than 100,000 terms.
+    /// Whether the term fits below `level` other terms: `level` plus its height is at most 1,000,
+    /// and its size is at most 100,000. It visits at most 100,000 terms.
     pub fn fits(&self, level: u64) -> bool
         ensures { result ≡ fits level self.now }
     {
@@ -253,7 +252,7 @@ impl Term {
         }
     }
 
-    // What this term leaves of `size`, or `None` where it is higher than `height` or larger than
+    // `size` less that of this term, or `None` if the term is higher than `height` or larger than
     // `size`.
     #[cycle(room_left)]
     fn room_left(&self, height: u64, size: u64) -> Option<u64>
@@ -367,7 +366,7 @@ fn room_left_by_all(terms: &[Term], height: u64, mut size: u64) -> Option<u64>
     Some(size)
 }
 
-// Nothing is called for an empty list.
+// An empty list costs no call.
 #[cycle(try_clone)]
 fn clone_list(alloc: Global, terms: &[Term]) -> Result<Vec<Term>, NoMemory>
     ensures { IfOk result (λ all. all.items ≡ terms.now) }

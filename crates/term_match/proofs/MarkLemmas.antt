@@ -94,7 +94,7 @@ back_mark old new mark le b f =
     let q : length new.filled ≡ mark.filled = ap length f ∙ length-take-le mark.filled old.filled le.1 in
     λ i. record { count = p i; filled = q i }
 
--- what is emptied in a slice of the cells
+-- the emptied cells of a slice
 pub since_emptied : (B D : Bindings) (F d : List ℕ) (k : ℕ) → d ≡ F → D ≡ B
     → emptied (take (length d - k) (drop k d)) D ≡ emptied (drop k F) B
 since_emptied B D F d k e g =
@@ -140,7 +140,7 @@ pub grows_later : (a b : Contents) → Grows a b → Before (mark_of a) (mark_of
 grows_later a b g =
     (omega (arith, g.count), omega (arith, ap length g.filled, length-append a.filled g.more))
 
--- what was filled is emptied again
+-- filled cells are emptied again
 pub grows_back : (a b c : Contents) → Grows a b → c.bindings ≡ kept b (mark_of a)
     → c.filled ≡ take (length a.filled) b.filled → c ≡ a
 grows_back a b c g k f =

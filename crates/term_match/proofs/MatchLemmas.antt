@@ -146,7 +146,7 @@ pub matched_all : (ps : List Place) (ts : List Tree) (E : List ℕ) (whole : Opt
 matched_all ps ts E whole i B h k w =
     sym w ∙ (λ j. match_places (places_of (drop_all i ps h j)) (drop_all i ts k j) E B)
 
--- of the first terms alone
+-- for the first terms only
 pub slice_get_front : (ts : List Tree) (n i : ℕ) → i < n → slice_get (take n ts) i ≡ slice_get ts i
 slice_get_front ts zero i h = absurd (omega (arith, h))
 slice_get_front [] (suc n) i h = refl
@@ -165,7 +165,7 @@ pub compound_matched : (h : Head) (ps : List Place) (t : Tree) (E : List ℕ) (B
 compound_matched h ps t E B e =
     ap (λ b. cond b (match_places (places_of ps) (children t) E B) None) e
 
--- what stands behind the test whether there are elements
+-- the rest of the test, once there are elements
 abbrev pub tail_matched : List Place → Place → List Tree → List ℕ → Bindings → Option Bindings
 tail_matched ps p us E B =
     option_and_then (λ B1. match_place p (list_term (drop (length ps) us)) E B1)

@@ -1,4 +1,4 @@
--- What building a pattern's instance answers.
+-- The result of building a pattern's instance.
 use Rattle.std.specs.Prelude.{◌≡◌, ℕ, true, false, Some, None}
 use Rattle.std.specs.declared.option.Option.{Option}
 use Rattle.term_core.specs.Tree.{Tree}
@@ -8,13 +8,13 @@ use Rattle.term_match.specs.declared.building.Built.TheVariants.{Value, Nothing,
 use Rattle.term_match.specs.declared.terms.BuiltTerm.{BuiltTerm}
 use Rattle.term_match.specs.declared.terms.BuiltTerm.TheVariants as terms
 
--- The instance, which fits at the level; nothing where there is none; or that it doesn't fit.
+-- The instance, which fits at the level; nothing if there is none; or that it doesn't fit.
 abbrev pub Builds : Option Tree → ℕ → Built → Type 0
 Builds o level (Value v) = (o ≡ Some v) × (fits level v ≡ true)
 Builds o level Nothing = o ≡ None
 Builds o level Big = (u : Tree) × (o ≡ Some u) × (fits level u ≡ false)
 
--- the same with a term of its own
+-- the same with an owned term
 abbrev pub BuildsTerm : Option Tree → ℕ → BuiltTerm → Type 0
 BuildsTerm o level (terms.Term t) = (o ≡ Some t) × (fits level t ≡ true)
 BuildsTerm o level terms.Nothing = o ≡ None

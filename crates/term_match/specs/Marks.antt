@@ -1,4 +1,4 @@
--- What cells keep for a mark that was made before.
+-- What cells keep for an earlier mark.
 use Rattle.std.specs.Prelude.{◌≡◌, ◌≤◌, ℕ, List, [], ◌∷◌, ◌++◌, length, take, drop, slice_set, None}
 use Rattle.strategy_meaning.specs.Matching.{Bindings}
 use Rattle.term_match.specs.Contents.{Contents}
@@ -9,22 +9,22 @@ abbrev pub emptied : List ℕ → Bindings → Bindings
 emptied [] B = B
 emptied (i ∷ is) B = emptied is (slice_set B i None)
 
--- the first cells up to the mark's count, empty where they were filled since
+-- the first cells up to the mark's count, with those filled since emptied
 abbrev pub kept : Contents → Mark → Bindings
 kept c m = emptied (drop m.filled c.filled) (take m.count c.bindings)
 
 abbrev pub mark_of : Contents → Mark
 mark_of c = record { count = length c.bindings; filled = length c.filled }
 
--- a mark that was made before another, or is it
+-- a mark made before another, or the same one
 abbrev pub Before : Mark → Mark → Type 0
 Before m n = (m.count ≤ n.count) × (m.filled ≤ n.filled)
 
--- what is kept for the marks up to this one stays
+-- what is kept for the marks up to this one stays the same
 abbrev pub Stays : Mark → Contents → Contents → Type 0
 Stays top old new = (m : Mark) → Before m top → kept new m ≡ kept old m
 
--- Some empty cells are filled, of those that there are.
+-- Some of the empty cells are filled.
 pub record Grows (old new : Contents) : Type 0 where
   pub count : length new.bindings ≡ length old.bindings
   pub more : List ℕ

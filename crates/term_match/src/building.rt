@@ -1,7 +1,7 @@
 //! Building the instance of a pattern.
 //!
-//! Bounds of sizes are kept with the terms in the cells. Only where they don't tell that the instance
-//! fits, its variables are measured, small terms first, and what is found stays in the cells.
+//! Bounds of sizes are stored with the terms in the cells. Only if they don't show that the
+//! instance fits are its variables measured, small terms first, and the results stay in the cells.
 
 ghost use Rattle.std.specs.Prelude.{◌≡◌, ◌+◌, ◌<◌, ◌^◌, ℕ, List, [], ◌∷◌, ◌++◌, length, IfOk, IfSome, Ok, Some, is_some, option_map, option_and_then};
 ghost use Rattle.std.specs.Option.{option_copied};
@@ -21,24 +21,24 @@ use strategy_syntax::{Head, Place, PlaceForm};
 use term_core::{Kind, MAX_SIZE, NoMemory};
 use term_values::Value;
 
-/// The answer of a build.
+/// The result of a build.
 #[derive(Drop)]
 pub enum Built<'t> {
     /// The instance.
     Value(Value<'t>),
-    /// There is no instance: a variable has no term, a tail is no list, or the pattern is one that only
-    /// matches.
+    /// There is no instance: a variable is unbound, a tail is no list, or the pattern is one that
+    /// can only match.
     Nothing,
     /// The instance doesn't fit.
     Big,
 }
 
-// Up to how many nodes the term of a variable is measured at first, and then.
+// The limits up to which the term of a variable is measured, in rounds.
 const LIMITS: [u64; 5] = [32, 256, 2048, 16384, MAX_SIZE];
 
 impl<'t> Cells<'t> {
-    /// The instance of the pattern, where it fits below `level` terms. It shares the terms in the cells,
-    /// and names with the pattern. No memory is taken where there is no instance.
+    /// The instance of the pattern, if it fits below `level` terms. It shares the terms in the
+    /// cells, and names with the pattern. No memory is taken if there is no instance.
     #[inline(always)]
     pub fn build<P: Places>(
         &mut self,
@@ -80,7 +80,7 @@ impl<'t> Cells<'t> {
         }
     }
 
-    // The instance, where it fits, once the terms of its variables are measured as far as it needs.
+    // The instance, if it fits, after measuring the terms of its variables as far as necessary.
     #[inline(never)]
     fn build_measured<P: Places>(
         &mut self,
@@ -137,7 +137,8 @@ impl<'t> Cells<'t> {
         }
     }
 
-    // The instances of these patterns in front of the instance of the tail, where that is a list.
+    // The instances of these patterns in front of the elements of the tail's instance, if that is a
+    // list.
     #[cycle(instance)]
     #[inline(always)]
     fn with_tail<P: Places>(
@@ -253,7 +254,7 @@ impl<'t> Cells<'t> {
         if !is_list(behind) {
             return Ok(None);
         }
-        // more elements than a machine's number tells find no memory
+        // a list of more elements than `usize` can count would find no memory
         let _count = behind
             .child_count()
             .checked_add(parts.len())
@@ -343,7 +344,7 @@ impl<'t> Cells<'t> {
         true
     }
 
-    // What a variable is bound to, held once more.
+    // Another holder of what a variable is bound to.
     #[inline(always)]
     fn held<P: Places>(&self, places: &P, variable: usize) -> Result<Option<Value<'t>>, NoMemory>
         ensures { IfOk result (λ value. value ≡ bound_to (P.places places.now) variable self.now.bindings) }
@@ -410,8 +411,8 @@ impl<'t> Cells<'t> {
     }
 }
 
-// Whether the parts of a pattern, at most two, have none themselves: then memory is taken only where all
-// have an instance.
+// Whether a pattern has at most two parts, none of which has parts: then memory is taken only if
+// all have an instance.
 fn is_flat(pattern: &Place) -> bool {
     match pattern.form() {
         PlaceForm::Compound(_, parts) => parts.len() <= 2 && parts.iter().all(|p| has_no_parts(p)),
@@ -419,7 +420,7 @@ fn is_flat(pattern: &Place) -> bool {
     }
 }
 
-// Whether it is a variable, an integer or a head over nothing.
+// Whether the pattern is a variable, an integer or a head without parts.
 fn has_no_parts(pattern: &Place) -> bool {
     match pattern.form() {
         PlaceForm::Variable(_) => true,
@@ -429,7 +430,7 @@ fn has_no_parts(pattern: &Place) -> bool {
     }
 }
 
-// The instance of a pattern without parts, whatever variables are bound to.
+// The instance of a pattern without parts that doesn't depend on bindings.
 fn constant<'t>(pattern: &'t Place) -> Option<Value<'t>>
     ensures { IfSome result (λ value. (e : List ℕ) (B : Bindings) → build_place pattern.entry.now e B ≡ Some value) }
 {
@@ -484,7 +485,7 @@ fn over_both<'t>(
     }
 }
 
-// A node over terms, if they are there.
+// A node over terms, if they exist.
 #[inline(always)]
 fn over_all<'t>(
     alloc: Global,
@@ -515,7 +516,7 @@ fn one_in_front<'t>(
     }
 }
 
-// The list of terms, if they are there, in front of the elements of another.
+// The list of terms, if they exist, in front of the elements of another.
 #[inline(always)]
 fn all_in_front<'t>(
     alloc: Global,
@@ -531,7 +532,7 @@ fn all_in_front<'t>(
     }
 }
 
-// A term with others as annotations, if they are there.
+// A term with others as annotations, if they exist.
 #[inline(always)]
 fn noted<'t>(
     alloc: Global,
@@ -546,7 +547,7 @@ fn noted<'t>(
     }
 }
 
-// What stands at the root of a node with this head.
+// The root of a node with this head.
 fn kind_of<'t>(head: &'t Head) -> Kind<'t>
     ensures { (us : List Tree) → made_of result us [] ≡ branch (head_of head.now) (of_list us) none }
 {

@@ -1,7 +1,7 @@
-//! Cells for trees, which can go back to a mark.
+//! Cells for trees, which can be rolled back to a mark.
 //!
-//! A trail names the cells that were filled, the oldest first. A mark is two numbers, and going back to
-//! it costs what was done since.
+//! A trail lists the cells that were filled, the oldest first. A mark is two numbers, and rolling
+//! back to it costs what was done since.
 
 ghost use Rattle.std.specs.Prelude.{◌≡◌, ◌≤◌, ◌<◌, ◌+◌, ◌-◌, [], ◌∷◌, ◌++◌, length, replicate, take, slice_get, slice_set, option_and_then, vec_len, vec_capacity, OnOk, OnErr, Some, None};
 ghost use Rattle.std.specs.Option.{option_copied};
@@ -12,14 +12,14 @@ use std::marker::Model;
 use term_core::NoMemory;
 use term_values::Value;
 
-/// How many cells there are, and how many were filled.
+/// The numbers of cells and of filled cells.
 #[derive(Clone, Copy)]
 pub struct Mark {
     pub count: usize,
     pub filled: usize,
 }
 
-/// Cells, each empty or with a tree, and which of them were filled.
+/// Cells, each empty or holding a tree, and the trail of those that were filled.
 #[derive(Drop)]
 pub struct Cells<'t> {
     pub(crate) cells: Vec<Option<Value<'t>>>,
@@ -48,14 +48,14 @@ impl<'t> Cells<'t> {
         }
     }
 
-    /// How many cells there are.
+    /// The number of cells.
     pub fn count(&self) -> usize
         ensures { result ≡ length self.now.bindings }
     {
         self.cells.len()
     }
 
-    /// What is in cell `i`, if there is such a cell and it isn't empty.
+    /// The content of cell `i`, if the cell exists and isn't empty.
     pub fn get(&self, i: usize) -> Option<&Value<'t>>
         ensures { option_copied result ≡ option_and_then (λ o. o) (slice_get self.now.bindings i) }
     {
@@ -65,7 +65,7 @@ impl<'t> Cells<'t> {
         self.cells[i].as_ref()
     }
 
-    /// The mark to go back to what there is now.
+    /// The mark of the current state.
     pub fn mark(&self) -> Mark
         ensures result { result ≡ mark_of self.now }
         ensures kept { kept self.now result ≡ self.now.bindings }
@@ -76,7 +76,7 @@ impl<'t> Cells<'t> {
         }
     }
 
-    /// So many empty cells more.
+    /// Adds `count` empty cells.
     pub fn open_cells(&mut self, count: usize) -> Result<(), NoMemory>
         ensures ok { OnOk result (self.new.bindings ≡ self.old.bindings ++ replicate count None) }
         ensures filled { self.new.filled ≡ self.old.filled }
@@ -89,7 +89,7 @@ impl<'t> Cells<'t> {
         Ok(())
     }
 
-    /// One cell more, which holds the value. It doesn't count as one that was filled.
+    /// Adds a cell that holds the value. It isn't put on the trail.
     pub fn open_with(&mut self, value: Value<'t>) -> Result<(), NoMemory>
         ensures ok { OnOk result (self.new.bindings ≡ self.old.bindings ++ Some value.entry ∷ []) }
         ensures filled { self.new.filled ≡ self.old.filled }
@@ -101,7 +101,7 @@ impl<'t> Cells<'t> {
         Ok(())
     }
 
-    /// Takes the last `count` cells away.
+    /// Removes the last `count` cells.
     pub fn close_cells(&mut self, count: usize)
         requires { count ≤ length self.old.bindings }
         ensures cells { self.new.bindings ≡ take (length self.old.bindings - count) self.old.bindings }
@@ -113,7 +113,7 @@ impl<'t> Cells<'t> {
         self.close_to(left);
     }
 
-    /// Keeps the first `count` cells.
+    /// Keeps only the first `count` cells.
     pub fn close_to(&mut self, count: usize)
         requires { count ≤ length self.old.bindings }
         ensures cells { self.new.bindings ≡ take count self.old.bindings }
@@ -124,8 +124,7 @@ impl<'t> Cells<'t> {
         self.cells.truncate(count);
     }
 
-    /// Goes back to a mark: cells that were opened since are taken away, and those that were filled
-    /// since are emptied.
+    /// Rolls back to a mark: cells opened since are removed, and those filled since are emptied.
     pub fn back_to(&mut self, mark: Mark)
         requires { Before mark (mark_of self.old) }
         ensures cells { self.new.bindings ≡ kept self.old mark }
@@ -158,7 +157,7 @@ impl<'t> Cells<'t> {
     }
 }
 
-// Adds so many empty cells, for which there is room.
+// Adds `count` empty cells, for which there is room.
 fn add_empty(cells: &mut Vec<Option<Value<'_>>>, count: usize)
     requires { vec_len cells.old + count ≤ vec_capacity cells.old }
     ensures { cells.new.items ≡ cells.old.items ++ replicate count None }

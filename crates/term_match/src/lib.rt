@@ -1,7 +1,8 @@
-//! Matching patterns with trees and building their instances, over cells that can go back to a mark.
+//! Matching patterns against trees and building their instances, over cells that can be rolled back
+//! to a mark.
 //!
-//! Who holds a term lends it to a function that has many ways out, and gives it to `drop` behind that
-//! call: each way out that drops a term by itself is proved with all forms of terms.
+//! The owner of a term lends it to a function that has many ways out, and passes it to `drop` after
+//! that call: each way out that drops a term by itself is proved with all forms of terms.
 #![tactic(auto)]
 
 mod building;

@@ -1,4 +1,4 @@
-//! Matching a pattern with a tree.
+//! Matching a pattern against a tree.
 
 ghost use Rattle.std.specs.Prelude.{◌≡◌, ◌≤◌, length, take, drop, cond, true, false, IfOk, OnErr, Some, None};
 ghost use Rattle.term_core.specs.Tree.{children, annotations, bare, list_term};
@@ -14,17 +14,17 @@ use strategy_syntax::{Head, Place, PlaceForm};
 use term_core::{Kind, NoMemory};
 use term_values::Value;
 
-// What the cell of a variable says of a term.
+// The state of a variable's cell, compared with a term.
 enum Said {
-    // It is empty, and has this number.
+    // The cell is empty; this is its number.
     Empty(usize),
-    // Whether it has the same term.
+    // The cell is filled: whether with the same term.
     Same(bool),
 }
 
 impl<'t> Cells<'t> {
-    /// Whether the pattern matches the value. Where it does, variables that had none have their terms;
-    /// where it doesn't, or memory is refused, the cells are as before. Terms are bound without a copy.
+    /// Whether the pattern matches the value. If it does, unbound variables are bound; if it
+    /// doesn't, or memory can't grow, the cells are unchanged. Terms are bound without a copy.
     pub fn matches<P: Places>(
         &mut self,
         alloc: Global,
@@ -53,7 +53,7 @@ impl<'t> Cells<'t> {
         }
     }
 
-    // The same, but where it doesn't match, some variables may have got terms.
+    // The same, but without a match some variables may have been bound.
     #[cycle(match_part)]
     fn match_part<P: Places>(
         &mut self,
@@ -126,7 +126,7 @@ impl<'t> Cells<'t> {
         matched
     }
 
-    // Matches the list of the children behind the first ones, without annotations.
+    // Matches the list of the children after the first ones, without annotations.
     #[cycle(match_part)]
     fn match_rest<P: Places>(
         &mut self,
@@ -147,7 +147,7 @@ impl<'t> Cells<'t> {
         matched
     }
 
-    // Matches the first children, one with each pattern.
+    // Matches the first children, each with a pattern.
     #[cycle(match_part)]
     fn match_children<P: Places>(
         &mut self,
@@ -171,7 +171,7 @@ impl<'t> Cells<'t> {
         Ok(true)
     }
 
-    // The same as `match_part` for a value that is given away.
+    // The same as `match_part`, consuming the value.
     #[cycle(match_part)]
     fn match_child<P: Places>(
         &mut self,
@@ -198,7 +198,7 @@ impl<'t> Cells<'t> {
         }
     }
 
-    // Matches all annotations, one with each pattern.
+    // Matches all annotations, each with a pattern.
     #[cycle(match_part)]
     fn match_notes<P: Places>(
         &mut self,
@@ -223,7 +223,7 @@ impl<'t> Cells<'t> {
         Ok(true)
     }
 
-    // Gives a variable the term, or finds the same with it.
+    // Binds a variable to the term, or compares the term it is bound to.
     fn bind<P: Places>(
         &mut self,
         places: &P,
@@ -243,7 +243,7 @@ impl<'t> Cells<'t> {
         }
     }
 
-    // The same for a value that is given away.
+    // The same, consuming the value.
     fn bind_owned<P: Places>(
         &mut self,
         places: &P,
@@ -266,7 +266,7 @@ impl<'t> Cells<'t> {
         }
     }
 
-    // Looks at the cell of a variable for a term.
+    // Compares the cell of a variable with a term.
     #[inline(always)]
     fn look<P: Places>(&self, places: &P, variable: usize, value: &Value<'t>) -> Said
         ensures { Says (P.places places.now) variable value.now self.now.bindings result }
@@ -284,7 +284,7 @@ impl<'t> Cells<'t> {
     }
 }
 
-// Whether the value is this integer, with whatever annotations.
+// Whether the value is this integer, whatever its annotations.
 fn is_integer(number: i64, value: &Value<'_>) -> bool
     ensures { result ≡ is_integer number value.now }
 {
@@ -294,7 +294,7 @@ fn is_integer(number: i64, value: &Value<'_>) -> bool
     }
 }
 
-/// Whether the value is a list, with whatever annotations.
+/// Whether the value is a list, whatever its annotations.
 pub(crate) fn is_list(value: &Value<'_>) -> bool
     ensures { elements value.now ≡ cond result (Some (children value.now)) None }
 {

@@ -13,7 +13,7 @@ use strategy_syntax::Place;
 use term_core::{NoMemory, Term};
 use term_values::Value;
 
-/// The answer of a build, with a term of its own.
+/// The result of a build, with an owned term.
 #[derive(Drop)]
 pub enum BuiltTerm {
     /// The instance.
@@ -46,7 +46,7 @@ impl<'t> Cells<'t> {
         matched
     }
 
-    /// `build` with a term of its own.
+    /// `build` with an owned term.
     pub fn build_term<P: Places>(
         &mut self,
         alloc: Global,

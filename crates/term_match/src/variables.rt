@@ -1,4 +1,4 @@
-//! Where the cells of variables are.
+//! The cells of variables.
 
 ghost use Rattle.std.specs.Prelude.{◌≡◌, ℕ, List, slice_get};
 

@@ -1,4 +1,4 @@
--- Changes at paths of which neither lies within the other.
+-- Changes at disjoint paths.
 use Rattle.std.proofs.Common.{◌≡◌, ℕ, List, [], ◌∷◌, set, refl, sym, ap, ◌∙◌, zero, suc, Some, None, option_and_then, inl, inr}
 use Rattle.std.specs.List.{slice_get}
 use Rattle.std.proofs.lemmas.Bool.{cases_eq}
@@ -33,13 +33,13 @@ with_child_comm (branch head kids notes) i j u v h =
     ∙ set_comm (to_list kids) i j u v h
     ∙ ap (λ l. set l i u) (sym (to_list-of_list (set (to_list kids) j v))))
 
--- ---- paths that part at once, or further down
+-- ---- paths that part at the root, or further down
 
 apart_below : (i j : ℕ) (p q : List ℕ) → i ≡ j → AreApart (i ∷ p) (j ∷ q) → AreApart p q
 apart_below i j p q e h =
     (λ w. h.0 (w.0, λ k. e k ∷ w.1 k), λ w. h.1 (w.0, λ k. sym e k ∷ w.1 k))
 
--- a change below child i leaves what another child leads to
+-- a change below child i doesn't change what is below another child
 at_other : (f : Tree → Tree) (t : Tree) (i j : ℕ) (p q : List ℕ) → Differ i j → at (changed_at f t (i ∷ p)) (j ∷ q) ≡ at t (j ∷ q)
 at_other f t i j p q h =
     elim (slice_get (children t) i) as (λ o. slice_get (children t) i ≡ o → at (changed_at f t (i ∷ p)) (j ∷ q) ≡ at t (j ∷ q)) [

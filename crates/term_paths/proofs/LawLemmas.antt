@@ -43,7 +43,7 @@ annotations-with_annotations : (t : Tree) (us : List Tree) → annotations (with
 annotations-with_annotations (integer z notes) us = to_list-of_list us
 annotations-with_annotations (branch head kids notes) us = to_list-of_list us
 
--- the subterm whose annotations these are
+-- the subterm that has these annotations
 bearer : (t : Tree) (p : List ℕ) (notes : List Tree) → annotations_at t p ≡ Some notes → (u : Tree) × (at t p ≡ Some u) × (annotations u ≡ notes)
 bearer t p notes e =
     elim (at t p) as (λ o. option_map annotations o ≡ Some notes → (u : Tree) × (o ≡ Some u) × (annotations u ≡ notes)) [
@@ -114,7 +114,7 @@ subterm_after_annotations t u us p =
     ∙ changed_at-changed_at (λ v. with_annotations v us) (λ _. u) t p
     ∙ sym (set_at-changed t u p)
 
--- ---- one path behind another
+-- ---- concatenated paths
 
 pub set_behind : SetBehind
 set_behind t u v p q e =

@@ -1,4 +1,4 @@
--- Trees of which one is the other after edits agree but for these.
+-- A tree and the same tree after edits agree everywhere else.
 use Rattle.std.proofs.Common.{◌≡◌, ℕ, ◌+◌, zero, suc, true, false, cond, ◌==◌, eq-eqb, List, [], ◌∷◌, ◌++◌, map, set, refl, sym, ap, ◌∙◌, subst, Some, None, arith}
 use Rattle.std.specs.Prelude.{⊤}
 use Rattle.std.specs.List.{slice_get}
@@ -13,15 +13,15 @@ use Rattle.term_paths.specs.Laws.{OutermostAreEnough}
 abbrev Ways : Type 0
 Ways = List (List ℕ)
 
--- Where the root isn't among the paths, the trees are the same but for their children, which agree
--- but for the paths through them.
+-- If the root isn't among the paths, the trees have the same root, and their children agree outside
+-- the paths through them.
 abbrev mutual
   Agrees : Ways → Tree → Tree → Type 0
   Agrees ps (integer z notes) u = IsFalse (has_root ps) → u ≡ integer z notes
   Agrees ps (branch h kids notes) u =
       IsFalse (has_root ps) → (others : Trees) × (u ≡ branch h others notes) × AllAgree ps 0 kids others
 
-  -- so for all children from number i on, which are as many
+  -- the same for all children from number i on, with equal numbers of them
   AllAgree : Ways → ℕ → Trees → Trees → Type 0
   AllAgree ps i none none = ⊤
   AllAgree ps i none (more u us) = ⊥
@@ -37,7 +37,7 @@ mutual
   all_agree-self ps i none = tt
   all_agree-self ps i (more t ts) = (agrees-self (through i ps) t, all_agree-self ps (suc i) ts)
 
--- ---- one after the other
+-- ---- in sequence
 
 root-left : (ps qs : Ways) → IsFalse (has_root (ps ++ qs)) → IsFalse (has_root ps)
 root-left [] qs h = refl

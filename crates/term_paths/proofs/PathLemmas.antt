@@ -1,4 +1,4 @@
--- What paths lead to, and what is set there.
+-- Reading and setting at paths.
 use Rattle.std.proofs.Common.{◌≡◌, ℕ, List, [], ◌∷◌, ◌++◌, set, refl, sym, ap, ◌∙◌, zero, suc, Some, None, option_and_then, option_map}
 use Rattle.std.specs.List.{slice_get}
 use Rattle.std.specs.Option.{option_map_or}
@@ -9,7 +9,7 @@ use Rattle.term_paths.specs.Paths.{at, set_at, set_annotations_at}
 
 -- ---- one child
 
--- where there is no child i, none is changed
+-- if there is no child i, nothing changes
 pub slice_get-set : (us : List Tree) (i : ℕ) (kid u : Tree) → slice_get us i ≡ Some kid → slice_get (set us i u) i ≡ Some u
 slice_get-set [] i kid u e = absurd (cc)
 slice_get-set (x ∷ us) zero kid u e = refl
@@ -32,7 +32,7 @@ pub with_child-with_child : (t : Tree) (i : ℕ) (u v : Tree) → with_child (wi
 with_child-with_child (integer z notes) i u v = refl
 with_child-with_child (branch head kids notes) i u v = ap (λ l. branch head (of_list l) notes) (ap (λ l. set l i v) (to_list-of_list (set (to_list kids) i u)) ∙ set-set (to_list kids) i u v)
 
--- ---- any change of the subterm at a path, of which `set_at` and `set_annotations_at` are two
+-- ---- any change of the subterm at a path; `set_at` and `set_annotations_at` are two
 
 abbrev pub changed_at : (Tree → Tree) → Tree → List ℕ → Tree
 changed_at f t [] = f t
@@ -73,7 +73,7 @@ set_at-child t kid u i p e = ap (λ o. option_map_or (λ k. with_child t i (set_
 pub set_annotations_at-child : (t kid : Tree) (notes : List Tree) (i : ℕ) (p : List ℕ) → slice_get (children t) i ≡ Some kid → set_annotations_at t (i ∷ p) notes ≡ with_child t i (set_annotations_at kid p notes)
 set_annotations_at-child t kid notes i p e = ap (λ o. option_map_or (λ k. with_child t i (set_annotations_at k p notes)) o t) e
 
--- what was changed is there
+-- the changed subterm is there
 pub at-changed_at : (f : Tree → Tree) (t old : Tree) (p : List ℕ) → at t p ≡ Some old → at (changed_at f t p) p ≡ Some (f old)
 at-changed_at f t old [] e = ap (option_map f) e
 at-changed_at f t old (i ∷ p) e =
@@ -84,7 +84,7 @@ at-changed_at f t old (i ∷ p) e =
           ∙ at-changed_at f kid old p (sym (at-child t kid i p is) ∙ e)
     ] refl
 
--- of two changes at one path only their sum shows
+-- two changes at one path amount to one
 pub changed_at-changed_at : (f g : Tree → Tree) (t : Tree) (p : List ℕ) → changed_at g (changed_at f t p) p ≡ changed_at (λ u. g (f u)) t p
 changed_at-changed_at f g t [] = refl
 changed_at-changed_at f g t (i ∷ p) =
@@ -99,7 +99,7 @@ changed_at-changed_at f g t (i ∷ p) =
           ∙ sym (changed_at-child (λ u. g (f u)) t kid i p is)
     ] refl
 
--- a change that leaves what is there leaves the tree
+-- a change that leaves the subterm unchanged leaves the tree unchanged
 pub changed_at-same : (f : Tree → Tree) (t old : Tree) (p : List ℕ) → at t p ≡ Some old → f old ≡ old → changed_at f t p ≡ t
 changed_at-same f t old [] e same = let is : t ≡ old = cc in ap f is ∙ same ∙ sym is
 changed_at-same f t old (i ∷ p) e same =
@@ -110,7 +110,7 @@ changed_at-same f t old (i ∷ p) e same =
           ∙ with_child-same t i kid is
     ] refl
 
--- where the path leads nowhere, nothing is changed
+-- if the path leads nowhere, nothing changes
 pub changed_at-nowhere : (f : Tree → Tree) (t : Tree) (p : List ℕ) → at t p ≡ None → changed_at f t p ≡ t
 changed_at-nowhere f t [] e = absurd (cc)
 changed_at-nowhere f t (i ∷ p) e =
@@ -121,7 +121,7 @@ changed_at-nowhere f t (i ∷ p) e =
           ∙ with_child-same t i kid is
     ] refl
 
--- a change at a path behind another one changes the subterm that the first leads to
+-- a change at a concatenated path changes the subterm that the first part leads to
 pub changed_at-append : (f : Tree → Tree) (t u : Tree) (p q : List ℕ) → at t p ≡ Some u → changed_at f t (p ++ q) ≡ changed_at (λ _. changed_at f u q) t p
 changed_at-append f t u [] q e = let is : t ≡ u = cc in ap (λ s. changed_at f s q) is
 changed_at-append f t u (i ∷ p) q e =

@@ -8,7 +8,7 @@ use Rattle.term_core.specs.Tree.{Tree, children, annotations, with_children, wit
 use Rattle.term_paths.specs.Paths.{at, leads, annotations_at, set_at, set_annotations_at, ChangesAt}
 use Rattle.term_paths.proofs.PathLemmas.{at-child, at-no_child, set_at-child, set_annotations_at-child, with_child-same}
 
--- ---- looking
+-- ---- reading
 
 at-drop : (here : Tree) (p : List ℕ) (i : ℕ) → i < length p → at here (drop i p) ≡ at here (get_or p i 0 ∷ drop (i + 1) p)
 at-drop here p i h = ap (at here) (drop_more p i 0 h)
@@ -24,7 +24,7 @@ at-drop_all here p i h = ap (at here) (drop_all i p h)
 
 -- ---- changing
 
--- child i of the children as they are lent
+-- child i of the children while they are lent
 pub child_read : (t d : Tree) (us : List Tree) (i : ℕ) → us ≡ children t → i < length (children t) → slice_get (children t) i ≡ Some (get_or us i d)
 child_read t d us i e h = slice_get-get_or (children t) i d h ∙ ap (λ l. Some (get_or l i d)) (sym e)
 
@@ -34,7 +34,7 @@ written t new us i e =
     let same : length (set us i new) ≡ length (children t) = length-set us i new ∙ ap length e in
     ap (with_children t) (take_at (set us i new) (drop (length (set us i new)) (children t)) (length (children t)) same ∙ ap (λ l. set l i new) e)
 
--- the path leads nowhere where there is no such child
+-- the path leads nowhere if there is no such child
 pub at-past : (t : Tree) (i : ℕ) (p rest : List ℕ) → p ≡ i ∷ rest → length (children t) ≤ i → at t p ≡ None
 at-past t i p rest e h = ap (at t) e ∙ at-no_child t i rest (slice_get_past (children t) i h)
 
@@ -65,7 +65,7 @@ pub outside_below : {X : Type 0} (t kid new : Tree) (x y : X) (us : List Tree) (
 outside_below t kid new x y us i true lent is h = tt
 outside_below t kid new x y us i false lent is h = (written t new us i lent ∙ ap (with_child t i) h.0 ∙ with_child-same t i kid is, h.1)
 
--- ---- changing by a closure
+-- ---- changing with a closure
 
 pub leads_past : (t : Tree) (i : ℕ) (p rest : List ℕ) → p ≡ i ∷ rest → length (children t) ≤ i → false ≡ leads t p
 leads_past t i p rest e h = sym (ap is_some (ap (at t) e ∙ at-no_child t i rest (slice_get_past (children t) i h)))

@@ -41,7 +41,7 @@ part_refused ds r d h parsed e = sym (part_of-none ds (OkIff-at_err r _ _ d (par
 
 -- ---- all parts
 
--- the parts before these, if there are these
+-- the parts before these, if these exist
 abbrev pub behind : List ℕ → Option (List ℕ) → Option (List ℕ)
 behind xs None = None
 behind xs (Some ys) = Some (xs ++ ys)

@@ -7,7 +7,7 @@ use Rattle.term_paths.specs.Paths.{at, leads, set_at, set_annotations_at}
 use Rattle.term_paths.specs.Laws.{SetAround, SetAroundAnnotations, SetInside, SetAnnotationsInside, LeadsAround, LeadsAroundAnnotations, BelowIsLeftByAnnotations, AnnotationsAndBelowCommute, AnnotationsBelowCommute}
 use Rattle.term_paths.proofs.PathLemmas.{changed_at, set_at-changed, set_annotations_at-changed, at-changed_at, changed_at-changed_at, changed_at-nowhere, changed_at-append, at-append}
 
--- where a path leads nowhere, those within it don't either
+-- if a path leads nowhere, neither do those within it
 nowhere_within : (t : Tree) (p q : List ℕ) → at t p ≡ None → at t (p ++ q) ≡ None
 nowhere_within t p q e = at-append t p q ∙ ap (option_and_then (λ u. at u q)) e
 
@@ -49,7 +49,7 @@ leads_around f t p q =
 
 -- ---- annotations
 
--- annotations and the children don't touch each other
+-- annotations and children are independent
 annotated_at : (t : Tree) (notes : List Tree) (q : List ℕ) (i : ℕ) → at (with_annotations t notes) (i ∷ q) ≡ at t (i ∷ q)
 annotated_at (integer z own) notes q i = refl
 annotated_at (branch head kids own) notes q i = refl

@@ -3,7 +3,7 @@ use Rattle.std.specs.Prelude.{◌≡◌, ℕ, suc, Bool, true, false, if◌then�
 use Rattle.term_core.specs.Tree.{Tree, Trees, integer, branch, none, more}
 use Rattle.term_paths.specs.Paths.{at, set_at}
 
--- the path of a subterm, and what takes its place
+-- the path of a subterm, and its replacement
 pub record Edit : Type 0 where
   pub path : List ℕ
   pub new : Tree
@@ -15,7 +15,7 @@ Edits = List Edit
 abbrev pub paths : Edits → List (List ℕ)
 paths e = map (λ x. x.path) e
 
--- the edits of the subterm at a path, seen from the root
+-- the edits of the subterm at a path, as seen from the root
 abbrev pub behind : List ℕ → Edits → Edits
 behind p e = map (λ x. record { path = p ++ x.path; new = x.new }) e
 
@@ -37,7 +37,7 @@ has_root [] = false
 has_root ([] ∷ ps) = true
 has_root ((i ∷ p) ∷ ps) = has_root ps
 
--- those that go through child i, seen from there
+-- those that go through child i, as seen from there
 abbrev pub through : ℕ → List (List ℕ) → List (List ℕ)
 through i [] = []
 through i ([] ∷ ps) = through i ps
@@ -47,15 +47,15 @@ abbrev pub kids_of : Tree → Trees
 kids_of (integer z notes) = none
 kids_of (branch head kids notes) = kids
 
--- The first tree with what the second one has at those of the paths that lie within no other one of
--- them. What else the second one has isn't looked at.
+-- The first tree with the second one's subterms at the outermost of the paths. Nothing else of the
+-- second tree is used.
 abbrev mutual
   pub with_outermost : List (List ℕ) → Tree → Tree → Tree
   with_outermost ps (integer z notes) u = if (has_root ps) then u else (integer z notes)
   with_outermost ps (branch head kids notes) u =
       if (has_root ps) then u else (branch head (all_with_outermost ps 0 kids (kids_of u)) notes)
 
-  -- so for the children from number i on
+  -- the same for the children from number i on
   pub all_with_outermost : List (List ℕ) → ℕ → Trees → Trees → Trees
   all_with_outermost ps i none us = none
   all_with_outermost ps i (more t ts) none = more t ts

@@ -24,7 +24,7 @@ parts_of [] = Some []
 parts_of (piece ∷ pieces) =
     option_and_then (λ part. option_map (λ parts. part ∷ parts) (parts_of pieces)) (part_of piece)
 
--- the parts that stand behind the first slash, with a slash between them, or none
+-- the parts after the first slash, separated by slashes, or none
 abbrev pub parts_behind_slash : List ℕ → Option (List ℕ)
 parts_behind_slash [] = Some []
 parts_behind_slash (b ∷ bs) = parts_of (slice_split is_slash (b ∷ bs))

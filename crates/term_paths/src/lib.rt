@@ -1,4 +1,4 @@
-//! Paths: places in terms, by which every layer above names a subterm, looks at it and changes it.
+//! Paths: places in terms, by which all layers above name, read and change a subterm.
 #![tactic(auto)]
 
 pub mod laws;

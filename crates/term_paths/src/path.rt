@@ -8,7 +8,7 @@ use std::marker::Model;
 use term_core::NoMemory;
 
 /// A place in a term: the numbers of the children, counted from 0, on the way from the root. Its
-/// length is the level of the subterm that it leads to. Paths don't lead into annotations.
+/// length is the level of the subterm there. Paths don't lead into annotations.
 #[derive(Drop)]
 pub struct Path {
     parts: Vec<usize>,
@@ -23,7 +23,7 @@ impl Model for Path {
 }
 
 impl Path {
-    /// The path that leads to the root. It takes no memory.
+    /// The path of the root. It takes no memory.
     pub fn root(alloc: Global) -> Path
         ensures { result ≡ [] }
     {
@@ -32,14 +32,14 @@ impl Path {
         }
     }
 
-    /// The path of these parts. It takes no memory.
+    /// The path with these parts. It takes no memory.
     pub fn from_parts(parts: Vec<usize>) -> Path
         ensures { result ≡ parts.items }
     {
         Path { parts }
     }
 
-    /// The parts, for other use. It takes no memory.
+    /// The parts, consuming the path. It takes no memory.
     pub fn into_parts(self) -> Vec<usize>
         ensures { result.items ≡ self }
     {
@@ -47,7 +47,7 @@ impl Path {
         parts
     }
 
-    /// Goes down to this child. Where a growth of memory is refused, the path stays.
+    /// Goes down to this child. If memory can't grow, the path stays the same.
     pub fn down(&mut self, part: usize) -> Result<(), NoMemory>
         ensures ok { OnOk result (self.new ≡ self.old ++ part ∷ []) }
         ensures err { OnErr result (self.new ≡ self.old) }
@@ -56,8 +56,8 @@ impl Path {
         Ok(())
     }
 
-    /// Goes up to the parent, and gives the number of the child that it comes from; `None` at the
-    /// root, and the path stays.
+    /// Goes up to the parent, and returns the number of the child it came from; at the root,
+    /// `None`.
     pub fn up(&mut self) -> Option<usize>
         ensures some { IfSome result (λ part. self.old ≡ self.new ++ part ∷ []) }
         ensures none { (result ≡ None) ↔ (self.old ≡ []) }
@@ -66,14 +66,14 @@ impl Path {
         self.parts.pop()
     }
 
-    /// The numbers of the children, from the root on.
+    /// The numbers of the children, from the root.
     pub fn parts(&self) -> &[usize]
         ensures { result.now ≡ self.now }
     {
         self.parts.as_slice()
     }
 
-    /// How many parts there are: the level of the subterm that the path leads to.
+    /// The number of parts: the level of the subterm at the path.
     pub fn len(&self) -> usize
         ensures { result ≡ length self.now }
     {
@@ -87,14 +87,14 @@ impl Path {
         self.parts.is_empty()
     }
 
-    /// Part `i`, counted from 0, or `None` where there are no more than `i`.
+    /// Part `i`, counted from 0, or `None` if there is none.
     pub fn part(&self, i: usize) -> Option<usize>
         ensures { result ≡ slice_get self.now i }
     {
         self.parts.get(i).copied()
     }
 
-    /// Whether the path lies within the other one: that is its front, or the two are equal.
+    /// Whether the path lies within the other one: that is a prefix of it, or the two are equal.
     pub fn lies_within(&self, outer: &Path) -> bool
         ensures { IsTrue result ↔ LiesWithin self.now outer.now }
     {
@@ -117,7 +117,7 @@ impl Path {
     }
 }
 
-/// Whether the path of the parts `inner` lies within that of `outer`.
+/// Whether the path with the parts `inner` lies within that of `outer`.
 pub fn parts_lie_within(inner: &[usize], outer: &[usize]) -> bool
     ensures { IsTrue result ↔ LiesWithin inner.now outer.now }
 {

@@ -1,5 +1,5 @@
-//! Subterms at paths: looking at them and changing them in place. Each call takes work by the
-//! length of the path alone, and no memory.
+//! Subterms at paths: reading them and changing them in place. The work of each call is linear in
+//! the length of the path, and none takes memory.
 
 ghost use Rattle.std.specs.Prelude.{◌≡◌, Some, option_copied};
 ghost use Rattle.std.specs.Option.{option_copied_mut};
@@ -11,7 +11,7 @@ use crate::Path;
 use std::mem;
 use term_core::Term;
 
-/// The subterm that the path leads to, or `None` where it leads nowhere.
+/// The subterm at the path, or `None` if there is none.
 pub fn at<'a>(term: &'a Term, path: &Path) -> Option<&'a Term>
     ensures { option_copied result ≡ at term.now path.now }
 {
@@ -29,8 +29,8 @@ pub fn at_parts<'a>(term: &'a Term, parts: &[usize]) -> Option<&'a Term>
     Some(here)
 }
 
-/// The subterm that the path leads to, for writing, or `None` where it leads nowhere. What a
-/// caller's proof has to know of the term afterwards, [`change_at`] and [`swap_at`] say.
+/// The subterm at the path, for writing, or `None` if there is none. The contracts of [`change_at`]
+/// and [`swap_at`] say more about the term afterwards.
 pub fn at_mut<'a>(term: &'a mut Term, path: &Path) -> Option<&'a mut Term>
     ensures { option_copied_mut result ≡ at term.old path.now }
 {
@@ -48,9 +48,9 @@ pub fn at_parts_mut<'a>(term: &'a mut Term, parts: &[usize]) -> Option<&'a mut T
     Some(here)
 }
 
-/// Changes the subterm that the path leads to by the closure, once, and keeps all else; `false`, and
-/// no change, where the path leads nowhere. Nothing is said then of what the closure captured: a
-/// caller that has to know of it takes `swap_at`.
+/// Applies the closure once to the subterm at the path, and changes nothing else; `false`, and no
+/// change, if there is no subterm. The contract doesn't say what becomes of the closure's captures:
+/// a caller that needs to know uses `swap_at`.
 pub fn change_at<F: FnOnce(&mut Term) + Drop>(term: &mut Term, path: &Path, change: F) -> bool
     requires { F.IsAlwaysCallable change }
     ensures there { result ≡ leads term.old path.now }
@@ -83,8 +83,8 @@ pub fn change_at_parts<F: FnOnce(&mut Term) + Drop>(
     change_at_parts(&mut term.children_mut()[*first], rest, change)
 }
 
-/// Changes the subterm that the path leads to for the other term, and hands the old subterm back in
-/// it; `false`, and no change, where the path leads nowhere.
+/// Swaps the subterm at the path with the other term; `false`, and no change, if there is no
+/// subterm.
 pub fn swap_at(term: &mut Term, path: &Path, other: &mut Term) -> bool
     ensures there { result ≡ leads term.old path.now }
     ensures term { OnTrue result (term.new ≡ set_at term.old path.now other.old) }
@@ -111,8 +111,8 @@ pub fn swap_at_parts(term: &mut Term, parts: &[usize], other: &mut Term) -> bool
     swap_at_parts(&mut term.children_mut()[*first], rest, other)
 }
 
-/// Changes the annotations of the subterm that the path leads to for those of the vector, and hands
-/// the old ones back in it; `false`, and no change, where the path leads nowhere.
+/// Swaps the annotations of the subterm at the path with those in the vector; `false`, and no
+/// change, if there is no subterm.
 pub fn swap_annotations_at(term: &mut Term, path: &Path, other: &mut Vec<Term>) -> bool
     ensures there { result ≡ leads term.old path.now }
     ensures term { OnTrue result

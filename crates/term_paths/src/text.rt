@@ -10,13 +10,13 @@ use std::alloc::{AllocFailed, Global};
 use std::str;
 use thiserror::Error;
 
-/// Why a text was not read as a path.
+/// Why a text wasn't read as a path.
 #[derive(Clone, Copy, Debug, PartialEq, Eq, Error)]
 pub enum PathFault {
-    /// The text spells no path.
+    /// The text is no path.
     #[error("line")]
     Line,
-    /// A growth of memory was refused.
+    /// Memory couldn't grow.
     #[error("memory")]
     Memory,
 }
@@ -33,9 +33,9 @@ impl<T: Drop> From<AllocFailed<T>> for PathFault {
 }
 
 /// The path that the text spells: `/` alone is the root, any other is a `/` and a decimal number
-/// for each part, as `/0/2`. A number is at most 4,294,967,295 and may have leading zeros.
+/// for each part, such as `/0/2`. A number is at most 4,294,967,295 and may have leading zeros.
 ///
-/// Errors: `Line` where the text spells no path; `Memory` where a growth of memory is refused.
+/// Errors: `Line` if the text is no path; `Memory` if memory can't grow.
 pub fn read_path(alloc: Global, text: &[u8]) -> Result<Path, PathFault>
     ensures path { IfOk result (λ path. path_of text.now ≡ Some path) }
     ensures line { result ≡ Err PathFault.Line → path_of text.now ≡ None }
@@ -47,7 +47,7 @@ pub fn read_path(alloc: Global, text: &[u8]) -> Result<Path, PathFault>
     }
 }
 
-// The path of numbers with slashes between them.
+// The path of numbers separated by slashes.
 fn read_parts(alloc: Global, text: &[u8]) -> Result<Path, PathFault>
     ensures path { IfOk result (λ path. parts_of (slice_split is_slash text.now) ≡ Some path) }
     ensures line { result ≡ Err PathFault.Line
@@ -63,7 +63,7 @@ fn read_parts(alloc: Global, text: &[u8]) -> Result<Path, PathFault>
     Ok(Path::from_parts(parts))
 }
 
-/// The number that decimal digits spell, as a part of a path is written: at most 4,294,967,295, leading
+/// The number that these decimal digits spell, as in a path: at most 4,294,967,295, with leading
 /// zeros allowed, and nothing but digits.
 pub fn read_number(digits: &[u8]) -> Option<usize>
     ensures { result ≡ part_of digits.now }

@@ -1,4 +1,4 @@
-//! What a term begins with where that is no bracket.
+//! Terms that begin with no bracket.
 
 ghost use Rattle.std.specs.Prelude.{◌≡◌, ◌<◌, ℕ, List, IfOk, Err, length};
 ghost use Rattle.std.specs.Prelude.{Some, None};
@@ -10,14 +10,14 @@ use crate::reader::{ReadFault, scan};
 use std::alloc::Global;
 use term_core::{Name, begins_word};
 
-/// What a term begins with that is neither a list nor a tuple: all of an integer, or a name.
+/// The start of a term that is neither a list nor a tuple: a whole integer, or a name.
 #[derive(Drop)]
 pub enum Lexeme {
     Integer(i64),
     Named(Name),
 }
 
-/// The integer or the name at the front of a text that begins with no white space, and what follows.
+/// The integer or the name at the start of a text without leading white space, and the rest.
 pub fn first_lexeme(alloc: Global, text: &[u8]) -> Result<(Lexeme, &[u8]), ReadFault>
     requires { without_blanks text.now ≡ text.now }
     ensures found { IfOk result (λ found.

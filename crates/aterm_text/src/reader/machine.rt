@@ -1,6 +1,5 @@
-//! The machine that reads a term: a state, the terms so far with the open brackets, and the rest of
-//! the text. Each step but the last takes at least one byte, and none looks at a byte before the
-//! rest.
+//! The machine that reads a term: a state, a stack of the terms so far with the open brackets, and
+//! the rest of the text. Each step but the last consumes at least one byte, and none looks back.
 
 ghost use Rattle.std.specs.Prelude.{◌≡◌, ◌<◌, ◌≤◌, ◌-◌, ℕ, List, [], IfOk, OnOk, Err, length};
 ghost use Rattle.term_core.specs.Tree.{Tree, Symbol};
@@ -25,22 +24,22 @@ pub enum State {
     Expected,
     /// An opening bracket: a term may begin, or the bracket is closed.
     Entered,
-    /// A term without annotations, which may come now. It is on top of the stack.
+    /// A term that may still get annotations. It is on top of the stack.
     Base,
     /// A term with its annotations. It is on top of the stack.
     Whole,
 }
 
-/// What a step of the machine leads to.
+/// The outcome of a step of the machine.
 #[derive(Clone, Copy)]
 pub enum Step<'a> {
     /// The next state, and the rest of the text.
     More(State, &'a [u8]),
-    /// The end of the text: the one term on the stack is what it spells.
+    /// The end of the text: it spells the one term on the stack.
     Done,
 }
 
-// Opens a bracket, where not too many are open.
+// Opens a bracket, unless too many are open.
 fn enter(stack: &mut Stack, opening: Opening) -> Result<(), ReadFault>
     ensures ok { OnOk result (stack.new ≡ inside opening [] stack.old) }
     ensures few { OnOk result (depth stack.old < MAX_NESTING) }
@@ -54,7 +53,7 @@ fn enter(stack: &mut Stack, opening: Opening) -> Result<(), ReadFault>
     Ok(())
 }
 
-// Puts a term on top, and opens the bracket of its children. It is inlined, as `expect_term` is: an
+// Pushes a term, and opens the bracket of its children. It is inlined, as `expect_term` is: an
 // opening bracket takes less work than a call.
 #[inline(always)]
 fn open(stack: &mut Stack, term: Term, opening: Opening) -> Result<(), ReadFault>
@@ -67,7 +66,7 @@ fn open(stack: &mut Stack, term: Term, opening: Opening) -> Result<(), ReadFault
     enter(stack, opening)
 }
 
-// A term has to begin.
+// A term has to begin here.
 #[inline(always)]
 fn expect_term<'a>(alloc: Global, stack: &mut Stack, text: &'a [u8]) -> Result<Step<'a>, ReadFault>
     requires { without_blanks text.now ≡ text.now }
@@ -91,7 +90,7 @@ fn expect_term<'a>(alloc: Global, stack: &mut Stack, text: &'a [u8]) -> Result<S
     expect_lexeme(alloc, stack, text)
 }
 
-// A term has to begin with no bracket.
+// A term that doesn't begin with a bracket has to begin here.
 fn expect_lexeme<'a>(
     alloc: Global,
     stack: &mut Stack,
@@ -116,7 +115,7 @@ fn expect_lexeme<'a>(
     }
 }
 
-// A name was read: a bracket that comes next holds its arguments.
+// After a name: a bracket that comes next holds its arguments.
 fn behind_name<'a>(
     alloc: Global,
     stack: &mut Stack,
@@ -144,7 +143,7 @@ fn behind_name<'a>(
     }
 }
 
-// Leaves the innermost bracket: what is in it is given to the term before it.
+// Closes the innermost bracket: its terms become parts of the term before it.
 fn close(stack: &mut Stack) -> Result<State, NoMemory>
     ensures closed { IfOk result (λ state. IsClosed stack.old state stack.new) }
     ensures depth { IfOk result (λ _. depth stack.new ≡ depth stack.old - 1) }
@@ -164,7 +163,7 @@ fn close(stack: &mut Stack) -> Result<State, NoMemory>
     }
 }
 
-// An opening bracket was read.
+// After an opening bracket.
 fn behind_opening<'a>(
     alloc: Global,
     stack: &mut Stack,
@@ -185,7 +184,7 @@ fn behind_opening<'a>(
     }
 }
 
-// A base was read: a bracket that comes next holds its annotations.
+// After a base: a bracket that comes next holds its annotations.
 fn behind_base<'a>(stack: &mut Stack, text: &'a [u8]) -> Result<Step<'a>, ReadFault>
     requires { without_blanks text.now ≡ text.now }
     ensures leads { IfOk result (λ step. Leads State.Base stack.old text.now step stack.new) }
@@ -204,7 +203,7 @@ fn behind_base<'a>(stack: &mut Stack, text: &'a [u8]) -> Result<Step<'a>, ReadFa
     }
 }
 
-// A whole term was read: a comma, the closing bracket or the end of the text comes next.
+// After a whole term: a comma, the closing bracket or the end of the text comes next.
 fn behind_whole<'a>(stack: &mut Stack, text: &'a [u8]) -> Result<Step<'a>, ReadFault>
     requires { without_blanks text.now ≡ text.now }
     ensures leads { IfOk result (λ step. Leads State.Whole stack.old text.now step stack.new) }
@@ -248,7 +247,7 @@ fn make_step<'a>(
     }
 }
 
-/// Runs the machine to its end, from a state and a stack where no bracket is open yet.
+/// Runs the machine to its end, from a state and a stack without open brackets.
 pub fn read_from(alloc: Global, stack: Stack, start: State, text: &[u8]) -> Result<Term, ReadFault>
     requires stands { (r : Reading) × Stands r [] start stack }
     requires closed { depth stack ≡ 0 }

@@ -19,24 +19,24 @@ use std::alloc::{AllocError, AllocFailed, Global};
 use term_core::{NoMemory, Term};
 use thiserror::Error;
 
-/// Why a text was not read.
+/// Why a text wasn't read.
 #[derive(Clone, Copy, Debug, PartialEq, Eq, Error)]
 pub enum ReadFault {
     /// More than 1,000 brackets are open at one place.
     #[error("deep")]
     Deep,
-    /// The text spells no term, or no annotation part.
+    /// The text is no term, or no annotation part.
     #[error("term")]
     Term,
-    /// A growth of memory was refused.
+    /// Memory couldn't grow.
     #[error("memory")]
     Memory,
 }
 
 /// The term that the text spells, by the grammar of the textual ATerm format.
 ///
-/// Errors: `Deep` where more than 1,000 brackets are open at one place, tested first; `Term` where
-/// the text spells no term; `Memory` where a growth of memory is refused.
+/// Errors: `Deep` if more than 1,000 brackets are open at one place, which is tested first; `Term`
+/// if the text is no term; `Memory` if memory can't grow.
 pub fn read(alloc: Global, text: &[u8]) -> Result<Term, ReadFault>
     ensures deep { (result ≡ Err ReadFault.Deep) ↔ (MAX_NESTING < nesting_of text.now) }
     ensures spelled { IfOk result (λ t. Spells text.now t) }
@@ -49,7 +49,7 @@ pub fn read(alloc: Global, text: &[u8]) -> Result<Term, ReadFault>
     }
 }
 
-/// The list of annotations that the text spells: an annotation part alone, with white space round
+/// The list of annotations that the text spells: a single annotation part, with white space around
 /// it. Its errors are those of [`read`].
 pub fn read_annotations(alloc: Global, text: &[u8]) -> Result<Vec<Term>, ReadFault>
     ensures deep { (result ≡ Err ReadFault.Deep) ↔ (MAX_NESTING < nesting_of text.now) }
@@ -65,7 +65,7 @@ pub fn read_annotations(alloc: Global, text: &[u8]) -> Result<Vec<Term>, ReadFau
     }
 }
 
-// The list of annotations that the text spells. A fault is given as it is met.
+// The list of annotations that the text spells. The first fault met is returned.
 fn read_alone(alloc: Global, text: &[u8]) -> Result<Vec<Term>, ReadFault>
     ensures spelled { IfOk result (λ ts. SpellsAnnotations text.now ts.items) }
     ensures only { IfOk result (λ ts.
@@ -79,7 +79,7 @@ fn read_alone(alloc: Global, text: &[u8]) -> Result<Vec<Term>, ReadFault>
     let Some(_inside) = scan::after_byte(b'{', text) else {
         return Err(ReadFault::Term);
     };
-    // What stands behind the empty list is read as its annotations.
+    // What follows the empty list is read as its annotations.
     let mut stack = Stack::new(alloc);
     stack.push(Term::list(alloc, Vec::new(alloc)))?;
     match read_from(alloc, stack, State::Base, text) {
@@ -92,7 +92,7 @@ fn read_alone(alloc: Global, text: &[u8]) -> Result<Vec<Term>, ReadFault>
     }
 }
 
-// The fault that is answered: `Deep` comes before the one that was met.
+// The fault to return: `Deep` takes precedence over the one that was met.
 fn first_fault(text: &[u8], met: ReadFault) -> ReadFault
     requires { met ≡ ReadFault.Deep → MAX_NESTING < nesting_of text.now }
     ensures deep { (result ≡ ReadFault.Deep) ↔ (MAX_NESTING < nesting_of text.now) }

@@ -9,18 +9,19 @@ use std::alloc::Global;
 use std::marker::Model;
 use term_core::NoMemory;
 
-/// An open bracket, and how many terms stand before it.
+/// An open bracket, and the number of terms before it.
 #[derive(Clone, Copy)]
 pub struct Bracket {
     pub opening: Opening,
     pub before: usize,
 }
 
-/// Brackets within one another. The innermost lies beside the others, so that one alone takes no memory.
+/// Nested open brackets. The innermost is stored apart from the others, so that a single one takes
+/// no memory.
 #[derive(Drop)]
 pub struct OpenBrackets {
     innermost: Option<Bracket>,
-    // Those around it, the outermost first.
+    // The brackets around it, the outermost first.
     others: Vec<Bracket>,
 }
 
@@ -38,7 +39,7 @@ impl Model for OpenBrackets {
 }
 
 impl OpenBrackets {
-    /// No bracket. It takes no memory.
+    /// No brackets. It takes no memory.
     pub fn new(alloc: Global) -> OpenBrackets
         ensures { result ≡ [] }
     {
@@ -48,7 +49,7 @@ impl OpenBrackets {
         }
     }
 
-    /// Opens a bracket in the innermost one.
+    /// Opens a bracket inside the innermost one.
     pub fn open(&mut self, bracket: Bracket) -> Result<(), NoMemory>
         ensures ok { OnOk result (self.new ≡ bracket ∷ self.old) }
         ensures err { OnErr result (self.new ≡ self.old) }
@@ -60,7 +61,7 @@ impl OpenBrackets {
         Ok(())
     }
 
-    /// Closes the innermost bracket, where one is open.
+    /// Closes the innermost bracket, if one is open.
     pub fn close(&mut self) -> Option<Bracket>
         ensures some { IfSome result (λ bracket. self.old ≡ bracket ∷ self.new) }
         ensures none { IfNone result ((self.old ≡ []) × (self.new ≡ [])) }
@@ -70,14 +71,14 @@ impl OpenBrackets {
         Some(closed)
     }
 
-    /// The innermost bracket, where one is open.
+    /// The innermost bracket, if one is open.
     pub fn innermost(&self) -> Option<Bracket>
         ensures { result ≡ innermost_of self.now }
     {
         self.innermost
     }
 
-    /// How many brackets are open.
+    /// The number of open brackets.
     pub fn count(&self) -> usize
         ensures { result ≡ length self.now }
     {

@@ -12,7 +12,7 @@ use std::alloc::Global;
 use std::str;
 use term_core::Name;
 
-// So many digits make no number that is out of range.
+// A number with this many digits is always in range.
 const FEW: usize = 18;
 
 /// Whether this byte is white space: a space, a tab, a line feed or a carriage return.
@@ -22,13 +22,13 @@ pub fn is_blank(b: u8) -> bool
     matches!(b, b' ' | b'\t' | b'\n' | b'\r')
 }
 
-/// The text from its first byte on that is no white space.
+/// The text without its leading white space.
 pub fn after_blanks(text: &[u8]) -> &[u8]
     ensures value { result.now ≡ without_blanks text.now }
     ensures bound { length result.now ≤ length text.now }
 {
     match text.first() {
-        // The first comparison alone tells for most bytes.
+        // The first comparison decides for most bytes.
         Some(first) if *first <= b' ' && is_blank(*first) => behind_blanks(text),
         _ => text,
     }
@@ -48,7 +48,7 @@ fn blanks_length(text: &[u8]) -> usize
     text.iter().take_while(|b| is_blank(**b)).count()
 }
 
-/// What follows this byte, where it comes first.
+/// What follows this byte, if it comes first.
 pub fn after_byte(byte: u8, text: &[u8]) -> Option<&[u8]>
     ensures some { IfSome result (λ rest. text.now ≡ byte ∷ rest.now) }
     ensures shorter { IfSome result (λ rest. length rest.now < length text.now) }
@@ -77,7 +77,7 @@ fn integer_length(text: &[u8]) -> usize
     }
 }
 
-/// The integer at the front, and what follows it.
+/// The integer at the start, and the rest.
 pub fn integer(text: &[u8]) -> Option<(i64, &[u8])>
     ensures some { IfSome result (λ found.
         IsInteger (take (integer_len text.now) text.now) found.0
@@ -108,7 +108,7 @@ fn parsed(text: &[u8]) -> Option<i64>
     }
 }
 
-// The integer of at most 18 digits alone that this text is, which is how most are written.
+// The integer that this text is, if it consists of at most 18 digits, as most do.
 fn few_digits(text: &[u8]) -> Option<i64>
     ensures { IfSome result (λ z. IsInteger text.now z) }
 {
@@ -125,7 +125,7 @@ fn few_digits(text: &[u8]) -> Option<i64>
     i64::try_from(value).ok()
 }
 
-// The byte that three octal digits stand for, and what follows them.
+// The byte that three octal digits stand for, and the rest.
 fn octal(text: &[u8]) -> Option<(u8, &[u8])>
     ensures some { IfSome result (λ found. octal_at text.now ≡ Some (found.0, found.1.now)) }
     ensures none { IfNone result (octal_at text.now ≡ None) }
@@ -138,7 +138,7 @@ fn octal(text: &[u8]) -> Option<(u8, &[u8])>
     Some((byte, rest))
 }
 
-// The byte that what follows a backslash stands for, and the text behind it.
+// The byte that an escape stands for, given what follows the backslash, and the rest.
 fn escape(text: &[u8]) -> Option<(u8, &[u8])>
     ensures some { IfSome result (λ found. escape_at text.now ≡ Some (found.0, found.1.now)) }
     ensures none { IfNone result (escape_at text.now ≡ None) }
@@ -151,7 +151,7 @@ fn escape(text: &[u8]) -> Option<(u8, &[u8])>
     }
 }
 
-// The bytes at the front that stand for themselves between quotes, and what follows them.
+// The leading bytes that stand for themselves between quotes, and the rest.
 fn first_run(text: &[u8]) -> (&[u8], &[u8])
     ensures run { result.0.now ≡ take (prefix_len is_plain text.now) text.now }
     ensures rest { result.1.now ≡ drop (prefix_len is_plain text.now) text.now }
@@ -169,7 +169,7 @@ fn run_length(text: &[u8]) -> usize
     }
 }
 
-/// The quoted name whose opening quote was read, and the text behind its closing quote.
+/// The quoted name whose opening quote was read, and the text after its closing quote.
 pub fn quoted(alloc: Global, text: &[u8]) -> Result<(Name, &[u8]), ReadFault>
     ensures found { IfOk result (λ found. found.0.is_quoted ≡ true
         × ReadsItems found.0.text text.now found.1.now) }
@@ -188,8 +188,8 @@ pub fn quoted(alloc: Global, text: &[u8]) -> Result<(Name, &[u8]), ReadFault>
     }
 }
 
-// The bytes that the items up to the closing quote stand for, and the text behind it; the first
-// `run` of them stand for themselves.
+// The bytes that the items up to the closing quote stand for, and the text after it; the first
+// `run` bytes stand for themselves.
 fn escaped(alloc: Global, text: &[u8], run: usize) -> Result<(Vec<u8>, &[u8]), ReadFault>
     requires { run ≡ prefix_len is_plain text.now }
     ensures found { IfOk result (λ found. ReadsItems found.0.items text.now found.1.now) }

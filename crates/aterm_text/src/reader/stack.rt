@@ -1,4 +1,4 @@
-//! The terms of a text that were read so far, and the brackets that are open around them.
+//! The terms of a text that were read so far, and the brackets open around them.
 #![tactic(auto, using(crate::proofs::StackLemmas::stack_parts))]
 
 ghost use Rattle.std.specs.Prelude.{◌≡◌, [], ◌≤◌, length, take, drop, IfOk, IfSome, IfNone, OnOk, OnErr, Some, None};
@@ -11,7 +11,7 @@ use std::alloc::Global;
 use std::marker::Model;
 use term_core::{NoMemory, Term};
 
-/// An opening bracket. What is in it is given to the term before it: that term's arguments or
+/// An opening bracket. What it contains becomes part of the term before it: its arguments or
 /// elements, or its annotations.
 #[derive(Clone, Copy)]
 pub enum Opening {
@@ -23,9 +23,9 @@ pub enum Opening {
     Curly,
 }
 
-/// All terms that were read, the last on top, and the brackets that are open. A closing bracket
-/// takes off the terms behind its opening one. A name, a list or a tuple stands on the stack before
-/// its bracket is opened, without children.
+/// All terms read so far, the last on top, and the open brackets. A closing bracket pops the terms
+/// after its opening one. A name, a list or a tuple is pushed without children before its bracket
+/// is opened.
 #[derive(Drop)]
 pub struct Stack {
     brackets: OpenBrackets,
@@ -47,7 +47,7 @@ impl Model for Stack {
 }
 
 impl Stack {
-    /// No term was read, and no bracket is open.
+    /// An empty stack without open brackets.
     pub fn new(alloc: Global) -> Stack
         ensures { result ≡ no_terms }
     {
@@ -57,7 +57,6 @@ impl Stack {
         }
     }
 
-    /// Puts a term on top.
     pub fn push(&mut self, term: Term) -> Result<(), NoMemory>
         ensures ok { OnOk result (self.new ≡ with_top term self.old) }
     {
@@ -73,14 +72,14 @@ impl Stack {
         self.brackets.open(Bracket { opening, before })
     }
 
-    /// How many brackets are open.
+    /// The number of open brackets.
     pub fn depth(&self) -> usize
         ensures { result ≡ depth self.now }
     {
         self.brackets.count()
     }
 
-    /// The bracket that closes the innermost one, or `None` where none is open.
+    /// The bracket that closes the innermost one, or `None` if none is open.
     pub fn closing(&self) -> Option<u8>
         ensures { result ≡ first_closing self.now }
     {
@@ -92,7 +91,7 @@ impl Stack {
         }
     }
 
-    /// Leaves the innermost bracket, and takes off the terms in it; `None` where none is open.
+    /// Closes the innermost bracket, and pops the terms in it; `None` if none is open.
     pub fn leave(&mut self) -> Result<Option<(Opening, Vec<Term>)>, NoMemory>
         ensures left { IfOk result (λ left. IfSome left (λ left.
             self.old ≡ inside left.0 left.1.items self.new)) }
@@ -106,7 +105,7 @@ impl Stack {
         Ok(Some((opening, terms)))
     }
 
-    /// Gives annotations to the term on top.
+    /// Sets the annotations of the term on top.
     pub fn annotate(&mut self, mut annotations: Vec<Term>)
         ensures top { (t : Tree) (below : Terms) → self.old ≡ with_top t below
             → self.new ≡ with_top (with_annotations t annotations.items) below }
@@ -118,7 +117,7 @@ impl Stack {
         self.terms[top].swap_annotations(&mut annotations);
     }
 
-    /// Gives children to the term on top.
+    /// Sets the children of the term on top.
     pub fn give_children(&mut self, children: Vec<Term>)
         ensures top { (t : Tree) (below : Terms) → self.old ≡ with_top t below
             → self.new ≡ with_top (with_children t children.items) below }
@@ -130,7 +129,7 @@ impl Stack {
         self.terms[top].set_children(children);
     }
 
-    /// The only term, outside of all brackets.
+    /// The only term, outside all brackets.
     pub fn into_term(self) -> Option<Term>
         ensures { (t : Tree) → self ≡ with_top t no_terms → result ≡ Some t }
     {
@@ -139,8 +138,8 @@ impl Stack {
     }
 }
 
-// Takes off the terms from this place on. For a single one, the usual case in deep texts, the
-// compiler sees how much is copied, and calls nothing for it.
+// Pops the terms from this index on. For a single one, the usual case in deep texts, the compiler
+// knows how much to copy, and needs no call.
 fn taken_from(terms: &mut Vec<Term>, before: usize) -> Result<Vec<Term>, NoMemory>
     requires { before ≤ length terms.old.items }
     ensures kept { OnOk result (terms.new.items ≡ take before terms.old.items) }

@@ -26,7 +26,7 @@ fn string(term: &Term) -> Option<&[u8]>
     }
 }
 
-/// The one integer, if it is one.
+/// The only argument, if it is an integer.
 pub fn one_integer(arguments: &[Term]) -> Option<i64>
     requires { length arguments.now ≡ 1 }
     ensures { result ≡ one integer_value arguments.now }
@@ -34,7 +34,7 @@ pub fn one_integer(arguments: &[Term]) -> Option<i64>
     integer(&arguments[0])
 }
 
-/// The two integers, if both are.
+/// The two arguments, if both are integers.
 pub fn two_integers(arguments: &[Term]) -> Option<(i64, i64)>
     requires { length arguments.now ≡ 2 }
     ensures { result ≡ two integer_value arguments.now }
@@ -45,7 +45,7 @@ pub fn two_integers(arguments: &[Term]) -> Option<(i64, i64)>
     }
 }
 
-/// The bytes of the one string, if it is one.
+/// The bytes of the only argument, if it is a string.
 pub fn one_string(arguments: &[Term]) -> Option<&[u8]>
     requires { length arguments.now ≡ 1 }
     ensures { option_copied result ≡ one string_value arguments.now }
@@ -53,7 +53,7 @@ pub fn one_string(arguments: &[Term]) -> Option<&[u8]>
     string(&arguments[0])
 }
 
-/// The bytes of the two strings, if both are.
+/// The bytes of the two arguments, if both are strings.
 pub fn two_strings(arguments: &[Term]) -> Option<(&[u8], &[u8])>
     requires { length arguments.now ≡ 2 }
     ensures some { IfSome result (λ both. two string_value arguments.now

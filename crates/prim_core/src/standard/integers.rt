@@ -19,7 +19,7 @@ pub(crate) fn integer_answer(alloc: Global, value: Option<i64>) -> Option<Term>
     }
 }
 
-/// `addi`: a + b of integers a and b, nothing out of the range of `i64`.
+/// `addi`: a + b for integers a and b; nothing if that is out of the range of `i64`.
 pub fn addi(alloc: Global, arguments: &[Term]) -> Result<Option<Term>, NoMemory>
     requires { length arguments.now ≡ 2 }
     ensures { IfOk result (λ found. found ≡ standard (codes "addi") arguments.now) }
@@ -30,7 +30,7 @@ pub fn addi(alloc: Global, arguments: &[Term]) -> Result<Option<Term>, NoMemory>
     Ok(integer_answer(alloc, a.checked_add(b)))
 }
 
-/// `subti`: a - b of integers a and b, nothing out of the range of `i64`.
+/// `subti`: a - b for integers a and b; nothing if that is out of the range of `i64`.
 pub fn subti(alloc: Global, arguments: &[Term]) -> Result<Option<Term>, NoMemory>
     requires { length arguments.now ≡ 2 }
     ensures { IfOk result (λ found. found ≡ standard (codes "subti") arguments.now) }
@@ -41,7 +41,7 @@ pub fn subti(alloc: Global, arguments: &[Term]) -> Result<Option<Term>, NoMemory
     Ok(integer_answer(alloc, a.checked_sub(b)))
 }
 
-/// `muli`: a * b of integers a and b, nothing out of the range of `i64`.
+/// `muli`: a * b for integers a and b; nothing if that is out of the range of `i64`.
 pub fn muli(alloc: Global, arguments: &[Term]) -> Result<Option<Term>, NoMemory>
     requires { length arguments.now ≡ 2 }
     ensures { IfOk result (λ found. found ≡ standard (codes "muli") arguments.now) }
@@ -52,8 +52,8 @@ pub fn muli(alloc: Global, arguments: &[Term]) -> Result<Option<Term>, NoMemory>
     Ok(integer_answer(alloc, a.checked_mul(b)))
 }
 
-/// `divi`: a / b of integers a and b, cut towards zero, nothing where b is 0 or the result is out
-/// of the range of `i64`.
+/// `divi`: a / b for integers a and b, truncated towards zero; nothing if b is 0 or the result is
+/// out of the range of `i64`.
 pub fn divi(alloc: Global, arguments: &[Term]) -> Result<Option<Term>, NoMemory>
     requires { length arguments.now ≡ 2 }
     ensures { IfOk result (λ found. found ≡ standard (codes "divi") arguments.now) }
@@ -64,7 +64,7 @@ pub fn divi(alloc: Global, arguments: &[Term]) -> Result<Option<Term>, NoMemory>
     Ok(integer_answer(alloc, a.checked_div(b)))
 }
 
-/// `gti`: the tuple (a,b) of integers a and b where a > b, else nothing.
+/// `gti`: the tuple (a,b) for integers a and b if a > b, else nothing.
 pub fn gti(alloc: Global, arguments: &[Term]) -> Result<Option<Term>, NoMemory>
     requires { length arguments.now ≡ 2 }
     ensures { IfOk result (λ found. found ≡ standard (codes "gti") arguments.now) }

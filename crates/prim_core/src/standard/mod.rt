@@ -1,5 +1,5 @@
-//! The standard primitives. The names are this project's own. The modules are public, so that a host
-//! can box a function by its name.
+//! The standard primitives. The names are this project's own. The modules are public, so that a
+//! host can box a function by its name.
 
 mod arguments;
 pub mod integers;

@@ -1,4 +1,4 @@
-//! The standard primitives, made of an operation for each.
+//! The standard primitives, given an operation for each.
 
 ghost use Rattle.std.specs.Prelude.{◌≡◌, ◌++◌, ◌∷◌, [], IfOk, OnOk};
 ghost use Rattle.prim_core.specs.Computes.{Computes};
@@ -22,8 +22,8 @@ pub struct StandardOperations<F> {
     pub string_to_int: F,
 }
 
-/// The standard primitives, made of an operation for each, to which a host can add its own. The host
-/// makes the boxes.
+/// The standard primitives, given an operation for each; a host can add its own. The host makes the
+/// boxes.
 pub fn standard_primitives<M: Meaning>(
     alloc: Global,
     operations: StandardOperations<M::Operation>,

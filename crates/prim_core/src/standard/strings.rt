@@ -14,7 +14,7 @@ use std::alloc::Global;
 use std::str;
 use term_core::{Name, NoMemory, Term};
 
-/// The greatest length in bytes of a string that `strcat` gives.
+/// The greatest length in bytes of a string that `strcat` returns.
 pub const MAX_STRING: usize = 65_536;
 
 const PLUS: u8 = b'+';
@@ -26,7 +26,7 @@ fn string(alloc: Global, bytes: &[u8]) -> Result<Term, NoMemory>
     Ok(Term::application(alloc, name, Vec::new(alloc)))
 }
 
-/// `strcat`: the string a followed by the string b, nothing where that is longer than 65,536 bytes.
+/// `strcat`: the string a followed by the string b; nothing if that is longer than 65,536 bytes.
 pub fn strcat(alloc: Global, arguments: &[Term]) -> Result<Option<Term>, NoMemory>
     requires { length arguments.now ≡ 2 }
     ensures { IfOk result (λ found. found ≡ standard (codes "strcat") arguments.now) }
@@ -43,7 +43,7 @@ pub fn strcat(alloc: Global, arguments: &[Term]) -> Result<Option<Term>, NoMemor
     Ok(Some(string(alloc, &bytes)?))
 }
 
-/// `strlen`: the number of bytes of the string a, nothing out of the range of `i64`.
+/// `strlen`: the number of bytes of the string a; nothing if that is out of the range of `i64`.
 pub fn strlen(alloc: Global, arguments: &[Term]) -> Result<Option<Term>, NoMemory>
     requires { length arguments.now ≡ 1 }
     ensures { IfOk result (λ found. found ≡ standard (codes "strlen") arguments.now) }
@@ -66,8 +66,8 @@ pub fn int_to_string(alloc: Global, arguments: &[Term]) -> Result<Option<Term>, 
     Ok(Some(string(alloc, buffer.format(value).as_bytes())?))
 }
 
-/// `string-to-int`: the integer that the string a writes, as an optional `-` and digits and nothing
-/// else; nothing where there is none, or it is out of the range of `i64`.
+/// `string-to-int`: the integer that the string a spells: an optional `-` followed by digits and
+/// nothing else; nothing if it spells none, or one out of the range of `i64`.
 pub fn string_to_int(alloc: Global, arguments: &[Term]) -> Result<Option<Term>, NoMemory>
     requires { length arguments.now ≡ 1 }
     ensures { IfOk result (λ found. found ≡ standard (codes "string-to-int") arguments.now) }
@@ -78,7 +78,7 @@ pub fn string_to_int(alloc: Global, arguments: &[Term]) -> Result<Option<Term>, 
     Ok(integer_answer(alloc, parsed(bytes)))
 }
 
-// The integer that the bytes write, if it is in range.
+// The integer that the bytes spell, if it is in range.
 fn parsed(bytes: &[u8]) -> Option<i64>
     ensures { option_map integer_term result
         ≡ option_and_then integer_in_range (integer_of bytes.now) }

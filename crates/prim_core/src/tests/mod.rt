@@ -2,8 +2,8 @@
 
 mod picking;
 
-// A wrong body that is kept makes this module part of the library, so that the closure in `picking`
-// is tried. It has no use for the table.
+// A kept wrong body makes this module part of the library, so that the closure in `picking` is
+// tried. It doesn't need the table.
 #[cfg(test)]
 mod standard;
 
@@ -14,7 +14,7 @@ use std::alloc::Global;
 use std::test::Fail;
 use term_core::Term;
 
-// The answer of the first primitive of this name that takes as many terms.
+// The answer of the first primitive with this name and number of arguments.
 fn answer<M: Meaning>(
     alloc: Global,
     primitives: &Primitives<M>,

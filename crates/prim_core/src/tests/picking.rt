@@ -1,4 +1,4 @@
-//! A host's own primitive: `pick` gives `a`, `b` or `c` for 0, 1 or 2, and nothing for any other
+//! A host's own primitive: `pick` returns `a`, `b` or `c` for 0, 1 or 2, and nothing for any other
 //! integer.
 
 ghost use Rattle.std.specs.Prelude.{◌≡◌, length, IfOk, codes};
@@ -20,7 +20,7 @@ impl Meaning for Picking {
     ghost meaning = { pick };
 }
 
-// What `pick` means, over the three terms that its closure owns.
+// The meaning of `pick`, over the three terms that its closure owns.
 fn pick(choices: &[Term], arguments: &[Term]) -> Result<Option<Term>, NoMemory>
     requires choices { choices.now ≡ three_choices }
     requires one { length arguments.now ≡ 1 }
@@ -34,7 +34,7 @@ fn pick(choices: &[Term], arguments: &[Term]) -> Result<Option<Term>, NoMemory>
     }
 }
 
-// The word of these bytes, applied to nothing.
+// The word with these bytes, applied to nothing.
 fn constant(alloc: Global, text: &[u8]) -> Result<Term, Fail>
     ensures { IfOk result (λ term. term ≡ constant text.now) }
 {

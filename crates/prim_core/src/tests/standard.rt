@@ -49,8 +49,8 @@ fn terms(alloc: Global, values: &[Value], annotated: bool) -> Result<Vec<Term>, 
     Ok(all)
 }
 
-// The primitive of this name gives what is wanted on these arguments, whatever annotations they
-// have.
+// The primitive of this name returns the expected term on these arguments, whatever their
+// annotations.
 fn expect<M: Meaning>(
     rt: &impl Abort,
     alloc: Global,
@@ -169,7 +169,7 @@ fn texts<M: Meaning>(
     )
 }
 
-// Whatever the operations are, as long as they compute what their names mean.
+// The operations are arbitrary, as long as they compute what their names mean.
 fn table<M: Meaning>(
     rt: &impl Abort,
     alloc: Global,

@@ -21,7 +21,7 @@ decreases-print_between l = 5 * heights (of_list l.terms.now) + 3
 abbrev pub decreases-print_all : goal.decreases-print_all
 decreases-print_all l = 5 * heights (of_list l.terms.now) + 2
 
--- what is printed and what is still to be printed make the whole
+-- what was printed, followed by what is yet to be printed, is the whole text
 abbrev pub invariant-print_all-loop-term : goal.invariant-print_all-loop-term
 invariant-print_all-loop-term l = record {
   text : l.initial.out.items ++ print_more (of_list l.rest) ≡ l.out.items ++ print_more (of_list (drop l.term-index l.rest));

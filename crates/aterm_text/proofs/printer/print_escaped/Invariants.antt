@@ -4,7 +4,7 @@ use Rattle.aterm_text.specs.Printed.{escaped}
 use Rattle.aterm_text.specs.Printing.{Extends}
 use Rattle.aterm_text.proofs.printer.print_escaped.Given as goal
 
--- what is printed and what is still to be printed make the whole
+-- what was printed, followed by what is yet to be printed, is the whole text
 abbrev pub invariant-loop-rest : goal.invariant-loop-rest
 invariant-loop-rest l = record {
   text : l.initial.out.items ++ flat_map escaped l.bytes ≡ l.out.items ++ flat_map escaped l.rest;

@@ -3,7 +3,7 @@ use Rattle.strategy_tokens.specs.declared.TheConstants.{MAX_TOKENS}
 use Rattle.strategy_tokens.specs.Tokens.{tokens}
 use Rattle.strategy_tokens.proofs.read.read_tokens.Given as goal
 
--- the tokens so far and those left are all
+-- the tokens so far and those of the rest are all tokens
 abbrev pub invariant-loop-first : goal.invariant-loop-first
 invariant-loop-first l = (l.found.items ++ tokens l.left ≡ tokens l.text)
     × (length l.found.items ≤ MAX_TOKENS)

@@ -5,7 +5,8 @@ use Rattle.strategy_tokens.specs.Pieces.{is_no_backslash}
 use Rattle.strategy_tokens.proofs.StringLemmas.{behind}
 use Rattle.strategy_tokens.proofs.string.unescape.Given as goal
 
--- what was read and what the rest stands for is all; the rest is empty or begins with a backslash
+-- the bytes read so far, followed by those of the rest, are all bytes; the rest is empty or begins
+-- with a backslash
 abbrev pub invariant-loop-behind : goal.invariant-loop-behind
 invariant-loop-behind l = (unescaped l.items ≡ behind l.bytes.items (unescaped l.rest))
     × (prefix_len is_no_backslash l.rest ≡ 0)

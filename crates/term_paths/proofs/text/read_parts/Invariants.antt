@@ -4,7 +4,7 @@ use Rattle.term_paths.specs.PathText.{parts_of, is_slash}
 use Rattle.term_paths.proofs.TextLemmas.{behind}
 use Rattle.term_paths.proofs.text.read_parts.Given as goal
 
--- the parts so far and those of the pieces that are left make up the parts of the text
+-- the parts so far, followed by those of the remaining pieces, are the parts of the text
 abbrev pub invariant-loop-piece : goal.invariant-loop-piece
 invariant-loop-piece l =
     parts_of (slice_split is_slash l.text)

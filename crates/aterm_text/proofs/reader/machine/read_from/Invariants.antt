@@ -4,7 +4,7 @@ use Rattle.aterm_text.specs.Depth.{depth, IsAsDeep}
 use Rattle.aterm_text.proofs.ReadLemmas.{IsUnderWay}
 use Rattle.aterm_text.proofs.reader.machine.read_from.Given as goal
 
--- what the whole text had to spell, the rest has to spell now
+-- what the whole text had to spell is what the rest has to spell now
 abbrev pub invariant-loop-stack : goal.invariant-loop-stack
 invariant-loop-stack l =
     ((r : Reading) → Stands r [] l.fn.start l.initial.stack → IsUnderWay r l.text l.state l.stack l.rest)

@@ -3,7 +3,7 @@ use Rattle.strategy_meaning.specs.Scopes.{stands_for}
 use Rattle.strategy_scopes.specs.Table.{scopes, scope_at}
 use Rattle.strategy_scopes.proofs.scopes.Scopes.named.Given as goal
 
--- the name stands for the same in the scope that was reached
+-- the name stands for the same in the scope reached so far
 abbrev pub invariant-outwards : goal.invariant-outwards
 invariant-outwards l = stands_for (scope_at (scopes l.self) l.scope) l.x ≡ stands_for (scope_at (scopes l.self) l.at) l.x
 
