@@ -1,4 +1,4 @@
--- Lemmas on commands as they are handed out, and on more bytes of them.
+-- Lemmas on commands as the splitter gives them, and on appending bytes to them.
 use Rattle.std.proofs.Common.{◌≡◌, ◌<◌, ℕ, zero, suc, Bool, true, false, List, [], ◌∷◌, ◌++◌, length, Some, None, option_map, refl, sym, ap, ◌∙◌, arith, append_assoc, append-nil, if◌then◌else◌}
 use Rattle.std.specs.declared.option.Option.{Option}
 use Rattle.std.proofs.lemmas.Bool.{ltb-true, lt-ltb}
@@ -32,7 +32,7 @@ pub length-behind_returns : (n b : ℕ) → length (behind_returns n b) ≡ suc 
 length-behind_returns zero b = refl
 length-behind_returns (suc n) b = ap suc (length-behind_returns n b)
 
--- one carriage return is added, and the others behind it
+-- one carriage return is appended, followed by the others
 pub more_return : (n left b : ℕ) (c : Option Handed) → suc n ≡ left →
     option_map (with_more (behind_returns n b)) (option_map (with_more (13 ∷ [])) c) ≡ option_map (with_more (behind_returns left b)) c
 more_return n left b None e = refl
@@ -52,7 +52,7 @@ pub too_many : (n b : ℕ) (c : Option Handed) → MAX_COMMAND < n → option_ma
 too_many n b None h = refl
 too_many n b (Some c) h = ap Some (too_many_returns n b c h)
 
--- a command that is there is too long now
+-- the pending command is now too long
 pub made_long : (is_there : Bool) (c : Handed) → (if is_there then Some long else None) ≡ option_map (λ _. long) (if is_there then Some c else None)
 made_long true c = refl
 made_long false c = refl

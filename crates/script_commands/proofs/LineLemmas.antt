@@ -1,4 +1,4 @@
--- Lemmas on the lines of a script: a line as it comes, byte after byte.
+-- Lemmas on the lines of a script: a line as it arrives, byte by byte.
 use Rattle.std.proofs.Common.{◌≡◌, ◌≤◌, ◌<◌, ◌+◌, ◌-◌, ℕ, zero, suc, Bool, true, false, not, List, [], ◌∷◌, ◌++◌, length, take, get_or, map, filter, refl, sym, ap, ◌∙◌, subst, arith, append_assoc, if◌then◌else◌}
 use Rattle.std.specs.List.{All, repeat, suffix_len, slice_split, onto_first}
 use Rattle.std.proofs.lemmas.List.{length-append, get_or_append_left, get_or-append-add}
@@ -11,7 +11,7 @@ use Rattle.script_commands.specs.Script.{is_line_feed, is_carriage_return, witho
 abbrev pub returns : ℕ → List ℕ
 returns n = repeat n (13 ∷ [])
 
--- what is kept of a line doesn't end in a carriage return, nor has it a line feed
+-- the kept part of a line neither ends with a carriage return nor contains a line feed
 pub record IsCore (core : List ℕ) : Type 0 where
   pub last : 0 < length core → is_carriage_return (get_or core (length core - 1) 0) ≡ false
   pub one_line : All (λ b. is_line_feed b ≡ false) core
@@ -34,7 +34,7 @@ one_line-returns : (n : ℕ) → All (λ b. is_line_feed b ≡ false) (returns n
 one_line-returns zero = λ k d h. absurd (omega (arith, h))
 one_line-returns (suc n) = All-cons (λ b. is_line_feed b ≡ false) 13 (returns n) refl (one_line-returns n)
 
--- one more of them, in front and behind
+-- one more of them, at the front and at the end
 returns-snoc : (n : ℕ) (x : List ℕ) → returns n ++ 13 ∷ x ≡ 13 ∷ (returns n ++ x)
 returns-snoc zero x = refl
 returns-snoc (suc n) x = ap (λ (xs : List ℕ). 13 ∷ xs) (returns-snoc n x)
@@ -60,7 +60,7 @@ core_of core n h =
     in_front : 0 < length core → is_carriage_return (get_or (core ++ returns n) (length core - 1) 0) ≡ false
     in_front some = ap is_carriage_return (get_or_append_left core (returns n) 0 (length core - 1) (omega (arith, some))) ∙ h.last some
 
--- another byte makes the carriage returns a part of the line
+-- another byte makes the carriage returns part of the line
 pub longer_core : (core : List ℕ) (n b : ℕ) → IsCore core → is_carriage_return b ≡ false → is_line_feed b ≡ false → IsCore (core ++ (returns n ++ b ∷ []))
 longer_core core n b h other_return other_feed = record {
   last = λ _. subst (λ (xs : List ℕ). is_carriage_return (get_or xs (length xs - 1) 0) ≡ false) (append_assoc core (returns n) (b ∷ [])) last;
@@ -74,7 +74,7 @@ longer_core core n b h other_return other_feed = record {
 
 -- ---- the lines
 
--- a line, if it is no comment, and others behind it
+-- a line, if it is no comment, followed by others
 abbrev pub with_line : List ℕ → List (List ℕ) → List (List ℕ)
 with_line line others = if not (is_comment line) then line ∷ others else others
 
@@ -92,7 +92,7 @@ first_piece (b ∷ y) = at (is_line_feed b) refl (first_piece y)
     at true e rest = ([], (slice_split is_line_feed y, slice_split-cons_yes is_line_feed b y e))
     at false e rest = (b ∷ rest.0, (rest.1.0, slice_split-cons_no is_line_feed b y e ∙ ap (onto_first b) rest.1.1))
 
--- what a line feed ends, without the carriage returns at its end
+-- what ends at a line feed, without the carriage returns at its end
 lines-ended : (raw core y : List ℕ) → All (λ b. is_line_feed b ≡ false) raw → without_end is_carriage_return raw ≡ core → lines (raw ++ 10 ∷ y) ≡ with_line core (lines y)
 lines-ended raw core y inner kept =
     let split : pieces (raw ++ 10 ∷ y) ≡ core ∷ pieces y =
@@ -105,7 +105,7 @@ lines-ended raw core y inner kept =
     ap (λ (ps : List (List ℕ)). filter (λ line. not (is_comment line)) (without_empty_last ps)) split
     ∙ ap (filter (λ line. not (is_comment line))) whole
 
--- a line that a line feed ends
+-- a line that ends at a line feed
 pub lines-line_feed : (core y : List ℕ) (n : ℕ) → IsCore core → lines (core ++ (returns n ++ 10 ∷ y)) ≡ with_line core (lines y)
 lines-line_feed core y n h =
     ap lines (sym (append_assoc core (returns n) (10 ∷ y)))
@@ -115,7 +115,7 @@ lines-line_feed core y n h =
 pub lines-kept : (line y : List ℕ) → All (λ b. is_line_feed b ≡ false) line → without_end is_carriage_return line ≡ line → lines (line ++ 10 ∷ y) ≡ with_line line (lines y)
 lines-kept line y inner kept = lines-ended line line y inner kept
 
--- the end of the text: what is kept of its last line
+-- the end of the text: the kept part of its last line
 abbrev pub last_line : List ℕ → List (List ℕ)
 last_line [] = []
 last_line (b ∷ core) = with_line (b ∷ core) []

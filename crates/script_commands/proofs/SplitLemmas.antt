@@ -1,4 +1,4 @@
--- The machine over bytes hands out the commands of a script.
+-- The machine over bytes gives the commands of a script.
 use Rattle.std.proofs.Common.{◌≡◌, ◌≤◌, ◌<◌, ◌+◌, ℕ, zero, suc, Bool, true, false, not, ◌==◌, ◌||◌, ◌&&◌, nat_le, List, [], ◌∷◌, ◌++◌, length, take, get_or, Some, None, is_some, option_map, map, refl, sym, ap, ◌∙◌, subst, arith, append_assoc, append-nil, add-one, if◌then◌else◌}
 use Rattle.std.specs.declared.option.Option.{Option}
 use Rattle.std.proofs.lemmas.List.{take_all}
@@ -17,7 +17,7 @@ use Rattle.script_commands.specs.Splitting.{with_more, behind_returns, one_more,
 use Rattle.script_commands.proofs.HandedLemmas.{handed_long, with_more-handed_as, with_more-append, length-behind_returns, too_many_returns}
 use Rattle.script_commands.proofs.LineLemmas.{returns, IsCore, no_core, longer_core, one_more_return, with_line, last_line, lines-line_feed, lines-end}
 
--- ---- lines, cut behind a command under way
+-- ---- lines, split after a pending command
 
 abbrev pub finished : Option Handed → Cut → List Handed
 finished None c = map handed_as c.commands
@@ -78,13 +78,13 @@ capped-begun n b = ap (λ (h : Handed). record { command = Some h; place = Kept;
     at false e = handed_long (behind_returns (suc MAX_COMMAND) b) (omega (arith, length-behind_returns (suc MAX_COMMAND) b))
         ∙ sym (handed_long (behind_returns n b) (omega (arith, length-behind_returns n b, leb-false _ _ e)))
 
--- ---- a line of which this much came
+-- ---- a line of which this much has arrived
 
 abbrev gone : Option Handed → List ℕ → ℕ → Unfinished
 gone None core n = record { command = None; place = Skipped; returns = 0 }
 gone (Some c) core n = record { command = Some (with_more (10 ∷ core) c); place = Kept; returns = capped n }
 
--- by whether it is a comment, and whether it begins a command
+-- depending on whether it is a comment, and whether it begins a command
 abbrev in_some : Bool → Bool → Option Handed → List ℕ → ℕ → Taken
 in_some true begins c core n = going (record { command = c; place = Comment; returns = 0 })
 in_some false true c core n = record { out = c; left = record { command = Some (handed_as core); place = Kept; returns = capped n } }
@@ -109,7 +109,7 @@ at_return c (k ∷ core) x n = at (k == 35) (begins_command (k ∷ core)) c
     at false false None = refl
     at false false (Some d) = ap (λ (i : ℕ). rest_of (record { command = Some (with_more (10 ∷ (k ∷ core)) d); place = Kept; returns = i }) x) (capped-suc n)
 
--- what is under way behind a line
+-- what is pending after a line
 abbrev behind_line : Option Handed → List ℕ → List ℕ → List Handed
 behind_line c [] x = rest_of (record { command = option_map (with_more (10 ∷ [])) c; place = Start; returns = 0 }) x
 behind_line c (k ∷ core) x =
@@ -198,7 +198,7 @@ behind c (k ∷ core) x ih = at (k == 35)
     at true = ih c
     at false = ap (λ (hs : List Handed). line_out (begins_command (k ∷ core)) c ++ hs) (ih _) ∙ sym (finished-line c (k ∷ core) (lines x))
 
--- The text behind what came of a line.
+-- The text after the part of a line that has arrived.
 abbrev Follows : Option Handed → List ℕ → ℕ → List ℕ → Type 0
 Follows c core n x = handed_from (in_core c core n) x ≡ finished c (cut (lines (core ++ (returns n ++ x))))
 
@@ -252,17 +252,17 @@ but_last-same : {X : Type 0} (xs : List X) → xs ≡ but_last xs → xs ≡ []
 but_last-same [] e = refl
 but_last-same (x ∷ xs) e = absurd (omega (arith, but_last-length x xs, ap length e))
 
--- ---- behind a text
+-- ---- after a text
 
 pub StandsBehind-none : StandsBehind [] [] nothing
 StandsBehind-none = record { complete = refl; rest = λ more. handed_by_bytes more }
 
--- Without a command under way none was completed.
+-- Without a pending command none was completed.
 pub none_out : (x : List ℕ) (out : List Handed) (s : Unfinished) → StandsBehind x out s → s.command ≡ None → out ≡ []
 none_out x out s b e =
     but_last-same out (b.complete ∙ but_last-map handed_as (commands x) ∙ ap but_last (sym (ap handed (append-nil x)) ∙ b.rest [] ∙ ap (λ (c : Option Handed). out ++ option_to_list c) e ∙ append-nil out))
 
--- what a byte leaves without a command under way was so before it
+-- if a byte leaves no pending command, there was none before it
 start_none : (p q r t : Bool) (c : Option Handed) (n b : ℕ) →
     (let s : Unfinished = record { command = c; place = Start; returns = n } in
     let after : Taken = if p then going (hold_return s) else
@@ -306,7 +306,7 @@ none_before Skipped c n b e = at (b == 10) e
     at true e = (e, refl)
     at false e = (e, refl)
 
--- a byte behind the text
+-- a byte after the text
 pub StandsBehind-more : (x : List ℕ) (out : List Handed) (s : Unfinished) (b : ℕ) → StandsBehind x out s → StandsBehind (x ++ b ∷ []) (out ++ option_to_list (taken s b).out) (taken s b).left
 StandsBehind-more x out s b h = record {
   complete = all (taken s b).left.command refl;
@@ -366,11 +366,11 @@ pub command_there : (o : Option Handed) → is_some o ≡ true → (c : Handed) 
 command_there None e = absurd (cc)
 command_there (Some c) e = (c, refl)
 
--- what a splitter stands for, and what it goes on with
+-- what a splitter represents, and how it continues
 pub StandsBehind-open : (x : List ℕ) (out : List Handed) (s t : Split) (left : Unfinished) → s ≡ t → left ≡ s.left → StandsBehind x out t.left → StandsBehind x out left
 StandsBehind-open x out s t left e f h = subst (StandsBehind x out) (sym f) (subst (λ (r : Split). StandsBehind x out r.left) (sym e) h)
 
--- a piece was taken to its end
+-- a piece was consumed to its end
 pub StandsBehind-all : (x bytes : List ℕ) (i : ℕ) → length bytes ≤ i → (out : List Handed) (s : Unfinished) → StandsBehind (x ++ take i bytes) out s → StandsBehind (x ++ bytes) (out ++ []) s
 StandsBehind-all x bytes i within out s h =
     subst (λ (hs : List Handed). StandsBehind (x ++ bytes) hs s) (sym (append-nil out)) (subst (λ (xs : List ℕ). StandsBehind (x ++ xs) out s) (take_all i bytes within) h)

@@ -1,4 +1,4 @@
--- A run of bytes, taken at once.
+-- A run of bytes, consumed at once.
 use Rattle.std.proofs.Common.{◌≡◌, ◌≤◌, ◌<◌, ◌+◌, ◌-◌, ℕ, zero, suc, Bool, true, false, not, ◌||◌, ◌==◌, List, [], ◌∷◌, ◌++◌, length, take, drop, get_or, Some, None, option_map, ◌⊎◌, inl, inr, refl, sym, ap, ◌∙◌, subst, arith, append_assoc, append-nil}
 use Rattle.std.specs.declared.option.Option.{Option}
 use Rattle.std.specs.Option.{option_to_list}
@@ -17,7 +17,7 @@ use Rattle.script_commands.specs.Splitting.{StandsBehind, Taken, going, with_mor
 use Rattle.script_commands.proofs.HandedLemmas.{with_more-append}
 use Rattle.script_commands.proofs.SplitLemmas.{StandsBehind-more, StandsBehind-nil}
 
--- ---- the bytes up to the first that passes a test, as a search finds it
+-- ---- the bytes before the first that passes a test, as a search finds them
 
 not_true : (b : Bool) → ¬ (b ≡ true) → b ≡ false
 not_true true other = absurd (other refl)
@@ -46,9 +46,9 @@ run_passes test x k e i within =
     let under : i < k = omega (arith, e, below) in
     ap test (get_or-take k x i 0 under) ∙ not_passes _ (prefix_len_passes (λ b. not (test b)) x i 0 below)
 
--- ---- what a run does
+-- ---- the effect of a run
 
--- Nothing is complete at these bytes, and this is under way behind them.
+-- Nothing is complete at these bytes, and this is pending after them.
 pub record Runs (s : Unfinished) (run : List ℕ) (after : Unfinished) : Type 0 where
   pub none : out_of s run ≡ []
   pub left : passed s run ≡ after
@@ -85,13 +85,13 @@ kept_run (b ∷ run) c h =
     subst (λ (after : Option Handed). Runs (kept c) (b ∷ run) (kept after)) (more_behind b run c)
     (runs_on (kept c) _ _ b run (kept_byte c b (h zero (omega arith))) (kept_run run (option_map (with_more (b ∷ [])) c) (λ i within. h (suc i) (omega (arith, within)))))
 
--- in a line of which nothing is kept
+-- in a dropped line
 dropped_run : (run : List ℕ) (s : Unfinished) → ((b : ℕ) → is_line_feed b ≡ false → taken s b ≡ going s) → NonePasses is_line_feed run → Runs s run s
 dropped_run [] s stays h = record { none = refl; left = refl }
 dropped_run (b ∷ run) s stays h =
     runs_on s s s b run (stays b (h zero (omega arith))) (dropped_run run s stays (λ i within. h (suc i) (omega (arith, within))))
 
--- ---- as the code takes it
+-- ---- as the code consumes it
 
 pub kept_taken : (s : Unfinished) (x : List ℕ) (k : ℕ) (after : Option Handed) → s.place ≡ Kept → s.returns ≡ 0 → k ≡ position_or_len ends_run x →
     after ≡ option_map (with_more (take k x)) s.command → Runs s (take k x) (record s { command = after })
@@ -111,7 +111,7 @@ dropped_taken s x k place e = dropped_run (take k x) s (λ b f. stays b f place)
     stays b f (inl comment) = rw comment (rw f refl)
     stays b f (inr skipped) = rw skipped (rw f refl)
 
--- behind a text
+-- after a text
 
 StandsBehind-run : (run x : List ℕ) (out : List Handed) (s : Unfinished) → StandsBehind x out s → StandsBehind (x ++ run) (out ++ out_of s run) (passed s run)
 StandsBehind-run [] x out s h = subst (λ (hs : List Handed). StandsBehind (x ++ []) hs s) (sym (append-nil out)) (StandsBehind-nil x out s h)
@@ -120,7 +120,7 @@ StandsBehind-run (b ∷ run) x out s h =
     (subst (λ (hs : List Handed). StandsBehind ((x ++ b ∷ []) ++ run) hs (passed s (b ∷ run))) (append_assoc out (option_to_list (taken s b).out) (out_of (taken s b).left run))
     (StandsBehind-run run (x ++ b ∷ []) (out ++ option_to_list (taken s b).out) (taken s b).left (StandsBehind-more x out s b h)))
 
--- what is left of a piece, as the code takes it
+-- the rest of a piece, as the code consumes it
 abbrev pub left_of : ℕ → List ℕ → List ℕ
 left_of i bytes = take (length bytes - i) (drop i bytes)
 

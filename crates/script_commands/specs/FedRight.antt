@@ -1,4 +1,4 @@
--- What a splitter answers to the bytes that it is fed.
+-- How a splitter answers the bytes that it is fed.
 use Rattle.std.specs.Prelude.{◌≡◌, ◌<◌, ◌≤◌, ℕ, List, [], ◌∷◌, ◌++◌, length, take, Some}
 use Rattle.script_commands.specs.declared.splitter.Fed.{Fed}
 use Rattle.script_commands.specs.declared.splitter.Fed.TheVariants.{Need, Command}
@@ -8,20 +8,20 @@ use Rattle.script_commands.specs.Handed.{Handed, text, long}
 use Rattle.script_commands.specs.Splitting.{StandsBehind}
 use Rattle.script_commands.specs.Split.{Split}
 
--- a piece that is lent, as the command that it hands out
+-- a borrowed piece, as the command that the splitter gives
 abbrev pub handed_out : Piece → Handed
 handed_out (Text bytes) = text bytes.now
 handed_out Long = long
 
--- A splitter that stood behind a text stands behind it and these bytes; and this was handed out there
--- beside what was handed out before.
+-- A splitter that had consumed a text has consumed it and these bytes; and these commands were
+-- given in addition to the earlier ones.
 abbrev pub GoesBehind : Split → Split → List ℕ → List Handed → Type 0
 GoesBehind old new bytes more =
     (x : List ℕ) (out : List Handed) → StandsBehind x out old.left
     → StandsBehind (x ++ bytes) (out ++ more) new.left
 
--- All bytes are taken and nothing is handed out; or those up to the one by which a command is complete,
--- that one included, and the command can be handed out.
+-- All bytes are consumed and no command is given; or those up to and including the one that
+-- completes a command, which is given.
 abbrev pub FedRight : Fed → Split → Split → List ℕ → Type 0
 FedRight Need old new bytes = GoesBehind old new bytes []
 FedRight (Command taken) old new bytes =

@@ -1,10 +1,10 @@
--- Commands as they are handed out.
+-- Commands as the splitter gives them.
 use Rattle.std.specs.Prelude.{◌≡◌, ℕ, List, map, Some, None, refl, if◌then◌else◌}
 use Rattle.std.specs.declared.option.Option.{Option}
 use Rattle.std.specs.Coded.{Coded, code_by, coded_option, coded_list, coded_ℕ}
 use Rattle.script_commands.specs.Script.{commands, complete, is_long}
 
--- A command as it is handed out: one of over 65,536 bytes without them.
+-- A command as the splitter gives it: one of over 65,536 bytes without its bytes.
 pub data Handed : Type 0 where
   text : List ℕ → Handed
   long : Handed
@@ -12,14 +12,14 @@ pub data Handed : Type 0 where
 abbrev pub handed_as : List ℕ → Handed
 handed_as command = if is_long command then long else text command
 
--- all commands of a script, and those that are complete whatever comes behind it
+-- all commands of a script, and those that are complete whatever follows it
 abbrev pub handed : List ℕ → List Handed
 handed x = map handed_as (commands x)
 
 abbrev pub completed : List ℕ → List Handed
 completed x = map handed_as (complete x)
 
--- ---- how the logic stores a command that is handed out: as its bytes, if there are any
+-- ---- how the logic stores such a command: as its bytes, if there are any
 
 abbrev to_bytes : Handed → Option (List ℕ)
 to_bytes (text bytes) = Some bytes

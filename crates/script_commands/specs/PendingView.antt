@@ -1,4 +1,4 @@
--- What the buffer of a command stands for.
+-- What the buffer of a command represents.
 use Rattle.std.specs.Prelude.{◌≤◌, length, Some, None, vec_capacity, if◌then◌else◌}
 use Rattle.std.specs.declared.option.Option.{Option}
 use Rattle.script_commands.specs.declared.TheConstants.{MAX_COMMAND}
@@ -9,7 +9,7 @@ use Rattle.script_commands.specs.Handed.{Handed, text, long}
 abbrev pub pending_of : Inside → Option Handed
 pending_of p = if p.is_there then Some (if p.is_long then long else text p.bytes.items) else None
 
--- There is room for the longest command, and no more is kept.
+-- There is room for the longest command, and no more is stored.
 pub record HasRoom (p : Inside) : Type 0 where
   pub room : MAX_COMMAND ≤ vec_capacity p.bytes
   pub within : length p.bytes.items ≤ MAX_COMMAND

@@ -13,12 +13,12 @@ is_carriage_return b = b == 13
 abbrev pub without_end : (ℕ → Bool) → List ℕ → List ℕ
 without_end p bytes = take (length bytes - suffix_len p bytes) bytes
 
--- What stands between the line feeds of a text, and behind the last one, each without the run of
--- carriage returns at its end.
+-- The parts of a text between line feeds, and after the last one, each without the run of carriage
+-- returns at its end.
 abbrev pub pieces : List ℕ → List (List ℕ)
 pieces text = map (without_end is_carriage_return) (slice_split is_line_feed text)
 
--- an empty last piece is no line
+-- an empty last part is no line
 abbrev pub without_empty_last : List (List ℕ) → List (List ℕ)
 without_empty_last [] = []
 without_empty_last ([] ∷ []) = []
@@ -34,13 +34,13 @@ is_comment (b ∷ bytes) = b == 35
 abbrev pub lines : List ℕ → List (List ℕ)
 lines text = filter (λ line. not (is_comment line)) (without_empty_last (pieces text))
 
--- A line that is not empty and begins with neither a space nor a tab begins a command. Any other goes
--- on with the command before it.
+-- A line that is not empty and begins with neither a space nor a tab begins a command. Any other
+-- continues the command before it.
 abbrev pub begins_command : List ℕ → Bool
 begins_command [] = false
 begins_command (b ∷ bytes) = not (b == 32) && not (b == 9)
 
--- Lines, cut into commands: what goes on with a command before them, each of these lines behind a
+-- Lines, split into commands: the continuation of an earlier command, each of its lines after a
 -- line feed, and the commands that they begin.
 pub record Cut : Type 0 where
   pub going_on : List ℕ
@@ -54,7 +54,7 @@ cut (line ∷ lines) =
     then record { going_on = []; commands = (line ++ rest.going_on) ∷ rest.commands }
     else record { going_on = 10 ∷ line ++ rest.going_on; commands = rest.commands }
 
--- The commands of a text. Lines that go on before the first command are dropped.
+-- The commands of a text. Continuation lines before the first command are dropped.
 abbrev pub commands : List ℕ → List (List ℕ)
 commands text = (cut (lines text)).commands
 
@@ -64,7 +64,7 @@ but_last [] = []
 but_last (x ∷ []) = []
 but_last (x ∷ (y ∷ ys)) = x ∷ but_last (y ∷ ys)
 
--- The commands of a text that are complete, whatever comes behind it: all but the last.
+-- The commands of a text that are complete, whatever follows it: all but the last.
 abbrev pub complete : List ℕ → List (List ℕ)
 complete text = but_last (commands text)
 

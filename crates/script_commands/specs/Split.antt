@@ -1,4 +1,4 @@
--- What a splitter stands for.
+-- What a splitter represents.
 use Rattle.std.specs.Prelude.{◌≡◌, ℕ, Bool, true, false, Some, None, refl}
 use Rattle.std.specs.declared.option.Option.{Option}
 use Rattle.std.specs.Coded.{Coded, code_by, coded×, coded_option, coded_bool, coded_ℕ}
@@ -9,13 +9,13 @@ use Rattle.script_commands.specs.declared.splitter.Begun.{Begun}
 use Rattle.script_commands.specs.Handed.{Handed, handed_code}
 use Rattle.script_commands.specs.Splitting.{begun}
 
--- The command that can be handed out, if one can, which behind a `Need` is the one under way; and what is
--- under way.
+-- The complete command, if there is one, which after a `Need` is the pending one; and what is
+-- pending.
 pub record Split : Type 0 where
   pub to_hand_out : Option Handed
   pub left : Unfinished
 
--- What is under way behind a command that was completed, if one was.
+-- What is pending after a command was completed, if one was.
 abbrev pub left_behind : Unfinished → Option Begun → Unfinished
 left_behind s None = s
 left_behind s (Some line) = begun line.returns line.byte
@@ -23,7 +23,7 @@ left_behind s (Some line) = begun line.returns line.byte
 abbrev pub split_of : Unfinished → Option Begun → Split
 split_of s line = record { to_hand_out = s.command; left = left_behind s line }
 
--- ---- how the logic stores it: as a tuple of its parts
+-- ---- how the logic stores it: as a tuple of its fields
 
 abbrev to_bits : Place → Bool × Bool
 to_bits Start = (false, false)

@@ -1,5 +1,5 @@
--- A script that is cut while its bytes come: what is under way, and what is handed out at a byte. The
--- code equals this machine, which gives the commands of the script: see `StandsBehind`.
+-- Splitting a script as its bytes arrive: what is pending, and what each byte completes. The code
+-- equals this machine, which gives the commands of the script: see `StandsBehind`.
 use Rattle.std.specs.Prelude.{◌≡◌, ℕ, suc, Bool, ◌==◌, ◌&&◌, ◌||◌, nat_le, List, [], ◌∷◌, ◌++◌, Some, None, option_map, if◌then◌else◌}
 use Rattle.std.specs.declared.option.Option.{Option}
 use Rattle.std.specs.List.{repeat}
@@ -19,7 +19,7 @@ with_more (b ∷ more) long = long
 abbrev pub nothing : Unfinished
 nothing = record { command = None; place = Start; returns = 0 }
 
--- What a byte does: perhaps a command is complete, and what is under way then.
+-- The effect of a byte: perhaps a command is complete, and what is then pending.
 pub record Taken : Type 0 where
   pub out : Option Handed
   pub left : Unfinished
@@ -27,19 +27,19 @@ pub record Taken : Type 0 where
 abbrev pub going : Unfinished → Taken
 going s = record { out = None; left = s }
 
--- One more carriage return is held back. Over 65,536 of them aren't told apart, since what they belong
--- to is too long in any case.
+-- One more carriage return is held back. Over 65,536 of them aren't distinguished, since what they
+-- belong to is too long in any case.
 abbrev pub one_more : ℕ → ℕ
 one_more n = if nat_le n MAX_COMMAND then suc n else n
 
 abbrev pub hold_return : Unfinished → Unfinished
 hold_return s = record { command = s.command; place = s.place; returns = one_more s.returns }
 
--- a byte behind carriage returns that were held back
+-- a byte after carriage returns that were held back
 abbrev pub behind_returns : ℕ → ℕ → List ℕ
 behind_returns n b = repeat n (13 ∷ []) ++ b ∷ []
 
--- the line goes on with the command before it, if there is one
+-- the line continues the command before it, if there is one
 abbrev pub gone_on : ℕ → Option Handed → Unfinished
 gone_on b None = record { command = None; place = Skipped; returns = 0 }
 gone_on b (Some c) = record { command = Some (with_more (10 ∷ (b ∷ [])) c); place = Kept; returns = 0 }
@@ -71,7 +71,7 @@ in_line s b =
       returns = 0;
     })
 
--- a byte in a line of which nothing is kept
+-- a byte in a dropped line
 abbrev pub in_dropped : Unfinished → ℕ → Taken
 in_dropped s b =
     if b == 10 then going (record { command = s.command; place = Start; returns = 0 }) else going s
@@ -89,23 +89,23 @@ taken s b = taken_at s.place s b
 abbrev pub ends_run : ℕ → Bool
 ends_run b = b == 10 || b == 13
 
--- what is handed out of what is under way and the bytes behind it, up to the end
+-- what is given for what is pending and the bytes after it, up to the end
 abbrev pub rest_of : Unfinished → List ℕ → List Handed
 rest_of s [] = option_to_list s.command
 rest_of s (b ∷ bytes) = option_to_list (taken s b).out ++ rest_of (taken s b).left bytes
 
--- what is handed out at these bytes
+-- what is given at these bytes
 abbrev pub out_of : Unfinished → List ℕ → List Handed
 out_of s [] = []
 out_of s (b ∷ bytes) = option_to_list (taken s b).out ++ out_of (taken s b).left bytes
 
--- what is under way behind these bytes
+-- what is pending after these bytes
 abbrev pub passed : Unfinished → List ℕ → Unfinished
 passed s [] = s
 passed s (b ∷ bytes) = passed (taken s b).left bytes
 
--- What is under way stands behind the text x, of which these were handed out: those that are
--- complete; and whatever comes behind x, the others are its rest.
+-- What is pending after the text x, for which these commands were given: exactly those that are
+-- complete; and whatever follows x, the other commands come from what is pending and the rest.
 pub record StandsBehind (x : List ℕ) (out : List Handed) (s : Unfinished) : Type 0 where
   pub complete : out ≡ completed x
   pub rest : (more : List ℕ) → handed (x ++ more) ≡ out ++ rest_of s more

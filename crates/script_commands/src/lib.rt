@@ -1,4 +1,4 @@
-//! The commands of a script, cut out of its bytes as they come.
+//! The commands of a script, split off its bytes as they arrive.
 #![tactic(auto)]
 
 mod pending;

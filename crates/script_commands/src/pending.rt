@@ -1,4 +1,4 @@
-//! The command under way, in a buffer that never grows.
+//! The pending command, in a buffer that never grows.
 
 ghost use Rattle.std.specs.Prelude.{◌≡◌, ◌∷◌, [], IfOk, true, Some, None, option_map, is_some};
 ghost use Rattle.script_commands.specs.Handed.{handed_as, text};
@@ -11,7 +11,8 @@ use std::alloc::Global;
 use std::marker::Model;
 use term_core::NoMemory;
 
-/// The command under way, if there is one. Of one that is too long no more than 65,536 bytes are kept.
+/// The pending command, if there is one. Of a command that is too long at most 65,536 bytes are
+/// stored.
 #[derive(Drop)]
 pub struct Pending {
     bytes: Vec<u8>,
@@ -36,7 +37,7 @@ impl Model for Pending {
 }
 
 impl Pending {
-    /// No command. It takes the memory for the longest.
+    /// No command. It takes the memory for the longest one.
     pub fn new(alloc: Global) -> Result<Pending, NoMemory>
         ensures { IfOk result (λ pending. pending ≡ None) }
     {
@@ -48,14 +49,14 @@ impl Pending {
         })
     }
 
-    /// Whether there is a command.
+    /// Whether a command is pending.
     pub fn is_there(&self) -> bool
         ensures { result ≡ is_some self.now }
     {
         self.is_there
     }
 
-    /// The bytes of the command that is there, or that it is too long.
+    /// The bytes of the pending command, or that it is too long.
     pub fn piece(&self) -> Piece<'_>
         requires { is_some self.now ≡ true }
         ensures { self.now ≡ Some (handed_out result) }
@@ -66,7 +67,7 @@ impl Pending {
         Piece::Text(&self.bytes)
     }
 
-    /// Begins a command with so many carriage returns and another byte.
+    /// Begins a command with `returns` carriage returns and another byte.
     pub fn begin(&mut self, returns: usize, byte: u8)
         ensures { self.new ≡ Some (handed_as (behind_returns returns byte)) }
     {
@@ -76,7 +77,7 @@ impl Pending {
         self.add_behind(returns, byte);
     }
 
-    /// Adds so many carriage returns and another byte to the command that is there.
+    /// Appends `returns` carriage returns and another byte to the pending command.
     pub fn add_behind(&mut self, returns: usize, byte: u8)
         ensures { self.new ≡ option_map (with_more (behind_returns returns byte)) self.old }
     {
@@ -92,7 +93,7 @@ impl Pending {
         self.add(byte);
     }
 
-    /// Adds a byte to the command that is there.
+    /// Appends a byte to the pending command.
     pub fn add(&mut self, byte: u8)
         ensures { self.new ≡ option_map (with_more (byte ∷ [])) self.old }
     {
@@ -103,7 +104,7 @@ impl Pending {
         self.bytes.push_reserved(byte);
     }
 
-    /// Adds bytes to the command that is there.
+    /// Appends bytes to the pending command.
     pub fn add_all(&mut self, bytes: &[u8])
         ensures { self.new ≡ option_map (with_more bytes.now) self.old }
     {

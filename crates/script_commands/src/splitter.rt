@@ -1,8 +1,8 @@
-//! Commands, cut out of a script as its bytes come.
+//! Commands, split off a script as its bytes arrive.
 //!
-//! A line ends at LF or at the end of the input, and the run of CR at its end is dropped. A line that
-//! begins with `#` is a comment. A line that is empty or begins with a space or a tab goes on with the
-//! command before it, any other begins a command.
+//! A line ends at LF or at the end of the input, and the run of CR at its end is dropped. A line
+//! that begins with `#` is a comment. A line that is empty or begins with a space or a tab
+//! continues the command before it, any other begins a command.
 
 ghost use Rattle.std.specs.Prelude.{◌≡◌, ◌≤◌, ◌++◌, [], List, length, take, ℕ, IfOk, IfSome, IfNone, Some, None, is_some, option_map, true};
 ghost use Rattle.script_commands.specs.Handed.{Handed, handed};
@@ -25,50 +25,50 @@ use term_core::NoMemory;
 pub enum Piece<'a> {
     /// Its bytes, at most 65,536.
     Text(&'a [u8]),
-    /// It has more bytes, which weren't kept.
+    /// It is longer, and its bytes weren't kept.
     Long,
 }
 
-/// What a splitter made of the bytes that it was fed.
+/// What a splitter did with the bytes that it was fed.
 #[derive(Clone, Copy, Debug, PartialEq, Eq)]
 pub enum Fed {
-    /// All were taken, and no command is complete.
+    /// All bytes were consumed, and no command is complete.
     Need,
-    /// So many were taken, and a command is complete. The others are to be fed again.
+    /// This many bytes were consumed, and a command is complete. The others have to be fed again.
     Command(usize),
 }
 
-/// Where in a line the next byte stands.
+/// Where in a line the next byte is.
 #[derive(Clone, Copy)]
 pub enum Place {
-    /// At its start: no byte came but carriage returns.
+    /// At the start: only carriage returns came.
     Start,
     /// In a line of the command.
     Kept,
     /// In a comment.
     Comment,
-    /// In a line before the first command, which is dropped.
+    /// In a continuation line before the first command, which is dropped.
     Skipped,
 }
 
-/// The first bytes of a line by which the command before it is complete: so many carriage returns, and
-/// another byte.
+/// The first bytes of a line that completes the command before it: a number of carriage returns,
+/// and another byte.
 #[derive(Clone, Copy)]
 pub struct Begun {
     returns: usize,
     byte: u8,
 }
 
-/// What is under way between two bytes.
+/// What is pending between two bytes.
 #[derive(Drop)]
 pub struct Unfinished {
     command: Pending,
     place: Place,
-    // Carriage returns that are dropped where the line ends.
+    // Carriage returns that are dropped if the line ends.
     returns: usize,
 }
 
-/// Cuts a script into commands while its bytes come. It keeps one command at a time.
+/// Splits a script into commands as its bytes arrive. It stores one command at a time.
 #[derive(Drop)]
 pub struct Splitter {
     open: Unfinished,
@@ -86,8 +86,8 @@ impl Model for Splitter {
 }
 
 impl Splitter {
-    /// A splitter that was fed nothing. It takes the memory for the longest command, and no other call
-    /// takes any.
+    /// A splitter that was fed nothing. It takes the memory for the longest command, and no other
+    /// call takes any.
     pub fn new(alloc: Global) -> Result<Splitter, NoMemory>
         ensures { IfOk result (λ splitter. StandsBehind [] [] splitter.left) }
     {
@@ -102,7 +102,7 @@ impl Splitter {
         })
     }
 
-    /// Takes bytes up to the first by which a command is complete, that one included, or all.
+    /// Consumes bytes up to and including the first one that completes a command, or all.
     pub fn feed(&mut self, bytes: &[u8]) -> Fed
         ensures { FedRight result self.old self.new bytes.now }
     {
@@ -124,7 +124,7 @@ impl Splitter {
         Fed::Need
     }
 
-    /// Ends the script, and tells whether a last command can be handed out. Nothing is to be fed after it.
+    /// Ends the script, and returns whether there is a last command. Nothing may be fed afterwards.
     pub fn finish(&mut self) -> bool
         ensures ready { result ≡ is_some self.new.to_hand_out }
         ensures all { (x : List ℕ) (out : List Handed) → StandsBehind x out self.old.left
@@ -135,7 +135,7 @@ impl Splitter {
         self.open.command.is_there()
     }
 
-    /// The command that can be handed out.
+    /// The complete command.
     pub fn command(&self) -> Piece<'_>
         requires { is_some self.now.to_hand_out ≡ true }
         ensures { self.now.to_hand_out ≡ Some (handed_out result) }
@@ -145,7 +145,7 @@ impl Splitter {
 }
 
 impl Unfinished {
-    // Drops the command that was handed out, where one was, for what was begun behind it.
+    // Drops the complete command, if there is one, in favour of what was begun after it.
     fn go_on_behind(&mut self, line: Option<Begun>)
         ensures { self.new ≡ left_behind self.old line }
     {
@@ -163,7 +163,8 @@ impl Unfinished {
         self.returns = 0;
     }
 
-    // Takes the bytes up to the next that can change more than the command, and answers how many.
+    // Consumes the bytes before the next one that can change more than the command, and returns
+    // their number.
     fn take_run(&mut self, bytes: &[u8]) -> usize
         ensures within { result ≤ length bytes.now }
         ensures none { out_of self.old (take result bytes.now) ≡ [] }
@@ -183,8 +184,8 @@ impl Unfinished {
         }
     }
 
-    // Takes a byte. Where it completes the command that is there, it answers what begins behind it, and
-    // the command stays.
+    // Consumes a byte. If it completes the pending command, returns what begins after it; the
+    // command stays.
     fn take(&mut self, byte: u8) -> Option<Begun>
         ensures goes { IfNone result (taken self.old byte ≡ going self.new) }
         ensures completes { IfSome result (λ line. taken self.old byte
@@ -236,7 +237,7 @@ impl Unfinished {
         }
     }
 
-    // A line that begins with a space or a tab goes on with the command, if there is one.
+    // A line that begins with a space or a tab continues the command, if there is one.
     fn go_on(&mut self, byte: u8)
         ensures { self.new ≡ gone_on byte self.old.command }
     {
@@ -288,7 +289,7 @@ impl Unfinished {
     }
 }
 
-// How many bytes of a line of the command stand before the next line feed or carriage return.
+// The number of bytes of a line of the command before the next line feed or carriage return.
 fn kept_len(bytes: &[u8]) -> usize
     ensures value { result ≡ position_or_len ends_run bytes.now }
     ensures within { result ≤ length bytes.now }
@@ -299,7 +300,7 @@ fn kept_len(bytes: &[u8]) -> usize
     }
 }
 
-// How many bytes of a line that is dropped stand before its line feed.
+// The number of bytes of a dropped line before its line feed.
 fn dropped_len(bytes: &[u8]) -> usize
     ensures value { result ≡ position_or_len is_line_feed bytes.now }
     ensures within { result ≤ length bytes.now }

@@ -1,4 +1,4 @@
-//! Rows in which strategies are applied, in pieces of 1, 2 and 4,096 bytes.
+//! Rows that apply strategies, in pieces of 1, 2 and 4,096 bytes.
 
 use crate::pieces::expect_table;
 use std::test::Fail;
@@ -249,7 +249,7 @@ fn applies_strategies(rt: HostRuntime) -> Result<(), Fail> {
 const SIGNATURE: &[u8] =
     b"module sig signature constructors\n  A : t B : t Z : t S : t -> t G : t -> t\n  F : t * t -> t D : t * t -> t Plus : t * t -> t\n";
 
-// Each script stands behind the module above, which is answered too.
+// Each script follows the module above, which is answered too.
 const WITH_CONSTRUCTORS: &str = r#"
 tree t F(A,A)
 apply t do (F(!B(), id); !A(); fail) <+ F(id, !B())

@@ -1,4 +1,4 @@
-//! Runs of scripts, by rows, and between readers and writers that fail. The crate holds tests alone, so
+//! Runs of scripts, by rows, and with readers and writers that fail. The crate holds only tests, so
 //! that what answers scripts is proved once and not again with its tests.
 #![tactic(auto)]
 

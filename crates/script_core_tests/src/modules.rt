@@ -192,8 +192,8 @@ fn answers_rows_with_modules(rt: HostRuntime) -> Result<(), Fail> {
 const FIRST: &[u8] =
     b"module l signature constructors A : t D : t -> t strategies h(s|x) = s h2(s,r) = s\n";
 
-// Behind the first module the command that gives the text of each line, and the refusal with its fault. A line
-// that begins with `//` is a note.
+// After the first module, the command that gives the text of each line, and the refusal with its
+// fault. A line that begins with `//` is a note.
 fn told(alloc: Global, table: &str) -> Result<(Vec<u8>, Vec<u8>), Fail> {
     let mut script = Vec::from_slice(alloc, FIRST)?;
     let mut answers = Vec::from_slice(alloc, b"ok\n")?;
@@ -328,7 +328,7 @@ strategies f = ?D(C()){E()} ;; undeclared C 0 0
 strategies f = !x@C() ;; wild x 0 0
 "#;
 
-// Of two faults in a module the one that comes first is told.
+// Of two faults in a module the first is reported.
 #[test]
 fn tells_the_first_fault(rt: HostRuntime) -> Result<(), Fail> {
     let (script, answers) = told(rt.alloc(), FIRST_FAULTS)?;
@@ -405,14 +405,15 @@ ok
 ok
 "#;
 
-// Modules are looked at in byte order of their names. What is hidden, or has the name of something of
-// another kind, is no fault.
+// Modules are checked in byte order of their names. Hiding a name, or using one of another kind, is
+// no fault.
 #[test]
 fn looks_at_modules_in_order(rt: HostRuntime) -> Result<(), Fail> {
     expect_table(&rt, rt.alloc(), b"", 7, IN_ORDER)
 }
 
-// 4,000 tokens are the most of a text, before it is parsed; a name that a fault tells may be long.
+// A text has at most 4,000 tokens, which is tested before it is parsed; a name in a fault may be
+// long.
 #[test]
 fn bounds_texts(rt: HostRuntime) -> Result<(), Fail> {
     let table: [(&[u8], u8, usize, &[u8], u64); 5] = [

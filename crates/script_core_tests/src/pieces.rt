@@ -1,4 +1,4 @@
-//! A run over a script that is read in pieces of a given size.
+//! Running a script that is read in pieces of a given size.
 
 ghost use Rattle.session_steps.specs.Steps.{AreSteps};
 
@@ -10,7 +10,7 @@ use std::io::{self, Error, ErrorKind, Read};
 use std::process::Abort;
 use std::test::Fail;
 
-/// Gives at most so many bytes at a time, and at its end fails where that is wanted.
+/// Gives at most this many bytes at a time, and optionally fails at its end.
 #[derive(Drop)]
 pub struct PieceReader<'a> {
     pub rest: &'a [u8],
@@ -51,7 +51,7 @@ pub fn ends(accepted: u64, refused: u64) -> Outcome {
     Ok(Summary { accepted, refused })
 }
 
-/// Whether a run of a new session over the reader answers this and ends so.
+/// Whether a run of a new session over the reader gives these answers and ends like this.
 pub fn is_answered(
     alloc: Global,
     reader: PieceReader<'_>,
@@ -66,7 +66,7 @@ pub fn is_answered(
     ended == outcome && sink.bytes() == answers
 }
 
-/// The same, in pieces of 1, 2 and 4,096 bytes, of a reader that doesn't fail.
+/// The same in pieces of 1, 2 and 4,096 bytes, with a reader that doesn't fail.
 pub fn is_row(
     alloc: Global,
     script: &[u8],
@@ -87,7 +87,8 @@ pub fn is_row(
     Ok(true)
 }
 
-/// Each script of the table gives these answers, with so many commands accepted and refused.
+/// Each script of the table gives these answers, with these numbers of commands accepted and
+/// refused.
 pub fn expect_rows(
     rt: &impl Abort,
     alloc: Global,
@@ -103,9 +104,10 @@ pub fn expect_rows(
     Ok(())
 }
 
-/// The rows of a table, so many, each behind the front. A table is one text, since the check of a literal takes long where it has
-/// many values: between rows stands `%`; a row is a script, a line `= 4 0` of how many commands are accepted and refused, the front's
-/// among them, and the answers.
+/// The `count` rows of a table, each after the front. A table is one text, since the check of a
+/// literal takes long if it has many values: rows are separated by `%`; a row is a script, a line
+/// `= 4 0` with the numbers of commands accepted and refused, including the front's, and the
+/// answers.
 pub fn expect_table(
     rt: &impl Abort,
     alloc: Global,
@@ -136,7 +138,7 @@ fn is_told(alloc: Global, front: &[u8], row: &str) -> Result<bool, Fail> {
     )
 }
 
-// The script, but for the line feed at its end, the two numbers and the answers.
+// The script without the line feed at its end, the two numbers and the answers.
 fn parts_of(row: &str) -> Option<(&str, u64, u64, &str)> {
     let row = row.strip_prefix("\n")?;
     let (script, row) = row.split_once("\n= ")?;

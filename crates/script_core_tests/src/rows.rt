@@ -363,7 +363,8 @@ fn answers_more_rows(rt: HostRuntime) -> Result<(), Fail> {
     expect_table(&rt, rt.alloc(), b"", 13, MORE)
 }
 
-// Rows of bytes that no text has, of carriage returns, and of commands without a line feed at their end.
+// Rows of bytes that no text has, of carriage returns, and of commands without a line feed at their
+// end.
 #[test]
 fn answers_rows_of_any_bytes(rt: HostRuntime) -> Result<(), Fail> {
     let table: [(&[u8], &[u8], u64, u64); 8] = [
@@ -409,7 +410,7 @@ fn answers_rows_of_any_bytes(rt: HostRuntime) -> Result<(), Fail> {
     expect_rows(&rt, rt.alloc(), &table)
 }
 
-// With `stop` nothing is answered behind the first refusal.
+// With `stop` nothing after the first refusal is answered.
 #[test]
 fn stops_at_a_refusal(rt: HostRuntime) -> Result<(), Fail> {
     let table: [(&[u8], &[u8], u64, u64); 3] = [
@@ -434,7 +435,7 @@ fn stops_at_a_refusal(rt: HostRuntime) -> Result<(), Fail> {
     Ok(())
 }
 
-// The front, a byte so often, and the end.
+// The front, `count` copies of a byte, and the end.
 fn with_run(
     alloc: Global,
     front: &[u8],
@@ -503,7 +504,7 @@ fn bounds_commands(rt: HostRuntime) -> Result<(), Fail> {
     Ok(())
 }
 
-// The command with so many opening brackets, a text and so many closing brackets.
+// The command with this many opening brackets, a text and as many closing brackets.
 fn bracketed(alloc: Global, front: &[u8], inner: &[u8], closing: usize) -> Result<Vec<u8>, Fail> {
     let mut script = with_run(alloc, front, b'[', 1000, inner)?;
     for _ in 0..closing {
@@ -512,7 +513,7 @@ fn bracketed(alloc: Global, front: &[u8], inner: &[u8], closing: usize) -> Resul
     Ok(script)
 }
 
-// 1,000 open brackets are the most, and a tree of height 1,000 the highest, which is kept and shown.
+// 1,000 brackets may be open, and a tree may have height 1,000: it is kept and shown.
 #[test]
 fn bounds_depth(rt: HostRuntime) -> Result<(), Fail> {
     let table: [(&[u8], &[u8], usize, &[u8], u64, u64); 4] = [

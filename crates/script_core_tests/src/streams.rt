@@ -9,8 +9,8 @@ use std::cell::Cell;
 use std::io::{self, Error, ErrorKind, Read, Write};
 use std::test::Fail;
 
-// Every front of a script with joined lines and a comment, behind which the reader fails: the first
-// command is complete when the first byte of the next has come.
+// Every prefix of a script with joined lines and a comment, after which the reader fails: the first
+// command is complete once the first byte of the next has come.
 #[test]
 fn answers_complete_commands_before_a_read_fault(rt: HostRuntime) -> Result<(), Fail> {
     let script: &[u8] = b"tree t f(\n  a)\n# note\n\nshow t\n";
@@ -53,7 +53,7 @@ fn stops_before_a_read_fault(rt: HostRuntime) -> Result<(), Fail> {
     Ok(())
 }
 
-// Takes at most two bytes a write, and where it has no more room it fails or takes none.
+// Takes at most two bytes per write; without room it fails or takes none.
 #[derive(Drop)]
 struct NarrowWriter<'a> {
     held: &'a mut Vec<u8>,
@@ -77,7 +77,7 @@ impl Write for NarrowWriter<'_> {
     }
 }
 
-// How a run into the writer ends: with so many failures of the writer, or with a fault.
+// How a run into the writer ends: with this many failures of the writer, or with a fault.
 fn ends_into(
     alloc: Global,
     session: &mut Session<NoPrimitives>,
@@ -91,8 +91,8 @@ fn ends_into(
     }
 }
 
-// How many steps the session has after a run whose writer has so much room, whether the writer holds the
-// front of the answers, and how the run ended.
+// The number of steps of the session after a run whose writer has this much room, whether the
+// writer holds a prefix of the answers, and how the run ended.
 fn steps_behind(alloc: Global, room: usize, fails: bool) -> (u64, bool, Result<u64, RunFault>) {
     let mut session = new_session(alloc);
     let mut held = Vec::new(alloc);
@@ -108,7 +108,7 @@ fn steps_behind(alloc: Global, room: usize, fails: bool) -> (u64, bool, Result<u
     (past, is_front, ended)
 }
 
-// The session is the one behind the command whose answer couldn't be written whole.
+// The session is the one after the command whose answer couldn't be written whole.
 #[test]
 fn breaks_off_at_a_write_fault(rt: HostRuntime) -> Result<(), Fail> {
     for fails in [true, false] {
@@ -123,18 +123,18 @@ fn breaks_off_at_a_write_fault(rt: HostRuntime) -> Result<(), Fail> {
     Ok(())
 }
 
-// What a reader and a writer that belong together have seen.
+// What a reader and a writer that belong together have recorded.
 #[derive(Drop)]
 struct Order {
     written: Cell<usize>,
     flushed: Cell<usize>,
     reads: Cell<usize>,
-    // whether before each read the answers to all commands were flushed that were complete by then
+    // whether before each read the answers to all commands complete by then were flushed
     is_kept: Cell<bool>,
 }
 
-// So many bytes of answers are due before this read, of a byte each: a command is complete with the first
-// byte of the next.
+// The number of bytes of answers due before this read, if each answer has one byte: a command is
+// complete with the first byte of the next.
 fn due_before(read: usize) -> usize {
     match read {
         0..=9 => 0,
@@ -144,7 +144,7 @@ fn due_before(read: usize) -> usize {
     }
 }
 
-// A byte at a time, as somebody who types.
+// One byte at a time, like somebody who types.
 #[derive(Drop)]
 struct TypedReader<'a> {
     rest: &'a [u8],
@@ -250,7 +250,7 @@ impl Read for InterruptedReader<'_> {
     }
 }
 
-// Its flush fails where that is wanted.
+// Its flush fails if it is told to.
 #[derive(Drop)]
 struct InterruptedWriter<'a> {
     held: &'a mut Vec<u8>,
@@ -273,7 +273,7 @@ impl Write for InterruptedWriter<'_> {
     }
 }
 
-// How a run between an interrupted reader and this writer ends, and how often a read failed.
+// How a run with an interrupted reader and this writer ends, and how often a read failed.
 fn ends_between(alloc: Global, writer: InterruptedWriter<'_>) -> (Outcome, u64) {
     let mut session = new_session(alloc);
     let mut source = Counted::new(InterruptedReader {
@@ -285,7 +285,7 @@ fn ends_between(alloc: Global, writer: InterruptedWriter<'_>) -> (Outcome, u64) 
     (ended, source.failures())
 }
 
-// Whether a run between an interrupted reader and writer ends so and has written this.
+// Whether a run with an interrupted reader and writer ends like this and wrote these answers.
 fn is_tried_again(alloc: Global, flush_fails: bool, answers: &[u8], outcome: Outcome) -> bool {
     let mut held = Vec::new(alloc);
     let writer = InterruptedWriter {
@@ -297,7 +297,7 @@ fn is_tried_again(alloc: Global, flush_fails: bool, answers: &[u8], outcome: Out
     ended == outcome && held.as_slice() == answers && failures == 0
 }
 
-// Interrupted reads and writes are tried again and don't count as failures; a flush that fails does.
+// Interrupted reads and writes are retried and don't count as failures; a flush that fails does.
 #[test]
 fn tries_again_and_flushes(rt: HostRuntime) -> Result<(), Fail> {
     assert!(rt; is_tried_again(rt.alloc(), false, b"ok\na\n", ends(2, 0)));

@@ -1,4 +1,4 @@
-//! The calls of a session, with ample memory: what a row of them is answered, and what is left.
+//! The calls of a session, with ample memory: the answers to a row of them, and what they leave.
 
 ghost use Rattle.std.specs.Prelude.{◌<◌, length};
 ghost use Rattle.session_steps.specs.Unfolded.{IsPlaced, AddsEntries};
@@ -17,7 +17,7 @@ use term_paths::Path;
 #[derive(Clone, Copy)]
 enum Call<'a> {
     Set(&'a [u8], i64),
-    // Lists in lists, as high as told.
+    // Nested lists of this height.
     SetLists(&'a [u8], u32),
     Copy(&'a [u8], &'a [u8]),
     Drop(&'a [u8]),
@@ -180,14 +180,15 @@ fn is_answered_and_left(
     Ok(is_so && session.counts() == counts)
 }
 
-// A new session, in a box, which is dropped by a call: the drop of a session itself is proved anew in
-// each function that holds one.
+// A new session, in a box, which is dropped by a call: the drop of a session itself is proved anew
+// in each function that holds one.
 fn new_session(alloc: Global) -> Result<Box<Session<NoPrimitives>>, Fail> {
     let session = Session::new(alloc, Primitives::new(Vec::new(alloc)));
     Ok(Box::new(alloc, session)?)
 }
 
-// Whether the calls are answered so, in a new session, and leave this dump and these counts.
+// Whether a new session gives these answers to the calls, and is left with this dump and these
+// counts.
 fn is_row(
     alloc: Global,
     calls: &[(Call<'_>, u8)],
@@ -276,7 +277,8 @@ fn groups(rt: HostRuntime) -> Result<(), Fail> {
     Ok(())
 }
 
-// A group without a change is no step, and leaves what can be redone; one that is abandoned too.
+// A group without a change is no step, and leaves what can be redone; so does one that is
+// abandoned.
 #[test]
 fn groups_after_undo(rt: HostRuntime) -> Result<(), Fail> {
     let calls = [
@@ -429,7 +431,7 @@ fn refusals_have_numbers_and_words(rt: HostRuntime) -> Result<(), Fail> {
     Ok(())
 }
 
-// Takes a tree out of its slot, and refuses behind that where it is told to.
+// Takes a tree out of its slot, and then refuses if it is told to.
 fn clear_slot(store: &mut Store, log: &mut Log, slot: usize, refuses: bool) -> Result<(), Refusal>
     requires { slot < length store.old.trees }
     ensures { AddsEntries store.old log.old store.new log.new }
@@ -449,7 +451,7 @@ fn clear(timeline: &mut Timeline, slot: usize, refuses: bool) -> Result<(), Refu
     timeline.change_by(|store, log| clear_slot(store, log, slot, refuses))
 }
 
-// Whether a slot is cleared by one change, as a step, and stays where the change is refused.
+// Whether a slot is cleared by one change, as a step, and stays unchanged if the change is refused.
 fn clears_a_slot(alloc: Global, timeline: &mut Timeline) -> Result<bool, Fail>
     requires { IsPlaced timeline.old }
 {
@@ -464,7 +466,7 @@ fn clears_a_slot(alloc: Global, timeline: &mut Timeline) -> Result<bool, Fail>
     Ok(refused == 14 && stays && done == 0 && gone)
 }
 
-// A function that holds a timeline has one way out, since each is checked to drop it.
+// A function that holds a timeline has one way out, since each way out is checked to drop it.
 fn changes_by_a_closure(alloc: Global) -> Result<bool, Fail> {
     let mut timeline = Timeline::new(alloc);
     clears_a_slot(alloc, &mut timeline)

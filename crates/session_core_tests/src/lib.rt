@@ -1,5 +1,5 @@
-//! The calls of a session, by rows. The crate holds tests alone, so that sessions are proved once and not again
-//! with their tests.
+//! The calls of a session, by rows. The crate holds only tests, so that sessions are proved once
+//! and not again with their tests.
 #![tactic(auto)]
 
 #[cfg(test)]

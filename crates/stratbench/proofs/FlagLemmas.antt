@@ -1,4 +1,4 @@
--- What the walk over the words makes of a flag.
+-- How the walk over the words treats a flag.
 use Rattle.std.proofs.Common.{◌≡◌, ◌⊎◌, ◌∙◌, ◌++◌, ap, refl, sym, subst, inl, inr, Bool, true, false, ℕ, zero, suc, List, [], ◌∷◌, Option, Some, None, codes, is_some, slice_get, cond}
 use Rattle.std.specs.Prelude.{⊤, ◌||◌, ◌&&◌, option_and_then, ◌==◌, not, drop, encode_utf8, find, fold, length}
 use Rattle.std.specs.Option.{option_map_or}
@@ -49,15 +49,15 @@ module _ (flag : Text) where
   abbrev default_row : Row
   default_row = record { id = flag; values = codes "false" ∷ []; count = None; source = Some DefaultValue; reading = AsWritten }
 
-  -- a row of the flag is its own
+  -- a row of the flag is its own row
   own_one : (r : Row) → r.id ≡ flag → own (r ∷ []) ≡ r ∷ []
   own_one r is = ap (λ (b : Bool). cond b (r ∷ []) []) (ap (λ (id : Text). bytes_eq id flag) is ∙ itself)
 
-  -- while the words are walked over, the flag has no row or the one that a use gives
+  -- while the words are walked over, the flag has no row, or the one that a use gives
   abbrev Good : List Row → Type 0
   Good rows = (own rows ≡ []) ⊎ (own rows ≡ given_row ∷ [])
 
-  -- a change of another's row
+  -- a change of another argument's row
   at_other : (id : Text) (change : Row → List Row) (missing rows : List Row) → bytes_eq id flag ≡ false
       → ((r : Row) → bytes_eq r.id flag ≡ false → own (change r) ≡ []) → own missing ≡ []
       → own (at_row id change missing rows) ≡ own rows
@@ -72,7 +72,7 @@ module _ (flag : Text) where
           filter-append is_own (change r) rs ∙ ap (λ (l : List Row). l ++ own rs) (changed r no) ∙ sym (ap (λ (b : Bool). cond b (r ∷ own rs) (own rs)) no)
       go false e rest = ap (λ (l : List Row). cond (is_own r) (r ∷ l) l) rest
 
-  -- a change of the flag's row, where it has none
+  -- a change of the flag's row, if it has none
   at_none : (change : Row → List Row) (missing rows : List Row) → own rows ≡ [] → at_row flag change missing rows ≡ rows ++ missing
   at_none change missing [] none = refl
   at_none change missing (r ∷ rs) none = go (is_own r) none (λ rest. at_none change missing rs rest)
@@ -82,7 +82,7 @@ module _ (flag : Text) where
       go true e rec = cc
       go false e rec = ap (λ (l : List Row). r ∷ l) (rec e)
 
-  -- taking away the flag's only row
+  -- removing the flag's only row
   without_one : (s : Row) (rows : List Row) → own rows ≡ s ∷ [] → own (without flag rows) ≡ []
   without_one s [] one = cc
   without_one s (r ∷ rs) one = go (is_own r) refl one (λ rest. without_one s rs rest)
@@ -106,7 +106,7 @@ module _ (flag : Text) where
   same_own old new same (inl none) = inl (same ∙ none)
   same_own old new same (inr one) = inr (same ∙ one)
 
-  -- values of another
+  -- values of another argument
   values_other : (id : Text) (how : Reading) (s : ValueSource) (values : List Text) (rows : List Row) → bytes_eq id flag ≡ false
       → own (with_values id how s values rows) ≡ own rows
   values_other id how s values rows other =
@@ -116,7 +116,7 @@ module _ (flag : Text) where
   without_other : (id : Text) (rows : List Row) → bytes_eq id flag ≡ false → own (without id rows) ≡ own rows
   without_other id rows other = at_other id (λ _. []) [] rows other (λ r no. refl) refl
 
-  -- a use of another
+  -- a use of another argument
   other_used : (id : Text) (how : Reading) (values : List Text) (rows : List Row) → bytes_eq id flag ≡ false → Good rows
       → Good (with_values id how CommandLine values (without id rows))
   other_used id how values rows other good =
@@ -124,7 +124,7 @@ module _ (flag : Text) where
 
   -- ---- the arguments of the command line
 
-  -- the flag takes no value and has no place among the words; and a use keeps the rows as they are to be
+  -- the flag takes no value and has no position among the words; and a use keeps the rows valid
   record Fits (a : Rule) : Type 0 where
     takes : takes_values a ≡ true → bytes_eq a.id flag ≡ false
     placed : is_some a.index ≡ true → bytes_eq a.id flag ≡ false
@@ -191,7 +191,7 @@ module _ (flag : Text) where
   other_given a rows [] other = refl
   other_given a rows (v ∷ vs) other = values_other a.id (reading_by a) DefaultValue (v ∷ vs) rows other
 
-  -- the default of another
+  -- the default of another argument
   other_default : (a : Rule) (rows : List Row) → bytes_eq a.id flag ≡ false → own (with_default rows a) ≡ own rows
   other_default a rows other = go (has_row a.id rows)
     where
@@ -449,7 +449,7 @@ module _ (flag : Text) where
     walk_holds : (names : Names) (words : List Text) → Holds (walk rules names nothing_held words).held
     walk_holds names words = (fold_walks names (walk_from nothing_held) words ((inl refl, tt), tt)).0
 
-    -- Where it is read by the text of its row, the flag is read as it was given.
+    -- If it is read by the text of its row, the flag is read as it was given.
     flag_is_given : ((rows : List Row) → Good rows → IsSettled (fold with_default rows rules)) → (words : List Text) (found : Bool) → (one_of flag (given words) ≡ Some (codes "true") → found ≡ true)
         → (one_of flag (given words) ≡ Some (codes "false") → found ≡ false) → found ≡ is_given flag (given words)
     flag_is_given settles words found set unset =
@@ -509,7 +509,7 @@ library_settles rows good =
     settled_default library (with_index 2 (filled help_rule)) fourth refl
     (settled_default library file_rule third refl (settled_default library (flag_rule (codes "stop")) second refl (settled_default library steps_rule first refl is)))
 
--- whether a flag was given, in the words of `clap`
+-- whether a flag was given, in the terms of `clap`
 abbrev IsReadAsGiven : Text → Type 0
 IsReadAsGiven flag = (words : List Text) (found : Bool) → (one_of flag (given words) ≡ Some (codes "true") → found ≡ true)
     → (one_of flag (given words) ≡ Some (codes "false") → found ≡ false) → found ≡ is_given flag (given words)

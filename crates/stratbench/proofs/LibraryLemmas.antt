@@ -1,4 +1,4 @@
--- What the command of the library comes to.
+-- The effect of the library's command.
 use Rattle.std.proofs.Common.{◌≡◌, ◌≤◌, ◌<◌, ◌+◌, ◌-◌, ◌⊎◌, ℕ, Bool, true, false, List, [], ◌∷◌, ◌++◌, Option, Some, None, Ok, Err, inl, inr, refl, sym, ap, ◌∙◌, subst, codes, length, take, arith, append-nil, length-append}
 use Rattle.std.specs.Prelude.{count_by, is_ok, MatchResult}
 use Rattle.std.specs.Io.KnownBytes.{Consumes, IsAtEnd}
@@ -32,7 +32,7 @@ sets_module = refl
 
 -- ---- its reply
 
--- The library is loaded; or the history stays.
+-- The library is loaded, or the history is unchanged.
 abbrev LoadsOrStays : ℕ → History → History → Type 0
 LoadsOrStays accepted h g = ((accepted ≡ 1) × LoadsLibrary h g) ⊎ ((accepted ≡ 0) × (g ≡ h))
 
@@ -67,7 +67,7 @@ read_whole : (left : Option (List ℕ)) (script : List ℕ) → Consumes (Some L
 read_whole None script read end = absurd read
 read_whole (Some rest) script read end = sym (read ∙ ap (λ (l : List ℕ). script ++ l) end ∙ append-nil script)
 
--- A run that answers all loads it, or leaves the history.
+-- A run that answers everything loads it, or leaves the history unchanged.
 of_answers : (meaning : Meaning) (h g : History) (given left old new : Option (List ℕ)) (accepted refused : ℕ) → given ≡ Some LIBRARY.now → Answers false (ReplyInRun meaning MAX_STEPS) h g given left old new accepted refused →
     LoadsOrStays accepted h g
 of_answers meaning h g given left old new accepted refused is a = of_end a.end
@@ -112,7 +112,7 @@ not_so_long meaning h g given left old new is a = go left a.part (subst (λ (it 
         let count : length LIBRARY.now ≡ 466 = refl in
         omega (arith, whole, long, count)
 
--- A run that ends with a fault leaves the history, where neither reads nor writes fail.
+-- A run that ends with a fault leaves the history unchanged, if neither reads nor writes fail.
 pub stays_at_fault : (meaning : Meaning) (h g : History) (given left old new : Option (List ℕ)) (fault : RunFault) → given ≡ Some LIBRARY.now → (fault ≡ Read → ⊥) → (fault ≡ Write → ⊥) →
     (fault ≡ Turns → AnswersPart false (ReplyInRun meaning MAX_STEPS) h g given left old new MAX_READS) → (fault ≡ Memory → g ≡ h) → g ≡ h
 stays_at_fault meaning h g given left old new Read is read write turns memory = absurd (read refl)

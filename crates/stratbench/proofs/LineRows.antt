@@ -1,4 +1,4 @@
--- The command line at words that are written out.
+-- The command line, computed on given words.
 use Rattle.std.proofs.Common.{◌≡◌, Bool, true, false, List, [], ◌∷◌, Option, Some, None, codes, refl}
 use Rattle.clap.specs.Words.{Kinds, Text, fault_of, first_of, one_of}
 use Rattle.clap.specs.Takes.{is_given}

@@ -4,11 +4,12 @@ use Rattle.session_steps.specs.History.{History}
 use Rattle.session_steps.specs.Step.{ComesTo, set_module}
 use Rattle.stratbench.specs.declared.library.TheConstants.{LIBRARY}
 
--- The text of the module: the command without its two words, the blanks behind them and the line feed at its
--- end.
+-- The text of the module: the command without its two words, the blanks after them and the line
+-- feed at its end.
 abbrev pub library_text : List ℕ
 library_text = drop 16 (take (length LIBRARY.now - 1) LIBRARY.now)
 
--- The module `library` is set to this text, by the step of the session that sets a module.
+-- The text of the module `library` is set to this one, by the step of the session that sets a
+-- module.
 abbrev pub LoadsLibrary : History → History → Type 0
 LoadsLibrary h g = ComesTo (set_module (codes "library") library_text) h (Ok g)

@@ -1,4 +1,5 @@
--- The command line, in the words of `clap`: `--library`, `--steps N`, `--stop` and the name of a file.
+-- The command line, in the terms of `clap`: `--library`, `--steps N`, `--stop` and the name of a
+-- file.
 use Rattle.std.specs.Prelude.{◌≡◌, ℕ, List, [], ◌∷◌, codes, pos, Some}
 use Rattle.std.specs.Str.Parse.{IsNumeral, digits_value, without_leading_plus}
 use Rattle.session_steps.specs.Steps.{AreSteps}
@@ -6,7 +7,7 @@ use Rattle.clap.specs.Words.{App, Row, Rule, Text, matches_of, new_app, new_rule
 use Rattle.clap.specs.declared.builder.action.ArgAction.TheVariants.{SetTrue}
 use Rattle.clap.specs.declared.builder.value_parser.ValueParser.TheVariants.{Signed}
 
--- a number from 1 to 1,000,000, and 100,000 where none is given
+-- a number from 1 to 1,000,000, and 100,000 if none is given
 abbrev pub steps_option : Rule
 steps_option = record (new_rule (codes "steps")) {
   long = Some (codes "steps");
@@ -27,11 +28,11 @@ line =
     with_rule (with_rule (with_rule (with_rule (new_app (codes "stratbench")) (flag_of (codes "library"))) steps_option)
     (flag_of (codes "stop"))) file_name
 
--- what the words give for each of them, the program's name first
+-- the values of the words for each of them, the program's name first
 abbrev pub given : List Text → List Row
 given words = matches_of line words
 
--- n is the number that a text spells, where that is a number of steps
+-- n is the number that a text spells, if that is a number of steps
 abbrev pub IsNumberIfSteps : List ℕ → ℕ → Type 0
 IsNumberIfSteps text n =
     let digits = without_leading_plus text in

@@ -11,10 +11,10 @@ use session_core::MAX_STEPS;
 use std::alloc::{AllocError, Global};
 use std::convert::AsStr;
 
-/// The budget of a command that names none, where the command line names none either.
+/// The budget of a command that names none, if the command line names none either.
 pub const DEFAULT_STEPS: u32 = 100_000;
 
-// Two examples of use, which stand at the end of the text of help.
+// Two examples of use, for the end of the help text.
 const EXAMPLES: &str = "Examples:
   stratbench --library simplify.txt      runs a script that applies definitions of the library
   stratbench --steps 1000 --stop <FILE   runs standard input up to the first refused command";
@@ -26,7 +26,7 @@ pub struct CommandLine<'a> {
     pub library: bool,
     /// The budget of commands that name none, from 1 to 1,000,000.
     pub steps: u32,
-    /// Whether the run ends behind the first command that is refused.
+    /// Whether the run ends after the first refused command.
     pub stop: bool,
     /// The file that the script is read from, or none for standard input.
     pub file: Option<&'a str>,
@@ -34,11 +34,11 @@ pub struct CommandLine<'a> {
 
 /// Reads the command line, the program's name first: `[--library] [--steps N] [--stop] [FILE]`.
 ///
-/// Errors: those of `clap`, among them the text of help that was asked for, and want of memory.
+/// Errors: those of `clap`, which include a request for the help text and want of memory.
 pub fn arguments<'a, S: AsStr>(alloc: Global, words: &'a [S]) -> Result<CommandLine<'a>, Error>
     ensures steps { IfOk result (λ arguments. AreSteps arguments.steps) }
 
-    // What `clap` finds for this command line in the words, by the names of its arguments.
+    // What `clap` finds in the words for this command line, by the names of its arguments.
     ensures number { IfOk result (λ arguments. (text : List ℕ)
         → one_of (codes "steps") (given (map S.text words.now)) ≡ Some text
         → IsNumberIfSteps text arguments.steps) }
@@ -49,8 +49,8 @@ pub fn arguments<'a, S: AsStr>(alloc: Global, words: &'a [S]) -> Result<CommandL
     ensures stop { IfOk result (λ arguments. arguments.stop
         ≡ is_given (codes "stop") (given (map S.text words.now))) }
 
-    // Words are refused for what `clap` finds wrong with them, or for want of memory, and taken only
-    // where it finds nothing.
+    // Words are refused for the reason that `clap` finds, or for want of memory, and accepted only
+    // if it finds none.
     ensures refused { FailsBy (fault_of line (map S.text words.now)) result }
 {
     let matches = command(alloc)?.try_get_matches_from(words)?;
@@ -95,7 +95,7 @@ fn command<'a>(alloc: Global) -> Result<Command<'a>, AllocError>
         .arg(file)
 }
 
-// The number of steps, which the parser holds in its range.
+// The number of steps, which the parser keeps in range.
 fn steps(matches: &ArgMatches<'_>) -> u32
     ensures within { AreSteps result }
     ensures number { (text : List ℕ) → one_text (found_of matches.now) (codes "steps") ≡ Some text

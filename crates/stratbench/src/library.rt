@@ -8,7 +8,7 @@ use script_core::{Bytes, Failed, RunFault, Settings, Sink, Summary, run};
 use session_core::{MAX_STEPS, Session};
 use std::alloc::Global;
 
-/// The command that loads the library. Its definitions have the names and meanings that they have in the
+/// The command that loads the library. Its definitions have the names and meanings of the
 /// Stratego/XT manual.
 pub const LIBRARY: &[u8] = b"module library
  strategies
@@ -27,7 +27,7 @@ pub const LIBRARY: &[u8] = b"module library
   map(s) = [] <+ [s | map(s)]
 ";
 
-// Where the answer goes, which is shown nowhere: it takes all bytes and keeps none, so no write fails.
+// The sink for the answer, which isn't shown: it takes all bytes and keeps none, so no write fails.
 #[derive(Drop)]
 struct Unseen;
 
@@ -49,11 +49,11 @@ impl Sink for Unseen {
     }
 }
 
-/// Loads the library, as the first step of a new session: runs the command of `LIBRARY`. Its answer is shown
-/// nowhere.
+/// Loads the library as the first step of a new session, by running the command of `LIBRARY`. Its
+/// answer isn't shown.
 ///
-/// Errors: `Memory` where the command isn't accepted, since only want of memory can refuse it on a new
-/// session. The session is as before then.
+/// Errors: `Memory` if the command isn't accepted, since only want of memory can refuse it on a new
+/// session. The session is then unchanged.
 pub fn load_library<M: Meaning>(alloc: Global, session: &mut Session<M>) -> Result<(), RunFault>
     ensures loaded { OnOk result (LoadsLibrary session.old session.new) }
     ensures refused { OnErr result (session.new ≡ session.old) }

@@ -27,14 +27,14 @@ use std::fs::File;
 use std::io::{self, BufWriter, Read, Write};
 use std::process::ExitCode;
 
-// The exit status where the command line is refused.
+// The exit status if the command line is refused.
 const REFUSED: u8 = 2;
 
 fn main(rt: HostRuntime) -> ExitCode {
     ExitCode::from(start(&rt))
 }
 
-// Reads the command line and runs the script. Answers the exit status.
+// Reads the command line and runs the script. Returns the exit status.
 fn start(rt: &HostRuntime) -> u8 {
     match words(rt) {
         Ok(words) => start_with(rt, &words),
@@ -60,7 +60,7 @@ fn words(rt: &HostRuntime) -> io::Result<Vec<String>> {
     Ok(env::args(rt)?.collect(rt.alloc())?)
 }
 
-// Prints the text of help, or why the command line is refused.
+// Prints the help text, or why the command line is refused.
 fn refuse(rt: &HostRuntime, error: &Error) -> u8 {
     if error.kind() == ErrorKind::OutOfMemory {
         return report(rt, Err(RunFault::Memory));
@@ -77,7 +77,7 @@ fn report(rt: &HostRuntime, outcome: Result<Summary, RunFault>) -> u8 {
     status(&outcome)
 }
 
-// Runs a new session, which has the standard primitives, over the script.
+// Runs a new session with the standard primitives over the script.
 fn run_script(rt: &HostRuntime, line: &CommandLine<'_>) -> Result<Summary, RunFault>
     requires { AreSteps line.now.steps }
 {
@@ -109,7 +109,7 @@ fn run_standard(
     Ok(run_with::<Standard>(rt, line, operations))
 }
 
-// Whatever the operations are, as long as they compute what their names mean.
+// The operations are arbitrary, as long as they compute what their names mean.
 fn run_with<M: Meaning>(
     rt: &HostRuntime,
     line: &CommandLine<'_>,
@@ -128,7 +128,7 @@ fn run_with<M: Meaning>(
     run_session(rt, line, &mut session)
 }
 
-// Runs the session over the file, or over standard input where none is named.
+// Runs the session over the file, or over standard input if no file is named.
 fn run_session<M: Meaning>(
     rt: &HostRuntime,
     line: &CommandLine<'_>,

@@ -1,11 +1,11 @@
-//! What the end of a run means for who started the program.
+//! The exit status for the outcome of a run.
 
 ghost use Rattle.std.specs.Prelude.{◌≡◌};
 ghost use Rattle.stratbench.specs.Status.{status_of};
 
 use script_core::{RunFault, Summary};
 
-/// The exit status for the end of a run: 0 where all commands were accepted, 1 where some were
+/// The exit status for the outcome of a run: 0 if all commands were accepted, 1 if some were
 /// refused, 3 for a fault of reading or writing or the bound on reads, 4 for want of memory.
 pub fn status(outcome: &Result<Summary, RunFault>) -> u8
     ensures { result ≡ status_of outcome.now }

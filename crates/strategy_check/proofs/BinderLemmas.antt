@@ -1,4 +1,4 @@
--- The binders that are kept, and the map of their numbers.
+-- Stored binders, and the map of their numbers.
 use Rattle.std.proofs.Common.{◌≡◌, ℕ, zero, suc, add-one, ◌+◌, ◌-◌, ◌<◌, Bool, true, false, cond, List, [], ◌∷◌, ◌++◌, length, length-append, reverse, map, drop, slice_get, Option, Some, None, is_some, IsSome, ◌↔◌, refl, sym, ap, ◌∙◌, subst, arith}
 use Rattle.std.specs.Prelude.{option_to_list, if◌then◌else◌}
 use Rattle.std.specs.Option.{option_flatten}
@@ -10,7 +10,7 @@ use Rattle.strategy_check.specs.declared.binders.Entry.{Entry}
 use Rattle.strategy_check.specs.Binders.{Binder, number_of, bound_from}
 use Rattle.strategy_check.specs.BinderView.{Numbers, number_in, binder_of, binders_of, Hides, IsKept}
 
--- the innermost stands first
+-- the innermost comes first
 pub binders_of-last : (es : List Entry) (e : Entry) → binders_of (es ++ e ∷ []) ≡ binder_of e ∷ binders_of es
 binders_of-last es e = ap (map binder_of) (reverse-append es (e ∷ []))
 
@@ -52,7 +52,7 @@ module _ (m n : Numbers) (es : List Entry) (e : Entry) (k : Symbol) where
     by f true t = hides.0 ∙ ap (λ x. number_of x (binders_of es)) (same_name-true e.name f t)
     by f false t = inside f ∙ ap (λ b. if b then Some e.number else number_of f (binders_of es)) t
 
--- the last of a list that ends in it
+-- the last element of a list that ends with it
 slice_get-last : {X : Type 0} (xs : List X) (x : X) → slice_get (xs ++ x ∷ []) (length xs) ≡ Some x
 slice_get-last [] x = refl
 slice_get-last (y ∷ xs) x = slice_get-last xs x

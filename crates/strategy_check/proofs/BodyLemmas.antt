@@ -1,4 +1,4 @@
--- Lists of resolved strategies, as they are made, and scopes that are closed again.
+-- Lists of resolved strategies under construction, and scopes that are closed again.
 use Rattle.std.proofs.Common.{◌≡◌, ℕ, suc, ◌+◌, ◌-◌, ◌<◌, List, [], ◌∷◌, ◌++◌, length, get_or, take, add-one, refl, sym, ap, ◌∙◌, subst, arith, Result, IfOk}
 use Rattle.std.proofs.Math.Seq.{take-suc}
 use Rattle.term_core.specs.Tree.{Symbol}
@@ -41,7 +41,7 @@ module _ (T : Table) (P : Primitives) (E : Scope) where
   resolved-append [] ts = refl
   resolved-append (s ∷ ss) ts = ap (and_strategy (resolved_strategy T P E s)) (resolved-append ss ts)
 
-  -- one strategy more
+  -- one more strategy
   pub resolved-next : (ss : List Strategy) (made more : List ResolvedStrategy) (r : ResolvedStrategy) (i : ℕ) (s : Strategy) → i < length ss → s ≡ get_or ss i s
       → resolveds_of made ≡ resolved_strategies T P E (strategies_of (take i ss)) → more ≡ made ++ r ∷ [] → r ≡ resolved_strategy T P E s
       → resolveds_of more ≡ resolved_strategies T P E (strategies_of (take (i + 1) ss))

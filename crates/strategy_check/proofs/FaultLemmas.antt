@@ -1,4 +1,4 @@
--- What a call tells of several parts.
+-- What a call returns about several parts.
 use Rattle.std.proofs.Common.{◌≡◌, ℕ, suc, ◌+◌, ◌<◌, ◌≤◌, Bool, true, false, List, [], ◌∷◌, ◌++◌, length, get_or, take, drop, drop-cons, add-one, Option, Some, None, Result, Ok, Err, refl, sym, ap, ◌∙◌, subst, append_assoc, append-nil}
 use Rattle.std.proofs.lemmas.List.{drop_all}
 use Rattle.std.proofs.Math.Seq.{take-suc}
@@ -16,12 +16,12 @@ use Rattle.strategy_syntax.specs.Lists.{is_among}
 use Rattle.strategy_check.specs.Faults.{Fault, IsTold}
 use Rattle.strategy_check.specs.FirstFault.{Tells, first_repeated}
 
--- the fault of a part is that of the whole, where it is the first with one
+-- the fault of a part is that of the whole, if it is the first part with one
 pub told_first : (e : CheckFault) (o p : Option Fault) → IsTold e o → IsTold e (option_or o p)
 told_first Memory o p h = tt
 told_first (Told kind f n m) o p h = ap (λ o. option_or o p) h
 
--- a part without a fault is passed over
+-- a part without a fault is skipped
 pub told_behind : {X : Type 0} (r : Result X CheckFault) (o p : Option Fault) → o ≡ None → Tells r p → Tells r (option_or o p)
 told_behind (Ok x) o p e h = ap (λ o. option_or o p) e ∙ h
 told_behind (Err Memory) o p e h = tt
@@ -31,7 +31,7 @@ pub is_told_behind : (e : CheckFault) (o p : Option Fault) → o ≡ None → Is
 is_told_behind Memory o p e h = tt
 is_told_behind (Told kind f n m) o p e h = ap (λ o. option_or o p) e ∙ h
 
--- as many as there are
+-- the number of patterns
 pub pattern_count : (ps : List Pattern) → length (pattern_list (patterns_of ps)) ≡ length ps
 pattern_count ps = ap length (pattern_list-patterns_of ps)
 
@@ -40,7 +40,7 @@ strategy_count ss = ap length (strategy_list-strategies_of ss)
 
 pub ruleset told = (told_first, told_behind, is_told_behind, pattern_count, strategy_count, patterns_depth-item, depths-item)
 
--- an error that is handed on by `?`
+-- an error that is passed on by `?`
 pub told_on : {X : Type 0} (r : Result X CheckFault) (e : CheckFault) (o : Option Fault) → IsErr r × IsErrAnd r (λ x. x ≡ e) → IsTold e o → Tells r o
 told_on (Ok x) e o h told = absurd (cc)
 told_on (Err x) e o h told = subst (λ x. IsTold x o) (sym h.1) told
@@ -63,7 +63,7 @@ module _ {X : Type 0} (f : X → Option Fault) (F : List X → Option Fault) (ni
     pub all_passed : length xs ≤ i → F (drop i xs) ≡ F xs → F xs ≡ None
     all_passed end same = sym same ∙ ap F (drop_all i xs end) ∙ nil
 
--- ---- names that stand again
+-- ---- repeated names
 
 pub first_repeated-next : (seen : List Symbol) (x : Symbol) (xs : List Symbol)
     → first_repeated seen (x ∷ xs) ≡ option_or (first_repeated seen (x ∷ [])) (first_repeated (seen ++ x ∷ []) xs)
@@ -104,7 +104,7 @@ pub one_more : {X : Type 0} (before so_far more xs : List X) (i : ℕ) (x : X) �
 one_more before so_far more xs i x lt at kept e =
     rw add-one (e ∙ ap (λ l. l ++ x ∷ []) kept ∙ append_assoc before (take i xs) (x ∷ []) ∙ ap (λ l. before ++ l) (ap (λ y. take i xs ++ y ∷ []) at ∙ sym (take-suc xs i x lt)))
 
--- the same of a public call, whose value is told apart
+-- the same for a public call, whose value has a clause of its own
 pub told_err : {X : Type 0} (r : Result X CheckFault) (e : CheckFault) (o : Option Fault) → IsErr r × IsErrAnd r (λ x. x ≡ e) → IsTold e o → IfErr r (λ x. IsTold x o)
 told_err (Ok x) e o h told = tt
 told_err (Err x) e o h told = subst (λ x. IsTold x o) (sym h.1) told

@@ -1,4 +1,4 @@
--- The first fault that is found is the first of all.
+-- The first fault found is the first of all faults.
 use Rattle.std.proofs.Common.{◌≡◌, ℕ, ◌+◌, Bool, true, false, not, ◌&&◌, ◌==◌, List, [], ◌∷◌, ◌++◌, length, map, Option, Some, None, is_some, refl, ◌∙◌}
 use Rattle.std.specs.Prelude.{if◌then◌else◌, flat_map}
 use Rattle.std.specs.Option.{option_or}
@@ -17,7 +17,7 @@ first-append : (fs gs : List Fault) → first (fs ++ gs) ≡ option_or (first fs
 first-append [] gs = refl
 first-append (f ∷ fs) gs = refl
 
--- of two parts, and of three
+-- for two parts, and for three
 both : (fs gs : List Fault) (o p : Option Fault) → first fs ≡ o → first gs ≡ p → first (fs ++ gs) ≡ option_or o p
 both fs gs o p e h = first-append fs gs ∙ (λ i. option_or (e i) (h i))
 

@@ -72,7 +72,7 @@ module _ (hidden : List Binder) (n : ℕ) where
         ∙ ap (λ B. met_names hidden n B (variables_of_all ps)) (in_pattern found p)
         ∙ sym (met_names-append hidden n found (variables p) (variables_of_all ps))
 
--- hidden names aren't met
+-- hidden names aren't added
 not_met : (hidden : List Binder) (k n : ℕ) (found : List Binder) (xs ys : List Symbol)
     → met_names (bound_from k xs hidden) n found ys ≡ met_names hidden n found (without same_name xs ys)
 not_met hidden k n found xs [] = refl

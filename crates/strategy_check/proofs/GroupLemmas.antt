@@ -26,7 +26,7 @@ module _ (T : Table) (ds : List Definition) (d : Definition) where
       filter-append (λ d. is_number i (number T d)) ds (d ∷ [])
       ∙ ap (λ b. of_number T ds i ++ (if b then d ∷ [] else [])) e
 
-  -- a group of another number stays
+  -- a group of another number stays the same
   other : (i : ℕ) → is_number i (number T d) ≡ false → of_number T (ds ++ d ∷ []) i ≡ of_number T ds i
   other i e = of_number-last i false e ∙ append-nil (of_number T ds i)
 
@@ -73,7 +73,7 @@ module _ (T : Table) where
   empty_from i [] = refl
   empty_from i (k ∷ ks) = ap (λ gs. [] ∷ gs) (empty_from (i + 1) ks)
 
-  -- all definitions, put into empty groups one by one
+  -- all definitions, added to empty groups one by one
   pub all_grouped : (ds : List Definition) → with_definitions T (replicate (length T.definitions) []) ds ≡ groups T ds
   all_grouped ds = ap (λ gs. with_definitions T gs ds) (sym (empty_from 0 T.definitions)) ∙ sym (groups-append [] ds)
 
@@ -83,7 +83,7 @@ joined-last [] r q = refl
 joined-last (a ∷ []) r q = refl
 joined-last (a ∷ (b ∷ rs)) r q = ap (guard a id) (joined-last (b ∷ rs) r q)
 
--- ---- a group that is lent
+-- ---- a group that is borrowed
 
 pub set_member : (i : ℕ) (d : Definition) (gs : List (List Definition)) (g : List Definition) → slice_get gs i ≡ Some g → slice_set gs i (g ++ d ∷ []) ≡ with_member i d gs
 set_member i d [] g e = absurd (cc)

@@ -1,4 +1,4 @@
--- Lists in which each stands once.
+-- Lists without duplicates.
 use Rattle.std.proofs.Common.{◌≡◌, ℕ, suc, ◌+◌, ◌<◌, ◌≤◌, Bool, true, false, List, [], ◌∷◌, ◌++◌, length, get_or, drop, drop-cons, add-one, refl, sym, ap, ◌∙◌, append_assoc, append-nil}
 use Rattle.std.proofs.lemmas.List.{drop_all}
 use Rattle.std.specs.Prelude.{if◌then◌else◌}
@@ -6,7 +6,7 @@ use Rattle.indexmap.specs.IndexSet.{insert_key}
 use Rattle.strategy_syntax.specs.Lists.{is_among, first_ones, with_new}
 
 module _ {X : Type 0} (same : X → X → Bool) where
-  -- the first goes in as into a set
+  -- the first is added as to a set
   pub with_new-next : (seen : List X) (x : X) (xs : List X) → with_new same seen (x ∷ xs) ≡ with_new same (insert_key same seen x) xs
   with_new-next seen x xs = by (is_among same x seen) where
     by : (b : Bool) → seen ++ (if b then first_ones same seen xs else x ∷ first_ones same (seen ++ x ∷ []) xs)
@@ -23,7 +23,7 @@ module _ {X : Type 0} (same : X → X → Bool) where
   pub with_new-none : (seen : List X) → with_new same seen [] ≡ seen
   with_new-none seen = append-nil seen
 
--- ---- a loop over a list, where F takes what was made and what is left
+-- ---- a loop over a list, where F takes the result so far and the rest
 
 module _ {S X Y : Type 0} (F : S → List X → Y) (one : S → X → S) (cons : (s : S) (x : X) (xs : List X) → F s (x ∷ xs) ≡ F (one s x) xs) (xs : List X) (i : ℕ) where
   pub turn : (s : S) (x : X) (whole : Y) → i < length xs → x ≡ get_or xs i x → F s (drop i xs) ≡ whole → F (one s x) (drop (i + 1) xs) ≡ whole

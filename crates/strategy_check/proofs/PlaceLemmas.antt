@@ -1,4 +1,4 @@
--- Lists of resolved patterns, as they are made.
+-- Lists of resolved patterns under construction.
 use Rattle.std.proofs.Common.{◌≡◌, ℕ, ◌+◌, ◌<◌, List, [], ◌∷◌, ◌++◌, length, get_or, take, add-one, refl, sym, ap, ◌∙◌}
 use Rattle.std.proofs.Math.Seq.{take-suc}
 use Rattle.strategy_syntax.specs.Syntax.{Pattern, patterns_of}
@@ -21,7 +21,7 @@ places-append : (bs : List Binder) (ps qs : List Pattern) → places bs (pattern
 places-append bs [] qs = refl
 places-append bs (p ∷ ps) qs = ap (and_place (place bs p)) (places-append bs ps qs)
 
--- one pattern more
+-- one more pattern
 pub places-next : (bs : List Binder) (ps : List Pattern) (made more : List Place) (r : Place) (i : ℕ) (p : Pattern) → i < length ps → p ≡ get_or ps i p
     → places_of made ≡ places bs (patterns_of (take i ps)) → more ≡ made ++ r ∷ [] → r ≡ place bs p
     → places_of more ≡ places bs (patterns_of (take (i + 1) ps))

@@ -50,7 +50,7 @@ bound_ones bs seen (x ∷ xs) h = by (is_among same_name x seen) refl h (bound_o
         ∙ t)),
   )
 
--- the free variables of a strategy, beside parameters
+-- the free variables of a strategy, in addition to parameters
 free_bound : (parameters : List Symbol) (n : ℕ) (s : Strategy) → AreBound (bound_from 0 parameters (bound_from n (free_variables parameters s) [])) (free s)
 free_bound parameters n s =
     bound_ones (bound_from 0 parameters (bound_from n xs [])) parameters (free s)
@@ -67,7 +67,7 @@ names_below : (xs : List Symbol) → AreBelow (length (bound_from 0 xs [])) (bou
 names_below xs = below-bound (length (bound_from 0 xs [])) 0 xs [] (let e = bound_count 0 xs in omega (arith, e)) tt
 
 module _ (T : Table) (P : Primitives) where
-  -- a definition with this key without faults in its body
+  -- a definition with this key and a body without faults
   pub record Suits (k : DefinitionKey) (d : Definition) : Type 0 where
     pub strategies : k.strategies ≡ length d.strategy_parameters
     pub terms : k.terms ≡ length d.term_parameters

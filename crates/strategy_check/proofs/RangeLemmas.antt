@@ -98,7 +98,7 @@ module _ (n : ℕ) (bs : List Binder) (below : AreBelow n bs) where
     places-range (and_pattern p ps) h =
         (place-range p (bound-left bs (variables p) (variables_of_all ps) h), places-range ps (bound-right bs (variables p) (variables_of_all ps) h))
 
--- ---- as many parts as before
+-- ---- the number of parts stays the same
 
 place_count : (bs : List Binder) (ps : Patterns) → length (place_list (places bs ps)) ≡ length (pattern_list ps)
 place_count bs no_patterns = refl
@@ -133,7 +133,7 @@ get_or_same [] i d e lt = absurd (omega arith)
 get_or_same (x ∷ xs) zero d e lt = refl
 get_or_same (x ∷ xs) (suc i) d e lt = get_or_same xs i d e (omega arith)
 
--- the key that stands at the number of a definition
+-- the key at the number of a definition
 pub numbered : (T : Table) (f : Symbol) (n m : ℕ) (o : Option ℕ) → definition_number T f n m ≡ o
     → IfSome o (λ i. IsSomeAnd (slice_get T.definitions i) (λ k. (k.strategies ≡ n) × (k.terms ≡ m)))
 numbered T f n m None e = tt
@@ -148,7 +148,7 @@ numbered T f n m (Some i) e =
       sym ((Decides-eqb m k.terms).0 (and-right (n == k.strategies) (m == k.terms) counts)),
     )
 
--- the primitive that stands at its number, where there is no fault of it
+-- the primitive at its number, if there is no fault about it
 pub primitive_range : (P : Primitives) (n : Symbol) (m : ℕ) (o : Option ℕ) → primitive.index_of n.text m P ≡ o → is_some o ≡ true
     → IsSomeAnd (slice_get P (unwrap_or o 0)) (λ p. m ≡ p.arity)
 primitive_range P n m None e there = absurd (cc)

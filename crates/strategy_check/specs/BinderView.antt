@@ -1,4 +1,4 @@
--- What the binders that are kept stand for.
+-- What stored binders represent.
 use Rattle.std.specs.Prelude.{◌≡◌, ℕ, List, [], ◌∷◌, reverse, map, ⊤}
 use Rattle.std.specs.declared.option.Option.{Option}
 use Rattle.std.specs.Option.{option_flatten}
@@ -19,16 +19,16 @@ number_in m f = option_flatten (get same_name m f)
 abbrev pub binder_of : Entry → Binder
 binder_of e = record { name = e.name; number = e.number }
 
--- the innermost first; what is kept has the outermost first
+-- the innermost first; they are stored with the outermost first
 abbrev pub binders_of : List Entry → List Binder
 binders_of es = map binder_of (reverse es)
 
--- each entry keeps what its name stands for outside
+-- each entry stores what its name stands for outside
 abbrev pub Hides : List Entry → Type 0
 Hides [] = ⊤
 Hides (e ∷ es) = (e.hidden ≡ number_of e.name (map binder_of es)) × Hides es
 
--- the map says what each name stands for, inside and outside of each entry
+-- the map says what each name stands for, inside and outside each entry
 pub record IsKept (m : Numbers) (es : List Entry) : Type 0 where
   pub numbers : (f : Symbol) → number_in m f ≡ number_of f (binders_of es)
   pub hidden : Hides (reverse es)

@@ -1,5 +1,4 @@
--- What stands round a part of a strategy and gives names to it: parameters, free variables, scopes
--- and `rec`.
+-- The binders around a part of a strategy: parameters, free variables, scopes and `rec`.
 use Rattle.std.specs.Prelude.{ℕ, ◌+◌, List, [], ◌∷◌, Some, None, if◌then◌else◌}
 use Rattle.std.specs.declared.option.Option.{Option}
 use Rattle.term_core.specs.Tree.{Symbol, same_name}
@@ -15,7 +14,7 @@ abbrev pub number_of : Symbol → List Binder → Option ℕ
 number_of x [] = None
 number_of x (b ∷ bs) = if same_name b.name x then Some b.number else number_of x bs
 
--- the binders, with further ones inside, numbered from n on
+-- the binders with further ones inside, numbered from n on
 abbrev pub bound_from : ℕ → List Symbol → List Binder → List Binder
 bound_from n [] bs = bs
 bound_from n (x ∷ xs) bs = bound_from (n + 1) xs (record { name = x; number = n } ∷ bs)

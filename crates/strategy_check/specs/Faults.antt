@@ -1,4 +1,4 @@
--- The faults of modules and of strategies, all of them, in the order in which they count.
+-- All faults of modules and of strategies, in the order in which they count.
 use Rattle.std.specs.Prelude.{◌≡◌, ℕ, ◌+◌, Bool, true, false, not, ◌&&◌, ◌==◌, List, [], ◌∷◌, ◌++◌, length, map, flat_map, if◌then◌else◌, codes, is_some, Some, None, ⊤}
 use Rattle.std.specs.declared.option.Option.{Option}
 use Rattle.term_core.specs.Tree.{Symbol, Head, application, list, tuple, same_name}
@@ -20,7 +20,7 @@ pub record Fault : Type 0 where
   pub first : ℕ
   pub second : ℕ
 
--- one fault, where the test holds
+-- one fault, if the test holds
 abbrev pub fault_if : Bool → Kind → Symbol → ℕ → ℕ → List Fault
 fault_if b kind f n m = if b then record { kind = kind; name = f; first = n; second = m } ∷ [] else []
 
@@ -35,7 +35,7 @@ is_primitive P n k = is_some (primitive.index_of n.text k P)
 abbrev pub underscore : Symbol
 underscore = record { text = codes "_"; is_quoted = false }
 
--- `parameter x 0 0`: x stands twice in a list of names
+-- `parameter x 0 0`: x is repeated in a list of names
 abbrev pub repeated_names : List Symbol → List Fault
 repeated_names xs =
     map (λ x. record { kind = Parameter; name = x; first = 0; second = 0 }) (repeated same_name [] xs)
@@ -49,7 +49,7 @@ head_faults T (application f) n = fault_if (not f.is_quoted && not (is_declared 
 head_faults T list n = []
 head_faults T tuple n = []
 
--- `wild x 0 0` stands only in patterns that build: `_` or `x@p`
+-- `wild x 0 0` is a fault only in patterns that build: `_` or `x@p`
 abbrev mutual
   pub pattern_faults : Table → Bool → Pattern → List Fault
   pattern_faults T building wildcard = fault_if building Wild underscore 0 0
@@ -68,10 +68,10 @@ abbrev mutual
   faults_of_patterns T building (and_pattern p ps) =
       pattern_faults T building p ++ faults_of_patterns T building ps
 
--- ---- strategies, where the strategy names in reach have these binders
+-- ---- strategies, where the strategy names in scope have these binders
 
--- The name f with n strategies and m terms is a strategy name in reach, which takes none, else a
--- definition, else, where there are no terms, a constructor of n arguments, else unknown.
+-- The name f with n strategies and m terms is a strategy name in scope, which takes none, else a
+-- definition, else, without terms, a constructor of n arguments, else unknown.
 abbrev pub name_faults : Table → List Binder → Symbol → ℕ → ℕ → List Fault
 name_faults T names f n m =
     if is_some (number_of f names) then fault_if (not (n + m == 0)) Parameter f n m
@@ -111,7 +111,7 @@ abbrev mutual
 
 -- ---- definitions and modules
 
--- the header of a definition, where earlier modules define these
+-- the header of a definition, given those of earlier modules
 abbrev pub header_faults : Table → List DefinitionKey → Definition → List Fault
 header_faults T earlier d =
     let n = length d.strategy_parameters in
@@ -137,7 +137,7 @@ faults_from T P earlier (m ∷ ms) =
     module_faults T P earlier m.1
     ++ faults_from T P (with_new same_key earlier (keys_of m.1.definitions)) ms
 
--- the faults of the modules, which come in the order of their names
+-- the faults of the modules, which are in the order of their names
 abbrev pub faults : Modules → Primitives → List Fault
 faults ms P = faults_from (table_of ms) P [] ms
 
@@ -146,7 +146,7 @@ abbrev pub first : List Fault → Option Fault
 first [] = None
 first (f ∷ fs) = Some f
 
--- The error tells this fault; where memory was wanted it tells nothing.
+-- The error reports this fault; for want of memory it reports nothing.
 abbrev pub IsTold : CheckFault → Option Fault → Type 0
 IsTold Memory o = ⊤
 IsTold (Told kind f n m) o = o ≡ Some (record { kind = kind; name = f; first = n; second = m })

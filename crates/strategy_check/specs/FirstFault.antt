@@ -14,7 +14,7 @@ use Rattle.strategy_check.specs.Binders.{Binder, number_of}
 use Rattle.strategy_check.specs.Tables.{DefinitionKey, same_key, Table, is_defined, is_declared, Modules, key_of, keys_of}
 use Rattle.strategy_check.specs.Faults.{Fault, IsTold, Primitives, is_primitive, underscore, parameter_names}
 
--- What a call tells of the first fault: that there is none, or which it is.
+-- What a call returns about the first fault: that there is none, or which it is.
 abbrev pub Tells : {X : Type 0} → Result X CheckFault → Option Fault → Type 0
 Tells (Ok x) o = o ≡ None
 Tells (Err e) o = IsTold e o

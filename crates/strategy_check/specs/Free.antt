@@ -1,13 +1,13 @@
--- The variables that stand free in a strategy.
+-- The free variables of a strategy.
 use Rattle.std.specs.Prelude.{List, [], ◌++◌}
 use Rattle.term_core.specs.Tree.{Symbol, same_name}
 use Rattle.strategy_syntax.specs.Syntax.{Strategy, id, fail, matches, builds, seq, guard, test, scope, uses, congruence, tail_congruence, all, one, some, child, rec, prim, Strategies, no_strategies, and_strategy}
 use Rattle.strategy_syntax.specs.Variables.{variables, variables_of_all}
 use Rattle.strategy_syntax.specs.Lists.{first_ones, without}
 
--- Each time that a variable stands in a pattern and no scope round it names it, from left to right
--- in the core form: that of `<?x> y` is `!y; ?x`, in which y comes first. Strategy arguments belong
--- to the strategy in which they are written.
+-- Each occurrence of a variable in a pattern that no enclosing scope binds, from left to right in
+-- the core form: that of `<?x> y` is `!y; ?x`, in which y comes first. Strategy arguments count as
+-- part of the strategy that contains them.
 abbrev mutual
   pub free : Strategy → List Symbol
   free id = []
@@ -32,6 +32,6 @@ abbrev mutual
   free_in_all no_strategies = []
   free_in_all (and_strategy s ss) = free s ++ free_in_all ss
 
--- the free variables, each once, in the order in which they are met, without the parameters
+-- the free variables, each once, in the order of their first occurrence, without the parameters
 abbrev pub free_variables : List Symbol → Strategy → List Symbol
 free_variables parameters s = first_ones same_name parameters (free s)

@@ -1,10 +1,10 @@
--- Definitions put into groups one by one.
+-- Definitions added to groups one by one.
 use Rattle.std.specs.Prelude.{ℕ, zero, suc, List, [], ◌∷◌, ◌++◌, length, Some, None}
 use Rattle.std.specs.declared.option.Option.{Option}
 use Rattle.strategy_syntax.specs.Modules.{Definition}
 use Rattle.strategy_check.specs.Tables.{Table, definition_number}
 
--- with one more in group i, where there is that group
+-- with one more in group i, if there is such a group
 abbrev pub with_member : ℕ → Definition → List (List Definition) → List (List Definition)
 with_member i d [] = []
 with_member zero d (g ∷ gs) = (g ++ d ∷ []) ∷ gs

@@ -1,5 +1,5 @@
--- The variables found so far, with those met further on: each is added once, unless it is hidden. The
--- first of them has the number n.
+-- The variables found so far, extended by those met next: each is added once, unless it is hidden.
+-- The first of them has the number n.
 use Rattle.std.specs.Prelude.{ℕ, ◌+◌, ◌||◌, List, [], ◌∷◌, length, if◌then◌else◌, is_some}
 use Rattle.term_core.specs.Tree.{Symbol}
 use Rattle.strategy_syntax.specs.Syntax.{Pattern, wildcard, variable, at, number, compound, with_tail, annotated, Patterns, no_patterns, and_pattern, Strategy, id, fail, matches, builds, seq, guard, test, scope, uses, congruence, tail_congruence, all, one, some, child, rec, prim, Strategies, no_strategies, and_strategy}

@@ -1,4 +1,4 @@
--- How the logic stores programs: as their parts.
+-- How the logic stores programs: as their fields.
 use Rattle.std.specs.Prelude.{ℕ, List, refl}
 use Rattle.std.specs.Coded.{Coded, code_by, coded×, coded_ℕ, coded_list}
 use Rattle.strategy_syntax.specs.Modules.{Constructor, constructor_code}

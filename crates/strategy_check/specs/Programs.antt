@@ -1,4 +1,4 @@
--- The program that modules give, and strategies to be applied with it.
+-- The program of modules, and strategies resolved in it.
 use Rattle.std.specs.Prelude.{ℕ, ◌+◌, Bool, false, ◌==◌, List, [], ◌∷◌, length, map, filter, Some, None}
 use Rattle.std.specs.declared.option.Option.{Option}
 use Rattle.strategy_syntax.specs.Resolved.{ResolvedStrategy, id, fail, guard}
@@ -12,7 +12,7 @@ use Rattle.strategy_check.specs.Faults.{Fault, Primitives, strategy_faults}
 use Rattle.strategy_check.specs.Free.{free_variables}
 use Rattle.strategy_check.specs.Resolving.{Scope, resolved_strategy}
 
--- What is defined, what is declared, and the body of each definition: the one at its number.
+-- The definitions and declarations, and the body of each definition at its number.
 pub record Program : Type 0 where
   pub table : Table
   pub bodies : List Resolved
@@ -23,8 +23,8 @@ pub record Program : Type 0 where
 abbrev pub free_of : Definition → List Symbol
 free_of d = free_variables d.term_parameters d.body
 
--- Round a body stand its parameters, which have the first numbers, and its free variables, which are
--- numbered from first on. The variables inside are numbered from count on.
+-- The scope of a body: its parameters, which have the first numbers, and its free variables, which
+-- are numbered from first on. The variables inside are numbered from count on.
 abbrev pub scope_of : ℕ → ℕ → Definition → Scope
 scope_of first count d = record {
   variables = bound_from 0 d.term_parameters (bound_from first (free_of d) []);
@@ -34,13 +34,13 @@ scope_of first count d = record {
 
 -- ---- the bodies of one definition, which have the same key
 
--- how many free variables they have
+-- the number of their free variables
 abbrev pub variable_count : List Definition → ℕ
 variable_count [] = 0
 variable_count (d ∷ ds) = length (free_of d) + variable_count ds
 
--- Each is resolved with free variables of its own: parameters come first, then the free variables of
--- all the bodies, one body after the other, then the variables inside.
+-- Each is resolved with free variables of its own: parameters come first, then the free variables
+-- of all the bodies, body by body, then the variables inside.
 abbrev pub resolved_bodies : Table → Primitives → ℕ → ℕ → List Definition → List ResolvedStrategy
 resolved_bodies T P first count [] = []
 resolved_bodies T P first count (d ∷ ds) =
@@ -53,7 +53,7 @@ joined [] = fail
 joined (r ∷ []) = r
 joined (r ∷ (q ∷ rs)) = guard r id (joined (q ∷ rs))
 
--- how many terms they take: all take as many
+-- the number of terms that they take: all take the same number
 abbrev pub term_count : List Definition → ℕ
 term_count [] = 0
 term_count (d ∷ ds) = length d.term_parameters
@@ -72,7 +72,7 @@ abbrev pub is_number : ℕ → Option ℕ → Bool
 is_number i None = false
 is_number i (Some j) = i == j
 
--- those with the key of this number, in the order of the texts
+-- the definitions with the key of this number, in the order of the texts
 abbrev pub of_number : Table → List Definition → ℕ → List Definition
 of_number T ds i =
     filter (λ d. is_number i (definition_number T d.name (length d.strategy_parameters) (length d.term_parameters))) ds
@@ -92,7 +92,7 @@ program ms P =
       bodies = map (joined_definition T P) (groups T (definitions_of ms));
     }
 
--- ---- a strategy to be applied, whose free variables are its own
+-- ---- a strategy to apply, whose free variables are its own
 
 abbrev pub faults_of : Program → Primitives → Strategy → List Fault
 faults_of p P s = strategy_faults p.table P [] s

@@ -1,4 +1,4 @@
--- When each number in a resolved strategy is in range of what it counts.
+-- When each number in a resolved strategy is in range.
 use Rattle.std.specs.Prelude.{◌≡◌, ℕ, suc, ◌+◌, ◌<◌, List, length, slice_get, IsSomeAnd, Some, ⊤}
 use Rattle.strategy_syntax.specs.Resolved.{Place, wildcard, variable, at, number, compound, with_tail, annotated, Places, no_places, and_place, place_list, ResolvedStrategy, id, fail, matches, builds, seq, guard, test, scope, param, call, congruence, tail_congruence, all, one, some, child, rec, prim, ResolvedStrategies, no_strategies, and_strategy, resolved_list}
 use Rattle.strategy_syntax.specs.declared.resolved.Resolved.{Resolved}
@@ -21,9 +21,9 @@ abbrev mutual
   PlacesInRange n no_places = ⊤
   PlacesInRange n (and_place p ps) = PlaceInRange n p × PlacesInRange n ps
 
--- Where there are so many variables and strategy names round the strategy: each of their numbers is
--- below that, a call is of a definition that takes as many strategies and terms, and a primitive is
--- one that takes as many terms.
+-- Given the numbers of variables and strategy names in scope: the numbers of variables and names
+-- are below them, a call is of a definition that takes as many strategies and terms, and a
+-- primitive is one that takes as many terms.
 abbrev mutual
   pub InRange : List DefinitionKey → Primitives → ℕ → ℕ → ResolvedStrategy → Type 0
   InRange D P n m id = ⊤
@@ -52,12 +52,12 @@ abbrev mutual
   AllInRange D P n m no_strategies = ⊤
   AllInRange D P n m (and_strategy s ss) = InRange D P n m s × AllInRange D P n m ss
 
--- a whole strategy, where so many terms and strategy names have the first numbers
+-- a whole strategy, where the first numbers belong to terms and strategy names
 abbrev pub IsInRange : Program → Primitives → ℕ → ℕ → Resolved → Type 0
 IsInRange p P terms strategies r =
     InRange p.table.definitions P (terms + r.variables) strategies r.strategy
 
--- each definition of the program has a body, which is in range where its parameters are given
+-- each definition of the program has a body, which is in range with its parameters in scope
 abbrev pub BodiesInRange : Program → Primitives → Type 0
 BodiesInRange p P =
     (f : ℕ) (k : DefinitionKey) → slice_get p.table.definitions f ≡ Some k

@@ -1,4 +1,4 @@
--- Strategies with numbers in the places of names.
+-- Resolving names in strategies to numbers.
 use Rattle.std.specs.Prelude.{ℕ, ◌+◌, ◌-◌, List, ◌∷◌, length, drop, Some, None, unwrap_or}
 use Rattle.std.specs.declared.option.Option.{Option}
 use Rattle.term_core.specs.Tree.{Symbol, application}
@@ -11,8 +11,9 @@ use Rattle.strategy_check.specs.Binders.{Binder, number_of, bound_from}
 use Rattle.strategy_check.specs.Tables.{Table, definition_number}
 use Rattle.strategy_check.specs.Faults.{Primitives}
 
--- What stands round a part of a strategy: the binders of variables, how many there have been (more
--- than have names, where a definition has several bodies), and those of strategy names.
+-- The scope of a part of a strategy: the binders of variables, the number of variables so far
+-- (which exceeds the named ones if a definition has several bodies), and the binders of strategy
+-- names.
 pub record Scope : Type 0 where
   pub variables : List Binder
   pub count : ℕ
@@ -31,7 +32,7 @@ with_name E f = record E {
   names = record { name = f; number = length E.names } ∷ E.names;
 }
 
--- the number of a variable; each has a binder, once the free ones are bound
+-- the number of a variable; each has a binder once the free ones are bound
 abbrev pub variable_number : List Binder → Symbol → ℕ
 variable_number bs x = unwrap_or (number_of x bs) 0
 
@@ -49,12 +50,12 @@ abbrev mutual
   places bs no_patterns = no_places
   places bs (and_pattern p ps) = and_place (place bs p) (places bs ps)
 
--- a name that is no strategy name in reach: a definition, else a constructor
+-- a name that is no strategy name in scope: a definition, else a constructor
 abbrev pub definition_or_constructor : Symbol → Option ℕ → ResolvedStrategies → Places → ResolvedStrategy
 definition_or_constructor f (Some k) ss ps = call k ss ps
 definition_or_constructor f None ss ps = congruence (application f) ss
 
--- a name: a strategy name in reach, else a definition, else a constructor
+-- a name: a strategy name in scope, else a definition, else a constructor
 abbrev pub name_or_other : Option ℕ → ResolvedStrategy → ResolvedStrategy
 name_or_other (Some x) r = param x
 name_or_other None r = r
@@ -94,7 +95,7 @@ abbrev mutual
   resolved_strategies T P E (and_strategy s ss) =
       resolved.and_strategy (resolved_strategy T P E s) (resolved_strategies T P E ss)
 
--- ---- closing what was opened
+-- ---- closing binders
 
 -- the scope without the innermost variables
 abbrev pub without_variables : Scope → ℕ → Scope

@@ -1,11 +1,11 @@
--- What the modules define and declare, all together.
+-- The definitions and declarations of all modules together.
 use Rattle.std.specs.Prelude.{ℕ, Bool, ◌&&◌, ◌==◌, List, [], length, map, flat_map, position, is_some}
 use Rattle.std.specs.declared.option.Option.{Option}
 use Rattle.term_core.specs.Tree.{Symbol, same_name}
 use Rattle.strategy_syntax.specs.Modules.{Constructor, Definition, Module}
 use Rattle.strategy_syntax.specs.Lists.{is_among, first_ones}
 
--- What a definition is found by: its name, and how many strategies and terms it takes.
+-- The key of a definition: its name and its numbers of strategies and terms.
 pub record DefinitionKey : Type 0 where
   pub name : Symbol
   pub strategies : ℕ
@@ -18,13 +18,13 @@ same_key a b =
 abbrev pub same_constructor : Constructor → Constructor → Bool
 same_constructor a b = same_name a.name b.name && (a.arity == b.arity)
 
--- Each key and each constructor once, where it first stands. The place of a key is the
--- number of its definition.
+-- Each key and each constructor once, at its first occurrence. The index of a key is the number of
+-- its definition.
 pub record Table : Type 0 where
   pub definitions : List DefinitionKey
   pub constructors : List Constructor
 
--- the number of the definition of f for so many strategies and terms, if there is one
+-- the number of the definition of f with these numbers of strategies and terms, if there is one
 abbrev pub definition_number : Table → Symbol → ℕ → ℕ → Option ℕ
 definition_number T f n m =
     position (same_key (record { name = f; strategies = n; terms = m })) T.definitions
@@ -32,7 +32,7 @@ definition_number T f n m =
 abbrev pub is_defined : Table → Symbol → ℕ → ℕ → Bool
 is_defined T f n m = is_some (definition_number T f n m)
 
--- whether the constructor f of so many arguments is declared
+-- whether the constructor f with this number of arguments is declared
 abbrev pub is_declared : Table → Symbol → ℕ → Bool
 is_declared T f n = is_among same_constructor (record { name = f; arity = n }) T.constructors
 

@@ -1,4 +1,4 @@
-//! Names with the numbers of their binders, the innermost of which counts.
+//! Names with the numbers of their binders; the innermost binder counts.
 #![tactic(auto)]
 
 ghost use Rattle.std.specs.Prelude.{◌≡◌, ◌+◌, ◌∷◌, [], drop, length, IfOk, OnOk};
@@ -9,12 +9,12 @@ use std::collections::HashMap;
 use std::marker::Model;
 use term_core::{Name, NoMemory};
 
-/// Names with numbers, one inside the other. A name stands for the number of the innermost of this
-/// name, which is found through a map.
+/// Nested binders: names with numbers. A name stands for the number of its innermost binder, which
+/// is found through a map.
 #[derive(Drop)]
 pub struct Binders {
     entries: Vec<Entry>,
-    // what each name stands for now, or None where its binders are closed
+    // what each name stands for, or `None` if its binders are closed
     numbers: HashMap<Name, Option<usize>>,
 }
 
@@ -22,7 +22,7 @@ pub struct Binders {
 struct Entry {
     name: Name,
     number: usize,
-    // what the name stands for outside
+    // what the name stands for outside this binder
     hidden: Option<usize>,
 }
 
@@ -49,21 +49,21 @@ impl Binders {
         }
     }
 
-    /// How many there are.
+    /// The number of binders.
     pub fn len(&self) -> usize
         ensures { result ≡ length self.now }
     {
         self.entries.len()
     }
 
-    /// The number that the name stands for, or `None` where it has no binder.
+    /// The number that the name stands for, or `None` if it has no binder.
     pub fn number(&self, name: &Name) -> Option<usize>
         ensures { result ≡ number_of name.now self.now }
     {
         self.numbers.get(name).copied().flatten()
     }
 
-    /// One more inside, of this name and number.
+    /// Opens a binder with this name and number inside the others.
     pub fn open(&mut self, name: &Name, number: usize) -> Result<(), NoMemory>
         ensures { OnOk result (self.new
             ≡ record { name = name.now; number = number } ∷ self.old) }
@@ -81,7 +81,7 @@ impl Binders {
         Ok(())
     }
 
-    /// These names inside, numbered from `first` on. Gives the number behind the last.
+    /// Opens binders with these names, numbered from `first` on. Returns the next number.
     pub fn open_all(&mut self, names: &[Name], first: usize) -> Result<usize, NoMemory>
         ensures binders { OnOk result (self.new ≡ bound_from first names.now self.old) }
         ensures next { IfOk result (λ next. next ≡ first + length names.now) }
@@ -94,7 +94,7 @@ impl Binders {
         Ok(number)
     }
 
-    /// Without the innermost, where there is one.
+    /// Closes the innermost binder, if there is one.
     pub fn close(&mut self) -> Result<(), NoMemory>
         ensures { OnOk result (self.new ≡ drop 1 self.old) }
     {
@@ -107,7 +107,7 @@ impl Binders {
         Ok(())
     }
 
-    /// Without so many of the innermost.
+    /// Closes the innermost binders, this many.
     pub fn close_all(&mut self, count: usize) -> Result<(), NoMemory>
         ensures { OnOk result (self.new ≡ drop count self.old) }
     {

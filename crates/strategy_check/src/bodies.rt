@@ -1,6 +1,6 @@
-//! Strategies with numbers for names.
+//! Resolving strategies: numbers for names.
 //!
-//! What was resolved already is given to `drop` where a part behind it can't be: a drop at the end of a scope is
+//! What was resolved is passed to `drop` if a later part can't be: a drop at the end of a scope is
 //! proved anew on each way out.
 #![tactic(auto, using(crate::proofs::BodyLemmas::body_rules))]
 
@@ -21,7 +21,7 @@ use std::alloc::Global;
 use strategy_syntax::{Head, Place, ResolvedForm, ResolvedStrategy, Strategy, StrategyForm};
 use term_core::{Name, NoMemory};
 
-/// The strategy, resolved. Its names have no faults.
+/// Resolves the strategy, whose names have no faults.
 #[cycle(strategy)]
 pub fn resolve_strategy<M: Meaning>(
     alloc: Global,
@@ -38,7 +38,7 @@ pub fn resolve_strategy<M: Meaning>(
     Ok(ResolvedStrategy::new(form))
 }
 
-// Each level of a strategy takes a frame of the machine's stack here, which stays small because the
+// Each level of a strategy takes a frame of the machine's stack here. It stays small because the
 // forms with parts are functions of their own.
 #[cycle(strategy)]
 fn resolve_form<M: Meaning>(
@@ -249,7 +249,7 @@ fn resolve_strategies<M: Meaning>(
     Ok(resolved)
 }
 
-// A name with resolved strategies and terms: a strategy name in reach, else a definition, else a
+// A name with resolved strategies and terms: a strategy name in scope, else a definition, else a
 // constructor.
 fn resolve_use(
     table: &Table,

@@ -12,24 +12,24 @@ use thiserror::Error;
 /// The kinds of faults.
 #[derive(Clone, Copy, Debug, PartialEq, Eq)]
 pub enum Kind {
-    /// A name stands twice in a header or a scope, or a strategy parameter has arguments.
+    /// A name is repeated in a header or a scope, or a strategy parameter has arguments.
     Parameter,
-    /// A module before defines the same name with as many parameters.
+    /// An earlier module defines the same name with as many parameters.
     Twice,
-    /// A definition without term parameters has the name of a constructor of as many arguments.
+    /// A definition without term parameters has the name of a constructor with as many arguments.
     Clash,
     /// A name is no parameter, no definition and no constructor.
     Unknown,
     /// A pattern has a constructor that no module declares with as many arguments.
     Undeclared,
-    /// `_` or `x@p` stands where a term is built.
+    /// `_` or `x@p` occurs where a term is built.
     Wild,
     /// There is no primitive of this name and number of arguments.
     Primitive,
 }
 
 impl Kind {
-    /// The word by which a refusal names the kind.
+    /// The word for the kind in a refusal.
     pub fn word(self) -> &'static str
         ensures { result.now ≡ word_of self }
     {
@@ -48,11 +48,11 @@ impl Kind {
 /// Why modules give no program, or a strategy can't be resolved.
 #[derive(Drop, Error)]
 pub enum CheckFault {
-    /// A growth of memory was refused.
+    /// Memory couldn't grow.
     #[error("memory")]
     Memory,
-    /// The first fault: its kind, the name, and two numbers, mostly of strategies and of terms. Of a
-    /// text's module or strategy, the name is quoted for `Primitive`, else a word.
+    /// The first fault: its kind, the name, and two numbers, usually of strategies and of terms. If
+    /// it comes from a text, the name is quoted for `Primitive`, else a word.
     #[error("{}", .0.word())]
     Fault(Kind, Name, u64, u64),
 }
@@ -74,7 +74,7 @@ impl From<NoMemory> for CheckFault {
     }
 }
 
-/// This fault, or `Memory` where memory was refused.
+/// This fault, or `Memory` if memory couldn't grow.
 pub fn fault(kind: Kind, name: &Name, first: usize, second: usize) -> CheckFault
     ensures { IsTold result (fault_when true kind name.now first second) }
 {

@@ -12,7 +12,7 @@ use std::alloc::Global;
 use strategy_syntax::{Pattern, PatternForm, Strategy, StrategyForm};
 use term_core::{Name, NoMemory};
 
-/// The free variables of a strategy, each once, in the order in which they are met, without the
+/// The free variables of a strategy, each once, in the order of their first occurrence, without the
 /// parameters. They are numbered from `first` on.
 pub fn free_variables(
     alloc: Global,
@@ -30,7 +30,7 @@ pub fn free_variables(
     Ok(found)
 }
 
-// What is found, with the variables that stand free in a strategy and aren't hidden.
+// Adds the variables that are free in a strategy and not hidden to those found.
 #[cycle(strategy)]
 fn meet_in_strategy(
     hidden: &mut Binders,
@@ -141,7 +141,7 @@ fn meet_in_patterns(
     Ok(())
 }
 
-// What is found, with this name, unless it is hidden or was found before.
+// Adds this name to those found, unless it is hidden or was found before.
 fn meet(hidden: &Binders, found: &mut Binders, first: usize, name: &Name) -> Result<(), NoMemory>
     ensures { OnOk result (found.new ≡ met hidden.now first found.old name.now) }
 {

@@ -148,7 +148,7 @@ fn join_group<M: Meaning>(
     })
 }
 
-// How many terms the definitions take.
+// The number of terms that the definitions take.
 fn count_terms(group: &DefinitionGroup<'_>) -> usize
     ensures { result ≡ term_count group.now }
 {
@@ -158,7 +158,7 @@ fn count_terms(group: &DefinitionGroup<'_>) -> usize
     }
 }
 
-// How many free variables the bodies have.
+// The number of free variables of the bodies.
 fn count_variables(alloc: Global, group: &DefinitionGroup<'_>) -> Result<usize, NoMemory>
     ensures { IfOk result (λ count. count ≡ variable_count group.now) }
 {
@@ -177,7 +177,7 @@ fn count_free(alloc: Global, definition: &Definition) -> Result<usize, NoMemory>
     Ok(free.len())
 }
 
-// Each body resolved. Its free variables are numbered behind those of the bodies before, from
+// Resolves each body. Its free variables are numbered after those of the earlier bodies, from
 // `first` on, and the variables inside from `count` on.
 fn resolve_bodies<M: Meaning>(
     alloc: Global,
@@ -200,7 +200,7 @@ fn resolve_bodies<M: Meaning>(
     Ok(bodies)
 }
 
-// One body resolved, and how many free variables it has.
+// Resolves one body, and returns the number of its free variables.
 fn resolve_body<M: Meaning>(
     alloc: Global,
     table: &Table,
@@ -220,7 +220,7 @@ fn resolve_body<M: Meaning>(
     Ok((body, free))
 }
 
-// What stands round a body, and how many free variables that has.
+// The scope of a body, and the number of its free variables.
 fn scope_of(
     alloc: Global,
     first: usize,

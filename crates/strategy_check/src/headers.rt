@@ -15,7 +15,7 @@ use std::alloc::Global;
 use strategy_syntax::Definition;
 use term_core::{Name, NoMemory};
 
-/// The fault of a list of names, which is in two parts, in which one stands twice.
+/// The fault of a list of names, given in two parts, if one is repeated.
 pub fn check_names(alloc: Global, names: &[Name], further: &[Name]) -> Result<(), CheckFault>
     ensures { Tells result (first_repeated [] (names.now ++ further.now)) }
 {
@@ -52,7 +52,7 @@ fn add_name(seen: &mut IndexSet<Name>, name: Name) -> Result<bool, NoMemory>
     Ok(seen.insert(name)?)
 }
 
-/// The first fault in the header of a definition, where these are defined in modules before.
+/// The first fault in the header of a definition, given those of earlier modules.
 pub fn check_header(
     alloc: Global,
     table: &Table,

@@ -1,4 +1,4 @@
-//! What definitions are looked up by.
+//! The keys of definitions.
 #![tactic(auto)]
 
 ghost use Rattle.std.specs.Prelude.{◌≡◌, IfOk};
@@ -6,7 +6,7 @@ ghost use Rattle.std.specs.Prelude.{◌≡◌, IfOk};
 use std::marker::Model;
 use term_core::{Name, NoMemory};
 
-/// A definition's name and how many strategies and terms it takes, as a key.
+/// A definition's name and its numbers of strategies and terms, as a key.
 #[derive(Drop, PartialEq, Eq, Hash)]
 pub struct DefinitionKey {
     name: Name,
@@ -28,7 +28,7 @@ impl Model for DefinitionKey {
 }
 
 impl DefinitionKey {
-    /// The key of this name for a definition that takes so many strategies and terms.
+    /// The key of a definition with this name and these numbers of strategies and terms.
     pub fn new(name: &Name, strategies: usize, terms: usize) -> Result<DefinitionKey, NoMemory>
         ensures { IfOk result (λ key. key
             ≡ record { name = name.now; strategies = strategies; terms = terms }) }

@@ -1,5 +1,4 @@
-//! Whether modules and strategies keep the rules of names, and what they are with numbers in the
-//! places of names.
+//! Checks that modules and strategies keep the rules of names, and resolves names to numbers.
 #![tactic(auto)]
 
 mod binders;

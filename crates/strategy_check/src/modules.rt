@@ -16,7 +16,7 @@ use std::alloc::Global;
 use strategy_syntax::{Definition, Module};
 use term_core::Label;
 
-/// The first fault in modules, one after the other.
+/// The first fault in modules, in order.
 pub fn check_modules<M: Meaning>(
     alloc: Global,
     table: &Table,

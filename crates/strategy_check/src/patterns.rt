@@ -13,7 +13,7 @@ use std::alloc::Global;
 use strategy_syntax::{Head, Pattern, PatternForm};
 use term_core::Name;
 
-/// The first fault in a pattern, which builds a term or matches one.
+/// The first fault in a pattern, which either builds a term or matches one.
 #[cycle(pattern)]
 pub fn check_pattern(
     alloc: Global,

@@ -1,4 +1,4 @@
-//! Patterns with numbers for variables.
+//! Resolving patterns: numbers for variables.
 #![tactic(auto, using(crate::proofs::PlaceLemmas::place_rules))]
 
 ghost use Rattle.std.specs.Prelude.{◌≡◌, IfOk};
@@ -11,7 +11,7 @@ use std::alloc::Global;
 use strategy_syntax::{Pattern, PatternForm, Place, PlaceForm};
 use term_core::NoMemory;
 
-/// The pattern, resolved.
+/// Resolves the pattern.
 #[cycle(pattern)]
 pub fn resolve_pattern(alloc: Global, scope: &Scope, pattern: &Pattern) -> Result<Place, NoMemory>
     ensures { IfOk result (λ resolved. resolved ≡ place scope.now.variables pattern.now) }
@@ -43,7 +43,7 @@ pub fn resolve_pattern(alloc: Global, scope: &Scope, pattern: &Pattern) -> Resul
     Ok(Place::new(form))
 }
 
-/// The patterns, resolved.
+/// Resolves the patterns.
 #[cycle(pattern)]
 pub fn resolve_patterns(
     alloc: Global,

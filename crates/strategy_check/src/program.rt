@@ -21,7 +21,7 @@ use std::marker::Model;
 use strategy_syntax::{Module, Resolved, Strategy};
 use term_core::{Label, NoMemory};
 
-/// What checked modules define and declare, with each definition resolved.
+/// The definitions and declarations of checked modules, with each definition resolved.
 #[derive(Drop)]
 pub struct Program {
     table: Table,
@@ -40,7 +40,7 @@ impl Model for Program {
 }
 
 impl Program {
-    /// The resolved definitions. The number of a call is the place of its definition.
+    /// The resolved definitions. The number of a call is the index of its definition.
     pub fn definitions(&self) -> &[Resolved]
         ensures { result.now ≡ self.now.bodies }
     {
@@ -48,8 +48,8 @@ impl Program {
     }
 }
 
-/// The program that modules give, where they have no fault, else the first fault. The modules come
-/// in the order of their names, which faults go by.
+/// The program of the modules, if they have no fault, else the first fault. The modules are in the
+/// order of their names, which faults follow.
 pub fn check<M: Meaning>(
     alloc: Global,
     modules: &[(Label, Module)],
@@ -67,8 +67,8 @@ pub fn check<M: Meaning>(
     Ok(Program { table, bodies })
 }
 
-/// The strategy with numbers for names, where it has no fault beside the program, else the first
-/// fault. The primitives are those that the program was checked against.
+/// Resolves the strategy in the program, if it has no fault there, else returns the first fault.
+/// The primitives are those that the program was checked against.
 pub fn resolve<M: Meaning>(
     alloc: Global,
     program: &Program,

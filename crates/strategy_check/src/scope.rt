@@ -1,4 +1,4 @@
-//! What stands round a part of a strategy while it is resolved.
+//! The scope of a part of a strategy during resolution.
 #![tactic(auto)]
 
 ghost use Rattle.std.specs.Prelude.{◌≡◌, OnOk};
@@ -9,7 +9,7 @@ use crate::binders::Binders;
 use std::marker::Model;
 use term_core::{Name, NoMemory};
 
-/// The binders of variables, how many variables there have been, and the binders of strategy names.
+/// The binders of variables, the number of variables so far, and the binders of strategy names.
 #[derive(Drop)]
 pub struct Scope {
     variables: Binders,
@@ -38,21 +38,21 @@ impl Scope {
         }
     }
 
-    /// The number of a variable; 0 where it has no binder.
+    /// The number of a variable; 0 if it has no binder.
     pub fn variable(&self, name: &Name) -> usize
         ensures { result ≡ variable_number self.now.variables name.now }
     {
         self.variables.number(name).unwrap_or(0)
     }
 
-    /// The number of a strategy name, or `None` where it has no binder.
+    /// The number of a strategy name, or `None` if it has no binder.
     pub fn strategy(&self, name: &Name) -> Option<usize>
         ensures { result ≡ number_of name.now self.now.names }
     {
         self.names.number(name)
     }
 
-    /// With new variables inside.
+    /// Opens new variables.
     pub fn open_variables(&mut self, names: &[Name]) -> Result<(), NoMemory>
         ensures { OnOk result (self.new ≡ with_variables self.old names.now) }
     {
@@ -60,7 +60,7 @@ impl Scope {
         Ok(())
     }
 
-    /// Without so many of the innermost variables.
+    /// Closes the innermost variables, this many.
     pub fn close_variables(&mut self, count: usize) -> Result<(), NoMemory>
         ensures { OnOk result (self.new ≡ without_variables self.old count) }
     {
@@ -69,7 +69,7 @@ impl Scope {
         Ok(())
     }
 
-    /// With a new strategy name inside.
+    /// Opens a new strategy name.
     pub fn open_name(&mut self, name: &Name) -> Result<(), NoMemory>
         ensures { OnOk result (self.new ≡ with_name self.old name.now) }
     {
@@ -77,7 +77,7 @@ impl Scope {
         self.names.open(name, number)
     }
 
-    /// Without the innermost strategy name.
+    /// Closes the innermost strategy name.
     pub fn close_name(&mut self) -> Result<(), NoMemory>
         ensures { OnOk result (self.new ≡ without_name self.old) }
     {

@@ -16,7 +16,7 @@ use std::alloc::Global;
 use strategy_syntax::{Strategy, StrategyForm};
 use term_core::Name;
 
-/// The first fault in a strategy, where these strategy names are in reach.
+/// The first fault in a strategy, with these strategy names in scope.
 #[cycle(strategy)]
 pub fn check_strategy<M: Meaning>(
     alloc: Global,
@@ -95,8 +95,8 @@ fn check_strategies<M: Meaning>(
     Ok(())
 }
 
-// The fault of a name with so many strategies and terms: a strategy name in reach takes none, and
-// any other is a definition, or without terms a constructor.
+// The fault of a name with these numbers of strategies and terms: a strategy name in scope takes
+// none, and any other name is a definition or, without terms, a constructor.
 fn check_name(
     table: &Table,
     names: &Binders,

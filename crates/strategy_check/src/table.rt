@@ -1,4 +1,4 @@
-//! What modules define and declare, all together.
+//! The definitions and declarations of all modules together.
 #![tactic(auto)]
 
 ghost use Rattle.std.specs.Prelude.{◌≡◌, IfOk, OnOk};
@@ -12,7 +12,7 @@ use std::marker::Model;
 use strategy_syntax::{Constructor, Definition, Module};
 use term_core::{Label, Name, NoMemory};
 
-/// The keys of the definitions, whose places are the numbers of these, and the constructors.
+/// The keys of the definitions, whose indices are the numbers of these, and the constructors.
 #[derive(Drop)]
 pub struct Table {
     pub definitions: IndexSet<DefinitionKey>,
@@ -31,7 +31,7 @@ impl Model for Table {
 }
 
 impl Table {
-    /// The table of the modules, one after the other.
+    /// The table of the modules, in order.
     pub fn new(alloc: Global, modules: &[(Label, Module)]) -> Result<Table, NoMemory>
         ensures { IfOk result (λ table. table ≡ table_of modules.now) }
     {
@@ -47,7 +47,7 @@ impl Table {
         })
     }
 
-    /// The number of the definition of this name for so many strategies and terms.
+    /// The number of the definition of this name with these numbers of strategies and terms.
     pub fn definition(
         &self,
         name: &Name,
@@ -61,7 +61,7 @@ impl Table {
         Ok(self.definitions.get_index_of(&key))
     }
 
-    /// Whether the constructor of this name and number of arguments is declared.
+    /// Whether the constructor with this name and number of arguments is declared.
     pub fn declares(&self, name: &Name, arity: usize) -> Result<bool, NoMemory>
         ensures { IfOk result (λ found. found ≡ is_declared self.now name.now arity) }
     {

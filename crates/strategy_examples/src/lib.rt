@@ -1,5 +1,5 @@
-//! Strategies by example: what each comes to on a term, by the three calls of the evaluator. The
-//! crate holds tests alone: the evaluator's own crate knows no texts.
+//! Strategies by example: the outcome of each on a term, by the three calls of the evaluator. The
+//! crate holds only tests: the evaluator's own crate knows no texts.
 #![tactic(auto)]
 
 #[cfg(test)]

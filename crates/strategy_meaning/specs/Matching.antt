@@ -1,7 +1,8 @@
--- Matching a pattern with a term, and building its instance. Bindings are a list of cells, each empty
--- or with a term; a scope maps the number of a variable to a cell, and here it is the list of these
--- cells, by their numbers. Match and build are those of "A Core Language for Rewriting" by Visser and Benaissa;
--- lists with a tail are the Stratego manual's, and what patterns say of annotations is our own.
+-- Matching a pattern against a term, and building its instance. Bindings are a list of cells, each
+-- empty or with a term; a scope maps the number of a variable to a cell, and here it is the list of
+-- these cells, by their numbers. Match and build are those of "A Core Language for Rewriting" by
+-- Visser and Benaissa; lists with a tail are the Stratego manual's; what patterns say about
+-- annotations is our own.
 use Rattle.std.specs.Prelude.{ℕ, ℤ, Bool, false, cond, List, [], ◌∷◌, ◌++◌, length, take, drop, slice_get, slice_set, Some, None, option_map, option_and_then}
 use Rattle.std.specs.declared.option.Option.{Option}
 use Rattle.std.specs.Ordering.{int_eq}

@@ -1,16 +1,17 @@
--- What a strategy does, from so many steps: `form` is the table, with one clause for each form.
+-- What a strategy does, given a number of steps: `form` is the table, with one clause for each
+-- form.
 --
--- The forms of Visser and Benaissa, "A Core Language for Rewriting", with the meaning that they have
--- there: id, fail, seq, left choice (the guard `s1 < id + s2`), rec, congruences, child, all, one,
--- match, build, where (test) and scope; but `one` takes the leftmost child, where there it may take
--- any. The Stratego manual's, written out here: guards, some, lists with a tail, calls of definitions
--- with strategies and terms, primitives. Our own are the steps that each form costs, the levels at
--- which what is built has to fit, annotations, and the edits.
+-- The forms of Visser and Benaissa, "A Core Language for Rewriting", with their meaning there: id,
+-- fail, seq, left choice (the guard `s1 < id + s2`), rec, congruences, child, all, one, match,
+-- build, where (test) and scope; but `one` takes the leftmost child, where theirs may take any.
+-- From the Stratego manual, written out here: guards, some, lists with a tail, calls of definitions
+-- with strategies and terms, primitives. Our own: the steps that each form costs, the levels at
+-- which built terms have to fit, annotations, and the edits.
 --
--- A form is evaluated in a scope E, at a level l (how many terms stand above the current one), with c
--- steps left besides its own, bindings B and the current term t. What a part used of the steps stays
--- used; what it bound stays bound where it gave a term, and is forgotten where it failed. A part that
--- stopped stops the whole.
+-- A form is evaluated in a scope E, at a level l (the number of terms above the current one), with
+-- c steps left after its own, bindings B and the current term t. Steps that a part used stay used;
+-- its bindings stay if it succeeded, and are dropped if it failed. A part that stops makes the
+-- whole stop.
 use Rattle.std.specs.Prelude.{ℕ, zero, suc, ◌+◌, nat_le, Bool, true, false, cond, ◌==◌, ◌&&◌, List, [], ◌∷◌, ◌++◌, length, take, drop, replicate, map, slice_get, Some, None, option_and_then}
 use Rattle.std.specs.declared.option.Option.{Option}
 use Rattle.term_core.specs.Tree.{Head, Tree, children, with_children, with_child, list_term}

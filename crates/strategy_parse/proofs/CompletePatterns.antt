@@ -23,7 +23,7 @@ pub patterns_of-list : (ps : syntax.Patterns) → patterns_of (pattern_list ps) 
 patterns_of-list no_patterns = refl
 patterns_of-list (and_pattern p ps) = ap (and_pattern p) (patterns_of-list ps)
 
--- ---- what the machine does where a form could go on, and doesn't
+-- ---- the machine where a form could continue and doesn't
 
 pub base_in : (p : Pattern) (S : List Frame) (y : List Token) (r : Strategy) → Accepts (behind_pattern p S) y r → Accepts (behind_base p S) y r
 base_in p S y r k = passes OpenCurly (goes (FirstPattern (Annotations p)) S) (behind_pattern p S) y r (λ K. pattern-stuck (ASign OpenCurly) open_curly refl refl refl refl S p K) k
@@ -36,7 +36,7 @@ named_in f S y r k =
     (passes AtSign (goes ToPattern (At f ∷ S)) (behind_base (variable f) S) y r
     (λ K. pattern-stuck (ASign AtSign) at_sign refl refl refl refl S (variable f) K) k)
 
--- where a pattern was read, its annotations may come if it is a base
+-- after a pattern; its annotations may come if it is a base
 unfoldable pub behind_read : Pattern → List Frame → Token → Next
 behind_read (at x p) S t = behind_pattern (at x p) S t
 behind_read (annotated p ps) S t = behind_pattern (annotated p ps) S t
@@ -150,11 +150,11 @@ mutual
       (whole_in p (ForPattern (Patterns PList done) ∷ S) h.2.0 r
       (bar_in ps (done ++ p ∷ []) S h.2.0 y r h.2.2 (subst (λ l. Accepts (begin_pattern (ForPattern (PatternTail l) ∷ S)) y r) (sym (append_assoc done (p ∷ []) (pattern_list ps))) k))))
 
--- what reads as a pattern, where the rest is accepted behind it
+-- a pattern by the grammar, if the rest is accepted after it
 pub pattern_in : (p : Pattern) (S : List Frame) (x y : List Token) (r : Strategy) → ReadsPattern p x y → Accepts (behind_pattern p S) y r → Accepts (begin_pattern S) x r
 pattern_in p S x y r h k = front_in p S x y r h (whole_in p S y r k)
 
--- a list of patterns behind a first sign, and one behind a `,`
+-- a list of patterns after its first sign, and one after a `,`
 pub list_in : (ps : syntax.Patterns) (g : PatternGroup) (S : List Frame) (x y : List Token) (r : Strategy) → ReadsPatterns ps (closing_sign g) x y
     → Accepts (step (close_patterns g (pattern_list ps)) S) y r → Accepts (first_pattern g S) x r
 list_in ps g S x y r h k = patterns_in ps g S x y r h k

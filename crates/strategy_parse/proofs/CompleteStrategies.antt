@@ -32,7 +32,7 @@ pub strategies_of-list : (ss : syntax.Strategies) → strategies_of (strategy_li
 strategies_of-list syntax.no_strategies = refl
 strategies_of-list (syntax.and_strategy s ss) = ap (syntax.and_strategy s) (strategies_of-list ss)
 
--- ---- what the machine does where a form could go on, and doesn't
+-- ---- the machine where a form could continue and doesn't
 
 arrow_in : (s : Strategy) (S : List Frame) (y : List Token) (r : Strategy) → Accepts (behind_arrow s S) y r → Accepts (behind s S) y r
 arrow_in s S y r k =
@@ -45,12 +45,12 @@ used_in f S y r k =
     passes OpenRound (goes (FirstStrategy (Arguments f)) S) (behind (syntax.uses f syntax.no_strategies syntax.no_patterns) S) y r
     (λ K. behind-stuck (ASign OpenRound) open_round refl refl refl refl S (syntax.uses f syntax.no_strategies syntax.no_patterns) K) k
 
--- no choice ends before a `;` or in front of a `+`
+-- no choice ends before a `;` or a `+`
 stuck-accepts : (f : Token → Next) (x : List Token) (r : Strategy) → ((t : Token) → f t ≡ stuck) → Accepts f x r → ⊥
 stuck-accepts f [] r h k = let no : ◌≡◌ {A = Option Strategy} None (Some r) = sym (ap at_end (h Bad)) ∙ k in cc
 stuck-accepts f (t ∷ ts) r h k = let no : ◌≡◌ {A = Option Strategy} None (Some r) = sym (ap (go_on (λ q S. resume (step q S) ts)) (h t)) ∙ k in cc
 
--- where a whole choice may end before x, no sequence is open
+-- if a whole choice may end before x, no sequence is open
 abbrev pub Bare : List Frame → Type 0
 Bare S = (s : Strategy) (t : Token) → behind_arrow s S t ≡ behind_seq s S t
 
@@ -118,7 +118,7 @@ names_in : (fs : List Symbol) (S : List Frame) (x y : List Token) (r : Strategy)
 names_in [] S x y r h k = rw h k
 names_in (f ∷ fs) S x y r h k = rw h.1 (names_more fs (f ∷ []) S h.0 y r h.2 k)
 
--- the patterns behind a prefix
+-- the patterns after a prefix
 arrows_in : (ps : syntax.Patterns) (s : Strategy) (S : List Frame) (x y : List Token) (r : Strategy) → ReadsArrows ps x y → Accepts (behind (then_matched s ps) S) y r → Accepts (behind s S) x r
 arrows_in no_patterns s S x y r h k = subst (λ l. Accepts (behind s S) l r) h k
 arrows_in (and_pattern p ps) s S x y r h k =

@@ -1,4 +1,4 @@
--- The free names of what the machine reads at the front of some tokens.
+-- The free names of what the machine reads at the start of some tokens.
 use Rattle.std.proofs.Common.{◌≡◌, ◌+◌, ◌≤◌, Bool, true, false, ◌||◌, refl, sym, ap, ◌∙◌, subst, List, [], ◌∷◌, ◌++◌, Some, None, length, length-append, append-nil, arith}
 use Rattle.std.specs.Prelude.{if◌then◌else◌}
 use Rattle.std.specs.declared.option.Option.{Option}
@@ -22,11 +22,11 @@ use Rattle.strategy_parse.proofs.Frames.{Front, Framed, choice_framed}
 use Rattle.strategy_parse.proofs.FrontGives.{front-gives, choice-front}
 use Rattle.strategy_parse.proofs.SeenStrategies.{names_free, ChoiceEnds}
 
--- what is seen where so much is read
+-- what is seen after this much was read
 abbrev pub SeenFrom : State → List Frame → List Token → List Symbol
 SeenFrom q S x = seen q S (next_token x) ++ names_seen (step q S) x
 
--- only the tokens that are taken show names
+-- only the tokens that are read show names
 record Cut (q : State) (S : List Frame) (x y : List Token) : Type 0 where
   pub taken : List Token
   pub splits : x ≡ taken ++ y
@@ -100,7 +100,7 @@ nothing_left = record {
   less = refl;
 }
 
--- a condition at the front of x: what it is, and its free names
+-- a condition at the start of x: the strategy and its free names
 pub record ConditionGives (x : List Token) (s : Strategy) (fs : List Symbol) (y : List Token) : Type 0 where
   pub choice : Choice
   pub reads : ReadsChoice choice x y
@@ -155,7 +155,7 @@ ends_of (t ∷ ts) e =
 pub names_only : (a : Choice) (x y : List Token) → ReadsChoice a x y → Stops y → free_in_choice a ≡ names_seen (begin []) x
 names_only a x y h e = sym (names_free a x y h (ends_of y e))
 
--- whatever reads as a choice and stops is what the machine reads there
+-- any choice that x begins with, and that nothing continues, is what the machine reads there
 pub condition_only : (x : List Token) (s : Strategy) (y : List Token) → front (begin []) x ≡ Some (s, y) → (a : Choice) (z : List Token) → ReadsChoice a x z → Stops z
     → (core a ≡ s) × (z ≡ y)
 condition_only x s y h a z r e =
@@ -165,7 +165,7 @@ condition_only x s y h a z r e =
 pub condition_none : (x : List Token) → front (begin []) x ≡ None → (a : Choice) (z : List Token) → ReadsChoice a x z → Stops z → ⊥
 condition_none x h a z r e = let no : ◌≡◌ {A = Option (Strategy × List Token)} None (Some (core a, z)) = sym h ∙ choice-front a x z r e in cc
 
--- ---- what reads takes tokens, or none
+-- ---- a reading consumes tokens, or none
 
 pub shorter : (R : Reading) → Framed R → (x y : List Token) → R x y → length y ≤ length x
 shorter R f x y h =

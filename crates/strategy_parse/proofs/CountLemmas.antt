@@ -1,4 +1,4 @@
--- How often names stand in lists and among what the open forms name.
+-- How often names occur in lists and among those that the open forms bind.
 use Rattle.std.proofs.Common.{◌≡◌, ℕ, zero, suc, ◌+◌, ◌<◌, ◌||◌, Bool, true, false, List, [], ◌∷◌, ◌++◌, length, take, get_or, refl, sym, ap, ◌∙◌, arith, add-one}
 use Rattle.std.specs.Prelude.{cond, reverse}
 use Rattle.std.proofs.Math.Seq.{take-suc}

@@ -1,4 +1,4 @@
--- Declarations, by the grammar and as they are found.
+-- Declarations, by the grammar and as the functions find them.
 use Rattle.std.proofs.Common.{◌≡◌, ℕ, zero, suc, refl, sym, ap, ◌∙◌, subst, List, [], ◌∷◌, Some, None, arith}
 use Rattle.std.specs.declared.option.Option.{Option}
 use Rattle.term_core.specs.Tree.{Symbol}
@@ -15,13 +15,13 @@ use Rattle.strategy_parse.proofs.SeenPatterns.{NoMark}
 use Rattle.strategy_parse.proofs.HeaderLemmas.{behind_found, behind_none, mark_found}
 use Rattle.strategy_parse.proofs.SortLemmas.{sorts_counted, sort_alone, to_arrow, at_arrow, SortsFound, sorts_found, sort_found}
 
--- nothing comes next that goes on with a declaration
+-- the next token doesn't continue a declaration
 pub record DeclarationEnds (y : List Token) : Type 0 where
   pub round : NoMark OpenRound y
   pub star : NoMark Star y
   pub arrow : NoMark RightArrow y
 
--- ---- what the grammar reads is found
+-- ---- from the grammar to the functions
 
 constant_named : (f : Symbol) (s : Sort) (x y : List Token) → ReadsSort s x y → DeclarationEnds y → behind_arguments (Some f) (sorts_at x) ≡ Some (named_constructor (Some f) 0, y)
 constant_named f s x y h e =
@@ -54,7 +54,7 @@ declaration_named (function None (and_sort s ss) r) x y h e =
     rw front (ap (behind_colon None) (behind_found Colon h.2.0)
     ∙ function_named None s ss r h.2.0 h.2.2.0 h.2.2.2.0 y h.2.2.1 h.2.2.2.1 h.2.2.2.2 e)
 
--- ---- what is found the grammar reads
+-- ---- from the functions to the grammar
 
 pub record DeclarationFound (x : List Token) (cs : List syntax.Constructor) (y : List Token) : Type 0 where
   pub declaration : Declaration

@@ -1,4 +1,4 @@
--- What reads at the front of some tokens reads in front of any tokens.
+-- What reads at the start of some tokens reads before any other tokens.
 use Rattle.std.proofs.Common.{◌≡◌, refl, sym, ap, ◌∙◌, subst, inl, inr, List, [], ◌∷◌, ◌++◌, append_assoc}
 use Rattle.std.specs.Prelude.{pos}
 use Rattle.term_core.specs.Tree.{Symbol, application as applied, list, tuple}
@@ -12,7 +12,7 @@ use Rattle.strategy_tokens.specs.declared.token.Sign.TheVariants.{OpenRound, Clo
 use Rattle.strategy_parse.specs.Written.{Choice, sequence, left_choice, guarded_choice, Seq, last, before, Arrow, arrow, Prefix, question, exclamation, application, identity, failure, operator, if_then, if_then_else, recursion, primitive, local, closure, closure_where, round, square, square_with_tail, name, call, call_with_terms, child, Choices, no_choices, and_choice}
 use Rattle.strategy_parse.specs.Grammar.{Reading, ◌▸◌, Next, Word, Mark, ReadsPattern, ReadsPatterns, ReadsSomePatterns, ReadsMorePatterns, ReadsArrows, ReadsMoreNames, ReadsNames, word_of, ReadsChoice, ReadsSeq, ReadsArrow, ReadsPrefix, ReadsChoices, ReadsSomeChoices, ReadsMoreChoices}
 
--- the tokens that R takes at the front of u, before v
+-- the tokens that R reads at the start of u, before v
 pub record Front (R : Reading) (u v : List Token) : Type 0 where
   pub taken : List Token
   pub splits : u ≡ taken ++ v
@@ -21,7 +21,7 @@ pub record Front (R : Reading) (u v : List Token) : Type 0 where
 pub record Framed (R : Reading) : Type 0 where
   pub frames : (u v : List Token) → R u v → Front R u v
 
--- ---- how readings are put together
+-- ---- how readings are combined
 
 pub next_framed : (t : Token) → Framed (Next t)
 next_framed t = record { frames = λ u v h. record { taken = t ∷ []; splits = h; anywhere = λ z. refl } }

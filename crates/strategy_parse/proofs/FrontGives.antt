@@ -1,4 +1,4 @@
--- What the front of some tokens gives by the machine is what it gives by the grammar.
+-- At the start of some tokens the machine and the grammar give the same.
 use Rattle.std.proofs.Common.{◌≡◌, refl, sym, ap, ◌∙◌, subst, List, [], ◌∷◌, ◌++◌, Some, None, append-nil}
 use Rattle.std.specs.declared.option.Option.{Option}
 use Rattle.strategy_syntax.specs.Syntax as syntax
@@ -25,13 +25,13 @@ use Rattle.strategy_parse.specs.Grammar.{Reading}
 use Rattle.strategy_parse.proofs.Frames.{Front, Framed, choice_framed, pattern_framed}
 use Rattle.strategy_parse.proofs.Fronts.{resumed_front, front_taken}
 
--- what reads alone reads in front of any tokens
+-- what reads alone reads before any tokens
 in_front : (R : Reading) → Framed R → (w y : List Token) → R w [] → R (w ++ y) y
 in_front R f w y h =
     let g = f.frames w [] h in
     subst (λ l. R (l ++ y) y) (sym (g.splits ∙ append-nil g.taken)) (g.anywhere y)
 
--- what reads at the front reads alone
+-- what reads at the start reads alone
 alone : (R : Reading) (u y : List Token) → (f : Front R u y) → R f.taken []
 alone R u y f = subst (λ l. R l []) (append-nil f.taken) (f.anywhere [])
 
@@ -47,7 +47,7 @@ choice-front a x y h stops =
     let run = resumed_front f.taken ToStrategy [] y (core a) stops (reads_all a f.taken (alone (ReadsChoice a) x y f)) in
     ap (front (step ToStrategy [])) f.splits ∙ run
 
--- ---- a pattern behind a `?`
+-- ---- a pattern after a `?`
 
 seq-matches : (ps : Patterns) (s r : Strategy) (q : Pattern) → then_matched (syntax.seq s r) ps ≡ syntax.matches q → ⊥
 seq-matches no_patterns s r q e = cc
@@ -102,7 +102,7 @@ pattern-front p x y h stops =
     (pattern_in p (ForPattern Match ∷ []) f.taken [] (syntax.matches p) (alone (ReadsPattern p) x y f) refl) in
     ap (front (step ToPattern (ForPattern Match ∷ []))) f.splits ∙ run
 
--- ---- what the code says of the front
+-- ---- what the code says about the start
 
 same_front : (s r : Strategy) (x y : List Token) → ◌≡◌ {A = Option (Strategy × List Token)} (Some (s, x)) (Some (r, y)) → (s ≡ r) × (x ≡ y)
 same_front s r x y e =
@@ -145,7 +145,7 @@ module _ (x : List Token) (S : List Frame) (bottom : S ≡ ForPattern Match ∷ 
   pub pattern-none : front (step ToPattern S) x ≡ None → (p : Pattern) (y : List Token) → ReadsPattern p x y → Stops y → ⊥
   pattern-none e p y h stops = no_front (front (step ToPattern S) x) (syntax.matches p, y) e (pattern-reached p y h stops)
 
--- a strategy of another form than `?p` is no `?p`
+-- a strategy of a form other than `?p` is no `?p`
 pub other-form : (f : StrategyForm) (q : Pattern) → strategy_of f ≡ syntax.matches q → ((p : Pattern) → f ≡ form.Match p → ⊥) → ⊥
 other-form (form.Match p) q e apart = apart p refl
 other-form form.Id q e apart = cc

@@ -1,4 +1,4 @@
--- What the machine reads at the front of some tokens is what the grammar reads there.
+-- What the machine reads at the start of some tokens is what the grammar reads there.
 use Rattle.std.proofs.Common.{◌≡◌, zero, suc, ℤ, pos, negsuc, Bool, true, false, refl, ap, ◌∙◌, List, [], ◌∷◌, ◌++◌, Some, None}
 use Rattle.std.specs.Prelude.{if◌then◌else◌, ◌||◌}
 use Rattle.std.specs.declared.option.Option.{Option}
@@ -28,7 +28,7 @@ use Rattle.strategy_tokens.specs.Marks.{is_mark, is_word}
 use Rattle.strategy_parse.specs.Machine.{Next, goes, ends, stuck, begin, begin_sign, begin_word, begin_child, begin_pattern, open_pattern, behind, behind_arrow, behind_seq, behind_choice, in_frame, behind_element, behind_bar, close_strategies, closing, grouped, behind_pattern, behind_base, pattern_in_frame, behind_one, pattern_bar, closing_sign, close_patterns, first_strategy, empty_bar, rec_name, prim_name, scope_name, begin_scope, step, resume, at_end, go_on, front, front_of}
 use Rattle.strategy_parse.specs.Fronts.{goes_on, Stops}
 
--- ---- where a strategy ends, it ends before any token that doesn't go on with it
+-- ---- where a strategy ends, it ends before any token that doesn't continue it
 
 abbrev NoEnd : Next → Type 0
 NoEnd n = (s : Strategy) → n ≡ ends s → ⊥
@@ -46,12 +46,12 @@ if-no false X Y x y = y
 only-no : (b : Bool) (q : State) (S : List Frame) → NoEnd (if b then goes q S else stuck)
 only-no b q S = if-no b (goes q S) stuck (goes-no q S) stuck-no
 
--- what is taken in one case ends in the other
+-- what is read in one case ends in the other
 past : (b : Bool) (X Y : Next) (s : Strategy) → NoEnd X → (if b then X else Y) ≡ ends s → Y ≡ ends s
 past true X Y s x e = absurd (x s e)
 past false X Y s x e = e
 
--- a token with which nothing goes on
+-- a token with which nothing continues
 pub record Quiet (u : Token) : Type 0 where
   pub round : is_mark OpenRound u ≡ false
   pub curly : is_mark OpenCurly u ≡ false
@@ -174,7 +174,7 @@ module _ (t u : Token) (k : Quiet u) where
   base-ends : (S : List Frame) (p : Pattern) (r : Strategy) → behind_base p S t ≡ ends r → behind_base p S u ≡ ends r
   base-ends S p r e = rw k.curly (pattern-ends S p r (past (is_mark OpenCurly t) (goes (FirstPattern (Annotations p)) S) (behind_pattern p S t) r (goes-no (FirstPattern (Annotations p)) S) e))
 
--- ---- what begins never ends
+-- ---- a beginning never ends
 
 open_pattern-no : (s : Sign) (S : List Frame) → NoEnd (open_pattern S s)
 open_pattern-no OpenSquare S r e = cc
@@ -278,7 +278,7 @@ stops_quiet t e =
       less = or-right (is_mark LeftChoice t) _ e5;
     }
 
--- ---- a run to the front
+-- ---- a run over the start
 
 abbrev Fronts : State → List Frame → List Token → Strategy → List Token → Type 0
 Fronts q S x s y = front (step q S) x ≡ Some (s, y)
@@ -302,7 +302,7 @@ pub resumed_front : (w : List Token) (q : State) (S : List Frame) (y : List Toke
 resumed_front [] q S y s h e = stop_front q S y s h (end-is (step q S Bad) s e)
 resumed_front (t ∷ w) q S y s h e = next_front w t y s (λ p T k. resumed_front w p T y s h k) (step q S t) e
 
--- what was taken where the front of x gives s and leaves y
+-- what was read, if x begins with s and y is the rest
 pub record Taken (q : State) (S : List Frame) (x : List Token) (s : Strategy) (y : List Token) : Type 0 where
   pub taken : List Token
   pub splits : x ≡ taken ++ y

@@ -1,4 +1,4 @@
--- The headers of definitions, by the grammar and as they are found.
+-- The headers of definitions, by the grammar and as the functions find them.
 use Rattle.std.proofs.Common.{◌≡◌, Bool, true, false, refl, sym, ap, ◌∙◌, subst, inl, inr, List, [], ◌∷◌, ◌++◌, Some, None, append_assoc, append-nil}
 use Rattle.std.specs.Prelude.{if◌then◌else◌, ◌⊎◌}
 use Rattle.std.specs.declared.option.Option.{Option}
@@ -120,7 +120,7 @@ names_found (Bad ∷ ts) fs y z m h e = no_names (Bad ∷ ts) fs y z m h e
 
 -- ---- headers
 
--- what the grammar reads is found
+-- from the grammar to the functions
 parameters_named : (h : Header) (x y : List Token) → ReadsParameters h.strategies h.terms x y → parameters_at h.name x ≡ Some (h, y)
 parameters_named h x y (inl (none, reads)) =
     ap (behind_strategies h.name) (names_named h.strategies CloseRound x y refl reads)
@@ -144,7 +144,7 @@ header_named h x y r e = rw r.1 (behind r.2) where
       ap (behind_name h.name r.0) (behind_none OpenRound r.0 (subst (NoMark OpenRound) p.0 e))
       ∙ (λ i. Some (make_header h.name (sym p.1 i) (sym p.2 i), sym p.0 i))
 
--- what is found the grammar reads
+-- from the functions to the grammar
 header-left : (h k : Header) (x y : List Token) → ◌≡◌ {A = HeaderLeft} (Some (h, x)) (Some (k, y)) → h ≡ k
 header-left h k x y e = let pair : ◌≡◌ {A = Header × List Token} (h, x) (k, y) = cc in ap (λ (q : Header × List Token). q.0) pair
 
@@ -211,11 +211,11 @@ header_found (Text f ∷ ts) h y k = absurd (cc)
 header_found (ASign s ∷ ts) h y k = absurd (cc)
 header_found (Bad ∷ ts) h y k = absurd (cc)
 
--- one more name behind a comma
+-- one more name after a comma
 pub more_step : (done : List Symbol) (x rest : List Token) (f : Symbol) (ts : List Token) → behind_mark Comma x ≡ Some rest → rest ≡ Ident f ∷ ts → more_names (done ++ f ∷ []) ts ≡ more_names done x
 more_step done x rest f ts e h = sym (ap (more_names done) (mark_found Comma x rest e ∙ ap (λ l. ASign Comma ∷ l) h))
 
--- no name behind a comma
+-- no name after a comma
 pub more_stop : (done : List Symbol) (x rest : List Token) → behind_mark Comma x ≡ Some rest → ((f : Symbol) (ts : List Token) → rest ≡ Ident f ∷ ts → ⊥) → more_names done x ≡ None
 more_stop done x rest e h = ap (more_names done) (mark_found Comma x rest e) ∙ stop rest h where
   stop : (rest : List Token) → ((f : Symbol) (ts : List Token) → rest ≡ Ident f ∷ ts → ⊥) → more_names done (ASign Comma ∷ rest) ≡ None

@@ -1,4 +1,4 @@
--- What the machine does, by what is on top of its stack.
+-- What the machine does, depending on the top of its stack.
 use Rattle.std.proofs.Common.{◌≡◌, ◌+◌, refl, ap, ◌∙◌, List, [], ◌∷◌, ◌++◌, length, arith}
 use Rattle.std.specs.Prelude.{if◌then◌else◌}
 use Rattle.term_core.specs.Tree.{Symbol, tuple}

@@ -1,4 +1,4 @@
--- What items of a module take from the front of some tokens.
+-- What items of a module read from the start of some tokens.
 use Rattle.std.proofs.Common.{◌≡◌, suc, ◌+◌, ◌<◌, refl, sym, ap, ◌∙◌, inl, inr, List, [], ◌∷◌, ◌++◌, Some, None, length, length-append, arith}
 use Rattle.std.specs.Prelude.{◌⊎◌}
 use Rattle.std.specs.declared.option.Option.{Option}
@@ -72,7 +72,7 @@ defined_framed (rule_where h p q a) =
     then_framed (header_framed h) (then_framed (mark_framed Colon) (then_framed (pattern_framed p)
     (then_framed (mark_framed RightArrow) (then_framed (pattern_framed q) (then_framed (word_framed Where) (choice_framed a))))))
 
--- what doesn't read nothing takes a token
+-- a reading that doesn't accept the empty list consumes a token
 module _ (R : Reading) (f : Framed R) (some : R [] [] → ⊥) (x y : List Token) (h : R x y) where
   takes : (t : List Token) → x ≡ t ++ y → R (t ++ []) [] → length y < length x
   takes [] e r = absurd (some r)

@@ -1,4 +1,4 @@
--- Keeping the first of each name.
+-- Keeping the first occurrence of each name.
 use Rattle.std.proofs.Common.{◌≡◌, ℕ, suc, ◌+◌, ◌<◌, ◌||◌, Bool, true, false, List, [], ◌∷◌, ◌++◌, length, get_or, take, drop, refl, sym, ap, ◌∙◌, subst, arith, add-one, drop-cons, append_assoc, append-nil}
 use Rattle.std.proofs.Math.Seq.{take-suc}
 use Rattle.std.proofs.lemmas.Bool.{not-true, not-false}
@@ -12,7 +12,7 @@ use Rattle.strategy_syntax.specs.Lists.{is_among, first_ones}
 
 -- ---- the names kept
 
--- the names kept of the first i, and what the rest adds
+-- the names kept of the first i, followed by what the rest adds
 abbrev pub Kept : List Symbol → List Symbol → List Symbol → ℕ → Type 0
 Kept others kept names i =
     kept ++ first_ones same_name (others ++ kept) (drop i names) ≡ first_ones same_name others names
@@ -24,7 +24,7 @@ module _ (others kept names : List Symbol) (i : ℕ) (x : Symbol) (h : Kept othe
   next : drop i names ≡ x ∷ drop (suc i) names
   next = drop-cons names i x lt ∙ ap (λ y. y ∷ drop (suc i) names) (sym at)
 
-  -- what is kept in the end, where x is among the names seen and where it isn't
+  -- the final names, if x is among the names seen and if it isn't
   abbrev whole : Bool → List Symbol
   whole b =
       kept ++ (if b then first_ones same_name (others ++ kept) (drop (suc i) names)
@@ -53,7 +53,7 @@ kept-end others kept names h =
 abbrev pub same_referred : Bor Symbol → Bor Symbol → Bool
 same_referred q r = same_name q.now r.now
 
--- what is there is these names
+-- the set holds exactly these names
 abbrev pub Saw : (Bor Symbol → Bool) → List Symbol → Type 0
 Saw has fs = (q : Bor Symbol) → has q ≡ is_among same_name q.now fs
 
@@ -67,7 +67,7 @@ among-insert f x fs =
       by false true = refl
       by false false = refl
 
--- a name that is there already changes nothing
+-- adding a name that is already there changes nothing
 among-again : (f x : Symbol) (fs : List Symbol) → is_among same_name x fs ≡ true → is_among same_name f (fs ++ x ∷ []) ≡ is_among same_name f fs
 among-again f x fs h = among-insert f x fs ∙ by (same_name x f) refl where
   by : (b : Bool) → same_name x f ≡ b → cond b true (is_among same_name f fs) ≡ is_among same_name f fs

@@ -1,4 +1,4 @@
--- A list of tokens gives at most one module.
+-- A list of tokens is at most one module.
 use Rattle.std.proofs.Common.{◌≡◌, ℕ, zero, suc, ◌<◌, ◌≤◌, refl, sym, ap, ◌∙◌, subst, List, [], ◌∷◌, ◌++◌, Some, None, length, arith}
 use Rattle.std.specs.declared.option.Option.{Option}
 use Rattle.term_core.specs.Tree.{Symbol, same_name}
@@ -42,7 +42,7 @@ pair-left s r x y e = let pair : ◌≡◌ {A = Strategy × List Token} (s, x) (
 pair-right : (s r : Strategy) (x y : List Token) → ◌≡◌ {A = Option (Strategy × List Token)} (Some (s, x)) (Some (r, y)) → x ≡ y
 pair-right s r x y e = let pair : ◌≡◌ {A = Strategy × List Token} (s, x) (r, y) = cc in ap (λ (q : Strategy × List Token). q.1) pair
 
--- ---- what reads at the front is one
+-- ---- what reads at the start is unique
 
 pattern_at : (x : List Token) (p : Pattern) (y : List Token) → ReadsPattern p x y → Stops y → PatternAt x p y
 pattern_at x p y h e = record {
@@ -54,7 +54,7 @@ pattern_at x p y h e = record {
       (is, pair-right (syntax.matches q) (syntax.matches p) z y same);
 }
 
--- whatever reads as a definition there is this
+-- any definition there is this one
 abbrev Only : List Token → Definition → List Token → Type 0
 Only x d y = (w : Defined) (z : List Token) → ReadsDefined w x z → DefinitionEnds z → (core_definition w ≡ d) × (z ≡ y)
 
@@ -105,7 +105,7 @@ definition_one (rule_where h p q u) x y r e =
           r.2.2.2.2.2.0 r.2.2.2.2.2.1 (core u) y (choice-front u r.2.2.2.2.2.0 y r.2.2.2.2.2.2 e.stops) h names d refl refl);
     }
 
--- ---- what is left is one
+-- ---- the rest is unique
 
 abbrev LeftOne : ℕ → Type 0
 LeftOne n = (p : Part) (x : List Token) (m r : Module) → length x ≤ n → Left p x m → Left p x r → m ≡ r

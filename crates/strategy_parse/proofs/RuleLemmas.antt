@@ -1,4 +1,4 @@
--- Rules and definitions, by the grammar and as they are read.
+-- Rules and definitions, by the grammar and as the functions read them.
 use Rattle.std.proofs.Common.{◌≡◌, true, false, refl, sym, ap, ◌∙◌, subst, List, [], ◌∷◌, ◌++◌, Some, None, append_assoc}
 use Rattle.std.specs.declared.option.Option.{Option}
 use Rattle.term_core.specs.Tree.{Symbol, same_name}
@@ -25,7 +25,7 @@ use Rattle.strategy_parse.proofs.SeenPatterns.{NoMark}
 use Rattle.strategy_parse.proofs.HeaderLemmas.{behind_found, mark_found, header_named, header_found}
 use Rattle.strategy_parse.proofs.ConditionLemmas.{ConditionGives, condition_gives, condition_only, condition_none, names_only}
 
--- ---- a pattern at the front of x, and what is left
+-- ---- a pattern at the start of x, and the rest
 
 pub record PatternAt (x : List Token) (p : Pattern) (a : List Token) : Type 0 where
   pub given : ReadsPattern p x a
@@ -43,7 +43,7 @@ no_behind m x y e h = let no : ◌≡◌ {A = Option (List Token)} None (Some y)
 same_behind : (m : Sign) (x y z : List Token) → behind_mark m x ≡ Some z → x ≡ ASign m ∷ y → y ≡ z
 same_behind m x y z e h = let same : ◌≡◌ {A = Option (List Token)} (Some y) (Some z) = sym (behind_found m y) ∙ ap (behind_mark m) (sym h) ∙ e in cc
 
--- ---- the patterns of a rule, and what is behind them
+-- ---- the patterns of a rule, and the rest
 
 record Patterns (w : Defined) (x y : List Token) : Type 0 where
   pub left : Pattern
@@ -96,7 +96,7 @@ module _ (x : List Token) (p : Pattern) (a : List Token) (at_left : PatternAt x 
       both_are : (w : Defined) (y : List Token) → (t : Patterns w x y) → (t.right ≡ q) × (t.behind_right ≡ c)
       both_are w y t = at_right.only t.right t.behind_right (subst (λ l. ReadsPattern t.right l t.behind_right) (right_is w y t) t.reads_right) t.stops
 
-      -- both patterns are read, and no condition follows
+      -- both patterns were read, and no condition follows
       pub rule_gives : (h : Header) (d : Definition) → d ≡ defined h (scope (first_ones same_name h.terms (variables p ++ variables q)) (rewrite p q)) → RuleGives h x d c
       rule_gives h d e = record {
         written = rule h p q;
@@ -162,7 +162,7 @@ module _ (x : List Token) (p : Pattern) (a : List Token) (at_left : PatternAt x 
             is = written_is;
           }
 
-          -- another choice that reads there has the same core form and the same free names
+          -- another choice there has the same core form and the same free names
           same_where : (k : Header) (l r : Pattern) (u : Choice) → k ≡ h → l ≡ p → r ≡ q → core u ≡ s → free_in_choice u ≡ names_seen (begin []) z → core_definition (rule_where k l r u) ≡ d
           same_where k l r u e f g o n =
               (λ i. defined (e i) (scope (first_ones same_name (e i).terms (variables (f i) ++ (variables (g i) ++ n i))) (rewrite_where (f i) (g i) (o i))))
@@ -193,7 +193,7 @@ header_stops m y z e h = ap (λ l. is_mark OpenRound (next_token l)) e ∙ h
 abbrev pub NoDefinition : List Token → Type 0
 NoDefinition x = (w : Defined) (y : List Token) → ReadsDefined w x y → DefinitionEnds y → ⊥
 
--- the header of a definition, and the sign behind it
+-- the header of a definition, and the sign after it
 pub record Headed (w : Defined) (x y : List Token) : Type 0 where
   pub behind : List Token
   pub reads : ReadsHeader (header_of w) x behind
@@ -264,7 +264,7 @@ module _ (x : List Token) (h : Header) (a : List Token) (at_header : header_at x
     no_colon none (rule_where k p q u) y r ends = no_behind Colon a r.2.0 none (sym (behind_is (rule_where k p q u) y (headed (rule_where k p q u) x y r)) ∙ r.2.1)
 
     module _ (b : List Token) (colon : behind_mark Colon a ≡ Some b) where
-      -- the rule behind the colon
+      -- the rule after the colon
       record Ruled (w : Defined) (y : List Token) : Type 0 where
         pub header : header_of w ≡ h
         pub reads : ReadsRule w b y
@@ -299,7 +299,7 @@ module _ (x : List Token) (h : Header) (a : List Token) (at_header : header_at x
       pub no_ruled : NoRule b → NoDefinition x
       no_ruled none w y r ends = let t : Ruled w y = ruled w y r in none w y t.reads ends
 
--- ---- what a rule is made of
+-- ---- the parts of a rule
 
 pub rule_built : (h : Header) (p q : Pattern) (start names more : List Symbol) (body : Strategy) (d : Definition) → start ≡ [] → names ≡ start ++ variables p → more ≡ names ++ variables q
     → body ≡ rewrite p q → d ≡ defined h (scope (first_ones same_name h.terms more) body) → d ≡ defined h (scope (first_ones same_name h.terms (variables p ++ variables q)) (rewrite p q))

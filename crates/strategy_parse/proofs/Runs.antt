@@ -26,11 +26,11 @@ use Rattle.strategy_tokens.specs.Marks.{is_mark, is_word}
 use Rattle.strategy_parse.specs.Machine.{Next, stuck, behind, behind_arrow, behind_choice, in_frame, behind_element, behind_pattern, pattern_in_frame, behind_one, step, resume, go_on}
 use Rattle.strategy_tokens.proofs.MarkLemmas.{mark_is, word_is}
 
--- from where f says where the first token leads to, the tokens give the strategy
+-- if f is the effect of the first token, the tokens give the strategy
 abbrev pub Accepts : (Token → Next) → List Token → Strategy → Type 0
 Accepts f x r = resume f x ≡ Some r
 
--- ... and from a place already reached
+-- ... and from a place reached already
 abbrev pub Goes : Next → List Token → Strategy → Type 0
 Goes n x r = go_on (λ q S. resume (step q S) x) n ≡ Some r
 
@@ -262,7 +262,7 @@ pub passes : (m : Sign) (X : Next) (f : Token → Next) (x : List Token) (r : St
 passes m X f [] r h k = k
 passes m X f (t ∷ ts) r h k = skip (is_mark m t) X (f t) ts r (λ e. subst (λ u. Refuses (f u)) (sym (mark_is m t e)) h) k
 
--- the token is the sign, or it is taken as f says
+-- the token is the sign, or its effect is that of f
 abbrev pub AtMark : Sign → Next → (Token → Next) → List Token → Strategy → Type 0
 AtMark m X f x r = ((y : List Token) × (x ≡ ASign m ∷ y) × Goes X y r) ⊎ Accepts f x r
 
@@ -290,7 +290,7 @@ pub no_accepts : (x : List Token) (r : Strategy) → Accepts (λ t. stuck) x r �
 no_accepts [] r k = cc
 no_accepts (t ∷ ts) r k = cc
 
--- where only one sign is taken
+-- only one sign is accepted
 pub only_mark : (m : Sign) (X : Next) (x : List Token) (r : Strategy) → Accepts (λ t. if (is_mark m t) then X else stuck) x r → (y : List Token) × (x ≡ ASign m ∷ y) × Goes X y r
 only_mark m X x r k = elim (at_mark m X (λ t. stuck) x r k) [
   | inl found ↦ found

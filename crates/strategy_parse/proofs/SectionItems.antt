@@ -1,4 +1,4 @@
--- What a module gives behind a sort, a declaration or a definition, and what may come behind these.
+-- What a module gives after a sort, a declaration or a definition, and what may come after these.
 use Rattle.std.proofs.Common.{◌≡◌, false, refl, sym, ap, ◌∙◌, subst, inl, inr, List, [], ◌∷◌}
 use Rattle.std.specs.Prelude.{◌⊎◌}
 use Rattle.std.specs.List.{flat_map}
@@ -79,7 +79,7 @@ sorts_apart : (ss : List Sort) (x y : List Token) (m : Module) → ReadsSorts ss
 sorts_apart [] x y m r l = subst DeclarationEnds r (apart_end y (signature_front l.parts y l.rest l.behind l.reads l.left))
 sorts_apart (s ∷ ss) x y m r l = apart_named x (sort_named s x r.0 r.1)
 
--- an item comes: what it is, and what is left behind it
+-- an item comes: the item and the rest after it
 pub record DefinitionStep (x : List Token) (m : Module) : Type 0 where
   pub definition : Defined
   pub rest : List Token

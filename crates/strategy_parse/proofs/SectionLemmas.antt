@@ -1,4 +1,4 @@
--- What was read of a module and what is left stand for the same modules before and behind each step.
+-- What was read of a module and the rest stand for the same modules before and after each step.
 use Rattle.std.proofs.Common.{◌≡◌, refl, sym, ap, ◌∙◌, subst, List, [], ◌∷◌, ◌++◌, Some, None, Err, append-nil, length, arith}
 use Rattle.std.specs.declared.option.Option.{Option}
 use Rattle.std.specs.declared.result.Result.{Result}
@@ -21,7 +21,7 @@ unfoldable use Rattle.strategy_parse.proofs.SectionWords.{nothing}
 use Rattle.strategy_parse.proofs.SectionWords.{joined-joined, WordStep, word_step, word_back, some-is, left_end, left_nothing}
 use Rattle.strategy_parse.proofs.SectionItems.{outside_item, signature_item, DefinitionStep, definition_step, definition_back, DeclarationStep, declaration_step, declaration_back, SortStep, sort_step, sort_back}
 
--- ---- a word is taken, or the text ends
+-- ---- a word is read, or the text ends
 
 module _ (p : Part) (cs : List Constructor) (ds : List Definition) (m : Module) where
   pub word_forth : (w : Keyword) (q : Part) (x : List Token) → next_part p w ≡ Some q → Stands p cs ds (Reserved w ∷ x) m → Stands q cs ds x m
@@ -52,7 +52,7 @@ module _ (p : Part) (cs : List Constructor) (ds : List Definition) (m : Module) 
     gives = (λ i. record { constructors = append-nil cs i; definitions = append-nil ds i }) ∙ sym e;
   }
 
--- ---- an item is taken
+-- ---- an item is read
 
 module _ (cs : List Constructor) (ds : List Definition) (x : List Token) (m : Module) (item : IsItem x) where
   pub sort_forth : (y : List Token) → sort_at x ≡ Some y → Stands Sorts cs ds x m → Stands Sorts cs ds y m

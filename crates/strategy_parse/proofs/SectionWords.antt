@@ -1,4 +1,4 @@
--- What a module gives behind a word that begins a part of it, and at the end of its text.
+-- What a module gives after a word that begins a part of it, and at the end of its text.
 use Rattle.std.proofs.Common.{◌≡◌, refl, sym, ap, ◌∙◌, subst, inl, inr, List, [], ◌∷◌, ◌++◌, Some, None, append_assoc}
 use Rattle.std.specs.Prelude.{◌⊎◌}
 use Rattle.std.specs.declared.option.Option.{Option}
@@ -17,7 +17,7 @@ use Rattle.strategy_parse.specs.GrammarModules.{ReadsSort, ReadsDeclaration, Rea
 use Rattle.strategy_parse.specs.Core.{declared, declared_in_part, core_definitions, core_module}
 use Rattle.strategy_parse.specs.Sections.{in_signature, next_part, IsItem, joined, SectionsLeft, SignatureLeft, SortsLeft, DeclarationsLeft, DefinitionsLeft, Left}
 
--- a module without anything in it
+-- an empty module
 unfoldable pub nothing : Module
 nothing = record { constructors = []; definitions = [] }
 
@@ -27,7 +27,7 @@ joined-joined ys bs cs ds m = λ i. record {
   definitions = sym (append_assoc cs ds m.definitions) i;
 }
 
--- ---- what begins items
+-- ---- the beginnings of items
 
 pub record Named (x : List Token) : Type 0 where
   pub name : Symbol

@@ -25,9 +25,9 @@ use Rattle.strategy_syntax.specs.Lists.{is_among, without}
 use Rattle.strategy_parse.proofs.CompletePatterns.{patterns_of-list}
 unfoldable use Rattle.strategy_parse.proofs.CompletePatterns.{behind_read}
 
--- ---- the names that no open form names
+-- ---- the names that no open form binds
 
--- the names at which the test fails
+-- the names that fail the test
 abbrev pub keep : (Symbol → Bool) → List Symbol → List Symbol
 keep h [] = []
 keep h (f ∷ fs) = (if h f then [] else f ∷ []) ++ keep h fs
@@ -58,7 +58,7 @@ pub keep-without : (xs : List Symbol) (h : Symbol → Bool) (fs : List Symbol) �
 keep-without xs h [] = refl
 keep-without xs h (f ∷ fs) = keep_one (is_among same_name f xs) h f (without same_name xs fs) (keep (λ g. is_among same_name g xs || h g) fs) (keep-without xs h fs)
 
--- what is seen first, and what is seen then
+-- what is seen first, and what is seen afterwards
 pub chain : (S : List Frame) (a b l m n : List Symbol) → l ≡ free S a ++ m → m ≡ free S b ++ n → l ≡ free S (a ++ b) ++ n
 chain S a b l m n first then_more =
     first ∙ ap (λ k. free S a ++ k) then_more
@@ -80,7 +80,7 @@ no_mark m k y z h e = ap (λ l. is_mark m (next_token l)) h ∙ e
 pub no_mark_word : (m : Sign) (k : Keyword) (y z : List Token) → y ≡ Reserved k ∷ z → NoMark m y
 no_mark_word m k y z h = ap (λ l. is_mark m (next_token l)) h
 
--- nothing comes next that goes on with a name or with a pattern
+-- the next token continues neither a name nor a pattern
 pub record NameEnds (y : List Token) : Type 0 where
   pub round : NoMark OpenRound y
   pub at_sign : NoMark AtSign y
@@ -298,7 +298,7 @@ pub pattern_seen : (p : Pattern) (S : List Frame) (x y : List Token) → ReadsPa
     → names_seen (begin_pattern S) x ≡ free S (variables p) ++ names_seen (behind_pattern p S) y
 pattern_seen p S x y h n c = front_seen p S x y h n (inr c) ∙ ap (λ l. free S (variables p) ++ l) (whole_seen p S y c)
 
--- ... of a list of patterns, behind its first sign, and behind one of them
+-- ... of a list of patterns, after its first sign, and after one of them
 pub list_seen : (ps : syntax.Patterns) (g : PatternGroup) (S : List Frame) (x y : List Token) → ReadsPatterns ps (closing_sign g) x y
     → names_seen (first_pattern g S) x ≡ free S (variables_of_all ps) ++ names_seen (step (close_patterns g (pattern_list ps)) S) y
 list_seen ps g S x y h = patterns_seen ps g S x y h

@@ -1,4 +1,4 @@
--- The names that are seen while the machine reads a strategy are those that stand free in it.
+-- The names that are seen while the machine reads a strategy are those free in it.
 use Rattle.std.proofs.Common.{◌≡◌, ℕ, zero, suc, pos, false, refl, sym, ap, ◌∙◌, subst, List, [], ◌∷◌, ◌++◌, ◌≤◌, arith, append_assoc, append-nil}
 use Rattle.std.specs.Prelude.{if◌then◌else◌}
 use Rattle.term_core.specs.Tree.{Symbol, same_name, list}
@@ -36,12 +36,12 @@ use Rattle.strategy_parse.proofs.SeenPatterns.{free, keep-none, keep-all, keep-w
 
 -- ---- what doesn't come next
 
--- nothing that goes on with a pattern or with the name of a strategy
+-- the next token continues neither a pattern nor the name of a strategy
 pub record PrefixEnds (y : List Token) : Type 0 where
   pub name : NameEnds y
   pub curly : NoMark OpenCurly y
 
--- ... nor with what stands between `;`
+-- ... nor an operand of `;`
 pub record ArrowEnds (y : List Token) : Type 0 where
   pub prefix : PrefixEnds y
   pub arrow : NoMark FatArrow y
@@ -242,7 +242,8 @@ prim_seen (and_pattern p ps) n S x y h =
     (rest_seen ps (Prim n) (p ∷ []) S h.2.0 y h.2.2
     ∙ ap (λ l. free S (variables_of_all ps) ++ names_seen (behind (syntax.prim n (and_pattern p l)) S) y) (patterns_of-list ps)))
 
--- in the left side of a closure nothing is seen, and in its right side not what it names
+-- in the left side of a closure nothing is seen, and in its right side nothing that the left side
+-- binds
 left_sees : (p : Pattern) (S : List Frame) (x y z : List Token) → ReadsPattern p x y → y ≡ ASign RightArrow ∷ z
     → names_seen (begin_pattern (ForPattern ClosureLeft ∷ S)) x ≡ names_seen (begin_pattern (ForPattern (ClosureRight p) ∷ S)) z
 left_sees p S x y z h e =
@@ -417,7 +418,7 @@ ended : (s : Strategy) (y : List Token) → names_seen (behind_choice s []) y �
 ended s [] = refl
 ended s (t ∷ ts) = refl
 
--- what reads as a choice with nothing behind it that goes on: its free names, in the order of the text
+-- a choice that nothing after it continues: its free names, in the order of the text
 pub names_free : (a : Choice) (x y : List Token) → ReadsChoice a x y → ChoiceEnds y → names_seen (begin []) x ≡ free_in_choice a
 names_free a x y h e =
     choice_sees a [] x y h (λ s t. refl) e

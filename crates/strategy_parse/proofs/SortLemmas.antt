@@ -1,4 +1,4 @@
--- The sorts at the front of a list of tokens, by the grammar and as they are counted.
+-- The sorts at the start of a list of tokens, by the grammar and as the functions count them.
 use Rattle.std.proofs.Common.{◌≡◌, ℕ, zero, suc, ◌+◌, Bool, true, false, refl, sym, ap, ◌∙◌, subst, List, [], ◌∷◌, Some, None, ◌≤◌, arith}
 use Rattle.std.specs.Prelude.{if◌then◌else◌}
 use Rattle.term_core.specs.Tree.{Symbol}
@@ -18,11 +18,11 @@ use Rattle.strategy_parse.specs.ModuleFronts.{SortsLeft, behind_sort, begin_sort
 use Rattle.strategy_tokens.proofs.MarkLemmas.{mark_is}
 use Rattle.strategy_parse.proofs.SeenPatterns.{NoMark, no_mark}
 
--- sorts are left as they are
+-- the tokens are unchanged
 abbrev pub Nothing : Reading
 Nothing u v = v ≡ u
 
--- ---- what the grammar reads is counted
+-- ---- from the grammar to the count
 
 named_closed : (d n : ℕ) (y : List Token) → NoMark OpenRound y → sorts_from Named d n y ≡ sorts_from Closed d n y
 named_closed d n [] e = refl
@@ -61,7 +61,7 @@ stars_counted (and_sort s ss) n x y h e f =
     rw h.1 (sort_counted s 0 (suc n) h.0 h.2.0 h.2.1 (star_end ss h.2.0 y h.2.2 e)
     ∙ stars_counted ss (suc n) h.2.0 y h.2.2 e f ∙ ap (λ k. Some (k, y)) same)
 
--- the sorts of a declaration, with `*` between
+-- the sorts of a declaration, separated by `*`
 pub sorts_counted : (s : Sort) (ss : Sorts) (x a y : List Token) → ReadsSort s x a → ReadsMoreSorts ss Star Nothing a y → NoMark OpenRound y → NoMark Star y → sorts_at x ≡ Some (sort_count (and_sort s ss), y)
 sorts_counted s ss x a y h k e f =
     let same : sort_count ss + 1 ≡ suc (sort_count ss) = omega arith in
@@ -79,9 +79,9 @@ pub at_arrow : (ss : Sorts) (x y : List Token) → ReadsMoreSorts ss Star Nothin
 at_arrow no_sorts x y h = sym h
 at_arrow (and_sort s ss) x y h = (h.0, h.1, (h.2.0, h.2.1, at_arrow ss h.2.0 y h.2.2))
 
--- ---- what is counted, the grammar reads
+-- ---- from the count to the grammar
 
--- so many brackets are closed
+-- this many brackets are closed
 abbrev Closes : ℕ → Reading
 Closes zero u v = v ≡ u
 Closes (suc d) u v = (a : List Token) × (ss : Sorts) × ReadsMoreSorts ss Comma (Mark CloseRound) u a × Closes d a v
@@ -213,7 +213,7 @@ sound (t ∷ ts) = record {
   closed = λ d n k y h. behind_is t ts (sound ts) d n k y h;
 }
 
--- sorts with `*` between
+-- sorts separated by `*`
 pub record SortsFound (x : List Token) (n : ℕ) (y : List Token) : Type 0 where
   pub first : Sort
   pub behind : List Token

@@ -1,4 +1,4 @@
--- What the machine reads as a choice or as a list of choices, the grammar reads, if it reads each form.
+-- If the grammar reads each form that the machine reads, so it does choices and lists of choices.
 use Rattle.std.proofs.Common.{◌≡◌, ℕ, zero, suc, refl, sym, ap, subst, inl, inr, List, [], ◌∷◌, ◌++◌, length, ◌≤◌, ◌<◌, arith, append_assoc, append-nil}
 use Rattle.std.specs.Prelude.{if◌then◌else◌}
 use Rattle.strategy_syntax.specs.Syntax as syntax

@@ -1,4 +1,4 @@
--- What the machine reads in front of what the open forms take: patterns, names, and what is found.
+-- What the machine reads before what the open forms accept: patterns, names, and prefixes.
 use Rattle.std.proofs.Common.{◌≡◌, ℕ, zero, suc, refl, sym, ap, subst, inl, inr, List, [], ◌∷◌, ◌++◌, length, ◌≤◌, ◌<◌, arith, append_assoc, append-nil}
 use Rattle.std.specs.Prelude.{if◌then◌else◌, ◌⊎◌}
 use Rattle.term_core.specs.Tree.{Symbol}
@@ -24,7 +24,7 @@ use Rattle.strategy_parse.specs.Core.{then_matched, core, core_seq, core_prefix,
 use Rattle.strategy_parse.proofs.Runs.{Accepts, Goes, at_mark, only_mark}
 use Rattle.strategy_parse.proofs.SoundPatterns.{FoundPattern, pattern_found}
 
--- ---- what is found at the front of x, behind which the rest is accepted
+-- ---- a prefix at the start of x, if the rest is accepted after it
 
 pub record FoundPrefix (S : List Frame) (x : List Token) (r : Strategy) : Type 0 where
   pub prefix : Prefix
@@ -57,7 +57,7 @@ pub record FoundChoice (S : List Frame) (x : List Token) (r : Strategy) : Type 0
   pub accepts : Accepts (behind_choice (core choice) S) rest r
   pub shorter : length rest < length x
 
--- the strategies of a list, behind those done, up to the sign that closes it
+-- the further strategies of a list, up to the sign that closes it
 pub record MoreClosed (g : StrategyGroup) (done : List Strategy) (S : List Frame) (x : List Token) (r : Strategy) : Type 0 where
   pub choices : Choices
   pub rest : List Token
@@ -76,7 +76,7 @@ pub record MoreBar (g : StrategyGroup) (done : List Strategy) (S : List Frame) (
 abbrev pub MoreOf : StrategyGroup → List Strategy → List Frame → List Token → Strategy → Type 0
 MoreOf g done S x r = MoreClosed g done S x r ⊎ MoreBar g done S x r
 
--- behind the sign that opens a list
+-- after the sign that opens a list
 pub record ListClosed (g : StrategyGroup) (S : List Frame) (x : List Token) (r : Strategy) : Type 0 where
   pub choices : Choices
   pub rest : List Token

@@ -20,7 +20,7 @@ use Rattle.strategy_parse.specs.Grammar.{IsBase, ReadsPattern, ReadsPatterns, Re
 use Rattle.strategy_parse.proofs.Runs.{Accepts, Goes, at_mark, only_mark}
 use Rattle.strategy_parse.proofs.CompletePatterns.{patterns_of-list}
 
--- a pattern at the front of x, behind which the rest is accepted
+-- a pattern at the start of x, if the rest is accepted after it
 pub record FoundPattern (S : List Frame) (x : List Token) (r : Strategy) : Type 0 where
   pub pattern : Pattern
   pub rest : List Token
@@ -28,7 +28,7 @@ pub record FoundPattern (S : List Frame) (x : List Token) (r : Strategy) : Type 
   pub accepts : Accepts (behind_pattern pattern S) rest r
   pub shorter : length rest < length x
 
--- patterns at the front of x, up to the sign that closes their list
+-- patterns at the start of x, up to the sign that closes their list
 pub record FoundList (g : PatternGroup) (S : List Frame) (x : List Token) (r : Strategy) : Type 0 where
   pub patterns : syntax.Patterns
   pub rest : List Token
@@ -36,7 +36,7 @@ pub record FoundList (g : PatternGroup) (S : List Frame) (x : List Token) (r : S
   pub accepts : Accepts (step (close_patterns g (pattern_list patterns)) S) rest r
   pub shorter : length rest < length x
 
--- the patterns behind those done
+-- the further patterns
 pub record FoundMore (g : PatternGroup) (done : List Pattern) (S : List Frame) (x : List Token) (r : Strategy) : Type 0 where
   pub patterns : syntax.Patterns
   pub rest : List Token
@@ -44,7 +44,7 @@ pub record FoundMore (g : PatternGroup) (done : List Pattern) (S : List Frame) (
   pub accepts : Accepts (step (close_patterns g (done ++ pattern_list patterns)) S) rest r
   pub shorter : length rest < length x
 
--- the patterns of a list up to a `|`, and the pattern behind it
+-- the patterns of a list up to a `|`, and the pattern after it
 pub record FoundTail (S : List Frame) (x : List Token) (r : Strategy) : Type 0 where
   pub patterns : syntax.Patterns
   pub last : Pattern
@@ -83,7 +83,7 @@ abbrev pub Listed : PatternGroup → List Frame → List Token → Strategy → 
 Listed g S x r = FoundList g S x r ⊎ ((g ≡ PList) × FoundTail S x r)
 
 module _ (n : ℕ) (P : PatternsTo n) where
-  -- a `|` behind the patterns of a list
+  -- a `|` after the patterns of a list
   bar_found : (g : PatternGroup) (done : List Pattern) (S : List Frame) (x z : List Token) (r : Strategy) → x ≡ ASign Bar ∷ z → length x ≤ n → Goes (pattern_bar g done S) z r → (g ≡ PList) × FoundBar done S x r
   bar_found PList done S x z r e le k =
       let l : length x ≡ suc (length z) = ap length e in
@@ -158,7 +158,7 @@ module _ (n : ℕ) (P : PatternsTo n) where
     | inr other ↦ let bar = only_mark Bar (pattern_bar g done S) x r other in inr (bar_found g done S x bar.0 r bar.1 le bar.2)
   ]
 
-  -- behind one pattern of a list
+  -- after one pattern of a list
   pub more_found : (m : ℕ) → m ≤ n → (g : PatternGroup) (done : List Pattern) (S : List Frame) (x : List Token) (r : Strategy) → length x ≤ m → Accepts (behind_one g done S) x r → More g done S x r
   more_found zero le g done S x r lx k = elim (at_mark Comma (goes ToPattern (ForPattern (Patterns g done) ∷ S)) (Closing g done S) x r k) [
     | inl next ↦ let l : length x ≡ suc (length next.0) = ap length next.1 in absurd (omega arith)
@@ -203,7 +203,7 @@ module _ (n : ℕ) (P : PatternsTo n) where
         },
       )
 
-  -- behind the sign that opens a list
+  -- after the sign that opens a list
   pub list_found : (g : PatternGroup) (S : List Frame) (x : List Token) (r : Strategy) → length x ≤ n → Accepts (first_pattern g S) x r → Listed g S x r
   list_found g S x r le k = elim (at_mark (closing_sign g) (goes (close_patterns g []) S) (begin_pattern (ForPattern (Patterns g []) ∷ S)) x r k) [
     | inl end ↦

@@ -345,7 +345,7 @@ prefix_found n S [] r le k = absurd (cc)
 prefix_found zero S (t ∷ ts) r le k = absurd (omega arith)
 prefix_found (suc n) S (t ∷ ts) r le k = begun n (prefix_found n) t S ts r (omega arith) k
 
--- a choice in front of what the open forms take
+-- a choice before what the open forms accept
 pub choice_at : (S : List Frame) (x : List Token) (r : Strategy) → Bare S → Accepts (begin S) x r → FoundChoice S x r
 choice_at S x r bare k = choice_found (length x) (prefix_found (length x)) (length x) (omega arith) S x r bare (omega arith) k
 

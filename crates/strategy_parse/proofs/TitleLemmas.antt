@@ -1,4 +1,4 @@
--- The word `module` and a name, which may stand before the sections.
+-- The word `module` and a name, which may come before the sections.
 use Rattle.std.proofs.Common.{◌≡◌, true, false, refl, sym, ap, ◌∙◌, subst, inl, inr, List, [], ◌∷◌, Some, None}
 use Rattle.std.specs.declared.option.Option.{Option}
 use Rattle.term_core.specs.Tree.{Symbol}
@@ -27,7 +27,7 @@ no_module_word (signature ps ∷ ss) x y e r = let no : Reserved KModule ∷ y �
 no_module_word (definitions ds ∷ ss) x y e (v, (a, (inl k), reads), rest) = let no : Reserved KModule ∷ y ≡ Reserved Rules ∷ a = sym e ∙ k in cc
 no_module_word (definitions ds ∷ ss) x y e (v, (a, (inr k), reads), rest) = let no : Reserved KModule ∷ y ≡ Reserved Strategies ∷ a = sym e ∙ k in cc
 
--- behind the word `module` a name comes
+-- a name comes after the word `module`
 pub title_forth : (x y : List Token) (m : Module) → x ≡ Reserved KModule ∷ y → GivesModule x m → (f : Symbol) × (z : List Token) × (y ≡ Ident f ∷ z) × Left Outside z m
 title_forth x y m e (ss, (v, (inl t), reads), is) =
     let word : Reserved KModule ∷ y ≡ Reserved KModule ∷ t.1.0 = sym e ∙ t.1.1 in

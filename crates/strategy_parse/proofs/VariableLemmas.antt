@@ -1,4 +1,4 @@
--- The variables of patterns, as they are collected.
+-- Collecting the variables of patterns.
 use Rattle.std.proofs.Common.{◌≡◌, ℕ, suc, zero, ◌+◌, ◌<◌, ◌≤◌, List, [], ◌∷◌, ◌++◌, length, get_or, take, refl, sym, ap, ◌∙◌, arith, add-one, append_assoc, append-nil}
 use Rattle.std.proofs.Math.Seq.{take-suc}
 use Rattle.term_core.specs.Tree.{Symbol}
@@ -19,7 +19,7 @@ variables-append : (ps qs : List Pattern) → variables_of_all (patterns_of (ps 
 variables-append [] qs = refl
 variables-append (p ∷ ps) qs = ap (λ l. variables p ++ l) (variables-append ps qs) ∙ sym (append_assoc (variables p) (variables_of_all (patterns_of ps)) (variables_of_all (patterns_of qs)))
 
--- the variables of one pattern more
+-- the variables of one more pattern
 pub variables-next : (ps : List Pattern) (i : ℕ) (p : Pattern) → i < length ps → p ≡ get_or ps i p
     → variables_of_all (patterns_of (take (i + 1) ps)) ≡ variables_of_all (patterns_of (take i ps)) ++ variables p
 variables-next ps i p lt at =

@@ -1,4 +1,4 @@
--- The translation of what is written into core forms.
+-- The translation of a text's syntax into core forms.
 use Rattle.std.specs.Prelude.{ℕ, suc, List, [], ◌∷◌, ◌++◌, Some, None}
 use Rattle.std.specs.List.{flat_map}
 use Rattle.term_core.specs.Tree.{Symbol, same_name, list, tuple}
@@ -12,8 +12,8 @@ use Rattle.strategy_parse.specs.Written.{Choice, sequence, left_choice, guarded_
 
 -- ---- variables
 
--- The variables that stand free in a strategy, in the order of the text: in a pattern, where no
--- scope round it names them. A closure is a scope of the variables of its left side.
+-- The variables free in a strategy, in the order of the text: each occurrence in a pattern that no
+-- enclosing scope binds. A closure is a scope of the variables of its left side.
 abbrev mutual
   pub free_in_choice : Choice → List Symbol
   free_in_choice (sequence a) = free_in_seq a
@@ -77,7 +77,7 @@ in_brackets (and_strategy s no_strategies) = s
 in_brackets (and_strategy s (and_strategy r ss)) =
     congruence tuple (and_strategy s (and_strategy r ss))
 
--- what a rule and a closure do
+-- the action of a rule and of a closure
 abbrev pub rewrite : Pattern → Pattern → Strategy
 rewrite p q = seq (matches p) (builds q)
 
@@ -143,7 +143,7 @@ defined h s = record {
   body = s;
 }
 
--- A rule is a definition with a scope of the variables that stand free in it, without its term
+-- A rule is a definition whose body is a scope of the variables free in it, except for its term
 -- parameters.
 abbrev pub core_definition : Defined → syntax.Definition
 core_definition (definition h a) = defined h (core a)
@@ -170,8 +170,9 @@ abbrev pub defined_in : Section → List syntax.Definition
 defined_in (signature parts) = []
 defined_in (definitions ds) = core_definitions ds
 
--- What the sections of a module declare and define, in the order of the text. Definitions of one name
--- stand apart here: which of them are one definition is a matter of all loaded modules together.
+-- The declarations and definitions of a module's sections, in the order of the text. Definitions of
+-- the same name are kept apart here: which of them are one definition depends on all loaded modules
+-- together.
 abbrev pub core_module : List Section → syntax.Module
 core_module ss = record {
   constructors = flat_map declared_in ss;

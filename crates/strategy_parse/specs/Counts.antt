@@ -1,4 +1,4 @@
--- How often a name stands among those that the open forms name.
+-- How often a name occurs among those that the open forms bind.
 use Rattle.std.specs.Prelude.{◌≡◌, ℕ, ◌+◌, List, [], ◌∷◌, cond, unwrap_or}
 use Rattle.std.specs.declared.hash.FoldHasher.{FoldHasher}
 use Rattle.std.specs.declared.hash.BuildHasherDefault.{BuildHasherDefault}
@@ -14,7 +14,7 @@ use Rattle.strategy_syntax.specs.Variables.{variables}
 abbrev pub Counts : Type 0
 Counts = HashMap Symbol ℕ (BuildHasherDefault FoldHasher)
 
--- 0 where the map doesn't have the name
+-- 0 if the map doesn't have the name
 abbrev pub count : Counts → Symbol → ℕ
 count m f = unwrap_or (get same_name m f) 0
 
@@ -22,11 +22,11 @@ abbrev pub occurrences : Symbol → List Symbol → ℕ
 occurrences f [] = 0
 occurrences f (g ∷ gs) = cond (same_name g f) 1 0 + occurrences f gs
 
--- n counts the names of the list besides what m counts
+-- n counts the names of the list in addition to m
 abbrev pub Raised : Counts → Counts → List Symbol → Type 0
 Raised m n fs = (f : Symbol) → count n f ≡ count m f + occurrences f fs
 
--- the names by which a form hides
+-- the names that a form binds
 abbrev pub named : Frame → List Symbol
 named (ForStrategy (Scope fs)) = fs
 named (ForStrategy (Where l r)) = variables l
@@ -46,6 +46,6 @@ abbrev pub lefts_in : List Frame → ℕ
 lefts_in [] = 0
 lefts_in (F ∷ S) = lefts_of F + lefts_in S
 
--- what is counted is what the open forms hide
+-- the counts agree with what the open forms hide
 abbrev pub IsCounted : Counts → ℕ → List Frame → Type 0
 IsCounted m n S = ((f : Symbol) → count m f ≡ occurrences_in f S) × (n ≡ lefts_in S)

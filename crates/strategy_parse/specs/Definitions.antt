@@ -1,4 +1,4 @@
--- What the front of a list of tokens gives as a definition.
+-- The definition at the start of a list of tokens.
 use Rattle.std.specs.Prelude.{◌≡◌, false, List}
 use Rattle.strategy_syntax.specs.Modules.{Definition}
 use Rattle.strategy_tokens.specs.declared.token.Token.{Token}
@@ -12,18 +12,18 @@ use Rattle.strategy_parse.specs.Fronts.{Stops}
 use Rattle.strategy_parse.specs.FreeNames.{next_token}
 use Rattle.strategy_tokens.specs.Marks.{is_word}
 
--- nothing comes next that goes on with a definition
+-- the next token doesn't continue a definition
 pub record DefinitionEnds (y : List Token) : Type 0 where
   pub stops : Stops y
   pub no_condition : is_word Where (next_token y) ≡ false
 
--- the front of x reads as a definition, whose core form it is, and y is left
+-- x begins with a definition whose core form is d, and y is the rest
 pub record DefinitionGives (x : List Token) (d : Definition) (y : List Token) : Type 0 where
   pub written : Defined
   pub reads : ReadsDefined written x y
   pub is : core_definition written ≡ d
 
--- ---- rules, behind the colon
+-- ---- rules, after the colon
 
 abbrev pub header_of : Defined → Header
 header_of (definition h a) = h
@@ -36,7 +36,7 @@ ReadsRule (rule h p q) u v = (ReadsPattern p ▸ Mark RightArrow ▸ ReadsPatter
 ReadsRule (rule_where h p q a) u v =
     (ReadsPattern p ▸ Mark RightArrow ▸ ReadsPattern q ▸ Word Where ▸ ReadsChoice a) u v
 
--- the front of x reads as the rest of a rule with this header
+-- x begins with the rest of a rule with this header
 pub record RuleGives (h : Header) (x : List Token) (d : Definition) (y : List Token) : Type 0 where
   pub written : Defined
   pub header : header_of written ≡ h

@@ -1,4 +1,4 @@
--- The faults of a text, by those of reading its tokens and of taking them.
+-- The faults of a text, from those of reading its tokens and of parsing them.
 use Rattle.strategy_tokens.specs.declared.fault.TokensFault.{TokensFault}
 use Rattle.strategy_tokens.specs.declared.fault.TokensFault.TheVariants as of_tokens
 use Rattle.strategy_parse.specs.declared.parser.fault.SyntaxFault.{SyntaxFault}

@@ -1,5 +1,5 @@
--- The names that stand free in the part of a text that the machine reads, in the order of the text:
--- each is seen where a variable of a pattern is read, unless an open scope names it.
+-- The names free in the part of a text that the machine reads, in the order of the text: each is
+-- seen where a variable of a pattern is read, unless an open scope binds it.
 use Rattle.std.specs.Prelude.{Bool, true, false, ◌||◌, List, [], ◌∷◌, ◌++◌, if◌then◌else◌}
 use Rattle.term_core.specs.Tree.{Symbol, same_name}
 use Rattle.strategy_tokens.specs.declared.token.Token.{Token}
@@ -16,8 +16,8 @@ use Rattle.strategy_syntax.specs.Lists.{is_among}
 use Rattle.strategy_tokens.specs.Marks.{is_mark}
 use Rattle.strategy_parse.specs.Machine.{Next, goes, step}
 
--- Whether the form names it: a scope, or a closure by its left side. What stands in the left side
--- of a closure is named by it.
+-- Whether the form binds the name: a scope, or a closure by its left side. All names in the left
+-- side of a closure are bound by it.
 abbrev pub hides : Frame → Symbol → Bool
 hides (ForStrategy (Scope xs)) f = is_among same_name f xs
 hides (ForStrategy (Where l r)) f = is_among same_name f (variables l)
@@ -33,17 +33,17 @@ is_hidden f (F ∷ S) = hides F f || is_hidden f S
 abbrev pub shown : Symbol → List Frame → List Symbol
 shown f S = if is_hidden f S then [] else f ∷ []
 
--- the name that was read last, where it is a variable: no `(` follows
+-- the name that was read last, if it is a variable: no `(` follows
 abbrev pub seen : State → List Frame → Token → List Symbol
 seen (Named f) S t = if (is_mark OpenRound t) then [] else shown f S
 seen q S t = []
 
--- the token that comes next: a bad one at the end of a text
+-- the next token: a bad one at the end of a text
 abbrev pub next_token : List Token → Token
 next_token [] = Bad
 next_token (t ∷ ts) = t
 
--- the names that are seen from the front of the tokens on, up to where the machine stops
+-- the names seen from the start of the tokens until the machine stops
 abbrev pub seen_behind : (State → List Frame → List Symbol) → Next → List Symbol
 seen_behind k (goes q S) = k q S
 seen_behind k n = []

@@ -1,4 +1,4 @@
--- What the front of a list of tokens gives, where what is left can't go on with it.
+-- What the start of a list of tokens gives, if the rest can't continue it.
 use Rattle.std.specs.Prelude.{◌≡◌, ◌||◌, Bool, false, List, [], ◌∷◌}
 use Rattle.strategy_syntax.specs.Syntax.{Strategy}
 use Rattle.strategy_tokens.specs.declared.token.Token.{Token}
@@ -8,7 +8,7 @@ use Rattle.strategy_parse.specs.Grammar.{ReadsChoice}
 use Rattle.strategy_parse.specs.Core.{core}
 use Rattle.strategy_tokens.specs.Marks.{is_mark}
 
--- a sign with which a whole strategy or pattern could go on
+-- a sign with which a whole strategy or pattern could continue
 abbrev pub goes_on : Token → Bool
 goes_on t =
     is_mark OpenRound t || (is_mark OpenCurly t || (is_mark At t || (is_mark FatArrow t
@@ -19,6 +19,6 @@ abbrev pub Stops : List Token → Type 0
 Stops [] = Unit {0}
 Stops (t ∷ ts) = goes_on t ≡ false
 
--- the front of x reads as a choice, whose core form is the strategy, and y is left
+-- x begins with a choice whose core form is the strategy, and y is the rest
 abbrev pub FrontGives : List Token → Strategy → List Token → Type 0
 FrontGives x s y = (a : Choice) × ReadsChoice a x y × (core a ≡ s)

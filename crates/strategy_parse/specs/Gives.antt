@@ -1,4 +1,4 @@
--- What a list of tokens gives: one strategy, or one module.
+-- What a list of tokens is parsed to: one strategy, or one module.
 use Rattle.std.specs.Prelude.{◌≡◌, List, []}
 use Rattle.strategy_syntax.specs.Syntax.{Strategy}
 use Rattle.strategy_syntax.specs.Modules as syntax
@@ -8,10 +8,10 @@ use Rattle.strategy_parse.specs.Grammar.{ReadsChoice}
 use Rattle.strategy_parse.specs.GrammarModules.{ReadsModule}
 use Rattle.strategy_parse.specs.Core.{core, core_module}
 
--- the tokens read as a choice, whose core form is the strategy
+-- the tokens are a choice whose core form is the strategy
 abbrev pub GivesStrategy : List Token → Strategy → Type 0
 GivesStrategy ts s = (a : Choice) × ReadsChoice a ts [] × (core a ≡ s)
 
--- the tokens read as sections, whose core form is the module
+-- the tokens are sections whose core form is the module
 abbrev pub GivesModule : List Token → syntax.Module → Type 0
 GivesModule ts m = (ss : List Section) × ReadsModule ss ts × (core_module ss ≡ m)

@@ -1,5 +1,5 @@
--- The grammar of strategy texts, by cases on its productions. Each relation says that the front of
--- a list of tokens reads as the form, and what is left.
+-- The grammar of strategy texts, by cases on its productions. Each relation says that a list of
+-- tokens begins with the form, and what the rest is.
 use Rattle.std.specs.Prelude.{◌≡◌, ◌≤◌, pos, List, [], ◌∷◌, ◌⊎◌}
 use Rattle.term_core.specs.Tree.{Symbol, application as applied, list, tuple}
 use Rattle.strategy_syntax.specs.Syntax.{Pattern, wildcard, variable, at, number, compound, with_tail, annotated, Patterns, no_patterns, and_pattern}
@@ -13,14 +13,14 @@ use Rattle.strategy_parse.specs.declared.parser.state.Operator.{Operator}
 use Rattle.strategy_parse.specs.declared.parser.state.Operator.TheVariants.{All as AllOf, One as OneOf, Some as SomeOf, Not as NotOf, Where as WhereOf, Test as TestOf}
 use Rattle.strategy_parse.specs.Written.{Choice, sequence, left_choice, guarded_choice, Seq, last, before, Arrow, arrow, Prefix, question, exclamation, application, identity, failure, operator, if_then, if_then_else, recursion, primitive, local, closure, closure_where, round, square, square_with_tail, name, call, call_with_terms, child, Choices, no_choices, and_choice}
 
--- ---- how readings are put together
+-- ---- how readings are combined
 
--- from a list of tokens to what is left of it
+-- from a list of tokens to the rest after the form
 abbrev pub Reading : Type 1
 Reading = List Token → List Token → Type 0
 
 infixr 5 ◌▸◌
--- one reading, and then another
+-- one reading followed by another
 abbrev pub ◌▸◌ : Reading → Reading → Reading
 ◌▸◌ R S x y = (a : List Token) × R x a × S a y
 
@@ -59,7 +59,7 @@ abbrev mutual
   ReadsPattern (variable f) u v = Next (Ident f) u v
   ReadsPattern (at f p) u v = (Next (Ident f) ▸ Mark At ▸ (λ x y. ReadsPattern p x y)) u v
   ReadsPattern (number z) u v = Next (Integer z) u v
-  -- a string is its quoted name over no patterns
+  -- a string is its quoted name without patterns
   ReadsPattern (compound (applied f) ps) u v =
       (Next (Text f) u v × (ps ≡ no_patterns))
       ⊎ (Next (Ident f) ▸ Mark OpenRound ▸ (λ x y. ReadsPatterns ps CloseRound x y)) u v
@@ -74,7 +74,7 @@ abbrev mutual
       IsBase p × ((λ x y. ReadsPattern p x y) ▸ Mark OpenCurly
       ▸ (λ x y. ReadsPatterns ps CloseCurly x y)) u v
 
-  -- patterns up to a sign: none, or some, with commas between, and the sign
+  -- patterns up to a sign: none, or some separated by commas, and the sign
   pub ReadsPatterns : Patterns → Sign → Reading
   ReadsPatterns no_patterns close u v = Mark close u v
   ReadsPatterns (and_pattern p ps) close u v =
@@ -86,7 +86,7 @@ abbrev mutual
   ReadsSomePatterns (and_pattern p ps) close u v =
       ((λ x y. ReadsPattern p x y) ▸ (λ x y. ReadsMorePatterns ps close x y)) u v
 
-  -- the patterns behind the first one, each after a comma, and the sign
+  -- the patterns after the first one, each after a comma, and the sign
   pub ReadsMorePatterns : Patterns → Sign → Reading
   ReadsMorePatterns no_patterns close u v = Mark close u v
   ReadsMorePatterns (and_pattern p ps) close u v =
@@ -118,13 +118,13 @@ word_of NotOf = Not
 word_of WhereOf = Where
 word_of TestOf = Test
 
--- the patterns behind a prefix, each after a `=>`, as many as there are
+-- the patterns after a prefix, each after a `=>`, as many as there are
 abbrev pub ReadsArrows : Patterns → Reading
 ReadsArrows no_patterns u v = v ≡ u
 ReadsArrows (and_pattern p ps) u v =
     (Mark FatArrow ▸ ReadsPattern p ▸ (λ x y. ReadsArrows ps x y)) u v
 
--- identifiers up to a sign: the names behind the first one, each after a comma, and the sign
+-- identifiers up to a sign: the names after the first one, each after a comma, and the sign
 abbrev pub ReadsMoreNames : List Symbol → Sign → Reading
 ReadsMoreNames [] close u v = Mark close u v
 ReadsMoreNames (f ∷ fs) close u v =
@@ -195,7 +195,7 @@ abbrev mutual
       (1 ≤ i) × (Next (Integer (pos i)) ▸ Mark OpenRound ▸ (λ x y. ReadsChoice a x y)
       ▸ Mark CloseRound) u v
 
-  -- strategies up to a sign: none, or some, with commas between, and the sign
+  -- strategies up to a sign: none, or some separated by commas, and the sign
   pub ReadsChoices : Choices → Sign → Reading
   ReadsChoices no_choices close u v = Mark close u v
   ReadsChoices (and_choice a cs) close u v =
@@ -207,7 +207,7 @@ abbrev mutual
   ReadsSomeChoices (and_choice a cs) close u v =
       ((λ x y. ReadsChoice a x y) ▸ (λ x y. ReadsMoreChoices cs close x y)) u v
 
-  -- the strategies behind the first one, each after a comma, and the sign
+  -- the strategies after the first one, each after a comma, and the sign
   pub ReadsMoreChoices : Choices → Sign → Reading
   ReadsMoreChoices no_choices close u v = Mark close u v
   ReadsMoreChoices (and_choice a cs) close u v =

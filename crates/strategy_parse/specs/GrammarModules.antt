@@ -26,7 +26,7 @@ abbrev mutual
       (Next (Ident f) ▸ Mark OpenRound ▸ (λ x y. ReadsSort s x y)
       ▸ (λ x y. ReadsMoreSorts ss Comma (Mark CloseRound) x y)) u v
 
-  -- the sorts behind the first one, each after the sign, and then the end
+  -- the sorts after the first one, each after the sign, and then the end
   pub ReadsMoreSorts : Sorts → Sign → Reading → Reading
   ReadsMoreSorts no_sorts between end u v = end u v
   ReadsMoreSorts (and_sort s ss) between end u v =
@@ -48,7 +48,7 @@ ReadsDeclaration (function f (and_sort s ss) r) u v =
 
 -- ---- definitions
 
--- the parameters in brackets: strategies, and behind a `|` terms
+-- the parameters in brackets: strategies, and after a `|` terms
 abbrev pub ReadsParameters : List Symbol → List Symbol → Reading
 ReadsParameters ss ts u v =
     ((ts ≡ []) × ReadsNames ss CloseRound u v)
@@ -99,7 +99,7 @@ abbrev pub ReadsSections : List Section → List Token → Type 0
 ReadsSections [] u = u ≡ []
 ReadsSections (s ∷ ss) u = (v : List Token) × ReadsSection s u v × ReadsSections ss v
 
--- the name behind `module`, which isn't used, or none
+-- the name after `module`, which isn't used, or none
 abbrev pub ReadsTitle : Reading
 ReadsTitle u v =
     ((f : Symbol) × (Word Module ▸ Next (Ident f)) u v) ⊎ (v ≡ u)

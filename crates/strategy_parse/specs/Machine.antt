@@ -1,5 +1,5 @@
 -- The parser as a machine over tokens: what was read last, the open forms with the innermost first,
--- and the next token. At the end of a text it takes a bad token, with which no form goes on.
+-- and the next token. At the end of a text it reads a bad token, with which no form continues.
 use Rattle.std.specs.Prelude.{◌≡◌, ℤ, suc, pos, List, [], ◌∷◌, ◌++◌, if◌then◌else◌, Some, None}
 use Rattle.std.specs.declared.option.Option.{Option}
 use Rattle.term_core.specs.Tree.{Symbol, same_name, application as applied, list, tuple}
@@ -34,7 +34,7 @@ use Rattle.strategy_syntax.specs.Variables.{variables}
 use Rattle.strategy_syntax.specs.Lists.{first_ones}
 use Rattle.strategy_parse.specs.Core.{operated, in_brackets, rewrite, rewrite_where}
 
--- Where a token leads to: it is taken, or a whole strategy ended before it, or nothing goes on with
+-- The effect of a token: it is read, or a whole strategy ended before it, or nothing continues with
 -- it.
 pub data Next : Type 0 where
   goes : State → List Frame → Next
@@ -45,7 +45,7 @@ abbrev pub leads : Outcome → List Frame → Next
 leads (Goes q) S = goes q S
 leads (Ends s) S = ends s
 
--- ---- what begins
+-- ---- beginnings
 
 abbrev pub open_patterns : PatternGroup → List Frame → Next
 open_patterns g S = goes (FirstPattern g) S
@@ -108,7 +108,7 @@ begin S Wildcard = stuck
 begin S (Text f) = stuck
 begin S Bad = stuck
 
--- ---- behind a strategy
+-- ---- after a strategy
 
 -- the sign that closes a list of strategies
 abbrev pub closing : StrategyGroup → Sign
@@ -126,13 +126,13 @@ abbrev pub close_strategies : StrategyGroup → List Strategy → List Frame →
 close_strategies g done S t =
     if (is_mark (closing g) t) then goes (Read (grouped g done)) S else stuck
 
--- a `|` behind the strategies of a list
+-- a `|` after the strategies of a list
 abbrev pub behind_bar : StrategyGroup → List Strategy → List Frame → Next
 behind_bar Round done S = stuck
 behind_bar Square done S = goes ToStrategy (ForStrategy (SquareTail done) ∷ S)
 behind_bar (Arguments f) done S = open_patterns (Terms f done) S
 
--- behind a strategy of a list, which is among those done
+-- after a strategy of a list, which was added to the list
 abbrev pub behind_element : StrategyGroup → List Strategy → List Frame → Token → Next
 behind_element g done S t =
     if (is_mark Comma t) then goes ToStrategy (ForStrategy (Strategies g done) ∷ S) else
@@ -164,7 +164,7 @@ in_frame s (SquareTail done) S t =
     if (is_mark CloseSquare t)
     then goes (Read (syntax.tail_congruence (strategies_of done) s)) S else stuck
 
--- a choice ends before the token
+-- after the last part of a choice
 abbrev pub behind_choice : Strategy → List Frame → Token → Next
 behind_choice s (Operand Otherwise b ∷ (Operand Guarded a ∷ S)) t =
     behind_choice (syntax.guard a b s) S t
@@ -172,14 +172,14 @@ behind_choice s [] t = ends s
 behind_choice s (ForStrategy F ∷ S) t = in_frame s F S t
 behind_choice s (F ∷ S) t = stuck
 
--- a sequence is read, which isn't the second part of a guarded choice
+-- after a sequence that isn't the second branch of a guarded choice
 abbrev pub behind_seq : Strategy → List Frame → Token → Next
 behind_seq s S t =
     if (is_mark LeftChoice t)
     then goes ToStrategy (Operand Otherwise syntax.id ∷ (Operand Guarded s ∷ S)) else
     if (is_mark Less t) then goes ToStrategy (Operand Guarded s ∷ S) else behind_choice s S t
 
--- no `;` follows; behind `s < r` a `+` has to come
+-- after an arrow form without a `;`; after `s < r` a `+` has to come
 abbrev pub behind_arrow : Strategy → List Frame → Token → Next
 behind_arrow s (Operand Before r ∷ S) t = behind_arrow (syntax.seq r s) S t
 behind_arrow s (Operand Guarded a ∷ S) t =
@@ -187,13 +187,13 @@ behind_arrow s (Operand Guarded a ∷ S) t =
     then goes ToStrategy (Operand Otherwise s ∷ (Operand Guarded a ∷ S)) else stuck
 behind_arrow s S t = behind_seq s S t
 
--- a strategy is read, which may go on
+-- after a strategy, which may continue
 abbrev pub behind : Strategy → List Frame → Token → Next
 behind s S t =
     if (is_mark FatArrow t) then goes ToPattern (ForPattern (Matched s) ∷ S) else
     if (is_mark Semicolon t) then goes ToStrategy (Operand Before s ∷ S) else behind_arrow s S t
 
--- ---- behind a pattern
+-- ---- after a pattern
 
 abbrev pub closing_sign : PatternGroup → Sign
 closing_sign (PApplication f) = CloseRound
@@ -212,12 +212,12 @@ close_patterns (Annotations p) ps = Whole (syntax.annotated p (patterns_of ps))
 close_patterns (Terms f ss) ps = Read (syntax.uses f (strategies_of ss) (patterns_of ps))
 close_patterns (Prim f) ps = Read (syntax.prim f (patterns_of ps))
 
--- a `|` behind the patterns of a list
+-- a `|` after the patterns of a list
 abbrev pub pattern_bar : PatternGroup → List Pattern → List Frame → Next
 pattern_bar PList ps S = goes ToPattern (ForPattern (PatternTail ps) ∷ S)
 pattern_bar g ps S = stuck
 
--- behind a pattern of a list, which is among those done
+-- after a pattern of a list, which was added to the list
 abbrev pub behind_one : PatternGroup → List Pattern → List Frame → Token → Next
 behind_one g ps S t =
     if (is_mark Comma t) then goes ToPattern (ForPattern (Patterns g ps) ∷ S) else
@@ -252,7 +252,7 @@ behind_base p S t =
 
 -- ---- one token
 
--- a list of strategies may be empty; before a `|` it may be where it holds arguments
+-- a list of strategies may be empty; before a `|` only if it holds arguments
 abbrev pub empty_bar : StrategyGroup → List Frame → Next
 empty_bar (Arguments f) S = open_patterns (Terms f []) S
 empty_bar Round S = stuck
@@ -322,12 +322,12 @@ go_on k (goes q S) = k q S
 go_on k (ends s) = None
 go_on k stuck = None
 
--- what the tokens give, where f says where the first one leads to
+-- what the tokens give, if f is the effect of the first one
 abbrev pub resume : (Token → Next) → List Token → Option Strategy
 resume f [] = at_end (f Bad)
 resume f (t ∷ ts) = go_on (λ q S. resume (step q S) ts) (f t)
 
--- ---- the front of a text
+-- ---- the start of a text
 
 abbrev pub front_of : (State → List Frame → Option (Strategy × List Token)) → List Token → Next
     → Option (Strategy × List Token)
@@ -335,12 +335,12 @@ front_of k x (goes q S) = k q S
 front_of k x (ends s) = Some (s, x)
 front_of k x stuck = None
 
--- the strategy that the front of the tokens gives, and what is left
+-- the strategy at the start of the tokens, and the rest
 abbrev pub front : (Token → Next) → List Token → Option (Strategy × List Token)
 front f [] = front_of (λ q S. None) [] (f Bad)
 front f (t ∷ ts) = front_of (λ q S. front (step q S) ts) (t ∷ ts) (f t)
 
--- ---- what is on top
+-- ---- the top of the stack
 
 abbrev pub no_operand : Infix → List Frame → Type 0
 no_operand i S = (s : Strategy) (R : List Frame) → S ≡ Operand i s ∷ R → ⊥

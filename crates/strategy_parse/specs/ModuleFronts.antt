@@ -1,5 +1,5 @@
--- What stands at the front of a list of tokens in a module, and what is left, as functions: names,
--- the headers of definitions, sorts and declarations.
+-- What a list of tokens in a module begins with, and the rest, as functions: names, the headers of
+-- definitions, sorts and declarations.
 use Rattle.std.specs.Prelude.{ℕ, zero, suc, List, [], ◌∷◌, ◌++◌, if◌then◌else◌, Some, None}
 use Rattle.std.specs.declared.option.Option.{Option}
 use Rattle.term_core.specs.Tree.{Symbol}
@@ -15,12 +15,12 @@ use Rattle.strategy_parse.specs.declared.modules.sorts.Turn.TheVariants.{Reads, 
 use Rattle.strategy_tokens.specs.Marks.{is_mark}
 use Rattle.strategy_parse.specs.Written.{Header}
 
--- what is behind a sign, where it comes first
+-- the rest after a sign, if it comes first
 abbrev pub behind_mark : Sign → List Token → Option (List Token)
 behind_mark s [] = None
 behind_mark s (t ∷ ts) = if (is_mark s t) then Some ts else None
 
--- what is behind an identifier, where one comes first
+-- the rest after an identifier, if one comes first
 abbrev pub behind_ident : List Token → Option (List Token)
 behind_ident (Ident f ∷ ts) = Some ts
 behind_ident x = None
@@ -30,7 +30,7 @@ behind_ident x = None
 abbrev pub NamesLeft : Type 0
 NamesLeft = Option (List Symbol × List Token)
 
--- the names behind those done, each after a comma
+-- further names, each after a comma
 abbrev pub more_names : List Symbol → List Token → NamesLeft
 more_names done [] = Some (done, [])
 more_names done (t ∷ []) = if (is_mark Comma t) then None else Some (done, t ∷ [])
@@ -69,7 +69,7 @@ abbrev pub behind_strategies : Symbol → NamesLeft → HeaderLeft
 behind_strategies f None = None
 behind_strategies f (Some (ss, x)) = without_terms f ss x (behind_mark CloseRound x)
 
--- the parameters behind the bracket that opens them
+-- the parameters after their opening bracket
 abbrev pub parameters_at : Symbol → List Token → HeaderLeft
 parameters_at f x = behind_strategies f (names_at x)
 
@@ -83,7 +83,7 @@ header_at x = None
 
 -- ---- sorts
 
--- behind a whole sort, where so many brackets are open
+-- after a whole sort, with this many open brackets
 abbrev pub behind_sort : ℕ → Token → Turn
 behind_sort zero t = Ends
 behind_sort (suc n) t =
@@ -107,7 +107,7 @@ sort_goes k end (Reads p d) = k p d
 sort_goes k end Ends = end
 sort_goes k end Stuck = None
 
--- how many sorts there are at the front, where n have begun, and what is left
+-- the number of sorts at the start, if n have begun, and the rest
 abbrev pub sorts_from : Place → ℕ → ℕ → List Token → SortsLeft
 sorts_from p d n [] = sort_goes (λ q e. None) (Some (n, [])) (sort_step p d Bad)
 sorts_from p d n (t ∷ ts) =
@@ -118,7 +118,7 @@ sorts_from p d n (t ∷ ts) =
 abbrev pub sorts_at : List Token → SortsLeft
 sorts_at x = sorts_from Begins 0 1 x
 
--- one sort, and what is left
+-- one sort, and the rest
 abbrev pub one_sort : SortsLeft → Option (List Token)
 one_sort (Some (suc zero, x)) = Some x
 one_sort r = None
@@ -131,7 +131,7 @@ sort_at x = one_sort (sorts_at x)
 abbrev pub DeclaredLeft : Type 0
 DeclaredLeft = Option (List syntax.Constructor × List Token)
 
--- the constructor of this name and number of arguments
+-- the constructor with this name and number of arguments
 abbrev pub named_constructor : Option Symbol → ℕ → List syntax.Constructor
 named_constructor None n = []
 named_constructor (Some f) n = record { name = f; arity = n } ∷ []
@@ -140,7 +140,7 @@ abbrev pub behind_result : List syntax.Constructor → Option (List Token) → D
 behind_result cs None = None
 behind_result cs (Some x) = Some (cs, x)
 
--- no arrow follows: it is a name with one sort
+-- if no arrow follows, it is a name with one sort
 abbrev pub without_arrow : Option Symbol → ℕ → List Token → DeclaredLeft
 without_arrow (Some f) (suc zero) x = Some (named_constructor (Some f) 0, x)
 without_arrow f n x = None

@@ -1,4 +1,4 @@
--- What the rest of a module gives, by what was read last of it.
+-- What the rest of a module gives, depending on what was read last.
 use Rattle.std.specs.Prelude.{◌≡◌, List, [], ◌∷◌, ◌++◌, Some, None}
 use Rattle.std.specs.declared.option.Option.{Option}
 use Rattle.std.specs.List.{flat_map}
@@ -21,7 +21,7 @@ in_signature Outside q = None
 in_signature Definitions q = None
 in_signature p q = Some q
 
--- the part of a module behind a reserved word, where it may come
+-- the part of a module that a reserved word begins, if it may come here
 abbrev pub next_part : Part → Keyword → Option Part
 next_part p KSignature = Some InSignature
 next_part p Rules = Some Definitions
@@ -36,9 +36,9 @@ IsItem [] = ⊥
 IsItem (Reserved w ∷ ts) = ⊥
 IsItem (t ∷ ts) = Unit {0}
 
--- ---- what is left
+-- ---- the rest
 
--- what was read before, and what the rest gives
+-- what was read before, followed by what the rest gives
 abbrev pub joined : List Constructor → List Definition → Module → Module
 joined cs ds m = record { constructors = cs ++ m.constructors; definitions = ds ++ m.definitions }
 
@@ -48,7 +48,7 @@ pub record SectionsLeft (x : List Token) (m : Module) : Type 0 where
   pub reads : ReadsSections sections x
   pub gives : core_module sections ≡ m
 
--- parts of a signature, and sections
+-- parts of a signature, followed by sections
 pub record SignatureLeft (x : List Token) (m : Module) : Type 0 where
   pub parts : List SignaturePart
   pub rest : List Token
@@ -57,14 +57,14 @@ pub record SignatureLeft (x : List Token) (m : Module) : Type 0 where
   pub left : SectionsLeft rest behind
   pub gives : joined (flat_map declared_in_part parts) [] behind ≡ m
 
--- sorts, and then as in a signature
+-- sorts, followed by the rest as in a signature
 pub record SortsLeft (x : List Token) (m : Module) : Type 0 where
   pub sorts : List Sort
   pub rest : List Token
   pub reads : ReadsSorts sorts x rest
   pub left : SignatureLeft rest m
 
--- declarations, and then as in a signature
+-- declarations, followed by the rest as in a signature
 pub record DeclarationsLeft (x : List Token) (m : Module) : Type 0 where
   pub declarations : List Declaration
   pub rest : List Token
@@ -73,7 +73,7 @@ pub record DeclarationsLeft (x : List Token) (m : Module) : Type 0 where
   pub left : SignatureLeft rest behind
   pub gives : joined (flat_map declared declarations) [] behind ≡ m
 
--- definitions, and sections
+-- definitions, followed by sections
 pub record DefinitionsLeft (x : List Token) (m : Module) : Type 0 where
   pub definitions : List Defined
   pub rest : List Token
@@ -89,7 +89,7 @@ Left Sorts x m = SortsLeft x m
 Left Constructors x m = DeclarationsLeft x m
 Left Definitions x m = DefinitionsLeft x m
 
--- the module is what was read, and what is left gives
+-- the module is what was read, followed by what the rest gives
 pub record Stands (p : Part) (cs : List Constructor) (ds : List Definition) (x : List Token)
     (m : Module) : Type 0 where
   pub behind : Module

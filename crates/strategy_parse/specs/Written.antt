@@ -1,4 +1,4 @@
--- What strategy and module texts give, production by production of the grammar, before it is
+-- The syntax of strategy and module texts, production by production of the grammar, before it is
 -- translated into core forms. Patterns need no translation.
 use Rattle.std.specs.Prelude.{ℕ, List}
 use Rattle.std.specs.declared.option.Option.{Option}
@@ -18,7 +18,7 @@ mutual
     last : Arrow → Seq
     before : Arrow → Seq → Seq
 
-  -- `prefix`, and the patterns that follow it, each behind a `=>`
+  -- `prefix`, and the patterns after it, each after a `=>`
   pub data Arrow : Type 0 where
     arrow : Prefix → Patterns → Arrow
 
@@ -88,7 +88,7 @@ pub data Defined : Type 0 where
   rule : Header → Pattern → Pattern → Defined
   rule_where : Header → Pattern → Pattern → Choice → Defined
 
--- what stands behind `sorts` and behind `constructors`
+-- what follows `sorts` and `constructors`
 pub data SignaturePart : Type 0 where
   sorts : List Sort → SignaturePart
   constructors : List Declaration → SignaturePart

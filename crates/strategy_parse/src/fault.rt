@@ -1,9 +1,9 @@
-//! Why a text was not parsed.
+//! Why a text wasn't parsed.
 
 use strategy_tokens::TokensFault;
 use thiserror::Error;
 
-/// Why a text was not parsed.
+/// Why a text wasn't parsed.
 #[derive(Clone, Copy, Debug, PartialEq, Eq, Error)]
 pub enum ParseFault {
     /// The text has more than 4,000 tokens.
@@ -12,7 +12,7 @@ pub enum ParseFault {
     /// The text is no strategy, or no module.
     #[error("syntax")]
     Syntax,
-    /// A growth of memory was refused.
+    /// Memory couldn't grow.
     #[error("memory")]
     Memory,
 }

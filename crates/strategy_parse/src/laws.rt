@@ -3,12 +3,12 @@
 
 ghost use Rattle.strategy_parse.specs.Laws.{OneModule, OneResult};
 
-/// A text gives at most one strategy.
+/// A text is at most one strategy.
 pub fn one_result()
     ensures { OneResult }
 {}
 
-/// A text gives at most one module.
+/// A text is at most one module.
 pub fn one_module()
     ensures { OneModule }
 {}

@@ -1,4 +1,4 @@
-//! Strategies and modules as texts: the one strategy or module that a text gives.
+//! Parsing strategies and modules.
 #![tactic(auto)]
 
 mod fault;

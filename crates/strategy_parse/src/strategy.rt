@@ -1,4 +1,4 @@
-//! Strategies as texts.
+//! Parsing strategies.
 
 ghost use Rattle.std.specs.Prelude.{◌≡◌, ◌↔◌, ◌<◌, length, IfOk, Err};
 ghost use Rattle.strategy_syntax.specs.Syntax as syntax;
@@ -11,10 +11,10 @@ use std::alloc::Global;
 use strategy_syntax::Strategy;
 use strategy_tokens::{MAX_TOKENS, read_tokens};
 
-/// The strategy that a text gives, in its core form.
+/// The strategy that a text is, in its core form.
 ///
-/// Errors: `Deep` where the text has more than 4,000 tokens, tested first; `Syntax` where it is no
-/// strategy; `Memory` where a growth of memory is refused.
+/// Errors: `Deep` if the text has more than 4,000 tokens, which is tested first; `Syntax` if it is
+/// no strategy; `Memory` if memory can't grow.
 pub fn parse_strategy(alloc: Global, text: &[u8]) -> Result<Strategy, ParseFault>
     ensures deep { (result ≡ Err ParseFault.Deep) ↔ (MAX_TOKENS < length (tokens text.now)) }
     ensures given { IfOk result (λ s. GivesStrategy (tokens text.now) s) }

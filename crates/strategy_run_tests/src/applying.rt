@@ -1,4 +1,4 @@
-//! Strategies applied to the pair of 1 and 2 in a slot, with ample memory.
+//! Applying strategies to the pair of 1 and 2 in a slot, with ample memory.
 
 use crate::evaluating::{builds, checked, pair};
 use change_log::{Entry, Log, Store};
@@ -50,7 +50,7 @@ fn both(
     Ok(form(ResolvedForm::Congruence(Head::Tuple, vec![in alloc; first, second]?)))
 }
 
-// What a strategy is applied in.
+// The store and the log that a strategy is applied in.
 #[derive(Drop)]
 struct Bench {
     primitives: Primitives<NoPrimitives>,
@@ -60,7 +60,7 @@ struct Bench {
     strategy: Resolved,
 }
 
-// How many entries applying adds, where the tree is this pair then.
+// The number of entries that applying adds, if the tree is then this pair.
 fn entries(
     alloc: Global,
     strategy: ResolvedStrategy,
@@ -130,7 +130,7 @@ fn applied_at_root(
     applied(alloc, bench, program, slot, &path, each)
 }
 
-// What applying comes to, by one of the two calls; `None` for a high tree.
+// The outcome of applying, by one of the two calls; `None` for a high tree.
 fn applied(
     alloc: Global,
     bench: &mut Bench,

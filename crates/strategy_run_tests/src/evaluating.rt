@@ -27,7 +27,7 @@ fn becomes_seven(alloc: Global, number: i64) -> Result<ResolvedStrategy, NoMemor
     Ok(ResolvedStrategy::new(ResolvedForm::Seq(parts)))
 }
 
-// What a strategy comes to.
+// The outcome of a strategy.
 #[derive(Clone, Copy)]
 enum Wanted {
     // The pair of these.
@@ -114,7 +114,7 @@ fn resolved_comes_to(
     is_wanted(alloc, &answer, wanted)
 }
 
-// Whether the strategy of this form comes to what is wanted.
+// Whether the strategy of this form has the expected outcome.
 fn comes_to(alloc: Global, form: ResolvedForm, steps: u64, wanted: Wanted) -> Result<bool, Fail> {
     let whole = Resolved {
         variables: 0,

@@ -1,5 +1,5 @@
-//! Strategies that are run on terms and in stores, by rows. The crate holds tests alone, so that the
-//! machine is proved once and not again with its tests.
+//! Strategies run on terms and in stores, by rows. The crate holds only tests, so that the machine
+//! is proved once and not again with its tests.
 #![tactic(auto)]
 
 #[cfg(test)]

@@ -1,4 +1,4 @@
-//! Scopes in one another, with ample memory.
+//! Nested scopes, with ample memory.
 
 use std::alloc::Global;
 use std::test::Fail;
@@ -6,8 +6,8 @@ use strategy_scopes::{Known, Scopes};
 use strategy_syntax::{ResolvedForm, ResolvedStrategy};
 use term_core::NoMemory;
 
-// What is found in `{x,y: rec f({z: ..})}`, where x and y are cells 3 and 4, f is name 0 and z is cell 9,
-// and in the body of a call there with `id` and `f`, whose variable is cell 20.
+// The lookups in `{x,y: rec f({z: ..})}`, where x and y are cells 3 and 4, f is name 0 and z is
+// cell 9, and in the body of a call there with `id` and `f`, whose variable is cell 20.
 fn are_found<'t>(
     scopes: &mut Scopes<'t>,
     param: &'t ResolvedStrategy,
@@ -42,7 +42,7 @@ fn written_in(scopes: &Scopes<'_>, scope: usize, name: usize) -> Option<usize> {
     scopes.named(scope, name).map(|known| known.inside)
 }
 
-// Whether a call that hands all names on has the scope of its caller, and others have their own.
+// Whether a call that passes all names on has the scope of its caller, and others have their own.
 fn is_handed_on<'t>(
     scopes: &mut Scopes<'t>,
     others: &'t [ResolvedStrategy],

@@ -17,8 +17,8 @@ fn name_alone(alloc: Global, name: &[u8]) -> Result<Strategy, Fail> {
     Ok(Strategy::new(StrategyForm::Use(name, Vec::new(alloc), Vec::new(alloc))))
 }
 
-// `f = f`, in a module of its own. What can fail is made before the body where it can be, since each way out
-// behind it would drop the body.
+// `f = f`, in a module of its own. What can fail is made before the body where possible, since each
+// later way out would drop the body.
 fn recursive(alloc: Global) -> Result<(Label, Module), Fail> {
     let label = Label::read(alloc, b"m")?;
     let name = word(alloc, b"f")?;
@@ -43,9 +43,9 @@ fn is_wanted(told: &CheckFault, expected: Option<(Kind, &[u8])>) -> bool {
     expected.is_some_and(|(kind, name)| is_told(told, kind, name))
 }
 
-// Whether the strategy resolves to a call of the first definition, as all definitions do; or else which
-// fault is told. What is owned is dropped by calls, since a drop at the end of a scope is proved anew on
-// each way out.
+// Whether the strategy resolves to a call of the first definition, as all definitions do; or else
+// the fault. Owned values are dropped by calls, since a drop at the end of a scope is proved anew
+// on each way out.
 fn resolves(
     alloc: Global,
     program: &Program,
@@ -67,7 +67,7 @@ fn resolves(
     }
 }
 
-// The same for a strategy beside the modules, where these have a program.
+// The same for a strategy in the program of the modules, if they have one.
 fn answers(
     alloc: Global,
     modules: &[(Label, Module)],

@@ -61,8 +61,8 @@ fn deep_pattern(alloc: Global) -> Result<Pattern, Fail> {
     Ok(p)
 }
 
-// In boxes, here and below: a box is dropped by a call, while the drop of what it holds is proved anew on
-// each way out of a function.
+// In boxes, here and below: a box is dropped by a call, while the drop of its content is proved
+// anew on each way out of a function.
 fn deep_patterns_are_equal(alloc: Global) -> Result<bool, Fail> {
     let p = Box::new(alloc, deep_pattern(alloc)?)?;
     let same = Box::new(alloc, deep_pattern(alloc)?)?;

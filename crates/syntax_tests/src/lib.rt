@@ -1,5 +1,5 @@
-//! Patterns, strategies and modules as values, and as the checker takes them. The crate holds tests
-//! alone, so that the syntax and its checker are proved once and not again with their tests.
+//! Patterns, strategies and modules as values, and as the checker takes them. The crate holds only
+//! tests, so that the syntax and its checker are proved once and not again with their tests.
 #![tactic(auto)]
 
 #[cfg(test)]

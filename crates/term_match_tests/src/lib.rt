@@ -1,5 +1,5 @@
-//! Patterns matched with terms and instances built, by rows. The crate holds tests alone, so that
-//! matching and building are proved once and not again with their tests.
+//! Matching patterns against terms and building instances, by rows. The crate holds only tests, so
+//! that matching and building are proved once and not again with their tests.
 #![tactic(auto)]
 
 #[cfg(test)]

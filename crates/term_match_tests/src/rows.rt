@@ -1,7 +1,7 @@
 //! Rows of patterns and terms, and marks, with ample memory.
 //!
-//! A table is one text with a row a line, since the check of a literal takes long where it has many
-//! values. Terms and patterns are written in the short form of `short`.
+//! A table is one text with one row per line, since the check of a literal takes long if it has
+//! many values. Terms and patterns are in the short form of `short`.
 
 use crate::short::{boxed, four, holds, is_term, place, push_place, term, two};
 use std::alloc::Global;
@@ -50,15 +50,16 @@ fn is_so(alloc: Global, pattern: &str, text: &str, wanted: Wanted<'_>) -> Result
     is_so_of(alloc, &pattern, &term, wanted)
 }
 
-// Whether the pattern matches the term, where x and y then hold these, with no text for an empty cell.
+// Whether the pattern matches the term, and x and y then hold these, with no text for an empty
+// cell.
 fn matches(alloc: Global, line: &str) -> Result<bool, Fail> {
     let (pattern, text, x, y) = four(line)?;
     let matches = true;
     is_so(alloc, pattern, text, Wanted { matches, x, y })
 }
 
-// Pattern, term, x, y. Only an annotation part looks at annotations. A variable may be met twice. The
-// rest of a list is one without annotations. An annotation part counts, in each place.
+// Pattern, term, x, y. Only an annotation part looks at annotations. A variable may occur twice.
+// The rest of a list is one without annotations. An annotation part counts, in each place.
 const MATCHING: &str = "
 _,a1Fn1{,,
 x,a1Fn1{,a1Fn1{,
@@ -86,7 +87,7 @@ fn patterns_that_match(rt: HostRuntime) -> Result<(), Fail> {
     Ok(())
 }
 
-// Whether the pattern doesn't match the term, and nothing is bound then.
+// Whether the pattern doesn't match the term, and then nothing is bound.
 fn fails(alloc: Global, line: &str) -> Result<bool, Fail> {
     let (pattern, text) = two(line)?;
     let wanted = Wanted {
@@ -97,8 +98,8 @@ fn fails(alloc: Global, line: &str) -> Result<bool, Fail> {
     is_so(alloc, pattern, text, wanted)
 }
 
-// Pattern, term. A second part that fails leaves nothing of the first, as in the ninth row and the next.
-// Terms that differ in an annotation, as in the eleventh, aren't the same.
+// Pattern, term. If a second part fails, the bindings of the first are undone, as in the ninth row
+// and the next. Terms that differ in an annotation, as in the eleventh, aren't equal.
 const FAILING: &str = "
 7,8
 7,a
@@ -139,7 +140,7 @@ fn add_term(alloc: Global, text: &[u8], all: &mut Vec<Option<Box<Term>>>) -> Res
     Ok(())
 }
 
-// A cell for each of x, y and z: with its term, or empty where there is no text.
+// A cell for each of x, y and z: with its term, or empty if there is no text.
 fn add_terms(
     alloc: Global,
     texts: [&[u8]; 3],
@@ -209,7 +210,8 @@ fn builds_with(
     builds_from(alloc, terms, pattern, level, text)
 }
 
-// Whether the instance of the pattern is this; no text stands for none, and `!` for one that doesn't fit.
+// Whether this is the instance of the pattern; no text stands for none, and `!` for one that
+// doesn't fit.
 fn builds(
     alloc: Global,
     pattern: &str,
@@ -349,7 +351,7 @@ fn twice_fits_of(alloc: Global, elements: Vec<Term>) -> Result<bool, Fail> {
     is
 }
 
-// Whether F(x,x) fits for a list of so many elements.
+// Whether F(x,x) fits for a list of this many elements.
 fn twice_fits(alloc: Global, count: usize) -> Result<bool, Fail> {
     let mut elements = Vec::new(alloc);
     match zeros(alloc, count, &mut elements) {
@@ -405,7 +407,7 @@ fn a_variable_keeps_its_term(rt: HostRuntime) -> Result<(), Fail> {
     Ok(())
 }
 
-// What is matched: F(x,y) with F(a,b), behind x with a.
+// Matching F(x,y) with F(a,b), after x with a.
 #[derive(Clone, Copy)]
 struct Both<'a> {
     pattern: &'a Place,
@@ -529,7 +531,7 @@ fn deep_instance_fits_of(alloc: Global, pattern: &Place) -> Result<bool, Fail> {
     fits_in(alloc, &mut cells, &[], pattern)
 }
 
-// F(F(..a..)), so many levels of it.
+// F(F(..a..)), with this many levels.
 fn deep_instance(alloc: Global, depth: u32, stack: &mut Vec<Place>) -> Result<Box<Place>, Fail> {
     push_place(alloc, b'a', 0, stack)?;
     for _ in 0..depth {
@@ -543,7 +545,7 @@ fn deep_instance_fits_on(alloc: Global, depth: u32, stack: &mut Vec<Place>) -> R
     deep_instance_fits_of(alloc, &pattern)
 }
 
-// Whether F(F(..a..)), so many levels of it, fits.
+// Whether F(F(..a..)), with this many levels, fits.
 fn deep_instance_fits(alloc: Global, depth: u32) -> Result<bool, Fail> {
     let mut stack = Vec::new(alloc);
     deep_instance_fits_on(alloc, depth, &mut stack)

@@ -1,13 +1,14 @@
-//! Terms and patterns in a short form, and what is held compared with them.
+//! Terms and patterns in a short form, and comparing values with them.
 //!
-//! Terms and patterns are written behind their parts: a letter from a to n is a word over nothing, a
-//! digit says how many parts the next sign takes, F and G are words over these, Q is a quoted name, L a
-//! list, T a tuple, and `{` gives a term these annotations. So `ab2Fn1{` is `F(a,b){n}`. In patterns x,
-//! y, z and w are variables, `_` is the wildcard, `@` binds x to what the pattern before it matches, and
-//! `|` is a list with the last part as its tail.
+//! Terms and patterns are in postfix form: a letter from a to n is a word over nothing, a digit
+//! says how many parts the next sign takes, F and G are words over these, Q is a quoted name, L a
+//! list, T a tuple, and `{` gives a term these annotations. So `ab2Fn1{` is `F(a,b){n}`. In
+//! patterns x, y, z and w are variables, `_` is the wildcard, `@` binds x to what the pattern
+//! before it matches, and `|` is a list with the last part as its tail.
 //!
-//! A read pattern or term lies in a box, which is dropped by a call: the drop of a pattern itself is proved anew at each way
-//! out. Other values are held by functions with one way out, which lend them.
+//! A pattern or term that was read is in a box, which is dropped by a call: the drop of a pattern
+//! itself is proved anew at each way out. Other values are held by functions with one way out,
+//! which lend them.
 
 use std::alloc::Global;
 use std::test::Fail;
@@ -207,7 +208,7 @@ pub(crate) fn place(alloc: Global, text: &[u8]) -> Result<Box<Place>, Fail> {
     last_place(alloc, text, &mut stack)
 }
 
-// ---- what is held
+// ---- comparing
 
 pub(crate) fn is_term(alloc: Global, held: &Term, text: &[u8]) -> Result<bool, Fail> {
     let wanted = term(alloc, text)?;

@@ -1,4 +1,4 @@
-//! Replaced places in a store, and back.
+//! Replacing places in a store, and undoing it.
 
 use change_log::{Entry, Log, Plan, Store};
 use std::alloc::Global;
@@ -15,7 +15,7 @@ fn holds(store: &Store, slot: usize, tree: &Term) -> bool {
     store.tree(slot).is_some_and(|there| there.equals(tree))
 }
 
-// Gives the pair of 1 and 2 to a slot of its own.
+// Puts the pair of 1 and 2 in a slot of its own.
 fn give(alloc: Global, store: &mut Store, log: &mut Log) -> Result<usize, Fail> {
     let label = Label::read(alloc, b"t").map_err(|_| "no label")?;
     let slot = store.tree_slot(&label)?;

@@ -1,5 +1,5 @@
-//! Terms, places in them, and their changes in stores. The crate holds tests alone, so that the crates
-//! of terms are proved once and not again with their tests.
+//! Terms, places in them, and their changes in stores. The crate holds only tests, so that the
+//! crates of terms are proved once and not again with their tests.
 #![tactic(auto)]
 
 #[cfg(test)]

@@ -1,16 +1,16 @@
-//! Rows of calls on a store and its log, with ample memory, and what is so after them.
+//! Rows of calls on a store and its log, with ample memory, and what holds after them.
 
 use change_log::{Entry, Log, Store, laws};
 use std::alloc::Global;
 use std::test::Fail;
 use term_core::{Kind, Label, Name, Term};
 
-// A call, or what has to be so then. Two words stand for the first applied to the second, which is
+// A call, or what has to hold then. Two words stand for the first applied to the second, which is
 // applied to nothing.
 #[derive(Clone, Copy)]
 enum Step<'a> {
     NewLog,
-    // The name's tree is this now, or this number; its module this text.
+    // The name's tree is now this one, or this number; its module has this text.
     GiveTree(&'a [u8], &'a [u8], &'a [u8]),
     GiveNumber(&'a [u8], i64),
     GiveText(&'a [u8], &'a [u8]),
@@ -22,11 +22,12 @@ enum Step<'a> {
     FlipForward,
     RollBack(usize),
     Compact,
-    // What a name's slot is found to be, or made.
+    // The slot that is found for a name, or made.
     FoundTree(&'a [u8], Option<usize>),
     FoundModule(&'a [u8], Option<usize>),
     MadeTreeSlot(&'a [u8], usize),
-    // What a slot has: this tree or this word, no tree, a tree with so many annotations, this module text.
+    // What a slot has: this tree or this word, no tree, a tree with this many annotations, this
+    // module text.
     HasTree(usize, &'a [u8], &'a [u8]),
     HasWord(usize, &'a [u8]),
     HasNoTree(usize),
@@ -208,7 +209,7 @@ fn annotate(
     push(store, log, Entry::annotations(slot, path, notes))
 }
 
-// Makes the call, and tells whether what has to be so is.
+// Makes the call, and returns whether what has to hold does.
 fn is_so(alloc: Global, store: &mut Store, log: &mut Log, step: &Step<'_>) -> Result<bool, Fail> {
     match step {
         Step::GiveTree(name, outer, inner) => give_tree(alloc, store, log, name, outer, inner),
@@ -267,7 +268,7 @@ fn are_so(
     Ok(true)
 }
 
-// Whether all is so, from an empty store and log on.
+// Whether everything holds, starting from an empty store and log.
 fn is_row(alloc: Global, steps: &[Step<'_>]) -> Result<bool, Fail> {
     let mut store = Store::new(alloc);
     let mut log = Log::new(alloc);

@@ -77,7 +77,7 @@ fn paths_as_text(rt: HostRuntime) {
     }
 }
 
-// Whether the root, lent as `path`, is one, and is then led down to 3/0/1/.../998.
+// Whether the root, borrowed as `path`, is one, and is then extended to 3/0/1/.../998.
 fn goes_down(path: &mut Path) -> Result<bool, Fail> {
     let was_root = path.is_root() && path.len() == 0 && path.up().is_none();
     path.down(3)?;
@@ -89,7 +89,7 @@ fn goes_down(path: &mut Path) -> Result<bool, Fail> {
     Ok(was_root && has_one && ends && path.part(1000).is_none())
 }
 
-// Whether the path goes back up to 3, and its copy stays.
+// Whether the path goes back up to 3, and its copy stays the same.
 fn goes_up(path: &mut Path, copy: &Path) -> bool {
     let was_same = path.equals(copy);
     for part in 0..999 {
@@ -131,7 +131,7 @@ fn are_found(tree: &mut Term, deep: &Path, too_long: &Path, beside: &Path) -> bo
         && at_parts_mut(tree, &[1]).is_some()
 }
 
-// What swapping the other term, which is 5, with subterms makes of both.
+// The effect on both of swapping the other term, which is 5, with subterms.
 fn are_swapped(tree: &mut Term, other: &mut Term, deep: &Path, too_long: &Path) -> bool {
     !swap_at(tree, too_long, other)
         && is_integer(Some(other), 5)
@@ -200,7 +200,7 @@ fn annotations_of_subterms(rt: HostRuntime) -> Result<(), Fail> {
     Ok(())
 }
 
-// 1 in so many lists.
+// 1 in this many lists.
 fn deep_tree(alloc: Global, height: u32) -> Result<Term, Fail> {
     let mut tree = Term::integer(alloc, 1);
     for _ in 0..height {
@@ -249,7 +249,7 @@ fn deepest_is_changed(alloc: Global) -> Result<bool, Fail> {
     is_changed_alone(alloc, &mut tree, &path, &below)
 }
 
-// The deepest place of a term as high as one may be is looked at and changed on a stack of 8 MiB.
+// The deepest place of a term of the greatest height is read and changed on a stack of 8 MiB.
 #[test]
 fn deep_places(rt: HostRuntime) -> Result<(), Fail> {
     assert!(rt; deepest_is_changed(rt.alloc())?);

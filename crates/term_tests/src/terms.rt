@@ -7,7 +7,7 @@ use std::mem::size_of;
 use std::test::Fail;
 use term_core::{Kind, Label, LabelFault, Name, NoMemory, Term};
 
-// A list in a list, as high as told.
+// Nested lists of this height.
 fn nested_lists(alloc: Global, height: u32) -> Result<Term, NoMemory> {
     let mut term = Term::list(alloc, Vec::new(alloc));
     for _ in 1..height {
@@ -16,7 +16,7 @@ fn nested_lists(alloc: Global, height: u32) -> Result<Term, NoMemory> {
     Ok(term)
 }
 
-// Annotations in annotations, as high as told.
+// Nested annotations of this height.
 fn nested_annotations(alloc: Global, height: u32) -> Result<Term, NoMemory> {
     let mut term = Term::integer(alloc, 0);
     for _ in 1..height {
@@ -29,7 +29,7 @@ fn word(alloc: Global, text: &[u8]) -> Result<Name, Fail> {
     Ok(Name::word(alloc, text)?.ok_or("no word")?)
 }
 
-// Whether the two names differ in that one is quoted.
+// Whether the two names differ only in that one is quoted.
 fn differ_in_quotes(plain: &Name, quoted: &Name) -> bool {
     plain.bytes() == b"f-1.'".as_slice()
         && !plain.is_quoted()
@@ -37,7 +37,7 @@ fn differ_in_quotes(plain: &Name, quoted: &Name) -> bool {
         && !plain.equals(quoted)
 }
 
-// Whether a set of the plain name has its copy, and not the quoted one.
+// Whether a set with the plain name contains its copy, and not the quoted one.
 fn is_in_a_set(alloc: Global, plain: Name, copy: &Name, quoted: &Name) -> Result<bool, Fail> {
     let mut set = HashSet::new(alloc);
     let is_new = set.insert(plain)?;
@@ -100,7 +100,7 @@ fn has_no_first_word(alloc: Global, text: &[u8]) -> bool {
     matches!(Name::first_word(alloc, text), Ok(None))
 }
 
-// Names on both sides of the length up to which they lie in the value itself.
+// Names on both sides of the greatest length that is stored in the value itself.
 #[test]
 fn short_and_long_names(rt: HostRuntime) -> Result<(), Fail> {
     assert!(rt; are_copied(rt.alloc(), b"abcdefghijklmnopqrstuvwxyz")?);
@@ -206,7 +206,8 @@ fn lists_fit(alloc: Global, height: u32) -> Result<bool, NoMemory> {
     Ok(nested_lists(alloc, height)?.fits(0))
 }
 
-// A term as high as one may be is made, cloned, compared, measured and dropped on a stack of 8 MiB.
+// A term of the greatest height is made, cloned, compared, measured and dropped on a stack of 8
+// MiB.
 #[test]
 fn high_terms(rt: HostRuntime) -> Result<(), Fail> {
     assert!(rt; lists_are_high(rt.alloc())?);

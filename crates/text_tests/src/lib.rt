@@ -1,5 +1,5 @@
-//! Rows of texts: terms that are read and printed, tokens, and what strategies and modules are read. The
-//! crate holds tests alone, so that the crates that read texts are proved once and not again with their
+//! Rows of texts: reading and printing terms, tokens, and parsing strategies and modules. The crate
+//! holds only tests, so that the crates that read texts are proved once and not again with their
 //! tests.
 #![tactic(auto)]
 

@@ -1,5 +1,5 @@
-//! Rows of modules as texts. A table is one text, since the check of a literal takes long where it has many
-//! values.
+//! Rows of modules as texts. A table is one text, since the check of a literal takes long if it has
+//! many values.
 
 use crate::show::shown;
 use crate::strategies::nested_row;
@@ -70,7 +70,7 @@ fn is_row(alloc: Global, row: &str) -> bool {
     }
 }
 
-// Rows with `%` between them, and `#` between the text of a module and the module as it is shown.
+// Rows separated by `%`, and `#` between the text of a module and the module as it is shown.
 fn are_rows(alloc: Global, table: &str) -> Result<(), Fail> {
     for row in table.split('%') {
         if !is_row(alloc, row) {
@@ -80,7 +80,7 @@ fn are_rows(alloc: Global, table: &str) -> Result<(), Fail> {
     Ok(())
 }
 
-// What is told of the text, if it is no module.
+// The fault of the text, if it is no module.
 fn fault_of(alloc: Global, text: &[u8]) -> Option<ParseFault> {
     parse_module(alloc, text).err()
 }
@@ -128,7 +128,7 @@ fn headers(rt: HostRuntime) -> Result<(), Fail> {
     are_rows(rt.alloc(), HEADERS)
 }
 
-// The names of a rule's scope stand in the order of the text, without its term parameters and those
+// The names of a rule's scope are in the order of the text, without its term parameters and those
 // of inner scopes.
 const RULES: &str = "\
 module arith rules\n  P : Plus(x,y) -> z where <add> (x,y) => z\n strategies\n  add = ?(x,y); prim(\"addi\",x,y)#P(|) = Scope x y z (Seq(?Plus(x y ))(Seq(Test(Seq(Seq(!Tuple(x y ))(add()()))(?z)))(!z)))\nadd(|) = Seq(?Tuple(x y ))(Prim 'addi'(x y ))\n%\

@@ -1,4 +1,4 @@
-//! Terms that are printed.
+//! Printing terms.
 
 use crate::terms::printed;
 use std::alloc::Global;
@@ -36,7 +36,7 @@ fn tuple_of_one(alloc: Global) -> Result<Term, Fail> {
     Ok(Term::tuple(alloc, one))
 }
 
-// A failure unless the term is printed so.
+// Fails unless this is the printed text of the term.
 fn printed_as(alloc: Global, term: Result<Term, Fail>, text: &str) -> Result<(), Fail> {
     let out = printed(alloc, term?)?;
     if out.as_slice() == text.as_bytes() {

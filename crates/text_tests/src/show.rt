@@ -4,7 +4,7 @@ use std::alloc::Global;
 use strategy_syntax::{Head, Pattern, PatternForm, Strategy, StrategyForm};
 use term_core::Name;
 
-/// The strategy as a text, which is cut short where a growth of memory is refused.
+/// The strategy as a text, which is cut short if memory can't grow.
 pub fn shown(alloc: Global, strategy: &Strategy) -> Vec<u8> {
     let mut out = Vec::new(alloc);
     show(strategy, &mut out);

@@ -1,5 +1,5 @@
-//! Rows of strategies as texts. A table is one text, since the check of a literal takes long where it has
-//! many values.
+//! Rows of strategies as texts. A table is one text, since the check of a literal takes long if it
+//! has many values.
 
 use crate::show::shown;
 use std::alloc::Global;
@@ -25,7 +25,7 @@ fn is_row(alloc: Global, row: &str) -> bool {
     }
 }
 
-// A row a line, with ` ;; ` between the text of a strategy and the strategy as it is shown.
+// One row per line, with ` ;; ` between the text of a strategy and the strategy as it is shown.
 fn are_rows(alloc: Global, table: &str) -> Result<(), Fail> {
     for row in table.trim().lines() {
         if !is_row(alloc, row) {
@@ -104,7 +104,7 @@ fn patterns(rt: HostRuntime) -> Result<(), Fail> {
     are_rows(rt.alloc(), PATTERNS)
 }
 
-// What is told of the text, if it is no strategy.
+// The fault of the text, if it is no strategy.
 fn fault_of(alloc: Global, text: &[u8]) -> Option<ParseFault> {
     parse_strategy(alloc, text).err()
 }
@@ -154,7 +154,7 @@ fn no_strategies(rt: HostRuntime) {
     }
 }
 
-// The opening text so often, the middle, and the closing text as often.
+// Appends `count` copies of the opening text, the middle, and as many copies of the closing text.
 fn add_nested(
     text: &mut Vec<u8>,
     count: usize,
@@ -172,7 +172,8 @@ fn add_nested(
     Ok(())
 }
 
-// The parts of a row: the front, how often, the opening text, the middle, the closing text and the back.
+// The parts of a row: the front, the count, the opening text, the middle, the closing text and the
+// back.
 fn nested_parts(row: &str) -> Option<(&str, usize, &str, &str, &str, &str)> {
     let (front, row) = row.split_once('#')?;
     let (count, row) = row.split_once('#')?;
@@ -182,7 +183,7 @@ fn nested_parts(row: &str) -> Option<(&str, usize, &str, &str, &str, &str)> {
     Some((front, count.parse().ok()?, opening, middle, closing, back))
 }
 
-/// The text of a row of six parts with `#` between them: `front#2#(#middle#)#back` is
+/// The text of a row of six parts separated by `#`: `front#2#(#middle#)#back` is
 /// `front((middle))back`.
 pub fn nested_row(alloc: Global, row: &str) -> Result<Vec<u8>, Fail> {
     match nested_parts(row) {

@@ -1,13 +1,13 @@
-//! Texts that are read, and printed again. A table is one text, since the check of a literal takes long where
-//! it has many values.
+//! Texts that are read and printed again. A table is one text, since the check of a literal takes
+//! long if it has many values.
 
 use aterm_text::{ReadFault, after_blanks, is_blank, nesting, print, read, read_annotations};
 use std::alloc::Global;
 use std::test::Fail;
 use term_core::{NoMemory, Term};
 
-/// What is printed of the term, which is dropped by a call: a drop at the end of a scope is proved anew on
-/// each way out.
+/// The printed text of the term, which is dropped by a call: a drop at the end of a scope is proved
+/// anew on each way out.
 pub fn printed(alloc: Global, term: Term) -> Result<Vec<u8>, NoMemory> {
     let mut out = Vec::new(alloc);
     let done = print(&term, &mut out);
@@ -16,7 +16,7 @@ pub fn printed(alloc: Global, term: Term) -> Result<Vec<u8>, NoMemory> {
     Ok(out)
 }
 
-// Whether the term that the text spells is printed so.
+// Whether this is the printed text of the term that the text spells.
 fn is_printed(alloc: Global, text: &[u8], spelling: &[u8]) -> Result<bool, Fail> {
     Ok(printed(alloc, read(alloc, text)?)?.as_slice() == spelling)
 }
@@ -56,7 +56,7 @@ fn texts_read_and_printed(rt: HostRuntime) -> Result<(), Fail> {
     Ok(())
 }
 
-// What is told of the text, if it spells no term.
+// The fault of the text, if it is no term.
 fn fault_of(alloc: Global, text: &[u8]) -> Option<ReadFault> {
     read(alloc, text).err()
 }
@@ -97,7 +97,7 @@ fn are_no_terms(alloc: Global, table: &str) -> Result<(), Fail> {
     Ok(())
 }
 
-// Of the prefixes of this text those of 1, 2, 22, 23 and 28 bytes spell a term.
+// The prefixes of this text with 1, 2, 22, 23 and 28 bytes spell a term.
 const TEXT: &[u8] = b"f ( \"x\\n\\101\" , -007 ) { a }";
 
 fn is_prefix_as_told(alloc: Global, count: usize) -> bool {
@@ -180,12 +180,12 @@ fn counts_open_brackets(rt: HostRuntime) {
     }
 }
 
-// So many opening brackets.
+// This many opening brackets.
 fn open_brackets(alloc: Global, opening: u8, count: usize) -> Result<Vec<u8>, Fail> {
     Ok(vec![in alloc; opening; count]?)
 }
 
-// 1,000 brackets in one another.
+// 1,000 nested brackets.
 fn brackets(alloc: Global, opening: u8, closing: u8) -> Result<Vec<u8>, Fail> {
     let mut text = open_brackets(alloc, opening, 1000)?;
     for _ in 0..1000 {
@@ -220,15 +220,15 @@ fn are_deep_with_one_more(alloc: Global, opening: u8, closing: u8) -> Result<boo
     Ok(is_deep(alloc, &text))
 }
 
-// The nesting is tested before anything else, also behind what spells no term.
+// The nesting is tested before anything else, even after what is no term.
 fn are_deep_behind_a_comma(alloc: Global) -> Result<bool, Fail> {
     let mut text = open_brackets(alloc, b'[', 1001)?;
     text.insert(0, b',')?;
     Ok(is_deep(alloc, &text) && are_deep_annotations(alloc, &text))
 }
 
-// Brackets that are open at one place: 1,000 are read and printed again, on a stack of 8 MiB, and
-// 1,001 are not read.
+// Brackets open at one place: 1,000 are read and printed again, on a stack of 8 MiB, and 1,001
+// aren't read.
 #[test]
 fn deep_texts(rt: HostRuntime) -> Result<(), Fail> {
     let alloc = rt.alloc();

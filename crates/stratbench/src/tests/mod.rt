@@ -1,4 +1,4 @@
-//! The command line, the status of a run's end, and rows that need the library or primitives.
+//! The command line, the exit status, and rows that need the library or primitives.
 
 mod picking;
 mod rows;
@@ -23,7 +23,7 @@ fn line_of<'a>(alloc: Global, words: &'a [&'a str]) -> Line<'a> {
     }
 }
 
-// A command line that is taken without the library.
+// An accepted command line without the library.
 fn taken(steps: u32, stop: bool, file: Option<&str>) -> Line<'_> {
     Line::Taken(CommandLine {
         library: false,

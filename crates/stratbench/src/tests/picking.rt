@@ -1,5 +1,5 @@
-//! A host's own primitive in a script: `pick` gives `a`, `b` or `c` for 0, 1 or 2, and nothing for any other
-//! integer.
+//! A host's own primitive in a script: `pick` returns `a`, `b` or `c` for 0, 1 or 2, and nothing
+//! for any other integer.
 
 ghost use Rattle.std.specs.Prelude.{◌≡◌, length, IfOk, codes};
 ghost use Rattle.prim_core.specs.Computes.{Computes};
@@ -20,7 +20,7 @@ impl Meaning for Picking {
     ghost meaning = { pick };
 }
 
-// What `pick` means, over the three terms that its closure owns.
+// The meaning of `pick`, over the three terms that its closure owns.
 fn pick(choices: &[Term], arguments: &[Term]) -> Result<Option<Term>, NoMemory>
     requires choices { choices.now ≡ three_choices }
     requires one { length arguments.now ≡ 1 }
@@ -34,7 +34,7 @@ fn pick(choices: &[Term], arguments: &[Term]) -> Result<Option<Term>, NoMemory>
     }
 }
 
-// The word of these bytes, applied to nothing.
+// The word with these bytes, applied to nothing.
 fn constant(alloc: Global, text: &[u8]) -> Result<Term, Fail>
     ensures { IfOk result (λ term. term ≡ constant text.now) }
 {
@@ -44,7 +44,7 @@ fn constant(alloc: Global, text: &[u8]) -> Result<Term, Fail>
     Ok(Term::application(alloc, name, Vec::new(alloc)))
 }
 
-// Whatever the operation is, as long as it computes what its name means.
+// The operation is arbitrary, as long as it computes what its name means.
 fn is_answered_by_pick<M: Meaning>(
     alloc: Global,
     pick: M::Operation,

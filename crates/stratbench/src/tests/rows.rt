@@ -17,7 +17,8 @@ use std::test::Fail;
 /// A command and its answer.
 pub type Row<'a> = (&'a str, &'a str);
 
-/// Whether a new session with these primitives gives these answers, where the program is started with these words.
+/// Whether a new session with these primitives gives these answers, if the program is started with
+/// these words.
 pub fn is_answered<M: Meaning>(
     alloc: Global,
     primitives: Vec<Primitive<M>>,

@@ -1,4 +1,4 @@
-//! A strategy applied to a term in a slot's tree, and taken back.
+//! Applying a strategy to a term in a slot's tree, and undoing it.
 
 use super::rows::{Case, Wanted};
 use aterm_text::read;
@@ -17,11 +17,11 @@ use term_paths::Path;
 pub enum Call {
     /// Each edit gets an entry.
     Each,
-    /// The outermost places get one.
+    /// Only the outermost places get one.
     Outermost,
 }
 
-// What a strategy is applied in. The tree enters by a log of its own.
+// The store and the log that a strategy is applied in. The tree is put in by a log of its own.
 #[derive(Drop)]
 struct Bench {
     store: Store,
@@ -31,7 +31,8 @@ struct Bench {
     log: Log,
 }
 
-/// Whether applying the strategy comes to what is wanted, in a tree in which the term stands at the level.
+/// Whether applying the strategy has the expected outcome, in a tree that has the term at the
+/// level.
 pub fn applies<M: Meaning>(
     alloc: Global,
     program: &Program,
@@ -44,7 +45,7 @@ pub fn applies<M: Meaning>(
     applies_in(alloc, program, primitives, strategy, call, &before, case)
 }
 
-// The term in so many pairs, as their second part.
+// The term in this many pairs, as their second part.
 fn tree_around(alloc: Global, text: &str, level: usize) -> Result<Term, Fail> {
     let mut tree = read(alloc, text.as_bytes())?;
     for _ in 0..level {
@@ -103,7 +104,7 @@ fn applies_on<M: Meaning>(
     }
 }
 
-// Puts the tree into a slot of its own.
+// Puts the tree in a slot of its own.
 fn enter(alloc: Global, bench: &mut Bench, tree: &Term) -> Result<(), Fail> {
     bench.slot = slot_of(alloc, &mut bench.store)?;
     let entry = Entry::tree(bench.slot, Some(tree.try_clone()?));
@@ -116,7 +117,7 @@ fn slot_of(alloc: Global, store: &mut Store) -> Result<usize, Fail> {
     Ok(store.tree_slot(&label)?)
 }
 
-// What applying comes to; `None` for a tree that is too high.
+// The outcome of applying; `None` for a tree that is too high.
 fn applied<M: Meaning>(
     alloc: Global,
     program: &Program,
@@ -156,7 +157,7 @@ fn is_outcome(outcome: Outcome, wanted: Wanted<'_>) -> bool {
     }
 }
 
-// Whether the tree is that from before, and the log has no entry.
+// Whether the tree is unchanged and the log has no entry.
 fn stays(bench: &Bench, before: &Term) -> bool {
     bench.log.count() == 0 && holds(bench, before)
 }
@@ -168,8 +169,8 @@ fn holds(bench: &Bench, tree: &Term) -> bool {
         .is_some_and(|there| there.equals(tree))
 }
 
-// Whether the tree is the wanted one, and the log has as many entries as wanted, which lead back and
-// forward.
+// Whether the tree is the expected one, and the log has as many entries as expected, which lead
+// back and forward.
 fn is_done(
     alloc: Global,
     call: Call,

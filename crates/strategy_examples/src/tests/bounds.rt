@@ -54,7 +54,7 @@ topdown(try(?A(); ![])) ;; F(A,A) ;; 32 ;; gives F([],[]) 2 2
 bottomup(try(?A(); ![A()])) ;; F(A,A) ;; 13 ;; big
 ";
 
-// From the root: terms that grow without end, and strategies that are spent with any number of steps.
+// From the root: terms that grow without end, and strategies that run out of steps with any budget.
 const WITHOUT_END: &str = r"
 rec x(\ y -> G(y) \; x) ;; Z ;; 6999 ;; big
 repeat(\ x -> S(x) \) ;; Z ;; 10000 ;; big
@@ -87,7 +87,7 @@ fn runs_without_end_are_stopped(rt: HostRuntime) -> Result<(), Fail> {
     Ok(())
 }
 
-// The inner text between so many brackets, behind the front.
+// The front, followed by the inner text in this many brackets.
 fn in_brackets(
     alloc: Global,
     front: &str,
@@ -100,7 +100,7 @@ fn in_brackets(
     Ok(format!(in alloc; "{front}{open}{inner}{close}")?)
 }
 
-// So many lists round x are built at the root: what is wanted, with the fewest steps.
+// Builds this many lists around x at the root: the expected outcome, with the fewest steps.
 fn builds_lists(alloc: Global, count: usize, given: bool) -> Result<bool, Fail> {
     let strategy = in_brackets(alloc, "?x; !", ("[", "]"), count, "x")?;
     let lists = in_brackets(alloc, "", ("[", "]"), count, "Z")?;
@@ -109,14 +109,14 @@ fn builds_lists(alloc: Global, count: usize, given: bool) -> Result<bool, Fail> 
     Ok(first_wrong_at(alloc, &[0], &rows)?.is_none())
 }
 
-// A tree of so many lists in one another is put into one more, at a level.
+// A tree of this many nested lists is put into one more, at a level.
 fn puts_into_a_list(alloc: Global, count: usize, level: usize) -> Result<bool, Fail> {
     let lists = in_brackets(alloc, "", ("[", "]"), count, "")?;
     let rows = [("?x; ![x]", lists.as_str(), 3, Big)];
     Ok(first_wrong_at(alloc, &[level], &rows)?.is_none())
 }
 
-// So many brackets round `id`, and so many strategies before it.
+// This many brackets around `id`, and this many strategies before it.
 fn reads_long_strategies(alloc: Global) -> Result<bool, Fail> {
     let nested = in_brackets(alloc, "", ("(", ")"), 1999, "id")?;
     let row = in_brackets(alloc, "", ("id;", ""), 1999, "id")?;

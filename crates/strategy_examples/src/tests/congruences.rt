@@ -1,4 +1,4 @@
-//! Congruences, lists with a tail among them.
+//! Congruences, including lists with a tail.
 
 use super::standard::first_wrong_of;
 use std::test::Fail;

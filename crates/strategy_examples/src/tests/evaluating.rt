@@ -1,4 +1,4 @@
-//! A strategy evaluated on a term.
+//! Evaluating a strategy on a term.
 
 use super::rows::{Case, Wanted};
 use aterm_text::read;
@@ -10,7 +10,7 @@ use strategy_run::{Evaluated, evaluate};
 use strategy_syntax::Resolved;
 use term_core::{MAX_HEIGHT, Term};
 
-/// Whether the strategy gives what is wanted on the term.
+/// Whether the strategy has the expected outcome on the term.
 pub fn evaluates<M: Meaning>(
     alloc: Global,
     program: &Program,

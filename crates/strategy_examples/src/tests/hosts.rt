@@ -1,5 +1,5 @@
-//! A host's own primitives: `pick` gives `a`, `b` or `c` for 0, 1 or 2, and nothing for any other integer;
-//! `wants` always wants memory.
+//! A host's own primitives: `pick` returns `a`, `b` or `c` for 0, 1 or 2, and nothing for any other
+//! integer; `wants` always wants memory.
 
 ghost use Rattle.std.specs.Prelude.{◌≡◌, length, IfOk, codes};
 ghost use Rattle.prim_core.specs.Computes.{Computes};
@@ -22,7 +22,7 @@ impl Meaning for Picking {
     ghost meaning = { pick };
 }
 
-// What `pick` means, over the three terms that its closure owns.
+// The meaning of `pick`, over the three terms that its closure owns.
 fn pick(choices: &[Term], arguments: &[Term]) -> Result<Option<Term>, NoMemory>
     requires choices { choices.now ≡ three_choices }
     requires one { length arguments.now ≡ 1 }
@@ -36,14 +36,14 @@ fn pick(choices: &[Term], arguments: &[Term]) -> Result<Option<Term>, NoMemory>
     }
 }
 
-// It has no answer, so each of its answers is what the name means.
+// It never has an answer, so each of its answers is what the name means.
 fn want(_alloc: Global, _arguments: &[Term]) -> Result<Option<Term>, NoMemory>
     ensures { IfOk result (λ found. found ≡ pick (codes "wants") _arguments.now) }
 {
     Err(NoMemory)
 }
 
-// The word of these bytes, applied to nothing.
+// The word with these bytes, applied to nothing.
 fn constant(alloc: Global, text: &[u8]) -> Result<Term, Fail>
     ensures { IfOk result (λ term. term ≡ constant text.now) }
 {
@@ -53,7 +53,7 @@ fn constant(alloc: Global, text: &[u8]) -> Result<Term, Fail>
     Ok(Term::application(alloc, name, Vec::new(alloc)))
 }
 
-// Whatever the operations are, as long as they compute what their names mean.
+// The operations are arbitrary, as long as they compute what their names mean.
 fn first_wrong_by<M: Meaning>(
     alloc: Global,
     picks: M::Operation,
@@ -73,7 +73,7 @@ fn first_wrong_by<M: Meaning>(
     first_wrong_beside(alloc, &[], &Primitives::new(primitives), &[0, 3], rows)
 }
 
-// The first row that isn't so, through a closure that owns its choices.
+// The first row that fails, with a closure that owns its choices.
 fn first_wrong_row(alloc: Global, rows: &[Row<'_>]) -> Result<Option<usize>, Fail> {
     let wants: BoxedOperation = Box::new(alloc, want)?;
     let choices = vec![in alloc;
@@ -91,7 +91,7 @@ fn first_wrong_row(alloc: Global, rows: &[Row<'_>]) -> Result<Option<usize>, Fai
     first_wrong_by::<Picking>(alloc, picks, wants, rows)
 }
 
-// The first row of a table of so many that isn't so.
+// The first row that fails in a table of `count` rows.
 fn first_wrong_of(alloc: Global, count: usize, table: &str) -> Result<Option<usize>, Fail> {
     let rows = rows_of(alloc, count, table)?;
     first_wrong_row(alloc, &rows)

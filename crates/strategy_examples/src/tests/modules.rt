@@ -69,7 +69,7 @@ const SMALL: &str = "rules
   down(s) = s < all(down(s)) + id
   last(s) = {x: ?x; s; !G(x)}";
 
-/// The number of the first row that isn't so beside the modules.
+/// The number of the first row that fails with these modules.
 pub fn first_wrong_beside<M: Meaning>(
     alloc: Global,
     modules: &[Text<'_>],

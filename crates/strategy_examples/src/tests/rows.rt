@@ -1,4 +1,4 @@
-//! Rows: a strategy, a term, and what comes of it.
+//! Rows: a strategy, a term, and the outcome.
 
 use super::applying::{Call, applies};
 use super::evaluating::evaluates;
@@ -9,10 +9,10 @@ use strategy_check::{Program, resolve};
 use strategy_parse::parse_strategy;
 use strategy_syntax::{Resolved, Strategy};
 
-/// What a strategy comes to.
+/// The outcome of a strategy.
 #[derive(Clone, Copy)]
 pub enum Wanted<'a> {
-    /// This term, by so many edits, which have so many outermost places.
+    /// This term, by this many edits, with this many outermost places.
     Gives(&'a str, usize, usize),
     Fails,
     Spent,
@@ -21,11 +21,11 @@ pub enum Wanted<'a> {
     Memory,
 }
 
-/// A strategy, a term, the fewest steps that are enough, and what it comes to with them. One that is
-/// spent has no such steps: any number will do.
+/// A strategy, a term, the fewest steps that suffice, and the outcome with them. A strategy that
+/// runs out of steps has no such number: any will do.
 pub type Row<'a> = (&'a str, &'a str, u64, Wanted<'a>);
 
-/// What a run begins with, and what it comes to.
+/// The start of a run, and its outcome.
 #[derive(Clone, Copy)]
 pub struct Case<'a> {
     pub term: &'a str,
@@ -34,7 +34,7 @@ pub struct Case<'a> {
     pub wanted: Wanted<'a>,
 }
 
-/// The number of the first row, counted from 0, that isn't so at one of the levels.
+/// The number of the first row, counted from 0, that fails at one of the levels.
 pub fn first_wrong<M: Meaning>(
     alloc: Global,
     program: &Program,
@@ -115,8 +115,8 @@ fn is_row_at_levels<M: Meaning>(
     Ok(true)
 }
 
-/// Whether the strategy comes to what is wanted by each of the three calls, and is spent with a step
-/// less.
+/// Whether the strategy has the expected outcome by each of the three calls, and runs out of steps
+/// with one step less.
 pub fn is_so<M: Meaning>(
     alloc: Global,
     program: &Program,

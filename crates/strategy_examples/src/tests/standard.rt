@@ -1,4 +1,4 @@
-//! Rows beside the standard primitives.
+//! Rows with the standard primitives.
 
 ghost use Rattle.prim_core.specs.StandardTable.{ComputeStandard};
 
@@ -12,7 +12,7 @@ use prim_core::{
 use std::alloc::Global;
 use std::test::Fail;
 
-/// The number of the first row of a table of so many that isn't so at one of the levels, beside the
+/// The number of the first row in a table of `count` rows that fails at one of the levels, with the
 /// modules and the standard primitives.
 pub fn first_wrong_of(
     alloc: Global,
@@ -24,7 +24,7 @@ pub fn first_wrong_of(
     first_wrong_at(alloc, levels, &rows)
 }
 
-/// The same of these rows.
+/// The same for these rows.
 pub fn first_wrong_at(
     alloc: Global,
     levels: &[usize],
@@ -44,7 +44,7 @@ pub fn first_wrong_at(
     first_wrong_by::<Standard>(alloc, operations, levels, rows)
 }
 
-// Whatever the operations are, as long as they compute what their names mean.
+// The operations are arbitrary, as long as they compute what their names mean.
 fn first_wrong_by<M: Meaning>(
     alloc: Global,
     operations: StandardOperations<M::Operation>,

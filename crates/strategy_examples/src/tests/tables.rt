@@ -1,11 +1,13 @@
-//! Tables of rows. A table is one text, since the check of a literal takes long where it has many values.
+//! Tables of rows. A table is one text, since the check of a literal takes long if it has many
+//! values.
 
 use super::rows::{Row, Wanted};
 use std::alloc::{AllocError, Global};
 use std::test::Fail;
 
-/// The rows of a table, so many: a row a line, with ` ;; ` between its strategy, its term, its steps and
-/// what is wanted, as `gives F(A,B) 2 1` or `fails`. Any other line, or another count, is a failure.
+/// The `count` rows of a table: one row per line, with ` ;; ` between its strategy, its term, its
+/// steps and the outcome, such as `gives F(A,B) 2 1` or `fails`. Any other line, or another count,
+/// is a failure.
 pub fn rows_of<'a>(alloc: Global, count: usize, table: &'a str) -> Result<Vec<Row<'a>>, Fail> {
     let mut rows = Vec::new(alloc);
     for line in table.trim().lines() {

@@ -1,4 +1,4 @@
-//! Numbers that stand for nothing: the parts that have them fail. Texts give none.
+//! Numbers that stand for nothing: the parts that contain them fail. No text leads to them.
 
 use super::modules::checked;
 use super::rows::{Case, Wanted, is_so};
@@ -47,7 +47,7 @@ fn resolved(alloc: Global, unknown: Unknown) -> Result<Box<Resolved>, NoMemory> 
     Ok(Box::new(alloc, strategy)?)
 }
 
-// Whether it fails in a step, where there is one variable and no definition.
+// Whether it fails in one step, with one variable and no definition.
 fn fails(alloc: Global, unknown: Unknown) -> Result<bool, Fail> {
     let primitives: Primitives<NoPrimitives> = Primitives::new(Vec::new(alloc));
     let program = checked(alloc, &[], &primitives)?;

@@ -11,8 +11,8 @@ use strategy_syntax::Constructor;
 use strategy_tokens::{Sign, Token};
 use term_core::Name;
 
-/// The constructor that the declaration at the front of the tokens declares, where it has a name,
-/// and the tokens behind it.
+/// The constructor declared at the start of the tokens, if it has a name, and the rest of the
+/// tokens.
 pub fn read_declaration<'a>(
     tokens: &'a [Token],
 ) -> Result<(Option<Constructor>, &'a [Token]), SyntaxFault>
@@ -32,8 +32,8 @@ pub fn read_declaration<'a>(
     }
 }
 
-// The sorts of a constructor of this name: those of its arguments and an arrow, or none; and its
-// own.
+// The sorts of a constructor of this name: those of its arguments and an arrow, or none, followed
+// by its own.
 fn read_named<'a>(
     name: &Name,
     tokens: &'a [Token],

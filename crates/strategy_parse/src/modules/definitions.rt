@@ -15,7 +15,7 @@ use std::alloc::Global;
 use strategy_syntax::Definition;
 use strategy_tokens::{Sign, Token};
 
-/// The definition at the front of the tokens, and those behind it.
+/// The definition at the start of the tokens, and the rest.
 pub fn read_definition<'a>(
     alloc: Global,
     tokens: &'a [Token],

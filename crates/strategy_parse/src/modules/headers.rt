@@ -11,18 +11,17 @@ use std::alloc::Global;
 use strategy_tokens::{Sign, Token, is_mark};
 use term_core::Name;
 
-/// The name of a definition, and its parameters: strategies, and terms.
+/// The name of a definition and its parameters: strategies, then terms.
 #[derive(Drop)]
 pub struct Header {
-    /// The name.
     pub name: Name,
-    /// The names that stand for strategies.
+    /// The names of the strategy parameters.
     pub strategies: NameList,
-    /// The names that stand for terms.
+    /// The names of the term parameters.
     pub terms: NameList,
 }
 
-/// The header at the front of the tokens, and those behind it.
+/// The header at the start of the tokens, and the rest.
 pub fn read_header<'a>(
     alloc: Global,
     tokens: &'a [Token],
@@ -52,7 +51,7 @@ pub fn read_header<'a>(
     }
 }
 
-// The parameters behind the bracket that opens them.
+// The parameters after their opening bracket.
 fn read_parameters<'a>(
     alloc: Global,
     name: Name,
@@ -87,7 +86,7 @@ fn read_parameters<'a>(
     ))
 }
 
-// The identifiers at the front, with commas between, and the tokens behind them.
+// The identifiers at the start, separated by commas, and the rest of the tokens.
 fn read_names<'a>(
     alloc: Global,
     tokens: &'a [Token],
@@ -102,7 +101,7 @@ fn read_names<'a>(
     }
 }
 
-// The identifiers that follow, each behind a comma.
+// Further identifiers, each after a comma.
 fn read_more_names<'a>(
     first: NameList,
     tokens: &'a [Token],

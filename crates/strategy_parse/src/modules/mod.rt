@@ -1,6 +1,6 @@
-//! Modules as texts: sections of sorts, declarations of constructors, and definitions. Their nesting
-//! is bounded, so each has a function that takes it from the front of the tokens; the bodies of
-//! definitions are left to the machine that reads strategies.
+//! Parsing modules: sections of sorts, declarations of constructors, and definitions. Their nesting
+//! is bounded, so each has a function that reads it from the start of the tokens; the bodies of
+//! definitions are left to the machine that parses strategies.
 
 mod declarations;
 mod definitions;

@@ -1,4 +1,4 @@
-//! A whole module.
+//! Parsing a whole module.
 
 ghost use Rattle.std.specs.Prelude.{◌≡◌, ◌↔◌, ◌<◌, length, IfOk, Err};
 ghost use Rattle.strategy_syntax.specs.Modules as syntax;
@@ -14,11 +14,11 @@ use std::alloc::Global;
 use strategy_syntax::Module;
 use strategy_tokens::{Keyword, MAX_TOKENS, Token, read_tokens};
 
-/// The module that a text gives, with its rules and strategies in their core forms. The name behind
-/// `module` isn't used. The empty text is a module without anything in it.
+/// The module that a text is, with its rules and strategies in their core forms. The name after
+/// `module` isn't used. The empty text is an empty module.
 ///
-/// Errors: `Deep` where the text has more than 4,000 tokens, tested first; `Syntax` where it is no
-/// module; `Memory` where a growth of memory is refused.
+/// Errors: `Deep` if the text has more than 4,000 tokens, which is tested first; `Syntax` if it is
+/// no module; `Memory` if memory can't grow.
 pub fn parse_module(alloc: Global, text: &[u8]) -> Result<Module, ParseFault>
     ensures deep { (result ≡ Err ParseFault.Deep) ↔ (MAX_TOKENS < length (tokens text.now)) }
     ensures given { IfOk result (λ m. GivesModule (tokens text.now) m) }
@@ -33,7 +33,7 @@ pub fn parse_module(alloc: Global, text: &[u8]) -> Result<Module, ParseFault>
     Ok(module)
 }
 
-// The tokens behind the word `module` and a name, where these come first.
+// The tokens after the word `module` and a name, if they begin with these.
 fn behind_title<'a>(tokens: &'a [Token]) -> Result<&'a [Token], SyntaxFault>
     ensures back { IfOk result (λ rest. (m : syntax.Module) → Left Part.Outside rest.now m
         → GivesModule tokens.now m) }

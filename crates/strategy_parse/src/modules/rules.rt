@@ -1,4 +1,4 @@
-//! Rules, which are definitions with a scope of their variables.
+//! Rules, which are definitions whose body is a scope of their variables.
 
 ghost use Rattle.std.specs.Prelude.{◌≡◌, List, IfOk, Err};
 ghost use Rattle.strategy_syntax.specs.Lists.{first_ones};
@@ -21,7 +21,7 @@ use strategy_syntax::{Definition, Pattern, Strategy};
 use strategy_tokens::{Keyword, Sign, Token};
 use term_core::NoMemory;
 
-/// The rule with this header, whose patterns stand at the front of the tokens, and those behind it.
+/// The rule with this header, whose patterns are at the start of the tokens, and the rest.
 pub fn read_rule<'a>(
     alloc: Global,
     header: Header,
@@ -80,7 +80,7 @@ fn read_body<'a>(
     Ok((body, behind))
 }
 
-// The body of a rule: a scope of the names that are no term parameters round what it does.
+// The body of a rule: its action in a scope of the names that are no term parameters.
 fn make_body(
     alloc: Global,
     header: &Header,

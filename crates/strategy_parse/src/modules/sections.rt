@@ -27,16 +27,14 @@ pub enum Part {
     Definitions,
 }
 
-/// What was read of a module.
+/// What was read so far of a module.
 #[derive(Drop)]
 pub struct Built {
-    /// What is declared.
     pub constructors: Vec<Constructor>,
-    /// What is defined.
     pub definitions: Vec<Definition>,
 }
 
-/// The module of the sections that the tokens are.
+/// The module whose sections are these tokens.
 pub fn read_sections(alloc: Global, tokens: &[Token]) -> Result<Module, SyntaxFault>
     ensures given { IfOk result (λ m. Left Part.Outside tokens.now m) }
     ensures only { IfOk result (λ m. (r : syntax.Module) → Left Part.Outside tokens.now r → r ≡ m) }
@@ -61,8 +59,8 @@ pub fn read_sections(alloc: Global, tokens: &[Token]) -> Result<Module, SyntaxFa
     Ok(Module::new(constructors, definitions))
 }
 
-// Takes a word that begins a part of the module, or else an item of the part, from the front of the
-// tokens, and answers with the part and the tokens behind it.
+// Reads a word that begins a part of the module, or else an item of the current part, from the
+// start of the tokens. Returns the part and the rest.
 fn read_next<'a>(
     alloc: Global,
     part: Part,
@@ -94,7 +92,7 @@ fn read_next<'a>(
     }
 }
 
-// The part of a module behind a reserved word, where it may come.
+// The part of a module that a reserved word begins, if it may come here.
 fn next_part(part: Part, word: Keyword) -> Option<Part>
     ensures { result ≡ next_part part word }
 {
@@ -108,7 +106,7 @@ fn next_part(part: Part, word: Keyword) -> Option<Part>
     }
 }
 
-// The part of a signature, where it may come.
+// The part of a signature, if it may come here.
 fn in_signature(part: Part, next: Part) -> Option<Part>
     ensures { result ≡ in_signature part next }
 {
@@ -119,8 +117,8 @@ fn in_signature(part: Part, next: Part) -> Option<Part>
     }
 }
 
-// Takes a sort, a declaration or a definition from the front of the tokens, as the part of the
-// module has them, and answers with those behind it.
+// Reads a sort, a declaration or a definition, as the current part of the module has them, from the
+// start of the tokens. Returns the rest.
 fn read_item<'a>(
     alloc: Global,
     part: Part,
@@ -155,7 +153,7 @@ fn read_item<'a>(
     }
 }
 
-// Takes a declaration.
+// Reads a declaration.
 fn add_declaration<'a>(tokens: &'a [Token], built: &mut Built) -> Result<&'a [Token], SyntaxFault>
     requires { IsItem tokens.now }
     ensures forth { IfOk result (λ rest. (m : syntax.Module)
@@ -186,7 +184,7 @@ fn add_declaration<'a>(tokens: &'a [Token], built: &mut Built) -> Result<&'a [To
     }
 }
 
-// Takes a definition.
+// Reads a definition.
 fn add_definition<'a>(
     alloc: Global,
     tokens: &'a [Token],

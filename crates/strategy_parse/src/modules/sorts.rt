@@ -1,4 +1,4 @@
-//! Sorts, which are read and stand for nothing.
+//! Sorts, which are read and ignored.
 #![tactic(auto, using(crate::proofs::SortLemmas::sort_rules))]
 
 ghost use Rattle.std.specs.Prelude.{◌≡◌, ◌<◌, ◌^◌, length, IfOk, Err, Some, None};
@@ -12,24 +12,24 @@ use strategy_tokens::{Sign, Token, is_mark};
 pub enum Place {
     /// Nothing: an identifier has to come.
     Begins,
-    /// An identifier, behind which sorts in brackets may come.
+    /// An identifier, after which sorts in brackets may come.
     Named,
     /// A closing bracket.
     Closed,
 }
 
-/// Where a token leads to.
+/// The effect of a token.
 #[derive(Clone, Copy)]
 pub enum Turn {
-    /// It was taken, and so many brackets are open behind it.
+    /// It was read, and this many brackets are open after it.
     Reads(Place, usize),
     /// A whole sort ended before it.
     Ends,
-    /// No sort goes on with it.
+    /// No sort continues with it.
     Stuck,
 }
 
-// Takes one token, where so many brackets are open.
+// Reads one token, if `depth` brackets are open.
 fn sort_step(place: Place, depth: usize, token: &Token) -> Turn
     requires { depth < 2 ^ 63 }
     ensures { result ≡ sort_step place depth token.now }
@@ -49,7 +49,7 @@ fn sort_step(place: Place, depth: usize, token: &Token) -> Turn
     }
 }
 
-// Behind a whole sort, which may stand in brackets.
+// The token after a whole sort, which may be in brackets.
 fn behind_sort(depth: usize, token: &Token) -> Turn
     ensures { result ≡ behind_sort depth token.now }
 {
@@ -65,8 +65,7 @@ fn behind_sort(depth: usize, token: &Token) -> Turn
     Turn::Stuck
 }
 
-/// How many sorts stand at the front of the tokens with a `*` between, at least one, and the tokens
-/// behind them.
+/// The number of sorts at the start of the tokens, at least one, separated by `*`, and the rest.
 pub fn skip_sorts<'a>(tokens: &'a [Token]) -> Result<(usize, &'a [Token]), SyntaxFault>
     ensures ok { IfOk result (λ r. sorts_at tokens.now ≡ Some (r.0, r.1.now)) }
     ensures none { result ≡ Err SyntaxFault.Syntax → sorts_at tokens.now ≡ None }
@@ -99,7 +98,7 @@ pub fn skip_sorts<'a>(tokens: &'a [Token]) -> Result<(usize, &'a [Token]), Synta
     }
 }
 
-/// The tokens behind the sort at the front.
+/// The tokens after the sort at the start.
 pub fn skip_sort<'a>(tokens: &'a [Token]) -> Result<&'a [Token], SyntaxFault>
     ensures ok { IfOk result (λ rest. sort_at tokens.now ≡ Some rest.now) }
     ensures none { result ≡ Err SyntaxFault.Syntax → sort_at tokens.now ≡ None }

@@ -1,4 +1,4 @@
-//! Single tokens at the front.
+//! Single tokens at the start of a list.
 #![tactic(auto, using(crate::proofs::WordLemmas::word_rules))]
 
 ghost use Rattle.std.specs.Prelude.{◌≡◌, ◌∷◌, IfOk, IfSome, IfNone, Err, Some, None, false};
@@ -9,7 +9,7 @@ ghost use Rattle.strategy_parse.specs.ModuleFronts.{behind_ident, behind_mark};
 use crate::parser::SyntaxFault;
 use strategy_tokens::{Keyword, Sign, Token, is_mark, is_word};
 
-/// The tokens behind the sign, where it comes first.
+/// The tokens after the sign, if it comes first.
 pub fn behind_mark<'a>(tokens: &'a [Token], sign: Sign) -> Option<&'a [Token]>
     ensures some { IfSome result (λ rest. behind_mark sign tokens.now ≡ Some rest.now) }
     ensures none { IfNone result (behind_mark sign tokens.now ≡ None) }
@@ -22,7 +22,7 @@ pub fn behind_mark<'a>(tokens: &'a [Token], sign: Sign) -> Option<&'a [Token]>
     }
 }
 
-/// The tokens behind the sign, which has to come first.
+/// The tokens after the sign, which has to come first.
 pub fn expect_mark<'a>(tokens: &'a [Token], sign: Sign) -> Result<&'a [Token], SyntaxFault>
     ensures ok { IfOk result (λ rest. behind_mark sign tokens.now ≡ Some rest.now) }
     ensures none { result ≡ Err SyntaxFault.Syntax → behind_mark sign tokens.now ≡ None }
@@ -33,7 +33,7 @@ pub fn expect_mark<'a>(tokens: &'a [Token], sign: Sign) -> Result<&'a [Token], S
     }
 }
 
-/// The tokens behind the reserved word, where it comes first.
+/// The tokens after the reserved word, if it comes first.
 pub fn behind_word<'a>(tokens: &'a [Token], word: Keyword) -> Option<&'a [Token]>
     ensures some { IfSome result (λ rest. tokens.now ≡ Token.Reserved word ∷ rest.now) }
     ensures none { IfNone result (is_word word (next_token tokens.now) ≡ false) }
@@ -46,7 +46,7 @@ pub fn behind_word<'a>(tokens: &'a [Token], word: Keyword) -> Option<&'a [Token]
     }
 }
 
-/// The tokens behind the identifier, where one comes first.
+/// The tokens after the identifier, if one comes first.
 pub fn behind_ident<'a>(tokens: &'a [Token]) -> Option<&'a [Token]>
     ensures some { IfSome result (λ rest. behind_ident tokens.now ≡ Some rest.now) }
     ensures none { IfNone result (behind_ident tokens.now ≡ None) }

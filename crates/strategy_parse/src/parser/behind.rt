@@ -1,4 +1,4 @@
-//! What may come behind a strategy.
+//! What may come after a strategy.
 
 ghost use Rattle.std.specs.Prelude.{◌≡◌, IfOk, Err};
 ghost use Rattle.strategy_syntax.specs.Syntax as syntax;
@@ -22,7 +22,7 @@ use std::alloc::Global;
 use strategy_syntax::Strategy;
 use strategy_tokens::{Keyword, Sign, Token, is_mark, is_word};
 
-/// A strategy is read, which may go on.
+/// After a strategy, which may continue.
 pub fn behind(
     alloc: Global,
     strategy: Strategy,
@@ -45,8 +45,8 @@ pub fn behind(
     behind_arrow(alloc, strategy, stack, token)
 }
 
-// No `;` follows: the strategies of a sequence are joined, from the right. Behind `s < r` a `+` has
-// to come.
+// After an arrow form without a `;`: the strategies of a sequence are joined, from the right. After
+// `s < r` a `+` has to come.
 #[tactic(auto, using(crate::proofs::MachineLemmas::arrow_rules))]
 fn behind_arrow(
     alloc: Global,
@@ -74,7 +74,7 @@ fn behind_arrow(
     behind_seq(alloc, strategy, stack, token)
 }
 
-// A sequence is read, which isn't the second part of a guarded choice.
+// After a sequence that isn't the second branch of a guarded choice.
 fn behind_seq(
     alloc: Global,
     strategy: Strategy,
@@ -99,7 +99,7 @@ fn behind_seq(
     behind_choice(alloc, strategy, stack, token)
 }
 
-// A choice ends before the token: choices are joined, from the right.
+// After the last part of a choice: the parts are joined, from the right.
 #[tactic(auto, using(crate::proofs::MachineLemmas::choice_rules))]
 fn behind_choice(
     alloc: Global,
@@ -125,7 +125,7 @@ fn behind_choice(
     leave_choice(alloc, strategy, stack, token)
 }
 
-// A whole choice is read.
+// After a whole choice.
 fn leave_choice(
     alloc: Global,
     strategy: Strategy,
@@ -150,7 +150,7 @@ fn leave_choice(
     }
 }
 
-// A whole strategy is read, in an open form.
+// After a whole strategy, in an open form.
 fn in_frame(
     alloc: Global,
     strategy: Strategy,
@@ -236,7 +236,7 @@ fn behind_then(
     Err(SyntaxFault::Syntax)
 }
 
-// A strategy of a list is read, and is among those done.
+// After a strategy of a list, which was added to the list.
 fn behind_element(
     alloc: Global,
     group: StrategyGroup,
@@ -265,7 +265,7 @@ fn behind_element(
     Err(SyntaxFault::Syntax)
 }
 
-// A `|` behind the strategies of a list.
+// A `|` after the strategies of a list.
 fn behind_bar(
     group: StrategyGroup,
     done: StrategyList,

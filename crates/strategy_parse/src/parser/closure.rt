@@ -13,7 +13,7 @@ use std::alloc::Global;
 use strategy_syntax::{Pattern, PatternForm};
 use term_core::NoMemory;
 
-/// The variables of a pattern, each once, in the order in which they first stand in it.
+/// The variables of a pattern, each once, in the order of their first occurrence.
 pub fn scope_of(alloc: Global, left: &Pattern) -> Result<NameList, NoMemory>
     ensures { IfOk result (λ names. names ≡ first_ones same_name [] (variables left.now)) }
 {
@@ -22,7 +22,7 @@ pub fn scope_of(alloc: Global, left: &Pattern) -> Result<NameList, NoMemory>
     Ok(kept)
 }
 
-/// The names, and the variables of the pattern behind them.
+/// The names followed by the variables of the pattern.
 #[cycle(variables)]
 pub fn add_variables(pattern: &Pattern, names: NameList) -> Result<NameList, NoMemory>
     ensures { IfOk result (λ more. more ≡ names ++ variables pattern.now) }

@@ -16,17 +16,17 @@ use strategy_syntax::Strategy;
 use strategy_tokens::{Sign, Token, is_mark};
 use term_core::NoMemory;
 
-/// A condition, as it was read.
+/// A parsed condition.
 #[derive(Drop)]
 pub struct Condition {
     /// The strategy.
     pub strategy: Strategy,
-    /// The names before it, and those that stand free in it, in the order of the text.
+    /// The earlier names, followed by the names free in the condition, in the order of the text.
     pub names: NameList,
 }
 
-/// The strategy at the front of the tokens with the names that stand free in it, put behind the
-/// names before, and the tokens behind it. It goes on as long as it can.
+/// The strategy at the start of the tokens, the earlier names followed by its free names, and the
+/// rest of the tokens. The strategy is as long as possible.
 #[tactic(auto, using(crate::proofs::ConditionLemmas::condition_rules))]
 pub fn read_condition<'a>(
     alloc: Global,
@@ -60,8 +60,8 @@ pub fn read_condition<'a>(
     }
 }
 
-// The names with the one that was read last, where the token shows it to be a variable and no open
-// form names it.
+// The names with the one that was read last, if the token shows it to be a variable and no open
+// form binds it.
 fn with_seen(
     names: NameList,
     state: &State,

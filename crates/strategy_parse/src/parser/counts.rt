@@ -1,4 +1,4 @@
-//! How often each name stands among those that the open forms name.
+//! How often each name occurs among those that the open forms bind.
 #![tactic(auto)]
 
 ghost use Rattle.std.specs.Prelude.{◌≡◌, ◌+◌, ◌∷◌, [], true, OnOk, OnSome, IfOk, IfSome};
@@ -59,7 +59,7 @@ fn lower_one(counts: &mut HashMap<Name, usize>, name: &Name) -> Result<(), NoMem
     Ok(())
 }
 
-/// Counts each of the names by which the form hides once more.
+/// Counts each of the names that the form binds once more.
 pub fn raise_named(
     alloc: Global,
     counts: &mut HashMap<Name, usize>,
@@ -78,7 +78,7 @@ pub fn raise_named(
     }
 }
 
-/// Counts each of the names by which the form hides once less.
+/// Counts each of the names that the form binds once less.
 pub fn lower_named(
     alloc: Global,
     counts: &mut HashMap<Name, usize>,
@@ -107,8 +107,8 @@ pub fn lefts_of(frame: &Frame) -> usize
     }
 }
 
-/// Counts what a form hides that opens, and gives how many left sides of closures are open then.
-/// `None` where it is not to count, or memory was refused.
+/// Counts what a form hides when it opens, and returns how many left sides of closures are then
+/// open. `None` if the stack doesn't count, or memory couldn't grow.
 pub fn raise_form(
     counting: bool,
     alloc: Global,
@@ -129,8 +129,8 @@ pub fn raise_form(
     }
 }
 
-/// Counts what a form hid that is closed no longer, and gives how many left sides of closures are
-/// open then.
+/// Uncounts what a form hid when it closes, and returns how many left sides of closures are then
+/// open.
 pub fn lower_form(
     alloc: Global,
     counts: &mut HashMap<Name, usize>,

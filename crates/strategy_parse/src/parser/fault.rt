@@ -1,15 +1,15 @@
-//! Why a token was not taken.
+//! Why a token wasn't accepted.
 
 use crate::ParseFault;
 use std::alloc::{AllocError, AllocFailed};
 use term_core::NoMemory;
 
-/// Why a token was not taken.
+/// Why a token wasn't accepted.
 #[derive(Clone, Copy)]
 pub enum SyntaxFault {
-    /// No form goes on with it.
+    /// No form continues with it.
     Syntax,
-    /// A growth of memory was refused.
+    /// Memory couldn't grow.
     Memory,
 }
 

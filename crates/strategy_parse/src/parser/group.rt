@@ -1,4 +1,4 @@
-//! Lists of strategies and of patterns: what closes them, and what they make.
+//! Lists of strategies and of patterns: their closing sign, and what they make.
 #![tactic(auto, using(crate::proofs::MachineLemmas::bracket_rules))]
 
 ghost use Rattle.std.specs.Prelude.{◌≡◌, IfOk};
@@ -40,7 +40,7 @@ pub fn make_group(alloc: Global, group: StrategyGroup, done: StrategyList) -> St
     }
 }
 
-// What strategies in round brackets stand for.
+// The strategy that strategies in round brackets stand for.
 fn make_round(strategies: StrategyList) -> Strategy
     ensures { result ≡ in_brackets (syntax.strategies_of strategies) }
 {

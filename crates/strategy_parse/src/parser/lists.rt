@@ -1,4 +1,4 @@
-//! Lists that grow while a text is read, as contracts see them.
+//! Lists that grow during parsing, as contracts see them.
 ghost use Rattle.std.specs.Prelude.{◌≡◌, ◌∷◌, ◌++◌, [], IfOk};
 
 use std::alloc::Global;
@@ -44,14 +44,12 @@ impl NameList {
         Ok(NameList { items })
     }
 
-    /// The names, as a slice.
     pub fn as_slice(&self) -> &[Name]
         ensures { result.now ≡ self.now }
     {
         self.items.as_slice()
     }
 
-    /// The names, as a vector.
     pub fn into_vec(self) -> Vec<Name>
         ensures { result.items ≡ self }
     {
@@ -97,7 +95,6 @@ impl PatternList {
         Ok(PatternList { items })
     }
 
-    /// The patterns, as a vector.
     pub fn into_vec(self) -> Vec<Pattern>
         ensures { result.items ≡ self }
     {
@@ -143,7 +140,6 @@ impl StrategyList {
         Ok(StrategyList { items })
     }
 
-    /// The strategies, as a vector.
     pub fn into_vec(self) -> Vec<Strategy>
         ensures { result.items ≡ self }
     {

@@ -71,7 +71,7 @@ pub fn make_test(alloc: Global, strategy: Strategy) -> Result<Strategy, NoMemory
     Ok(Strategy::new(StrategyForm::Test(strategy)))
 }
 
-/// What `if s1 then s2 else s3 end` stands for.
+/// The core form of `if s1 then s2 else s3 end`.
 pub fn make_if(
     alloc: Global,
     tested: Strategy,
@@ -90,7 +90,7 @@ pub fn make_if(
     }
 }
 
-/// What a word before a strategy in brackets stands for.
+/// The core form of a word before a strategy in brackets.
 pub fn make_operated(
     alloc: Global,
     operator: Operator,
@@ -141,14 +141,14 @@ pub fn make_scope(alloc: Global, names: NameList, strategy: Strategy) -> Result<
     Ok(Strategy::new(StrategyForm::Scope(names.into_vec(), strategy)))
 }
 
-/// What a pair of patterns does that is a rule without a condition.
+/// The core form of a rule without a condition, from its two patterns.
 pub fn make_rewrite(alloc: Global, left: Pattern, right: Pattern) -> Result<Strategy, NoMemory>
     ensures { IfOk result (λ made. made ≡ rewrite left right) }
 {
     make_seq(alloc, make_match(left), make_build(right))
 }
 
-/// What a rule with a condition does.
+/// The core form of a rule with a condition.
 pub fn make_rewrite_where(
     alloc: Global,
     left: Pattern,

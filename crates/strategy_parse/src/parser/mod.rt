@@ -1,7 +1,7 @@
-//! The parser: a machine that takes one token after another, with a stack of open forms.
+//! The parser: a machine that reads one token after another, with a stack of open forms.
 //!
-//! What was read already is given to `drop` where nothing goes on with it: a drop at the end of a scope is proved anew
-//! on each way out.
+//! What was read is passed to `drop` where nothing continues with it: a drop at the end of a scope
+//! is proved anew on each way out.
 
 mod behind;
 mod closure;

@@ -1,4 +1,4 @@
-//! Names without those that stood before.
+//! Names without duplicates.
 #![tactic(auto)]
 
 ghost use Rattle.std.specs.Prelude.{◌≡◌, IfOk};
@@ -10,7 +10,7 @@ use std::alloc::Global;
 use std::collections::HashSet;
 use term_core::{Name, NoMemory};
 
-/// Each of the names once, where it first stands, without the others. Its time is linear.
+/// Each of the names once, at its first occurrence, without the others. It takes linear time.
 pub fn first_ones(alloc: Global, names: &[Name], others: &[Name]) -> Result<NameList, NoMemory>
     ensures { IfOk result (λ kept. kept ≡ first_ones same_name others.now names.now) }
 {

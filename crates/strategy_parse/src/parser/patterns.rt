@@ -1,4 +1,4 @@
-//! Patterns: what may begin one, and what may come behind one.
+//! Patterns: what may begin one, and what may come after one.
 
 ghost use Rattle.std.specs.Prelude.{◌≡◌, ◌∷◌, [], IfOk, Err, List};
 ghost use Rattle.strategy_syntax.specs.Syntax as syntax;
@@ -19,7 +19,7 @@ use strategy_syntax::{Head, Pattern, PatternForm};
 use strategy_tokens::{Keyword, Sign, Token, is_mark, is_word};
 use term_core::{Name, NoMemory};
 
-/// A pattern has to begin.
+/// A pattern has to begin here.
 pub fn begin_pattern(alloc: Global, token: &Token) -> Result<Outcome, SyntaxFault>
     ensures ok { IfOk result (λ o. (S : List Frame) →
         machine.begin_pattern S token.now ≡ machine.leads o S) }
@@ -42,7 +42,7 @@ pub fn begin_pattern(alloc: Global, token: &Token) -> Result<Outcome, SyntaxFaul
     }
 }
 
-// A list or a tuple of patterns has to be opened.
+// A list or a tuple of patterns has to be opened here.
 fn open_pattern(sign: Sign) -> Result<Outcome, SyntaxFault>
     ensures ok { IfOk result (λ o. (S : List Frame) →
         machine.open_pattern S sign ≡ machine.leads o S) }
@@ -56,7 +56,7 @@ fn open_pattern(sign: Sign) -> Result<Outcome, SyntaxFault>
     }
 }
 
-/// A list of patterns was opened: it ends, or a pattern has to begin.
+/// After the opening bracket of a list of patterns: it ends, or a pattern has to begin.
 pub fn first_pattern(
     alloc: Global,
     group: PatternGroup,
@@ -76,7 +76,7 @@ pub fn first_pattern(
     begin_pattern(alloc, token)
 }
 
-/// A pattern without annotations is read, which may come.
+/// After a pattern that may still get annotations.
 pub fn behind_base(
     alloc: Global,
     pattern: Pattern,
@@ -96,7 +96,7 @@ pub fn behind_base(
     behind_pattern(alloc, pattern, stack, token)
 }
 
-/// A whole pattern is read: it belongs to the `x@` before it.
+/// After a whole pattern: it belongs to the `x@` before it.
 #[tactic(auto, using(crate::proofs::MachineLemmas::at_rules))]
 pub fn behind_pattern(
     alloc: Global,
@@ -124,7 +124,7 @@ fn make_at(alloc: Global, name: Name, pattern: Pattern) -> Result<Pattern, NoMem
     Ok(Pattern::new(PatternForm::At(name, pattern)))
 }
 
-// A whole pattern is read, which no `x@` stands before.
+// After a whole pattern without an `x@` before it.
 fn leave_pattern(
     alloc: Global,
     pattern: Pattern,
@@ -148,7 +148,7 @@ fn leave_pattern(
     }
 }
 
-// A whole pattern is read, in an open form.
+// After a whole pattern, in an open form.
 fn pattern_in_frame(
     alloc: Global,
     pattern: Pattern,
@@ -182,7 +182,7 @@ fn pattern_in_frame(
     }
 }
 
-// The left side of a closure is read.
+// After the left side of a closure.
 fn behind_left(left: Pattern, stack: &mut Stack, token: &Token) -> Result<Outcome, SyntaxFault>
     ensures ok { IfOk result (λ o.
         machine.pattern_in_frame left PatternFrame.Left (forms stack.old) token.now
@@ -199,7 +199,7 @@ fn behind_left(left: Pattern, stack: &mut Stack, token: &Token) -> Result<Outcom
     Err(SyntaxFault::Syntax)
 }
 
-// The tail of a list is read.
+// After the tail of a list.
 fn behind_tail(
     alloc: Global,
     done: PatternList,
@@ -227,7 +227,7 @@ fn make_with_tail(alloc: Global, done: PatternList, tail: Pattern) -> Result<Pat
     Ok(Pattern::new(PatternForm::WithTail(done.into_vec(), tail)))
 }
 
-// The right side of a closure is read.
+// After the right side of a closure.
 fn behind_closure(
     alloc: Global,
     left: Pattern,
@@ -254,7 +254,7 @@ fn behind_closure(
     Err(SyntaxFault::Syntax)
 }
 
-// A pattern of a list is read, and is among those done.
+// After a pattern of a list, which was added to the list.
 fn behind_one(
     alloc: Global,
     group: PatternGroup,
@@ -283,7 +283,7 @@ fn behind_one(
     Err(SyntaxFault::Syntax)
 }
 
-// A `|` behind the patterns of a list.
+// A `|` after the patterns of a list.
 fn pattern_bar(
     group: PatternGroup,
     done: PatternList,

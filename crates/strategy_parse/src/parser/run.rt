@@ -1,4 +1,4 @@
-//! The front of a list of tokens.
+//! Parsing the start of a list of tokens.
 
 ghost use Rattle.std.specs.Prelude.{◌≡◌, List, IfOk, Err, Some, None};
 ghost use Rattle.strategy_syntax.specs.Syntax as syntax;
@@ -18,7 +18,7 @@ use std::alloc::Global;
 use strategy_syntax::{Pattern, Strategy, StrategyForm};
 use strategy_tokens::Token;
 
-/// The strategy at the front of the tokens, and those behind it. It goes on as long as it can.
+/// The strategy at the start of the tokens, as long as possible, and the rest.
 pub fn read_strategy<'a>(
     alloc: Global,
     tokens: &'a [Token],
@@ -35,7 +35,7 @@ pub fn read_strategy<'a>(
     }
 }
 
-/// The pattern at the front of the tokens, and those behind it. It goes on as long as it can.
+/// The pattern at the start of the tokens, as long as possible, and the rest.
 pub fn read_pattern<'a>(
     alloc: Global,
     tokens: &'a [Token],
@@ -61,7 +61,7 @@ pub fn read_pattern<'a>(
     }
 }
 
-// What the machine gives from there on, and the tokens that it leaves.
+// What the machine returns from there on, and the tokens that it leaves.
 fn run<'a>(
     alloc: Global,
     first: State,

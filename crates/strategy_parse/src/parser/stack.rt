@@ -1,4 +1,4 @@
-//! The forms that are open, the innermost on top.
+//! The open forms, the innermost on top.
 #![tactic(auto, unfolding(crate::specs::Forms::forms))]
 
 ghost use Rattle.std.specs.Prelude.{◌≡◌, true};
@@ -15,7 +15,7 @@ use term_core::{Name, NoMemory};
 #[derive(Drop)]
 pub struct Stack {
     frames: Vec<Frame>,
-    // Whether the two fields behind it say what the open forms hide.
+    // Whether the next two fields say what the open forms hide.
     counting: bool,
     counts: HashMap<Name, usize>,
     lefts: usize,
@@ -29,7 +29,7 @@ impl Stack {
     ghost use Rattle.strategy_parse.specs.FreeNames.{is_hidden};
     ghost use Rattle.strategy_parse.specs.declared.parser.state.Frame.{Frame};
 
-    /// No form is open.
+    /// An empty stack.
     pub fn new(alloc: Global) -> Stack
         ensures { forms result ≡ [] }
     {
@@ -41,7 +41,7 @@ impl Stack {
         }
     }
 
-    /// No form is open, and what the forms hide is counted, which `hides` needs.
+    /// An empty stack that counts what the forms hide, which `hides` needs.
     pub fn counting(alloc: Global) -> Stack
         ensures { forms result ≡ [] }
     {
@@ -53,7 +53,6 @@ impl Stack {
         }
     }
 
-    /// Opens a form.
     pub fn push(&mut self, frame: Frame) -> Result<(), NoMemory>
         ensures { OnOk result (forms self.new ≡ frame ∷ forms self.old) }
     {
@@ -69,7 +68,7 @@ impl Stack {
         Ok(())
     }
 
-    /// Takes the innermost form, where one is open.
+    /// Closes the innermost form, if one is open.
     pub fn pop(&mut self) -> Option<Frame>
         ensures some { IfSome result (λ frame. forms self.old ≡ frame ∷ forms self.new) }
         ensures none { IfNone result ((forms self.old ≡ []) × (forms self.new ≡ [])) }
@@ -89,8 +88,8 @@ impl Stack {
         Some(frame)
     }
 
-    /// Whether one of the open forms names it, in a time that doesn't grow with them. `NoMemory`
-    /// where a growth of memory was refused before, or the stack isn't one that counts.
+    /// Whether one of the open forms hides the name, in a time that doesn't depend on their number.
+    /// `NoMemory` if memory couldn't grow before, or the stack doesn't count.
     pub fn hides(&self, name: &Name) -> Result<bool, NoMemory>
         ensures { IfOk result (λ hidden. hidden ≡ is_hidden name.now (forms self.now)) }
     {
@@ -118,7 +117,7 @@ impl Stack {
         }
     }
 
-    /// Takes the innermost form where it is a strategy with this operator.
+    /// Closes the innermost form if it is a strategy with this operator.
     pub fn pop_operand(&mut self, operator: Infix) -> Option<Strategy>
         ensures some { IfSome result (λ s. forms self.old
             ≡ Frame.Operand operator s ∷ forms self.new) }
@@ -137,7 +136,7 @@ impl Stack {
         }
     }
 
-    /// Takes the innermost form where it is a `x @`.
+    /// Closes the innermost form if it is an `x @`.
     pub fn pop_at(&mut self) -> Option<Name>
         ensures some { IfSome result (λ name. forms self.old ≡ Frame.At name ∷ forms self.new) }
         ensures none { IfNone result (no_at (forms self.old) × (self.new ≡ self.old)) }

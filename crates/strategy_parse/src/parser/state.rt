@@ -1,4 +1,4 @@
-//! What the parser knows between two tokens: what was read last, and the forms that are open.
+//! The state of the parser between two tokens: what was read last, and the open forms.
 
 use crate::parser::lists::{NameList, PatternList, StrategyList};
 use strategy_syntax::{Pattern, Strategy};
@@ -9,13 +9,13 @@ use term_core::Name;
 pub enum State {
     /// A strategy has to begin.
     Strategy,
-    /// A list of strategies was opened: one may begin, or the list may end.
+    /// After the opening bracket of a list of strategies: one may begin, or the list may end.
     FirstStrategy(StrategyGroup),
-    /// A strategy, which may go on.
+    /// A strategy, which may continue.
     Read(Strategy),
     /// An identifier that uses a strategy. Its arguments may come.
     Used(Name),
-    /// Words before a round bracket, which has to come and opens this form.
+    /// Words before a round bracket, which is required and opens this form.
     Opening(StrategyFrame),
     /// `rec`
     Rec,
@@ -33,26 +33,26 @@ pub enum State {
     ScopeNamed(NameList),
     /// A pattern has to begin.
     Pattern,
-    /// A list of patterns was opened: one may begin, or the list may end.
+    /// After the opening bracket of a list of patterns: one may begin, or the list may end.
     FirstPattern(PatternGroup),
     /// An identifier in a pattern. Its arguments or `@` may come.
     Named(Name),
-    /// A pattern without annotations, which may come.
+    /// A pattern that may still get annotations.
     Base(Pattern),
     /// A pattern with its annotations.
     Whole(Pattern),
 }
 
-/// A form that is open, with what was read of it.
+/// An open form, with what was read of it.
 #[derive(Drop)]
 pub enum Frame {
-    /// A strategy, and the operator behind it
+    /// A strategy and the operator after it
     Operand(Infix, Strategy),
     /// `x @`
     At(Name),
-    /// A form that goes on behind a whole strategy
+    /// A form that continues after a whole strategy
     Strategy(StrategyFrame),
-    /// A form that goes on behind a whole pattern
+    /// A form that continues after a whole pattern
     Pattern(PatternFrame),
 }
 
@@ -63,11 +63,11 @@ pub enum Infix {
     Before,
     /// `<`, or the `<` of a `<+`
     Guarded,
-    /// `+`, behind a `s <`; or the `+` of a `<+`, before which `id` is understood
+    /// `+` after an `s <`; or the `+` of a `<+`, before which `id` is implied
     Otherwise,
 }
 
-/// An open form with a strategy to come, which ends before a token of the form.
+/// An open form that needs a strategy, which ends before a token of the form.
 #[derive(Drop)]
 pub enum StrategyFrame {
     /// A word and `(`
@@ -78,7 +78,7 @@ pub enum StrategyFrame {
     Child(usize),
     /// `{ x, .. :`
     Scope(NameList),
-    /// `<`, before a strategy that is applied to what a pattern builds
+    /// `<`, before a strategy that is applied to a built pattern
     Application,
     /// `if`
     If,
@@ -94,7 +94,7 @@ pub enum StrategyFrame {
     Tail(StrategyList),
 }
 
-/// An open form with a pattern to come.
+/// An open form that needs a pattern.
 #[derive(Drop)]
 pub enum PatternFrame {
     /// `?`
@@ -115,7 +115,7 @@ pub enum PatternFrame {
     Tail(PatternList),
 }
 
-/// The words that stand before one strategy in brackets.
+/// The words that may come before a single strategy in brackets.
 #[derive(Clone, Copy)]
 pub enum Operator {
     /// `all`
@@ -132,7 +132,7 @@ pub enum Operator {
     Test,
 }
 
-/// What a list of strategies stands in.
+/// What a list of strategies belongs to.
 #[derive(Drop)]
 pub enum StrategyGroup {
     /// `( s, .. )`
@@ -143,7 +143,7 @@ pub enum StrategyGroup {
     Arguments(Name),
 }
 
-/// What a list of patterns stands in.
+/// What a list of patterns belongs to.
 #[derive(Drop)]
 pub enum PatternGroup {
     /// `c ( p, .. )`
@@ -160,10 +160,10 @@ pub enum PatternGroup {
     Prim(Name),
 }
 
-/// Where a token leads to.
+/// The effect of a token.
 #[derive(Drop)]
 pub enum Outcome {
-    /// It was taken, and this was read last.
+    /// It was read, and this was read last.
     Goes(State),
     /// It belongs to no open form: a whole strategy ended before it.
     Ends(Strategy),

@@ -1,4 +1,4 @@
-//! One token.
+//! One step of the parser.
 
 ghost use Rattle.std.specs.Prelude.{◌≡◌, ◌∷◌, [], IfOk, Err, List};
 ghost use Rattle.strategy_parse.specs.Forms.{forms};
@@ -21,7 +21,7 @@ use strategy_syntax::{Pattern, PatternForm, Strategy, StrategyForm};
 use strategy_tokens::{Sign, Token, is_mark};
 use term_core::Name;
 
-/// Takes one token.
+/// Reads one token.
 pub fn step(
     alloc: Global,
     state: State,
@@ -57,7 +57,7 @@ pub fn step(
     }
 }
 
-// An identifier is read, which uses a strategy.
+// After an identifier that uses a strategy.
 fn behind_used(
     alloc: Global,
     name: Name,
@@ -77,7 +77,7 @@ fn behind_used(
     behind(alloc, Strategy::new(form), stack, token)
 }
 
-// A word is read that stands before a strategy in brackets.
+// After a word that comes before a strategy in brackets.
 fn open_frame(
     frame: StrategyFrame,
     stack: &mut Stack,
@@ -97,7 +97,7 @@ fn open_frame(
     Err(SyntaxFault::Syntax)
 }
 
-// The name behind `rec` has to come.
+// The name after `rec` has to come.
 fn rec_name(token: &Token) -> Result<Outcome, SyntaxFault>
     ensures ok { IfOk result (λ o. (S : List Frame) →
         machine.rec_name S token.now ≡ machine.leads o S) }
@@ -125,7 +125,7 @@ fn prim_name(token: &Token) -> Result<Outcome, SyntaxFault>
     }
 }
 
-// Behind the name of a primitive.
+// After the name of a primitive.
 fn behind_prim(
     alloc: Global,
     name: Name,
@@ -153,7 +153,7 @@ fn behind_prim(
     Err(SyntaxFault::Syntax)
 }
 
-// The first name of a scope has to come, or the end of none.
+// The first name of a scope has to come, or the end of the names.
 fn first_scope_name(alloc: Global, stack: &mut Stack, token: &Token) -> Result<Outcome, SyntaxFault>
     ensures ok { IfOk result (λ o.
         machine.step State.ScopeOpen (forms stack.old) token.now
@@ -183,7 +183,7 @@ fn scope_name(names: NameList, token: &Token) -> Result<Outcome, SyntaxFault>
     }
 }
 
-// A name of a scope is read.
+// After a name of a scope.
 fn behind_scope_name(
     names: NameList,
     stack: &mut Stack,
@@ -205,7 +205,7 @@ fn behind_scope_name(
     Err(SyntaxFault::Syntax)
 }
 
-// The names of a scope are read.
+// After the names of a scope.
 fn begin_scope(names: NameList, stack: &mut Stack) -> Result<Outcome, SyntaxFault>
     ensures ok { IfOk result (λ o. machine.begin_scope names (forms stack.old)
         ≡ machine.leads o (forms stack.new)) }
@@ -216,7 +216,7 @@ fn begin_scope(names: NameList, stack: &mut Stack) -> Result<Outcome, SyntaxFaul
     Ok(Outcome::Goes(State::Strategy))
 }
 
-// An identifier is read, in a pattern.
+// After an identifier in a pattern.
 fn behind_named(
     alloc: Global,
     name: Name,

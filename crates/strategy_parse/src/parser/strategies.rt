@@ -17,7 +17,7 @@ use crate::parser::state::{
 use std::alloc::Global;
 use strategy_tokens::{Keyword, Sign, Token, is_mark};
 
-/// A strategy has to begin.
+/// A strategy has to begin here.
 pub fn begin(stack: &mut Stack, token: &Token) -> Result<Outcome, SyntaxFault>
     ensures ok { IfOk result (λ o. machine.begin (forms stack.old) token.now
         ≡ machine.leads o (forms stack.new)) }
@@ -103,7 +103,7 @@ fn begin_child(index: i64) -> Result<Outcome, SyntaxFault>
     Ok(Outcome::Goes(State::Opening(StrategyFrame::Child(index as usize))))
 }
 
-/// A list of strategies was opened: it ends, or a strategy has to begin.
+/// After the opening bracket of a list of strategies: it ends, or a strategy has to begin.
 pub fn first_strategy(
     alloc: Global,
     group: StrategyGroup,
@@ -127,7 +127,7 @@ pub fn first_strategy(
     begin(stack, token)
 }
 
-// A `|` behind an opening bracket.
+// A `|` right after an opening bracket.
 fn empty_bar(alloc: Global, group: StrategyGroup) -> Result<Outcome, SyntaxFault>
     ensures ok { IfOk result (λ o. (S : List Frame) →
         machine.empty_bar group S ≡ machine.leads o S) }

@@ -10,7 +10,7 @@ decreases-meet_in_pattern l = 2 * pattern_depth l.pattern.now
 abbrev pub decreases-meet_in_patterns : goal.decreases-meet_in_patterns
 decreases-meet_in_patterns l = 2 * patterns_depth (patterns_of l.patterns.now) + 1
 
--- what is left gives what all gave
+-- the rest gives what the whole gave
 abbrev pub invariant-meet_in_patterns-loop-pattern : goal.invariant-meet_in_patterns-loop-pattern
 invariant-meet_in_patterns-loop-pattern l =
     met_in_patterns l.hidden l.first l.found (patterns_of (drop l.pattern-index l.patterns)) ≡ met_in_patterns l.hidden l.first l.fn.found (patterns_of l.patterns)

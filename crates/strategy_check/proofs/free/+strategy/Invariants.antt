@@ -10,7 +10,7 @@ decreases-meet_in_strategy l = 2 * depth l.strategy.now
 abbrev pub decreases-meet_in_strategies : goal.decreases-meet_in_strategies
 decreases-meet_in_strategies l = 2 * depths (strategies_of l.strategies.now) + 1
 
--- what is left gives what all gave
+-- the rest gives what the whole gave
 abbrev pub invariant-meet_in_strategies-loop-strategy : goal.invariant-meet_in_strategies-loop-strategy
 invariant-meet_in_strategies-loop-strategy l = record {
   same : met_in_strategies l.fn.hidden l.first l.found (strategies_of (drop l.strategy-index l.strategies)) ≡ met_in_strategies l.fn.hidden l.first l.fn.found (strategies_of l.strategies);

@@ -2,7 +2,7 @@ use Rattle.std.proofs.Common.{◌≡◌, drop}
 use Rattle.strategy_check.specs.Grouping.{with_definitions}
 use Rattle.strategy_check.proofs.groups.add_to_groups.Given as goal
 
--- what is left gives what all gave
+-- the rest gives what the whole gave
 abbrev pub invariant-loop-definition : goal.invariant-loop-definition
 invariant-loop-definition l =
     with_definitions l.table l.groups.items (drop l.definition-index l.definitions) ≡ with_definitions l.table l.fn.groups.items l.definitions

@@ -3,7 +3,7 @@ use Rattle.strategy_check.specs.Tables.{definitions_of}
 use Rattle.strategy_check.specs.Grouping.{with_definitions}
 use Rattle.strategy_check.proofs.groups.group_definitions.Given as goal
 
--- what is left gives what all gave
+-- the rest gives what the whole gave
 abbrev pub invariant-loop-module : goal.invariant-loop-module
 invariant-loop-module l =
     with_definitions l.table l.groups.items (definitions_of (drop l.module-index l.modules))

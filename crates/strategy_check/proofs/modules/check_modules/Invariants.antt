@@ -2,7 +2,7 @@ use Rattle.std.proofs.Common.{◌≡◌, [], drop}
 use Rattle.strategy_check.specs.FirstFault.{first_in_modules}
 use Rattle.strategy_check.proofs.modules.check_modules.Given as goal
 
--- the first fault of what is left is that of all
+-- the first fault of the rest is that of the whole
 abbrev pub invariant-loop-module : goal.invariant-loop-module
 invariant-loop-module g l =
     first_in_modules l.table l.primitives l.earlier.keys (drop l.module-index l.modules)

@@ -10,7 +10,7 @@ decreases-check_pattern l = 2 * pattern_depth l.pattern.now
 abbrev pub decreases-check_patterns : goal.decreases-check_patterns
 decreases-check_patterns l = 2 * patterns_depth (patterns_of l.patterns.now) + 1
 
--- the first fault of what is left is that of all
+-- the first fault of the rest is that of the whole
 abbrev pub invariant-check_patterns-loop-pattern : goal.invariant-check_patterns-loop-pattern
 invariant-check_patterns-loop-pattern l =
     first_in_patterns l.table l.building (patterns_of (drop l.pattern-index l.patterns)) ≡ first_in_patterns l.table l.building (patterns_of l.patterns)

@@ -2,7 +2,7 @@ use Rattle.std.proofs.Common.{◌≡◌, option_map}
 use Rattle.script_commands.specs.Splitting.{with_more, behind_returns}
 use Rattle.script_commands.proofs.pending.Pending.add_behind.Given as goal
 
--- with the carriage returns that are left the command is what it is to be
+-- after the remaining carriage returns the command is what it should be
 abbrev pub invariant-loop-left : goal.invariant-loop-left
 invariant-loop-left l =
     option_map (with_more (behind_returns l.left l.byte)) l.self ≡ option_map (with_more (behind_returns l.returns l.byte)) l.fn.self

@@ -3,7 +3,7 @@ use Rattle.script_commands.specs.Handed.{Handed}
 use Rattle.script_commands.specs.Splitting.{StandsBehind}
 use Rattle.script_commands.proofs.splitter.Splitter.feed.Given as goal
 
--- what is under way stands behind the bytes so far, and nothing was completed
+-- the pending state is that after the bytes so far, and no command is complete
 abbrev pub invariant-loop-at : goal.invariant-loop-at
 invariant-loop-at l = record {
   none : l.self-inside.begun ≡ None;

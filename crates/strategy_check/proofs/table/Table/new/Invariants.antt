@@ -3,7 +3,7 @@ use Rattle.strategy_syntax.specs.Lists.{with_new}
 use Rattle.strategy_check.specs.Tables.{same_key, same_constructor, keys_of, definitions_of, constructors_of}
 use Rattle.strategy_check.proofs.table.Table.new.Given as goal
 
--- what is left gives what all gave
+-- the rest gives what the whole gave
 abbrev pub invariant-loop-module : goal.invariant-loop-module
 invariant-loop-module l = record {
   definitions : with_new same_key l.definitions.keys (keys_of (definitions_of (drop l.module-index l.modules))) ≡ with_new same_key [] (keys_of (definitions_of l.modules));

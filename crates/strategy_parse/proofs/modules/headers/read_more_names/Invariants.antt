@@ -2,7 +2,7 @@ use Rattle.std.proofs.Common.{◌≡◌, length}
 use Rattle.strategy_parse.specs.ModuleFronts.{more_names}
 use Rattle.strategy_parse.proofs.modules.headers.read_more_names.Given as goal
 
--- what is left gives what all gave
+-- the rest gives what the whole gave
 abbrev pub invariant-loop-rest : goal.invariant-loop-rest
 invariant-loop-rest l = more_names l.names l.left ≡ more_names l.fn.first l.tokens
 

@@ -4,7 +4,7 @@ use Rattle.strategy_parse.specs.declared.modules.sections.Part.TheVariants.{Outs
 use Rattle.strategy_parse.specs.Sections.{Left, Stands}
 use Rattle.strategy_parse.proofs.modules.sections.read_sections.Given as goal
 
--- the module of all is what was read, and what is left gives
+-- the whole module is what was read, followed by what the rest gives
 abbrev pub invariant-loop-token : goal.invariant-loop-token
 invariant-loop-token l = record {
   forth : (m : syntax.Module) → Left Outside l.tokens m → Stands l.part l.built.constructors.items l.built.definitions.items l.left m;

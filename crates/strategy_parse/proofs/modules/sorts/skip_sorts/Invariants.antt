@@ -2,7 +2,7 @@ use Rattle.std.proofs.Common.{◌≡◌, ◌+◌, ◌≤◌, length}
 use Rattle.strategy_parse.specs.ModuleFronts.{sorts_at, sorts_from}
 use Rattle.strategy_parse.proofs.modules.sorts.skip_sorts.Given as goal
 
--- what is left gives what all gave, and no more is counted than there are tokens
+-- the rest gives what the whole gave, and no more sorts are counted than there are tokens
 abbrev pub invariant-loop-token : goal.invariant-loop-token
 invariant-loop-token l = (sorts_from l.place l.depth l.count l.left ≡ sorts_at l.tokens)
     × (l.depth + length l.left ≤ length l.tokens) × (l.count + length l.left ≤ 1 + length l.tokens)

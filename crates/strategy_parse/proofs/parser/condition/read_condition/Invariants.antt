@@ -5,7 +5,8 @@ use Rattle.strategy_parse.specs.Machine.{begin, front, step}
 use Rattle.strategy_parse.proofs.ConditionLemmas.{SeenFrom}
 use Rattle.strategy_parse.proofs.parser.condition.read_condition.Given as goal
 
--- what is left gives what all gave, and the names seen so far and those to be seen are all
+-- the rest gives what the whole gave, and the names seen so far, followed by those to be seen, are
+-- all names
 abbrev pub invariant-loop-token : goal.invariant-loop-token
 invariant-loop-token l =
     (front (step l.state (forms l.stack)) l.left ≡ front (begin []) l.tokens)

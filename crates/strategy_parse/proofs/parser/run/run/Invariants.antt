@@ -4,7 +4,7 @@ use Rattle.strategy_parse.specs.Machine.{front}
 use Rattle.strategy_parse.specs.Machine.{step as step_of}
 use Rattle.strategy_parse.proofs.parser.run.run.Given as goal
 
--- what is left gives what all gave
+-- the rest gives what the whole gave
 abbrev pub invariant-loop-token : goal.invariant-loop-token
 invariant-loop-token l =
     front (step_of l.state (forms l.stack)) l.left ≡ front (step_of l.fn.first (forms l.fn.bottom)) l.tokens
