@@ -9,9 +9,9 @@ use Rattle.term_core.specs.Word.{begins_word, continues_word, first_word}
 use Rattle.term_core.specs.Tree.{Tree}
 use Rattle.aterm_text.specs.Nesting.{greatest_open, outside_quotes, inside_quotes, behind_backslash, open_after}
 use Rattle.aterm_text.specs.Tokens.{is_blank, without_blanks, NextQuoted, NextWord, integer_len, ReadsItems, item_at, escape_at, short_or_octal, octal_at, octal_value, is_octal_digit, are_octal_digits}
-use Rattle.aterm_text.specs.Beginnings.{Begins, beginning_of}
-use Rattle.aterm_text.specs.Stack.{Stack, OpenBracket, on_top, with_top, inside, first_closing, closes_first, closes}
-use Rattle.aterm_text.specs.Depth.{depth, IsTooDeep, IsAsDeep, KeepsDepth}
+use Rattle.aterm_text.specs.inside.Beginnings.{Begins, beginning_of}
+use Rattle.aterm_text.specs.inside.Stack.{Stack, OpenBracket, on_top, with_top, inside, first_closing, closes_first, closes}
+use Rattle.aterm_text.specs.inside.Depth.{depth, IsTooDeep, IsAsDeep, KeepsDepth}
 use Rattle.aterm_text.specs.declared.TheConstants.{MAX_NESTING}
 use Rattle.aterm_text.specs.declared.reader.lexeme.Lexeme.{Lexeme}
 use Rattle.aterm_text.specs.declared.reader.lexeme.Lexeme.TheVariants.{Integer, Named}

@@ -7,10 +7,12 @@ use Rattle.std.specs.Int.{w64}
 use mir.Val.{to_z, of_z}
 use Rattle.term_core.specs.Tree.{Symbol, Tree, integer_term, application_term, list_term, tuple_term, with_annotations, with_children}
 use Rattle.aterm_text.specs.Tokens.{NextSign, NextName, without_blanks}
-use Rattle.aterm_text.specs.Beginnings.{an_integer, Begins, NoTerm, beginning_of}
-use Rattle.aterm_text.specs.Level.{Bracket, arguments, elements, components, annotating, Level, closing_of, with_term, new_level}
-use Rattle.aterm_text.specs.Stack.{Stack, OpenBracket, no_terms, with_top, inside, first_closing, closes}
-use Rattle.aterm_text.specs.Unread.{Reading, expected, entered, base, whole, Continues, IsStuck, IsEnd, Holds, Stands, GoesOn, Goes, Leads, IsLost, IsClosed, opening_of, bearer, closed}
+use Rattle.aterm_text.specs.inside.Beginnings.{an_integer, Begins, beginning_of}
+use Rattle.aterm_text.proofs.TokenLemmas.{NoTerm}
+use Rattle.aterm_text.specs.inside.Level.{Bracket, arguments, elements, components, annotating, Level, closing_of}
+use Rattle.aterm_text.proofs.StepLemmas.{with_term, new_level, step-integer, step-list, step-tuple, step-arguments, step-constant, step-closing, step-entered, step-annotations, step-bare, step-comma, step-close, stuck-whole, stuck-no_term, end-whole, continues_on, stuck_after, end_after}
+use Rattle.aterm_text.specs.inside.Stack.{Stack, OpenBracket, no_terms, with_top, inside, first_closing, closes}
+use Rattle.aterm_text.specs.inside.Unread.{Reading, expected, entered, base, whole, Continues, IsStuck, IsEnd, Holds, Stands, GoesOn, Goes, Leads, IsLost, IsClosed, opening_of, bearer, closed}
 use Rattle.aterm_text.specs.declared.reader.lexeme.Lexeme.{Lexeme}
 use Rattle.aterm_text.specs.declared.reader.lexeme.Lexeme.TheVariants.{Integer}
 use Rattle.aterm_text.specs.declared.reader.stack.Opening.{Opening}
@@ -21,7 +23,6 @@ use Rattle.aterm_text.specs.declared.reader.machine.Step.{Step}
 use Rattle.aterm_text.specs.declared.reader.ReadFault.{ReadFault}
 use Rattle.std.specs.declared.result.Result.{Result}
 use Rattle.aterm_text.specs.declared.reader.machine.Step.TheVariants.{More, Done}
-use Rattle.aterm_text.proofs.StepLemmas.{step-integer, step-list, step-tuple, step-arguments, step-constant, step-closing, step-entered, step-annotations, step-bare, step-comma, step-close, stuck-whole, stuck-no_term, end-whole, continues_on, stuck_after, end_after}
 use Rattle.aterm_text.proofs.TrimLemmas.{continues-trimmed}
 
 -- ---- what the state says about the reading

@@ -3,7 +3,7 @@ use Rattle.std.proofs.Common.{◌≡◌, ◌≢◌, ℕ, inl, inr, List, refl, s
 use Rattle.term_core.specs.Tree.{application, list, tuple, Tree, Trees, integer, branch, none, more, of_list, to_list}
 use Rattle.term_core.proofs.TreeLemmas.{to_list-of_list}
 use Rattle.aterm_text.specs.Grammar.{Reads, ReadsUntil, ReadsMore, Optional}
-use Rattle.aterm_text.specs.Beginnings.{an_integer, a_name, a_list, a_tuple}
+use Rattle.aterm_text.specs.inside.Beginnings.{an_integer, a_name, a_list, a_tuple}
 use Rattle.aterm_text.specs.Laws.{OneTerm}
 use Rattle.aterm_text.proofs.TokenLemmas.{class_of, begins_only, no_term-sign}
 use Rattle.aterm_text.proofs.StepLemmas.{sign_only, same_sign, beginning_is, no_term-reads}

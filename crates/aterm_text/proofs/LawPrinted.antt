@@ -1,6 +1,5 @@
 -- Printed text reads back.
-use Rattle.std.proofs.Common.{◌≡◌, ℕ, List, [], ◌∷◌, ◌++◌, ◌==◌, false, get_or, refl, ap, ◌∙◌, subst, append_assoc, inl, inr}
-use Rattle.std.proofs.Common.{Ok, Err, OnOk}
+use Rattle.std.proofs.Common.{◌≡◌, ℕ, List, [], ◌∷◌, ◌++◌, ◌==◌, false, get_or, refl, ap, ◌∙◌, subst, append_assoc, inl, inr, Ok, Err, OnOk}
 use Rattle.std.specs.declared.result.Result.{Result}
 use Rattle.std.proofs.lemmas.Bool.{eqb-false}
 use Rattle.std.specs.Char.{is_ascii_digit}

@@ -4,7 +4,13 @@ use Rattle.std.proofs.lemmas.Bool.{eqb-true}
 use Rattle.aterm_text.specs.declared.brackets.Place.{Place}
 use Rattle.aterm_text.specs.declared.brackets.Place.TheVariants.{OutsideQuotes, InsideQuotes, BehindBackslash}
 use Rattle.aterm_text.specs.Nesting.{outside_quotes, inside_quotes, behind_backslash, open_after, greatest_open}
-use Rattle.aterm_text.specs.NestingPlaces.{place_after, depth_after, counted}
+use Rattle.aterm_text.specs.inside.NestingPlaces.{place_after, depth_after}
+
+-- the counted part of a text that begins at p
+abbrev pub counted : Place → List ℕ → List ℕ
+counted OutsideQuotes x = outside_quotes x
+counted InsideQuotes x = inside_quotes x
+counted BehindBackslash x = behind_backslash x
 
 greatest_open-le : (n : ℕ) (x : List ℕ) → n ≤ greatest_open n x
 greatest_open-le n [] = omega arith

@@ -8,7 +8,7 @@ use Rattle.std.specs.Fmt.{signed_decimal}
 use Rattle.term_core.specs.Tree.{Tree, Trees, integer, branch, application, list, tuple, none, more, of_list, to_list, children, annotations, bare}
 use Rattle.term_core.specs.Size.{height, heights}
 use Rattle.term_core.specs.Terms.{IsTerm, AreTerms}
-use Rattle.aterm_text.specs.Printing.{Extends, is_plain}
+use Rattle.aterm_text.specs.inside.Printing.{Extends, is_plain}
 use Rattle.aterm_text.specs.Printed.{print, print_all, print_more, print_name, bracketed, escaped, octal_escape}
 
 append-nil : (a : List ℕ) → a ≡ a ++ []

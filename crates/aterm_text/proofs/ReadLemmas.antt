@@ -4,9 +4,9 @@ use Rattle.term_core.specs.Tree.{Tree, to_list, of_list, list_term, annotations,
 use Rattle.term_core.proofs.TreeLemmas.{to_list-of_list, of_list-to_list}
 use Rattle.aterm_text.specs.Tokens.{NextSign, without_blanks}
 use Rattle.aterm_text.specs.Grammar.{Reads, ReadsUntil, Spells, SpellsAnnotations}
-use Rattle.aterm_text.specs.Stack.{Stack, no_terms, with_top}
-use Rattle.aterm_text.specs.Unread.{Reading, expected, base, Unread, Stands, Continues, GoesOn, Goes, Leads, IsLost, IsStuck, IsEnd}
-use Rattle.aterm_text.specs.Level.{Level}
+use Rattle.aterm_text.specs.inside.Stack.{Stack, no_terms, with_top}
+use Rattle.aterm_text.specs.inside.Unread.{Reading, expected, base, Unread, Stands, Continues, GoesOn, Goes, Leads, IsLost, IsStuck, IsEnd}
+use Rattle.aterm_text.specs.inside.Level.{Level}
 use Rattle.aterm_text.specs.declared.reader.machine.State.{State}
 use Rattle.aterm_text.specs.declared.reader.machine.State.TheVariants.{Expected, Base}
 use Rattle.aterm_text.specs.declared.reader.machine.Step.{Step}

@@ -4,7 +4,7 @@ use Rattle.std.specs.List.{prefix_len}
 use Rattle.std.proofs.lemmas.List.Sums.{prefix_len_is}
 use Rattle.memchr.specs.Find.{Nowhere, NoneBefore, Passes, is_byte2}
 use Rattle.aterm_text.specs.Signs.{quote, backslash}
-use Rattle.aterm_text.specs.Tokens.{is_plain}
+use Rattle.aterm_text.specs.inside.Runs.{is_plain}
 
 plain-not : (b : ℕ) → is_plain b ≡ not (is_byte2 quote backslash b)
 plain-not b = at (b == quote) (b == backslash)

@@ -3,20 +3,19 @@ use Rattle.std.proofs.Common.{get_or, ◌*◌, ◌^◌, ◌≡◌, ℕ, suc, ◌
 use Rattle.std.specs.declared.option.Option.{Option}
 use Rattle.std.proofs.lemmas.Grind.{common_steps}
 use Rattle.std.proofs.lemmas.Bool.Decides.{nat_tests}
-use Rattle.std.proofs.lemmas.Str.{IsUtf8-from_ascii}
+use Rattle.std.proofs.lemmas.Str.{IsUtf8-from_ascii, digit_value_digit}
 use Rattle.std.proofs.lemmas.Str.Ascii.{IsAscii-cons}
 use Rattle.std.proofs.lemmas.Fmt.{IsAscii-from_digits}
 use Rattle.std.specs.Str.{IsAscii, IsUtf8}
 use Rattle.std.specs.Int.{IsInRange}
 use Rattle.std.specs.Char.{is_ascii_digit}
-use Rattle.std.specs.Str.Parse.{AllDigits, digits_value}
+use Rattle.std.specs.Str.Parse.{AllDigits, digits_value, IsNumeral, without_leading_sign}
 use Rattle.std.proofs.lemmas.Str.Parse.{digits_value_short, numerals_by_value, tells_digits}
 use Rattle.std.proofs.lemmas.Int.Digits.{digits_value_more, digits_more}
-use Rattle.std.proofs.lemmas.Str.{digit_value_digit}
 use Rattle.std.proofs.lemmas.List.{length-take-le}
-use Rattle.std.specs.Str.Parse.{IsNumeral, without_leading_sign}
 use Rattle.std.specs.List.{prefix_len}
-use Rattle.aterm_text.specs.Tokens.{item_at, escape_at, is_plain, ReadsItems}
+use Rattle.aterm_text.specs.Tokens.{item_at, escape_at, ReadsItems}
+use Rattle.aterm_text.specs.inside.Runs.{is_plain}
 
 -- ---- white space
 

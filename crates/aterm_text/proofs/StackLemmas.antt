@@ -5,9 +5,9 @@ use Rattle.std.proofs.Math.ListN.{set}
 use Rattle.std.proofs.Math.Seq.{set-append_seam, get_or-append_seam, take-append_seam, drop-append_seam, take-length}
 use Rattle.std.proofs.lemmas.List.{take-append-le, drop-append-le, take-append-drop, length-take, length-take-le, drop_all}
 use Rattle.term_core.specs.Tree.{Tree}
-use Rattle.aterm_text.specs.Stack.{Stack, OpenBracket, no_terms, on_top, with_top, inside, closes, closes_first}
-use Rattle.aterm_text.specs.BracketsView.{innermost_of}
-use Rattle.aterm_text.specs.StackView.{cut, IsCut}
+use Rattle.aterm_text.specs.inside.Stack.{Stack, OpenBracket, no_terms, on_top, with_top, inside, closes, closes_first}
+use Rattle.aterm_text.specs.inside.BracketsView.{innermost_of}
+use Rattle.aterm_text.specs.inside.StackView.{cut, IsCut}
 use Rattle.aterm_text.specs.declared.reader.open_brackets.Bracket.{Bracket}
 
 -- ---- one more term

@@ -5,10 +5,18 @@ use Rattle.term_core.specs.Tree.{Symbol, Head, application, list, tuple, Tree, T
 use Rattle.term_core.proofs.TreeLemmas.{of_list-to_list}
 use Rattle.aterm_text.specs.Tokens.{NextSign, NextInteger, NextName, IsBlank}
 use Rattle.aterm_text.specs.Grammar.{Reads, ReadsUntil, ReadsMore, Optional}
-use Rattle.aterm_text.specs.Beginnings.{Beginning, an_integer, a_name, a_list, a_tuple, Begins, NoTerm}
-use Rattle.aterm_text.specs.Level.{Bracket, arguments, elements, components, annotating, Level, closing_of, with_term, new_level}
-use Rattle.aterm_text.specs.Unread.{Reading, expected, entered, base, whole, Unread, Continues, IsStuck, IsEnd, BehindBase, BehindClosed, BehindWhole, BeforeTerm, closed}
-use Rattle.aterm_text.proofs.TokenLemmas.{class_of, begins_only, no_term-sign}
+use Rattle.aterm_text.specs.inside.Beginnings.{Beginning, an_integer, a_name, a_list, a_tuple, Begins}
+use Rattle.aterm_text.proofs.TokenLemmas.{NoTerm, class_of, begins_only, no_term-sign}
+use Rattle.aterm_text.specs.inside.Level.{Bracket, arguments, elements, components, annotating, Level, closing_of}
+use Rattle.aterm_text.specs.inside.Unread.{Reading, expected, entered, base, whole, Unread, Continues, IsStuck, IsEnd, BehindBase, BehindClosed, BehindWhole, BeforeTerm, closed}
+
+-- a bracket that was just opened
+abbrev pub new_level : Bracket → Level
+new_level opened = record { opened = opened; done = [] }
+
+-- the level with one more term
+abbrev pub with_term : Level → Tree → Level
+with_term level t = record { opened = level.opened; done = level.done ++ t ∷ [] }
 
 -- ---- signs and beginnings
 

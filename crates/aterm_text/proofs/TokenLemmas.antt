@@ -7,9 +7,13 @@ use Rattle.std.specs.Str.Parse.{without_leading_sign}
 use Rattle.std.specs.declared.option.Option.{Option}
 use Rattle.term_core.specs.Word.{begins_word, continues_word, first_word}
 use Rattle.aterm_text.specs.Tokens.{without_blanks, NextSign, NextWord, NextQuoted, IsInteger, integer_len, ReadsItems}
-use Rattle.aterm_text.specs.Beginnings.{Beginning, an_integer, a_name, a_list, a_tuple, Begins, NoTerm, NoLexeme}
+use Rattle.aterm_text.specs.inside.Beginnings.{Beginning, an_integer, a_name, a_list, a_tuple, Begins, NoLexeme}
 use Rattle.aterm_text.specs.declared.reader.lexeme.Lexeme.TheVariants.{Integer, Named}
 use Rattle.aterm_text.proofs.ScanLemmas.{items_only, same_pair}
+
+-- no term begins at the start of x
+abbrev pub NoTerm : List ℕ → Type 0
+NoTerm x = (b : Beginning) (y : List ℕ) → Begins b x y → ⊥
 
 -- ---- the first byte determines the kind of beginning: 0 if no term begins with it
 

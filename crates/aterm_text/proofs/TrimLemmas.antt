@@ -5,8 +5,8 @@ use Rattle.term_core.specs.Word.{first_word}
 use Rattle.term_core.specs.Tree.{Tree, Trees, integer, branch, application, list, tuple, none, more, to_list, with_annotations}
 use Rattle.aterm_text.specs.Tokens.{is_blank, without_blanks, NextSign, IsInteger, integer_len, NextQuoted, NextWord}
 use Rattle.aterm_text.specs.Grammar.{Reads, ReadsUntil, ReadsMore}
-use Rattle.aterm_text.specs.Level.{Level, closing_of}
-use Rattle.aterm_text.specs.Unread.{Reading, expected, entered, base, whole, Unread, Continues, BehindWhole}
+use Rattle.aterm_text.specs.inside.Level.{Level, closing_of}
+use Rattle.aterm_text.specs.inside.Unread.{Reading, expected, entered, base, whole, Unread, Continues, BehindWhole}
 use Rattle.aterm_text.proofs.ScanLemmas.{prefix_len-rest}
 
 pub trimmed : (x : List ℕ) → without_blanks (without_blanks x) ≡ without_blanks x

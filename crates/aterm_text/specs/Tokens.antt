@@ -1,6 +1,6 @@
 -- The tokens of a text of the ATerm format. White space may come before any of them, and a token is
 -- as long as possible.
-use Rattle.std.specs.Prelude.{◌≡◌, ℕ, ℤ, ◌+◌, ◌*◌, ◌-◌, ◌==◌, ◌||◌, ◌&&◌, nat_lt, Bool, not, List, [], ◌∷◌, drop, take, Some, None, if◌then◌else◌, FitsSigned, MatchBool}
+use Rattle.std.specs.Prelude.{◌≡◌, ℕ, ℤ, ◌+◌, ◌*◌, ◌-◌, ◌==◌, ◌||◌, ◌&&◌, nat_lt, Bool, List, [], ◌∷◌, drop, take, Some, None, if◌then◌else◌, FitsSigned, MatchBool}
 use Rattle.std.specs.Int.{w64}
 use Rattle.std.specs.declared.option.Option.{Option}
 use Rattle.std.specs.Char.{is_ascii_digit}
@@ -98,10 +98,6 @@ abbrev pub item_at : List ℕ → Option (ℕ × List ℕ)
 item_at [] = None
 item_at (b ∷ rest) =
     if (b == quote) then None else if (b == backslash) then escape_at rest else Some (b, rest)
-
--- a byte that stands for itself between quotes
-abbrev pub is_plain : ℕ → Bool
-is_plain b = not (b == quote) && not (b == backslash)
 
 -- items that stand for these bytes come first in x, then a quote, and y is the rest
 abbrev pub ReadsItems : List ℕ → List ℕ → List ℕ → Type 0

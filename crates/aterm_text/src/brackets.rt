@@ -3,7 +3,7 @@
 
 ghost use Rattle.std.specs.Prelude.{◌≡◌, ◌+◌, ◌^◌, ◌<◌};
 ghost use Rattle.aterm_text.specs.Nesting.{nesting as nesting_of};
-ghost use Rattle.aterm_text.specs.NestingPlaces.{place_after, depth_after as depth_after_of};
+ghost use Rattle.aterm_text.specs.inside.NestingPlaces.{place_after, depth_after as depth_after_of};
 
 // Where the next byte is.
 #[derive(Clone, Copy)]

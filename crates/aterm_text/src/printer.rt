@@ -6,10 +6,9 @@ ghost use Rattle.std.specs.List.{flat_map, prefix_len};
 ghost use Rattle.std.specs.Fmt.{signed_decimal};
 ghost use Rattle.term_core.specs.Tree.{of_list, bare};
 ghost use Rattle.term_core.specs.Terms.{IsTerm, AreTerms, IsName};
-ghost use Rattle.aterm_text.specs.Printed.{escaped as escaped_of, octal_escape, print as print_of, print_name as print_name_of};
-ghost use Rattle.aterm_text.specs.Printed.{print_all as print_all_of, bracketed as bracketed_of};
+ghost use Rattle.aterm_text.specs.Printed.{escaped as escaped_of, octal_escape, print as print_of, print_name as print_name_of, print_all as print_all_of, bracketed as bracketed_of};
 ghost use Rattle.aterm_text.specs.Grammar.{Spells};
-ghost use Rattle.aterm_text.specs.Printing.{Extends, is_plain as is_plain_of};
+ghost use Rattle.aterm_text.specs.inside.Printing.{Extends, is_plain as is_plain_of};
 
 use itoa::Buffer;
 use term_core::{Kind, Name, NoMemory, Term};

@@ -6,7 +6,8 @@ use Rattle.change_plans.specs.Slots.{Store}
 use Rattle.change_plans.specs.Entries.{Entry, slot_tree, subterm, subterm_annotations, slot_text, put, found, before, after, flipped_back, flipped_forward, text_of, texts, has_text}
 use Rattle.change_plans.specs.Compact.{LiesWithin, AreApart, IsCompact}
 use Rattle.change_plans.specs.Laws.{FlippedBackIsCompact, FlippedForwardIsCompact, BeforeKeepsTexts, AfterKeepsTexts}
-use Rattle.change_plans.specs.LogView.{entry_of, entries}
+use Rattle.change_plans.specs.LogView.{entry_of}
+use Rattle.change_plans.specs.inside.LogView.{entries}
 use Rattle.change_plans.specs.declared.plan.Replaced.{Replaced}
 use Rattle.change_log.proofs.MergeLemmas.{ApartFrom}
 use Rattle.change_log.proofs.ChosenLemmas.{AllApart, compact_if_apart}

@@ -1,5 +1,1 @@
--- What serves private clauses and proofs.
-pub mod PlaceOrder
-pub mod Merging
-pub mod Relations
-pub mod StepView
+mod inside

@@ -4,7 +4,8 @@ ghost use Rattle.std.specs.Prelude.{◌≡◌, ◌<◌, ◌≤◌, ◌+◌, ◌-
 ghost use Rattle.change_plans.specs.Slots.{Store};
 ghost use Rattle.change_plans.specs.Entries.{put, found, before, after, flipped_back, flipped_forward, Fits, texts, has_text};
 ghost use Rattle.change_plans.specs.Compact.{IsCompact};
-ghost use Rattle.change_plans.specs.LogView.{entry_of, entries, depths};
+ghost use Rattle.change_plans.specs.LogView.{entry_of};
+ghost use Rattle.change_plans.specs.inside.LogView.{entries, depths};
 
 use crate::Store;
 use crate::compact::compact;
@@ -30,14 +31,14 @@ impl Model for Log {
     ghost use Rattle.std.specs.Prelude.{◌≡◌, ◌<◌, ◌≤◌, ◌*◌, List, length};
     ghost use Rattle.std.specs.Coded.{coded_list};
     ghost use Rattle.change_plans.specs.Entries.{Entry};
-    ghost use Rattle.change_plans.specs.Codes.{entry_code};
+    ghost use Rattle.change_plans.specs.inside.Codes.{entry_code};
 
     ghost Value = { List Entry };
 
     ghost coded = { coded_list entry_code };
 
     ghost use Rattle.change_plans.specs.Entries.{texts};
-    ghost use Rattle.change_plans.specs.LogView.{entries, depths};
+    ghost use Rattle.change_plans.specs.inside.LogView.{entries, depths};
 
     ghost view = { λ a. entries a.replaced.items a.paths.items };
 

@@ -21,7 +21,7 @@ pub struct Slots<T: Drop> {
 
 impl<T: Drop> Model for Slots<T> {
     ghost use Rattle.change_plans.specs.Slots.{Slots};
-    ghost use Rattle.change_plans.specs.Codes.{slots_code};
+    ghost use Rattle.change_plans.specs.inside.Codes.{slots_code};
 
     ghost Value = { Slots T };
 

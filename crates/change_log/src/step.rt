@@ -4,7 +4,7 @@ ghost use Rattle.std.specs.Prelude.{◌≡◌, ◌∷◌, [], IfOk, OnOk, OnErr}
 ghost use Rattle.change_plans.specs.Slots.{Store};
 ghost use Rattle.change_plans.specs.Entries.{put, found, before, after, flipped_back, flipped_forward, Fits, has_text};
 ghost use Rattle.change_plans.specs.Compact.{IsCompact};
-ghost use Rattle.change_log.specs.StepView.{whole_entry};
+ghost use Rattle.change_log.specs.inside.StepView.{whole_entry};
 
 use crate::{Log, Store};
 use change_plans::{Entry, Kept};
@@ -39,13 +39,13 @@ impl Model for Step {
     ghost use Rattle.std.specs.Prelude.{List};
     ghost use Rattle.std.specs.Coded.{coded_list};
     ghost use Rattle.change_plans.specs.Entries.{Entry};
-    ghost use Rattle.change_plans.specs.Codes.{entry_code};
+    ghost use Rattle.change_plans.specs.inside.Codes.{entry_code};
 
     ghost Value = { List Entry };
 
     ghost coded = { coded_list entry_code };
 
-    ghost use Rattle.change_log.specs.StepView.{entries_of};
+    ghost use Rattle.change_log.specs.inside.StepView.{entries_of};
 
     ghost view = { λ a. entries_of a.changes };
 }

@@ -24,7 +24,7 @@ pub struct Store {
 
 impl Model for Store {
     ghost use Rattle.change_plans.specs.Slots.{Store};
-    ghost use Rattle.change_plans.specs.Codes.{store_code};
+    ghost use Rattle.change_plans.specs.inside.Codes.{store_code};
 
     ghost Value = { Store };
 

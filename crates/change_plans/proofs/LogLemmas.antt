@@ -4,7 +4,8 @@ use Rattle.std.proofs.lemmas.List.{drop-drop, drop-take, length-set, take-take, 
 use Rattle.std.proofs.Math.Seq.{take-append_seam, drop-append_seam}
 use Rattle.change_plans.specs.Slots.{Store}
 use Rattle.change_plans.specs.Entries.{Entry, put, found, before, after, flipped_back, flipped_forward}
-use Rattle.change_plans.specs.LogView.{entry_of, entries, depths}
+use Rattle.change_plans.specs.LogView.{entry_of}
+use Rattle.change_plans.specs.inside.LogView.{entries, depths}
 use Rattle.change_plans.proofs.EntryLemmas.{before-append}
 use Rattle.change_plans.specs.declared.entry.Kept.{Kept}
 use Rattle.change_plans.specs.declared.plan.Replaced.{Replaced}

@@ -45,7 +45,7 @@ impl Kept {
 
 impl<'a> Model for Entry<'a> {
     ghost use Rattle.change_plans.specs.Entries.{Entry};
-    ghost use Rattle.change_plans.specs.Codes.{entry_code};
+    ghost use Rattle.change_plans.specs.inside.Codes.{entry_code};
 
     ghost Value = { Entry };
 

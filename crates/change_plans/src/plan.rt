@@ -30,13 +30,13 @@ impl Model for Plan {
     ghost use Rattle.std.specs.Prelude.{◌≡◌, List, length};
     ghost use Rattle.std.specs.Coded.{coded_list};
     ghost use Rattle.change_plans.specs.Entries.{Entry};
-    ghost use Rattle.change_plans.specs.Codes.{entry_code};
+    ghost use Rattle.change_plans.specs.inside.Codes.{entry_code};
 
     ghost Value = { List Entry };
 
     ghost coded = { coded_list entry_code };
 
-    ghost use Rattle.change_plans.specs.LogView.{entries, depths};
+    ghost use Rattle.change_plans.specs.inside.LogView.{entries, depths};
 
     ghost view = { λ a. entries a.changes.items a.paths.items };
 

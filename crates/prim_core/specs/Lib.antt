@@ -1,4 +1,3 @@
--- What a reader has to believe.
 pub mod Signature
 pub mod Computes
 pub mod Values
@@ -6,5 +5,4 @@ pub mod Integers
 pub mod Strings
 pub mod Standard
 pub mod StandardTable
--- What tests use.
-pub mod Pick
+pub mod inside

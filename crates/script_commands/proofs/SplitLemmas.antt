@@ -13,9 +13,13 @@ use Rattle.script_commands.specs.declared.splitter.Unfinished.{Unfinished}
 use Rattle.script_commands.specs.Split.{Split}
 use Rattle.script_commands.specs.Script.{Cut, cut, begins_command, lines, commands, but_last}
 use Rattle.script_commands.specs.Handed.{Handed, handed_as, handed, completed}
-use Rattle.script_commands.specs.Splitting.{with_more, behind_returns, one_more, hold_return, Taken, going, gone_on, begun, at_start, taken, taken_at, rest_of, out_of, nothing, StandsBehind}
+use Rattle.script_commands.specs.Splitting.{with_more, behind_returns, one_more, hold_return, Taken, going, gone_on, begun, at_start, taken, taken_at, rest_of, StandsBehind}
+use Rattle.script_commands.specs.inside.Passing.{out_of}
 use Rattle.script_commands.proofs.HandedLemmas.{handed_long, with_more-handed_as, with_more-append, length-behind_returns, too_many_returns}
 use Rattle.script_commands.proofs.LineLemmas.{returns, IsCore, no_core, longer_core, one_more_return, with_line, last_line, lines-line_feed, lines-end}
+
+abbrev pub nothing : Unfinished
+nothing = record { command = None; place = Start; returns = 0 }
 
 -- ---- lines, split after a pending command
 

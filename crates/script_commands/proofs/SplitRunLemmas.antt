@@ -13,7 +13,8 @@ use Rattle.script_commands.specs.declared.splitter.Place.TheVariants.{Kept, Comm
 use Rattle.script_commands.specs.declared.splitter.Unfinished.{Unfinished}
 use Rattle.script_commands.specs.Handed.{Handed}
 use Rattle.script_commands.specs.Script.{is_line_feed}
-use Rattle.script_commands.specs.Splitting.{StandsBehind, Taken, going, with_more, ends_run, taken, passed, out_of}
+use Rattle.script_commands.specs.Splitting.{StandsBehind, Taken, going, with_more, taken}
+use Rattle.script_commands.specs.inside.Passing.{ends_run, passed, out_of}
 use Rattle.script_commands.proofs.HandedLemmas.{with_more-append}
 use Rattle.script_commands.proofs.SplitLemmas.{StandsBehind-more, StandsBehind-nil}
 

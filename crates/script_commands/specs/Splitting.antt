@@ -1,6 +1,6 @@
 -- Splitting a script as its bytes arrive: what is pending, and what each byte completes. The code
 -- equals this machine, which gives the commands of the script: see `StandsBehind`.
-use Rattle.std.specs.Prelude.{◌≡◌, ℕ, suc, Bool, ◌==◌, ◌&&◌, ◌||◌, nat_le, List, [], ◌∷◌, ◌++◌, Some, None, option_map, if◌then◌else◌}
+use Rattle.std.specs.Prelude.{◌≡◌, ℕ, suc, ◌==◌, ◌&&◌, ◌||◌, nat_le, List, [], ◌∷◌, ◌++◌, Some, None, option_map, if◌then◌else◌}
 use Rattle.std.specs.declared.option.Option.{Option}
 use Rattle.std.specs.List.{repeat}
 use Rattle.std.specs.Option.{option_to_list}
@@ -15,9 +15,6 @@ abbrev pub with_more : List ℕ → Handed → Handed
 with_more [] c = c
 with_more (b ∷ more) (text bytes) = handed_as (bytes ++ b ∷ more)
 with_more (b ∷ more) long = long
-
-abbrev pub nothing : Unfinished
-nothing = record { command = None; place = Start; returns = 0 }
 
 -- The effect of a byte: perhaps a command is complete, and what is then pending.
 pub record Taken : Type 0 where
@@ -85,24 +82,10 @@ taken_at Skipped s b = in_dropped s b
 abbrev pub taken : Unfinished → ℕ → Taken
 taken s b = taken_at s.place s b
 
--- whether a byte in a line of the command may change more than the command
-abbrev pub ends_run : ℕ → Bool
-ends_run b = b == 10 || b == 13
-
 -- what is given for what is pending and the bytes after it, up to the end
 abbrev pub rest_of : Unfinished → List ℕ → List Handed
 rest_of s [] = option_to_list s.command
 rest_of s (b ∷ bytes) = option_to_list (taken s b).out ++ rest_of (taken s b).left bytes
-
--- what is given at these bytes
-abbrev pub out_of : Unfinished → List ℕ → List Handed
-out_of s [] = []
-out_of s (b ∷ bytes) = option_to_list (taken s b).out ++ out_of (taken s b).left bytes
-
--- what is pending after these bytes
-abbrev pub passed : Unfinished → List ℕ → Unfinished
-passed s [] = s
-passed s (b ∷ bytes) = passed (taken s b).left bytes
 
 -- What is pending after the text x, for which these commands were given: exactly those that are
 -- complete; and whatever follows x, the other commands come from what is pending and the rest.

@@ -23,13 +23,14 @@ pub struct Pending {
 impl Model for Pending {
     ghost use Rattle.std.specs.declared.option.Option.{Option};
     ghost use Rattle.std.specs.Coded.{coded_option};
-    ghost use Rattle.script_commands.specs.Handed.{Handed, handed_code};
+    ghost use Rattle.script_commands.specs.Handed.{Handed};
+    ghost use Rattle.script_commands.specs.inside.HandedCode.{handed_code};
 
     ghost Value = { Option Handed };
 
     ghost coded = { coded_option handed_code };
 
-    ghost use Rattle.script_commands.specs.PendingView.{pending_of, HasRoom};
+    ghost use Rattle.script_commands.specs.inside.PendingView.{pending_of, HasRoom};
 
     ghost view = { pending_of };
 

@@ -9,8 +9,9 @@ ghost use Rattle.script_commands.specs.Handed.{Handed, handed};
 ghost use Rattle.std.specs.List.{position_or_len};
 ghost use Rattle.std.specs.Option.{option_to_list};
 ghost use Rattle.script_commands.specs.Script.{is_line_feed};
-ghost use Rattle.script_commands.specs.Splitting.{StandsBehind, taken, passed, out_of, ends_run, going, begun, hold_return, at_start, in_line, gone_on, with_more};
-ghost use Rattle.script_commands.specs.Split.{left_behind};
+ghost use Rattle.script_commands.specs.Splitting.{StandsBehind, taken, going, begun, hold_return, at_start, in_line, gone_on, with_more};
+ghost use Rattle.script_commands.specs.inside.Passing.{passed, out_of, ends_run};
+ghost use Rattle.script_commands.specs.inside.SplitView.{left_behind};
 ghost use Rattle.script_commands.specs.FedRight.{FedRight, handed_out};
 
 use crate::MAX_COMMAND;
@@ -76,7 +77,8 @@ pub struct Splitter {
 }
 
 impl Model for Splitter {
-    ghost use Rattle.script_commands.specs.Split.{Split, split_code, split_of};
+    ghost use Rattle.script_commands.specs.Split.{Split};
+    ghost use Rattle.script_commands.specs.inside.SplitView.{split_code, split_of};
 
     ghost Value = { Split };
 

@@ -14,11 +14,13 @@ use Rattle.script_core.specs.declared.running.RunFault.TheVariants.{Read, Write,
 use Rattle.script_core.specs.declared.running.TheConstants.{MAX_READS, PIECE}
 use Rattle.script_commands.specs.declared.splitter.Fed.TheVariants.{Command}
 use Rattle.script_commands.specs.Handed.{Handed, handed, completed}
-use Rattle.script_commands.specs.Splitting.{StandsBehind, rest_of, out_of}
+use Rattle.script_commands.specs.Splitting.{StandsBehind, rest_of}
+use Rattle.script_commands.specs.inside.Passing.{out_of}
 use Rattle.script_commands.specs.Split.{Split}
 use Rattle.script_commands.specs.FedRight.{FedRight, GoesBehind}
-use Rattle.script_forms.specs.Run.{Completes, BreaksOff, Answers, one_if}
-use Rattle.script_core.specs.Running.{ByBudget, GoesOnBy, Counts, AnswersReady, AnswersBytes, Underway, HandsBehind, Breaks, Ends, Stops, Calm, TurnRight, RunRight, Streams}
+use Rattle.script_forms.specs.Run.{Completes, BreaksOff, Answers}
+use Rattle.script_forms.specs.inside.Counting.{one_if}
+use Rattle.script_core.specs.inside.Running.{ByBudget, GoesOnBy, Counts, AnswersReady, AnswersBytes, Underway, HandsBehind, Breaks, Ends, Stops, Calm, TurnRight, RunRight, Streams}
 use Rattle.script_forms.proofs.RunLemmas.{one_if-total, Completes-none, Completes-append, Completes-stopped, Completes-after, Completes-flushed, BreaksOff-append, BreaksOff-longer, BreaksOff-flush, BreaksOff-after}
 use Rattle.script_commands.proofs.SplitLemmas.{StandsBehind-end, StandsBehind-out}
 

@@ -1,2 +1,1 @@
--- What serves private clauses and proofs.
-pub mod Running
+mod inside

@@ -13,7 +13,8 @@ ghost use Rattle.script_commands.specs.Handed.{text as text_handed};
 ghost use Rattle.script_forms.specs.Form.{tree, put, annotate, show, module_text, HasBudget, takes_no_memory, is_without_memory, front_word, behind_word};
 ghost use Rattle.script_commands.specs.FedRight.{handed_out};
 ghost use Rattle.script_forms.specs.Machine.{ReadAs, Replies, ReplyToText, line, listed, counted, ok_with, told_of};
-ghost use Rattle.script_forms.specs.Answer.{Accepts, Answered, Refuses, ReplyInRun, reading_refusal};
+ghost use Rattle.script_forms.specs.inside.Accepting.{Accepts, Refuses, reading_refusal};
+ghost use Rattle.script_forms.specs.Answer.{Answered, ReplyInRun};
 ghost use Rattle.script_forms.specs.CommandView.{form as form_seen};
 
 use aterm_text::{ReadFault, read, read_annotations};

@@ -6,8 +6,9 @@ ghost use Rattle.script_commands.specs.Handed.{Handed};
 ghost use Rattle.script_commands.specs.Splitting.{StandsBehind};
 ghost use Rattle.session_steps.specs.Steps.{AreSteps};
 ghost use Rattle.script_forms.specs.Answer.{ReplyInRun};
-ghost use Rattle.script_core.specs.Running.{AnswersReady, AnswersBytes, Breaks, Ends, TurnRight, RunRight, streams};
-ghost use Rattle.script_forms.specs.Run.{Answers, AnswersPart, AnswersFirst, Completes, BreaksOff, one_if};
+ghost use Rattle.script_core.specs.inside.Running.{AnswersReady, AnswersBytes, Breaks, Ends, TurnRight, RunRight, streams};
+ghost use Rattle.script_forms.specs.Run.{Answers, AnswersPart, AnswersFirst, Completes, BreaksOff};
+ghost use Rattle.script_forms.specs.inside.Counting.{one_if};
 
 use crate::answer::answer_text;
 use prim_core::Meaning;

@@ -12,15 +12,15 @@ use Rattle.session_steps.specs.History.{HistoryGroup, History, undone, redone}
 use Rattle.session_steps.specs.Step.{Outcome, Passing, Holding, Given, Leaves, Place}
 use Rattle.session_steps.specs.declared.refusal.Refusal.{Refusal}
 use Rattle.session_steps.specs.declared.refusal.Refusal.TheVariants.{Memory, NoUndo, NoRedo, Group, NoGroup}
-use Rattle.script_forms.specs.Machine.{Reply, ReadAs, Told, done, ok_with}
+use Rattle.script_forms.specs.Machine.{Reply, ReadAs, Told, done, ok_with, Replies, ReplyTo, ReplyToText, refused, line}
 use Rattle.script_commands.specs.Handed.{Handed, text as handed_text, long}
 use Rattle.script_forms.specs.Form.{Form, is_without_memory, undo, redo, begin, abandon, tree_form, put_form, command_of, checked, form_with, is_same, last_steps, has_word, front_word, behind_word, takes_no_memory, takes_no_memory_with}
 use Rattle.script_forms.specs.declared.command.Command.{Command}
 use Rattle.script_forms.specs.CommandView.{form}
 use Rattle.script_commands.specs.Script.{without_end}
 use Rattle.aterm_text.specs.Tokens.{is_blank}
-use Rattle.script_forms.specs.Machine.{Replies, ReplyTo, ReplyToText, refused, line}
-use Rattle.script_forms.specs.Answer.{Accepts, Refuses, Answered, ReplyInRun, TellsRefusal, takes_none, reading_refusal, is_fault}
+use Rattle.script_forms.specs.inside.Accepting.{Accepts, Refuses, reading_refusal}
+use Rattle.script_forms.specs.Answer.{Answered, ReplyInRun, TellsRefusal, takes_none, is_fault}
 
 -- ---- texts that are read
 

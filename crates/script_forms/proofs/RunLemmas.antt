@@ -11,7 +11,8 @@ use Rattle.session_steps.specs.History.{History}
 use Rattle.script_commands.specs.Handed.{Handed}
 use Rattle.script_forms.specs.Machine.{Reply, Replying, history_after, written}
 use Rattle.script_forms.specs.Answer.{Answered}
-use Rattle.script_forms.specs.Run.{Replied, history_after_all, out, last_answer, one_if, Leads, Completes, WritesFront, BreaksOff}
+use Rattle.script_forms.specs.Run.{Replied, history_after_all, out, last_answer, Leads, Completes, WritesFront, BreaksOff}
+use Rattle.script_forms.specs.inside.Counting.{one_if}
 use Rattle.script_forms.proofs.WriteLemmas.{Appends-none}
 
 -- ---- lists of replies

@@ -1,11 +1,9 @@
 -- How one command of a run is answered.
-use Rattle.std.specs.Prelude.{◌≡◌, ◌⊎◌, ℕ, Bool, true, false, List, ◌++◌, Ok, Err, is_ok}
+use Rattle.std.specs.Prelude.{◌≡◌, ◌⊎◌, ℕ, Bool, true, false, List, ◌++◌, Err, is_ok}
 use Rattle.session_steps.specs.Applying.{Meaning}
 use Rattle.session_steps.specs.History.{History}
 use Rattle.session_steps.specs.declared.refusal.Refusal.{Refusal}
 use Rattle.session_steps.specs.declared.refusal.Refusal.TheVariants.{Memory, Line, Long, Name, NoTree, NoModule, Term, Deep, Path, Syntax, Check, Fails, Spent, Big, NoUndo, NoRedo, Group, NoGroup}
-use Rattle.aterm_text.specs.declared.reader.ReadFault.{ReadFault}
-use Rattle.aterm_text.specs.declared.reader.ReadFault.TheVariants.{Deep as DeepText, Term as NoTerm, Memory as NoMemory}
 use Rattle.script_forms.specs.Form.{takes_no_memory}
 use Rattle.script_forms.specs.Machine.{Reply, Replying, ReplyTo, history_after, written, line, refused}
 use Rattle.script_commands.specs.Handed.{Handed, text, long}
@@ -31,24 +29,7 @@ pub record Answered (Rule : Replying) (command : Handed) (old new : History) (be
   pub answer : after ≡ before ++ written reply
   pub accepted : verdict ≡ is_ok reply
 
--- ---- parts of this: a rule accepts or refuses
-
--- The rule accepts, with an answer that the buffer holds after its earlier bytes.
-pub record Accepts (Rule : Reply → Type 0) (new : History) (before after : List ℕ) : Type 0 where
-  pub text : List ℕ
-  pub reply : Rule (Ok (record { answer = text; history = new }))
-  pub answer : after ≡ before ++ text
-
--- The rule gives this refusal; or memory is wanted, if it may be.
-abbrev pub Refuses : (Reply → Type 0) → Bool → Refusal → Type 0
-Refuses Rule takes_none refusal =
-    ((refusal ≡ Memory) × (takes_none ≡ false)) ⊎ Rule (Err refusal)
-
--- the refusal for a fault in reading a term or annotations
-abbrev pub reading_refusal : ReadFault → Refusal
-reading_refusal DeepText = Deep
-reading_refusal NoTerm = Term
-reading_refusal NoMemory = Memory
+-- ---- refusals in the buffer
 
 -- Whether a refusal reports a fault of the checker. The name in it may be so long that it takes
 -- memory to write it.

@@ -1,5 +1,5 @@
 -- What a run of a script writes, and the history afterwards.
-use Rattle.std.specs.Prelude.{◌≡◌, ◌<◌, ◌≤◌, ◌⊎◌, ◌&&◌, ℕ, Bool, true, false, List, [], ◌∷◌, ◌++◌, length, count_by, is_ok, is_err}
+use Rattle.std.specs.Prelude.{◌≡◌, ◌<◌, ◌≤◌, ◌⊎◌, ◌&&◌, ℕ, Bool, true, List, [], ◌∷◌, ◌++◌, length, count_by, is_ok, is_err}
 use Rattle.std.specs.declared.option.Option.{Option}
 use Rattle.std.specs.Bool.{MatchBool}
 use Rattle.std.specs.List.{flat_map}
@@ -36,10 +36,6 @@ abbrev pub last_answer : List Reply → List ℕ
 last_answer [] = []
 last_answer (reply ∷ []) = written reply
 last_answer (reply ∷ (next ∷ replies)) = last_answer (next ∷ replies)
-
-abbrev pub one_if : Bool → ℕ
-one_if true = 1
-one_if false = 0
 
 -- These commands lead from the history h to g with these replies.
 pub record Leads (stop : Bool) (Rule : Replying) (commands : List Handed) (h g : History) (flags : List Bool)

@@ -9,7 +9,7 @@ ghost use Rattle.session_steps.specs.Steps.{AreSteps};
 ghost use Rattle.script_forms.specs.Form.{Form, tree, put, command_of, checked, tree_form, copy_form, drop_form, put_form, annotate_form, module_form, unload_form, apply_form, text_form, show_form, last_name, last_steps, last_text, option_word, behind_option, path_or_root, steps_or, steps_of, ended, HasBudget, is_without_memory, takes_no_memory, front_word, behind_word, has_word, is_same};
 ghost use Rattle.term_paths.specs.PathText.{path_of};
 ghost use Rattle.script_forms.specs.CommandView.{form as form_seen};
-ghost use Rattle.script_forms.specs.KeywordView.{form_behind, is_without_memory_behind};
+ghost use Rattle.script_forms.specs.inside.KeywordView.{form_behind, is_without_memory_behind};
 
 use crate::keyword::{Keyword, keyword_of};
 use aterm_text::{after_blanks, after_byte, is_blank};

@@ -2,7 +2,7 @@
 
 ghost use Rattle.std.specs.Prelude.{◌≡◌, ℕ, List};
 ghost use Rattle.script_forms.specs.Form.{form_with, takes_no_memory_with};
-ghost use Rattle.script_forms.specs.KeywordView.{form_behind, is_without_memory_behind};
+ghost use Rattle.script_forms.specs.inside.KeywordView.{form_behind, is_without_memory_behind};
 
 /// The first word of a command.
 #[derive(Clone, Copy)]

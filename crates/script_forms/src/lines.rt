@@ -2,7 +2,7 @@
 
 ghost use Rattle.std.specs.Prelude.{◌≡◌, ◌≤◌, ◌+◌, ◌++◌, ◌∷◌, OnOk, OnErr, length, take, vec_capacity, vec_len};
 ghost use Rattle.aterm_text.specs.Printed.{print as print_of};
-ghost use Rattle.aterm_text.specs.Printing.{Extends};
+ghost use Rattle.aterm_text.specs.inside.Printing.{Extends};
 ghost use Rattle.script_forms.specs.Form.{tree};
 ghost use Rattle.script_forms.specs.Machine.{line, listed};
 

@@ -2,7 +2,7 @@
 
 ghost use Rattle.std.specs.Prelude.{◌≡◌, ◌≤◌, ◌+◌, ◌++◌, ◌∷◌, [], OnOk, OnErr, true, false, codes, decimal, vec_capacity, vec_len};
 ghost use Rattle.aterm_text.specs.Printed.{print_name as name_printed};
-ghost use Rattle.aterm_text.specs.Printing.{Extends};
+ghost use Rattle.aterm_text.specs.inside.Printing.{Extends};
 ghost use Rattle.strategy_check.specs.Words.{word_of as kind_word};
 ghost use Rattle.session_steps.specs.Refusal.{number_of};
 ghost use Rattle.script_forms.specs.Machine.{line, reason, refused as refused_text};

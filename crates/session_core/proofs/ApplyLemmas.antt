@@ -17,7 +17,8 @@ use Rattle.change_plans.specs.Slots.{Store, contents}
 use Rattle.change_plans.specs.Entries.{subterm_in}
 use Rattle.change_plans.proofs.ContentsLemmas.{tree_put}
 use Rattle.session_steps.specs.Modules.{Texts, AreReadable, GivesProgram, IsProgram, Checks, AreRefused}
-use Rattle.session_steps.specs.Applying.{Meaning, ReadsAsStrategy, resolved_in, world_in, given_by, GivesIn}
+use Rattle.session_steps.specs.Applying.{Meaning, ReadsAsStrategy, resolved_in, world_in, given_by}
+use Rattle.session_steps.specs.inside.Giving.{GivesIn}
 use Rattle.session_steps.specs.History.{History, changed, AreFormed}
 use Rattle.session_steps.specs.Step.{apply, Outcome, Passing, Given, ChangesTo, AppliesAt, Place, ComesTo, place_of}
 use Rattle.session_steps.specs.Unfolded.{unfolded, IsPlaceOf}

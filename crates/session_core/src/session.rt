@@ -31,7 +31,7 @@ pub struct Session<M: Meaning> {
 
 impl<M: Meaning> Model for Session<M> {
     ghost use Rattle.session_steps.specs.History.{History};
-    ghost use Rattle.session_steps.specs.Codes.{history_code};
+    ghost use Rattle.session_steps.specs.inside.Codes.{history_code};
 
     ghost Value = { History };
 

@@ -4,7 +4,7 @@ use Rattle.std.specs.Bool.{OnFalse}
 use Rattle.std.specs.Global.{Vec}
 use Rattle.std.proofs.lemmas.List.{length-drop, length-set}
 use Rattle.std.specs.Option.{option_map_or}
-use Rattle.std.specs.Prelude.{nat_eq, if◌then◌else◌}
+use Rattle.std.specs.Prelude.{nat_eq, if◌then◌else◌, IsSomeAnd}
 use Rattle.std.specs.Cmp.Lexicographic.{pointwise}
 use Rattle.prim_core.specs.Signature.{Signature}
 use Rattle.change_plans.specs.Contents.{Contents}
@@ -14,9 +14,9 @@ use Rattle.change_plans.specs.Entries.{Entry, HasPlace, put, found, before, afte
 use Rattle.change_plans.proofs.EntryLemmas.{before-append, pushed_fits, pushed_leads_back}
 use Rattle.change_log.proofs.FlipLemmas.{flipped_back_is_compact, flipped_forward_is_compact}
 use Rattle.session_steps.specs.History.{HistoryGroup, History, stepped, changed, back_to, forward_to, step_back, step_forward}
-use Rattle.std.specs.Prelude.{IsSomeAnd}
 use Rattle.session_steps.specs.Step.{committed}
-use Rattle.session_steps.specs.Unfolded.{past_of, later_of, FitBack, FitForward, AllCompact, unfolded, IsCurrent, IsPlaced, AddsStep, AddsEntries}
+use Rattle.session_steps.specs.Unfolded.{past_of, later_of, FitBack, FitForward, AllCompact, unfolded, IsCurrent, IsPlaced, AddsEntries}
+use Rattle.session_steps.specs.inside.Adding.{AddsStep}
 use Rattle.session_steps.specs.declared.timeline.Timeline.{Timeline}
 use Rattle.session_steps.specs.declared.timeline.OpenGroup.{OpenGroup}
 use Rattle.session_steps.proofs.TimelineLemmas.{fits-append, take-append, drop-append, IsGrowth, rewound_grown, past_grown, later_grown, length-past_of, length-later_of, count_past, compact-append, compact-take, compact-set, compact_at, grouped_past, grouped_later, grouped_back, grouped_forward, grouped_within, back_past, back_later, back_back, back_forward, forward_later, forward_past, forward_back, forward_forward}

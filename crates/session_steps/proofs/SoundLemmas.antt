@@ -14,10 +14,9 @@ use Rattle.term_paths.specs.Paths.{set_at, set_annotations_at}
 use Rattle.term_core.proofs.TreeLemmas.{of_list-to_list}
 use Rattle.term_paths.proofs.PathLemmas.{changed_at, set_at-changed, set_annotations_at-changed, changed_at-child, changed_at-no_child}
 use Rattle.strategy_syntax.specs.Modules.{Module}
-use Rattle.strategy_check.specs.Faults.{Primitives}
+use Rattle.strategy_check.specs.Faults.{Primitives, first}
 use Rattle.change_plans.specs.Contents.{Contents, Named, no_contents, with_tree, without_tree, with_module, without_module}
 use Rattle.strategy_check.specs.Programs.{Program}
-use Rattle.strategy_check.specs.Faults.{first}
 use Rattle.strategy_syntax.specs.Syntax.{Strategy}
 use Rattle.strategy_meaning.specs.Applied.{Outcome as Ending, gives, fails, stops, IfGiven, applied}
 use Rattle.strategy_meaning.specs.Laws.{AppliedKeepsHeights}

@@ -1,5 +1,5 @@
 -- Applying strategies in a session: parsing and resolving their texts, and the outcome.
-use Rattle.std.specs.Prelude.{◌≡◌, ℕ, List, Some, None, Ok, Err}
+use Rattle.std.specs.Prelude.{ℕ, List, Some, None, Ok, Err}
 use Rattle.std.specs.declared.option.Option.{Option}
 use Rattle.std.specs.declared.result.Result.{Result}
 use Rattle.term_core.specs.Tree.{Tree}
@@ -11,8 +11,6 @@ use Rattle.strategy_check.specs.Programs.{Program, faults_of, resolved}
 use Rattle.strategy_meaning.specs.Answer.{Stop, spent, big}
 use Rattle.strategy_meaning.specs.Meaning.{World}
 use Rattle.strategy_meaning.specs.Applied.{Outcome, gives, fails, stops}
-use Rattle.change_plans.specs.Slots.{Store}
-use Rattle.change_plans.specs.Entries.{slot_tree, put}
 use Rattle.session_steps.specs.Modules.{ReadsBy, refusal_of}
 use Rattle.session_steps.specs.declared.refusal.Refusal.{Refusal}
 use Rattle.session_steps.specs.declared.refusal.Refusal.TheVariants.{Fails, Spent, Big}
@@ -50,9 +48,3 @@ abbrev pub given_by : Outcome → Result Tree Refusal
 given_by (gives tree edits) = Ok tree
 given_by fails = Err Fails
 given_by (stops why) = Err (stopped_as why)
-
--- The run succeeded with a tree, which was put in a slot: from one store to the other.
-pub record GivesIn (ending : Outcome) (slot : ℕ) (s t : Store) : Type 0 where
-  pub tree : Tree
-  pub given : given_by ending ≡ Ok tree
-  pub stands : t ≡ put (slot_tree slot (Some tree)) s

@@ -1,4 +1,3 @@
--- What a reader has to believe.
 pub mod Refusal
 pub mod Steps
 pub mod Modules
@@ -11,5 +10,4 @@ pub mod Laws
 pub use Rattle.term_core.specs.Tree
 pub use Rattle.term_core.specs.Size
 pub use Rattle.change_plans.specs.Contents
--- What serves private clauses and proofs.
-pub mod Codes
+pub mod inside

@@ -76,15 +76,6 @@ pub record IsPlaced (t : Timeline) : Type 0 where
   pub fits : Fits t.current t.store
   pub current : IsCurrent t.group t.current
 
--- A step is appended to these logs: the given log after compacting, which leads back to the same
--- store.
-pub record AddsStep (logs : List (List Entry)) (log : List Entry) (new : List (List Entry)) : Type 0 where
-  pub left : List Entry
-  pub all : new ≡ logs ++ left ∷ []
-  pub back : (s : Store) → before left s ≡ before log s
-  pub fits : (s : Store) → Fits log s → Fits left s
-  pub compact : IsCompact left
-
 -- the slot of a name's tree, which has a subterm at the path
 abbrev pub IsPlaceOf : Store → List ℕ → List ℕ → ℕ → Type 0
 IsPlaceOf s name path slot =

@@ -6,7 +6,7 @@ ghost use Rattle.std.specs.List.{flat_map, AllByRecursion};
 ghost use Rattle.std.specs.FinMap as finmap;
 ghost use Rattle.term_core.specs.Terms.{IsTerm};
 ghost use Rattle.term_core.specs.Word.{label_of};
-ghost use Rattle.aterm_text.specs.Printing.{Extends};
+ghost use Rattle.aterm_text.specs.inside.Printing.{Extends};
 ghost use Rattle.change_plans.specs.Slots.{contents};
 ghost use Rattle.session_steps.specs.Dump.{tree_line, behind_name, module_line, module_lines, grouped, dumped, IsNamedTerm, AreNamedTerms};
 

@@ -12,7 +12,8 @@ ghost use Rattle.change_plans.specs.Entries.{Entry, HasPlace, put};
 ghost use Rattle.session_steps.specs.History.{empty_history, changed, step_back, step_forward, undone, redone};
 ghost use Rattle.session_steps.specs.Step.{ComesTo, begin, abandon, committed};
 ghost use Rattle.session_steps.specs.Modules.{IsProgram, AreRefused};
-ghost use Rattle.session_steps.specs.Unfolded.{unfolded, IsPlaced, AddsStep, AddsEntries, CallLeaves, CallRefuses};
+ghost use Rattle.session_steps.specs.Unfolded.{unfolded, IsPlaced, AddsEntries, CallLeaves, CallRefuses};
+ghost use Rattle.session_steps.specs.inside.Adding.{AddsStep};
 
 use crate::Refusal;
 use crate::modules::check_modules;

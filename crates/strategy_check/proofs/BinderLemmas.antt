@@ -8,7 +8,7 @@ use Rattle.term_core.specs.Tree.{Symbol, same_name}
 use Rattle.term_core.proofs.SameName.{same_name-true}
 use Rattle.strategy_check.specs.declared.binders.Entry.{Entry}
 use Rattle.strategy_check.specs.Binders.{Binder, number_of, bound_from}
-use Rattle.strategy_check.specs.BinderView.{Numbers, number_in, binder_of, binders_of, Hides, IsKept}
+use Rattle.strategy_check.specs.inside.BinderView.{Numbers, number_in, binder_of, binders_of, Hides, IsKept}
 
 -- the innermost comes first
 pub binders_of-last : (es : List Entry) (e : Entry) → binders_of (es ++ e ∷ []) ≡ binder_of e ∷ binders_of es

@@ -13,7 +13,8 @@ use Rattle.strategy_syntax.proofs.StrategyLemmas.{depths-item}
 use Rattle.strategy_check.specs.Tables.{Table, definition_number}
 use Rattle.strategy_check.specs.Faults.{Primitives}
 use Rattle.strategy_check.specs.Binders.{Binder, number_of}
-use Rattle.strategy_check.specs.Resolving.{Scope, with_variables, without_variables, places, name_or_other, definition_or_constructor, resolved_strategy, resolved_strategies}
+use Rattle.strategy_check.specs.Resolving.{Scope, with_variables, places, name_or_other, definition_or_constructor, resolved_strategy, resolved_strategies}
+use Rattle.strategy_check.specs.inside.Closing.{without_variables}
 use Rattle.strategy_check.proofs.BinderLemmas.{drop-bound_from}
 use Rattle.strategy_check.proofs.FaultLemmas.{pattern_count, strategy_count}
 

@@ -14,7 +14,7 @@ use Rattle.strategy_check.specs.declared.fault.CheckFault.{CheckFault}
 use Rattle.strategy_check.specs.declared.fault.CheckFault.TheVariants.{Memory, Fault as Told}
 use Rattle.strategy_syntax.specs.Lists.{is_among}
 use Rattle.strategy_check.specs.Faults.{Fault, IsTold}
-use Rattle.strategy_check.specs.FirstFault.{Tells, first_repeated}
+use Rattle.strategy_check.specs.inside.FirstFault.{Tells, first_repeated}
 
 -- the fault of a part is that of the whole, if it is the first part with one
 pub told_first : (e : CheckFault) (o p : Option Fault) → IsTold e o → IsTold e (option_or o p)

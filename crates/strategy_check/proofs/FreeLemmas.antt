@@ -10,8 +10,12 @@ use Rattle.strategy_syntax.proofs.StrategyLemmas.{depths-item}
 use Rattle.strategy_syntax.specs.Lists.{is_among, first_ones, without}
 use Rattle.strategy_check.specs.Binders.{Binder, number_of, bound_from}
 use Rattle.strategy_check.specs.Free.{free, free_in_all, free_variables}
-use Rattle.strategy_check.specs.Met.{met, met_names, met_in_pattern, met_in_patterns, met_in_strategy, met_in_strategies}
+use Rattle.strategy_check.specs.inside.Met.{met, met_in_pattern, met_in_patterns, met_in_strategy, met_in_strategies}
 use Rattle.strategy_check.proofs.BinderLemmas.{drop-bound_from, length-bound_from}
+
+abbrev pub met_names : List Binder → ℕ → List Binder → List Symbol → List Binder
+met_names hidden n found [] = found
+met_names hidden n found (x ∷ xs) = met_names hidden n (met hidden n found x) xs
 
 pub ruleset free_rules = (patterns_depth-item, depths-item, drop-bound_from)
 

@@ -1,13 +1,12 @@
 -- Definitions in groups by number.
-use Rattle.std.proofs.Common.{◌≡◌, ℕ, zero, suc, ◌+◌, ◌≤◌, ◌==◌, Bool, true, false, List, [], ◌∷◌, ◌++◌, length, filter, replicate, slice_get, slice_set, Option, Some, None, refl, sym, ap, ◌∙◌, arith, append-nil, append_assoc}
-use Rattle.std.proofs.Common.{rules}
+use Rattle.std.proofs.Common.{◌≡◌, ℕ, zero, suc, ◌+◌, ◌≤◌, ◌==◌, Bool, true, false, List, [], ◌∷◌, ◌++◌, length, filter, replicate, slice_get, slice_set, Option, Some, None, refl, sym, ap, ◌∙◌, arith, append-nil, append_assoc, rules}
 use Rattle.std.proofs.lemmas.Bool.Decides.{nat_tests}
 use Rattle.std.specs.Prelude.{if◌then◌else◌}
 use Rattle.strategy_syntax.specs.Modules.{Definition}
 use Rattle.strategy_syntax.specs.Resolved.{ResolvedStrategy, id, guard}
 use Rattle.strategy_check.specs.Tables.{DefinitionKey, Table, definition_number}
 use Rattle.strategy_check.specs.Programs.{is_number, of_number, groups_from, groups, joined}
-use Rattle.strategy_check.specs.Grouping.{with_member, with_numbered, with_definition, with_definitions}
+use Rattle.strategy_check.specs.inside.Grouping.{with_member, with_numbered, with_definition, with_definitions}
 
 abbrev number : Table → Definition → Option ℕ
 number T d = definition_number T d.name (length d.strategy_parameters) (length d.term_parameters)

@@ -1,4 +1,3 @@
--- What a reader has to believe.
 pub mod Binders
 pub mod Words
 pub mod Tables
@@ -7,10 +6,4 @@ pub mod Free
 pub mod Resolving
 pub mod Programs
 pub mod Ranges
--- What serves private clauses and proofs.
-pub mod TableCodes
-pub mod ProgramCodes
-pub mod FirstFault
-pub mod Grouping
-pub mod Met
-pub mod BinderView
+mod inside

@@ -1,5 +1,5 @@
 -- Resolving names in strategies to numbers.
-use Rattle.std.specs.Prelude.{ℕ, ◌+◌, ◌-◌, List, ◌∷◌, length, drop, Some, None, unwrap_or}
+use Rattle.std.specs.Prelude.{ℕ, ◌+◌, List, ◌∷◌, length, Some, None, unwrap_or}
 use Rattle.std.specs.declared.option.Option.{Option}
 use Rattle.term_core.specs.Tree.{Symbol, application}
 use Rattle.prim_core.specs.Signature as primitive
@@ -94,13 +94,3 @@ abbrev mutual
   resolved_strategies T P E no_strategies = resolved.no_strategies
   resolved_strategies T P E (and_strategy s ss) =
       resolved.and_strategy (resolved_strategy T P E s) (resolved_strategies T P E ss)
-
--- ---- closing binders
-
--- the scope without the innermost variables
-abbrev pub without_variables : Scope → ℕ → Scope
-without_variables E n = record E { variables = drop n E.variables; count = E.count - n }
-
--- the scope without the innermost strategy name
-abbrev pub without_name : Scope → Scope
-without_name E = record E { names = drop 1 E.names }

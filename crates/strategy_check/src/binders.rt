@@ -29,7 +29,7 @@ struct Entry {
 impl Model for Binders {
     ghost use Rattle.std.specs.Prelude.{List};
     ghost use Rattle.strategy_check.specs.Binders.{Binder};
-    ghost use Rattle.strategy_check.specs.BinderView.{binders_of, IsKept};
+    ghost use Rattle.strategy_check.specs.inside.BinderView.{binders_of, IsKept};
 
     ghost Value = { List Binder };
 

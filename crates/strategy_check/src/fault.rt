@@ -2,7 +2,7 @@
 
 ghost use Rattle.std.specs.Prelude.{◌≡◌, true};
 ghost use Rattle.strategy_check.specs.Faults.{IsTold};
-ghost use Rattle.strategy_check.specs.FirstFault.{fault_when};
+ghost use Rattle.strategy_check.specs.inside.FirstFault.{fault_when};
 ghost use Rattle.strategy_check.specs.Words.{word_of};
 
 use std::fmt;

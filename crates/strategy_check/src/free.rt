@@ -5,7 +5,7 @@ ghost use Rattle.std.specs.Prelude.{◌≡◌, [], IfOk, OnOk};
 ghost use Rattle.strategy_syntax.specs.Syntax.{patterns_of, strategies_of};
 ghost use Rattle.strategy_check.specs.Binders.{bound_from};
 ghost use Rattle.strategy_check.specs.Free.{free_variables};
-ghost use Rattle.strategy_check.specs.Met.{met, met_in_pattern, met_in_patterns, met_in_strategy, met_in_strategies};
+ghost use Rattle.strategy_check.specs.inside.Met.{met, met_in_pattern, met_in_patterns, met_in_strategy, met_in_strategies};
 
 use crate::binders::Binders;
 use std::alloc::Global;

@@ -5,7 +5,7 @@ ghost use Rattle.std.specs.Prelude.{◌≡◌, ◌+◌, ◌∷◌, ◌++◌, [],
 ghost use Rattle.strategy_check.specs.Tables.{definitions_of};
 ghost use Rattle.strategy_check.specs.Resolving.{resolved_strategy};
 ghost use Rattle.strategy_check.specs.Programs.{free_of, scope_of, variable_count, term_count, resolved_bodies, joined, joined_definition, groups};
-ghost use Rattle.strategy_check.specs.Grouping.{with_definition, with_definitions};
+ghost use Rattle.strategy_check.specs.inside.Grouping.{with_definition, with_definitions};
 
 use crate::binders::Binders;
 use crate::bodies::resolve_strategy;
@@ -27,7 +27,8 @@ pub struct DefinitionGroup<'a> {
 impl<'a> Model for DefinitionGroup<'a> {
     ghost use Rattle.std.specs.Prelude.{List, map};
     ghost use Rattle.std.specs.Coded.{coded_list};
-    ghost use Rattle.strategy_syntax.specs.Modules.{Definition, definition_code};
+    ghost use Rattle.strategy_syntax.specs.Modules.{Definition};
+    ghost use Rattle.strategy_syntax.specs.inside.ModuleCodes.{definition_code};
 
     ghost Value = { List Definition };
 

@@ -4,7 +4,7 @@
 ghost use Rattle.std.specs.Prelude.{◌≡◌, ◌∷◌, ◌++◌, [], OnOk};
 ghost use Rattle.indexmap.specs.IndexSet.{insert_key};
 ghost use Rattle.term_core.specs.Tree.{same_name};
-ghost use Rattle.strategy_check.specs.FirstFault.{Tells, first_repeated, first_in_header};
+ghost use Rattle.strategy_check.specs.inside.FirstFault.{Tells, first_repeated, first_in_header};
 
 use crate::fault::fault;
 use crate::key::DefinitionKey;

@@ -16,7 +16,7 @@ pub struct DefinitionKey {
 
 impl Model for DefinitionKey {
     ghost use Rattle.strategy_check.specs.Tables.{DefinitionKey};
-    ghost use Rattle.strategy_check.specs.TableCodes.{key_code};
+    ghost use Rattle.strategy_check.specs.inside.TableCodes.{key_code};
 
     ghost Value = { DefinitionKey };
 

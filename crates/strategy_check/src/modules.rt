@@ -2,7 +2,7 @@
 #![tactic(auto, using(crate::proofs::FaultLemmas::told))]
 
 ghost use Rattle.std.specs.Prelude.{[]};
-ghost use Rattle.strategy_check.specs.FirstFault.{Tells, first_in_definition, first_in_definitions, first_in_modules};
+ghost use Rattle.strategy_check.specs.inside.FirstFault.{Tells, first_in_definition, first_in_definitions, first_in_modules};
 
 use crate::CheckFault;
 use crate::binders::Binders;

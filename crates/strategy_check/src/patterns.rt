@@ -4,7 +4,7 @@
 ghost use Rattle.strategy_syntax.specs.Syntax.{patterns_of};
 ghost use Rattle.strategy_syntax.specs.Heads.{head_of};
 ghost use Rattle.strategy_check.specs.Faults.{underscore};
-ghost use Rattle.strategy_check.specs.FirstFault.{Tells, fault_when, first_in_head, first_in_pattern, first_in_patterns};
+ghost use Rattle.strategy_check.specs.inside.FirstFault.{Tells, fault_when, first_in_head, first_in_pattern, first_in_patterns};
 
 use crate::fault::fault;
 use crate::table::Table;

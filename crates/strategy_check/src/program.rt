@@ -30,7 +30,7 @@ pub struct Program {
 
 impl Model for Program {
     ghost use Rattle.strategy_check.specs.Programs.{Program};
-    ghost use Rattle.strategy_check.specs.ProgramCodes.{program_code};
+    ghost use Rattle.strategy_check.specs.inside.ProgramCodes.{program_code};
 
     ghost Value = { Program };
 

@@ -3,7 +3,8 @@
 
 ghost use Rattle.std.specs.Prelude.{◌≡◌, OnOk};
 ghost use Rattle.strategy_check.specs.Binders.{number_of};
-ghost use Rattle.strategy_check.specs.Resolving.{variable_number, with_variables, with_name, without_variables, without_name};
+ghost use Rattle.strategy_check.specs.Resolving.{variable_number, with_variables, with_name};
+ghost use Rattle.strategy_check.specs.inside.Closing.{without_variables, without_name};
 
 use crate::binders::Binders;
 use std::marker::Model;

@@ -3,7 +3,7 @@
 
 ghost use Rattle.std.specs.Prelude.{◌≡◌, OnOk};
 ghost use Rattle.strategy_syntax.specs.Syntax.{strategies_of};
-ghost use Rattle.strategy_check.specs.FirstFault.{Tells, first_in_name, first_in_primitive, first_in_strategy, first_in_strategies};
+ghost use Rattle.strategy_check.specs.inside.FirstFault.{Tells, first_in_name, first_in_primitive, first_in_strategy, first_in_strategies};
 
 use crate::binders::Binders;
 use crate::fault::fault;

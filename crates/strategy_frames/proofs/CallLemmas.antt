@@ -12,9 +12,9 @@ use Rattle.strategy_meaning.specs.Answer.{Answer, failed}
 use Rattle.strategy_meaning.specs.Meaning.{World, run, form, enter, opened}
 use Rattle.strategy_scopes.specs.Table.{scopes, scope_at}
 use Rattle.term_match.specs.Contents.{Contents}
-use Rattle.strategy_frames.specs.Arguments.{AreBuilt}
+use Rattle.strategy_frames.specs.inside.Arguments.{AreBuilt}
 use Rattle.strategy_frames.specs.Turns.{State, state_of, HoldsIn, FormIn}
-use Rattle.strategy_frames.specs.Endings.{Enters}
+use Rattle.strategy_frames.specs.inside.Endings.{Enters}
 use Rattle.strategy_frames.specs.declared.machine.Machine.{Machine}
 use Rattle.strategy_frames.specs.declared.arguments.BuiltAll.TheVariants.{All}
 use Rattle.strategy_frames.specs.Hands.{Begin}

@@ -14,7 +14,7 @@ use Rattle.term_match.specs.Contents.{Contents}
 use Rattle.term_match.specs.Marks.{mark_of, Before, Stays}
 use Rattle.strategy_frames.specs.Frames.{Meets}
 use Rattle.strategy_frames.specs.Turns.{State, HoldsIn, FormIn}
-use Rattle.strategy_frames.specs.Endings.{LeavesScopes, LeavesCells, AnswersIn, with_those}
+use Rattle.strategy_frames.specs.inside.Endings.{LeavesScopes, LeavesCells, AnswersIn, with_those}
 use Rattle.strategy_frames.specs.declared.frames.Frame.{Frame}
 use Rattle.strategy_frames.specs.declared.frames.Frame.TheVariants.{Then, Choose, Restore, Each, Leftmost, Those, Tail, Rest, Head, Behind, Leave, Cut}
 use Rattle.strategy_frames.specs.Hands.{Begin}

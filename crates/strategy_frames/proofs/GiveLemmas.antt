@@ -16,7 +16,8 @@ use Rattle.term_match.specs.Marks.{kept, mark_of, Before, Stays}
 use Rattle.term_match.specs.declared.cells.Mark.{Mark}
 use Rattle.strategy_frames.specs.Leading.{Leads, Has, node_now, parts_now, all_parts, node_with, PartsStand}
 use Rattle.strategy_frames.specs.Trails.{Shows, path_of}
-use Rattle.strategy_frames.specs.Frames.{Opens, Meets, Inside, StepsOn, GoesOn, with_acts, acts_list, walked, walk_parts, left_behind}
+use Rattle.strategy_frames.specs.Frames.{Opens, Meets, Inside, acts_list, walked, walk_parts, left_behind}
+use Rattle.strategy_frames.specs.inside.Walks.{StepsOn, GoesOn, with_acts}
 use Rattle.strategy_frames.specs.Turns.{State, HoldsIn, IsDone}
 use Rattle.strategy_frames.specs.declared.trail.Trail.{Trail}
 use Rattle.strategy_frames.specs.declared.frames.Acts.{Acts}

@@ -12,7 +12,7 @@ use Rattle.strategy_meaning.specs.Answer.{Answer, failed, either, if_done, with_
 use Rattle.strategy_meaning.specs.Meaning.{World, run, form, with_some, cut, is_over, is_list_from, enter}
 use Rattle.strategy_scopes.specs.Table.{scope_at, closure_of}
 use Rattle.strategy_scopes.specs.declared.scopes.Known.{Known}
-use Rattle.strategy_frames.specs.Missing.{Misses, HasNames, FailsAhead}
+use Rattle.strategy_frames.specs.inside.Missing.{Misses, HasNames, FailsAhead}
 use Rattle.strategy_frames.specs.Turns.{State, HoldsIn, FormIn}
 use Rattle.strategy_frames.specs.Hands.{Begin}
 use Rattle.strategy_frames.proofs.OpenLemmas.{opens_along}

@@ -11,7 +11,7 @@ use Rattle.strategy_meaning.specs.Same.{same_tree}
 use Rattle.strategy_meaning.specs.Matching.{Bindings, match_place, match_places, bind, put_or_same, build_place, elements, is_integer, is_headed}
 use Rattle.strategy_meaning.specs.Scopes.{Scope, cells_in, stands_for, with_variables, with_name}
 use Rattle.strategy_meaning.specs.Answer.{Answer, done, failed, stopped, big, Act, either, with_edits, and_then}
-use Rattle.strategy_frames.specs.Endings.{HasCells as Has}
+use Rattle.strategy_frames.specs.inside.Endings.{HasCells as Has}
 use Rattle.strategy_meaning.specs.Meaning.{World, primitive_answer, Evaluation, with_some, on_child, each, leftmost, those_done, on_child_number, is_over, is_list_from, rest_of, on_rest, built, built_all, cut, opened, form, run, run_bounded}
 
 -- ---- matching

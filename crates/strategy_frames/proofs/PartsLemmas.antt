@@ -8,7 +8,8 @@ use Rattle.term_changes.proofs.NodeLemmas.{with_children-with_children}
 use Rattle.term_changes.proofs.StandingLemmas.{length-map_tree}
 use Rattle.term_changes.proofs.FollowLemmas.{followers_can_stand, trees_of_children}
 use Rattle.strategy_meaning.specs.Meaning.{rest_of, with_rest}
-use Rattle.strategy_frames.specs.Leading.{node_now, parts_now, all_parts, node_with, over, Fills, PartsStand}
+use Rattle.strategy_frames.specs.Leading.{node_now, parts_now, all_parts, node_with, PartsStand}
+use Rattle.strategy_frames.specs.inside.Filling.{over, Fills}
 use Rattle.strategy_frames.proofs.NodeLeads.{tree_now, trees_now}
 
 pub parts_over : (p : Standing) (qs : List Standing) → parts_now p (all_parts p qs) ≡ over qs (standing_children p)

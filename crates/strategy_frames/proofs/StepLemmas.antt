@@ -7,7 +7,7 @@ use Rattle.strategy_syntax.specs.Resolved.{ResolvedStrategy}
 use Rattle.strategy_meaning.specs.Answer.{Answer}
 use Rattle.strategy_meaning.specs.Meaning.{World}
 use Rattle.strategy_scopes.specs.Table.{scopes}
-use Rattle.strategy_frames.specs.Frames.{GoesOn}
+use Rattle.strategy_frames.specs.inside.Walks.{GoesOn}
 use Rattle.strategy_frames.specs.Turns.{State, state_of, HoldsIn, Holds}
 use Rattle.strategy_frames.specs.declared.machine.Machine.{Machine}
 use Rattle.strategy_frames.specs.declared.frames.Frame.{Frame}

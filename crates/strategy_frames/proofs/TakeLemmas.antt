@@ -21,7 +21,7 @@ use Rattle.strategy_frames.specs.Leading.{Has, node_now, all_parts, PartsStand}
 use Rattle.strategy_frames.specs.Trails.{Shows, path_of}
 use Rattle.strategy_frames.specs.Frames.{Opens, Meets, acts_list}
 use Rattle.strategy_frames.specs.Turns.{State, state_of, HoldsIn, FormIn, Replaced}
-use Rattle.strategy_frames.specs.Endings.{AnswersIn, HasCells, with_those}
+use Rattle.strategy_frames.specs.inside.Endings.{AnswersIn, HasCells, with_those}
 use Rattle.strategy_frames.specs.declared.machine.Machine.{Machine}
 use Rattle.strategy_frames.specs.declared.trail.Trail.{Trail}
 use Rattle.strategy_frames.specs.declared.frames.Acts.{Acts}

@@ -5,7 +5,8 @@ use Rattle.std.proofs.Math.Seq.{take-suc}
 use Rattle.term_paths.specs.Edits.{Edit, Edits, behind}
 use Rattle.change_plans.specs.Entries.{Entry}
 use Rattle.term_changes.specs.Putting.{entry_at, entries_at}
-use Rattle.strategy_frames.specs.Trails.{path_of, step_of}
+use Rattle.strategy_frames.specs.Trails.{path_of}
+use Rattle.strategy_frames.specs.inside.Steps.{step_of}
 use Rattle.strategy_frames.specs.declared.frames.Frame.{Frame}
 use Rattle.strategy_frames.specs.declared.frames.Frame.TheVariants.{Then, Choose, Restore, Each, Leftmost, Those, Tail, Rest, Head, Behind, Leave, Cut}
 use Rattle.strategy_frames.proofs.OpenLemmas.{pushed}

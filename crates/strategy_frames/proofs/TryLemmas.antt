@@ -11,7 +11,7 @@ use Rattle.strategy_meaning.specs.Answer.{Answer, stopped, spent, either, with_e
 use Rattle.strategy_meaning.specs.Meaning.{World, run, form, with_some, built_all, enter, cut}
 use Rattle.strategy_scopes.specs.Table.{scope_at}
 use Rattle.strategy_frames.specs.Turns.{State, FormIn}
-use Rattle.strategy_frames.specs.Tries.{IsTry}
+use Rattle.strategy_frames.specs.inside.Tries.{IsTry}
 use Rattle.strategy_frames.specs.declared.tries.Try.{Try}
 use Rattle.strategy_frames.proofs.OpenLemmas.{opens_along}
 use Rattle.strategy_frames.proofs.LengthLemmas.{run_has, cut_none}

@@ -7,7 +7,8 @@ use Rattle.term_changes.specs.Standing.{Standing}
 use Rattle.strategy_meaning.specs.Answer.{Answer}
 use Rattle.strategy_meaning.specs.Meaning.{World}
 use Rattle.strategy_scopes.specs.Table.{scopes}
-use Rattle.strategy_frames.specs.Turns.{State, state_of, HoldsIn, Holds, ComesUp, Replaced, Waits}
+use Rattle.strategy_frames.specs.Turns.{State, state_of, HoldsIn, Holds, Replaced}
+use Rattle.strategy_frames.specs.inside.Turning.{ComesUp, Waits}
 use Rattle.strategy_frames.specs.declared.machine.Machine.{Machine}
 use Rattle.strategy_frames.specs.declared.frames.Walk.{Walk}
 use Rattle.strategy_frames.specs.declared.frames.Frame.{Frame}

@@ -1,5 +1,5 @@
 -- How edits lead from what was in a place to what is there now.
-use Rattle.std.specs.Prelude.{◌≡◌, ◌≤◌, ◌⊎◌, ℕ, List, [], ◌∷◌, ◌++◌, length, drop}
+use Rattle.std.specs.Prelude.{◌≡◌, ◌⊎◌, ℕ, List, [], ◌∷◌, ◌++◌, length, drop}
 use Rattle.term_core.specs.Tree.{children}
 use Rattle.term_paths.specs.Paths.{LiesWithin}
 use Rattle.term_paths.specs.Edits.{Edits, Replaces}
@@ -62,18 +62,6 @@ node_with p qs = node_now p (all_parts p qs)
 pub record PartsStand (p : Standing) (qs : List Standing) : Type 0 where
   pub follow : AllFollow (standing_children p) (parts_now p qs)
   pub have : AllHave (parts_now p qs)
-
--- ---- the retained parts
-
--- cs with qs in place of its first elements
-abbrev pub over : List Standing → List Standing → List Standing
-over qs cs = qs ++ drop (length qs) cs
-
--- qs, continued with elements of cs up to the first n
-pub record Fills (cs qs : List Standing) (n : ℕ) (new : List Standing) : Type 0 where
-  pub same : over new cs ≡ over qs cs
-  pub most : length qs ≤ n → length new ≤ n
-  pub least : (n ≤ length new) ⊎ (length cs ≤ length new)
 
 -- ---- where a part comes from
 

@@ -23,21 +23,6 @@ path_of (Behind p first k ∷ fs) = path_of fs
 path_of (Leave n ∷ fs) = path_of fs
 path_of (Cut n k ∷ fs) = path_of fs
 
--- the child that a frame visits
-abbrev pub step_of : Frame → List ℕ
-step_of (Then s n) = []
-step_of (Choose s r n p k m) = []
-step_of (Restore p k) = []
-step_of (Each acts n w) = w.index ∷ []
-step_of (Leftmost s n w m) = w.index ∷ []
-step_of (Those s n w m any) = w.index ∷ []
-step_of (Tail s n k) = []
-step_of (Rest p ps n k) = []
-step_of (Head s n w) = w.index ∷ []
-step_of (Behind p first k) = []
-step_of (Leave n) = []
-step_of (Cut n k) = []
-
 -- if edits are kept, they are these
 abbrev pub Keeps : Option (Vec Edit Global) → Edits → Type 0
 Keeps None T = ⊤

@@ -1,7 +1,5 @@
 -- The invariant of a turn of the machine, and termination.
-use Rattle.std.specs.Prelude.{◌≡◌, ◌<◌, ℕ, ◌+◌, ◌-◌, ◌*◌, ◌==◌, not, cond, List, [], ◌∷◌, ◌++◌, length, reverse, slice_set, vec_len, Vec}
-use Rattle.std.specs.Borrow.{Bor}
-use Rattle.std.specs.Global.{Global}
+use Rattle.std.specs.Prelude.{◌≡◌, ◌<◌, ℕ, ◌+◌, ◌-◌, ◌*◌, List, [], ◌∷◌, ◌++◌, length, reverse, vec_len}
 use Rattle.std.specs.declared.option.Option.{Option}
 use Rattle.term_core.specs.Tree.{Tree, children}
 use Rattle.term_paths.specs.Edits.{Edits}
@@ -16,13 +14,11 @@ use Rattle.strategy_meaning.specs.Meaning.{World, run, form, each, leftmost, tho
 use Rattle.strategy_scopes.specs.Table.{scopes, scope_at}
 use Rattle.term_match.specs.Contents.{Contents}
 use Rattle.term_match.specs.Marks.{mark_of}
-use Rattle.strategy_frames.specs.Leading.{Leads, Has, parts_now, all_parts, node_with, PartsStand}
+use Rattle.strategy_frames.specs.Leading.{Leads, Has, all_parts, node_with, PartsStand}
 use Rattle.strategy_frames.specs.Trails.{Shows, path_of}
-use Rattle.strategy_frames.specs.Frames.{Meets, Opens, acts_list, walk_parts}
+use Rattle.strategy_frames.specs.Frames.{Meets, Opens, acts_list}
 use Rattle.strategy_frames.specs.declared.trail.Trail.{Trail}
-use Rattle.strategy_frames.specs.declared.frames.Walk.{Walk}
 use Rattle.strategy_frames.specs.declared.frames.Frame.{Frame}
-use Rattle.strategy_frames.specs.declared.frames.Frame.TheVariants.{Tail}
 use Rattle.strategy_frames.specs.Hands.{Hand, Begin, Done, Failed, Each, Leftmost, Those, in_hand}
 use Rattle.strategy_frames.specs.declared.frames.Turned.{Turned}
 use Rattle.strategy_frames.specs.declared.frames.Turned.TheVariants as turns
@@ -98,10 +94,6 @@ After W sub whole m turns.Failed = whole ≡ failed m.steps
 After W sub whole m turns.Spent = whole ≡ stopped spent
 After W sub whole m turns.Big = whole ≡ stopped big
 
--- A turn preserves the whole answer.
-pub record Turn (W : World) (m : Machine) (hand : Hand) (new : Machine) (next : Turned) : Type 0 where
-  pub keeps : (sub : Standing) (whole : Answer) → Holds W sub whole m hand → After W sub whole new next
-
 -- what the numbers in the strategies of a run stand for
 abbrev pub world_of : (List ℕ → List Tree → Option Tree) → List Resolved → List Signature → World
 world_of meaning definitions primitives =
@@ -120,13 +112,6 @@ weight (Those s n p i any parts) = 3
 -- a bound on what is left to do
 abbrev pub load : Machine → Hand → ℕ
 load m hand = 7 * m.steps + 2 * vec_len m.frames + weight hand
-
-abbrev pub Falls : Machine → Hand → Machine → Turned → Type 0
-Falls m hand new turns.On = load new (in_hand new) < load m hand
-Falls m hand new turns.Done = Unit {0}
-Falls m hand new turns.Failed = Unit {0}
-Falls m hand new turns.Spent = Unit {0}
-Falls m hand new turns.Big = Unit {0}
 
 -- ---- a form whose step is charged
 
@@ -156,52 +141,3 @@ pub record Replaced (m : Machine) (u : Tree) (new : Machine) (p : Standing) : Ty
   pub shows : (T : Edits) → Shows m.trail T
       → Shows new.trail (T ++ record { path = path_of (reverse m.frames.items); new = u } ∷ [])
   pub rest : (new.frames ≡ m.frames) × (new.cells ≡ m.cells) × (new.scopes ≡ m.scopes) × (new.level ≡ m.level) × (new.steps ≡ m.steps)
-
--- ---- an answer, given to a frame that was popped
-
-abbrev pub under : Frame → Machine → State
-under f m = record {
-  cells = m.cells;
-  scopes = scopes m.scopes;
-  trail = m.trail;
-  level = m.level;
-  frames = f ∷ reverse m.frames.items;
-  steps = m.steps;
-}
-
--- Continuing from there preserves the whole answer.
-pub record Gives (W : World) (f : Frame) (m : Machine) (hand : Hand) (new : Machine) (next : Turned) : Type 0 where
-  pub keeps : (sub : Standing) (whole : Answer) → HoldsIn W sub whole (under f m) hand → After W sub whole new next
-
--- There is such a run.
-abbrev pub IsOfRun : Frame → Machine → Hand → Type 0
-IsOfRun f m hand = (W : World) × (sub : Standing) × (whole : Answer) × HoldsIn W sub whole (under f m) hand
-
-abbrev pub GiveFalls : Machine → Machine → Turned → Type 0
-GiveFalls m new turns.On = load new (in_hand new) < 7 * m.steps + 2 * vec_len m.frames + 4
-GiveFalls m new turns.Done = Unit {0}
-GiveFalls m new turns.Failed = Unit {0}
-GiveFalls m new turns.Spent = Unit {0}
-GiveFalls m new turns.Big = Unit {0}
-
--- the innermost frame waits for the first elements of a list
-abbrev pub Waits : List Frame → Bor ResolvedStrategy → ℕ → ℕ → Type 0
-Waits [] s n k = ⊥
-Waits (Tail t m j ∷ fs) s n k = (t ≡ s) × (m ≡ n) × (j ≡ k)
-Waits (f ∷ fs) s n k = ⊥
-
--- less is left to do than before the next child's turn
-abbrev pub EndFalls : Machine → Machine → Turned → Type 0
-EndFalls m new turns.On = load new (in_hand new) < 7 * m.steps + 2 * vec_len m.frames + 3
-EndFalls m new turns.Done = Unit {0}
-EndFalls m new turns.Failed = Unit {0}
-EndFalls m new turns.Spent = Unit {0}
-EndFalls m new turns.Big = Unit {0}
-
--- The walk moves up from its child, which is now p; if there was no edit since the child's turn
--- came, nothing has changed.
-pub record ComesUp (m : Machine) (w : Walk) (p : Standing) (new : Machine) (up : Standing × Vec Standing Global) : Type 0 where
-  pub node : up.0 ≡ w.node
-  pub parts : all_parts w.node up.1.items ≡ cond (not (m.trail.count == w.edits)) (slice_set (parts_now w.node (walk_parts w)) w.index p) (walk_parts w)
-  pub level : new.level ≡ w.level
-  pub rest : (new.frames ≡ m.frames) × (new.cells ≡ m.cells) × (new.scopes ≡ m.scopes) × (new.trail ≡ m.trail) × (new.steps ≡ m.steps)

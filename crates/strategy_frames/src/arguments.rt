@@ -8,7 +8,7 @@ ghost use Rattle.strategy_meaning.specs.Answer.{Answer, failed, stopped, big};
 ghost use Rattle.strategy_meaning.specs.Meaning.{built_all};
 ghost use Rattle.strategy_scopes.specs.Table.{scopes as scopes_of, scope_at};
 ghost use Rattle.term_match.specs.Marks.{mark_of, Before, Stays};
-ghost use Rattle.strategy_frames.specs.Arguments.{AreBuilt};
+ghost use Rattle.strategy_frames.specs.inside.Arguments.{AreBuilt};
 
 use crate::machine::InTable;
 use std::alloc::Global;

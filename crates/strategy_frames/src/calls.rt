@@ -5,7 +5,7 @@ ghost use Rattle.strategy_syntax.specs.Resolved.{scope as scope_form, rec, param
 ghost use Rattle.strategy_scopes.specs.Table.{scopes as scopes_of};
 ghost use Rattle.strategy_meaning.specs.Meaning.{World, primitive_answer};
 ghost use Rattle.strategy_frames.specs.Turns.{Takes, TakeFalls, world_of};
-ghost use Rattle.strategy_frames.specs.Endings.{Enters};
+ghost use Rattle.strategy_frames.specs.inside.Endings.{Enters};
 
 use crate::arguments::{BuiltAll, build_all, open_arguments, owned_terms};
 use crate::endings::{end_cells, end_scopes};

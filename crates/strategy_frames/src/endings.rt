@@ -5,7 +5,7 @@
 
 ghost use Rattle.std.specs.Prelude.{◌≡◌, ◌<◌, ◌≤◌, ◌-◌, ◌^◌, length, reverse, IfSome, OnOk};
 ghost use Rattle.strategy_scopes.specs.Table.{scopes as scopes_of};
-ghost use Rattle.strategy_frames.specs.Endings.{LeavesScopes, LeavesCells, ScopesEnd, CellsEnd};
+ghost use Rattle.strategy_frames.specs.inside.Endings.{LeavesScopes, LeavesCells, ScopesEnd, CellsEnd};
 
 use crate::frames::{Frame, wait};
 use crate::machine::Machine;

@@ -7,7 +7,7 @@ ghost use Rattle.term_changes.specs.Standing.{standing_tree};
 ghost use Rattle.strategy_scopes.specs.Table.{scopes as scopes_of};
 ghost use Rattle.strategy_syntax.specs.Heads.{head_of};
 ghost use Rattle.strategy_meaning.specs.Matching.{is_integer as is_this_integer, is_headed as has_head, elements};
-ghost use Rattle.strategy_frames.specs.Missing.{Misses, FailsAhead};
+ghost use Rattle.strategy_frames.specs.inside.Missing.{Misses, FailsAhead};
 
 use crate::congruence::{is_list_from, is_over};
 use strategy_scopes::Scopes;

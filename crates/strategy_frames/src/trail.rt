@@ -3,7 +3,8 @@
 ghost use Rattle.std.specs.Prelude.{◌≡◌, ◌++◌, ◌∷◌, [], length, reverse, IfOk, OnOk};
 ghost use Rattle.term_paths.specs.Edits.{Edits, behind};
 ghost use Rattle.term_changes.specs.Putting.{entry_at, entries_at};
-ghost use Rattle.strategy_frames.specs.Trails.{Shows, path_of, step_of};
+ghost use Rattle.strategy_frames.specs.Trails.{Shows, path_of};
+ghost use Rattle.strategy_frames.specs.inside.Steps.{step_of};
 
 use crate::frames::Frame;
 use change_plans::{Entry, Plan};
@@ -21,7 +22,7 @@ pub struct Made<'t> {
 
 impl<'t> Model for Made<'t> {
     ghost use Rattle.term_paths.specs.Edits.{Edit};
-    ghost use Rattle.term_changes.specs.ChangeCode.{edit_code};
+    ghost use Rattle.term_changes.specs.inside.ChangeCode.{edit_code};
 
     ghost Value = { Edit };
 

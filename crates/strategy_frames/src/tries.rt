@@ -4,7 +4,7 @@
 ghost use Rattle.std.specs.Prelude.{◌≡◌, ℕ, List, IfOk, IfSome};
 ghost use Rattle.std.specs.Bool.{OnTrue};
 ghost use Rattle.strategy_syntax.specs.Resolved.{Place, ResolvedStrategy, id, param, call, resolveds_of, places_of};
-ghost use Rattle.strategy_frames.specs.Tries.{IsTry, IsItself};
+ghost use Rattle.strategy_frames.specs.inside.Tries.{IsTry, IsItself};
 ghost use Rattle.strategy_frames.specs.Turns.{Takes, TakeFalls, world_of};
 
 use crate::forms::take_guard;

@@ -1,10 +1,9 @@
 -- Laws about the meaning of strategies.
-use Rattle.std.specs.Prelude.{◌≡◌, ◌≢◌, ◌≤◌, ◌↔◌, ℕ, suc, ◌+◌, [], IsTrue}
+use Rattle.std.specs.Prelude.{◌≡◌, ◌≢◌, ◌≤◌, ◌↔◌, ℕ, suc, ◌+◌, [], IsTrue, List}
 use Rattle.term_core.specs.Tree.{Head, Tree, annotations}
 use Rattle.term_core.specs.Size.{height}
 use Rattle.term_core.specs.declared.TheConstants.{MAX_HEIGHT}
 use Rattle.term_paths.specs.Edits.{Edits, Replaces}
-use Rattle.std.specs.Prelude.{List}
 use Rattle.strategy_syntax.specs.Resolved.{ResolvedStrategy, ResolvedStrategies, id, fail, seq, guard, test, congruence, tail_congruence, all, one, some, child}
 use Rattle.strategy_syntax.specs.declared.resolved.Resolved.{Resolved}
 use Rattle.strategy_meaning.specs.Same.{same_tree}

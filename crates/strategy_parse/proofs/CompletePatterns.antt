@@ -14,7 +14,7 @@ use Rattle.strategy_parse.specs.declared.parser.state.PatternFrame.TheVariants.{
 use Rattle.strategy_parse.specs.declared.parser.state.PatternGroup.{PatternGroup}
 use Rattle.strategy_parse.specs.declared.parser.state.PatternGroup.TheVariants.{Application as PApplication, List as PList, Tuple as PTuple, Annotations, Terms, Prim}
 use Rattle.strategy_tokens.specs.Marks.{is_mark}
-use Rattle.strategy_parse.specs.Machine.{Next, goes, begin_pattern, behind_pattern, behind_base, behind_one, closing_sign, close_patterns, first_pattern, step}
+use Rattle.strategy_parse.specs.inside.Machine.{Next, goes, begin_pattern, behind_pattern, behind_base, behind_one, closing_sign, close_patterns, first_pattern, step}
 use Rattle.strategy_parse.specs.Grammar.{IsBase, ReadsPattern, ReadsPatterns, ReadsSomePatterns, ReadsMorePatterns}
 use Rattle.strategy_tokens.proofs.MarkLemmas.{mark_self}
 use Rattle.strategy_parse.proofs.Runs.{Accepts, Refuses, open_round, open_curly, at_sign, pattern-stuck, passes}

@@ -20,12 +20,12 @@ use Rattle.strategy_parse.specs.declared.parser.state.StrategyGroup.{StrategyGro
 use Rattle.strategy_parse.specs.declared.parser.state.StrategyGroup.TheVariants.{Round, Square, Arguments}
 use Rattle.strategy_parse.specs.declared.parser.state.PatternGroup.TheVariants.{Terms, Prim}
 use Rattle.strategy_tokens.specs.Marks.{is_mark}
-use Rattle.strategy_parse.specs.Machine.{Next, goes, stuck, begin, behind, behind_arrow, behind_seq, behind_choice, behind_element, closing, grouped, first_strategy, first_pattern, empty_bar, step, resume, at_end, go_on}
+use Rattle.strategy_parse.specs.inside.Machine.{Next, goes, stuck, begin, behind, behind_arrow, behind_seq, behind_choice, behind_element, closing, grouped, first_strategy, first_pattern, empty_bar, step}
+use Rattle.strategy_parse.proofs.Runs.{resume, at_end, go_on, Accepts, Refuses, open_round, fat_arrow, semicolon, left_choice_sign, less, choice-stuck, arrow-stuck, behind-stuck, passes}
 use Rattle.strategy_parse.specs.Grammar.{ReadsMorePatterns, ReadsArrows, ReadsMoreNames, ReadsNames, word_of, ReadsChoice, ReadsSeq, ReadsArrow, ReadsPrefix, ReadsChoices, ReadsSomeChoices, ReadsMoreChoices}
 use Rattle.strategy_tokens.proofs.MarkLemmas.{mark_self}
 use Rattle.strategy_parse.specs.Written.{Choice, sequence, left_choice, guarded_choice, Seq, last, before, Arrow, arrow, Prefix, question, exclamation, application, identity, failure, operator, if_then, if_then_else, recursion, primitive, local, closure, closure_where, round, square, square_with_tail, name, call, call_with_terms, child, Choices, no_choices, and_choice}
 use Rattle.strategy_parse.specs.Core.{then_matched, in_brackets, core, core_seq, core_arrow, core_prefix, core_all}
-use Rattle.strategy_parse.proofs.Runs.{Accepts, Refuses, open_round, fat_arrow, semicolon, left_choice_sign, less, choice-stuck, arrow-stuck, behind-stuck, passes}
 use Rattle.strategy_parse.proofs.CompletePatterns.{pattern_in, list_in, rest_in, patterns_of-list}
 
 pub strategies_of-list : (ss : syntax.Strategies) → strategies_of (strategy_list ss) ≡ ss

@@ -12,12 +12,12 @@ use Rattle.strategy_parse.specs.declared.parser.state.State.{State}
 use Rattle.strategy_parse.specs.declared.parser.state.State.TheVariants.{Strategy as ToStrategy, FirstStrategy, Read, Used, Opening, Rec as BehindRec, Prim as BehindPrim, PrimOpen, PrimNamed, ScopeOpen, ScopeComma, ScopeNamed, Pattern as ToPattern, FirstPattern, Named, Base, Whole}
 use Rattle.strategy_parse.specs.declared.parser.state.Frame.{Frame}
 use Rattle.strategy_tokens.specs.Marks.{is_mark}
-use Rattle.strategy_parse.specs.Machine.{Next, goes, ends, stuck, step, begin, front, front_of}
+use Rattle.strategy_parse.specs.inside.Machine.{Next, goes, ends, stuck, step, begin, front, front_of}
 use Rattle.strategy_parse.specs.Grammar.{Reading, ReadsChoice}
 use Rattle.strategy_parse.specs.Core.{core, free_in_choice}
 use Rattle.strategy_parse.specs.Written.{Choice}
-use Rattle.strategy_parse.specs.Fronts.{Stops}
-use Rattle.strategy_parse.specs.FreeNames.{seen, next_token, seen_behind, names_seen}
+use Rattle.strategy_parse.specs.inside.Fronts.{Stops}
+use Rattle.strategy_parse.specs.inside.FreeNames.{seen, next_token, seen_behind, names_seen}
 use Rattle.strategy_parse.proofs.Frames.{Front, Framed, choice_framed}
 use Rattle.strategy_parse.proofs.FrontGives.{front-gives, choice-front}
 use Rattle.strategy_parse.proofs.SeenStrategies.{names_free, ChoiceEnds}

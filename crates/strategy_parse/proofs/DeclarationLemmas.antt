@@ -10,7 +10,7 @@ use Rattle.strategy_parse.specs.Written.{Sort, Sorts, no_sorts, and_sort, Declar
 use Rattle.strategy_parse.specs.Grammar.{Mark}
 use Rattle.strategy_parse.specs.GrammarModules.{ReadsSort, ReadsMoreSorts, ReadsOptionalName, ReadsDeclaration}
 use Rattle.strategy_parse.specs.Core.{sort_count, declared}
-use Rattle.strategy_parse.specs.ModuleFronts.{behind_mark, SortsLeft, sorts_at, sort_at, DeclaredLeft, named_constructor, behind_result, without_arrow, behind_arrow, behind_arguments, behind_colon, declaration_at}
+use Rattle.strategy_parse.specs.inside.ModuleFronts.{behind_mark, SortsLeft, sorts_at, sort_at, DeclaredLeft, named_constructor, behind_result, without_arrow, behind_arrow, behind_arguments, behind_colon, declaration_at}
 use Rattle.strategy_parse.proofs.SeenPatterns.{NoMark}
 use Rattle.strategy_parse.proofs.HeaderLemmas.{behind_found, behind_none, mark_found}
 use Rattle.strategy_parse.proofs.SortLemmas.{sorts_counted, sort_alone, to_arrow, at_arrow, SortsFound, sorts_found, sort_found}

@@ -14,14 +14,13 @@ use Rattle.strategy_parse.specs.declared.parser.state.Frame.{Frame}
 use Rattle.strategy_parse.specs.declared.parser.state.Frame.TheVariants.{Pattern as ForPattern}
 use Rattle.strategy_parse.specs.declared.parser.state.PatternFrame.TheVariants.{Match}
 use Rattle.strategy_parse.specs.Written.{Choice, sequence, left_choice, guarded_choice, last, before, Arrow, arrow, Prefix, question, exclamation, application, identity, failure, operator, if_then, if_then_else, recursion, primitive, local, closure, closure_where, round, square, square_with_tail, name, call, call_with_terms, child}
-use Rattle.strategy_parse.specs.Grammar.{ReadsPattern, ReadsChoice, ReadsArrow, ReadsPrefix}
+use Rattle.strategy_parse.specs.Grammar.{ReadsPattern, ReadsChoice, ReadsArrow, ReadsPrefix, Reading}
 use Rattle.strategy_parse.specs.Core.{core, core_prefix, then_matched}
-use Rattle.strategy_parse.specs.Machine.{step, front}
-use Rattle.strategy_parse.specs.Fronts.{Stops, FrontGives}
+use Rattle.strategy_parse.specs.inside.Machine.{step, front}
+use Rattle.strategy_parse.specs.inside.Fronts.{Stops, FrontGives}
 use Rattle.strategy_parse.proofs.CompletePatterns.{pattern_in}
 use Rattle.strategy_parse.proofs.CompleteStrategies.{reads_all}
 use Rattle.strategy_parse.proofs.SoundStrategies.{read_all}
-use Rattle.strategy_parse.specs.Grammar.{Reading}
 use Rattle.strategy_parse.proofs.Frames.{Front, Framed, choice_framed, pattern_framed}
 use Rattle.strategy_parse.proofs.Fronts.{resumed_front, front_taken}
 

@@ -25,8 +25,9 @@ use Rattle.strategy_parse.specs.declared.parser.state.StrategyGroup.TheVariants.
 use Rattle.strategy_parse.specs.declared.parser.state.PatternGroup.{PatternGroup}
 use Rattle.strategy_parse.specs.declared.parser.state.PatternGroup.TheVariants.{Application as PApplication, List as PList, Tuple as PTuple, Annotations, Terms, Prim}
 use Rattle.strategy_tokens.specs.Marks.{is_mark, is_word}
-use Rattle.strategy_parse.specs.Machine.{Next, goes, ends, stuck, begin, begin_sign, begin_word, begin_child, begin_pattern, open_pattern, behind, behind_arrow, behind_seq, behind_choice, in_frame, behind_element, behind_bar, close_strategies, closing, grouped, behind_pattern, behind_base, pattern_in_frame, behind_one, pattern_bar, closing_sign, close_patterns, first_strategy, empty_bar, rec_name, prim_name, scope_name, begin_scope, step, resume, at_end, go_on, front, front_of}
-use Rattle.strategy_parse.specs.Fronts.{goes_on, Stops}
+use Rattle.strategy_parse.specs.inside.Machine.{Next, goes, ends, stuck, begin, begin_sign, begin_word, begin_child, begin_pattern, open_pattern, behind, behind_arrow, behind_seq, behind_choice, in_frame, behind_element, behind_bar, close_strategies, closing, grouped, behind_pattern, behind_base, pattern_in_frame, behind_one, pattern_bar, closing_sign, close_patterns, first_strategy, empty_bar, rec_name, prim_name, scope_name, begin_scope, step, front, front_of}
+use Rattle.strategy_parse.proofs.Runs.{resume, at_end, go_on}
+use Rattle.strategy_parse.specs.inside.Fronts.{goes_on, Stops}
 
 -- ---- where a strategy ends, it ends before any token that doesn't continue it
 

@@ -11,7 +11,7 @@ use Rattle.strategy_tokens.specs.Marks.{is_mark}
 use Rattle.strategy_parse.specs.Written.{Header}
 use Rattle.strategy_parse.specs.Grammar.{◌▸◌, Mark, ReadsNames, ReadsMoreNames}
 use Rattle.strategy_parse.specs.GrammarModules.{ReadsParameters, ReadsHeader}
-use Rattle.strategy_parse.specs.ModuleFronts.{behind_mark, NamesLeft, more_names, names_at, HeaderLeft, make_header, close_header, behind_terms, behind_bar, without_terms, behind_strategies, parameters_at, behind_name, header_at}
+use Rattle.strategy_parse.specs.inside.ModuleFronts.{behind_mark, NamesLeft, more_names, names_at, HeaderLeft, make_header, close_header, behind_terms, behind_bar, without_terms, behind_strategies, parameters_at, behind_name, header_at}
 use Rattle.strategy_tokens.proofs.MarkLemmas.{mark_self, mark_is}
 use Rattle.strategy_parse.proofs.SeenPatterns.{NoMark}
 

@@ -4,7 +4,7 @@ use Rattle.std.specs.Prelude.{reverse}
 use Rattle.std.proofs.lemmas.List.{reverse-append}
 use Rattle.term_core.specs.Tree.{Symbol}
 use Rattle.strategy_parse.specs.declared.parser.state.Frame.{Frame}
-use Rattle.strategy_parse.specs.FreeNames.{hides, is_hidden}
+use Rattle.strategy_parse.specs.inside.FreeNames.{hides, is_hidden}
 
 or-none : (b : Bool) → (b || false) ≡ b
 or-none true = refl

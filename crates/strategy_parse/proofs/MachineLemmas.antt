@@ -1,5 +1,5 @@
 -- What the machine does, depending on the top of its stack.
-use Rattle.std.proofs.Common.{◌≡◌, ◌+◌, refl, ap, ◌∙◌, List, [], ◌∷◌, ◌++◌, length, arith}
+use Rattle.std.proofs.Common.{◌≡◌, ◌+◌, refl, ap, ◌∙◌, List, [], ◌∷◌, ◌++◌, length, arith, length-append}
 use Rattle.std.specs.Prelude.{if◌then◌else◌}
 use Rattle.term_core.specs.Tree.{Symbol, tuple}
 use Rattle.strategy_syntax.specs.Syntax as syntax
@@ -13,8 +13,7 @@ use Rattle.strategy_parse.specs.declared.parser.state.Infix.TheVariants.{Before,
 use Rattle.strategy_parse.specs.declared.parser.state.PatternGroup.TheVariants.{Prim}
 use Rattle.strategy_tokens.specs.Marks.{is_mark}
 use Rattle.strategy_parse.specs.Core.{in_brackets}
-use Rattle.std.proofs.Common.{length-append}
-use Rattle.strategy_parse.specs.Machine.{goes, stuck, behind_arrow, behind_seq, behind_choice, behind_pattern, no_operand, HasOperand}
+use Rattle.strategy_parse.specs.inside.Machine.{goes, stuck, behind_arrow, behind_seq, behind_choice, behind_pattern, no_operand, HasOperand}
 
 pub arrow-before : (s r : Strategy) (S R : List Frame) (t : Token) → S ≡ Operand Before r ∷ R → behind_arrow (syntax.seq r s) R t ≡ behind_arrow s S t
 arrow-before s r S R t e = rw e refl

@@ -18,13 +18,13 @@ use Rattle.strategy_parse.specs.GrammarModules.{ReadsDefined}
 use Rattle.strategy_syntax.specs.Variables.{variables}
 use Rattle.strategy_syntax.specs.Lists.{first_ones}
 use Rattle.strategy_parse.specs.Core.{core, core_definition, defined, declared, rewrite, rewrite_where}
-use Rattle.strategy_parse.specs.Fronts.{Stops}
-use Rattle.strategy_parse.specs.FreeNames.{names_seen}
-use Rattle.strategy_parse.specs.Machine.{begin}
-use Rattle.strategy_parse.specs.ModuleFronts.{behind_mark, header_at, DeclaredLeft}
-use Rattle.strategy_parse.specs.Definitions.{DefinitionEnds}
+use Rattle.strategy_parse.specs.inside.Fronts.{Stops}
+use Rattle.strategy_parse.specs.inside.FreeNames.{names_seen}
+use Rattle.strategy_parse.specs.inside.Machine.{begin}
+use Rattle.strategy_parse.specs.inside.ModuleFronts.{behind_mark, header_at, DeclaredLeft}
+use Rattle.strategy_parse.specs.inside.Definitions.{DefinitionEnds}
 use Rattle.strategy_parse.specs.Gives.{GivesModule}
-use Rattle.strategy_parse.specs.Sections.{IsItem, joined, SectionsLeft, SortsLeft, DeclarationsLeft, DefinitionsLeft, Left}
+use Rattle.strategy_parse.specs.inside.Sections.{IsItem, joined, SectionsLeft, SortsLeft, DeclarationsLeft, DefinitionsLeft, Left}
 use Rattle.strategy_parse.proofs.HeaderLemmas.{behind_found, header_named}
 use Rattle.strategy_parse.proofs.SortLemmas.{sort_alone}
 use Rattle.strategy_parse.proofs.DeclarationLemmas.{declaration_named}

@@ -16,11 +16,11 @@ use Rattle.strategy_parse.specs.GrammarModules.{ReadsHeader, ReadsDefined}
 use Rattle.strategy_syntax.specs.Variables.{variables}
 use Rattle.strategy_syntax.specs.Lists.{first_ones}
 use Rattle.strategy_parse.specs.Core.{core, core_definition, defined, rewrite, rewrite_where, free_in_choice}
-use Rattle.strategy_parse.specs.Fronts.{FrontGives, Stops}
-use Rattle.strategy_parse.specs.FreeNames.{next_token, names_seen}
-use Rattle.strategy_parse.specs.Machine.{begin, front}
-use Rattle.strategy_parse.specs.ModuleFronts.{behind_mark, header_at, HeaderLeft}
-use Rattle.strategy_parse.specs.Definitions.{DefinitionEnds, DefinitionGives, header_of, ReadsRule, RuleGives}
+use Rattle.strategy_parse.specs.inside.Fronts.{FrontGives, Stops}
+use Rattle.strategy_parse.specs.inside.FreeNames.{next_token, names_seen}
+use Rattle.strategy_parse.specs.inside.Machine.{begin, front}
+use Rattle.strategy_parse.specs.inside.ModuleFronts.{behind_mark, header_at, HeaderLeft}
+use Rattle.strategy_parse.specs.inside.Definitions.{DefinitionEnds, DefinitionGives, header_of, ReadsRule, RuleGives}
 use Rattle.strategy_parse.proofs.SeenPatterns.{NoMark}
 use Rattle.strategy_parse.proofs.HeaderLemmas.{behind_found, mark_found, header_named, header_found}
 use Rattle.strategy_parse.proofs.ConditionLemmas.{ConditionGives, condition_gives, condition_only, condition_none, names_only}

@@ -5,7 +5,7 @@ use Rattle.std.specs.declared.option.Option.{Option}
 use Rattle.strategy_syntax.specs.Syntax as syntax
 use Rattle.strategy_syntax.specs.Syntax.{Pattern, wildcard, variable, at, number, compound, with_tail, annotated, no_patterns, and_pattern, pattern_list, patterns_of, Strategy, strategy_list, strategies_of}
 use Rattle.strategy_tokens.specs.declared.token.Token.{Token}
-use Rattle.strategy_tokens.specs.declared.token.Token.TheVariants.{Reserved, Sign as ASign}
+use Rattle.strategy_tokens.specs.declared.token.Token.TheVariants.{Reserved, Sign as ASign, Bad}
 use Rattle.strategy_tokens.specs.declared.token.Keyword.{Keyword}
 use Rattle.strategy_tokens.specs.declared.token.Keyword.TheVariants.{Where as KWhere, Then as KThen, Else as KElse, End as KEnd}
 use Rattle.strategy_tokens.specs.declared.token.Sign.{Sign}
@@ -23,8 +23,23 @@ use Rattle.strategy_parse.specs.declared.parser.state.StrategyGroup.TheVariants.
 use Rattle.strategy_parse.specs.declared.parser.state.PatternGroup.{PatternGroup}
 use Rattle.strategy_parse.specs.declared.parser.state.PatternGroup.TheVariants.{Application as PApplication, List as PList, Tuple as PTuple, Annotations, Terms, Prim}
 use Rattle.strategy_tokens.specs.Marks.{is_mark, is_word}
-use Rattle.strategy_parse.specs.Machine.{Next, stuck, behind, behind_arrow, behind_choice, in_frame, behind_element, behind_pattern, pattern_in_frame, behind_one, step, resume, go_on}
+use Rattle.strategy_parse.specs.inside.Machine.{Next, stuck, behind, behind_arrow, behind_choice, in_frame, behind_element, behind_pattern, pattern_in_frame, behind_one, step, goes, ends}
 use Rattle.strategy_tokens.proofs.MarkLemmas.{mark_is, word_is}
+
+abbrev pub at_end : Next → Option Strategy
+at_end (goes q S) = None
+at_end (ends s) = Some s
+at_end stuck = None
+
+abbrev pub go_on : (State → List Frame → Option Strategy) → Next → Option Strategy
+go_on k (goes q S) = k q S
+go_on k (ends s) = None
+go_on k stuck = None
+
+-- what the tokens give, if f is the effect of the first one
+abbrev pub resume : (Token → Next) → List Token → Option Strategy
+resume f [] = at_end (f Bad)
+resume f (t ∷ ts) = go_on (λ q S. resume (step q S) ts) (f t)
 
 -- if f is the effect of the first token, the tokens give the strategy
 abbrev pub Accepts : (Token → Next) → List Token → Strategy → Type 0

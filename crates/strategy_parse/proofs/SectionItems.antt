@@ -11,8 +11,8 @@ use Rattle.strategy_parse.specs.Written.{Sort, Declaration, Defined, SignaturePa
 use Rattle.strategy_parse.specs.GrammarModules.{ReadsSort, ReadsDeclaration, ReadsDefined, ReadsSorts, ReadsDeclarations, ReadsDefinitions, ReadsSignatureParts, ReadsSections}
 use Rattle.strategy_parse.specs.Core.{declared, core_definition, core_definitions}
 use Rattle.strategy_tokens.specs.Marks.{is_word}
-use Rattle.strategy_parse.specs.Definitions.{DefinitionEnds}
-use Rattle.strategy_parse.specs.Sections.{IsItem, joined, SectionsLeft, SignatureLeft, SortsLeft, DeclarationsLeft, DefinitionsLeft}
+use Rattle.strategy_parse.specs.inside.Definitions.{DefinitionEnds}
+use Rattle.strategy_parse.specs.inside.Sections.{IsItem, joined, SectionsLeft, SignatureLeft, SortsLeft, DeclarationsLeft, DefinitionsLeft}
 use Rattle.strategy_parse.proofs.DeclarationLemmas.{DeclarationEnds}
 use Rattle.strategy_parse.proofs.SectionWords.{joined-joined, Named, NamedOrColon, defined_named, sort_named, declaration_front, item_is}
 

@@ -12,9 +12,9 @@ use Rattle.strategy_parse.specs.declared.modules.sections.Part.TheVariants.{Outs
 use Rattle.strategy_parse.specs.Written.{Declaration, Defined}
 use Rattle.strategy_parse.specs.GrammarModules.{ReadsDefined}
 use Rattle.strategy_parse.specs.Core.{declared, core_definition}
-use Rattle.strategy_parse.specs.Definitions.{DefinitionEnds, DefinitionGives}
-use Rattle.strategy_parse.specs.ModuleFronts.{sort_at, declaration_at, DeclaredLeft, listed}
-use Rattle.strategy_parse.specs.Sections.{next_part, IsItem, joined, SortsLeft, DeclarationsLeft, DefinitionsLeft, Left, Stands}
+use Rattle.strategy_parse.specs.inside.Definitions.{DefinitionEnds, DefinitionGives}
+use Rattle.strategy_parse.specs.inside.ModuleFronts.{sort_at, declaration_at, DeclaredLeft, listed}
+use Rattle.strategy_parse.specs.inside.Sections.{next_part, IsItem, joined, SortsLeft, DeclarationsLeft, DefinitionsLeft, Left, Stands}
 use Rattle.strategy_parse.proofs.SortLemmas.{sort_alone, sort_found}
 use Rattle.strategy_parse.proofs.DeclarationLemmas.{declaration_named, DeclarationFound, declaration_found}
 unfoldable use Rattle.strategy_parse.proofs.SectionWords.{nothing}

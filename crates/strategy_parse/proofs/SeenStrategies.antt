@@ -22,10 +22,10 @@ use Rattle.strategy_parse.specs.declared.parser.state.StrategyGroup.{StrategyGro
 use Rattle.strategy_parse.specs.declared.parser.state.StrategyGroup.TheVariants.{Round, Square, Arguments}
 use Rattle.strategy_parse.specs.declared.parser.state.PatternGroup.TheVariants.{Terms, Prim}
 use Rattle.strategy_tokens.specs.Marks.{is_mark}
-use Rattle.strategy_parse.specs.Machine.{Next, goes, begin, begin_pattern, behind, behind_arrow, behind_seq, behind_choice, in_frame, behind_element, closing, grouped, pattern_in_frame, behind_one, first_strategy, first_pattern, empty_bar, step}
+use Rattle.strategy_parse.specs.inside.Machine.{Next, goes, begin, begin_pattern, behind, behind_arrow, behind_seq, behind_choice, in_frame, behind_element, closing, grouped, pattern_in_frame, behind_one, first_strategy, first_pattern, empty_bar, step}
 use Rattle.strategy_parse.specs.Grammar.{ReadsPattern, ReadsMorePatterns, ReadsArrows, ReadsMoreNames, ReadsNames, word_of, ReadsChoice, ReadsSeq, ReadsArrow, ReadsPrefix, ReadsChoices, ReadsSomeChoices, ReadsMoreChoices}
 use Rattle.strategy_tokens.proofs.MarkLemmas.{mark_self}
-use Rattle.strategy_parse.specs.FreeNames.{is_hidden, seen, next_token, seen_behind, names_seen}
+use Rattle.strategy_parse.specs.inside.FreeNames.{is_hidden, seen, next_token, seen_behind, names_seen}
 use Rattle.strategy_parse.specs.Written.{Choice, sequence, left_choice, guarded_choice, Seq, last, before, Arrow, arrow, Prefix, question, exclamation, application, identity, failure, operator, if_then, if_then_else, recursion, primitive, local, closure, closure_where, round, square, square_with_tail, name, call, call_with_terms, child, Choices, no_choices, and_choice}
 use Rattle.strategy_syntax.specs.Variables.{variables, variables_of_all}
 use Rattle.strategy_syntax.specs.Lists.{without}

@@ -14,7 +14,7 @@ use Rattle.strategy_parse.specs.Written.{Sort, sort, Sorts, no_sorts, and_sort}
 use Rattle.strategy_parse.specs.Grammar.{Reading, Mark}
 use Rattle.strategy_parse.specs.GrammarModules.{ReadsSort, ReadsMoreSorts}
 use Rattle.strategy_parse.specs.Core.{sort_count}
-use Rattle.strategy_parse.specs.ModuleFronts.{SortsLeft, behind_sort, begin_sort, sort_step, sort_goes, sorts_from, sorts_at, sort_at, one_sort}
+use Rattle.strategy_parse.specs.inside.ModuleFronts.{SortsLeft, behind_sort, begin_sort, sort_step, sort_goes, sorts_from, sorts_at, sort_at, one_sort}
 use Rattle.strategy_tokens.proofs.MarkLemmas.{mark_is}
 use Rattle.strategy_parse.proofs.SeenPatterns.{NoMark, no_mark}
 

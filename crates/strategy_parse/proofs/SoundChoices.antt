@@ -15,7 +15,7 @@ use Rattle.strategy_parse.specs.declared.parser.state.StrategyFrame.TheVariants.
 use Rattle.strategy_parse.specs.declared.parser.state.StrategyGroup.{StrategyGroup}
 use Rattle.strategy_parse.specs.declared.parser.state.PatternGroup.TheVariants.{Prim}
 use Rattle.strategy_tokens.specs.Marks.{is_mark}
-use Rattle.strategy_parse.specs.Machine.{goes, begin, behind, behind_arrow, behind_seq, behind_choice, behind_element, behind_bar, close_strategies, closing, grouped, first_strategy, empty_bar}
+use Rattle.strategy_parse.specs.inside.Machine.{goes, begin, behind, behind_arrow, behind_seq, behind_choice, behind_element, behind_bar, close_strategies, closing, grouped, first_strategy, empty_bar}
 use Rattle.strategy_parse.specs.Written.{sequence, left_choice, guarded_choice, last, before, arrow, no_choices, and_choice}
 use Rattle.strategy_parse.specs.Core.{then_matched, core, core_seq, core_prefix, core_all}
 use Rattle.strategy_parse.proofs.Runs.{Accepts, Goes, at_mark, only_mark}

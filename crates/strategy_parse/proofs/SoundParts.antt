@@ -17,7 +17,7 @@ use Rattle.strategy_parse.specs.declared.parser.state.PatternFrame.TheVariants.{
 use Rattle.strategy_parse.specs.declared.parser.state.StrategyGroup.{StrategyGroup}
 use Rattle.strategy_parse.specs.declared.parser.state.PatternGroup.TheVariants.{Prim}
 use Rattle.strategy_tokens.specs.Marks.{is_mark}
-use Rattle.strategy_parse.specs.Machine.{Next, goes, stuck, begin, begin_pattern, behind, behind_arrow, behind_choice, in_frame, behind_bar, closing, grouped, empty_bar, scope_name, step}
+use Rattle.strategy_parse.specs.inside.Machine.{Next, goes, stuck, begin, begin_pattern, behind, behind_arrow, behind_choice, in_frame, behind_bar, closing, grouped, empty_bar, scope_name, step}
 use Rattle.strategy_parse.specs.Grammar.{ReadsArrows, ReadsMoreNames, ReadsNames, ReadsChoice, ReadsSeq, ReadsPrefix, ReadsChoices, ReadsSomeChoices, ReadsMoreChoices}
 use Rattle.strategy_parse.specs.Written.{Choice, Seq, Prefix, Choices, and_choice}
 use Rattle.strategy_parse.specs.Core.{then_matched, core, core_seq, core_prefix, core_all}

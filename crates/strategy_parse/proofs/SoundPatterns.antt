@@ -15,7 +15,7 @@ use Rattle.strategy_parse.specs.declared.parser.state.PatternFrame.TheVariants.{
 use Rattle.strategy_parse.specs.declared.parser.state.PatternGroup.{PatternGroup}
 use Rattle.strategy_parse.specs.declared.parser.state.PatternGroup.TheVariants.{Application as PApplication, List as PList, Tuple as PTuple, Annotations, Terms, Prim}
 use Rattle.strategy_tokens.specs.Marks.{is_mark}
-use Rattle.strategy_parse.specs.Machine.{Next, goes, stuck, begin_pattern, open_pattern, behind_pattern, behind_base, behind_one, pattern_bar, closing_sign, close_patterns, first_pattern, step}
+use Rattle.strategy_parse.specs.inside.Machine.{Next, goes, stuck, begin_pattern, open_pattern, behind_pattern, behind_base, behind_one, pattern_bar, closing_sign, close_patterns, first_pattern, step}
 use Rattle.strategy_parse.specs.Grammar.{IsBase, ReadsPattern, ReadsPatterns, ReadsSomePatterns, ReadsMorePatterns}
 use Rattle.strategy_parse.proofs.Runs.{Accepts, Goes, at_mark, only_mark}
 use Rattle.strategy_parse.proofs.CompletePatterns.{patterns_of-list}

@@ -10,10 +10,10 @@ use Rattle.strategy_parse.specs.declared.modules.sections.Part.TheVariants.{Outs
 use Rattle.strategy_parse.specs.Written.{Section, signature, definitions}
 use Rattle.strategy_parse.specs.GrammarModules.{ReadsSections}
 use Rattle.strategy_tokens.specs.Marks.{is_word}
-use Rattle.strategy_parse.specs.ModuleFronts.{behind_ident}
-use Rattle.strategy_parse.specs.FreeNames.{next_token}
+use Rattle.strategy_parse.specs.inside.ModuleFronts.{behind_ident}
+use Rattle.strategy_parse.specs.inside.FreeNames.{next_token}
 use Rattle.strategy_parse.specs.Gives.{GivesModule}
-use Rattle.strategy_parse.specs.Sections.{SectionsLeft, Left}
+use Rattle.strategy_parse.specs.inside.Sections.{SectionsLeft, Left}
 
 pub titled : (f : Symbol) (x : List Token) (m : Module) → Left Outside x m → GivesModule (Reserved KModule ∷ (Ident f ∷ x)) m
 titled f x m l = (l.sections, (x, inl (f, (Ident f ∷ x, refl, refl)), l.reads), l.gives)

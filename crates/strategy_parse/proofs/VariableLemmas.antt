@@ -3,7 +3,7 @@ use Rattle.std.proofs.Common.{◌≡◌, ℕ, suc, zero, ◌+◌, ◌<◌, ◌�
 use Rattle.std.proofs.Math.Seq.{take-suc}
 use Rattle.term_core.specs.Tree.{Symbol}
 use Rattle.strategy_syntax.specs.Syntax.{Pattern, patterns_of}
-use Rattle.strategy_syntax.specs.PatternView.{pattern_depth, patterns_depth}
+use Rattle.strategy_syntax.specs.inside.PatternDepth.{pattern_depth, patterns_depth}
 use Rattle.strategy_syntax.specs.Variables.{variables, variables_of_all}
 
 pub behind_one_name : (names : List Symbol) (x : Symbol) (rest : List Symbol) → (names ++ x ∷ []) ++ rest ≡ names ++ x ∷ rest

@@ -26,7 +26,8 @@ use Rattle.strategy_meaning.specs.Answer.{Answer}
 use Rattle.strategy_meaning.specs.Meaning.{World, run_whole}
 use Rattle.strategy_meaning.specs.Applied.{Outcome, fails, placed, applied}
 use Rattle.strategy_frames.specs.Turns.{State, IsDone}
-use Rattle.strategy_run.specs.Applies.{applied_in, Applies, PutsAll, PutsOutermost, PutsListed, Makes, FindsAll, Lists, Stay}
+use Rattle.strategy_run.specs.Applies.{applied_in, Applies, PutsAll, PutsOutermost, Stay}
+use Rattle.strategy_run.specs.inside.Finding.{PutsListed, Makes, FindsAll, Lists}
 use Rattle.strategy_run.specs.declared.application.Outcome.{Outcome as Ending}
 use Rattle.strategy_run.specs.declared.application.Outcome.TheVariants.{Done, Failed, Spent, Big}
 use Rattle.strategy_run.specs.declared.application.Listing.{Listing}

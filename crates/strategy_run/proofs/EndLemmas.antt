@@ -5,16 +5,15 @@ use Rattle.term_changes.specs.Standing.{Standing, unchanged, standing_tree}
 use Rattle.strategy_syntax.specs.Resolved.{ResolvedStrategy}
 use Rattle.strategy_syntax.specs.declared.resolved.Resolved.{Resolved}
 use Rattle.strategy_meaning.specs.Scopes.{Scope, inside, no_closures, numbers_from, with_variables}
-use Rattle.strategy_meaning.specs.Answer.{Answer}
+use Rattle.strategy_meaning.specs.Answer.{Answer, with_edits}
 use Rattle.strategy_meaning.specs.Meaning.{World, run, run_whole}
 use Rattle.strategy_scopes.specs.Table.{nowhere, scope_at}
 use Rattle.term_match.specs.Contents.{Contents}
-use Rattle.strategy_run.specs.Ends.{IsEmpty}
+use Rattle.strategy_run.specs.inside.Runs.{IsEmpty}
 use Rattle.strategy_frames.specs.Turns.{HoldsIn, After}
 use Rattle.strategy_frames.specs.declared.machine.Machine.{Machine}
 use Rattle.strategy_frames.specs.declared.frames.Turned.{Turned}
 use Rattle.strategy_frames.specs.Hands.{Begin}
-use Rattle.strategy_meaning.specs.Answer.{with_edits}
 use Rattle.strategy_frames.specs.Leading.{Has}
 use Rattle.strategy_frames.specs.Frames.{Meets}
 use Rattle.term_match.specs.Marks.{mark_of}

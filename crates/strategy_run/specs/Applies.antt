@@ -4,10 +4,9 @@ use Rattle.std.specs.Option.{option_map_or}
 use Rattle.term_core.specs.Tree.{Tree}
 use Rattle.term_paths.specs.Edits.{Edits, behind}
 use Rattle.change_plans.specs.Slots.{Slots, Store, content}
-use Rattle.change_plans.specs.Entries.{Entry, slot_tree, put, before, after, flipped_forward, Fits, FitsForward}
+use Rattle.change_plans.specs.Entries.{Entry, slot_tree, put, before, flipped_forward, Fits}
 use Rattle.term_changes.specs.Change.{places}
-use Rattle.term_changes.specs.Putting.{entries_at, HasPlaces}
-use Rattle.term_changes.specs.Standing.{Standing, Suits, standing_change}
+use Rattle.term_changes.specs.Putting.{entries_at}
 use Rattle.strategy_syntax.specs.declared.resolved.Resolved.{Resolved}
 use Rattle.strategy_meaning.specs.Answer.{spent, big}
 use Rattle.strategy_meaning.specs.Meaning.{World}
@@ -15,12 +14,6 @@ use Rattle.strategy_meaning.specs.Applied.{Outcome, gives, fails, stops, applied
 use Rattle.strategy_frames.specs.Leading.{AreOutermost}
 use Rattle.strategy_run.specs.declared.application.Outcome.{Outcome as Ending}
 use Rattle.strategy_run.specs.declared.application.Outcome.TheVariants.{Done, Failed, Spent, Big}
-use Rattle.strategy_run.specs.declared.application.Found.{Found}
-use Rattle.strategy_run.specs.declared.application.Found.TheVariants as founds
-use Rattle.strategy_run.specs.declared.application.Listing.{Listing}
-use Rattle.strategy_run.specs.declared.application.Listing.TheVariants.{Outermost, Each}
-use Rattle.strategy_frames.specs.Trails.{Shows}
-use Rattle.strategy_frames.specs.declared.trail.Trail.{Trail}
 
 -- the outcome of applying in a slot's tree; it fails if the slot has none
 abbrev pub applied_in : World → Slots Tree → ℕ → List ℕ → Resolved → ℕ → Outcome
@@ -55,36 +48,3 @@ Applies Puts Stays whole Big = (whole ≡ stops big) × Stays
 pub record Stay (s : Store) (entries : List Entry) (t : Store) (longer : List Entry) : Type 0 where
   pub store : t ≡ s
   pub log : longer ≡ entries
-
--- ---- on the way
-
--- The edits that get an entry.
-abbrev pub AreListed : Listing → Edits → Edits → Type 0
-AreListed Outermost ps e = AreOutermost ps e
-AreListed Each ps e = ps ≡ e
-
-abbrev pub PutsListed : Listing → ℕ → Edits → Tree → Store → List Entry → Store → List Entry → Type 0
-PutsListed listing slot e u s log t longer = (ps : Edits) × AreListed listing ps e × PutsAll slot ps u s log t longer
-
--- Made one after the other, they make u the slot's tree, and each finds its place.
-pub record Makes (slot : ℕ) (ps : Edits) (u : Tree) (s : Store) : Type 0 where
-  pub tree : after (entries_at slot ps) s ≡ put (slot_tree slot (Some u)) s
-  pub places : FitsForward (entries_at slot ps) s
-
--- The plan for the slot puts them in place.
-abbrev pub FindsAll : Listing → Store → ℕ → Outcome → List Entry → Type 0
-FindsAll listing s slot whole es =
-    (u : Tree) × (e : Edits) × (whole ≡ gives u e) × (ps : Edits) × AreListed listing ps e × (es ≡ entries_at slot ps) × Makes slot ps u s
-
--- The outcome before anything is put in place.
-abbrev pub Finds : Listing → Store → ℕ → Outcome → Found → Type 0
-Finds listing s slot whole (founds.Replaced es) = FindsAll listing s slot whole es
-Finds listing s slot whole founds.Failed = whole ≡ fails
-Finds listing s slot whole founds.Spent = whole ≡ stops spent
-Finds listing s slot whole founds.Big = whole ≡ stops big
-
--- The plan for a run that ended with p, at the path in the tree of the slot.
-abbrev pub Lists : Listing → Trail → Standing → ℕ → List ℕ → List Entry → Type 0
-Lists Outermost trail p slot path es =
-    (es ≡ entries_at slot (behind path (places (standing_change p)))) × ((t : Tree) → Suits t p → HasPlaces t (standing_change p))
-Lists Each trail p slot path es = (e : Edits) → Shows trail e → es ≡ entries_at slot (behind path e)

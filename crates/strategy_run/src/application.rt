@@ -8,9 +8,10 @@ ghost use Rattle.change_plans.specs.Slots.{Store, content};
 ghost use Rattle.change_plans.specs.Entries.{subterm_in};
 ghost use Rattle.strategy_meaning.specs.Applied.{applied};
 ghost use Rattle.strategy_frames.specs.Trails.{Shows};
-ghost use Rattle.strategy_run.specs.Ends.{IsEmpty};
+ghost use Rattle.strategy_run.specs.inside.Runs.{IsEmpty};
 ghost use Rattle.strategy_frames.specs.Turns.{world_of};
-ghost use Rattle.strategy_run.specs.Applies.{Applies, PutsAll, PutsOutermost, PutsListed, Stay, Finds, Lists, applied_in};
+ghost use Rattle.strategy_run.specs.Applies.{Applies, PutsAll, PutsOutermost, Stay, applied_in};
+ghost use Rattle.strategy_run.specs.inside.Finding.{PutsListed, Finds, Lists};
 
 use crate::evaluation::{Ended, run_to_end};
 use crate::in_place::put_in_place;

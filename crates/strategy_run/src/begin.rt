@@ -3,7 +3,8 @@
 ghost use Rattle.std.specs.Prelude.{◌≡◌, ◌<◌, length, IfOk};
 ghost use Rattle.strategy_scopes.specs.Table.{scopes as scopes_of};
 ghost use Rattle.strategy_frames.specs.Hands.{Begin};
-ghost use Rattle.strategy_frames.specs.Turns.{Turn, Falls, Takes, TakeFalls, world_of};
+ghost use Rattle.strategy_frames.specs.inside.Turning.{Turn, Falls};
+ghost use Rattle.strategy_frames.specs.Turns.{Takes, TakeFalls, world_of};
 
 use prim_core::Meaning;
 use std::alloc::Global;

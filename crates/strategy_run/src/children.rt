@@ -5,9 +5,10 @@ ghost use Rattle.term_core.specs.Tree.{children};
 ghost use Rattle.term_changes.specs.Standing.{standing_tree, standing_children};
 ghost use Rattle.strategy_meaning.specs.Meaning.{World};
 ghost use Rattle.strategy_frames.specs.Frames.{acts_list};
-ghost use Rattle.strategy_frames.specs.Leading.{PartsStand, Fills, all_parts, node_with, parts_now};
+ghost use Rattle.strategy_frames.specs.Leading.{PartsStand, all_parts, node_with, parts_now};
+ghost use Rattle.strategy_frames.specs.inside.Filling.{Fills};
 ghost use Rattle.strategy_frames.specs.Hands.{Each, Leftmost, Those};
-ghost use Rattle.strategy_frames.specs.Turns.{Turn, Falls};
+ghost use Rattle.strategy_frames.specs.inside.Turning.{Turn, Falls};
 
 use crate::lists::end_each;
 use std::alloc::Global;

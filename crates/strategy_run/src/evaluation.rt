@@ -6,8 +6,10 @@ ghost use Rattle.strategy_meaning.specs.Answer.{Answer};
 ghost use Rattle.strategy_meaning.specs.Meaning.{World, run_whole};
 ghost use Rattle.term_changes.specs.Standing.{Standing, unchanged};
 ghost use Rattle.strategy_frames.specs.Hands.{in_hand};
-ghost use Rattle.strategy_frames.specs.Turns.{Turn, Falls, Holds, world_of};
-ghost use Rattle.strategy_run.specs.Ends.{Ends, IsAnswered, IsEmpty};
+ghost use Rattle.strategy_frames.specs.inside.Turning.{Turn, Falls};
+ghost use Rattle.strategy_frames.specs.Turns.{Holds, world_of};
+ghost use Rattle.strategy_run.specs.inside.Runs.{Ends, IsEmpty};
+ghost use Rattle.strategy_run.specs.Ends.{IsAnswered};
 
 use crate::begin::begin;
 use crate::children::{go_on, go_over, try_on};

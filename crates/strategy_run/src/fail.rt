@@ -5,7 +5,8 @@ ghost use Rattle.strategy_meaning.specs.Answer.{Answer};
 ghost use Rattle.strategy_meaning.specs.Meaning.{World};
 ghost use Rattle.term_changes.specs.Standing.{Standing};
 ghost use Rattle.strategy_frames.specs.Hands.{Failed};
-ghost use Rattle.strategy_frames.specs.Turns.{Turn, Falls, Holds, Gives, IsOfRun, GiveFalls};
+ghost use Rattle.strategy_frames.specs.inside.Turning.{Turn, Falls, Gives, IsOfRun, GiveFalls};
+ghost use Rattle.strategy_frames.specs.Turns.{Holds};
 
 use strategy_frames::{
     Frame, Machine, Next, Turned, drop_changed, drop_part, drop_parts, drop_walk, put,

@@ -5,8 +5,9 @@ ghost use Rattle.strategy_meaning.specs.Answer.{Answer};
 ghost use Rattle.strategy_meaning.specs.Meaning.{World};
 ghost use Rattle.term_changes.specs.Standing.{Standing};
 ghost use Rattle.strategy_frames.specs.Hands.{Done};
-ghost use Rattle.strategy_frames.specs.Frames.{HasNext, StepsOn, WalksOn, GoesOn, with_acts};
-ghost use Rattle.strategy_frames.specs.Turns.{Turn, Falls, Holds, Gives, IsOfRun, GiveFalls, ComesUp};
+ghost use Rattle.strategy_frames.specs.inside.Walks.{HasNext, StepsOn, WalksOn, GoesOn, with_acts};
+ghost use Rattle.strategy_frames.specs.inside.Turning.{Turn, Falls, Gives, IsOfRun, GiveFalls, ComesUp};
+ghost use Rattle.strategy_frames.specs.Turns.{Holds};
 
 use crate::children::{child_now, finish, first_act, settle};
 use crate::lists::{give_behind, give_head, give_rest, give_tail};

@@ -8,7 +8,7 @@ ghost use Rattle.term_changes.specs.Standing.{standing_tree};
 ghost use Rattle.strategy_frames.specs.Hands.{Done};
 ghost use Rattle.strategy_frames.specs.Leading.{PartsStand, parts_now, all_parts, node_with};
 ghost use Rattle.strategy_frames.specs.Frames.{first_part};
-ghost use Rattle.strategy_frames.specs.Turns.{Turn, Gives, IsOfRun, GiveFalls, EndFalls, Waits};
+ghost use Rattle.strategy_frames.specs.inside.Turning.{Turn, Gives, IsOfRun, GiveFalls, EndFalls, Waits};
 
 use crate::children::finish;
 use crate::tails::{first_values, in_front, is_list, rest_behind, rest_of_part, with_rest_behind};

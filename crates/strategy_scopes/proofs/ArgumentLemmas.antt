@@ -9,7 +9,7 @@ use Rattle.strategy_syntax.specs.Resolved.{ResolvedStrategy, param, resolveds_of
 use Rattle.strategy_meaning.specs.Scopes.{Scope, Closure, Closures, inside, no_closures, and_closure, closure_at, cells_in, stands_for, with_closure, with_name, argument, arguments}
 use Rattle.strategy_scopes.specs.Table.{nowhere, scope_at, scope_from, IsThere, Starts, closure_of}
 use Rattle.strategy_scopes.specs.declared.scopes.Known.{Known}
-use Rattle.strategy_scopes.specs.Entries.{AreNames, names_in, closure_count}
+use Rattle.strategy_scopes.specs.inside.Entries.{AreNames, names_in, closure_count}
 
 shorter : {A : Type 0} (n : ℕ) (xs : List A) → length (take n xs) ≤ length xs
 shorter zero xs = omega arith

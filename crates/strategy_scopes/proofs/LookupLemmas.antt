@@ -11,7 +11,7 @@ use Rattle.strategy_scopes.specs.declared.scopes.Known.{Known}
 use Rattle.strategy_scopes.specs.declared.scopes.Adds.{Adds}
 use Rattle.strategy_scopes.specs.declared.scopes.Adds.TheVariants.{Variables, Name}
 use Rattle.strategy_scopes.specs.declared.scopes.Entry.{Entry}
-use Rattle.strategy_scopes.specs.Entries.{names_in, closure_count, addition_of, AddsFit, AddsRoom, added_cells, added_names}
+use Rattle.strategy_scopes.specs.inside.Entries.{names_in, closure_count, addition_of, AddsFit, AddsRoom, added_cells, added_names}
 use Rattle.strategy_scopes.proofs.TableLemmas.{IsAt}
 
 -- ---- variables

@@ -7,7 +7,7 @@ use Rattle.strategy_scopes.specs.Table.{Widening, nowhere, scope_at, scope_from,
 use Rattle.strategy_scopes.specs.declared.scopes.Adds.{Adds}
 use Rattle.strategy_scopes.specs.declared.scopes.Adds.TheVariants.{Variables, Name}
 use Rattle.strategy_scopes.specs.declared.scopes.Entry.{Entry}
-use Rattle.strategy_scopes.specs.Entries.{names_in, closure_count, addition_of, widening_of, AddsFit, RestsOnOlder, RestOnOlder}
+use Rattle.strategy_scopes.specs.inside.Entries.{names_in, closure_count, addition_of, widening_of, AddsFit, RestsOnOlder, RestOnOlder}
 
 pub length-scopes : (known : List Scope) (ws : List Widening) → length (scopes_behind known ws) ≡ length ws
 length-scopes known [] = refl

@@ -5,7 +5,7 @@ ghost use Rattle.strategy_meaning.specs.Scopes.{inside, cells_in, stands_for, wi
 ghost use Rattle.std.specs.Bool.{OnTrue};
 ghost use Rattle.strategy_syntax.specs.Resolved.{param, resolveds_of};
 ghost use Rattle.strategy_scopes.specs.Table.{nowhere, scopes, scope_at, scope_from, with_addition, IsThere, Stands, Starts, closure_of};
-ghost use Rattle.strategy_scopes.specs.Entries.{AreNames, names_in, closure_count, addition_of, AddsFit, AddsRoom, added_cells, added_names};
+ghost use Rattle.strategy_scopes.specs.inside.Entries.{AreNames, names_in, closure_count, addition_of, AddsFit, AddsRoom, added_cells, added_names};
 
 use std::alloc::Global;
 use std::marker::Model;
@@ -46,8 +46,8 @@ impl<'t> Model for Scopes<'t> {
     ghost use Rattle.std.specs.Prelude.{List, [], map};
     ghost use Rattle.std.specs.Coded.{coded_list};
     ghost use Rattle.strategy_scopes.specs.Table.{Widening};
-    ghost use Rattle.strategy_scopes.specs.TableCode.{widening_code};
-    ghost use Rattle.strategy_scopes.specs.Entries.{widening_of, RestOnOlder};
+    ghost use Rattle.strategy_scopes.specs.inside.TableCode.{widening_code};
+    ghost use Rattle.strategy_scopes.specs.inside.Entries.{widening_of, RestOnOlder};
 
     ghost Value = { List Widening };
 

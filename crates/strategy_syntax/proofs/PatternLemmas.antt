@@ -1,7 +1,7 @@
 -- Laws of lists of patterns, and of their depth.
 use Rattle.std.proofs.Common.{◌≡◌, ℕ, zero, suc, ◌≤◌, ◌<◌, List, [], ◌∷◌, length, get_or, refl, sym, ap, ◌∙◌, arith}
 use Rattle.strategy_syntax.specs.Syntax.{Pattern, Patterns, no_patterns, and_pattern, pattern_list, patterns_of}
-use Rattle.strategy_syntax.specs.PatternView.{pattern_depth, patterns_depth}
+use Rattle.strategy_syntax.specs.inside.PatternDepth.{pattern_depth, patterns_depth}
 
 pub pattern_list-patterns_of : (ps : List Pattern) → pattern_list (patterns_of ps) ≡ ps
 pattern_list-patterns_of [] = refl

@@ -1,7 +1,7 @@
 -- Laws of lists of resolved patterns, and of their depth.
 use Rattle.std.proofs.Common.{◌≡◌, ℕ, zero, suc, ◌≤◌, ◌<◌, List, [], ◌∷◌, length, get_or, refl, ap, arith}
 use Rattle.strategy_syntax.specs.Resolved.{Place, Places, no_places, and_place, place_list, places_of}
-use Rattle.strategy_syntax.specs.PlaceView.{place_depth, places_depth}
+use Rattle.strategy_syntax.specs.inside.PlaceDepth.{place_depth, places_depth}
 
 pub place_list-places_of : (ps : List Place) → place_list (places_of ps) ≡ ps
 place_list-places_of [] = refl

@@ -1,7 +1,7 @@
 -- Laws of lists of resolved strategies, and of their depth.
 use Rattle.std.proofs.Common.{◌≡◌, ℕ, zero, suc, ◌≤◌, ◌<◌, List, [], ◌∷◌, length, get_or, refl, ap, arith}
 use Rattle.strategy_syntax.specs.Resolved.{ResolvedStrategy, ResolvedStrategies, no_strategies, and_strategy, resolved_list, resolveds_of}
-use Rattle.strategy_syntax.specs.ResolvedView.{depth, depths}
+use Rattle.strategy_syntax.specs.inside.ResolvedDepth.{depth, depths}
 
 pub resolved_list-resolveds_of : (ss : List ResolvedStrategy) → resolved_list (resolveds_of ss) ≡ ss
 resolved_list-resolveds_of [] = refl

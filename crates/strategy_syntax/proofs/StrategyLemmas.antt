@@ -1,7 +1,7 @@
 -- Laws of lists of strategies, and of their depth.
 use Rattle.std.proofs.Common.{◌≡◌, ℕ, zero, suc, ◌≤◌, ◌<◌, List, [], ◌∷◌, length, get_or, refl, sym, ap, ◌∙◌, arith}
 use Rattle.strategy_syntax.specs.Syntax.{Strategy, Strategies, no_strategies, and_strategy, strategy_list, strategies_of}
-use Rattle.strategy_syntax.specs.StrategyView.{depth, depths}
+use Rattle.strategy_syntax.specs.inside.StrategyDepth.{depth, depths}
 use Rattle.strategy_syntax.proofs.PatternLemmas.{patterns_of-only}
 
 pub strategy_list-strategies_of : (ss : List Strategy) → strategy_list (strategies_of ss) ≡ ss

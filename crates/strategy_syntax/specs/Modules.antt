@@ -1,10 +1,7 @@
 -- Modules of the strategy language, as contracts see them.
-use Rattle.std.specs.Prelude.{ℕ, List, refl}
-use Rattle.std.specs.Coded.{Coded, code_by, coded×, coded_ℕ, coded_list}
+use Rattle.std.specs.Prelude.{ℕ, List}
 use Rattle.term_core.specs.Tree.{Symbol}
-use Rattle.term_core.specs.TreeCode.{symbol_code}
 use Rattle.strategy_syntax.specs.Syntax.{Strategy}
-use Rattle.strategy_syntax.specs.Codes.{strategy_code}
 
 -- A constructor that a signature declares, with the number of its arguments.
 pub record Constructor : Type 0 where
@@ -23,31 +20,3 @@ pub record Definition : Type 0 where
 pub record Module : Type 0 where
   pub constructors : List Constructor
   pub definitions : List Definition
-
--- ---- how the logic stores them: as their fields
-
-abbrev pub constructor_code : Coded Constructor
-constructor_code =
-    code_by (Symbol × ℕ) (coded× symbol_code coded_ℕ) (λ c. (c.name, c.arity))
-    (λ p. record { name = p.0; arity = p.1 }) (λ _. refl)
-
-abbrev pub definition_code : Coded Definition
-definition_code =
-    code_by (Symbol × (List Symbol × (List Symbol × Strategy)))
-    (coded× symbol_code
-    (coded× (coded_list symbol_code) (coded× (coded_list symbol_code) strategy_code)))
-    (λ d. (d.name, (d.strategy_parameters, (d.term_parameters, d.body))))
-    (λ p. record {
-      name = p.0;
-      strategy_parameters = p.1.0;
-      term_parameters = p.1.1.0;
-      body = p.1.1.1;
-    })
-    (λ _. refl)
-
-abbrev pub module_code : Coded Module
-module_code =
-    code_by (List Constructor × List Definition)
-    (coded× (coded_list constructor_code) (coded_list definition_code))
-    (λ m. (m.constructors, m.definitions))
-    (λ p. record { constructors = p.0; definitions = p.1 }) (λ _. refl)

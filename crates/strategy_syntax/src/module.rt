@@ -15,7 +15,8 @@ pub struct Constructor {
 }
 
 impl Model for Constructor {
-    ghost use Rattle.strategy_syntax.specs.Modules.{Constructor, constructor_code};
+    ghost use Rattle.strategy_syntax.specs.Modules.{Constructor};
+    ghost use Rattle.strategy_syntax.specs.inside.ModuleCodes.{constructor_code};
 
     ghost Value = { Constructor };
 
@@ -36,7 +37,8 @@ pub struct Definition {
 }
 
 impl Model for Definition {
-    ghost use Rattle.strategy_syntax.specs.Modules.{Definition, definition_code};
+    ghost use Rattle.strategy_syntax.specs.Modules.{Definition};
+    ghost use Rattle.strategy_syntax.specs.inside.ModuleCodes.{definition_code};
 
     ghost Value = { Definition };
 
@@ -58,7 +60,8 @@ pub struct Module {
 }
 
 impl Model for Module {
-    ghost use Rattle.strategy_syntax.specs.Modules.{Module, module_code};
+    ghost use Rattle.strategy_syntax.specs.Modules.{Module};
+    ghost use Rattle.strategy_syntax.specs.inside.ModuleCodes.{module_code};
 
     ghost Value = { Module };
 

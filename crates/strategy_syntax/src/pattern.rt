@@ -37,19 +37,20 @@ pub enum PatternForm {
 
 impl Model for Pattern {
     ghost use Rattle.strategy_syntax.specs.Syntax.{Pattern};
-    ghost use Rattle.strategy_syntax.specs.Codes.{pattern_code};
+    ghost use Rattle.strategy_syntax.specs.inside.Codes.{pattern_code};
 
     ghost Value = { Pattern };
 
     ghost coded = { pattern_code };
 
-    ghost use Rattle.strategy_syntax.specs.PatternView.{pattern_of, pattern_depth};
+    ghost use Rattle.strategy_syntax.specs.PatternView.{pattern_of};
+    ghost use Rattle.strategy_syntax.specs.inside.PatternDepth.{pattern_depth};
 
     ghost view = { λ a. pattern_of a.form };
 
     ghost size = { pattern_depth };
 
-    ghost use Rattle.strategy_syntax.specs.PatternFalls.{depth_le-pattern};
+    ghost use Rattle.strategy_syntax.specs.inside.PatternFalls.{depth_le-pattern};
 
     ghost size_decreases = { λ a h. depth_le-pattern a.form };
 }

@@ -36,19 +36,20 @@ pub enum PlaceForm {
 
 impl Model for Place {
     ghost use Rattle.strategy_syntax.specs.Resolved.{Place};
-    ghost use Rattle.strategy_syntax.specs.ResolvedCodes.{place_code};
+    ghost use Rattle.strategy_syntax.specs.inside.ResolvedCodes.{place_code};
 
     ghost Value = { Place };
 
     ghost coded = { place_code };
 
-    ghost use Rattle.strategy_syntax.specs.PlaceView.{place_of, place_depth};
+    ghost use Rattle.strategy_syntax.specs.PlaceView.{place_of};
+    ghost use Rattle.strategy_syntax.specs.inside.PlaceDepth.{place_depth};
 
     ghost view = { λ a. place_of a.form };
 
     ghost size = { place_depth };
 
-    ghost use Rattle.strategy_syntax.specs.PlaceFalls.{depth_le-place};
+    ghost use Rattle.strategy_syntax.specs.inside.PlaceFalls.{depth_le-place};
 
     ghost size_decreases = { λ a h. depth_le-place a.form };
 }

@@ -69,19 +69,20 @@ pub enum ResolvedForm {
 
 impl Model for ResolvedStrategy {
     ghost use Rattle.strategy_syntax.specs.Resolved.{ResolvedStrategy};
-    ghost use Rattle.strategy_syntax.specs.ResolvedCodes.{resolved_code};
+    ghost use Rattle.strategy_syntax.specs.inside.ResolvedCodes.{resolved_code};
 
     ghost Value = { ResolvedStrategy };
 
     ghost coded = { resolved_code };
 
-    ghost use Rattle.strategy_syntax.specs.ResolvedView.{resolved_of, depth};
+    ghost use Rattle.strategy_syntax.specs.ResolvedView.{resolved_of};
+    ghost use Rattle.strategy_syntax.specs.inside.ResolvedDepth.{depth};
 
     ghost view = { λ a. resolved_of a.form };
 
     ghost size = { depth };
 
-    ghost use Rattle.strategy_syntax.specs.ResolvedFalls.{depth_le-resolved};
+    ghost use Rattle.strategy_syntax.specs.inside.ResolvedFalls.{depth_le-resolved};
 
     ghost size_decreases = { λ a h. depth_le-resolved a.form };
 }

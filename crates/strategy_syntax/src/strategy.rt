@@ -59,19 +59,20 @@ pub enum StrategyForm {
 
 impl Model for Strategy {
     ghost use Rattle.strategy_syntax.specs.Syntax.{Strategy};
-    ghost use Rattle.strategy_syntax.specs.Codes.{strategy_code};
+    ghost use Rattle.strategy_syntax.specs.inside.Codes.{strategy_code};
 
     ghost Value = { Strategy };
 
     ghost coded = { strategy_code };
 
-    ghost use Rattle.strategy_syntax.specs.StrategyView.{strategy_of, depth};
+    ghost use Rattle.strategy_syntax.specs.StrategyView.{strategy_of};
+    ghost use Rattle.strategy_syntax.specs.inside.StrategyDepth.{depth};
 
     ghost view = { λ a. strategy_of a.form };
 
     ghost size = { depth };
 
-    ghost use Rattle.strategy_syntax.specs.StrategyFalls.{depth_le-strategy};
+    ghost use Rattle.strategy_syntax.specs.inside.StrategyFalls.{depth_le-strategy};
 
     ghost size_decreases = { λ a h. depth_le-strategy a.form };
 }

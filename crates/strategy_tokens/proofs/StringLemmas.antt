@@ -7,7 +7,7 @@ use Rattle.std.proofs.lemmas.Grind.{common_steps}
 use Rattle.aterm_text.proofs.ScanLemmas.{prefix_len-rest}
 use Rattle.aterm_text.specs.Tokens.{octal_byte}
 use Rattle.strategy_tokens.specs.Tokens.{unescaped, behind_backslash, behind_octal, and_byte, and_found}
-use Rattle.strategy_tokens.specs.Pieces.{is_no_backslash}
+use Rattle.strategy_tokens.specs.inside.Pieces.{is_no_backslash}
 
 -- these bytes, followed by those
 abbrev pub behind : List ℕ → Option (List ℕ) → Option (List ℕ)

@@ -3,7 +3,7 @@
 ghost use Rattle.std.specs.Prelude.{◌≡◌, IsTrue, IfOk, Some};
 ghost use Rattle.term_core.specs.Word.{is_word};
 ghost use Rattle.strategy_tokens.specs.Tokens.{ident_token, text_or_bad, unescaped};
-ghost use Rattle.strategy_tokens.specs.Pieces.{piece_token, HoldsWord};
+ghost use Rattle.strategy_tokens.specs.inside.Pieces.{piece_token, HoldsWord};
 
 use crate::Token;
 use crate::keyword::keyword;

@@ -2,7 +2,7 @@
 
 ghost use Rattle.std.specs.Prelude.{◌≡◌, ◌↔◌, ◌<◌, ◌≤◌, ◌+◌, ◌++◌, [], length, IfOk, Err};
 ghost use Rattle.strategy_tokens.specs.Tokens.{tokens, and_token};
-ghost use Rattle.strategy_tokens.specs.Pieces.{piece_token, HoldsWord};
+ghost use Rattle.strategy_tokens.specs.inside.Pieces.{piece_token, HoldsWord};
 
 use crate::make::make_token;
 use crate::scan::{Piece, first_piece};

@@ -7,7 +7,7 @@ ghost use Rattle.std.specs.Char.{is_ascii_digit};
 ghost use Rattle.aterm_text.specs.Signs.{minus};
 ghost use Rattle.strategy_tokens.specs.Tokens.{is_no_line_feed, comment_len, begins_ident, continues_ident, ident_len, ident_token, quote_at, piece_at, comment_piece, minus_piece, sign_piece, short_signs, sign_in, sign_or_bad, closed_string, integer_token, begins_with};
 ghost use Rattle.std.specs.Str.Parse.{IsNumeral, without_leading_sign};
-ghost use Rattle.strategy_tokens.specs.Pieces.{piece_token, HoldsWord};
+ghost use Rattle.strategy_tokens.specs.inside.Pieces.{piece_token, HoldsWord};
 
 use crate::Sign;
 use aterm_text::is_blank;

@@ -3,7 +3,7 @@
 ghost use Rattle.std.specs.Prelude.{◌≡◌, ◌<◌, ◌≤◌, length, take, drop, IfOk, IfSome, IfNone, MatchOption, Some, None};
 ghost use Rattle.std.specs.List.{prefix_len};
 ghost use Rattle.strategy_tokens.specs.Tokens.{unescaped, behind_backslash, behind_octal, and_byte};
-ghost use Rattle.strategy_tokens.specs.Pieces.{is_no_backslash};
+ghost use Rattle.strategy_tokens.specs.inside.Pieces.{is_no_backslash};
 
 use aterm_text::{octal_byte, short_escape};
 use std::alloc::Global;

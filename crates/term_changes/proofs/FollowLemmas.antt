@@ -1,9 +1,8 @@
 -- What a run may leave in the place of a subterm.
 use Rattle.std.proofs.Common.{◌≡◌, List, [], ◌∷◌, length, suc, map, refl, sym, ap, ◌∙◌}
 use Rattle.term_core.specs.Tree.{Tree, children}
-use Rattle.term_changes.specs.Change.{Change, same, inside, replaced, Changes, no_more, and_then}
+use Rattle.term_changes.specs.Change.{Change, same, inside, replaced, Changes, no_more, and_then, changed, changed_all}
 use Rattle.term_changes.specs.Standing.{standing_tree, Standing, unchanged, altered, fresh, Suits, SuitAll, stand, stand_all}
-use Rattle.term_changes.specs.Change.{changed, changed_all}
 use Rattle.term_changes.proofs.NodeLemmas.{children-with_children}
 use Rattle.term_changes.proofs.StandingLemmas.{suits_tree, tree-with_standing}
 use Rattle.term_changes.specs.Follows.{IsFresh, Follows, AllFollow, FollowsItself, FollowsOn, FollowersCanStand, SameRootFollows, TreesOfChildren, FollowersAreTheChange, TreeOverChildren}

@@ -1,4 +1,3 @@
--- What a reader has to believe.
 pub mod Change
 pub mod Standing
 pub mod Follows
@@ -6,5 +5,4 @@ pub mod Putting
 pub mod Edits
 pub use Rattle.term_core.specs.Tree
 pub use Rattle.term_paths.specs.Paths
--- What serves private clauses and proofs.
-pub mod ChangeCode
+pub mod inside

@@ -1,10 +1,7 @@
 -- A tree and what was replaced in it.
-use Rattle.std.specs.Prelude.{◌≡◌, ℕ, ◌==◌, cond, List, [], ◌∷◌, map, refl}
-use Rattle.std.specs.Coded.{Coded, code_by, coded×, coded_ℕ}
+use Rattle.std.specs.Prelude.{◌≡◌, List, [], ◌∷◌, map}
 use Rattle.term_core.specs.Tree.{Tree, children, with_children}
-use Rattle.term_core.specs.TreeCode.{tree_code}
 use Rattle.term_changes.specs.Change.{Change, same, inside, replaced, Changes, no_more, and_then, changed}
-use Rattle.term_changes.specs.ChangeCode.{changes_code}
 
 -- a tree, and the changes of its children
 pub record Altered : Type 0 where
@@ -78,28 +75,3 @@ abbrev pub with_standing : Standing → List Standing → Standing
 with_standing (unchanged t) ps = altered (record { before = t; changes = standing_changes ps })
 with_standing (altered a) ps = altered (record { before = a.before; changes = standing_changes ps })
 with_standing (fresh t) ps = fresh (with_children t (map standing_tree ps))
-
--- ---- how the logic stores them
-
-abbrev pub altered_code : Coded Altered
-altered_code =
-    code_by (Tree × Changes) (coded× tree_code changes_code) (λ a. (a.before, a.changes))
-    (λ p. record { before = p.0; changes = p.1 }) (λ _. refl)
-
-abbrev standing_parts : Standing → ℕ × Altered
-standing_parts (unchanged t) = (0, record { before = t; changes = no_more })
-standing_parts (altered a) = (1, a)
-standing_parts (fresh t) = (2, record { before = t; changes = no_more })
-
-abbrev parts_standing : ℕ × Altered → Standing
-parts_standing p = cond (p.0 == 0) (unchanged p.1.before) (cond (p.0 == 1) (altered p.1) (fresh p.1.before))
-
-pub parts_standing-standing_parts : (s : Standing) → parts_standing (standing_parts s) ≡ s
-parts_standing-standing_parts (unchanged t) = refl
-parts_standing-standing_parts (altered a) = refl
-parts_standing-standing_parts (fresh t) = refl
-
-abbrev pub standing_code : Coded Standing
-standing_code =
-    code_by (ℕ × Altered) (coded× coded_ℕ altered_code) standing_parts parts_standing
-    parts_standing-standing_parts

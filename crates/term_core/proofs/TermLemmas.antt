@@ -1,6 +1,5 @@
 -- The parts of a term, by its fields and by its data.
-use Rattle.std.proofs.Common.{◌≡◌, ℕ, ◌<◌, List, length, get_or, refl, sym, ap, ◌∙◌, arith, suc}
-use Rattle.std.proofs.Common.{Some, None, IsSome, IfSome, MutBor}
+use Rattle.std.proofs.Common.{◌≡◌, ℕ, ◌<◌, List, length, get_or, refl, sym, ap, ◌∙◌, arith, suc, Some, None, IsSome, IfSome, MutBor}
 use Rattle.std.proofs.Math.Nat.{lt_of_not-le}
 use Rattle.std.specs.declared.option.Option.{Option}
 use Rattle.std.specs.List.{slice_get}
@@ -10,7 +9,7 @@ use Rattle.term_core.specs.Tree.{application, list, tuple, Tree, integer, branch
 use Rattle.term_core.specs.declared.term.Node.{Node}
 use Rattle.term_core.specs.declared.term.Node.TheVariants.{Integer, Application, List as AList, Tuple}
 use Rattle.term_core.proofs.TreeLemmas.{to_list-of_list, of_list-to_list}
-use Rattle.term_core.specs.TermView.{node_term, node_shape}
+use Rattle.term_core.specs.inside.TermView.{node_term, node_shape}
 
 pub children-node_term : (n : Node) (us notes : List Tree) → node_shape n us → children (node_term n us notes) ≡ us
 children-node_term (Integer z) us notes h = sym h

@@ -3,7 +3,7 @@
 ghost use Rattle.std.specs.Prelude.{◌≡◌, ◌↔◌, ◌≤◌, ◌⊎◌, IsTrue, IfOk, IfSome, Ok, Some, None, true, false, length};
 ghost use Rattle.std.specs.List.{list_all, prefix_len};
 ghost use Rattle.term_core.specs.Word.{begins_word, continues_word, is_word, first_word};
-ghost use Rattle.term_core.specs.NameView.{text_of, IsText};
+ghost use Rattle.term_core.specs.inside.NameView.{text_of, IsText};
 
 use crate::NoMemory;
 use std::alloc::Global;
@@ -37,13 +37,13 @@ enum Text {
 
 impl Model for Name {
     ghost use Rattle.term_core.specs.Tree.{Symbol};
-    ghost use Rattle.term_core.specs.TreeCode.{symbol_code};
+    ghost use Rattle.term_core.specs.inside.TreeCode.{symbol_code};
 
     ghost Value = { Symbol };
 
     ghost coded = { symbol_code };
 
-    ghost use Rattle.term_core.specs.NameView.{name_of, IsName};
+    ghost use Rattle.term_core.specs.inside.NameView.{name_of, IsName};
 
     ghost view = { name_of };
 

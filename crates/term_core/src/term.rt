@@ -7,8 +7,7 @@ ghost use Rattle.std.specs.Bool.{OnTrue, OnFalse};
 ghost use Rattle.std.specs.Borrow.{sem};
 ghost use Rattle.term_core.specs.Tree.{Tree, of_list, integer_term, application_term, list_term, tuple_term, children, annotations, with_annotations, with_children, with_child};
 ghost use Rattle.term_core.specs.Kind.{made_of};
-ghost use Rattle.term_core.specs.Size.{height, heights, size, sizes, fits};
-ghost use Rattle.term_core.specs.Size.{height as height_of, size as size_of};
+ghost use Rattle.term_core.specs.Size.{height, heights, size, sizes, fits, height as height_of, size as size_of};
 ghost use Rattle.term_core.specs.Lending.{LendsChildren};
 
 use crate::{Kind, MAX_HEIGHT, MAX_SIZE, Name, NoMemory};
@@ -35,13 +34,13 @@ enum Node {
 
 impl Model for Term {
     ghost use Rattle.term_core.specs.Tree.{Tree};
-    ghost use Rattle.term_core.specs.TreeCode.{tree_code};
+    ghost use Rattle.term_core.specs.inside.TreeCode.{tree_code};
 
     ghost Value = { Tree };
 
     ghost coded = { tree_code };
 
-    ghost use Rattle.term_core.specs.TermView.{view_of, HasShape, above_parts_le-height};
+    ghost use Rattle.term_core.specs.inside.TermView.{view_of, HasShape, above_parts_le-height};
     ghost use Rattle.term_core.specs.Size.{height};
 
     ghost view = { view_of };

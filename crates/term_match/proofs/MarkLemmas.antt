@@ -7,7 +7,8 @@ use Rattle.std.proofs.lemmas.Option.{get_or_from_slice_get}
 use Rattle.term_core.specs.Tree.{Tree}
 use Rattle.strategy_meaning.specs.Matching.{Bindings}
 use Rattle.term_match.specs.Contents.{Contents}
-use Rattle.term_match.specs.Marks.{emptied, kept, mark_of, Before, Stays, Grows}
+use Rattle.term_match.specs.Marks.{emptied, kept, mark_of, Before, Stays}
+use Rattle.term_match.specs.inside.Growing.{Grows}
 use Rattle.term_match.specs.declared.cells.Mark.{Mark}
 
 -- ---- cells emptied

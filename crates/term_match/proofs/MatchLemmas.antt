@@ -10,7 +10,7 @@ use Rattle.term_core.specs.declared.kind.Kind.{Kind}
 use Rattle.term_core.specs.declared.kind.Kind.TheVariants.{Integer, Application as KindApplication, List as KindList, Tuple as KindTuple}
 use Rattle.strategy_syntax.specs.Resolved.{Place, compound, with_tail, place_list, places_of}
 use Rattle.strategy_syntax.specs.Heads.{head_at}
-use Rattle.strategy_syntax.specs.PlaceView.{place_depth, places_depth}
+use Rattle.strategy_syntax.specs.inside.PlaceDepth.{place_depth, places_depth}
 use Rattle.strategy_meaning.specs.Same.{same_head, same_tree}
 use Rattle.strategy_meaning.proofs.SameLemmas.{head-eq, head-self, same_is_equal}
 use Rattle.strategy_meaning.specs.Matching.{Bindings, put_or_same, bind, is_headed, elements, match_place, match_places}

@@ -1,15 +1,8 @@
 -- What cells hold.
-use Rattle.std.specs.Prelude.{ℕ, List, refl}
-use Rattle.std.specs.Coded.{Coded, code_by, coded×, coded_ℕ, coded_list, coded_option}
-use Rattle.term_core.specs.TreeCode.{tree_code}
+use Rattle.std.specs.Prelude.{ℕ, List}
 use Rattle.strategy_meaning.specs.Matching.{Bindings}
 
 -- the term in each cell, and which cells were filled, the oldest first
 pub record Contents : Type 0 where
   pub bindings : Bindings
   pub filled : List ℕ
-
-abbrev pub contents_code : Coded Contents
-contents_code =
-    code_by (Bindings × List ℕ) (coded× (coded_list (coded_option tree_code)) (coded_list coded_ℕ))
-    (λ c. (c.bindings, c.filled)) (λ p. record { bindings = p.0; filled = p.1 }) (λ _. refl)

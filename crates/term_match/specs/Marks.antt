@@ -1,5 +1,5 @@
 -- What cells keep for an earlier mark.
-use Rattle.std.specs.Prelude.{◌≡◌, ◌≤◌, ℕ, List, [], ◌∷◌, ◌++◌, length, take, drop, slice_set, None}
+use Rattle.std.specs.Prelude.{◌≡◌, ◌≤◌, ℕ, List, [], ◌∷◌, length, take, drop, slice_set, None}
 use Rattle.strategy_meaning.specs.Matching.{Bindings}
 use Rattle.term_match.specs.Contents.{Contents}
 use Rattle.term_match.specs.declared.cells.Mark.{Mark}
@@ -23,10 +23,3 @@ Before m n = (m.count ≤ n.count) × (m.filled ≤ n.filled)
 -- what is kept for the marks up to this one stays the same
 abbrev pub Stays : Mark → Contents → Contents → Type 0
 Stays top old new = (m : Mark) → Before m top → kept new m ≡ kept old m
-
--- Some of the empty cells are filled.
-pub record Grows (old new : Contents) : Type 0 where
-  pub count : length new.bindings ≡ length old.bindings
-  pub more : List ℕ
-  pub filled : new.filled ≡ old.filled ++ more
-  pub stays : Stays (mark_of old) old new

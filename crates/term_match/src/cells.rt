@@ -5,7 +5,8 @@
 
 ghost use Rattle.std.specs.Prelude.{◌≡◌, ◌≤◌, ◌<◌, ◌+◌, ◌-◌, [], ◌∷◌, ◌++◌, length, replicate, take, slice_get, slice_set, option_and_then, vec_len, vec_capacity, OnOk, OnErr, Some, None};
 ghost use Rattle.std.specs.Option.{option_copied};
-ghost use Rattle.term_match.specs.Marks.{emptied, kept, mark_of, Before, Stays, Grows};
+ghost use Rattle.term_match.specs.Marks.{emptied, kept, mark_of, Before, Stays};
+ghost use Rattle.term_match.specs.inside.Growing.{Grows};
 
 use std::alloc::Global;
 use std::marker::Model;
@@ -27,7 +28,8 @@ pub struct Cells<'t> {
 }
 
 impl<'t> Model for Cells<'t> {
-    ghost use Rattle.term_match.specs.Contents.{Contents, contents_code};
+    ghost use Rattle.term_match.specs.Contents.{Contents};
+    ghost use Rattle.term_match.specs.inside.ContentsCode.{contents_code};
 
     ghost Value = { Contents };
 

@@ -4,8 +4,9 @@ ghost use Rattle.std.specs.Prelude.{◌≡◌, ◌≤◌, length, take, drop, co
 ghost use Rattle.term_core.specs.Tree.{children, annotations, bare, list_term};
 ghost use Rattle.strategy_syntax.specs.Resolved.{places_of};
 ghost use Rattle.strategy_meaning.specs.Matching.{match_place, match_places, bind, elements, is_integer, is_headed};
-ghost use Rattle.term_match.specs.Binding.{Says};
-ghost use Rattle.term_match.specs.Marks.{mark_of, Before, Stays, Grows};
+ghost use Rattle.term_match.specs.inside.Binding.{Says};
+ghost use Rattle.term_match.specs.Marks.{mark_of, Before, Stays};
+ghost use Rattle.term_match.specs.inside.Growing.{Grows};
 
 use crate::cells::Cells;
 use crate::variables::Places;

@@ -7,10 +7,10 @@ use Rattle.term_core.specs.declared.kind.Kind.TheVariants.{Integer, Application,
 use Rattle.term_core.proofs.TreeLemmas.{to_list-of_list, of_list-to_list}
 use Rattle.term_changes.specs.Change.{changed_all}
 use Rattle.term_changes.specs.Standing.{Altered, after}
-use Rattle.term_values.specs.Shape.{kind_shape}
+use Rattle.term_values.specs.inside.Shape.{kind_shape}
 use Rattle.term_values.specs.declared.value.Top.{Top}
 use Rattle.term_values.specs.declared.value.Top.TheVariants.{Borrowed, Owned}
-use Rattle.term_values.specs.ValueView.{top_tree, top_shape}
+use Rattle.term_values.specs.inside.ValueView.{top_tree, top_shape}
 
 pub children-made_of : (k : Kind) (us notes : List Tree) → kind_shape k us → children (made_of k us notes) ≡ us
 children-made_of (Integer z) us notes h = sym h

@@ -4,7 +4,7 @@ use Rattle.std.proofs.lemmas.List.{drop-drop, length-append, length-drop, length
 use Rattle.term_core.specs.Tree.{Tree, of_list, children, annotations, with_annotations, bare, list_term}
 use Rattle.term_core.proofs.TreeLemmas.{to_list-of_list}
 use Rattle.term_core.specs.Size.{size, sizes}
-use Rattle.term_values.specs.ValueFalls.{sizes-append, some_size}
+use Rattle.term_values.specs.inside.ValueFalls.{sizes-append, some_size}
 use Rattle.term_values.proofs.KindLemmas.{with_annotations-same, with_annotations-again}
 
 pub list_children : (us : List Tree) (t : Tree) → t ≡ list_term us → children t ≡ us

@@ -13,7 +13,7 @@ use Rattle.term_changes.specs.Putting.{entry_at, entries_at, HasPlaces, HaveAllP
 use Rattle.term_changes.proofs.NodeLemmas.{annotations-with_children}
 use Rattle.term_changes.proofs.StandingLemmas.{suits_stand_all, altered_children}
 use Rattle.term_values.specs.declared.bounds.Bounds.{Bounds}
-use Rattle.term_values.specs.Bounded.{Bounded, AllWithin}
+use Rattle.term_values.specs.inside.Bounded.{Bounded, AllWithin}
 use Rattle.term_values.proofs.SizeLemmas.{height_parts, bounded_along}
 
 pub nth_within : (us : List Tree) (b : Bounds) (i : ℕ) (v : Tree) → i < length us → v ≡ get_or us i v → AllWithin us b → Bounded v b

@@ -4,15 +4,15 @@ use Rattle.term_core.specs.Tree.{Tree, integer, branch, of_list, children, annot
 use Rattle.term_core.specs.Size.{height, heights, size, sizes}
 use Rattle.term_core.proofs.TreeLemmas.{of_list-to_list, size_pos}
 use Rattle.term_values.specs.declared.bounds.Bounds.{Bounds}
-use Rattle.term_values.specs.Bounded.{Covers, Bounded, AllBounded, AllWithin}
-use Rattle.term_values.specs.ValueFalls.{size_parts, sizes-append, some_size, size_noted}
+use Rattle.term_values.specs.inside.Bounded.{Covers, Bounded, AllBounded, AllWithin}
+use Rattle.term_values.specs.inside.ValueFalls.{size_parts, sizes-append, some_size, size_noted}
 use Rattle.term_core.specs.Kind.{made_of}
 use Rattle.term_core.specs.declared.kind.Kind.{Kind}
 use Rattle.term_core.specs.declared.kind.Kind.TheVariants.{Integer, Application, List as AList, Tuple}
-use Rattle.term_values.specs.Shape.{kind_shape}
+use Rattle.term_values.specs.inside.Shape.{kind_shape}
 use Rattle.term_values.specs.declared.value.Top.{Top}
 use Rattle.term_values.specs.declared.value.Top.TheVariants.{Borrowed, Owned}
-use Rattle.term_values.specs.ValueView.{top_tree, top_shape}
+use Rattle.term_values.specs.inside.ValueView.{top_tree, top_shape}
 
 pub height_parts : (t : Tree) → height t ≡ max (heights (of_list (children t))) (heights (of_list (annotations t))) + 1
 height_parts (integer z notes) = omega (arith, ap heights (of_list-to_list notes))

@@ -2,12 +2,11 @@
 #![tactic(auto, using(crate::proofs::KindLemmas::node_parts))]
 
 ghost use Rattle.std.specs.Prelude.{◌≡◌, IfOk};
-ghost use Rattle.term_core.specs.Tree.{annotations, with_annotations};
-ghost use Rattle.term_core.specs.Tree.{bare as bare_of};
+ghost use Rattle.term_core.specs.Tree.{annotations, with_annotations, bare as bare_of};
 ghost use Rattle.term_changes.specs.Standing.{after};
-ghost use Rattle.term_values.specs.Bounded.{AllBounded};
-ghost use Rattle.term_values.specs.Shape.{NotedShape};
-ghost use Rattle.term_values.specs.ValueView.{notes_list};
+ghost use Rattle.term_values.specs.inside.Bounded.{AllBounded};
+ghost use Rattle.term_values.specs.inside.Shape.{NotedShape};
+ghost use Rattle.term_values.specs.inside.ValueView.{notes_list};
 
 use crate::bounds::Bounds;
 use crate::build::all_bounds;

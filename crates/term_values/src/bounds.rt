@@ -4,7 +4,7 @@
 ghost use Rattle.std.specs.Prelude.{◌≡◌, ℕ, ◌+◌, ◌≤◌, ◌↔◌, IsTrue, max, true};
 ghost use Rattle.term_core.specs.Tree.{Tree};
 ghost use Rattle.term_core.specs.Size.{fits};
-ghost use Rattle.term_values.specs.Bounded.{Covers, Bounded};
+ghost use Rattle.term_values.specs.inside.Bounded.{Covers, Bounded};
 
 use term_core::{MAX_HEIGHT, MAX_SIZE};
 

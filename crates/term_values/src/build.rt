@@ -4,8 +4,8 @@
 ghost use Rattle.std.specs.Prelude.{◌≡◌, [], ◌∷◌, IfOk};
 ghost use Rattle.term_core.specs.Kind.{made_of};
 ghost use Rattle.term_core.specs.Tree.{list_term, children, annotations, with_children};
-ghost use Rattle.term_values.specs.Bounded.{AllBounded};
-ghost use Rattle.term_values.specs.ValueView.{items_list, top_tree, top_shape};
+ghost use Rattle.term_values.specs.inside.Bounded.{AllBounded};
+ghost use Rattle.term_values.specs.inside.ValueView.{items_list, top_tree, top_shape};
 
 use crate::bounds::Bounds;
 use crate::list::{CHUNK, chunked};

@@ -3,7 +3,7 @@
 
 ghost use Rattle.std.specs.Prelude.{◌≡◌, IfOk, length, slice_get};
 ghost use Rattle.term_core.specs.Tree.{children, annotations};
-ghost use Rattle.term_values.specs.Bounded.{AllWithin};
+ghost use Rattle.term_values.specs.inside.Bounded.{AllWithin};
 
 use crate::bounds::Bounds;
 use crate::elements::{Elements, terms_behind};

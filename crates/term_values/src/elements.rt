@@ -5,9 +5,9 @@ ghost use Rattle.std.specs.Prelude.{◌≡◌, [], ◌∷◌, ◌++◌, ◌≤�
 ghost use Rattle.term_core.specs.Tree.{children, annotations};
 ghost use Rattle.term_core.specs.Kind.{made_of};
 ghost use Rattle.term_changes.specs.Standing.{after, standing_tree};
-ghost use Rattle.term_values.specs.ValueView.{items_list, notes_list};
-ghost use Rattle.term_values.specs.Bounded.{Bounded};
-ghost use Rattle.term_values.specs.Walk.{seen_tree, run_list};
+ghost use Rattle.term_values.specs.inside.ValueView.{items_list, notes_list};
+ghost use Rattle.term_values.specs.inside.Bounded.{Bounded};
+ghost use Rattle.term_values.specs.inside.Walk.{seen_tree, run_list};
 
 use crate::bounds::Bounds;
 use crate::part::{Changed, Part, PartForm};
@@ -44,13 +44,13 @@ impl<'a, 't> Model for Elements<'a, 't> {
     ghost use Rattle.std.specs.Prelude.{List};
     ghost use Rattle.std.specs.Coded.{coded_list};
     ghost use Rattle.term_core.specs.Tree.{Tree};
-    ghost use Rattle.term_core.specs.TreeCode.{tree_code};
+    ghost use Rattle.term_core.specs.inside.TreeCode.{tree_code};
 
     ghost Value = { List Tree };
 
     ghost coded = { coded_list tree_code };
 
-    ghost use Rattle.term_values.specs.Walk.{elements_list, NoGap};
+    ghost use Rattle.term_values.specs.inside.Walk.{elements_list, NoGap};
 
     ghost view = { elements_list };
 

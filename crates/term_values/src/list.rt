@@ -6,8 +6,8 @@
 
 ghost use Rattle.std.specs.Prelude.{◌≡◌, ◌≤◌, ◌<◌, ◌+◌, ◌^◌, ◌++◌, ◌∷◌, drop, length, IfOk, OnOk, IsTrue};
 ghost use Rattle.term_core.specs.Tree.{bare, children, annotations, list_term};
-ghost use Rattle.term_values.specs.Shape.{JoinedShape};
-ghost use Rattle.term_values.specs.ValueView.{items_list};
+ghost use Rattle.term_values.specs.inside.Shape.{JoinedShape};
+ghost use Rattle.term_values.specs.inside.ValueView.{items_list};
 
 use crate::build::all_bounds;
 use crate::value::{Form, Items, Joined, Single, Value};

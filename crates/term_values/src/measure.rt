@@ -4,8 +4,8 @@
 ghost use Rattle.std.specs.Prelude.{◌≡◌, ◌≤◌, ◌<◌, ◌+◌, ◌↔◌, IsTrue, IfSome, IfNone};
 ghost use Rattle.term_core.specs.Tree.{of_list};
 ghost use Rattle.term_core.specs.Size.{size as size_of, sizes, fits};
-ghost use Rattle.term_values.specs.Bounded.{Measures, MeasuresAll};
-ghost use Rattle.term_values.specs.Walk.{seen_tree};
+ghost use Rattle.term_values.specs.inside.Bounded.{Measures, MeasuresAll};
+ghost use Rattle.term_values.specs.inside.Walk.{seen_tree};
 
 use crate::bounds::Bounds;
 use crate::elements::{Elements, Seen};

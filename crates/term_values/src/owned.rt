@@ -4,8 +4,8 @@
 ghost use Rattle.std.specs.Prelude.{◌≡◌, [], List, IfOk, IfSome};
 ghost use Rattle.term_core.specs.Tree.{Tree};
 ghost use Rattle.term_core.specs.Kind.{made_of};
-ghost use Rattle.term_values.specs.ValueView.{top_tree};
-ghost use Rattle.term_values.specs.Walk.{seen_tree};
+ghost use Rattle.term_values.specs.inside.ValueView.{top_tree};
+ghost use Rattle.term_values.specs.inside.Walk.{seen_tree};
 
 use crate::elements::{Elements, Seen};
 use crate::value::{Form, Top, Value};

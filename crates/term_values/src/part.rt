@@ -38,13 +38,14 @@ pub(crate) struct Changed<'t> {
 }
 
 impl<'t> Model for Changed<'t> {
-    ghost use Rattle.term_changes.specs.Standing.{Altered, altered_code};
+    ghost use Rattle.term_changes.specs.Standing.{Altered};
+    ghost use Rattle.term_changes.specs.inside.StandingCodes.{altered_code};
 
     ghost Value = { Altered };
 
     ghost coded = { altered_code };
 
-    ghost use Rattle.term_values.specs.ValueView.{altered_of, PartsSuit, altered_size};
+    ghost use Rattle.term_values.specs.inside.ValueView.{altered_of, PartsSuit, altered_size};
 
     ghost view = { altered_of };
 
@@ -52,19 +53,20 @@ impl<'t> Model for Changed<'t> {
 
     ghost size = { altered_size };
 
-    ghost use Rattle.term_values.specs.ValueFalls.{above_parts};
+    ghost use Rattle.term_values.specs.inside.ValueFalls.{above_parts};
 
     ghost size_decreases = { λ a h. above_parts a h };
 }
 
 impl<'t> Model for Part<'t> {
-    ghost use Rattle.term_changes.specs.Standing.{Standing, standing_code};
+    ghost use Rattle.term_changes.specs.Standing.{Standing};
+    ghost use Rattle.term_changes.specs.inside.StandingCodes.{standing_code};
 
     ghost Value = { Standing };
 
     ghost coded = { standing_code };
 
-    ghost use Rattle.term_values.specs.ValueView.{standing_of, PartHasShape, standing_size};
+    ghost use Rattle.term_values.specs.inside.ValueView.{standing_of, PartHasShape, standing_size};
 
     ghost view = { standing_of };
 
@@ -72,7 +74,7 @@ impl<'t> Model for Part<'t> {
 
     ghost size = { standing_size };
 
-    ghost use Rattle.term_values.specs.ValueFalls.{above_part};
+    ghost use Rattle.term_values.specs.inside.ValueFalls.{above_part};
 
     ghost size_decreases = { λ a h. above_part a.form };
 }

@@ -4,7 +4,7 @@
 ghost use Rattle.std.specs.Prelude.{◌≡◌, IfOk, map, slice_get};
 ghost use Rattle.term_core.specs.Tree.{children, annotations, with_children};
 ghost use Rattle.term_changes.specs.Standing.{standing_tree, standing_children, unchanged, altered, fresh, SuitAll, CanHold, with_standing};
-ghost use Rattle.term_values.specs.Bounded.{Bounded, AllBounded, AllWithin};
+ghost use Rattle.term_values.specs.inside.Bounded.{Bounded, AllBounded, AllWithin};
 
 use crate::bounds::Bounds;
 use crate::part::{Changed, Part, PartForm};

@@ -6,8 +6,8 @@ ghost use Rattle.std.specs.Prelude.{◌≡◌, ◌≤◌, List, [], length, IfOk
 ghost use Rattle.term_core.specs.Tree.{Tree, children, annotations};
 ghost use Rattle.term_core.specs.Kind.{made_of};
 ghost use Rattle.term_core.specs.Size.{height as height_of};
-ghost use Rattle.term_values.specs.Bounded.{Bounded};
-ghost use Rattle.term_values.specs.ValueView.{top_tree, form_tree, form_shape};
+ghost use Rattle.term_values.specs.inside.Bounded.{Bounded};
+ghost use Rattle.term_values.specs.inside.ValueView.{top_tree, form_tree, form_shape};
 
 use crate::bounds::Bounds;
 use crate::elements::terms_behind;
@@ -110,13 +110,13 @@ pub(crate) struct Joined<'t> {
 
 impl<'t> Model for Value<'t> {
     ghost use Rattle.term_core.specs.Tree.{Tree};
-    ghost use Rattle.term_core.specs.TreeCode.{tree_code};
+    ghost use Rattle.term_core.specs.inside.TreeCode.{tree_code};
 
     ghost Value = { Tree };
 
     ghost coded = { tree_code };
 
-    ghost use Rattle.term_values.specs.ValueView.{view_of, HasShape, value_size};
+    ghost use Rattle.term_values.specs.inside.ValueView.{view_of, HasShape, value_size};
 
     ghost view = { view_of };
 
@@ -124,7 +124,7 @@ impl<'t> Model for Value<'t> {
 
     ghost size = { value_size };
 
-    ghost use Rattle.term_values.specs.ValueFalls.{above_form};
+    ghost use Rattle.term_values.specs.inside.ValueFalls.{above_form};
 
     ghost size_decreases = { λ a h. above_form a.form h.shape };
 }

@@ -1,10 +1,9 @@
 //! Terms that begin with no bracket.
 
-ghost use Rattle.std.specs.Prelude.{◌≡◌, ◌<◌, ℕ, List, IfOk, Err, length};
-ghost use Rattle.std.specs.Prelude.{Some, None};
+ghost use Rattle.std.specs.Prelude.{◌≡◌, ◌<◌, ℕ, List, IfOk, Err, length, Some, None};
 ghost use Rattle.term_core.specs.Word.{first_word};
 ghost use Rattle.aterm_text.specs.Tokens.{without_blanks};
-ghost use Rattle.aterm_text.specs.Beginnings.{Begins, NoLexeme, beginning_of};
+ghost use Rattle.aterm_text.specs.inside.Beginnings.{Begins, NoLexeme, beginning_of};
 
 use crate::reader::{ReadFault, scan};
 use std::alloc::Global;

@@ -4,10 +4,10 @@
 ghost use Rattle.std.specs.Prelude.{◌≡◌, ◌<◌, ◌≤◌, ◌-◌, ℕ, List, [], IfOk, OnOk, Err, length};
 ghost use Rattle.term_core.specs.Tree.{Tree, Symbol};
 ghost use Rattle.aterm_text.specs.Tokens.{NextName, without_blanks};
-ghost use Rattle.aterm_text.specs.Stack.{with_top, inside};
-ghost use Rattle.aterm_text.specs.Beginnings.{NoLexeme};
-ghost use Rattle.aterm_text.specs.Depth.{depth, IsTooDeep, KeepsDepth};
-ghost use Rattle.aterm_text.specs.Unread.{Reading, Unread, Stands, Leads, IsLost, IsClosed};
+ghost use Rattle.aterm_text.specs.inside.Stack.{with_top, inside};
+ghost use Rattle.aterm_text.specs.inside.Beginnings.{NoLexeme};
+ghost use Rattle.aterm_text.specs.inside.Depth.{depth, IsTooDeep, KeepsDepth};
+ghost use Rattle.aterm_text.specs.inside.Unread.{Reading, Unread, Stands, Leads, IsLost, IsClosed};
 
 use crate::MAX_NESTING;
 use crate::reader::ReadFault;

@@ -2,7 +2,7 @@
 #![tactic(auto, using(crate::proofs::BracketLemmas::bracket_parts))]
 
 ghost use Rattle.std.specs.Prelude.{◌≡◌, ◌∷◌, [], IfSome, IfNone, OnOk, OnErr, length};
-ghost use Rattle.aterm_text.specs.BracketsView.{innermost_of};
+ghost use Rattle.aterm_text.specs.inside.BracketsView.{innermost_of};
 
 use crate::reader::stack::Opening;
 use std::alloc::Global;
@@ -31,7 +31,7 @@ impl Model for OpenBrackets {
 
     ghost Value = { List Bracket };
 
-    ghost use Rattle.aterm_text.specs.BracketsView.{brackets_of, AreBrackets};
+    ghost use Rattle.aterm_text.specs.inside.BracketsView.{brackets_of, AreBrackets};
 
     ghost view = { λ a. brackets_of a.innermost a.others.items };
 

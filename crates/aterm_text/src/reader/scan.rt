@@ -3,7 +3,8 @@
 ghost use Rattle.std.specs.Prelude.{◌≡◌, ◌||◌, ◌==◌, ◌+◌, ◌≤◌, ◌∷◌, ◌<◌, ℕ, ℤ, IsTrue, IfOk, IfSome, IfNone, Some, None, Err, true, List, take, drop, length};
 ghost use Rattle.std.specs.List.{prefix_len};
 ghost use Rattle.std.specs.Char.{is_ascii_digit};
-ghost use Rattle.aterm_text.specs.Tokens.{is_blank, without_blanks, integer_len, IsInteger, escape_at, octal_at, is_plain, ReadsItems};
+ghost use Rattle.aterm_text.specs.Tokens.{is_blank, without_blanks, integer_len, IsInteger, escape_at, octal_at, ReadsItems};
+ghost use Rattle.aterm_text.specs.inside.Runs.{is_plain};
 
 use crate::escapes::{octal_byte, short_escape};
 use crate::reader::ReadFault;

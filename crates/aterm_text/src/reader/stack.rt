@@ -3,8 +3,8 @@
 
 ghost use Rattle.std.specs.Prelude.{◌≡◌, [], ◌≤◌, length, take, drop, IfOk, IfSome, IfNone, OnOk, OnErr, Some, None};
 ghost use Rattle.term_core.specs.Tree.{Tree, with_annotations, with_children};
-ghost use Rattle.aterm_text.specs.Stack.{Stack as Terms, no_terms, with_top, inside, first_closing};
-ghost use Rattle.aterm_text.specs.Depth.{depth};
+ghost use Rattle.aterm_text.specs.inside.Stack.{Stack as Terms, no_terms, with_top, inside, first_closing};
+ghost use Rattle.aterm_text.specs.inside.Depth.{depth};
 
 use crate::reader::open_brackets::{Bracket, OpenBrackets};
 use std::alloc::Global;
@@ -33,13 +33,13 @@ pub struct Stack {
 }
 
 impl Model for Stack {
-    ghost use Rattle.aterm_text.specs.Stack.{Stack as Terms, stack_code};
+    ghost use Rattle.aterm_text.specs.inside.Stack.{Stack as Terms, stack_code};
 
     ghost Value = { Terms };
 
     ghost coded = { stack_code };
 
-    ghost use Rattle.aterm_text.specs.StackView.{stack_of, IsStack};
+    ghost use Rattle.aterm_text.specs.inside.StackView.{stack_of, IsStack};
 
     ghost view = { stack_of };
 

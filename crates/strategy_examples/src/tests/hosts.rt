@@ -3,7 +3,7 @@
 
 ghost use Rattle.std.specs.Prelude.{◌≡◌, length, IfOk, codes};
 ghost use Rattle.prim_core.specs.Computes.{Computes};
-ghost use Rattle.prim_core.specs.Pick.{constant, choices as three_choices, pick};
+ghost use Rattle.prim_core.specs.inside.Pick.{constant, choices as three_choices, pick};
 
 use super::modules::first_wrong_beside;
 use super::rows::Row;

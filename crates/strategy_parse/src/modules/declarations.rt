@@ -1,8 +1,7 @@
 //! Declarations of constructors.
 
 ghost use Rattle.std.specs.Prelude.{◌≡◌, [], IfOk, Err, Some, None};
-ghost use Rattle.strategy_parse.specs.ModuleFronts.{sorts_at, listed};
-ghost use Rattle.strategy_parse.specs.ModuleFronts.{behind_arguments, declaration_at};
+ghost use Rattle.strategy_parse.specs.inside.ModuleFronts.{sorts_at, listed, behind_arguments, declaration_at};
 
 use crate::modules::sorts::{skip_sort, skip_sorts};
 use crate::modules::tokens::{behind_mark, expect_mark};

@@ -2,7 +2,7 @@
 
 ghost use Rattle.std.specs.Prelude.{◌≡◌, ◌<◌, List, length, IfOk, Err};
 ghost use Rattle.strategy_parse.specs.Core.{core_definition};
-ghost use Rattle.strategy_parse.specs.Definitions.{DefinitionEnds, DefinitionGives};
+ghost use Rattle.strategy_parse.specs.inside.Definitions.{DefinitionEnds, DefinitionGives};
 ghost use Rattle.strategy_parse.specs.GrammarModules.{ReadsDefined};
 ghost use Rattle.strategy_parse.specs.Written.{Defined};
 ghost use Rattle.strategy_tokens.specs.declared.token.Token.{Token};

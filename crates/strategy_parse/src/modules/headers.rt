@@ -2,8 +2,7 @@
 #![tactic(auto, using(crate::proofs::HeaderLemmas::header_rules))]
 
 ghost use Rattle.std.specs.Prelude.{◌≡◌, [], ◌∷◌, IfOk, Err, Some, None};
-ghost use Rattle.strategy_parse.specs.ModuleFronts.{names_at, more_names};
-ghost use Rattle.strategy_parse.specs.ModuleFronts.{make_header, parameters_at, header_at};
+ghost use Rattle.strategy_parse.specs.inside.ModuleFronts.{names_at, more_names, make_header, parameters_at, header_at};
 
 use crate::modules::tokens::{behind_mark, expect_mark};
 use crate::parser::{NameList, SyntaxFault};

@@ -3,7 +3,7 @@
 ghost use Rattle.std.specs.Prelude.{◌≡◌, ◌↔◌, ◌<◌, length, IfOk, Err};
 ghost use Rattle.strategy_syntax.specs.Modules as syntax;
 ghost use Rattle.strategy_parse.specs.Gives.{GivesModule};
-ghost use Rattle.strategy_parse.specs.Sections.{Left};
+ghost use Rattle.strategy_parse.specs.inside.Sections.{Left};
 ghost use Rattle.strategy_tokens.specs.Tokens.{tokens};
 
 use crate::ParseFault;

@@ -2,7 +2,7 @@
 
 ghost use Rattle.std.specs.Prelude.{◌≡◌, ◌<◌, ◌∷◌, length, IfOk, Err};
 ghost use Rattle.strategy_syntax.specs.Modules as syntax;
-ghost use Rattle.strategy_parse.specs.Sections.{IsItem, Left, Stands, in_signature, next_part};
+ghost use Rattle.strategy_parse.specs.inside.Sections.{IsItem, Left, Stands, in_signature, next_part};
 
 use crate::modules::declarations::read_declaration;
 use crate::modules::definitions::read_definition;

@@ -2,7 +2,7 @@
 #![tactic(auto, using(crate::proofs::SortLemmas::sort_rules))]
 
 ghost use Rattle.std.specs.Prelude.{◌≡◌, ◌<◌, ◌^◌, length, IfOk, Err, Some, None};
-ghost use Rattle.strategy_parse.specs.ModuleFronts.{sort_step, behind_sort, sorts_at, sort_at};
+ghost use Rattle.strategy_parse.specs.inside.ModuleFronts.{sort_step, behind_sort, sorts_at, sort_at};
 
 use crate::parser::SyntaxFault;
 use strategy_tokens::{Sign, Token, is_mark};

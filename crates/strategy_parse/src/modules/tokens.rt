@@ -2,9 +2,9 @@
 #![tactic(auto, using(crate::proofs::WordLemmas::word_rules))]
 
 ghost use Rattle.std.specs.Prelude.{◌≡◌, ◌∷◌, IfOk, IfSome, IfNone, Err, Some, None, false};
-ghost use Rattle.strategy_parse.specs.FreeNames.{next_token};
+ghost use Rattle.strategy_parse.specs.inside.FreeNames.{next_token};
 ghost use Rattle.strategy_tokens.specs.Marks.{is_word};
-ghost use Rattle.strategy_parse.specs.ModuleFronts.{behind_ident, behind_mark};
+ghost use Rattle.strategy_parse.specs.inside.ModuleFronts.{behind_ident, behind_mark};
 
 use crate::parser::SyntaxFault;
 use strategy_tokens::{Keyword, Sign, Token, is_mark, is_word};

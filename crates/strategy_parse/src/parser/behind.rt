@@ -2,9 +2,9 @@
 
 ghost use Rattle.std.specs.Prelude.{◌≡◌, IfOk, Err};
 ghost use Rattle.strategy_syntax.specs.Syntax as syntax;
-ghost use Rattle.strategy_parse.specs.Forms.{forms};
-ghost use Rattle.strategy_parse.specs.Machine as machine;
-ghost use Rattle.strategy_parse.specs.Machine.{no_operand};
+ghost use Rattle.strategy_parse.specs.inside.Forms.{forms};
+ghost use Rattle.strategy_parse.specs.inside.Machine as machine;
+ghost use Rattle.strategy_parse.specs.inside.Machine.{no_operand};
 
 use crate::parser::expect::{expect, expect_word};
 use crate::parser::fault::SyntaxFault;

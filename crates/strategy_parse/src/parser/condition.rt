@@ -2,9 +2,9 @@
 #![tactic(auto)]
 
 ghost use Rattle.std.specs.Prelude.{◌≡◌, ◌++◌, [], IfOk, Err, Some, None};
-ghost use Rattle.strategy_parse.specs.Forms.{forms};
-ghost use Rattle.strategy_parse.specs.FreeNames.{seen, names_seen};
-ghost use Rattle.strategy_parse.specs.Machine.{front, begin};
+ghost use Rattle.strategy_parse.specs.inside.Forms.{forms};
+ghost use Rattle.strategy_parse.specs.inside.FreeNames.{seen, names_seen};
+ghost use Rattle.strategy_parse.specs.inside.Machine.{front, begin};
 
 use crate::parser::fault::SyntaxFault;
 use crate::parser::lists::NameList;

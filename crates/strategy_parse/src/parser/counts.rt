@@ -2,7 +2,7 @@
 #![tactic(auto)]
 
 ghost use Rattle.std.specs.Prelude.{◌≡◌, ◌+◌, ◌∷◌, [], true, OnOk, OnSome, IfOk, IfSome};
-ghost use Rattle.strategy_parse.specs.Counts.{count, named, lefts_of, Raised};
+ghost use Rattle.strategy_parse.specs.inside.Counts.{count, named, lefts_of, Raised};
 ghost use Rattle.strategy_syntax.specs.Syntax.{patterns_of};
 
 use crate::parser::closure::add_variables;

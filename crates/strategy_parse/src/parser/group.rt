@@ -4,7 +4,7 @@
 ghost use Rattle.std.specs.Prelude.{◌≡◌, IfOk};
 ghost use Rattle.strategy_syntax.specs.Syntax as syntax;
 ghost use Rattle.strategy_parse.specs.Core.{in_brackets};
-ghost use Rattle.strategy_parse.specs.Machine as machine;
+ghost use Rattle.strategy_parse.specs.inside.Machine as machine;
 
 use crate::parser::lists::{PatternList, StrategyList};
 use crate::parser::state::{PatternGroup, State, StrategyGroup};

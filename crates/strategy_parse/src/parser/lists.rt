@@ -16,7 +16,7 @@ impl Model for NameList {
     ghost use Rattle.std.specs.Prelude.{List};
     ghost use Rattle.std.specs.Coded.{coded_list};
     ghost use Rattle.term_core.specs.Tree.{Symbol};
-    ghost use Rattle.term_core.specs.TreeCode.{symbol_code};
+    ghost use Rattle.term_core.specs.inside.TreeCode.{symbol_code};
 
     ghost Value = { List Symbol };
 
@@ -67,7 +67,7 @@ impl Model for PatternList {
     ghost use Rattle.std.specs.Prelude.{List};
     ghost use Rattle.std.specs.Coded.{coded_list};
     ghost use Rattle.strategy_syntax.specs.Syntax.{Pattern};
-    ghost use Rattle.strategy_syntax.specs.Codes.{pattern_code};
+    ghost use Rattle.strategy_syntax.specs.inside.Codes.{pattern_code};
 
     ghost Value = { List Pattern };
 
@@ -112,7 +112,7 @@ impl Model for StrategyList {
     ghost use Rattle.std.specs.Prelude.{List};
     ghost use Rattle.std.specs.Coded.{coded_list};
     ghost use Rattle.strategy_syntax.specs.Syntax.{Strategy};
-    ghost use Rattle.strategy_syntax.specs.Codes.{strategy_code};
+    ghost use Rattle.strategy_syntax.specs.inside.Codes.{strategy_code};
 
     ghost Value = { List Strategy };
 

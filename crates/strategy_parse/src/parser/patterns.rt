@@ -2,9 +2,9 @@
 
 ghost use Rattle.std.specs.Prelude.{◌≡◌, ◌∷◌, [], IfOk, Err, List};
 ghost use Rattle.strategy_syntax.specs.Syntax as syntax;
-ghost use Rattle.strategy_parse.specs.Forms.{forms};
-ghost use Rattle.strategy_parse.specs.Machine as machine;
-ghost use Rattle.strategy_parse.specs.Machine.{no_at};
+ghost use Rattle.strategy_parse.specs.inside.Forms.{forms};
+ghost use Rattle.strategy_parse.specs.inside.Machine as machine;
+ghost use Rattle.strategy_parse.specs.inside.Machine.{no_at};
 ghost use Rattle.strategy_parse.specs.declared.parser.state.Frame.{Frame};
 
 use crate::parser::behind::behind;

@@ -3,10 +3,10 @@
 ghost use Rattle.std.specs.Prelude.{◌≡◌, List, IfOk, Err, Some, None};
 ghost use Rattle.strategy_syntax.specs.Syntax as syntax;
 ghost use Rattle.strategy_parse.specs.Core.{core};
-ghost use Rattle.strategy_parse.specs.Forms.{forms};
-ghost use Rattle.strategy_parse.specs.Fronts.{FrontGives, Stops};
+ghost use Rattle.strategy_parse.specs.inside.Forms.{forms};
+ghost use Rattle.strategy_parse.specs.inside.Fronts.{FrontGives, Stops};
 ghost use Rattle.strategy_parse.specs.Grammar.{ReadsChoice, ReadsPattern};
-ghost use Rattle.strategy_parse.specs.Machine.{front, step as step_of};
+ghost use Rattle.strategy_parse.specs.inside.Machine.{front, step as step_of};
 ghost use Rattle.strategy_parse.specs.Written.{Choice};
 ghost use Rattle.strategy_tokens.specs.declared.token.Token.{Token};
 

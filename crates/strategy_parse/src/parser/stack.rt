@@ -1,8 +1,8 @@
 //! The open forms, the innermost on top.
-#![tactic(auto, unfolding(crate::specs::Forms::forms))]
+#![tactic(auto, unfolding(crate::specs::inside::Forms::forms))]
 
 ghost use Rattle.std.specs.Prelude.{◌≡◌, true};
-ghost use Rattle.strategy_parse.specs.Counts.{IsCounted};
+ghost use Rattle.strategy_parse.proofs.CountLemmas.{IsCounted};
 
 use crate::parser::counts::{count, lower_form, raise_form};
 use crate::parser::state::{Frame, Infix};
@@ -24,9 +24,9 @@ pub struct Stack {
 
 impl Stack {
     ghost use Rattle.std.specs.Prelude.{◌≡◌, ◌∷◌, [], IfOk, IfSome, IfNone, OnOk, true, false, Some, None, reverse};
-    ghost use Rattle.strategy_parse.specs.Machine.{no_operand, no_at, HasOperand};
-    ghost use Rattle.strategy_parse.specs.Forms.{forms};
-    ghost use Rattle.strategy_parse.specs.FreeNames.{is_hidden};
+    ghost use Rattle.strategy_parse.specs.inside.Machine.{no_operand, no_at, HasOperand};
+    ghost use Rattle.strategy_parse.specs.inside.Forms.{forms};
+    ghost use Rattle.strategy_parse.specs.inside.FreeNames.{is_hidden};
     ghost use Rattle.strategy_parse.specs.declared.parser.state.Frame.{Frame};
 
     /// An empty stack.

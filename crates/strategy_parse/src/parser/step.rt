@@ -1,8 +1,8 @@
 //! One step of the parser.
 
 ghost use Rattle.std.specs.Prelude.{◌≡◌, ◌∷◌, [], IfOk, Err, List};
-ghost use Rattle.strategy_parse.specs.Forms.{forms};
-ghost use Rattle.strategy_parse.specs.Machine as machine;
+ghost use Rattle.strategy_parse.specs.inside.Forms.{forms};
+ghost use Rattle.strategy_parse.specs.inside.Machine as machine;
 ghost use Rattle.strategy_parse.specs.declared.parser.state.Frame.{Frame};
 ghost use Rattle.strategy_syntax.specs.Syntax as syntax;
 

@@ -3,8 +3,8 @@
 ghost use Rattle.std.specs.Prelude.{◌≡◌, ◌∷◌, [], IfOk, Err, List};
 ghost use Rattle.strategy_parse.specs.declared.parser.state.Frame.{Frame};
 ghost use Rattle.strategy_syntax.specs.Syntax as syntax;
-ghost use Rattle.strategy_parse.specs.Forms.{forms};
-ghost use Rattle.strategy_parse.specs.Machine as machine;
+ghost use Rattle.strategy_parse.specs.inside.Forms.{forms};
+ghost use Rattle.strategy_parse.specs.inside.Machine as machine;
 
 use crate::parser::fault::SyntaxFault;
 use crate::parser::group::{closing_of, make_group};

@@ -1,6 +1,6 @@
 use Rattle.std.proofs.Common.{◌≡◌, ◌≤◌, max, drop}
 use Rattle.aterm_text.specs.Nesting.{nesting, greatest_open}
-use Rattle.aterm_text.specs.NestingPlaces.{counted}
+use Rattle.aterm_text.proofs.NestingLemmas.{counted}
 use Rattle.aterm_text.proofs.brackets.nesting.Given as goal
 
 abbrev pub invariant-loop-byte : goal.invariant-loop-byte

@@ -3,7 +3,7 @@ use Rattle.term_core.specs.Tree.{of_list}
 use Rattle.term_core.specs.Size.{height, heights}
 use Rattle.term_core.specs.Terms.{AreTerms}
 use Rattle.aterm_text.specs.Printed.{print_more}
-use Rattle.aterm_text.specs.Printing.{Extends}
+use Rattle.aterm_text.specs.inside.Printing.{Extends}
 use Rattle.aterm_text.proofs.printer.+print.Given as goal
 
 abbrev pub decreases-print_term : goal.decreases-print_term

@@ -2,7 +2,7 @@ use Rattle.std.proofs.Common.{◌≡◌, ◌++◌, sym, ap, ◌∙◌, arith, le
 use Rattle.std.specs.List.{flat_map}
 use Rattle.std.proofs.lemmas.List.Sums.{prefix_len-le-length}
 use Rattle.aterm_text.specs.Printed.{escaped}
-use Rattle.aterm_text.specs.Printing.{is_plain}
+use Rattle.aterm_text.specs.inside.Printing.{is_plain}
 use Rattle.aterm_text.proofs.PrintLemmas.{escaped-all, escaped-split, escape-behind, extends-append, extends-trans}
 use Rattle.aterm_text.proofs.printer.print_escaped.Goals as goal
 

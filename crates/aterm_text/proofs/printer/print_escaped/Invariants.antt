@@ -1,7 +1,7 @@
 use Rattle.std.proofs.Common.{◌≡◌, ◌≤◌, vec_capacity, ◌++◌, length}
 use Rattle.std.specs.List.{flat_map}
 use Rattle.aterm_text.specs.Printed.{escaped}
-use Rattle.aterm_text.specs.Printing.{Extends}
+use Rattle.aterm_text.specs.inside.Printing.{Extends}
 use Rattle.aterm_text.proofs.printer.print_escaped.Given as goal
 
 -- what was printed, followed by what is yet to be printed, is the whole text

@@ -1,4 +1,4 @@
-use Rattle.aterm_text.specs.Unread.{expected}
+use Rattle.aterm_text.specs.inside.Unread.{expected}
 use Rattle.aterm_text.proofs.ReadLemmas.{spells-unread, unread-spells, stands-expected, met_term}
 use Rattle.aterm_text.proofs.reader.read.Goals as goal
 

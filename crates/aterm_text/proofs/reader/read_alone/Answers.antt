@@ -1,7 +1,7 @@
 use Rattle.std.proofs.Common.{[], sym, ◌∙◌, subst, arith}
 use Rattle.term_core.specs.Tree.{list_term}
 use Rattle.aterm_text.specs.Grammar.{SpellsAnnotations}
-use Rattle.aterm_text.specs.Unread.{base}
+use Rattle.aterm_text.specs.inside.Unread.{base}
 use Rattle.aterm_text.proofs.ReadLemmas.{unread-spells_annotations, spells_annotations-unread, only_annotations, stands-bearer}
 use Rattle.aterm_text.proofs.DepthLemmas.{behind_trim, too-deep-after}
 use Rattle.aterm_text.proofs.reader.read_alone.Goals as goal

@@ -1,5 +1,5 @@
 use Rattle.std.proofs.Common.{◌≡◌, length, drop}
-use Rattle.change_plans.specs.LogView.{depths}
+use Rattle.change_plans.specs.inside.LogView.{depths}
 use Rattle.change_plans.proofs.LogLemmas.{FlippedTo, path_begin}
 use Rattle.change_log.proofs.log.flip_forward.Given as goal
 

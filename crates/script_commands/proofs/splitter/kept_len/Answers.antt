@@ -1,5 +1,5 @@
 use Rattle.std.proofs.Common.{sym}
-use Rattle.script_commands.specs.Splitting.{ends_run}
+use Rattle.script_commands.specs.inside.Passing.{ends_run}
 use Rattle.script_commands.proofs.SplitRunLemmas.{found_place, no_place}
 use Rattle.script_commands.proofs.splitter.kept_len.Goals as goal
 

@@ -1,6 +1,6 @@
 use Rattle.std.proofs.Common.{◌≡◌, ◌≤◌, ◌++◌, ◌∷◌, vec_capacity, drop}
 use Rattle.std.specs.List.{flat_map}
-use Rattle.aterm_text.specs.Printing.{Extends}
+use Rattle.aterm_text.specs.inside.Printing.{Extends}
 use Rattle.script_forms.proofs.lines.append_names.Given as goal
 
 -- the names written so far, followed by those still to come, are the whole line

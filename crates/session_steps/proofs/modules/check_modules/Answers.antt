@@ -1,6 +1,5 @@
 use Rattle.std.proofs.Common.{sym, ap, subst, ◌∙◌, inr, refl}
-use Rattle.strategy_check.specs.Faults.{faults, first}
-use Rattle.strategy_check.specs.Faults.{IsTold}
+use Rattle.strategy_check.specs.Faults.{faults, first, IsTold}
 use Rattle.session_steps.proofs.modules.check_modules.Goals as goal
 
 pub returns-clause-refused : goal.returns-clause-refused

@@ -1,7 +1,7 @@
 use Rattle.std.proofs.Common.{◌≡◌, ◌+◌, ◌*◌, max, take}
 use Rattle.strategy_syntax.specs.Syntax.{strategies_of}
 use Rattle.strategy_syntax.specs.Resolved.{resolveds_of}
-use Rattle.strategy_syntax.specs.StrategyView.{depth, depths}
+use Rattle.strategy_syntax.specs.inside.StrategyDepth.{depth, depths}
 use Rattle.strategy_check.specs.Resolving.{resolved_strategies}
 use Rattle.strategy_check.proofs.bodies.+strategy.Given as goal
 

@@ -1,7 +1,7 @@
 use Rattle.std.proofs.Common.{◌≡◌, ◌+◌, ◌*◌, drop}
 use Rattle.strategy_syntax.specs.Syntax.{patterns_of}
-use Rattle.strategy_syntax.specs.PatternView.{pattern_depth, patterns_depth}
-use Rattle.strategy_check.specs.Met.{met_in_patterns}
+use Rattle.strategy_syntax.specs.inside.PatternDepth.{pattern_depth, patterns_depth}
+use Rattle.strategy_check.specs.inside.Met.{met_in_patterns}
 use Rattle.strategy_check.proofs.free.+pattern.Given as goal
 
 abbrev pub decreases-meet_in_pattern : goal.decreases-meet_in_pattern

@@ -1,7 +1,7 @@
 use Rattle.std.proofs.Common.{◌≡◌, ◌+◌, ◌*◌, drop}
 use Rattle.strategy_syntax.specs.Syntax.{strategies_of}
-use Rattle.strategy_syntax.specs.StrategyView.{depth, depths}
-use Rattle.strategy_check.specs.Met.{met_in_strategies}
+use Rattle.strategy_syntax.specs.inside.StrategyDepth.{depth, depths}
+use Rattle.strategy_check.specs.inside.Met.{met_in_strategies}
 use Rattle.strategy_check.proofs.free.+strategy.Given as goal
 
 abbrev pub decreases-meet_in_strategy : goal.decreases-meet_in_strategy

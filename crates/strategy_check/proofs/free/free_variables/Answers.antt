@@ -1,6 +1,6 @@
 use Rattle.std.proofs.Common.{ap, ◌∙◌}
 use Rattle.strategy_check.specs.Binders.{bound_from}
-use Rattle.strategy_check.specs.Met.{met_in_strategy}
+use Rattle.strategy_check.specs.inside.Met.{met_in_strategy}
 use Rattle.strategy_check.proofs.FreeLemmas.{met_free}
 use Rattle.strategy_check.proofs.free.free_variables.Goals as goal
 

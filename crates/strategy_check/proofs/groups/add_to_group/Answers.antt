@@ -4,7 +4,7 @@ use Rattle.std.proofs.lemmas.Bool.{ltb-true}
 use Rattle.term_core.specs.Tree.{Symbol}
 use Rattle.strategy_syntax.specs.Modules.{Definition}
 use Rattle.strategy_check.specs.Tables.{Table, definition_number}
-use Rattle.strategy_check.specs.Grouping.{with_numbered, with_definition}
+use Rattle.strategy_check.specs.inside.Grouping.{with_numbered, with_definition}
 use Rattle.strategy_check.proofs.GroupLemmas.{set_member, no_member}
 use Rattle.strategy_check.proofs.groups.add_to_group.Goals as goal
 

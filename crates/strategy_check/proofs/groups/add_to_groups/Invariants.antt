@@ -1,5 +1,5 @@
 use Rattle.std.proofs.Common.{◌≡◌, drop}
-use Rattle.strategy_check.specs.Grouping.{with_definitions}
+use Rattle.strategy_check.specs.inside.Grouping.{with_definitions}
 use Rattle.strategy_check.proofs.groups.add_to_groups.Given as goal
 
 -- the rest gives what the whole gave

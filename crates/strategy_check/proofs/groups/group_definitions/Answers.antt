@@ -1,6 +1,6 @@
 use Rattle.std.proofs.Common.{◌+◌, [], length, replicate, drop, ap, ◌∙◌}
 use Rattle.strategy_check.specs.Tables.{definitions_of}
-use Rattle.strategy_check.specs.Grouping.{with_definitions}
+use Rattle.strategy_check.specs.inside.Grouping.{with_definitions}
 use Rattle.strategy_check.proofs.ListLemmas.{turn, end}
 use Rattle.strategy_check.proofs.GroupLemmas.{with_definitions-append, all_grouped}
 use Rattle.strategy_check.proofs.groups.group_definitions.Goals as goal

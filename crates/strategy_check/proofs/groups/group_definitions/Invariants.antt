@@ -1,6 +1,6 @@
 use Rattle.std.proofs.Common.{◌≡◌, [], length, replicate, drop}
 use Rattle.strategy_check.specs.Tables.{definitions_of}
-use Rattle.strategy_check.specs.Grouping.{with_definitions}
+use Rattle.strategy_check.specs.inside.Grouping.{with_definitions}
 use Rattle.strategy_check.proofs.groups.group_definitions.Given as goal
 
 -- the rest gives what the whole gave

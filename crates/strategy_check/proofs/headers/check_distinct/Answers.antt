@@ -1,6 +1,6 @@
 use Rattle.std.proofs.Common.{◌++◌, ap, sym, ◌∙◌}
 use Rattle.std.proofs.lemmas.List.{drop_all, take_all}
-use Rattle.strategy_check.specs.FirstFault.{first_repeated}
+use Rattle.strategy_check.specs.inside.FirstFault.{first_repeated}
 use Rattle.strategy_check.proofs.FaultLemmas.{told_on, name_passed, name_told, one_more}
 use Rattle.strategy_check.proofs.headers.check_distinct.Goals as goal
 

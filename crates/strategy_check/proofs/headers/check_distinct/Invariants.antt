@@ -1,5 +1,5 @@
 use Rattle.std.proofs.Common.{◌≡◌, ◌++◌, take, drop}
-use Rattle.strategy_check.specs.FirstFault.{first_repeated}
+use Rattle.strategy_check.specs.inside.FirstFault.{first_repeated}
 use Rattle.strategy_check.proofs.headers.check_distinct.Given as goal
 
 -- the first fault of the rest is that of the whole, and the names so far are in the set

@@ -1,6 +1,6 @@
 use Rattle.std.proofs.Common.{◌≡◌, [], ◌++◌, None, ap, sym, ◌∙◌, subst}
 use Rattle.strategy_check.specs.Faults.{IsTold}
-use Rattle.strategy_check.specs.FirstFault.{Tells, first_repeated}
+use Rattle.strategy_check.specs.inside.FirstFault.{Tells, first_repeated}
 use Rattle.strategy_check.proofs.FaultLemmas.{told_on, told_first, told_behind, first_repeated-append}
 use Rattle.strategy_check.proofs.headers.check_names.Goals as goal
 

@@ -1,5 +1,5 @@
 use Rattle.std.proofs.Common.{refl}
-use Rattle.strategy_check.specs.FirstFault.{first_in_definition, first_in_definitions}
+use Rattle.strategy_check.specs.inside.FirstFault.{first_in_definition, first_in_definitions}
 use Rattle.strategy_check.proofs.FaultLemmas.{passed, told_on, told_at, all_passed}
 use Rattle.strategy_check.proofs.modules.check_definitions.Goals as goal
 

@@ -1,5 +1,5 @@
 use Rattle.std.proofs.Common.{◌≡◌, drop}
-use Rattle.strategy_check.specs.FirstFault.{first_in_definitions}
+use Rattle.strategy_check.specs.inside.FirstFault.{first_in_definitions}
 use Rattle.strategy_check.proofs.modules.check_definitions.Given as goal
 
 -- the first fault of the rest is that of the whole

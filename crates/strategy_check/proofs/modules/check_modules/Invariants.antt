@@ -1,5 +1,5 @@
 use Rattle.std.proofs.Common.{◌≡◌, [], drop}
-use Rattle.strategy_check.specs.FirstFault.{first_in_modules}
+use Rattle.strategy_check.specs.inside.FirstFault.{first_in_modules}
 use Rattle.strategy_check.proofs.modules.check_modules.Given as goal
 
 -- the first fault of the rest is that of the whole

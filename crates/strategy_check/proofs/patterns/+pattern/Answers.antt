@@ -1,6 +1,6 @@
 use Rattle.std.proofs.Common.{refl}
 use Rattle.strategy_syntax.specs.Syntax.{patterns_of}
-use Rattle.strategy_check.specs.FirstFault.{first_in_pattern, first_in_patterns}
+use Rattle.strategy_check.specs.inside.FirstFault.{first_in_pattern, first_in_patterns}
 use Rattle.strategy_check.proofs.FaultLemmas.{passed, told_on, told_at, all_passed}
 use Rattle.strategy_check.proofs.patterns.+pattern.Goals as goal
 

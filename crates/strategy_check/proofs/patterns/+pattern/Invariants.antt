@@ -1,7 +1,7 @@
 use Rattle.std.proofs.Common.{◌≡◌, ◌+◌, ◌*◌, drop}
 use Rattle.strategy_syntax.specs.Syntax.{patterns_of}
-use Rattle.strategy_syntax.specs.PatternView.{pattern_depth, patterns_depth}
-use Rattle.strategy_check.specs.FirstFault.{first_in_patterns}
+use Rattle.strategy_syntax.specs.inside.PatternDepth.{pattern_depth, patterns_depth}
+use Rattle.strategy_check.specs.inside.FirstFault.{first_in_patterns}
 use Rattle.strategy_check.proofs.patterns.+pattern.Given as goal
 
 abbrev pub decreases-check_pattern : goal.decreases-check_pattern

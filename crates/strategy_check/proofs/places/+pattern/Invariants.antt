@@ -1,7 +1,7 @@
 use Rattle.std.proofs.Common.{◌≡◌, ◌+◌, ◌*◌, take}
 use Rattle.strategy_syntax.specs.Syntax.{patterns_of}
 use Rattle.strategy_syntax.specs.Resolved.{places_of}
-use Rattle.strategy_syntax.specs.PatternView.{pattern_depth, patterns_depth}
+use Rattle.strategy_syntax.specs.inside.PatternDepth.{pattern_depth, patterns_depth}
 use Rattle.strategy_check.specs.Resolving.{places}
 use Rattle.strategy_check.proofs.places.+pattern.Given as goal
 

@@ -1,7 +1,7 @@
 use Rattle.std.proofs.Common.{[], map, ap, sym, ◌∙◌, subst}
 use Rattle.strategy_check.specs.Tables.{table_of, definitions_of}
 use Rattle.strategy_check.specs.Faults.{faults, first, IsTold}
-use Rattle.strategy_check.specs.FirstFault.{first_in_modules}
+use Rattle.strategy_check.specs.inside.FirstFault.{first_in_modules}
 use Rattle.strategy_check.specs.Programs.{joined_definition, groups}
 use Rattle.strategy_check.specs.Ranges.{BodiesInRange}
 use Rattle.strategy_check.proofs.FaultLemmas.{told_err}

@@ -1,6 +1,6 @@
 use Rattle.std.proofs.Common.{[], ap, sym, ◌∙◌, subst}
 use Rattle.strategy_check.specs.Faults.{first, IsTold}
-use Rattle.strategy_check.specs.FirstFault.{first_in_strategy}
+use Rattle.strategy_check.specs.inside.FirstFault.{first_in_strategy}
 use Rattle.strategy_check.specs.Programs.{Program, faults_of, resolved}
 use Rattle.strategy_check.specs.Ranges.{IsInRange}
 use Rattle.strategy_check.proofs.FaultLemmas.{told_err}

@@ -1,7 +1,7 @@
 use Rattle.std.proofs.Common.{◌≡◌, None, refl, ◌∙◌, subst}
 use Rattle.strategy_syntax.specs.Syntax.{strategies_of}
 use Rattle.strategy_check.specs.Faults.{IsTold}
-use Rattle.strategy_check.specs.FirstFault.{first_in_strategy, first_in_strategies}
+use Rattle.strategy_check.specs.inside.FirstFault.{first_in_strategy, first_in_strategies}
 use Rattle.strategy_check.proofs.FaultLemmas.{passed, told_on, told_at, all_passed}
 use Rattle.strategy_check.proofs.strategies.+strategy.Goals as goal
 

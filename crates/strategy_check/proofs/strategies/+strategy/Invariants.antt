@@ -1,7 +1,7 @@
 use Rattle.std.proofs.Common.{◌≡◌, ◌+◌, ◌*◌, drop}
 use Rattle.strategy_syntax.specs.Syntax.{strategies_of}
-use Rattle.strategy_syntax.specs.StrategyView.{depth, depths}
-use Rattle.strategy_check.specs.FirstFault.{first_in_strategies}
+use Rattle.strategy_syntax.specs.inside.StrategyDepth.{depth, depths}
+use Rattle.strategy_check.specs.inside.FirstFault.{first_in_strategies}
 use Rattle.strategy_check.proofs.strategies.+strategy.Given as goal
 
 abbrev pub decreases-check_strategy : goal.decreases-check_strategy

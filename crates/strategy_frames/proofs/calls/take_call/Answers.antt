@@ -2,7 +2,7 @@ use Rattle.std.proofs.Common.{refl, sym, subst}
 use Rattle.strategy_frames.specs.Turns.{state_of}
 use Rattle.strategy_frames.proofs.TakeLemmas.{with_cells, take_failed, take_stops}
 use Rattle.strategy_frames.proofs.CallLemmas.{form_cells, undefined_is, entered, slice_past, slice_there}
-use Rattle.strategy_frames.specs.Arguments.{AreBuilt}
+use Rattle.strategy_frames.specs.inside.Arguments.{AreBuilt}
 use Rattle.strategy_frames.specs.declared.arguments.BuiltAll.{BuiltAll}
 use Rattle.strategy_frames.specs.declared.arguments.BuiltAll.TheVariants.{All}
 use Rattle.strategy_syntax.specs.Resolved.{places_of, resolveds_of}

@@ -1,10 +1,9 @@
 use Rattle.std.proofs.Common.{refl, sym, ap, ◌∙◌, subst, Some}
-use Rattle.strategy_frames.specs.Turns.{state_of}
+use Rattle.strategy_frames.specs.Turns.{state_of, world_of}
 use Rattle.strategy_frames.proofs.TakeLemmas.{with_cells, take_failed, take_stops, unbuilt_is, big_is, replaced_in}
-use Rattle.strategy_frames.specs.Arguments.{AreBuilt}
+use Rattle.strategy_frames.specs.inside.Arguments.{AreBuilt}
 use Rattle.strategy_frames.specs.declared.arguments.BuiltAll.{BuiltAll}
 use Rattle.strategy_meaning.specs.Meaning.{primitive_answer}
-use Rattle.strategy_frames.specs.Turns.{world_of}
 use Rattle.term_core.specs.Size.{fits}
 use Rattle.strategy_syntax.specs.Resolved.{places_of}
 use Rattle.strategy_meaning.specs.Scopes.{cells_in}

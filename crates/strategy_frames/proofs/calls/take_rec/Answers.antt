@@ -1,7 +1,7 @@
 use Rattle.std.proofs.Common.{sym, subst, reverse}
 use Rattle.strategy_scopes.specs.Table.{scopes}
 use Rattle.strategy_frames.specs.Turns.{State, HoldsIn, state_of}
-use Rattle.strategy_frames.specs.Endings.{frames_of}
+use Rattle.strategy_frames.specs.inside.Endings.{frames_of}
 use Rattle.strategy_frames.specs.Hands.{Begin}
 use Rattle.term_changes.specs.Standing.{Standing}
 use Rattle.strategy_frames.proofs.TakeLemmas.{take_named}

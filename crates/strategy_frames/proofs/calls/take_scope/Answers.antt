@@ -4,7 +4,7 @@ use Rattle.strategy_meaning.specs.Scopes.{with_variables}
 use Rattle.term_match.specs.Contents.{Contents}
 use Rattle.term_match.specs.Marks.{mark_of, Before, Stays}
 use Rattle.strategy_frames.specs.Turns.{State, HoldsIn, state_of}
-use Rattle.strategy_frames.specs.Endings.{frames_of}
+use Rattle.strategy_frames.specs.inside.Endings.{frames_of}
 use Rattle.strategy_frames.specs.Hands.{Begin}
 use Rattle.term_changes.specs.Standing.{Standing}
 use Rattle.strategy_frames.proofs.TakeLemmas.{take_opened}

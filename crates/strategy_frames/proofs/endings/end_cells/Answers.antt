@@ -1,7 +1,7 @@
 use Rattle.std.proofs.Common.{refl, sym, ◌∙◌, ◌∷◌, subst, reverse, arith, List}
 use Rattle.strategy_scopes.specs.Table.{scopes}
 use Rattle.strategy_frames.specs.Turns.{state_of}
-use Rattle.strategy_frames.specs.Endings.{LeavesCells, AnswersIn, with_those}
+use Rattle.strategy_frames.specs.inside.Endings.{LeavesCells, AnswersIn, with_those}
 use Rattle.strategy_frames.specs.declared.frames.Frame.{Frame}
 use Rattle.strategy_frames.specs.declared.frames.Frame.TheVariants.{Cut}
 use Rattle.strategy_frames.proofs.OpenLemmas.{pushed}

@@ -1,7 +1,7 @@
 use Rattle.std.proofs.Common.{◌≤◌, ℕ}
 use Rattle.term_changes.specs.Standing.{standing_tree}
 use Rattle.strategy_scopes.specs.Table.{scopes}
-use Rattle.strategy_frames.specs.Missing.{FailsAhead}
+use Rattle.strategy_frames.specs.inside.Missing.{FailsAhead}
 use Rattle.strategy_frames.proofs.heads.+left_by_failure.Given as goal
 
 abbrev pub decreases-left_by_failure : goal.decreases-left_by_failure

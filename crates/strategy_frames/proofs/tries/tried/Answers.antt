@@ -1,7 +1,7 @@
 use Rattle.std.proofs.Common.{sym, ap, ◌∙◌, subst}
 use Rattle.strategy_syntax.specs.Resolved.{guard}
 use Rattle.strategy_syntax.specs.ResolvedView.{resolved_of}
-use Rattle.strategy_frames.specs.Tries.{IsItself}
+use Rattle.strategy_frames.specs.inside.Tries.{IsItself}
 use Rattle.strategy_frames.proofs.CallLemmas.{slice_there}
 use Rattle.strategy_frames.proofs.HeadLemmas.{no_patterns}
 use Rattle.strategy_frames.proofs.TryLemmas.{alone, only_one}

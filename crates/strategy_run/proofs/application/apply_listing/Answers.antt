@@ -3,7 +3,8 @@ use Rattle.std.specs.Prelude.{option_copied}
 use Rattle.change_plans.specs.Slots.{content}
 use Rattle.strategy_meaning.specs.Applied.{applied}
 use Rattle.strategy_frames.specs.Turns.{world_of}
-use Rattle.strategy_run.specs.Applies.{Finds, FindsAll, applied_in}
+use Rattle.strategy_run.specs.inside.Finding.{Finds, FindsAll}
+use Rattle.strategy_run.specs.Applies.{applied_in}
 use Rattle.strategy_run.specs.declared.application.Found.{Found}
 use Rattle.strategy_run.proofs.ApplyLemmas.{puts, in_tree, in_none, low_there}
 use Rattle.strategy_run.proofs.application.apply_listing.Goals as goal

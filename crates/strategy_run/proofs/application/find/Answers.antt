@@ -5,7 +5,7 @@ use Rattle.term_paths.specs.Paths.{at}
 use Rattle.change_log.specs.declared.store.Store.{Store}
 use Rattle.change_plans.specs.Slots.{content}
 use Rattle.strategy_meaning.specs.Applied.{applied}
-use Rattle.strategy_run.specs.Applies.{Finds}
+use Rattle.strategy_run.specs.inside.Finding.{Finds}
 use Rattle.strategy_frames.specs.Trails.{Shows}
 use Rattle.strategy_frames.specs.Turns.{world_of}
 use Rattle.strategy_run.proofs.ApplyLemmas.{applied_nowhere, low_part}

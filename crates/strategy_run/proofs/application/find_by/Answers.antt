@@ -2,8 +2,8 @@ use Rattle.std.proofs.Common.{length, subst}
 use Rattle.term_changes.specs.Standing.{unchanged}
 use Rattle.strategy_meaning.specs.Meaning.{run_whole}
 use Rattle.strategy_frames.specs.Turns.{world_of, state_of}
-use Rattle.strategy_run.specs.Ends.{Ends}
-use Rattle.strategy_run.specs.Applies.{Lists}
+use Rattle.strategy_run.specs.inside.Runs.{Ends}
+use Rattle.strategy_run.specs.inside.Finding.{Lists}
 use Rattle.strategy_run.specs.declared.evaluation.Ended.{Ended}
 use Rattle.strategy_run.proofs.ApplyLemmas.{finds, applied_there}
 use Rattle.strategy_run.proofs.application.find_by.Goals as goal

@@ -1,6 +1,6 @@
 use Rattle.std.proofs.Common.{◌∙◌, ap, subst, ◌==◌, Vec, Global}
 use Rattle.term_changes.specs.Standing.{Standing, standing_children}
-use Rattle.strategy_frames.specs.Leading.{Fills}
+use Rattle.strategy_frames.specs.inside.Filling.{Fills}
 use Rattle.strategy_frames.proofs.PartsLemmas.{finished_parts, finished_can_hold, finished_is, unfinished_is}
 use Rattle.strategy_run.proofs.children.finish.Goals as goal
 

@@ -2,7 +2,8 @@ use Rattle.std.proofs.Common.{sym, subst}
 use Rattle.std.specs.Prelude.{IfOk}
 use Rattle.strategy_frames.proofs.FormLemmas.{begin_there, each_stands, those_stand}
 use Rattle.strategy_frames.specs.Hands.{hand_of}
-use Rattle.strategy_frames.specs.Turns.{Holds, Turn, Falls, world_of}
+use Rattle.strategy_frames.specs.Turns.{Holds, world_of}
+use Rattle.strategy_frames.specs.inside.Turning.{Turn, Falls}
 use Rattle.strategy_frames.specs.declared.frames.Next.{Next}
 use Rattle.strategy_run.proofs.evaluation.turn.Goals as goal
 

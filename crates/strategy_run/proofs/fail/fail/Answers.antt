@@ -3,7 +3,8 @@ use Rattle.strategy_scopes.specs.Table.{scopes}
 use Rattle.strategy_frames.proofs.GiveLemmas.{st}
 use Rattle.strategy_frames.proofs.FirstLemmas.{fail_head, fail_behind}
 use Rattle.strategy_frames.proofs.FailLemmas.{fail_then, fail_choice, fail_test, fail_each, fail_leftmost, fail_those, fail_tail, fail_rest, fail_leave, fail_cut}
-use Rattle.strategy_frames.specs.Turns.{HoldsIn, under}
+use Rattle.strategy_frames.specs.Turns.{HoldsIn}
+use Rattle.strategy_frames.specs.inside.Turning.{under}
 use Rattle.strategy_frames.specs.Hands.{Begin, Failed, Leftmost, Those}
 use Rattle.strategy_run.proofs.fail.fail.Goals as goal
 

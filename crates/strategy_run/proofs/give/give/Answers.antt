@@ -2,7 +2,8 @@ use Rattle.std.proofs.Common.{reverse, sym, subst}
 use Rattle.strategy_scopes.specs.Table.{scopes}
 use Rattle.strategy_frames.proofs.GiveLemmas.{st, give_then, give_choice, give_test, give_leave, give_cut}
 use Rattle.std.specs.Prelude.{IfOk}
-use Rattle.strategy_frames.specs.Turns.{HoldsIn, Gives, under}
+use Rattle.strategy_frames.specs.Turns.{HoldsIn}
+use Rattle.strategy_frames.specs.inside.Turning.{Gives, under}
 use Rattle.strategy_frames.specs.Hands.{Done}
 use Rattle.strategy_run.proofs.give.give.Goals as goal
 

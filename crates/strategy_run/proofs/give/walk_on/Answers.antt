@@ -1,7 +1,7 @@
 use Rattle.std.proofs.Common.{◌≡◌, ℕ, refl, sym, ap, subst, cond, Bool, true, false}
 use Rattle.std.specs.Prelude.{IfOk}
 use Rattle.term_changes.specs.Standing.{Standing}
-use Rattle.strategy_frames.specs.Frames.{StepsOn, WalksOn}
+use Rattle.strategy_frames.specs.inside.Walks.{StepsOn, WalksOn}
 use Rattle.strategy_frames.specs.declared.frames.Acts.{Acts}
 use Rattle.strategy_frames.specs.declared.frames.Walk.{Walk}
 use Rattle.strategy_frames.specs.declared.frames.Frame.{Frame}

@@ -4,7 +4,8 @@ use Rattle.strategy_frames.proofs.TakeLemmas.{with_frames}
 use Rattle.strategy_frames.proofs.WalkLemmas.{tail_taken}
 use Rattle.strategy_frames.specs.Hands.{Done}
 use Rattle.strategy_frames.specs.Leading.{node_with}
-use Rattle.strategy_frames.specs.Turns.{HoldsIn, Waits, state_of}
+use Rattle.strategy_frames.specs.Turns.{HoldsIn, state_of}
+use Rattle.strategy_frames.specs.inside.Turning.{Waits}
 use Rattle.strategy_frames.specs.declared.frames.Frame.{Frame}
 use Rattle.strategy_run.proofs.lists.end_each.Goals as goal
 

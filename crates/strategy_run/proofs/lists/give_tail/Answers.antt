@@ -1,6 +1,7 @@
 use Rattle.std.proofs.Common.{List, length, sym, ap, subst, arith}
 use Rattle.strategy_frames.proofs.GiveLemmas.{in_hand_has}
-use Rattle.strategy_frames.specs.Turns.{HoldsIn, under}
+use Rattle.strategy_frames.specs.Turns.{HoldsIn}
+use Rattle.strategy_frames.specs.inside.Turning.{under}
 use Rattle.strategy_frames.specs.Hands.{Done}
 use Rattle.term_changes.specs.Standing.{Standing}
 use Rattle.strategy_frames.specs.Leading.{PartsStand, all_parts, node_with}

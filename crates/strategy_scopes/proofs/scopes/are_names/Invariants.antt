@@ -1,5 +1,5 @@
 use Rattle.std.proofs.Common.{take}
-use Rattle.strategy_scopes.specs.Entries.{AreNames}
+use Rattle.strategy_scopes.specs.inside.Entries.{AreNames}
 use Rattle.strategy_scopes.proofs.scopes.are_names.Given as goal
 
 abbrev pub invariant-each : goal.invariant-each

@@ -1,7 +1,7 @@
 use Rattle.std.proofs.Common.{sym, ap, ◌∙◌, slice_get, arith}
 use Rattle.std.proofs.lemmas.Option.{slice_get_past}
 use Rattle.strategy_meaning.specs.Scopes.{numbers_from}
-use Rattle.strategy_scopes.specs.Entries.{added_cells, addition_of}
+use Rattle.strategy_scopes.specs.inside.Entries.{added_cells, addition_of}
 use Rattle.strategy_scopes.proofs.LookupLemmas.{numbers_from-get, length-numbers_from}
 use Rattle.strategy_scopes.proofs.scopes.own_cell.Goals as goal
 

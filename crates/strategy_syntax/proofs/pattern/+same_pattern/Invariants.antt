@@ -1,6 +1,6 @@
 use Rattle.std.proofs.Common.{◌≡◌, ◌+◌, ◌*◌, take, length}
 use Rattle.strategy_syntax.specs.Syntax.{patterns_of}
-use Rattle.strategy_syntax.specs.PatternView.{pattern_depth, patterns_depth}
+use Rattle.strategy_syntax.specs.inside.PatternDepth.{pattern_depth, patterns_depth}
 use Rattle.strategy_syntax.proofs.pattern.+same_pattern.Given as goal
 
 abbrev pub decreases-Pattern::equals : goal.decreases-Pattern::equals

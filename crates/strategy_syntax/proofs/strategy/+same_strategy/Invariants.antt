@@ -1,6 +1,6 @@
 use Rattle.std.proofs.Common.{◌≡◌, ◌+◌, ◌*◌, take, length}
 use Rattle.strategy_syntax.specs.Syntax.{strategies_of}
-use Rattle.strategy_syntax.specs.StrategyView.{depth, depths}
+use Rattle.strategy_syntax.specs.inside.StrategyDepth.{depth, depths}
 use Rattle.strategy_syntax.proofs.strategy.+same_strategy.Given as goal
 
 abbrev pub decreases-Strategy::equals : goal.decreases-Strategy::equals

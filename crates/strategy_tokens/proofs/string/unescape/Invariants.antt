@@ -1,7 +1,7 @@
 use Rattle.std.proofs.Common.{◌≡◌, length}
 use Rattle.std.specs.List.{prefix_len}
 use Rattle.strategy_tokens.specs.Tokens.{unescaped}
-use Rattle.strategy_tokens.specs.Pieces.{is_no_backslash}
+use Rattle.strategy_tokens.specs.inside.Pieces.{is_no_backslash}
 use Rattle.strategy_tokens.proofs.StringLemmas.{behind}
 use Rattle.strategy_tokens.proofs.string.unescape.Given as goal
 

@@ -2,9 +2,9 @@ use Rattle.std.proofs.Common.{sym, subst}
 use Rattle.term_core.specs.Tree.{of_list, with_annotations}
 use Rattle.term_core.specs.Size.{height, heights, size, sizes}
 use Rattle.term_values.specs.declared.value.Noted.{Noted}
-use Rattle.term_values.specs.Bounded.{Bounded}
-use Rattle.term_values.specs.Shape.{NotedShape}
-use Rattle.term_values.specs.ValueView.{notes_list}
+use Rattle.term_values.specs.inside.Bounded.{Bounded}
+use Rattle.term_values.specs.inside.Shape.{NotedShape}
+use Rattle.term_values.specs.inside.ValueView.{notes_list}
 use Rattle.term_values.proofs.SizeLemmas.{noted_bounded, bounded_along}
 use Rattle.term_values.proofs.annotate.noted.Goals as goal
 

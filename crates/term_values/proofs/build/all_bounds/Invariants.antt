@@ -1,5 +1,5 @@
 use Rattle.std.proofs.Common.{take}
-use Rattle.term_values.specs.Bounded.{AllBounded}
+use Rattle.term_values.specs.inside.Bounded.{AllBounded}
 use Rattle.term_values.proofs.build.all_bounds.Given as goal
 
 abbrev pub invariant-loop-value : goal.invariant-loop-value

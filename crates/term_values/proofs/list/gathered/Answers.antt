@@ -3,7 +3,7 @@ use Rattle.std.proofs.lemmas.List.{length-append}
 use Rattle.term_core.specs.Tree.{Tree, children, list_term}
 use Rattle.term_values.specs.declared.value.Form.{Form}
 use Rattle.term_values.specs.declared.value.Joined.{Joined}
-use Rattle.term_values.specs.ValueView.{form_tree, form_shape, items_list}
+use Rattle.term_values.specs.inside.ValueView.{form_tree, form_shape, items_list}
 use Rattle.term_values.proofs.ListLemmas.{list_children}
 use Rattle.term_values.proofs.list.gathered.Goals as goal
 

@@ -3,9 +3,9 @@ use Rattle.std.proofs.lemmas.List.{length-append}
 use Rattle.term_core.specs.Tree.{Tree, of_list, children, list_term}
 use Rattle.term_core.specs.Size.{height, heights, size, sizes}
 use Rattle.term_values.specs.declared.value.Joined.{Joined}
-use Rattle.term_values.specs.Bounded.{Bounded, AllBounded}
-use Rattle.term_values.specs.Shape.{JoinedShape}
-use Rattle.term_values.specs.ValueView.{items_list}
+use Rattle.term_values.specs.inside.Bounded.{Bounded, AllBounded}
+use Rattle.term_values.specs.inside.Shape.{JoinedShape}
+use Rattle.term_values.specs.inside.ValueView.{items_list}
 use Rattle.term_values.proofs.SizeLemmas.{joined_bounded, bounded_along}
 use Rattle.term_values.proofs.list.joined.Goals as goal
 

@@ -1,7 +1,7 @@
 use Rattle.std.proofs.Common.{◌≡◌, ◌+◌, ◌-◌, ◌∷◌, ◌++◌, length, drop, arith, ap, ◌∙◌}
 use Rattle.std.proofs.lemmas.List.{length-append, length-drop}
 use Rattle.term_core.specs.Tree.{children, list_term}
-use Rattle.term_values.specs.ValueView.{items_list}
+use Rattle.term_values.specs.inside.ValueView.{items_list}
 use Rattle.term_values.proofs.ListLemmas.{list_children, link_more}
 use Rattle.term_values.proofs.list.joined_rest.Goals as goal
 

@@ -1,8 +1,8 @@
 use Rattle.std.proofs.Common.{◌≡◌, ◌+◌, ◌*◌, ◌++◌, length, List}
 use Rattle.term_core.specs.Tree.{Tree, of_list}
 use Rattle.term_core.specs.Size.{size, sizes}
-use Rattle.term_values.specs.Bounded.{MeasuresAll}
-use Rattle.term_values.specs.Walk.{seen_tree}
+use Rattle.term_values.specs.inside.Bounded.{MeasuresAll}
+use Rattle.term_values.specs.inside.Walk.{seen_tree}
 use Rattle.term_values.proofs.measure.+measured.Given as goal
 
 abbrev pub decreases-measured_within : goal.decreases-measured_within

@@ -2,7 +2,7 @@ use Rattle.std.proofs.Common.{◌≡◌, length, rules, arith, ap, sym, take, �
 use Rattle.term_core.specs.Tree.{of_list, annotations}
 use Rattle.term_core.specs.Size.{size, sizes, height, heights}
 use Rattle.term_core.proofs.TreeLemmas.{size_pos, sizes-take_more, heights-take_more, sizes-take}
-use Rattle.term_values.specs.ValueFalls.{size_parts}
+use Rattle.term_values.specs.inside.ValueFalls.{size_parts}
 use Rattle.term_values.proofs.SizeLemmas.{node_bounded, bare_bounded, nothing, covers_along}
 use Rattle.term_values.proofs.measure.+term_measured.Goals as goal
 

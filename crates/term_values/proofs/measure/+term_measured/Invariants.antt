@@ -1,7 +1,7 @@
 use Rattle.std.proofs.Common.{◌≡◌, ◌+◌, ◌*◌, take}
 use Rattle.term_core.specs.Tree.{of_list}
 use Rattle.term_core.specs.Size.{size, sizes}
-use Rattle.term_values.specs.Bounded.{MeasuresAll}
+use Rattle.term_values.specs.inside.Bounded.{MeasuresAll}
 use Rattle.term_values.proofs.measure.+term_measured.Given as goal
 
 abbrev pub decreases-term_measured : goal.decreases-term_measured

@@ -3,7 +3,7 @@ use Rattle.term_core.specs.Tree.{Tree, of_list, annotations}
 use Rattle.term_core.specs.Size.{heights, sizes}
 use Rattle.term_changes.specs.Standing.{after, standing_tree}
 use Rattle.term_changes.proofs.StandingLemmas.{altered_children}
-use Rattle.term_values.specs.Bounded.{AllBounded}
+use Rattle.term_values.specs.inside.Bounded.{AllBounded}
 use Rattle.term_values.proofs.SizeLemmas.{node_bounded}
 use Rattle.term_values.proofs.PlaceLemmas.{altered_notes}
 use Rattle.term_values.proofs.places.changed_part.Goals as goal

@@ -1,7 +1,7 @@
 use Rattle.std.proofs.Common.{arith, length}
 use Rattle.term_core.specs.Tree.{children}
 use Rattle.term_core.specs.Size.{height, size}
-use Rattle.term_values.specs.ValueFalls.{size_parts}
+use Rattle.term_values.specs.inside.ValueFalls.{size_parts}
 use Rattle.term_values.proofs.SizeLemmas.{height_parts, within_all}
 use Rattle.term_values.proofs.places.child_bounds.Goals as goal
 

@@ -2,7 +2,7 @@ use Rattle.std.proofs.Common.{List, map, take, sym, subst}
 use Rattle.term_core.specs.Tree.{Tree, of_list}
 use Rattle.term_core.specs.Size.{height, heights, size, sizes}
 use Rattle.term_changes.specs.Standing.{standing_tree}
-use Rattle.term_values.specs.Bounded.{AllBounded}
+use Rattle.term_values.specs.inside.Bounded.{AllBounded}
 use Rattle.term_values.proofs.SizeLemmas.{all_bounded_more}
 use Rattle.term_values.proofs.PlaceLemmas.{trees_more}
 use Rattle.term_values.proofs.places.parts_bounds.Goals as goal

@@ -1,6 +1,6 @@
 use Rattle.std.proofs.Common.{take, map}
 use Rattle.term_changes.specs.Standing.{standing_tree}
-use Rattle.term_values.specs.Bounded.{AllBounded}
+use Rattle.term_values.specs.inside.Bounded.{AllBounded}
 use Rattle.term_values.proofs.places.parts_bounds.Given as goal
 
 abbrev pub invariant-loop-part : goal.invariant-loop-part

@@ -1,6 +1,6 @@
 use Rattle.std.proofs.Common.{◌≡◌, ℕ, zero, suc, ◌<◌, ◌≤◌, List, [], ◌∷◌, length, get_or, ap, arith}
 use Rattle.strategy_syntax.specs.Syntax.{Strategy, strategies_of}
-use Rattle.strategy_syntax.specs.StrategyView.{depth, depths}
+use Rattle.strategy_syntax.specs.inside.StrategyDepth.{depth, depths}
 use Rattle.text_tests.proofs.show.+show.Goals as goal
 
 item-depth : (ss : List Strategy) (i : ℕ) (s : Strategy) → i < length ss → s ≡ get_or ss i s → depth s ≤ depths (strategies_of ss)

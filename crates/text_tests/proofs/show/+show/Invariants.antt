@@ -1,6 +1,6 @@
 use Rattle.std.proofs.Common.{◌+◌, ◌*◌}
 use Rattle.strategy_syntax.specs.Syntax.{strategies_of}
-use Rattle.strategy_syntax.specs.StrategyView.{depth, depths}
+use Rattle.strategy_syntax.specs.inside.StrategyDepth.{depth, depths}
 use Rattle.text_tests.proofs.show.+show.Given as goal
 
 abbrev pub decreases-show : goal.decreases-show

@@ -1,6 +1,6 @@
 use Rattle.std.proofs.Common.{◌+◌, ◌*◌}
 use Rattle.strategy_syntax.specs.Syntax.{patterns_of}
-use Rattle.strategy_syntax.specs.PatternView.{pattern_depth, patterns_depth}
+use Rattle.strategy_syntax.specs.inside.PatternDepth.{pattern_depth, patterns_depth}
 use Rattle.text_tests.proofs.show.+show_pattern.Given as goal
 
 abbrev pub decreases-show_pattern : goal.decreases-show_pattern

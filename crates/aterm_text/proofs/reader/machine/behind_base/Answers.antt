@@ -1,6 +1,6 @@
 use Rattle.std.proofs.Common.{sym, ◌∙◌}
 use Rattle.aterm_text.proofs.GoesLemmas.{leads-annotations, leads-bare, lost-bare, on_ok}
-use Rattle.aterm_text.specs.Depth.{depth}
+use Rattle.aterm_text.specs.inside.Depth.{depth}
 use Rattle.aterm_text.proofs.DepthLemmas.{behind_curly, keeps-enter, too-deep}
 use Rattle.aterm_text.proofs.reader.machine.behind_base.Goals as goal
 

@@ -1,5 +1,5 @@
 use Rattle.std.proofs.Common.{arith}
-use Rattle.aterm_text.specs.Depth.{depth}
+use Rattle.aterm_text.specs.inside.Depth.{depth}
 use Rattle.aterm_text.proofs.GoesLemmas.{leads-arguments, leads-constant}
 use Rattle.aterm_text.proofs.DepthLemmas.{behind_round, behind_trim, keeps-open, keeps-push, too-deep}
 use Rattle.aterm_text.proofs.reader.machine.behind_name.Goals as goal

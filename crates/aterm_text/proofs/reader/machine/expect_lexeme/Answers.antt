@@ -1,4 +1,4 @@
-use Rattle.aterm_text.specs.Depth.{depth}
+use Rattle.aterm_text.specs.inside.Depth.{depth}
 use Rattle.aterm_text.proofs.GoesLemmas.{leads-integer, on_ok}
 use Rattle.aterm_text.proofs.DepthLemmas.{behind_lexeme, keeps-push, keeps-after, too-deep-after}
 use Rattle.aterm_text.proofs.reader.machine.expect_lexeme.Goals as goal

@@ -1,7 +1,7 @@
 use Rattle.std.proofs.Common.{sym, ◌∙◌}
 use Rattle.aterm_text.proofs.TokenLemmas.{no_term-other}
 use Rattle.aterm_text.proofs.GoesLemmas.{lost-no_term, leads-list, leads-tuple}
-use Rattle.aterm_text.specs.Depth.{depth}
+use Rattle.aterm_text.specs.inside.Depth.{depth}
 use Rattle.aterm_text.proofs.DepthLemmas.{behind_round, behind_square, too-deep}
 use Rattle.aterm_text.proofs.reader.machine.expect_term.Goals as goal
 

@@ -1,10 +1,9 @@
 use Rattle.std.proofs.Common.{◌≡◌, ℕ, List, sym, ◌∙◌, ap}
 use Rattle.aterm_text.specs.Tokens.{without_blanks}
 use Rattle.aterm_text.proofs.TrimLemmas.{trimmed}
-use Rattle.aterm_text.proofs.GoesLemmas.{step-leads, step-lost}
-use Rattle.aterm_text.specs.Depth.{depth}
+use Rattle.aterm_text.proofs.GoesLemmas.{step-leads, step-lost, on_ok}
+use Rattle.aterm_text.specs.inside.Depth.{depth}
 use Rattle.aterm_text.proofs.DepthLemmas.{behind_trim, keeps-after, too-deep-after}
-use Rattle.aterm_text.proofs.GoesLemmas.{on_ok}
 use Rattle.aterm_text.proofs.reader.machine.make_step.Goals as goal
 
 is_trimmed : (x text : List ℕ) → text ≡ without_blanks x → without_blanks text ≡ text

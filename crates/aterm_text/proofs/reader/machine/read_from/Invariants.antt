@@ -1,6 +1,6 @@
 use Rattle.std.proofs.Common.{length, []}
-use Rattle.aterm_text.specs.Unread.{Reading, Stands}
-use Rattle.aterm_text.specs.Depth.{depth, IsAsDeep}
+use Rattle.aterm_text.specs.inside.Unread.{Reading, Stands}
+use Rattle.aterm_text.specs.inside.Depth.{depth, IsAsDeep}
 use Rattle.aterm_text.proofs.ReadLemmas.{IsUnderWay}
 use Rattle.aterm_text.proofs.reader.machine.read_from.Given as goal
 

@@ -1,6 +1,6 @@
 use Rattle.std.proofs.Common.{◌++◌, arith, refl, ap, ◌∙◌}
 use Rattle.std.proofs.lemmas.List.Sums.{prefix_len-le-length}
-use Rattle.aterm_text.specs.Tokens.{is_plain}
+use Rattle.aterm_text.specs.inside.Runs.{is_plain}
 use Rattle.aterm_text.proofs.ScanLemmas.{run_at_start, run_behind, rest_stops, all_read, none_read, no_escape, no_quote, no_item}
 use Rattle.aterm_text.proofs.reader.scan.escaped.Goals as goal
 

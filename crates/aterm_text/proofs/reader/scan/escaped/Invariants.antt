@@ -1,6 +1,6 @@
 use Rattle.std.proofs.Common.{◌≡◌, length}
 use Rattle.std.specs.List.{prefix_len}
-use Rattle.aterm_text.specs.Tokens.{is_plain}
+use Rattle.aterm_text.specs.inside.Runs.{is_plain}
 use Rattle.aterm_text.proofs.ScanLemmas.{IsReadSoFar}
 use Rattle.aterm_text.proofs.reader.scan.escaped.Given as goal
 

@@ -1,7 +1,8 @@
 use Rattle.std.proofs.Common.{◌≡◌, sym, ap, ◌∙◌, ◌-◌, length, take, drop, arith}
 use Rattle.std.proofs.lemmas.List.{take_all, length-drop, length_push}
 use Rattle.change_plans.specs.Entries.{put, texts}
-use Rattle.change_plans.specs.LogView.{entry_of, entries}
+use Rattle.change_plans.specs.LogView.{entry_of}
+use Rattle.change_plans.specs.inside.LogView.{entries}
 use Rattle.change_log.proofs.FlipLemmas.{text_popped}
 use Rattle.change_plans.proofs.LogLemmas.{popped_depth, popped_depths, popped_entries, all_but_newest, before_newest}
 use Rattle.change_log.proofs.log.Log.take_back.Goals as goal

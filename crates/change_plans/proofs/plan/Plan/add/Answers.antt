@@ -1,5 +1,5 @@
 use Rattle.std.proofs.Common.{◌∙◌, ap, refl, ◌++◌, [], ◌∷◌}
-use Rattle.change_plans.specs.LogView.{entries, depths}
+use Rattle.change_plans.specs.inside.LogView.{entries, depths}
 use Rattle.change_plans.proofs.LogLemmas.{pushed_depths, pushed_entries}
 use Rattle.change_plans.proofs.plan.Plan.add.Goals as goal
 

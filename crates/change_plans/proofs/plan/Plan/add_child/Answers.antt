@@ -1,7 +1,7 @@
 use Rattle.std.proofs.Common.{◌∙◌, ap, ◌++◌, [], ◌∷◌, arith}
 use Rattle.std.proofs.lemmas.List.{length_push}
 use Rattle.change_plans.specs.Entries.{subterm}
-use Rattle.change_plans.specs.LogView.{entries, depths}
+use Rattle.change_plans.specs.inside.LogView.{entries, depths}
 use Rattle.change_plans.proofs.LogLemmas.{pushed_depths, pushed_entries}
 use Rattle.change_plans.proofs.plan.Plan.add_child.Goals as goal
 

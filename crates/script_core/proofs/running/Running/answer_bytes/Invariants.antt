@@ -1,7 +1,7 @@
 use Rattle.std.proofs.Common.{◌≡◌, ◌≤◌, length, vec_capacity, true}
 use Rattle.script_forms.specs.declared.telling.TheConstants.{ANSWER_ROOM}
 use Rattle.script_forms.specs.Answer.{ReplyInRun}
-use Rattle.script_core.specs.Running.{Underway}
+use Rattle.script_core.specs.inside.Running.{Underway}
 use Rattle.script_core.proofs.running.Running.answer_bytes.Given as goal
 
 -- the commands of the bytes before the rest are answered

@@ -1,7 +1,8 @@
 use Rattle.std.proofs.Common.{refl, sym, ap, subst, ◌∙◌, ◌+◌, take}
 use Rattle.change_plans.specs.Slots.{Store, contents}
 use Rattle.session_steps.specs.History.{changed}
-use Rattle.session_steps.specs.Unfolded.{unfolded, IsPlaced, AddsStep}
+use Rattle.session_steps.specs.Unfolded.{unfolded, IsPlaced}
+use Rattle.session_steps.specs.inside.Adding.{AddsStep}
 use Rattle.session_steps.proofs.PlaceLemmas.{many_placed, many_unfolded, undone_placed, undone_unfolded, same_timeline}
 use Rattle.session_steps.proofs.timeline.Timeline.change_as_step_by.Goals as goal
 

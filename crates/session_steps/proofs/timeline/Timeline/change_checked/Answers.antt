@@ -2,7 +2,8 @@ use Rattle.std.proofs.Common.{sym, ap, subst, ◌∙◌, ◌++◌, ◌+◌, ◌�
 use Rattle.change_plans.specs.Entries.{found}
 use Rattle.change_plans.specs.Slots.{Store, contents}
 use Rattle.session_steps.specs.History.{changed}
-use Rattle.session_steps.specs.Unfolded.{unfolded, IsPlaced, AddsStep}
+use Rattle.session_steps.specs.Unfolded.{unfolded, IsPlaced}
+use Rattle.session_steps.specs.inside.Adding.{AddsStep}
 use Rattle.session_steps.proofs.PlaceLemmas.{adds_one, many_placed, many_unfolded, same_timeline, rolled_placed, rolled_unfolded}
 use Rattle.session_steps.proofs.timeline.Timeline.change_checked.Goals as goal
 

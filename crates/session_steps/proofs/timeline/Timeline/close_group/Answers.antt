@@ -2,7 +2,8 @@ use Rattle.std.proofs.Common.{◌≡◌, refl, sym, subst, ◌∙◌, ◌+◌, t
 use Rattle.std.specs.Prelude.{IsSomeAnd}
 use Rattle.session_steps.specs.Step.{committed}
 use Rattle.session_steps.specs.declared.timeline.Timeline.{Timeline}
-use Rattle.session_steps.specs.Unfolded.{unfolded, IsPlaced, AddsStep}
+use Rattle.session_steps.specs.Unfolded.{unfolded, IsPlaced}
+use Rattle.session_steps.specs.inside.Adding.{AddsStep}
 use Rattle.session_steps.proofs.PlaceLemmas.{kept_placed, kept_unfolded, committed_placed, committed_unfolded, same_timeline}
 use Rattle.session_steps.proofs.timeline.Timeline.close_group.Goals as goal
 

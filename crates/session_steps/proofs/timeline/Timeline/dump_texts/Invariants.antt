@@ -1,7 +1,7 @@
 use Rattle.std.proofs.Common.{◌≡◌, ◌≤◌, ◌++◌, Some, vec_capacity, drop}
 use Rattle.std.specs.List.{AllByRecursion}
 use Rattle.term_core.specs.Word.{label_of}
-use Rattle.aterm_text.specs.Printing.{Extends}
+use Rattle.aterm_text.specs.inside.Printing.{Extends}
 use Rattle.change_plans.specs.Slots.{contents}
 use Rattle.session_steps.specs.Dump.{module_lines}
 use Rattle.session_steps.proofs.timeline.Timeline.dump_texts.Given as goal

@@ -2,7 +2,7 @@ use Rattle.std.proofs.Common.{◌≡◌, ◌≤◌, ◌++◌, [], vec_capacity, 
 use Rattle.std.specs.Option.{option_map_or}
 use Rattle.std.specs.List.{flat_map, AllByRecursion}
 use Rattle.std.specs.FinMap as finmap
-use Rattle.aterm_text.specs.Printing.{Extends}
+use Rattle.aterm_text.specs.inside.Printing.{Extends}
 use Rattle.change_plans.specs.Slots.{contents}
 use Rattle.session_steps.specs.Dump.{tree_line, IsNamedTerm}
 use Rattle.session_steps.proofs.timeline.Timeline.dump_trees.Given as goal

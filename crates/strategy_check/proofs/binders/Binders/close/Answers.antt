@@ -1,6 +1,6 @@
 use Rattle.std.proofs.Common.{◌≡◌, [], ◌∷◌, ◌++◌, ◌<◌, drop, ap, sym, ◌∙◌, subst, IsSome, ◌↔◌}
 use Rattle.std.specs.Option.{option_copied}
-use Rattle.strategy_check.specs.BinderView.{IsKept, binders_of}
+use Rattle.strategy_check.specs.inside.BinderView.{IsKept, binders_of}
 use Rattle.strategy_check.proofs.BinderLemmas.{closed, last_is, binders_of-last}
 use Rattle.strategy_check.proofs.binders.Binders.close.Goals as goal
 

@@ -3,7 +3,7 @@ use Rattle.std.specs.Option.{option_flatten}
 use Rattle.term_core.specs.Tree.{Symbol}
 use Rattle.strategy_check.specs.declared.binders.Entry.{Entry}
 use Rattle.strategy_check.specs.Binders.{Binder}
-use Rattle.strategy_check.specs.BinderView.{IsKept, binders_of}
+use Rattle.strategy_check.specs.inside.BinderView.{IsKept, binders_of}
 use Rattle.strategy_check.proofs.BinderLemmas.{opened, binders_of-last}
 use Rattle.strategy_check.proofs.binders.Binders.open.Goals as goal
 

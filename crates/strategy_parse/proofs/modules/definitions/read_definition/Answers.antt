@@ -1,5 +1,5 @@
 use Rattle.std.proofs.Common.{ap, sym, Err}
-use Rattle.strategy_parse.specs.ModuleFronts.{make_header}
+use Rattle.strategy_parse.specs.inside.ModuleFronts.{make_header}
 use Rattle.strategy_parse.proofs.RuleLemmas.{no_header, body_gives, body_only, no_body, no_colon, ruled_gives, ruled_only, no_ruled}
 use Rattle.strategy_parse.proofs.modules.definitions.read_definition.Goals as goal
 

@@ -1,5 +1,5 @@
 use Rattle.std.proofs.Common.{◌≡◌, length}
-use Rattle.strategy_parse.specs.ModuleFronts.{more_names}
+use Rattle.strategy_parse.specs.inside.ModuleFronts.{more_names}
 use Rattle.strategy_parse.proofs.modules.headers.read_more_names.Given as goal
 
 -- the rest gives what the whole gave

@@ -1,6 +1,6 @@
 use Rattle.std.proofs.Common.{ap, sym, Err}
 use Rattle.strategy_parse.specs.Core.{defined}
-use Rattle.strategy_parse.specs.ModuleFronts.{make_header}
+use Rattle.strategy_parse.specs.inside.ModuleFronts.{make_header}
 use Rattle.strategy_parse.proofs.RuleLemmas.{rule_gives, no_condition, where_gives, where_only, rule_built, seen_built, where_built}
 use Rattle.strategy_parse.proofs.modules.rules.read_body.Goals as goal
 

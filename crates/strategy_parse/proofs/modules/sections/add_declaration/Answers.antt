@@ -1,7 +1,7 @@
 use Rattle.std.proofs.Common.{ap, Err}
 use Rattle.strategy_parse.proofs.DeclarationLemmas.{DeclarationFound, declaration_found}
 use Rattle.strategy_parse.specs.declared.parser.fault.SyntaxFault.TheVariants.{Syntax}
-use Rattle.strategy_parse.specs.ModuleFronts.{listed}
+use Rattle.strategy_parse.specs.inside.ModuleFronts.{listed}
 use Rattle.strategy_parse.proofs.ModuleFrames.{declaration_shorter}
 use Rattle.strategy_parse.proofs.SectionLemmas.{err_is, declaration_none, declaration_taken, declaration_given, none_listed, one_listed}
 use Rattle.strategy_parse.proofs.modules.sections.add_declaration.Goals as goal

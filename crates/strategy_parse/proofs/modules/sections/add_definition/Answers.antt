@@ -1,8 +1,8 @@
 use Rattle.std.proofs.Common.{ap, sym, subst, Err}
 use Rattle.strategy_parse.specs.declared.modules.sections.Part.TheVariants.{Definitions}
 use Rattle.strategy_parse.specs.declared.parser.fault.SyntaxFault.TheVariants.{Syntax}
-use Rattle.strategy_parse.specs.Definitions.{DefinitionGives}
-use Rattle.strategy_parse.specs.Sections.{Stands}
+use Rattle.strategy_parse.specs.inside.Definitions.{DefinitionGives}
+use Rattle.strategy_parse.specs.inside.Sections.{Stands}
 use Rattle.strategy_parse.proofs.ModuleFrames.{defined_shorter}
 use Rattle.strategy_parse.proofs.SectionLemmas.{err_is, definition_forth, definition_behind, definition_none}
 use Rattle.strategy_parse.proofs.modules.sections.add_definition.Goals as goal

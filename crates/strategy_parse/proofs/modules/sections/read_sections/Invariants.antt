@@ -1,7 +1,7 @@
 use Rattle.std.proofs.Common.{length}
 use Rattle.strategy_syntax.specs.Modules as syntax
 use Rattle.strategy_parse.specs.declared.modules.sections.Part.TheVariants.{Outside}
-use Rattle.strategy_parse.specs.Sections.{Left, Stands}
+use Rattle.strategy_parse.specs.inside.Sections.{Left, Stands}
 use Rattle.strategy_parse.proofs.modules.sections.read_sections.Given as goal
 
 -- the whole module is what was read, followed by what the rest gives

@@ -1,5 +1,5 @@
 use Rattle.std.proofs.Common.{◌≡◌, ◌+◌, ◌≤◌, length}
-use Rattle.strategy_parse.specs.ModuleFronts.{sorts_at, sorts_from}
+use Rattle.strategy_parse.specs.inside.ModuleFronts.{sorts_at, sorts_from}
 use Rattle.strategy_parse.proofs.modules.sorts.skip_sorts.Given as goal
 
 -- the rest gives what the whole gave, and no more sorts are counted than there are tokens

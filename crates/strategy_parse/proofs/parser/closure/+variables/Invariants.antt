@@ -1,7 +1,7 @@
 use Rattle.std.proofs.Common.{◌≡◌, ◌++◌, ◌+◌, ◌*◌, take}
 use Rattle.strategy_syntax.specs.Variables.{variables_of_all}
 use Rattle.strategy_syntax.specs.Syntax.{patterns_of}
-use Rattle.strategy_syntax.specs.PatternView.{pattern_depth, patterns_depth}
+use Rattle.strategy_syntax.specs.inside.PatternDepth.{pattern_depth, patterns_depth}
 use Rattle.strategy_parse.proofs.parser.closure.+variables.Given as goal
 
 abbrev pub decreases-add_variables : goal.decreases-add_variables

@@ -1,5 +1,5 @@
 use Rattle.std.proofs.Common.{take}
-use Rattle.strategy_parse.specs.Counts.{Raised}
+use Rattle.strategy_parse.specs.inside.Counts.{Raised}
 use Rattle.strategy_parse.proofs.parser.counts.lower.Given as goal
 
 abbrev pub invariant-loop-name : goal.invariant-loop-name

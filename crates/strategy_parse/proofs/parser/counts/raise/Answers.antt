@@ -1,6 +1,6 @@
 use Rattle.std.proofs.Common.{subst}
 use Rattle.std.proofs.lemmas.List.{take_all}
-use Rattle.strategy_parse.specs.Counts.{Raised}
+use Rattle.strategy_parse.specs.inside.Counts.{Raised}
 use Rattle.strategy_parse.proofs.CountLemmas.{raised-next}
 use Rattle.strategy_parse.proofs.parser.counts.raise.Goals as goal
 

@@ -2,7 +2,7 @@ use Rattle.std.proofs.Common.{◌≡◌, [], ◌∷◌, ap, sym, ◌∙◌}
 use Rattle.strategy_parse.specs.declared.parser.state.Frame.TheVariants.{Pattern as ForPattern}
 use Rattle.strategy_parse.specs.declared.parser.state.PatternFrame.TheVariants.{Match}
 use Rattle.strategy_parse.specs.declared.parser.fault.SyntaxFault.TheVariants.{Syntax}
-use Rattle.strategy_parse.specs.Forms.{forms}
+use Rattle.strategy_parse.specs.inside.Forms.{forms}
 use Rattle.strategy_parse.proofs.FrontGives.{pattern-given, pattern-only, pattern-is, pattern-none, other-form}
 use Rattle.strategy_parse.proofs.parser.run.read_pattern.Goals as goal
 

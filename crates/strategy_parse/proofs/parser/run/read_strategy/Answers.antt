@@ -1,4 +1,4 @@
-use Rattle.strategy_parse.specs.Forms.{forms}
+use Rattle.strategy_parse.specs.inside.Forms.{forms}
 use Rattle.strategy_parse.proofs.FrontGives.{strategy-given, strategy-only, strategy-none}
 use Rattle.strategy_parse.proofs.parser.run.read_strategy.Goals as goal
 

@@ -1,7 +1,7 @@
 use Rattle.std.proofs.Common.{◌≡◌, ◌+◌, ◌*◌, drop}
 use Rattle.std.specs.Prelude.{is_some}
 use Rattle.strategy_syntax.specs.Resolved.{places_of}
-use Rattle.strategy_syntax.specs.PlaceView.{place_depth, places_depth}
+use Rattle.strategy_syntax.specs.inside.PlaceDepth.{place_depth, places_depth}
 use Rattle.strategy_meaning.specs.Matching.{build_places}
 use Rattle.term_match.proofs.cells.Cells.+has_instance.Given as goal
 

@@ -1,6 +1,6 @@
 use Rattle.std.proofs.Common.{◌≡◌, ◌+◌, ◌*◌, ◌++◌, max, drop, option_map}
 use Rattle.strategy_syntax.specs.Resolved.{places_of}
-use Rattle.strategy_syntax.specs.PlaceView.{place_depth, places_depth}
+use Rattle.strategy_syntax.specs.inside.PlaceDepth.{place_depth, places_depth}
 use Rattle.strategy_meaning.specs.Matching.{build_places}
 use Rattle.term_match.proofs.cells.Cells.+instance.Given as goal
 

@@ -1,9 +1,9 @@
 use Rattle.std.proofs.Common.{◌≡◌, ◌+◌, ◌*◌, length, take}
 use Rattle.term_core.specs.Tree.{children}
 use Rattle.strategy_syntax.specs.Resolved.{places_of}
-use Rattle.strategy_syntax.specs.PlaceView.{place_depth, places_depth}
+use Rattle.strategy_syntax.specs.inside.PlaceDepth.{place_depth, places_depth}
 use Rattle.strategy_meaning.specs.Matching.{match_places}
-use Rattle.term_match.specs.Marks.{Grows}
+use Rattle.term_match.specs.inside.Growing.{Grows}
 use Rattle.term_match.proofs.MatchLemmas.{matched_from}
 use Rattle.term_match.proofs.cells.Cells.+match_part.Given as goal
 

@@ -1,6 +1,6 @@
 use Rattle.std.proofs.Common.{◌≡◌, ◌+◌, ◌*◌}
 use Rattle.strategy_syntax.specs.Resolved.{places_of}
-use Rattle.strategy_syntax.specs.PlaceView.{place_depth, places_depth}
+use Rattle.strategy_syntax.specs.inside.PlaceDepth.{place_depth, places_depth}
 use Rattle.term_match.proofs.cells.Cells.+measure.Given as goal
 
 abbrev pub decreases-measure : goal.decreases-measure

@@ -1,5 +1,5 @@
 use Rattle.std.proofs.Common.{◌≡◌, ◌++◌, length}
-use Rattle.term_values.specs.Bounded.{AllWithin}
+use Rattle.term_values.specs.inside.Bounded.{AllWithin}
 use Rattle.term_values.proofs.elements.Elements.values.Given as goal
 
 abbrev pub invariant-loop-seen : goal.invariant-loop-seen

@@ -3,7 +3,7 @@ use Rattle.term_core.specs.Tree.{children}
 use Rattle.term_core.specs.declared.kind.Kind.TheVariants.{List as AList}
 use Rattle.term_values.specs.declared.value.Made.{Made}
 use Rattle.term_values.specs.declared.value.Noted.{Noted}
-use Rattle.term_values.specs.ValueView.{form_tree, top_tree, items_list, notes_list}
+use Rattle.term_values.specs.inside.ValueView.{form_tree, top_tree, items_list, notes_list}
 use Rattle.term_values.proofs.KindLemmas.{kind-made_of, kind-with_annotations, kind_along}
 use Rattle.term_values.proofs.value.Value.+kind.Goals as goal
 

@@ -3,7 +3,7 @@ use Rattle.term_core.specs.Tree.{Tree, children, list_term}
 use Rattle.term_core.specs.Size.{size}
 use Rattle.term_values.specs.declared.value.Form.{Form}
 use Rattle.term_values.specs.declared.value.Joined.{Joined}
-use Rattle.term_values.specs.ValueView.{form_tree, form_shape, items_list}
+use Rattle.term_values.specs.inside.ValueView.{form_tree, form_shape, items_list}
 use Rattle.term_values.proofs.ListLemmas.{joined_falls, behind_within, rest_of_behind}
 use Rattle.term_values.proofs.value.Value.+rest.Goals as goal
 

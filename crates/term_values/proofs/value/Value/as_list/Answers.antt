@@ -1,6 +1,6 @@
 use Rattle.std.proofs.Common.{◌≡◌, IfOk, ap, sym, ◌∙◌, subst}
 use Rattle.term_core.specs.Tree.{Tree}
-use Rattle.term_values.specs.ValueView.{form_tree}
+use Rattle.term_values.specs.inside.ValueView.{form_tree}
 use Rattle.term_values.proofs.ListLemmas.{is_list}
 use Rattle.term_values.proofs.value.Value.as_list.Goals as goal
 

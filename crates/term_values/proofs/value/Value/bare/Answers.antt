@@ -4,7 +4,7 @@ use Rattle.term_core.specs.Size.{height, size}
 use Rattle.term_changes.specs.Standing.{after}
 use Rattle.term_values.specs.declared.value.Form.{Form}
 use Rattle.term_values.specs.declared.value.Noted.{Noted}
-use Rattle.term_values.specs.ValueView.{form_tree, form_shape, notes_list}
+use Rattle.term_values.specs.inside.ValueView.{form_tree, form_shape, notes_list}
 use Rattle.term_values.proofs.SizeLemmas.{bare_less, bare_height, bounded_along}
 use Rattle.term_values.proofs.ListLemmas.{bare_same, noted_bare}
 use Rattle.term_values.proofs.value.Value.bare.Goals as goal

@@ -2,8 +2,8 @@ use Rattle.std.proofs.Common.{List, [], sym, subst}
 use Rattle.term_core.specs.Tree.{Tree, of_list}
 use Rattle.term_core.specs.Size.{heights, sizes}
 use Rattle.term_values.specs.declared.value.Made.{Made}
-use Rattle.term_values.specs.Bounded.{Bounded, AllBounded}
-use Rattle.term_values.specs.ValueView.{items_list, top_tree, top_shape}
+use Rattle.term_values.specs.inside.Bounded.{Bounded, AllBounded}
+use Rattle.term_values.specs.inside.ValueView.{items_list, top_tree, top_shape}
 use Rattle.term_values.proofs.SizeLemmas.{top_bounded}
 use Rattle.term_values.proofs.value.Value.made.Goals as goal
 

@@ -1,8 +1,8 @@
 use Rattle.std.proofs.Common.{arith, length, subst, List, ◌∙◌, sym}
 use Rattle.term_core.specs.Tree.{Tree, annotations}
 use Rattle.term_core.specs.Size.{height, size}
-use Rattle.term_values.specs.Bounded.{AllWithin}
-use Rattle.term_values.specs.ValueFalls.{size_parts}
+use Rattle.term_values.specs.inside.Bounded.{AllWithin}
+use Rattle.term_values.specs.inside.ValueFalls.{size_parts}
 use Rattle.term_values.proofs.SizeLemmas.{height_parts, within_all, bounded_along}
 use Rattle.term_values.proofs.value.Value.share_annotations.Goals as goal
 

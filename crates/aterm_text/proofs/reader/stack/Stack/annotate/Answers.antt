@@ -1,7 +1,7 @@
 use Rattle.std.proofs.Common.{◌∙◌, sym, ap, arith}
 use Rattle.std.proofs.Math.ListN.{length-set}
 use Rattle.term_core.specs.Tree.{with_annotations}
-use Rattle.aterm_text.specs.Depth.{depth}
+use Rattle.aterm_text.specs.inside.Depth.{depth}
 use Rattle.aterm_text.proofs.StackLemmas.{is_cut-same_length, cut-change, no_top, depth-cut}
 use Rattle.aterm_text.proofs.reader.stack.Stack.annotate.Goals as goal
 

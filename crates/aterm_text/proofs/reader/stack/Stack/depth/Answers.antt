@@ -1,5 +1,5 @@
 use Rattle.std.proofs.Common.{sym, ap, ◌∙◌}
-use Rattle.aterm_text.specs.Depth.{depth}
+use Rattle.aterm_text.specs.inside.Depth.{depth}
 use Rattle.aterm_text.proofs.StackLemmas.{depth-cut}
 use Rattle.aterm_text.proofs.reader.stack.Stack.depth.Goals as goal
 

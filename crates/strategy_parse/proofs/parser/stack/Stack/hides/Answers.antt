@@ -1,5 +1,5 @@
 use Rattle.std.proofs.Common.{sym, ◌∙◌, arith}
-use Rattle.strategy_parse.specs.Forms.{forms}
+use Rattle.strategy_parse.specs.inside.Forms.{forms}
 use Rattle.strategy_parse.proofs.CountLemmas.{hidden-yes, hidden-no}
 use Rattle.strategy_parse.proofs.parser.stack.Stack.hides.Goals as goal
 

@@ -1,6 +1,5 @@
-use Rattle.strategy_parse.proofs.CountLemmas.{counted-pop}
+use Rattle.strategy_parse.proofs.CountLemmas.{counted-pop, IsCounted}
 use Rattle.std.proofs.Common.{subst}
-use Rattle.strategy_parse.specs.Counts.{IsCounted}
 use Rattle.strategy_parse.proofs.parser.stack.Stack.pop.Goals as goal
 
 pub invariant_of-self-in-Ok : goal.invariant_of-self-in-Ok

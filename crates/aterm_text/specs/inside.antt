@@ -1,0 +1,10 @@
+pub mod Beginnings
+pub mod BracketsView
+pub mod Depth
+pub mod Level
+pub mod NestingPlaces
+pub mod Printing
+pub mod Runs
+pub mod Stack
+pub mod StackView
+pub mod Unread

@@ -1,0 +1,4 @@
+pub mod Merging
+pub mod PlaceOrder
+pub mod Relations
+pub mod StepView

@@ -1,0 +1,4 @@
+pub mod HandedCode
+pub mod Passing
+pub mod PendingView
+pub mod SplitView

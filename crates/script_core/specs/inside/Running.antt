@@ -1,0 +1,145 @@
+-- The progress of a run: what its parts do, from which the whole run follows.
+use Rattle.std.specs.Prelude.{◌≡◌, ◌<◌, ◌≤◌, ◌+◌, ◌⊎◌, ℕ, Bool, true, false, List, [], ◌∷◌, ◌++◌, length, Some, Ok, Err}
+use Rattle.std.specs.declared.option.Option.{Option}
+use Rattle.std.specs.declared.result.Result.{Result}
+use Rattle.std.specs.Io.KnownBytes.{Consumes, Keeps, IsAtEnd}
+use Rattle.session_steps.specs.History.{History}
+use Rattle.script_core.specs.declared.running.TheConstants.{MAX_READS}
+use Rattle.script_core.specs.declared.running.Running.{Running}
+use Rattle.script_core.specs.declared.running.Summary.{Summary}
+use Rattle.script_core.specs.declared.running.Settings.{Settings}
+use Rattle.script_core.specs.declared.running.RunFault.{RunFault}
+use Rattle.script_core.specs.declared.running.RunFault.TheVariants.{Read, Write, Turns, Memory}
+use Rattle.script_commands.specs.Handed.{Handed, handed, completed}
+use Rattle.script_forms.specs.Machine.{Replying}
+use Rattle.script_commands.specs.Splitting.{StandsBehind}
+use Rattle.script_commands.specs.Split.{Split}
+use Rattle.script_commands.specs.FedRight.{GoesBehind}
+use Rattle.script_forms.specs.Run.{Completes, BreaksOff, Answers, AnswersPart, AnswersFirst}
+
+-- the rule of a run by the budget of its settings
+abbrev pub ByBudget : Type 1
+ByBudget = ℕ → Replying
+
+-- A run that is to stop at a refusal goes on without one, and ends at one.
+abbrev pub GoesOnBy : Bool → ℕ → Bool → Type 0
+GoesOnBy stop n true = stop ≡ true → n ≡ 0
+GoesOnBy stop n false = (stop ≡ true) × (0 < n)
+
+-- The commands are answered and counted.
+pub record Counts (Rule : ByBudget) (commands : List Handed) (old new : Running) (h g : History)
+    (held held' : Option (List ℕ)) (goes_on : Bool) : Type 0 where
+  pub yes : ℕ
+  pub no : ℕ
+  pub completes : Completes old.settings.stop (Rule old.settings.steps) commands h g held held' yes no
+  pub accepted : new.summary.accepted ≡ old.summary.accepted + yes
+  pub refused : new.summary.refused ≡ old.summary.refused + no
+  pub total : yes + no ≤ length commands
+  pub goes : GoesOnBy old.settings.stop no goes_on
+  pub settings : new.settings ≡ old.settings
+
+-- The next complete command is answered.
+abbrev pub AnswersReady : ByBudget → Running → Running → History → History → Option (List ℕ)
+    → Option (List ℕ) → Bool → Type 0
+AnswersReady Rule old new h g held held' goes_on =
+    (command : Handed) × (old.splitter.to_hand_out ≡ Some command)
+    × Counts Rule (command ∷ []) old new h g held held' goes_on
+
+-- All of these bytes but the rest are consumed, and the commands that they complete are answered.
+pub record Underway (Rule : ByBudget) (old new : Running) (h g : History) (held held' : Option (List ℕ))
+    (bytes rest : List ℕ) (goes_on : Bool) : Type 0 where
+  pub taken : List ℕ
+  pub all : bytes ≡ taken ++ rest
+  pub commands : List Handed
+  pub behind : GoesBehind old.splitter new.splitter taken commands
+  pub counts : Counts Rule commands old new h g held held' goes_on
+  pub few : length commands ≤ length taken
+
+-- All bytes are consumed if the run goes on.
+abbrev pub AnswersBytes : ByBudget → Running → Running → History → History → Option (List ℕ)
+    → Option (List ℕ) → List ℕ → Bool → Type 0
+AnswersBytes Rule old new h g held held' bytes true = Underway Rule old new h g held held' bytes [] true
+AnswersBytes Rule old new h g held held' bytes false =
+    (rest : List ℕ) × Underway Rule old new h g held held' bytes rest false
+
+-- After what came before, these bytes complete exactly these commands.
+abbrev pub HandsBehind : Split → List ℕ → List Handed → Type 0
+HandsBehind old bytes all =
+    (x : List ℕ) (out : List Handed) → StandsBehind x out old.left → handed (x ++ bytes) ≡ out ++ all
+
+-- Answering these bytes fails partway.
+pub record Breaks (Rule : ByBudget) (old : Running) (h g : History) (held held' : Option (List ℕ)) (bytes : List ℕ) : Type 0
+  where
+    pub all : List Handed
+    pub hands : HandsBehind old.splitter bytes all
+    pub breaks : BreaksOff old.settings.stop (Rule old.settings.steps) all h g held held'
+
+-- Answering these bytes reaches the end.
+pub record Ends (Rule : ByBudget) (old new : Running) (h g : History) (held held' : Option (List ℕ)) (bytes : List ℕ) : Type 0
+  where
+    pub all : List Handed
+    pub hands : HandsBehind old.splitter bytes all
+    pub yes : ℕ
+    pub no : ℕ
+    pub completes : Completes old.settings.stop (Rule old.settings.steps) all h g held held' yes no
+    pub accepted : new.summary.accepted ≡ old.summary.accepted + yes
+    pub refused : new.summary.refused ≡ old.summary.refused + no
+
+-- These bytes are answered up to a refusal at which the run stops, in a command that they complete.
+pub record Stops (Rule : ByBudget) (old : Running) (h g : History) (held held' : Option (List ℕ)) (bytes : List ℕ)
+    (yes no : ℕ) : Type 0 where
+  pub stop : old.settings.stop ≡ true
+  pub some : 0 < no
+  pub all : List Handed
+  pub hands : (x : List ℕ) (out : List Handed) → StandsBehind x out old.splitter.left
+      → completed (x ++ bytes) ≡ out ++ all
+  pub completes : Completes old.settings.stop (Rule old.settings.steps) all h g held held' yes no
+
+-- the ghost state of a reader and a writer, and how often they failed
+pub record Streams : Type 0 where
+  pub left : Option (List ℕ)
+  pub held : Option (List ℕ)
+  pub read_failures : ℕ
+  pub write_failures : ℕ
+
+abbrev pub streams : Option (List ℕ) → Option (List ℕ) → ℕ → ℕ → Streams
+streams left held reads writes =
+    record { left = left; held = held; read_failures = reads; write_failures = writes }
+
+abbrev pub Calm : Streams → Streams → Type 0
+Calm old new = (new.read_failures ≡ old.read_failures) × (new.write_failures ≡ old.write_failures)
+
+-- One turn of a run: at most this many bytes are read and their commands answered, and the run goes
+-- on; or it reaches the end, or fails.
+abbrev pub TurnRight : ByBudget → Result Bool RunFault → Running → Running → History → History → Streams → Streams
+    → ℕ → Type 0
+TurnRight Rule (Ok true) old new h g a b most =
+    Calm a b × ((bytes : List ℕ) × Consumes a.left b.left bytes
+    × (0 < length bytes) × (length bytes ≤ most)
+    × Underway Rule old new h g a.held b.held bytes [] true)
+TurnRight Rule (Ok false) old new h g a b most =
+    Calm a b × ((bytes : List ℕ) × Consumes a.left b.left bytes
+    × ((ends : Ends Rule old new h g a.held b.held bytes)
+    × (IsAtEnd b.left ⊎ Stops Rule old h g a.held b.held bytes ends.yes ends.no)))
+TurnRight Rule (Err Read) old new h g a b most =
+    (b.read_failures ≡ a.read_failures + 1) × (b.write_failures ≡ a.write_failures)
+    × Keeps a.left b.left × (g ≡ h) × Keeps a.held b.held
+TurnRight Rule (Err Write) old new h g a b most =
+    (b.write_failures ≡ a.write_failures + 1) × (b.read_failures ≡ a.read_failures)
+    × ((bytes : List ℕ) × Consumes a.left b.left bytes × Breaks Rule old h g a.held b.held bytes)
+TurnRight Rule (Err Turns) old new h g a b most = ⊥
+TurnRight Rule (Err Memory) old new h g a b most = ⊥
+
+-- A whole run, apart from the memory that it starts with.
+abbrev pub RunRight : ByBudget → Result Summary RunFault → Settings → History → History → Streams → Streams → Type 0
+RunRight Rule (Ok summary) settings h g a b =
+    Calm a b × Answers settings.stop (Rule settings.steps) h g a.left b.left a.held b.held summary.accepted summary.refused
+RunRight Rule (Err Read) settings h g a b =
+    (b.read_failures ≡ a.read_failures + 1) × (b.write_failures ≡ a.write_failures)
+    × AnswersPart settings.stop (Rule settings.steps) h g a.left b.left a.held b.held 0
+RunRight Rule (Err Turns) settings h g a b =
+    Calm a b × AnswersPart settings.stop (Rule settings.steps) h g a.left b.left a.held b.held MAX_READS
+RunRight Rule (Err Write) settings h g a b =
+    (b.write_failures ≡ a.write_failures + 1) × (b.read_failures ≡ a.read_failures)
+    × AnswersFirst settings.stop (Rule settings.steps) h g a.left b.left a.held b.held
+RunRight Rule (Err Memory) settings h g a b = ⊥

@@ -1,0 +1,14 @@
+-- Appending steps.
+use Rattle.std.specs.Prelude.{◌≡◌, List, [], ◌∷◌, ◌++◌}
+use Rattle.change_plans.specs.Slots.{Store}
+use Rattle.change_plans.specs.Entries.{Entry, before, Fits}
+use Rattle.change_plans.specs.Compact.{IsCompact}
+
+-- A step is appended to these logs: the given log after compacting, which leads back to the same
+-- store.
+pub record AddsStep (logs : List (List Entry)) (log : List Entry) (new : List (List Entry)) : Type 0 where
+  pub left : List Entry
+  pub all : new ≡ logs ++ left ∷ []
+  pub back : (s : Store) → before left s ≡ before log s
+  pub fits : (s : Store) → Fits log s → Fits left s
+  pub compact : IsCompact left

@@ -1,0 +1,7 @@
+pub mod BinderView
+pub mod Closing
+pub mod FirstFault
+pub mod Grouping
+pub mod Met
+pub mod ProgramCodes
+pub mod TableCodes

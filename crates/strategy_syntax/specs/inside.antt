@@ -1,0 +1,11 @@
+pub mod Codes
+pub mod ModuleCodes
+pub mod PatternDepth
+pub mod PatternFalls
+pub mod PlaceDepth
+pub mod PlaceFalls
+pub mod ResolvedCodes
+pub mod ResolvedDepth
+pub mod ResolvedFalls
+pub mod StrategyDepth
+pub mod StrategyFalls

@@ -1,0 +1,2 @@
+pub mod ChangeCode
+pub mod StandingCodes

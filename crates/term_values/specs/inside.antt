@@ -1,0 +1,5 @@
+pub mod Bounded
+pub mod Shape
+pub mod ValueFalls
+pub mod ValueView
+pub mod Walk
