@@ -7,14 +7,10 @@ use Rattle.term_paths.specs.Paths.{at, annotations_at, set_at, set_annotations_a
 use Rattle.change_plans.specs.Slots.{Slots, Store, slot_at, content, with_content}
 
 pub data Entry : Type 0 where
-  -- a slot's tree, or none
-  slot_tree : ℕ → Option Tree → Entry
-  -- the subterm at the path in a slot's tree
-  subterm : ℕ → List ℕ → Tree → Entry
-  -- the annotations of that subterm
-  subterm_annotations : ℕ → List ℕ → List Tree → Entry
-  -- a slot's module text, or none
-  slot_text : ℕ → Option (List ℕ) → Entry
+  slot_tree : ℕ → Option Tree → Entry  -- a slot's tree, or none
+  subterm : ℕ → List ℕ → Tree → Entry  -- the subterm at the path in a slot's tree
+  subterm_annotations : ℕ → List ℕ → List Tree → Entry  -- the annotations of that subterm
+  slot_text : ℕ → Option (List ℕ) → Entry  -- a slot's module text, or none
 
 -- the subterm at the path in the tree of slot i, if there is one
 abbrev pub subterm_in : Slots Tree → ℕ → List ℕ → Option Tree

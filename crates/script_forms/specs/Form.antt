@@ -13,43 +13,27 @@ use Rattle.script_commands.specs.Script.{without_end}
 use Rattle.session_steps.specs.Steps.{AreSteps}
 use Rattle.session_steps.specs.declared.TheConstants.{MAX_STEPS}
 
+-- The operands are names, paths, numbers of steps and texts, in the order of the command.
 pub data Form : Type 0 where
-  -- sets the tree of the name to the term that the text spells
-  tree : List ℕ → List ℕ → Form
-  -- sets the tree of the second name to a copy of that of the first
-  copy : List ℕ → List ℕ → Form
-  -- removes the tree of the name
-  drop_tree : List ℕ → Form
-  -- replaces the subterm at the path of the name's tree by the term that the text spells
-  put : List ℕ → List ℕ → List ℕ → Form
-  -- replaces the annotations there by those that the text spells
-  annotate : List ℕ → List ℕ → List ℕ → Form
-  -- sets the module of the name to the one that the text spells
-  set_module : List ℕ → List ℕ → Form
-  -- removes the module of the name
-  unload : List ℕ → Form
-  -- applies the strategy that the text spells at the path of the name's tree, within this many
-  -- steps
-  apply : List ℕ → List ℕ → ℕ → List ℕ → Form
-  -- goes this many steps back, or forward
-  undo : ℕ → Form
-  redo : ℕ → Form
-  -- begins a group, makes its changes one step, or undoes them
-  begin : Form
-  commit : Form
-  abandon : Form
-  -- shows the subterm at the path of the name's tree
-  show : List ℕ → List ℕ → Form
-  -- lists the names of the trees
-  trees : Form
-  -- lists the names of the modules
-  modules : Form
-  -- shows the text of the name's module
-  module_text : List ℕ → Form
-  -- counts the steps
-  history : Form
-  -- writes a script that restores the contents
-  dump : Form
+  tree : List ℕ → List ℕ → Form  -- sets the tree of the name to the term of the text
+  copy : List ℕ → List ℕ → Form  -- sets the tree of the second name to a copy of that of the first
+  drop_tree : List ℕ → Form  -- removes the tree of the name
+  put : List ℕ → List ℕ → List ℕ → Form  -- replaces the subterm at the path by the term of the text
+  annotate : List ℕ → List ℕ → List ℕ → Form  -- replaces the annotations there by those of the text
+  set_module : List ℕ → List ℕ → Form  -- sets the module of the name to that of the text
+  unload : List ℕ → Form  -- removes the module of the name
+  apply : List ℕ → List ℕ → ℕ → List ℕ → Form  -- applies the strategy of the text at the path
+  undo : ℕ → Form  -- goes this many steps back
+  redo : ℕ → Form  -- goes this many steps forward
+  begin : Form  -- begins a group
+  commit : Form  -- makes the changes of the group one step
+  abandon : Form  -- undoes the changes of the group
+  show : List ℕ → List ℕ → Form  -- shows the subterm at the path of the name's tree
+  trees : Form  -- lists the names of the trees
+  modules : Form  -- lists the names of the modules
+  module_text : List ℕ → Form  -- shows the text of the name's module
+  history : Form  -- counts the steps
+  dump : Form  -- writes a script that restores the contents
 
 -- ---- words, separated by blanks: spaces, tabs, line feeds and carriage returns
 

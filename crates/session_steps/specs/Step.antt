@@ -19,31 +19,20 @@ use Rattle.session_steps.specs.declared.refusal.Refusal.{Refusal}
 use Rattle.session_steps.specs.declared.refusal.Refusal.TheVariants.{NoTree, NoModule, Path, Big, NoUndo, NoRedo, Group, NoGroup}
 
 pub data Act : Type 0 where
-  -- sets the tree of a label
-  set_tree : List ℕ → Tree → Act
-  -- sets the tree of the second label to that of the first
-  copy_tree : List ℕ → List ℕ → Act
-  -- removes the tree of the label
-  drop_tree : List ℕ → Act
-  -- puts this tree at a path of the label's tree
-  put : List ℕ → List ℕ → Tree → Act
-  -- sets the annotations of the subterm at a path of the label's tree
-  annotate : List ℕ → List ℕ → List Tree → Act
-  -- sets the text of the label's module
-  set_module : List ℕ → List ℕ → Act
-  -- removes the label's module
-  unload : List ℕ → Act
-  -- applies the strategy with this text at a path of the label's tree, within this many steps,
-  -- given the meaning of primitives
+  set_tree : List ℕ → Tree → Act  -- sets the tree of a label
+  copy_tree : List ℕ → List ℕ → Act  -- sets the tree of the second label to that of the first
+  drop_tree : List ℕ → Act  -- removes the tree of the label
+  put : List ℕ → List ℕ → Tree → Act  -- puts this tree at a path of the label's tree
+  annotate : List ℕ → List ℕ → List Tree → Act  -- sets the annotations of the subterm at a path
+  set_module : List ℕ → List ℕ → Act  -- sets the text of the label's module
+  unload : List ℕ → Act  -- removes the label's module
+  -- given the meaning of primitives: applies, at a path, within this many steps, this strategy
   apply : Meaning → List ℕ → List ℕ → ℕ → List ℕ → Act
-  -- goes this many steps back
-  undo : ℕ → Act
-  -- goes this many steps forward
-  redo : ℕ → Act
-  -- begins a group, makes its changes one step, or undoes them
-  begin : Act
-  commit : Act
-  abandon : Act
+  undo : ℕ → Act  -- goes this many steps back
+  redo : ℕ → Act  -- goes this many steps forward
+  begin : Act  -- begins a group
+  commit : Act  -- makes the changes of the group one step
+  abandon : Act  -- undoes the changes of the group
 
 -- the outcome of an act: the history after it, or the refusal
 abbrev pub Outcome : Type 0

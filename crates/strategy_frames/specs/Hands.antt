@@ -10,12 +10,9 @@ use Rattle.strategy_frames.specs.declared.frames.Next.TheVariants as nexts
 use Rattle.strategy_frames.specs.declared.machine.Machine.{Machine}
 
 pub data Hand : Type 0 where
-  -- evaluate a strategy on it, in a scope
-  Begin : Bor ResolvedStrategy → ℕ → Standing → Hand
-  -- a strategy succeeded with it
-  Done : Standing → Hand
-  -- a strategy failed
-  Failed : Hand
+  Begin : Bor ResolvedStrategy → ℕ → Standing → Hand  -- evaluate a strategy on it, in a scope
+  Done : Standing → Hand  -- a strategy succeeded with it
+  Failed : Hand  -- a strategy failed
   -- run strategies on its children from an index on, with the parts in their places
   Each : Acts → ℕ → Standing → ℕ → Vec Standing Global → Hand
   -- run a strategy on the leftmost of its children from an index on on which it succeeds

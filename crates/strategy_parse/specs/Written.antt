@@ -23,37 +23,26 @@ mutual
     arrow : Prefix → Patterns → Arrow
 
   pub data Prefix : Type 0 where
-    -- `? pattern`, `! pattern`, `< choice > pattern`
-    question : Pattern → Prefix
-    exclamation : Pattern → Prefix
-    application : Choice → Pattern → Prefix
+    question : Pattern → Prefix  -- `? pattern`
+    exclamation : Pattern → Prefix  -- `! pattern`
+    application : Choice → Pattern → Prefix  -- `< choice > pattern`
     identity : Prefix
     failure : Prefix
-    -- a word and `( choice )`
-    operator : Operator → Choice → Prefix
-    -- `if choice then choice end`, and with `else choice`
-    if_then : Choice → Choice → Prefix
-    if_then_else : Choice → Choice → Choice → Prefix
-    -- `rec ident ( choice )`
-    recursion : Symbol → Choice → Prefix
-    -- `prim ( string, pattern, .. )`
-    primitive : Symbol → Patterns → Prefix
-    -- `{ ident, .. : choice }`
-    local : List Symbol → Choice → Prefix
-    -- `\ pattern -> pattern \`, and with `where choice`
-    closure : Pattern → Pattern → Prefix
-    closure_where : Pattern → Pattern → Choice → Prefix
-    -- `( choice, .. )`, of any number
-    round : Choices → Prefix
-    -- `[ choice, .. ]`, and with `| choice`
-    square : Choices → Prefix
-    square_with_tail : Choices → Choice → Prefix
-    -- `ident`, `ident ( choice, .. )` and `ident ( choice, .. | pattern, .. )`
-    name : Symbol → Prefix
-    call : Symbol → Choices → Prefix
-    call_with_terms : Symbol → Choices → Patterns → Prefix
-    -- `integer ( choice )`
-    child : ℕ → Choice → Prefix
+    operator : Operator → Choice → Prefix  -- a word and `( choice )`
+    if_then : Choice → Choice → Prefix  -- `if choice then choice end`
+    if_then_else : Choice → Choice → Choice → Prefix  -- `if choice then choice else choice end`
+    recursion : Symbol → Choice → Prefix  -- `rec ident ( choice )`
+    primitive : Symbol → Patterns → Prefix  -- `prim ( string, pattern, .. )`
+    local : List Symbol → Choice → Prefix  -- `{ ident, .. : choice }`
+    closure : Pattern → Pattern → Prefix  -- `\ pattern -> pattern \`
+    closure_where : Pattern → Pattern → Choice → Prefix  -- the same with `where choice`
+    round : Choices → Prefix  -- `( choice, .. )`, of any number
+    square : Choices → Prefix  -- `[ choice, .. ]`
+    square_with_tail : Choices → Choice → Prefix  -- `[ choice, .. | choice ]`
+    name : Symbol → Prefix  -- `ident`
+    call : Symbol → Choices → Prefix  -- `ident ( choice, .. )`
+    call_with_terms : Symbol → Choices → Patterns → Prefix  -- `ident ( choice, .. | pattern, .. )`
+    child : ℕ → Choice → Prefix  -- `integer ( choice )`
 
   -- a list of choices
   pub data Choices : Type 0 where

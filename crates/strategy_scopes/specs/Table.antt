@@ -6,10 +6,8 @@ use Rattle.strategy_meaning.specs.Scopes.{Scope, Closure, inside, no_closures, s
 use Rattle.strategy_scopes.specs.declared.scopes.Known.{Known}
 
 pub data Addition : Type 0 where
-  -- variables: the cell of the first one, and their number
-  variables : ℕ → ℕ → Addition
-  -- a strategy name: what it stands for, and the number of the scope that this belongs to
-  name : ResolvedStrategy → ℕ → Addition
+  variables : ℕ → ℕ → Addition  -- the cell of the first one, and their number
+  name : ResolvedStrategy → ℕ → Addition  -- what a strategy name stands for, and in which scope
 
 pub record Widening : Type 0 where
   pub outer : Option ℕ

@@ -40,10 +40,8 @@ mutual
     seq : ResolvedStrategy → ResolvedStrategy → ResolvedStrategy
     guard : ResolvedStrategy → ResolvedStrategy → ResolvedStrategy → ResolvedStrategy
     test : ResolvedStrategy → ResolvedStrategy
-    -- new variables, this many
-    scope : ℕ → ResolvedStrategy → ResolvedStrategy
-    -- a strategy parameter or a `rec` name
-    param : ℕ → ResolvedStrategy
+    scope : ℕ → ResolvedStrategy → ResolvedStrategy  -- new variables, this many
+    param : ℕ → ResolvedStrategy  -- a strategy parameter or a `rec` name
     -- a definition, with strategies and patterns for its parameters
     call : ℕ → ResolvedStrategies → Places → ResolvedStrategy
     congruence : Head → ResolvedStrategies → ResolvedStrategy
@@ -51,8 +49,7 @@ mutual
     all : ResolvedStrategy → ResolvedStrategy
     one : ResolvedStrategy → ResolvedStrategy
     some : ResolvedStrategy → ResolvedStrategy
-    -- child i, counted from 1
-    child : ℕ → ResolvedStrategy → ResolvedStrategy
+    child : ℕ → ResolvedStrategy → ResolvedStrategy  -- child i, counted from 1
     rec : ResolvedStrategy → ResolvedStrategy
     prim : ℕ → Places → ResolvedStrategy
 

@@ -2,23 +2,16 @@
 use Rattle.std.specs.Prelude.{ℕ, ℤ, List, [], ◌∷◌}
 use Rattle.term_core.specs.Tree.{Symbol, Head}
 
--- A pattern.
+-- A pattern. A string is its quoted name over no patterns.
 mutual
   pub data Pattern : Type 0 where
-    -- `_`
-    wildcard : Pattern
-    -- `x`
-    variable : Symbol → Pattern
-    -- `x@p`
-    at : Symbol → Pattern → Pattern
-    -- an integer
-    number : ℤ → Pattern
-    -- an application of a word, a string (its quoted name over no patterns), a list or a tuple
-    compound : Head → Patterns → Pattern
-    -- `[p1,..,pn|p]`: the first elements of a list, and the list of the rest
-    with_tail : Patterns → Pattern → Pattern
-    -- `p{q1,..,qm}`
-    annotated : Pattern → Patterns → Pattern
+    wildcard : Pattern  -- `_`
+    variable : Symbol → Pattern  -- `x`
+    at : Symbol → Pattern → Pattern  -- `x@p`
+    number : ℤ → Pattern  -- an integer
+    compound : Head → Patterns → Pattern  -- `c(p1,..,pn)`, a string, a list or a tuple
+    with_tail : Patterns → Pattern → Pattern  -- `[p1,..,pn|p]`: p is for the list of the rest
+    annotated : Pattern → Patterns → Pattern  -- `p{q1,..,qm}`
 
   -- a list of patterns
   pub data Patterns : Type 0 where
@@ -38,17 +31,12 @@ mutual
   pub data Strategy : Type 0 where
     id : Strategy
     fail : Strategy
-    -- `?p` and `!p`
-    matches : Pattern → Strategy
-    builds : Pattern → Strategy
-    -- `s1; s2`
-    seq : Strategy → Strategy → Strategy
-    -- `s1 < s2 + s3`
-    guard : Strategy → Strategy → Strategy → Strategy
-    -- `where(s)`
-    test : Strategy → Strategy
-    -- `{x1,..,xn: s}`
-    scope : List Symbol → Strategy → Strategy
+    matches : Pattern → Strategy  -- `?p`
+    builds : Pattern → Strategy  -- `!p`
+    seq : Strategy → Strategy → Strategy  -- `s1; s2`
+    guard : Strategy → Strategy → Strategy → Strategy  -- `s1 < s2 + s3`
+    test : Strategy → Strategy  -- `where(s)`
+    scope : List Symbol → Strategy → Strategy  -- `{x1,..,xn: s}`
     -- `f(s1,..,sn|p1,..,pm)`: a parameter, a definition or a constructor, by its name
     uses : Symbol → Strategies → Patterns → Strategy
     -- a congruence: a strategy for each child of an application, a list or a tuple
@@ -58,12 +46,9 @@ mutual
     all : Strategy → Strategy
     one : Strategy → Strategy
     some : Strategy → Strategy
-    -- `i(s)`: child i, counted from 1
-    child : ℕ → Strategy → Strategy
-    -- `rec x(s)`
-    rec : Symbol → Strategy → Strategy
-    -- `prim("n",p1,..,pk)`, by its quoted name
-    prim : Symbol → Patterns → Strategy
+    child : ℕ → Strategy → Strategy  -- `i(s)`: child i, counted from 1
+    rec : Symbol → Strategy → Strategy  -- `rec x(s)`
+    prim : Symbol → Patterns → Strategy  -- `prim("n",p1,..,pk)`, by its quoted name
 
   -- a list of strategies
   pub data Strategies : Type 0 where

@@ -5,12 +5,9 @@ use Rattle.term_paths.specs.Edits.{Edits}
 
 mutual
   pub data Change : Type 0 where
-    -- nothing was replaced
-    same : Change
-    -- the changes of the children, the first child first
-    inside : Changes → Change
-    -- the whole tree was replaced
-    replaced : Tree → Change
+    same : Change  -- nothing was replaced
+    inside : Changes → Change  -- the changes of the children, the first child first
+    replaced : Tree → Change  -- the whole tree was replaced
 
   pub data Changes : Type 0 where
     no_more : Changes
