@@ -1,1 +1,1 @@
-mod inside
+pub mod inside

@@ -6,4 +6,4 @@ pub mod Free
 pub mod Resolving
 pub mod Programs
 pub mod Ranges
-mod inside
+pub mod inside

@@ -5,4 +5,4 @@ pub mod Core
 pub mod Gives
 pub mod Laws
 pub mod Faults
-mod inside
+pub mod inside

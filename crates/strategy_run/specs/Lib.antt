@@ -1,4 +1,4 @@
 pub mod Applies
 pub mod Laws
 pub mod Ends
-mod inside
+pub mod inside

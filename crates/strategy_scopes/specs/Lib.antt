@@ -1,3 +1,3 @@
 pub mod Table
 pub use Rattle.strategy_meaning.specs.Scopes
-mod inside
+pub mod inside

@@ -1,3 +1,3 @@
 pub mod Tokens
 pub mod Marks
-mod inside
+pub mod inside

@@ -2,4 +2,4 @@ pub mod Contents
 pub mod Marks
 pub mod Building
 pub use Rattle.strategy_meaning.specs.Matching
-mod inside
+pub mod inside

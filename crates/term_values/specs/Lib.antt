@@ -1,4 +1,4 @@
 pub use Rattle.term_core.specs.Tree
 pub use Rattle.term_paths.specs.Paths
 pub use Rattle.term_paths.specs.Edits
-mod inside
+pub mod inside
