@@ -112,6 +112,7 @@ impl<'t> Scopes<'t> {
 
     /// Adds the scope of a definition's body: its variables, whose cells are those from `first` on,
     /// and what its strategy parameters stand for, which are strategies that belong to this scope.
+    /// If memory can't grow, some scopes may have been added, but no older one changes.
     pub fn add_call(
         &mut self,
         scope: usize,
@@ -125,6 +126,7 @@ impl<'t> Scopes<'t> {
         ensures ok { IfOk result (λ n. scope_at (scopes self.new) n
             ≡ inside (numbers_from first count) (arguments (scope_at (scopes self.old) scope) (resolveds_of strategies.entry.now))) }
         ensures stay { IfOk result (λ _. Starts (scopes self.old) (scopes self.new)) }
+        ensures err { OnErr result (Starts (scopes self.old) (scopes self.new)) }
     {
         if count == 0 && self.hands_all_on(scope, strategies) {
             return Ok(scope);
@@ -178,6 +180,7 @@ impl<'t> Scopes<'t> {
         ensures ok { IfOk result (λ names. scope_from (scopes self.new) names
             ≡ inside [] (arguments (scope_at (scopes self.old) scope) (resolveds_of strategies.entry.now))) }
         ensures stay { IfOk result (λ _. Starts (scopes self.old) (scopes self.new)) }
+        ensures err { OnErr result (Starts (scopes self.old) (scopes self.new)) }
     {
         let mut names = None;
         'each: for strategy in strategies {
