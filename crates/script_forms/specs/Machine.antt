@@ -75,7 +75,6 @@ counted h = line (codes "undo " ++ decimal (length h.past) ++ codes " redo " ++ 
 abbrev pub told : History → List ℕ → Reply
 told h answer = Ok (told_of h answer)
 
--- this is the reply
 abbrev pub Is : Reply → Reply → Type 0
 Is is reply = reply ≡ is
 

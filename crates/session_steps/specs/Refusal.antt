@@ -5,7 +5,6 @@ use Rattle.term_core.specs.declared.label.LabelFault.TheVariants.{Name as NoLabe
 use Rattle.session_steps.specs.declared.refusal.Refusal.{Refusal}
 use Rattle.session_steps.specs.declared.refusal.Refusal.TheVariants.{Memory, Line, Long, Name, NoTree, NoModule, Term, Deep, Path, Syntax, Check, Fails, Spent, Big, NoUndo, NoRedo, Group, NoGroup}
 
--- the number of a refusal
 abbrev pub number_of : Refusal → ℕ
 number_of Memory = 1
 number_of Line = 2
@@ -26,7 +25,6 @@ number_of NoRedo = 16
 number_of Group = 17
 number_of NoGroup = 18
 
--- the word of a refusal, in ASCII
 abbrev pub word_of : Refusal → List ℕ
 word_of Memory = codes "memory"
 word_of Line = codes "line"

@@ -55,7 +55,6 @@ abbrev pub Given : {X : Type 0} → (Result X Refusal → Type 0) → (X → Out
     → Type 0
 Given {X} Gives next outcome = (given : Result X Refusal) × Gives given × Passing given next outcome
 
--- this is the history afterwards
 abbrev pub Leaves : History → Outcome → Type 0
 Leaves g outcome = outcome ≡ Ok g
 
@@ -65,11 +64,9 @@ ChangesTo c h = Leaves (changed c h)
 
 -- ---- what the tests find
 
--- the tree of a label
 abbrev pub tree_of : Contents → List ℕ → Result Tree Refusal
 tree_of c name = ok_or (finmap.get c.trees name) NoTree
 
--- the module text of a label
 abbrev pub text_of : Contents → List ℕ → Result (List ℕ) Refusal
 text_of c name = ok_or (finmap.get c.modules name) NoModule
 

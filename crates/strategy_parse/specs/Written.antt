@@ -44,7 +44,6 @@ mutual
     call_with_terms : Symbol → Choices → Patterns → Prefix  -- `ident ( choice, .. | pattern, .. )`
     child : ℕ → Choice → Prefix  -- `integer ( choice )`
 
-  -- a list of choices
   pub data Choices : Type 0 where
     no_choices : Choices
     and_choice : Choice → Choices → Choices

@@ -120,8 +120,8 @@ pub(crate) fn finish<'t>(
     Ok(())
 }
 
-/// If child `i` has changed, appends its part, and before it those of the unchanged children that
-/// are still missing.
+/// If child `i` has changed, puts its part at its index; missing parts of unchanged children before
+/// it are filled in.
 #[inline(always)]
 pub(crate) fn settle<'t>(
     parts: &mut Vec<Part<'t>>,

@@ -81,14 +81,12 @@ abbrev pub word_in : {X : Type 0} → List (List ℕ × X) → List ℕ → Opti
 word_in [] x = None
 word_in (row ∷ rows) x = if (same_bytes x row.0) then Some row.1 else word_in rows x
 
--- the reserved words of modules
 abbrev pub module_keywords : List (List ℕ × Keyword)
 module_keywords =
     (codes "module", Module) ∷ ((codes "signature", Signature) ∷ ((codes "sorts", Sorts)
     ∷ ((codes "constructors", Constructors) ∷ ((codes "rules", Rules)
     ∷ ((codes "strategies", Strategies) ∷ [])))))
 
--- the reserved words of strategies
 abbrev pub strategy_keywords : List (List ℕ × Keyword)
 strategy_keywords =
     (codes "id", Id) ∷ ((codes "fail", Fail) ∷ ((codes "all", All) ∷ ((codes "one", One)
@@ -189,7 +187,6 @@ abbrev pub sign_in : List (ℕ × Sign) → ℕ → Option Sign
 sign_in [] b = None
 sign_in (row ∷ rows) b = if (b == row.0) then Some row.1 else sign_in rows b
 
--- the signs of one byte
 abbrev pub short_signs : List (ℕ × Sign)
 short_signs =
     (open_round, OpenRound) ∷ ((close_round, CloseRound) ∷ ((open_square, OpenSquare)
