@@ -15,10 +15,10 @@ pub data Hand : Type 0 where
   Failed : Hand  -- a strategy failed
   -- run strategies on its children from an index on, with the parts in their places
   Each : Acts → ℕ → Standing → ℕ → Vec Standing Global → Hand
-  -- run a strategy on the leftmost of its children from an index on on which it succeeds
+  -- run a strategy on its children from an index on, until it succeeds on one
   Leftmost : Bor ResolvedStrategy → ℕ → Standing → ℕ → Hand
-  -- run a strategy on those of its children from an index on on which it succeeds; the flag says
-  -- whether it has succeeded on any
+  -- run a strategy on its children from an index on, keeping those that fail; the flag says whether
+  -- it has succeeded on any
   Those : Bor ResolvedStrategy → ℕ → Standing → ℕ → Bool → Vec Standing Global → Hand
 
 abbrev pub hand_of : Next → Standing → Vec Standing Global → Hand

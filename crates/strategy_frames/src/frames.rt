@@ -75,11 +75,10 @@ pub enum Next<'t> {
     Failed,
     /// Run strategies in this scope on its children from this index on.
     Each(Acts<'t>, usize, usize),
-    /// Run a strategy in this scope on the leftmost of its children from this index on on which it
-    /// succeeds.
+    /// Run a strategy in this scope on its children from this index on, until it succeeds on one.
     Leftmost(&'t ResolvedStrategy, usize, usize),
-    /// Run a strategy in this scope on those of its children from this index on on which it
-    /// succeeds; the flag says whether it succeeded on an earlier one.
+    /// Run a strategy in this scope on its children from this index on, keeping those that fail; the
+    /// flag says whether it succeeded on an earlier one.
     Those(&'t ResolvedStrategy, usize, usize, bool),
 }
 
