@@ -11,20 +11,8 @@ use Rattle.strategy_parse.specs.declared.parser.state.PatternFrame.TheVariants.{
 use Rattle.strategy_syntax.specs.Variables.{variables}
 use Rattle.strategy_syntax.specs.Lists.{is_among}
 use Rattle.strategy_parse.specs.inside.FreeNames.{hides, is_hidden}
-use Rattle.strategy_parse.specs.inside.Counts.{Counts, count, occurrences, Raised, named, lefts_of}
+use Rattle.strategy_parse.specs.inside.Counts.{Counts, count, occurrences, Raised, named, lefts_of, occurrences_in, lefts_in, IsCounted}
 use Rattle.strategy_parse.proofs.HiddenLemmas.{hidden-reverse}
-
-abbrev pub occurrences_in : Symbol → List Frame → ℕ
-occurrences_in f [] = 0
-occurrences_in f (F ∷ S) = occurrences f (named F) + occurrences_in f S
-
-abbrev pub lefts_in : List Frame → ℕ
-lefts_in [] = 0
-lefts_in (F ∷ S) = lefts_of F + lefts_in S
-
--- the counts agree with what the open forms hide
-abbrev pub IsCounted : Counts → ℕ → List Frame → Type 0
-IsCounted m n S = ((f : Symbol) → count m f ≡ occurrences_in f S) × (n ≡ lefts_in S)
 
 occurrences-append : (f : Symbol) (xs ys : List Symbol) → occurrences f (xs ++ ys) ≡ occurrences f xs + occurrences f ys
 occurrences-append f [] ys = omega arith

@@ -37,3 +37,15 @@ named F = []
 abbrev pub lefts_of : Frame → ℕ
 lefts_of (ForPattern ClosureLeft) = 1
 lefts_of F = 0
+
+abbrev pub occurrences_in : Symbol → List Frame → ℕ
+occurrences_in f [] = 0
+occurrences_in f (F ∷ S) = occurrences f (named F) + occurrences_in f S
+
+abbrev pub lefts_in : List Frame → ℕ
+lefts_in [] = 0
+lefts_in (F ∷ S) = lefts_of F + lefts_in S
+
+-- the counts agree with what the open forms hide
+abbrev pub IsCounted : Counts → ℕ → List Frame → Type 0
+IsCounted m n S = ((f : Symbol) → count m f ≡ occurrences_in f S) × (n ≡ lefts_in S)

@@ -2,7 +2,7 @@
 #![tactic(auto, unfolding(crate::specs::inside::Forms::forms))]
 
 ghost use Rattle.std.specs.Prelude.{◌≡◌, true};
-ghost use Rattle.strategy_parse.proofs.CountLemmas.{IsCounted};
+ghost use Rattle.strategy_parse.specs.inside.Counts.{IsCounted};
 
 use crate::parser::counts::{count, lower_form, raise_form};
 use crate::parser::state::{Frame, Infix};

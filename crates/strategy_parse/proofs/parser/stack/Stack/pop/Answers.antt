@@ -1,4 +1,5 @@
-use Rattle.strategy_parse.proofs.CountLemmas.{counted-pop, IsCounted}
+use Rattle.strategy_parse.specs.inside.Counts.{IsCounted}
+use Rattle.strategy_parse.proofs.CountLemmas.{counted-pop}
 use Rattle.std.proofs.Common.{subst}
 use Rattle.strategy_parse.proofs.parser.stack.Stack.pop.Goals as goal
 
