@@ -320,12 +320,14 @@ ok
 %
 tree t Z
 apply t within 1000000 do rec x(x)
+apply t within 1000000 do rec x(x; id)
 apply t do rec x(\ y -> G(y) \; x)
 show t
 history
-= 4 2
+= 4 3
 ok
 ok
+refused 13 spent
 refused 13 spent
 refused 14 big
 Z

@@ -504,6 +504,20 @@ fn bounds_commands(rt: HostRuntime) -> Result<(), Fail> {
     Ok(())
 }
 
+// A pattern that builds a term of 1,901 levels, and a strategy within 1,999 brackets: both are
+// read, checked and run as commands.
+#[test]
+fn bounds_strategies(rt: HostRuntime) -> Result<(), Fail> {
+    let script = b"tree t Z\napply t do ?x; !".as_slice();
+    let script = with_run(rt.alloc(), script, b'[', 1900, b"x")?;
+    let script = with_run(rt.alloc(), &script, b']', 1900, b"\napply t do ")?;
+    let script = with_run(rt.alloc(), &script, b'(', 1999, b"id")?;
+    let script = with_run(rt.alloc(), &script, b')', 1999, b"\nshow t")?;
+    let answers = b"ok\nrefused 14 big\nok\nZ\n".as_slice();
+    assert!(rt; is_row(rt.alloc(), &script, false, answers, ends(3, 1))?);
+    Ok(())
+}
+
 // The command with this many opening brackets, a text and as many closing brackets.
 fn bracketed(alloc: Global, front: &[u8], inner: &[u8], closing: usize) -> Result<Vec<u8>, Fail> {
     let mut script = with_run(alloc, front, b'[', 1000, inner)?;

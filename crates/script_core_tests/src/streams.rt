@@ -53,10 +53,11 @@ fn stops_before_a_read_fault(rt: HostRuntime) -> Result<(), Fail> {
     Ok(())
 }
 
-// Takes at most two bytes per write; without room it fails or takes none.
+// Takes at most `most` bytes per write; without room it fails or takes none.
 #[derive(Drop)]
 struct NarrowWriter<'a> {
     held: &'a mut Vec<u8>,
+    most: usize,
     room: usize,
     fails: bool,
 }
@@ -66,7 +67,7 @@ impl Write for NarrowWriter<'_> {
         if self.room == 0 && self.fails {
             return Err(Error::from(ErrorKind::Other));
         }
-        let taken = self.room.min(buf.len()).min(2);
+        let taken = self.room.min(buf.len()).min(self.most);
         self.held.extend_from_slice(&buf[..taken])?;
         self.room -= taken;
         Ok(taken)
@@ -77,13 +78,15 @@ impl Write for NarrowWriter<'_> {
     }
 }
 
-// How a run into the writer ends: with this many failures of the writer, or with a fault.
+// How a run of the script into the writer ends: with this many failures of the writer, or with a
+// fault.
 fn ends_into(
     alloc: Global,
     session: &mut Session<NoPrimitives>,
+    script: &[u8],
     writer: NarrowWriter<'_>,
 ) -> Result<u64, RunFault> {
-    let mut source = Bytes::new(b"tree t a\ntree t b\nshow t\n");
+    let mut source = Bytes::new(script);
     let mut sink = Counted::new(writer);
     match run(alloc, session, &mut source, &mut sink, settings(false)) {
         Ok(_) => Ok(sink.failures()),
@@ -91,34 +94,72 @@ fn ends_into(
     }
 }
 
-// The number of steps of the session after a run whose writer has this much room, whether the
+// A script of joined lines and a comment, and one whose second command changes the tree. The
+// answers to each are eight bytes.
+const WRITTEN: [(&[u8], &[u8]); 2] = [
+    (b"tree t f(\n  a)\n# note\n\nshow t\n", b"ok\nf(a)\n"),
+    (b"tree t a\ntree t b\nshow t\n", b"ok\nok\nb\n"),
+];
+
+// A writer: the most bytes that it takes per write and in all, and whether it then fails or takes
+// none.
+#[derive(Clone, Copy)]
+struct Narrow {
+    most: usize,
+    room: usize,
+    fails: bool,
+}
+
+// The number of steps of the session after a run of the script into such a writer, whether the
 // writer holds a prefix of the answers, and how the run ended.
-fn steps_behind(alloc: Global, room: usize, fails: bool) -> (u64, bool, Result<u64, RunFault>) {
+fn steps_after(
+    alloc: Global,
+    script: &[u8],
+    answers: &[u8],
+    narrow: Narrow,
+) -> (u64, bool, Result<u64, RunFault>) {
     let mut session = new_session(alloc);
     let mut held = Vec::new(alloc);
     let writer = NarrowWriter {
         held: &mut held,
-        room,
-        fails,
+        most: narrow.most,
+        room: narrow.room,
+        fails: narrow.fails,
     };
-    let ended = ends_into(alloc, &mut session, writer);
-    let answers: &[u8] = b"ok\nok\nb\n";
-    let is_front = held.len() == room && answers.starts_with(&held);
+    let ended = ends_into(alloc, &mut session, script, writer);
+    let is_front = held.len() == narrow.room && answers.starts_with(&held);
     let (past, _) = session.counts();
     (past, is_front, ended)
 }
 
-// The session is the one after the command whose answer couldn't be written whole.
+// Whether each run breaks off at the answer for which the writer has no room, and ends well if all
+// fits. `steps` are those of the session by then, if the first answer doesn't fit and if it does.
+fn breaks_off(alloc: Global, number: usize, most: usize, steps: [u64; 2]) -> bool {
+    let (script, answers) = WRITTEN[number];
+    for fails in [true, false] {
+        for room in 0..9 {
+            let narrow = Narrow { most, room, fails };
+            let past = if room < 3 { steps[0] } else { steps[1] };
+            let ended = if room < 8 {
+                Err(RunFault::Write)
+            } else {
+                Ok(0)
+            };
+            if steps_after(alloc, script, answers, narrow) != (past, true, ended) {
+                return false;
+            }
+        }
+    }
+    true
+}
+
+// The session is the one after the command whose answer couldn't be written whole, also if a writer
+// takes a byte at a time.
 #[test]
 fn breaks_off_at_a_write_fault(rt: HostRuntime) -> Result<(), Fail> {
-    for fails in [true, false] {
-        for room in 0..8 {
-            let wanted = if room < 3 { 1 } else { 2 };
-            assert!(rt;
-                steps_behind(rt.alloc(), room, fails) == (wanted, true, Err(RunFault::Write))
-            );
-        }
-        assert!(rt; steps_behind(rt.alloc(), 8, fails) == (2, true, Ok(0)));
+    for most in [1, 2, 4096] {
+        assert!(rt; breaks_off(rt.alloc(), 0, most, [1, 1]), "{most}");
+        assert!(rt; breaks_off(rt.alloc(), 1, most, [1, 2]), "{most}");
     }
     Ok(())
 }

@@ -374,11 +374,11 @@ fn instances_that_are_too_large(rt: HostRuntime) -> Result<(), Fail> {
 
 // ---- marks
 
-// Whether x, which matches a, then doesn't match b and keeps a.
+// Whether x, which matches a, then doesn't match b, and its cell holds a and its instance is a.
 fn keeps_its_term_in<'t>(
     alloc: Global,
     cells: &mut Cells<'t>,
-    x: &Place,
+    x: &'t Place,
     a: &'t Term,
     b: &'t Term,
 ) -> Result<bool, Fail> {
@@ -386,7 +386,10 @@ fn keeps_its_term_in<'t>(
     cells.open_cells(1)?;
     let is_a = cells.matches_term(alloc, &places, x, a)?;
     let is_b = cells.matches_term(alloc, &places, x, b)?;
-    Ok(is_a && !is_b && holds(alloc, cells, 0, b"a")?)
+    let built = cells.build_term(alloc, &places, x, 0)?;
+    let is_built = is_built(alloc, &built, b"a");
+    drop(built);
+    Ok(is_built? && is_a && !is_b && holds(alloc, cells, 0, b"a")?)
 }
 
 fn keeps_its_term_of(alloc: Global, x: &Place, a: &Term, b: &Term) -> Result<bool, Fail> {

@@ -97,14 +97,15 @@ fn are_no_terms(alloc: Global, table: &str) -> Result<(), Fail> {
     Ok(())
 }
 
-// The prefixes of this text with 1, 2, 22, 23 and 28 bytes spell a term.
+// The prefixes of this text with 1, 2, 22, 23 and 28 bytes spell a term. The others are refused
+// because they spell none, and for no other reason.
 const TEXT: &[u8] = b"f ( \"x\\n\\101\" , -007 ) { a }";
 
 fn is_prefix_as_told(alloc: Global, count: usize) -> bool {
-    let spells = matches!(count, 1 | 2 | 22 | 23 | 28);
-    match TEXT.get(..count) {
-        Some(prefix) => fault_of(alloc, prefix).is_none() == spells,
-        None => false,
+    match (TEXT.get(..count), count) {
+        (Some(prefix), 1 | 2 | 22 | 23 | 28) => fault_of(alloc, prefix).is_none(),
+        (Some(prefix), _) => is_no_term(alloc, prefix),
+        (None, _) => false,
     }
 }
 

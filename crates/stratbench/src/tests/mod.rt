@@ -75,6 +75,55 @@ fn reads_command_lines(rt: HostRuntime) -> Result<(), Fail> {
     Ok(())
 }
 
+// The text that is shown for a command line that isn't taken.
+fn shown(alloc: Global, words: &[&str]) -> Result<String, Fail> {
+    match arguments(alloc, words) {
+        Ok(_) => Err("a command line that is taken".into()),
+        Err(error) => Ok(format!(in alloc; "{error}")?),
+    }
+}
+
+// Whether the text has all of these in it.
+fn has_all(text: &str, parts: &[&str]) -> bool {
+    parts.iter().all(|part| text.contains(*part))
+}
+
+// Help names each option and the argument, and what a budget may be. A refused command line says what is wrong with
+// it.
+#[test]
+fn shows_help_and_faults(rt: HostRuntime) -> Result<(), Fail> {
+    let table: [(&[&str], &[&str]); 5] = [
+        (
+            &["stratbench", "--help"],
+            &[
+                "Usage: stratbench",
+                "--library",
+                "--steps <N>",
+                "1,000,000",
+                "--stop",
+                "--help",
+                "FILE",
+                "Examples:",
+            ],
+        ),
+        (
+            &["stratbench", "--frob"],
+            &["error: ", "'--frob'", "Usage: stratbench"],
+        ),
+        (
+            &["stratbench", "--steps", "0"],
+            &["error: ", "'0'", "'--steps <N>'"],
+        ),
+        (&["stratbench", "--steps"], &["error: ", "'--steps <N>'"]),
+        (&["stratbench", "a", "b"], &["error: ", "'b'"]),
+    ];
+    for (words, parts) in table {
+        let text = shown(rt.alloc(), words)?;
+        assert!(rt; has_all(&text, parts), "{words:?}: {text}");
+    }
+    Ok(())
+}
+
 #[test]
 fn tells_statuses(rt: HostRuntime) -> Result<(), Fail> {
     let table: [(Result<Summary, RunFault>, u8); 6] = [

@@ -1,0 +1,137 @@
+"""What the tools that try the built program share: runs of a script, with the answer to each command apart.
+
+A command is complete when the first byte of the next has come, and is answered before the program reads on. So a run whose
+reads end one byte into each command tells where each answer ends, and how many growths of memory it took.
+"""
+
+import atexit
+import os
+import re
+import resource
+import shutil
+import subprocess
+import tempfile
+
+TOP = os.path.dirname(os.path.dirname(os.path.realpath(__file__)))
+PROGRAM = f"{TOP}/crates/stratbench/out/stratbench"
+
+# The refusals, by number.
+WORDS = (
+    "memory line long name notree nomodule term deep path syntax check fails spent big noundo noredo group nogroup".split()
+)
+KINDS = "parameter twice clash unknown undeclared wild primitive"
+REFUSAL = re.compile(
+    rb"refused (?:%s|11 (?:%s) \S.* \d+ \d+)\n"
+    % (
+        b"|".join(b"%d %s" % (number, word.encode()) for number, word in enumerate(WORDS, 1) if number != 11),
+        KINDS.replace(" ", "|").encode(),
+    )
+)
+NO_MEMORY = b"refused 1 memory\n"
+
+# The commands that take no memory, from their text to their answer.
+WITHOUT_MEMORY = (b"undo", b"redo", b"begin", b"abandon")
+
+
+class Ended(Exception):
+    """A run that ended in a way that no run may."""
+
+
+def word_of(command):
+    """Returns the first word of a command."""
+    return command.split()[0] if command.split() else b""
+
+
+def commands_of(script):
+    """Returns the commands of a script as docs/manual/scripts.md says: their texts with the lines that go on with them,
+    and nothing else."""
+    commands = []
+    script = re.sub(rb"\r+(?=\n|\Z)", b"", script)
+    lines = script.split(b"\n")
+    if not lines[-1]:
+        lines.pop()
+    for line in lines:
+        if line.startswith(b"#"):
+            continue
+        if line and line[:1] not in b" \t":
+            commands.append(line)
+        elif commands:
+            commands[-1] += b"\n" + line
+    return commands
+
+
+class Workbench:
+    """The built program, whose runs the preloaded library watches."""
+
+    def __init__(self, program=PROGRAM):
+        self.program = os.path.abspath(program)
+        self.room = tempfile.mkdtemp(prefix="stratbench-")
+        atexit.register(shutil.rmtree, self.room, ignore_errors=True)
+        self.library = f"{self.room}/growths.so"
+        built = [os.environ.get("CC", "cc"), "-O2", "-shared", "-fPIC", "-Wall", "-o", self.library, f"{TOP}/tools/growths.c"]
+        subprocess.run(built, check=True)
+
+    def run(self, script, words=(), refused=None, ends=(), log=None, seconds=10, limits=None):
+        """Returns what the program writes to its outputs, and its status. `refused` is the first and the last growth of memory
+        that is refused, `ends` are places that no read goes past, `limits` a function that is called in the new process."""
+        environment = {"LD_PRELOAD": self.library, "PATH": os.environ["PATH"]}
+        if refused:
+            environment["GROWTHS_REFUSED"] = "%d %d" % refused
+        if ends:
+            environment["INPUT_ENDS"] = " ".join(map(str, ends))
+        if log:
+            environment["GROWTHS_LOG"] = log
+        with subprocess.Popen(
+            [self.program, *words], env=environment, stdin=subprocess.PIPE, stdout=subprocess.PIPE, stderr=subprocess.PIPE,
+            preexec_fn=limits, cwd=self.room,
+        ) as ran:
+            try:
+                out, said = ran.communicate(script, timeout=seconds)
+            except subprocess.TimeoutExpired:
+                ran.kill()
+                raise Ended(f"no end after {seconds} seconds")
+        if ran.returncode < 0:
+            raise Ended(f"ended by signal {-ran.returncode}")
+        return out, said, ran.returncode
+
+    def spent(self, script, seconds=600):
+        """Returns the processor seconds of a run, the most memory that it took, in KB, and what it writes."""
+        log = f"{self.room}/log-{os.getpid()}"
+        open(log, "wb").close()
+        before = resource.getrusage(resource.RUSAGE_CHILDREN)
+        out, _, _ = self.run(script, log=log, seconds=seconds)
+        after = resource.getrusage(resource.RUSAGE_CHILDREN)
+        with open(log) as it:
+            peak = int(it.read().split()[-1])
+        return after.ru_utime + after.ru_stime - before.ru_utime - before.ru_stime, peak, out
+
+    def answers(self, commands, **named):
+        """Returns the answer to each of these commands and the number of growths after each, that at the start in front."""
+        script, ends = b"", []
+        for command in commands:
+            ends.append(len(script) + 1)
+            script += command + b"\n"
+        log = f"{self.room}/log-{os.getpid()}"
+        open(log, "wb").close()
+        out, said, status = self.run(script, ends=ends[1:], log=log, **named)
+        with open(log) as it:
+            lines = [tuple(map(int, line.split())) for line in it if line[0] != "p"]
+        # after each command but the last the program reads on there, the last is answered at the end
+        last_at = {read: (growths, written) for read, growths, written in lines}
+        notes = [lines[0][1:], *[last_at[end] for end in ends[1:]], *[lines[-1][1:]][: len(commands)]]
+        if status not in (0, 1):
+            raise Ended(f"status {status}: {said.decode(errors='replace')}")
+        if said:
+            raise Ended(f"written to standard error: {said.decode(errors='replace')}")
+        if notes[-1][1] != len(out):
+            raise Ended(f"{notes[-1][1]} bytes written, and {len(out)} seen")
+        wanted = 1 if any(REFUSAL.fullmatch(out[a[1] : b[1]]) for a, b in zip(notes, notes[1:])) else 0
+        if status != wanted:
+            raise Ended(f"status {status}, for answers that mean {wanted}")
+        return [out[a[1] : b[1]] for a, b in zip(notes, notes[1:])], [it[0] for it in notes]
+
+
+def shown(command, most=70):
+    """Returns the command on one line, cut where it is long."""
+    text = command.decode(errors="backslashreplace").replace("\n", " ")
+    return text if len(text) <= most else text[: most - 3] + "..."
