@@ -14,7 +14,7 @@ import re
 import subprocess
 import sys
 
-from measure import TOP, instructions
+from measure import TOP, heading, instructions
 
 TIMES = 1000
 SIZES = [500, 50000]
@@ -74,6 +74,7 @@ def main():
     program = os.path.join(TOP, "crates", "stratbench", "out", "stratbench")
     if not os.path.exists(program):
         sys.exit("build the program first: (cd crates/stratbench && rt run < stdin)")
+    heading("Applies on the built program, from text to answer")
     table("Instructions a time", lambda text, status: instructions(program, [], text, status)[0])
     table("Allocations a time", lambda text, status: allocations(program, text, status))
 

@@ -12,7 +12,7 @@ parses, for texts of about so many tokens.
 
 import tempfile
 
-from measure import build
+from measure import build, heading
 from texts import names, nested, row, table
 
 USES = "term_core prim_core strategy_syntax strategy_parse strategy_check anyhow"
@@ -55,7 +55,9 @@ STRATEGIES = {
 def main():
     with tempfile.TemporaryDirectory() as folder:
         program = build(folder, "checks.txt", USES)
+        heading("Checking modules: instructions a token, by tokens of the text")
         table(program, "check", MODULES)
+        heading("Resolving strategies: instructions a token, by tokens of the text")
         table(program, "resolve", STRATEGIES)
 
 

@@ -14,7 +14,7 @@ import os
 import sys
 import tempfile
 
-from measure import TOP, build, instructions
+from measure import TOP, build, heading, instructions
 
 USES = "term_core change_log anyhow"
 SHAPES = {
@@ -28,6 +28,7 @@ TIMES = 1000
 
 def compacting(program):
     """Logs of so many entries in each shape."""
+    heading("Logs: instructions an entry that was pushed")
     print("| Entries | | left | push | compact | take back | take back, compact |")
     print("|---|---|---|---|---|---|---|")
     for shape, told in SHAPES.items():
@@ -51,6 +52,7 @@ def kept_program(stratbench):
     start = f"module m strategies{definitions}\ntree t f(a)\n"
     turn = "put t /0 b\nundo\nbegin\nput t /0 c\ncommit\n"
     counts = [instructions(stratbench, [], start + turn * times)[0] for times in [1, TIMES + 1]]
+    heading("Changes beside a kept program, on the built program: instructions")
     print(f"`put`, `undo`, `begin`, `put`, `commit` beside {DEFINITIONS} definitions: {(counts[1] - counts[0]) / TIMES:,.0f}")
 
 

@@ -31,6 +31,15 @@ SHAPES = {
 }
 
 
+def heading(title):
+    """Prints a title over a table, with the script, the day and the commit that is measured, as RESULTS.md has them."""
+    git = ["git", "-C", TOP]
+    commit = subprocess.run([*git, "log", "-1", "--format=%cs, commit %h"], check=True, capture_output=True, text=True).stdout.strip()
+    changed = subprocess.run([*git, "status", "--porcelain", "crates"], check=True, capture_output=True, text=True).stdout
+    script = os.path.basename(sys.argv[0])
+    print(f"\n## {title}\n\n`{script}`, {commit}{' with changes' if changed else ''}\n", flush=True)
+
+
 def instructions(program, words, text, status=0):
     """How many instructions a run takes that ends so, and what it writes."""
     with tempfile.NamedTemporaryFile() as out:
@@ -84,6 +93,7 @@ def main():
     empty, _ = instructions(stratbench, [], "")
     with tempfile.TemporaryDirectory() as folder:
         program = build(folder, "program.txt", "term_core aterm_text anyhow")
+        heading("Terms: instructions")
         print("| Text | read, a byte | print, a byte | clone and drop, a term | compare, a term |")
         print("|---|---|---|---|---|")
         for name, shape in SHAPES.items():

@@ -13,7 +13,7 @@ import subprocess
 import sys
 import tempfile
 
-from measure import BYTES, SHAPES, TOP, instructions
+from measure import BYTES, SHAPES, TOP, heading, instructions
 
 NAMES = 1000
 TIMES = 1000
@@ -71,6 +71,7 @@ def main():
     if not os.path.exists(program):
         sys.exit("build the program first: (cd crates/stratbench && rt run < stdin)")
     empty, _ = instructions(program, [], "")
+    heading("Scripts on the built program: instructions a byte or a command")
     print("| What | |")
     print("|---|---|")
     texts(program, empty)

@@ -13,7 +13,7 @@ import os
 import sys
 import tempfile
 
-from measure import TOP, build, instructions
+from measure import TOP, build, heading, instructions
 
 USES = "term_core term_paths prim_core session_core itoa anyhow"
 TIMES = 1000
@@ -21,6 +21,7 @@ TIMES = 1000
 
 def places(program):
     """Changes of one place of a list, taken back one by one."""
+    heading("Changes of a session: instructions a call")
     print("| Terms of the tree | Other trees | `put` | `undo` |")
     print("|---|---|---|---|")
     for terms in [1000, 10000, 90000]:
@@ -36,6 +37,7 @@ def places(program):
 
 def histories(program):
     """Many steps, undone and made again by one call each."""
+    heading("Long histories: instructions")
     print("| Steps | undone and redone, a step |")
     print("|---|---|")
     for steps in [1000, 10000, 100000]:
@@ -49,6 +51,7 @@ def tree_command(stratbench):
     others = "".join(f"tree n{i} f(a,b)\n" for i in range(800))
     without, _ = instructions(stratbench, [], others)
     with_them, _ = instructions(stratbench, [], others + "tree n5 g\n" * TIMES)
+    heading("The command `tree`, on the built program: instructions")
     print(f"`tree n5 g` beside 800 trees: {(with_them - without) / TIMES:.0f}")
 
 

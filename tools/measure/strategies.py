@@ -13,7 +13,7 @@ which the second is eight times the first.
 import subprocess
 import tempfile
 
-from measure import build, instructions
+from measure import build, heading, instructions
 
 USES = (
     "term_core term_paths aterm_text prim_core change_log strategy_syntax strategy_parse strategy_check strategy_run anyhow"
@@ -96,6 +96,7 @@ def steps_of(program, text):
 def main():
     with tempfile.TemporaryDirectory() as folder:
         program = build(folder, "strategies.txt", USES)
+        heading("Strategies: instructions a step, applying and undoing")
         print("| Shape | steps | instructions a step | steps | instructions a step |")
         print("|---|---|---|---|---|")
         for name, (strategy, term, size) in SHAPES.items():

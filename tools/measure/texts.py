@@ -12,7 +12,7 @@ tokens.
 
 import tempfile
 
-from measure import build, instructions
+from measure import build, heading, instructions
 
 USES = "strategy_parse anyhow"
 TOKENS = [500, 1000, 2000, 4000]
@@ -95,7 +95,9 @@ def table(program, work, shapes):
 def main():
     with tempfile.TemporaryDirectory() as folder:
         program = build(folder, "texts.txt", USES)
+        heading("Parsing strategies: instructions a token, by tokens of the text")
         table(program, "strategy", STRATEGIES)
+        heading("Parsing modules: instructions a token, by tokens of the text")
         table(program, "module", MODULES)
 
 

@@ -12,7 +12,7 @@ the first.
 
 import tempfile
 
-from measure import build, instructions
+from measure import build, heading, instructions
 
 USES = "term_core aterm_text strategy_syntax change_log term_values term_match anyhow"
 
@@ -47,6 +47,7 @@ WORKS = {
 def main():
     with tempfile.TemporaryDirectory() as folder:
         program = build(folder, "values.txt", USES)
+        heading("Values, matching and building: instructions")
         print("| What | Size | Instructions | Size | Instructions |")
         print("|---|---|---|---|---|")
         for name, (work, times, term, parts, sizes) in WORKS.items():
