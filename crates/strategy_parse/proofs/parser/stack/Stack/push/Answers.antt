@@ -1,6 +1,7 @@
 use Rattle.std.proofs.Common.{◌+◌, sym, subst}
-use Rattle.strategy_parse.specs.inside.Counts.{IsCounted, lefts_of}
+use Rattle.strategy_parse.specs.inside.Counts.{IsCounted}
 use Rattle.strategy_parse.proofs.CountLemmas.{counted-push}
+use Rattle.strategy_parse.specs.inside.Counts.{lefts_of}
 use Rattle.strategy_parse.proofs.parser.stack.Stack.push.Goals as goal
 
 pub invariant_of-self-in-Some : goal.invariant_of-self-in-Some
