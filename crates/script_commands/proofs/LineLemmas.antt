@@ -1,5 +1,5 @@
 -- Lemmas on the lines of a script: a line as it arrives, byte by byte.
-use Rattle.std.proofs.Common.{◌≡◌, ◌≤◌, ◌<◌, ◌+◌, ◌-◌, ℕ, zero, suc, Bool, true, false, not, List, [], ◌∷◌, ◌++◌, length, take, get_or, map, filter, refl, sym, ap, ◌∙◌, subst, arith, append_assoc, if◌then◌else◌}
+use Rattle.std.proofs.Common.{◌≡◌, ◌≤◌, ◌<◌, ◌+◌, ◌-◌, ℕ, zero, suc, Bool, true, false, not, List, [], ◌∷◌, ◌++◌, length, take, get_or, map, filter, refl, sym, ap, ◌∙◌, subst, arith, append_assoc, append-nil, if◌then◌else◌}
 use Rattle.std.specs.List.{All, repeat, suffix_len, slice_split, onto_first}
 use Rattle.std.proofs.lemmas.List.{length-append, get_or_append_left, get_or-append-add}
 use Rattle.std.proofs.lemmas.List.Sums.{suffix_len_is}
@@ -30,7 +30,7 @@ get_or-returns zero k h = absurd (omega (arith, h))
 get_or-returns (suc n) zero h = refl
 get_or-returns (suc n) (suc k) h = get_or-returns n k (omega (arith, h))
 
-one_line-returns : (n : ℕ) → All (λ b. is_line_feed b ≡ false) (returns n)
+pub one_line-returns : (n : ℕ) → All (λ b. is_line_feed b ≡ false) (returns n)
 one_line-returns zero = λ k d h. absurd (omega (arith, h))
 one_line-returns (suc n) = All-cons (λ b. is_line_feed b ≡ false) 13 (returns n) refl (one_line-returns n)
 
@@ -59,6 +59,10 @@ core_of core n h =
 
     in_front : 0 < length core → is_carriage_return (get_or (core ++ returns n) (length core - 1) 0) ≡ false
     in_front some = ap is_carriage_return (get_or_append_left core (returns n) 0 (length core - 1) (omega (arith, some))) ∙ h.last some
+
+-- a line that ends with none of them
+pub kept-core : (core : List ℕ) → IsCore core → without_end is_carriage_return core ≡ core
+kept-core core h = ap (without_end is_carriage_return) (sym (append-nil core)) ∙ core_of core 0 h
 
 -- another byte makes the carriage returns part of the line
 pub longer_core : (core : List ℕ) (n b : ℕ) → IsCore core → is_carriage_return b ≡ false → is_line_feed b ≡ false → IsCore (core ++ (returns n ++ b ∷ []))

@@ -8,12 +8,14 @@ use Rattle.std.proofs.lemmas.List.{get_or-take, take_all, length-drop}
 use Rattle.std.proofs.lemmas.List.Folds.{length-prefix_len}
 use Rattle.std.proofs.lemmas.List.Sums.{position_or_len_is, prefix_len_passes}
 use Rattle.memchr.specs.Find.{Nowhere, NoneBefore, Passes}
+use Rattle.script_commands.specs.declared.framing.Framing.{Framing}
+use Rattle.script_commands.specs.declared.framing.Framing.TheVariants.{Continued, Lines}
 use Rattle.script_commands.specs.declared.splitter.Place.{Place}
 use Rattle.script_commands.specs.declared.splitter.Place.TheVariants.{Kept, Comment, Skipped}
 use Rattle.script_commands.specs.declared.splitter.Unfinished.{Unfinished}
 use Rattle.script_commands.specs.Handed.{Handed}
 use Rattle.script_commands.specs.Script.{is_line_feed}
-use Rattle.script_commands.specs.Splitting.{StandsBehind, Taken, going, with_more, taken}
+use Rattle.script_commands.specs.Splitting.{StandsBehind, Taken, going, with_more, taken, taken_in}
 use Rattle.script_commands.specs.inside.Passing.{ends_run, passed, out_of}
 use Rattle.script_commands.proofs.HandedLemmas.{with_more-append}
 use Rattle.script_commands.proofs.SplitLemmas.{StandsBehind-more, StandsBehind-nil}
@@ -61,16 +63,20 @@ runs_on s next left b run e h = record {
 }
 
 -- in a line of the command
-abbrev kept : Option Handed → Unfinished
-kept c = record { command = c; place = Kept; returns = 0 }
+abbrev kept : Framing → Option Handed → Unfinished
+kept f c = record { framing = f; command = c; place = Kept; returns = 0 }
 
-kept_byte : (c : Option Handed) (b : ℕ) → ends_run b ≡ false → taken (kept c) b ≡ going (kept (option_map (with_more (b ∷ [])) c))
-kept_byte c b e = at (b == 10) (b == 13) refl refl e
+kept_in : (f : Framing) (c : Option Handed) (b : ℕ) → (b == 10) ≡ false → (b == 13) ≡ false → taken (kept f c) b ≡ going (kept f (option_map (with_more (b ∷ [])) c))
+kept_in Continued c b e g = rw (e, g) refl
+kept_in Lines c b e g = rw (e, g) refl
+
+kept_byte : (f : Framing) (c : Option Handed) (b : ℕ) → ends_run b ≡ false → taken (kept f c) b ≡ going (kept f (option_map (with_more (b ∷ [])) c))
+kept_byte f c b e = at (b == 10) (b == 13) refl refl e
   where
-    at : (p q : Bool) → (b == 10) ≡ p → (b == 13) ≡ q → (p || q) ≡ false → taken (kept c) b ≡ going (kept (option_map (with_more (b ∷ [])) c))
-    at true q f g e = absurd (cc)
-    at false true f g e = absurd (cc)
-    at false false f g e = rw (g, f) refl
+    at : (p q : Bool) → (b == 10) ≡ p → (b == 13) ≡ q → (p || q) ≡ false → taken (kept f c) b ≡ going (kept f (option_map (with_more (b ∷ [])) c))
+    at true q i g e = absurd (cc)
+    at false true i g e = absurd (cc)
+    at false false i g e = kept_in f c b i g
 
 more_of_none : (c : Option Handed) → c ≡ option_map (with_more []) c
 more_of_none None = refl
@@ -80,11 +86,11 @@ more_behind : (b : ℕ) (run : List ℕ) (c : Option Handed) → option_map (wit
 more_behind b run None = refl
 more_behind b run (Some c) = ap Some (with_more-append (b ∷ []) run c)
 
-kept_run : (run : List ℕ) (c : Option Handed) → NonePasses ends_run run → Runs (kept c) run (kept (option_map (with_more run) c))
-kept_run [] c h = record { none = refl; left = ap kept (more_of_none c) }
-kept_run (b ∷ run) c h =
-    subst (λ (after : Option Handed). Runs (kept c) (b ∷ run) (kept after)) (more_behind b run c)
-    (runs_on (kept c) _ _ b run (kept_byte c b (h zero (omega arith))) (kept_run run (option_map (with_more (b ∷ [])) c) (λ i within. h (suc i) (omega (arith, within)))))
+kept_run : (f : Framing) (run : List ℕ) (c : Option Handed) → NonePasses ends_run run → Runs (kept f c) run (kept f (option_map (with_more run) c))
+kept_run f [] c h = record { none = refl; left = ap (kept f) (more_of_none c) }
+kept_run f (b ∷ run) c h =
+    subst (λ (after : Option Handed). Runs (kept f c) (b ∷ run) (kept f after)) (more_behind b run c)
+    (runs_on (kept f c) _ _ b run (kept_byte f c b (h zero (omega arith))) (kept_run f run (option_map (with_more (b ∷ [])) c) (λ i within. h (suc i) (omega (arith, within)))))
 
 -- in a dropped line
 dropped_run : (run : List ℕ) (s : Unfinished) → ((b : ℕ) → is_line_feed b ≡ false → taken s b ≡ going s) → NonePasses is_line_feed run → Runs s run s
@@ -101,25 +107,27 @@ kept_taken s x k after place returns e f =
     (at s.command s.place s.returns place returns)
   where
     at : (c : Option Handed) (p : Place) (n : ℕ) → p ≡ Kept → n ≡ 0 →
-        (let now : Unfinished = record { command = c; place = p; returns = n } in Runs now (take k x) (record now { command = option_map (with_more (take k x)) c }))
+        (let now : Unfinished = record { framing = s.framing; command = c; place = p; returns = n } in Runs now (take k x) (record now { command = option_map (with_more (take k x)) c }))
     at c p n place returns =
-        rw (place, returns) (kept_run (take k x) c (run_passes ends_run x k e))
+        rw (place, returns) (kept_run s.framing (take k x) c (run_passes ends_run x k e))
 
 pub dropped_taken : (s : Unfinished) (x : List ℕ) (k : ℕ) → (s.place ≡ Comment) ⊎ (s.place ≡ Skipped) → k ≡ position_or_len is_line_feed x → Runs s (take k x) s
-dropped_taken s x k place e = dropped_run (take k x) s (λ b f. stays b f place) (run_passes is_line_feed x k e)
+dropped_taken s x k place e = dropped_run (take k x) s (λ b f. stays s.framing b f place) (run_passes is_line_feed x k e)
   where
-    stays : (b : ℕ) → is_line_feed b ≡ false → (s.place ≡ Comment) ⊎ (s.place ≡ Skipped) → taken s b ≡ going s
-    stays b f (inl comment) = rw comment (rw f refl)
-    stays b f (inr skipped) = rw skipped (rw f refl)
+    stays : (f : Framing) (b : ℕ) → is_line_feed b ≡ false → (s.place ≡ Comment) ⊎ (s.place ≡ Skipped) → taken_in f s b ≡ going s
+    stays Continued b f (inl comment) = rw comment (rw f refl)
+    stays Continued b f (inr skipped) = rw skipped (rw f refl)
+    stays Lines b f (inl comment) = rw comment (rw f refl)
+    stays Lines b f (inr skipped) = rw skipped (rw f refl)
 
 -- after a text
 
-StandsBehind-run : (run x : List ℕ) (out : List Handed) (s : Unfinished) → StandsBehind x out s → StandsBehind (x ++ run) (out ++ out_of s run) (passed s run)
-StandsBehind-run [] x out s h = subst (λ (hs : List Handed). StandsBehind (x ++ []) hs s) (sym (append-nil out)) (StandsBehind-nil x out s h)
-StandsBehind-run (b ∷ run) x out s h =
-    subst (λ (xs : List ℕ). StandsBehind xs (out ++ out_of s (b ∷ run)) (passed s (b ∷ run))) (append_assoc x (b ∷ []) run)
-    (subst (λ (hs : List Handed). StandsBehind ((x ++ b ∷ []) ++ run) hs (passed s (b ∷ run))) (append_assoc out (option_to_list (taken s b).out) (out_of (taken s b).left run))
-    (StandsBehind-run run (x ++ b ∷ []) (out ++ option_to_list (taken s b).out) (taken s b).left (StandsBehind-more x out s b h)))
+StandsBehind-run : (framing : Framing) (run x : List ℕ) (out : List Handed) (s : Unfinished) → StandsBehind framing x out s → StandsBehind framing (x ++ run) (out ++ out_of s run) (passed s run)
+StandsBehind-run framing [] x out s h = subst (λ (hs : List Handed). StandsBehind framing (x ++ []) hs s) (sym (append-nil out)) (StandsBehind-nil framing x out s h)
+StandsBehind-run framing (b ∷ run) x out s h =
+    subst (λ (xs : List ℕ). StandsBehind framing xs (out ++ out_of s (b ∷ run)) (passed s (b ∷ run))) (append_assoc x (b ∷ []) run)
+    (subst (λ (hs : List Handed). StandsBehind framing ((x ++ b ∷ []) ++ run) hs (passed s (b ∷ run))) (append_assoc out (option_to_list (taken s b).out) (out_of (taken s b).left run))
+    (StandsBehind-run framing run (x ++ b ∷ []) (out ++ option_to_list (taken s b).out) (taken s b).left (StandsBehind-more framing x out s b h)))
 
 -- the rest of a piece, as the code consumes it
 abbrev pub left_of : ℕ → List ℕ → List ℕ
@@ -132,12 +140,12 @@ pub run_within : (i k : ℕ) (bytes : List ℕ) → i ≤ length bytes → k ≤
 run_within i k bytes in_range within = omega (arith, in_range, within, ap length (left_is i bytes), length-drop i bytes)
 
 -- the next run of a piece
-pub StandsBehind-runs : (x bytes : List ℕ) (i k : ℕ) (out : List Handed) (s left : Unfinished) → StandsBehind (x ++ take i bytes) out s →
-    out_of s (take k (left_of i bytes)) ≡ [] → left ≡ passed s (take k (left_of i bytes)) → StandsBehind (x ++ take (i + k) bytes) out left
-StandsBehind-runs x bytes i k out s left h none e =
+pub StandsBehind-runs : (framing : Framing) (x bytes : List ℕ) (i k : ℕ) (out : List Handed) (s left : Unfinished) → StandsBehind framing (x ++ take i bytes) out s →
+    out_of s (take k (left_of i bytes)) ≡ [] → left ≡ passed s (take k (left_of i bytes)) → StandsBehind framing (x ++ take (i + k) bytes) out left
+StandsBehind-runs framing x bytes i k out s left h none e =
     let run : List ℕ = take k (left_of i bytes) in
     let joined : take i bytes ++ run ≡ take (i + k) bytes = ap (λ (xs : List ℕ). take i bytes ++ take k xs) (left_is i bytes) ∙ sym (take-add i k bytes) in
-    subst (λ (xs : List ℕ). StandsBehind xs out left) (append_assoc x (take i bytes) run ∙ ap (λ (xs : List ℕ). x ++ xs) joined)
-    (subst (λ (t : Unfinished). StandsBehind ((x ++ take i bytes) ++ run) out t) (sym e)
-    (subst (λ (hs : List Handed). StandsBehind ((x ++ take i bytes) ++ run) hs (passed s run)) (ap (λ (hs : List Handed). out ++ hs) none ∙ append-nil out)
-    (StandsBehind-run run (x ++ take i bytes) out s h)))
+    subst (λ (xs : List ℕ). StandsBehind framing xs out left) (append_assoc x (take i bytes) run ∙ ap (λ (xs : List ℕ). x ++ xs) joined)
+    (subst (λ (t : Unfinished). StandsBehind framing ((x ++ take i bytes) ++ run) out t) (sym e)
+    (subst (λ (hs : List Handed). StandsBehind framing ((x ++ take i bytes) ++ run) hs (passed s run)) (ap (λ (hs : List Handed). out ++ hs) none ∙ append-nil out)
+    (StandsBehind-run framing run (x ++ take i bytes) out s h)))

@@ -1,5 +1,6 @@
 -- How a splitter answers the bytes that it is fed.
 use Rattle.std.specs.Prelude.{◌≡◌, ◌<◌, ◌≤◌, ℕ, List, [], ◌∷◌, ◌++◌, length, take, Some}
+use Rattle.script_commands.specs.declared.framing.Framing.{Framing}
 use Rattle.script_commands.specs.declared.splitter.Fed.{Fed}
 use Rattle.script_commands.specs.declared.splitter.Fed.TheVariants.{Need, Command}
 use Rattle.script_commands.specs.declared.splitter.Piece.{Piece}
@@ -17,8 +18,8 @@ handed_out Long = long
 -- given in addition to the earlier ones.
 abbrev pub GoesBehind : Split → Split → List ℕ → List Handed → Type 0
 GoesBehind old new bytes more =
-    (x : List ℕ) (out : List Handed) → StandsBehind x out old.left
-    → StandsBehind (x ++ bytes) (out ++ more) new.left
+    (framing : Framing) (x : List ℕ) (out : List Handed) → StandsBehind framing x out old.left
+    → StandsBehind framing (x ++ bytes) (out ++ more) new.left
 
 -- All bytes are consumed and no command is given; or those up to and including the one that
 -- completes a command, which is given.

@@ -1,5 +1,6 @@
 -- Commands as the splitter gives them.
 use Rattle.std.specs.Prelude.{ℕ, List, map, if◌then◌else◌}
+use Rattle.script_commands.specs.declared.framing.Framing.{Framing}
 use Rattle.script_commands.specs.Script.{commands, complete, is_long}
 
 -- A command as the splitter gives it: one of over 65,536 bytes without its bytes.
@@ -11,8 +12,8 @@ abbrev pub handed_as : List ℕ → Handed
 handed_as command = if is_long command then long else text command
 
 -- all commands of a script, and those that are complete whatever follows it
-abbrev pub handed : List ℕ → List Handed
-handed x = map handed_as (commands x)
+abbrev pub handed : Framing → List ℕ → List Handed
+handed framing x = map handed_as (commands framing x)
 
-abbrev pub completed : List ℕ → List Handed
-completed x = map handed_as (complete x)
+abbrev pub completed : Framing → List ℕ → List Handed
+completed framing x = map handed_as (complete framing x)

@@ -1,7 +1,9 @@
 -- The commands of a script.
-use Rattle.std.specs.Prelude.{ℕ, Bool, false, not, ◌&&◌, ◌==◌, nat_lt, ◌-◌, List, [], ◌∷◌, ◌++◌, length, take, map, filter, if◌then◌else◌}
-use Rattle.std.specs.List.{slice_split, suffix_len}
+use Rattle.std.specs.Prelude.{ℕ, Bool, false, not, ◌&&◌, ◌||◌, ◌==◌, nat_lt, ◌-◌, List, [], ◌∷◌, ◌++◌, length, take, drop, map, filter, if◌then◌else◌}
+use Rattle.std.specs.List.{slice_split, prefix_len, suffix_len}
 use Rattle.script_commands.specs.declared.TheConstants.{MAX_COMMAND}
+use Rattle.script_commands.specs.declared.framing.Framing.{Framing}
+use Rattle.script_commands.specs.declared.framing.Framing.TheVariants.{Continued, Lines}
 
 abbrev pub is_line_feed : ℕ → Bool
 is_line_feed b = b == 10
@@ -54,9 +56,30 @@ cut (line ∷ lines) =
     then record { going_on = []; commands = (line ++ rest.going_on) ∷ rest.commands }
     else record { going_on = 10 ∷ line ++ rest.going_on; commands = rest.commands }
 
--- The commands of a text. Continuation lines before the first command are dropped.
-abbrev pub commands : List ℕ → List (List ℕ)
-commands text = (cut (lines text)).commands
+-- ---- a line is a command
+
+-- a line without the blanks at its start: spaces, tabs and carriage returns
+abbrev pub is_blank : ℕ → Bool
+is_blank b = b == 32 || b == 9 || b == 13
+
+abbrev pub without_start : List ℕ → List ℕ
+without_start line = drop (prefix_len is_blank line) line
+
+-- an empty line and a comment are none
+abbrev pub is_command : List ℕ → Bool
+is_command [] = false
+is_command (b ∷ bytes) = not (b == 35)
+
+abbrev pub line_commands : List (List ℕ) → List (List ℕ)
+line_commands pieces = filter is_command (map without_start pieces)
+
+-- ---- commands
+
+-- The commands of a text. If commands may go on over lines, continuation lines before the first
+-- command are dropped.
+abbrev pub commands : Framing → List ℕ → List (List ℕ)
+commands Continued text = (cut (lines text)).commands
+commands Lines text = line_commands (pieces text)
 
 -- all but the last
 abbrev pub but_last : {X : Type 0} → List X → List X
@@ -64,9 +87,15 @@ but_last [] = []
 but_last (x ∷ []) = []
 but_last (x ∷ (y ∷ ys)) = x ∷ but_last (y ∷ ys)
 
--- The commands of a text that are complete, whatever follows it: all but the last.
-abbrev pub complete : List ℕ → List (List ℕ)
-complete text = but_last (commands text)
+-- a text up to its last line feed
+abbrev pub ended_lines : List ℕ → List ℕ
+ended_lines text = without_end (λ b. not (is_line_feed b)) text
+
+-- The commands of a text that are complete, whatever follows it: all but the last, which may go on;
+-- or those of the lines that a line feed ends.
+abbrev pub complete : Framing → List ℕ → List (List ℕ)
+complete Continued text = but_last (commands Continued text)
+complete Lines text = commands Lines (ended_lines text)
 
 -- whether a command has over 65,536 bytes
 abbrev pub is_long : List ℕ → Bool

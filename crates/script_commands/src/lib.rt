@@ -1,9 +1,11 @@
 //! The commands of a script, split off its bytes as they arrive.
 #![tactic(auto)]
 
+mod framing;
 mod pending;
 mod splitter;
 
+pub use framing::Framing;
 pub use splitter::{Fed, Piece, Splitter};
 
 /// The most bytes of a command.

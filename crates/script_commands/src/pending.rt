@@ -78,6 +78,13 @@ impl Pending {
         self.add_behind(returns, byte);
     }
 
+    /// Drops the command, if there is one.
+    pub fn forget(&mut self)
+        ensures { self.new ≡ None }
+    {
+        self.is_there = false;
+    }
+
     /// Appends `returns` carriage returns and another byte to the pending command.
     pub fn add_behind(&mut self, returns: usize, byte: u8)
         ensures { self.new ≡ option_map (with_more (behind_returns returns byte)) self.old }

@@ -1,20 +1,25 @@
 //! Commands, split off a script as its bytes arrive.
 //!
 //! A line ends at LF or at the end of the input, and the run of CR at its end is dropped. A line
-//! that begins with `#` is a comment. A line that is empty or begins with a space or a tab
-//! continues the command before it, any other begins a command.
+//! that begins with `#` is a comment. By `Framing::Continued` a line that is empty or begins with a
+//! space or a tab continues the command before it, and any other begins a command. By
+//! `Framing::Lines` blanks at the start of a line are skipped, an empty line is dropped, and any
+//! other is a command.
 
 ghost use Rattle.std.specs.Prelude.{◌≡◌, ◌≤◌, ◌++◌, [], List, length, take, ℕ, IfOk, IfSome, IfNone, Some, None, is_some, option_map, true};
 ghost use Rattle.script_commands.specs.Handed.{Handed, handed};
 ghost use Rattle.std.specs.List.{position_or_len};
 ghost use Rattle.std.specs.Option.{option_to_list};
 ghost use Rattle.script_commands.specs.Script.{is_line_feed};
-ghost use Rattle.script_commands.specs.Splitting.{StandsBehind, taken, going, begun, hold_return, at_start, in_line, gone_on, with_more};
+ghost use Rattle.script_commands.specs.declared.framing.Framing.{Framing as AnyFraming};
+ghost use Rattle.script_commands.specs.declared.framing.Framing.TheVariants.{Continued, Lines};
+ghost use Rattle.script_commands.specs.Splitting.{StandsBehind, taken, taken_in, going, begun, nothing, longer, in_place, hold_return, continued_at, own_line_at, at_start, in_line, in_dropped, at_own_start, in_own_line, in_own_comment, gone_on, with_more};
 ghost use Rattle.script_commands.specs.inside.Passing.{passed, out_of, ends_run};
-ghost use Rattle.script_commands.specs.inside.SplitView.{left_behind};
+ghost use Rattle.script_commands.specs.inside.SplitView.{begins_with, left_behind};
 ghost use Rattle.script_commands.specs.FedRight.{FedRight, handed_out};
 
 use crate::MAX_COMMAND;
+use crate::framing::Framing;
 use crate::pending::Pending;
 use memchr::{memchr, memchr2};
 use std::alloc::Global;
@@ -52,17 +57,19 @@ pub enum Place {
     Skipped,
 }
 
-/// The first bytes of a line that completes the command before it: a number of carriage returns,
-/// and another byte.
+/// What is pending after a complete command.
 #[derive(Clone, Copy)]
-pub struct Begun {
-    returns: usize,
-    byte: u8,
+pub enum Next {
+    /// The line that completes it begins a command, with `returns` carriage returns and a byte.
+    Begun { returns: usize, byte: u8 },
+    /// Nothing: its own line feed completes it.
+    Nothing,
 }
 
 /// What is pending between two bytes.
 #[derive(Drop)]
 pub struct Unfinished {
+    framing: Framing,
     command: Pending,
     place: Place,
     // Carriage returns that are dropped if the line ends.
@@ -73,7 +80,7 @@ pub struct Unfinished {
 #[derive(Drop)]
 pub struct Splitter {
     open: Unfinished,
-    begun: Option<Begun>,
+    next: Option<Next>,
 }
 
 impl Model for Splitter {
@@ -84,23 +91,24 @@ impl Model for Splitter {
 
     ghost coded = { split_code };
 
-    ghost view = { λ s. split_of s.open s.begun };
+    ghost view = { λ s. split_of s.open s.next };
 }
 
 impl Splitter {
     /// A splitter that was fed nothing. It takes the memory for the longest command, and no other
     /// call takes any.
-    pub fn new(alloc: Global) -> Result<Splitter, NoMemory>
-        ensures { IfOk result (λ splitter. StandsBehind [] [] splitter.left) }
+    pub fn new(alloc: Global, framing: Framing) -> Result<Splitter, NoMemory>
+        ensures { IfOk result (λ splitter. StandsBehind framing [] [] splitter.left) }
     {
         let command = Pending::new(alloc)?;
         Ok(Splitter {
             open: Unfinished {
+                framing,
                 command,
                 place: Place::Start,
                 returns: 0,
             },
-            begun: None,
+            next: None,
         })
     }
 
@@ -108,8 +116,8 @@ impl Splitter {
     pub fn feed(&mut self, bytes: &[u8]) -> Fed
         ensures { FedRight result self.old self.new bytes.now }
     {
-        self.open.go_on_behind(self.begun);
-        self.begun = None;
+        self.open.go_on_behind(self.next);
+        self.next = None;
         let mut at = 0;
         while at < bytes.len() {
             at += self.open.take_run(&bytes[at..]);
@@ -118,8 +126,8 @@ impl Splitter {
             }
             let byte = bytes[at];
             at += 1;
-            if let Some(begun) = self.open.take(byte) {
-                self.begun = Some(begun);
+            if let Some(next) = self.open.take(byte) {
+                self.next = Some(next);
                 return Fed::Command(at);
             }
         }
@@ -129,11 +137,11 @@ impl Splitter {
     /// Ends the script, and returns whether there is a last command. Nothing may be fed afterwards.
     pub fn finish(&mut self) -> bool
         ensures ready { result ≡ is_some self.new.to_hand_out }
-        ensures all { (x : List ℕ) (out : List Handed) → StandsBehind x out self.old.left
-            → handed x ≡ out ++ option_to_list self.new.to_hand_out }
+        ensures all { (framing : AnyFraming) (x : List ℕ) (out : List Handed) → StandsBehind framing x out self.old.left
+            → handed framing x ≡ out ++ option_to_list self.new.to_hand_out }
     {
-        self.open.go_on_behind(self.begun);
-        self.begun = None;
+        self.open.go_on_behind(self.next);
+        self.next = None;
         self.open.command.is_there()
     }
 
@@ -147,21 +155,32 @@ impl Splitter {
 }
 
 impl Unfinished {
-    // Drops the complete command, if there is one, in favour of what was begun after it.
-    fn go_on_behind(&mut self, line: Option<Begun>)
-        ensures { self.new ≡ left_behind self.old line }
+    // Drops the complete command, if there is one, in favour of what comes after it.
+    fn go_on_behind(&mut self, next: Option<Next>)
+        ensures { self.new ≡ left_behind self.old next }
     {
-        if let Some(line) = line {
-            self.begin(line);
+        match next {
+            None => {}
+            Some(Next::Begun { returns, byte }) => self.begin(returns, byte),
+            Some(Next::Nothing) => self.forget(),
         }
     }
 
     // A line begins a command.
-    fn begin(&mut self, line: Begun)
-        ensures { self.new ≡ begun line.returns line.byte }
+    fn begin(&mut self, returns: usize, byte: u8)
+        ensures { self.new ≡ begun self.old.framing returns byte }
     {
-        self.command.begin(line.returns, line.byte);
+        self.command.begin(returns, byte);
         self.place = Place::Kept;
+        self.returns = 0;
+    }
+
+    // A line begins, and nothing is pending.
+    fn forget(&mut self)
+        ensures { self.new ≡ nothing self.old.framing }
+    {
+        self.command.forget();
+        self.place = Place::Start;
         self.returns = 0;
     }
 
@@ -186,37 +205,41 @@ impl Unfinished {
         }
     }
 
-    // Consumes a byte. If it completes the pending command, returns what begins after it; the
+    // Consumes a byte. If it completes the pending command, returns what comes after it; the
     // command stays.
-    fn take(&mut self, byte: u8) -> Option<Begun>
+    fn take(&mut self, byte: u8) -> Option<Next>
         ensures goes { IfNone result (taken self.old byte ≡ going self.new) }
-        ensures completes { IfSome result (λ line. taken self.old byte
-            ≡ record { out = self.new.command; left = begun line.returns line.byte }) }
-        ensures there { IfSome result (λ line. is_some self.new.command ≡ true) }
+        ensures completes { IfSome result (λ next. taken self.old byte
+            ≡ record { out = self.new.command; left = begins_with self.new.framing next }) }
+        ensures there { IfSome result (λ next. is_some self.new.command ≡ true) }
     {
-        match self.place {
-            Place::Start => self.take_first(byte),
-            Place::Kept => {
-                self.take_kept(byte);
-                None
-            }
-            Place::Comment | Place::Skipped => {
-                if byte == b'\n' {
-                    self.place = Place::Start;
-                    self.returns = 0;
-                }
-                None
-            }
+        match self.framing {
+            Framing::Continued => self.take_continued(byte),
+            Framing::Lines => self.take_own_line(byte),
         }
     }
 
+    fn take_continued(&mut self, byte: u8) -> Option<Next>
+        ensures goes { IfNone result (continued_at self.old.place self.old byte ≡ going self.new) }
+        ensures completes { IfSome result (λ next. continued_at self.old.place self.old byte
+            ≡ record { out = self.new.command; left = begins_with self.new.framing next }) }
+        ensures there { IfSome result (λ next. is_some self.new.command ≡ true) }
+    {
+        match self.place {
+            Place::Start => return self.take_first(byte),
+            Place::Kept => self.take_kept(byte),
+            Place::Comment | Place::Skipped => self.take_dropped(byte),
+        }
+        None
+    }
+
     // A byte at the start of a line.
-    fn take_first(&mut self, byte: u8) -> Option<Begun>
+    fn take_first(&mut self, byte: u8) -> Option<Next>
         requires { self.old.place ≡ Place.Start }
         ensures goes { IfNone result (at_start self.old byte ≡ going self.new) }
-        ensures completes { IfSome result (λ line. at_start self.old byte
-            ≡ record { out = self.new.command; left = begun line.returns line.byte }) }
-        ensures there { IfSome result (λ line. is_some self.new.command ≡ true) }
+        ensures completes { IfSome result (λ next. at_start self.old byte
+            ≡ record { out = self.new.command; left = begins_with self.new.framing next }) }
+        ensures there { IfSome result (λ next. is_some self.new.command ≡ true) }
     {
         match byte {
             b'\r' => self.hold_return(),
@@ -231,6 +254,16 @@ impl Unfinished {
         None
     }
 
+    // A byte in a dropped line.
+    fn take_dropped(&mut self, byte: u8)
+        ensures { in_dropped self.old byte ≡ going self.new }
+    {
+        if byte == b'\n' {
+            self.place = Place::Start;
+            self.returns = 0;
+        }
+    }
+
     fn hold_return(&mut self)
         ensures { self.new ≡ hold_return self.old }
     {
@@ -241,7 +274,7 @@ impl Unfinished {
 
     // A line that begins with a space or a tab continues the command, if there is one.
     fn go_on(&mut self, byte: u8)
-        ensures { self.new ≡ gone_on byte self.old.command }
+        ensures { self.new ≡ gone_on self.old.framing byte self.old.command }
     {
         self.returns = 0;
         if !self.command.is_there() {
@@ -254,21 +287,18 @@ impl Unfinished {
     }
 
     // A line begins a command. The one before it, if there is one, is complete.
-    fn begin_line(&mut self, byte: u8) -> Option<Begun>
+    fn begin_line(&mut self, byte: u8) -> Option<Next>
         ensures goes { IfNone result ((self.old.command ≡ None)
-            × (self.new ≡ begun self.old.returns byte)) }
-        ensures completes { IfSome result (λ line. (self.new.command ≡ self.old.command)
-            × (line.returns ≡ self.old.returns) × (line.byte ≡ byte)) }
-        ensures there { IfSome result (λ line. is_some self.new.command ≡ true) }
+            × (self.new ≡ begun self.old.framing self.old.returns byte)) }
+        ensures completes { IfSome result (λ next. (self.new.command ≡ self.old.command)
+            × (self.new.framing ≡ self.old.framing) × (next ≡ Next.Begun self.old.returns byte)) }
+        ensures there { IfSome result (λ next. is_some self.new.command ≡ true) }
     {
-        let line = Begun {
-            returns: self.returns,
-            byte,
-        };
+        let returns = self.returns;
         if self.command.is_there() {
-            return Some(line);
+            return Some(Next::Begun { returns, byte });
         }
-        self.begin(line);
+        self.begin(returns, byte);
         None
     }
 
@@ -283,11 +313,70 @@ impl Unfinished {
                 self.returns = 0;
                 self.place = Place::Start;
             }
-            _ => {
-                self.command.add_behind(self.returns, byte);
-                self.returns = 0;
+            _ => self.take_more(byte),
+        }
+    }
+
+    // A byte of the command, after the carriage returns that were held back.
+    fn take_more(&mut self, byte: u8)
+        requires { self.old.place ≡ Place.Kept }
+        ensures { self.new ≡ longer self.old byte }
+    {
+        self.command.add_behind(self.returns, byte);
+        self.returns = 0;
+    }
+
+    fn take_own_line(&mut self, byte: u8) -> Option<Next>
+        ensures goes { IfNone result (own_line_at self.old.place self.old byte ≡ going self.new) }
+        ensures completes { IfSome result (λ next. own_line_at self.old.place self.old byte
+            ≡ record { out = self.new.command; left = begins_with self.new.framing next }) }
+        ensures there { IfSome result (λ next. is_some self.new.command ≡ true) }
+    {
+        match self.place {
+            Place::Start => self.take_own_first(byte),
+            Place::Kept => return self.take_own_kept(byte),
+            Place::Comment | Place::Skipped => {
+                if byte == b'\n' {
+                    self.forget();
+                }
             }
         }
+        None
+    }
+
+    // A byte at the start of a line that is a command. Blanks are skipped.
+    fn take_own_first(&mut self, byte: u8)
+        ensures { at_own_start self.old byte ≡ going self.new }
+    {
+        match byte {
+            b'\n' | b' ' | b'\t' | b'\r' => self.forget(),
+            b'#' => {
+                self.forget();
+                self.place = Place::Comment;
+            }
+            _ => self.begin(0, byte),
+        }
+    }
+
+    // A byte in a line that is a command. The line feed completes it.
+    fn take_own_kept(&mut self, byte: u8) -> Option<Next>
+        requires { self.old.place ≡ Place.Kept }
+        ensures goes { IfNone result (in_own_line self.old byte ≡ going self.new) }
+        ensures completes { IfSome result (λ next. in_own_line self.old byte
+            ≡ record { out = self.new.command; left = begins_with self.new.framing next }) }
+        ensures there { IfSome result (λ next. is_some self.new.command ≡ true) }
+    {
+        match byte {
+            b'\r' => self.hold_return(),
+            b'\n' => {
+                if self.command.is_there() {
+                    return Some(Next::Nothing);
+                }
+                self.forget();
+            }
+            _ => self.take_more(byte),
+        }
+        None
     }
 }
 

@@ -6,7 +6,7 @@ use Rattle.script_commands.proofs.splitter.Splitter.feed.Goals as goal
 pub loop-at-init : goal.loop-at-init
 loop-at-init c = record {
   none = refl;
-  stands = λ x out h. StandsBehind-nil x out _ (StandsBehind-open x out _ _ _ c.self.view_is c.go_on_behind.ensures h);
+  stands = λ framing x out h. StandsBehind-nil framing x out _ (StandsBehind-open framing x out _ _ _ c.self.view_is c.go_on_behind.ensures h);
   in_range = omega arith;
 }
 
@@ -19,9 +19,9 @@ returns-in-Some c =
       omega (arith, here),
       there.0,
       there.1,
-      λ x out h.
-          StandsBehind-completes x c.args.bytes.now (c.loop-at.at + c.take_run-at.result) here out c.take_run-at.new.self
-          (StandsBehind-runs x c.args.bytes.now _ _ out _ _ (c.loop-at.invariant.stands x out h) c.take_run-at.ensures.none c.take_run-at.ensures.left)
+      λ framing x out h.
+          StandsBehind-completes framing x c.args.bytes.now (c.loop-at.at + c.take_run-at.result) here out c.take_run-at.new.self
+          (StandsBehind-runs framing x c.args.bytes.now _ _ out _ _ (c.loop-at.invariant.stands framing x out h) c.take_run-at.ensures.none c.take_run-at.ensures.left)
           there.0 _ _ c.in-Some.ensures.completes there.1,
     )
 
@@ -31,17 +31,17 @@ loop-at-preserved c =
     let here : c.loop-at.at + c.take_run-at.result < length c.args.bytes.now = omega (arith, within, c.if-at-bytes.false) in
     record {
       none = c.loop-at.invariant.none;
-      stands = λ x out h. StandsBehind-goes x c.args.bytes.now (c.loop-at.at + c.take_run-at.result) here out c.take_run-at.new.self
-          (StandsBehind-runs x c.args.bytes.now _ _ out _ _ (c.loop-at.invariant.stands x out h) c.take_run-at.ensures.none c.take_run-at.ensures.left)
+      stands = λ framing x out h. StandsBehind-goes framing x c.args.bytes.now (c.loop-at.at + c.take_run-at.result) here out c.take_run-at.new.self
+          (StandsBehind-runs framing x c.args.bytes.now _ _ out _ _ (c.loop-at.invariant.stands framing x out h) c.take_run-at.ensures.none c.take_run-at.ensures.left)
           _ c.in_default.ensures.goes;
       in_range = omega (arith, here);
     }
 
 pub returns-after-loop-at : goal.returns-after-loop-at
-returns-after-loop-at c x out h =
-    rw c.loop-at.invariant.none (StandsBehind-all x c.args.bytes.now c.loop-at.at (omega (arith, c.loop-at-test.false)) out c.loop-at.self-inside.open (c.loop-at.invariant.stands x out h))
+returns-after-loop-at c framing x out h =
+    rw c.loop-at.invariant.none (StandsBehind-all framing x c.args.bytes.now c.loop-at.at (omega (arith, c.loop-at-test.false)) out c.loop-at.self-inside.open (c.loop-at.invariant.stands framing x out h))
 
 pub returns-then-at-bytes : goal.returns-then-at-bytes
-returns-then-at-bytes c x out h =
-    rw c.loop-at.invariant.none (StandsBehind-all x c.args.bytes.now (c.loop-at.at + c.take_run-at.result) (omega (arith, c.if-at-bytes.true)) out c.take_run-at.new.self
-    (StandsBehind-runs x c.args.bytes.now _ _ out _ _ (c.loop-at.invariant.stands x out h) c.take_run-at.ensures.none c.take_run-at.ensures.left))
+returns-then-at-bytes c framing x out h =
+    rw c.loop-at.invariant.none (StandsBehind-all framing x c.args.bytes.now (c.loop-at.at + c.take_run-at.result) (omega (arith, c.if-at-bytes.true)) out c.take_run-at.new.self
+    (StandsBehind-runs framing x c.args.bytes.now _ _ out _ _ (c.loop-at.invariant.stands framing x out h) c.take_run-at.ensures.none c.take_run-at.ensures.left))

@@ -1,4 +1,5 @@
 use Rattle.std.proofs.Common.{◌≡◌, ◌≤◌, ◌-◌, ℕ, List, ◌++◌, length, take, None}
+use Rattle.script_commands.specs.declared.framing.Framing.{Framing}
 use Rattle.script_commands.specs.Handed.{Handed}
 use Rattle.script_commands.specs.Splitting.{StandsBehind}
 use Rattle.script_commands.proofs.splitter.Splitter.feed.Given as goal
@@ -6,8 +7,8 @@ use Rattle.script_commands.proofs.splitter.Splitter.feed.Given as goal
 -- the pending state is that after the bytes so far, and no command is complete
 abbrev pub invariant-loop-at : goal.invariant-loop-at
 invariant-loop-at l = record {
-  none : l.self-inside.begun ≡ None;
-  stands : (x : List ℕ) (out : List Handed) → StandsBehind x out l.fn.self.left → StandsBehind (x ++ take l.at l.bytes) out l.self-inside.open;
+  none : l.self-inside.next ≡ None;
+  stands : (framing : Framing) (x : List ℕ) (out : List Handed) → StandsBehind framing x out l.fn.self.left → StandsBehind framing (x ++ take l.at l.bytes) out l.self-inside.open;
   in_range : l.at ≤ length l.bytes;
 }
 
