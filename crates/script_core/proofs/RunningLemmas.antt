@@ -1,5 +1,5 @@
 -- Lemmas on the parts of a run.
-use Rattle.std.proofs.Common.{◌≡◌, ◌≤◌, ◌<◌, ◌+◌, ◌*◌, ℕ, Bool, true, false, not, ◌||◌, List, [], ◌∷◌, ◌++◌, Some, None, is_some, Ok, Err, OnOk, OnErr, IfOk, Result, inl, inr, ◌⊎◌, refl, sym, ap, ◌∙◌, subst, append_assoc, append-nil, length, take, drop, take-append-drop, arith}
+use Rattle.std.proofs.Common.{◌≡◌, ◌≤◌, ◌<◌, ◌+◌, ◌*◌, ℕ, Bool, true, false, not, ◌||◌, List, [], ◌∷◌, ◌++◌, Some, None, is_some, Ok, Err, OnErr, Result, inl, inr, ◌⊎◌, refl, sym, ap, ◌∙◌, subst, append_assoc, append-nil, length, take, drop, take-append-drop, arith}
 use Rattle.std.specs.declared.option.Option.{Option}
 use Rattle.std.proofs.lemmas.List.{length-append, length-take}
 use Rattle.std.specs.Io.KnownBytes.{Keeps, Consumes, IsAtEnd}
@@ -8,17 +8,17 @@ use Rattle.std.specs.Option.{option_to_list}
 use Rattle.session_steps.specs.History.{History}
 use Rattle.script_core.specs.declared.running.Running.{Running}
 use Rattle.script_core.specs.declared.running.Settings.{Settings}
-use Rattle.script_core.specs.declared.running.Summary.{Summary}
 use Rattle.script_core.specs.declared.running.RunFault.{RunFault}
 use Rattle.script_core.specs.declared.running.RunFault.TheVariants.{Read, Write, Turns, Memory}
 use Rattle.script_core.specs.declared.running.TheConstants.{MAX_READS, PIECE}
 use Rattle.script_commands.specs.declared.splitter.Fed.TheVariants.{Command}
+use Rattle.script_commands.specs.declared.framing.Framing.{Framing}
 use Rattle.script_commands.specs.Handed.{Handed, handed, completed}
 use Rattle.script_commands.specs.Splitting.{StandsBehind, rest_of}
 use Rattle.script_commands.specs.inside.Passing.{out_of}
 use Rattle.script_commands.specs.Split.{Split}
 use Rattle.script_commands.specs.FedRight.{FedRight, GoesBehind}
-use Rattle.script_forms.specs.Run.{Completes, BreaksOff, Answers}
+use Rattle.script_forms.specs.Run.{Completes, BreaksOff}
 use Rattle.script_forms.specs.inside.Counting.{one_if}
 use Rattle.script_core.specs.inside.Running.{ByBudget, GoesOnBy, Counts, AnswersReady, AnswersBytes, Underway, HandsBehind, Breaks, Ends, Stops, Calm, TurnRight, RunRight, Streams}
 use Rattle.script_forms.proofs.RunLemmas.{one_if-total, Completes-none, Completes-append, Completes-stopped, Completes-after, Completes-flushed, BreaksOff-append, BreaksOff-longer, BreaksOff-flush, BreaksOff-after}
@@ -68,17 +68,17 @@ module _ (Rule : ByBudget) where
   -- ---- commands after commands
 
   GoesBehind-none : (s : Split) → GoesBehind s s [] []
-  GoesBehind-none s x out h = subst (λ (xs : List ℕ). StandsBehind xs (out ++ []) s.left) (sym (append-nil x)) (subst (λ (hs : List Handed). StandsBehind x hs s.left) (sym (append-nil out)) h)
+  GoesBehind-none s framing x out h = subst (λ (xs : List ℕ). StandsBehind framing xs (out ++ []) s.left) (sym (append-nil x)) (subst (λ (hs : List Handed). StandsBehind framing x hs s.left) (sym (append-nil out)) h)
 
   GoesBehind-trans : (a b c : Split) (xs ys : List ℕ) (cs ds : List Handed) → GoesBehind a b xs cs → GoesBehind b c ys ds → GoesBehind a c (xs ++ ys) (cs ++ ds)
-  GoesBehind-trans a b c xs ys cs ds p q x out h =
-      subst (λ (zs : List ℕ). StandsBehind zs (out ++ (cs ++ ds)) c.left) (append_assoc x xs ys)
-      (subst (λ (hs : List Handed). StandsBehind ((x ++ xs) ++ ys) hs c.left) (append_assoc out cs ds) (q (x ++ xs) (out ++ cs) (p x out h)))
+  GoesBehind-trans a b c xs ys cs ds p q framing x out h =
+      subst (λ (zs : List ℕ). StandsBehind framing zs (out ++ (cs ++ ds)) c.left) (append_assoc x xs ys)
+      (subst (λ (hs : List Handed). StandsBehind framing ((x ++ xs) ++ ys) hs c.left) (append_assoc out cs ds) (q framing (x ++ xs) (out ++ cs) (p framing x out h)))
 
   -- all commands of these bytes are those taken so far followed by those of the rest
   hands_behind : (old new : Split) (taken rest : List ℕ) (commands : List Handed) → GoesBehind old new taken commands → HandsBehind old (taken ++ rest) (commands ++ rest_of new.left rest)
-  hands_behind old new taken rest commands b x out h =
-      ap handed (sym (append_assoc x taken rest)) ∙ (b x out h).rest rest ∙ append_assoc out commands (rest_of new.left rest)
+  hands_behind old new taken rest commands b framing x out h =
+      ap (handed framing) (sym (append_assoc x taken rest)) ∙ (b framing x out h).rest rest ∙ append_assoc out commands (rest_of new.left rest)
 
   some_same : {X : Type 0} (o : Option X) (x y : X) → o ≡ Some x → o ≡ Some y → x ≡ y
   some_same o x y p q = let e : Some x ≡ Some y = sym p ∙ q in cc
@@ -176,11 +176,11 @@ module _ (Rule : ByBudget) where
   -- ---- the end
 
   pub Ends-ready : (old mid new : Running) (h g : History) (a b : Option (List ℕ)) (goes_on : Bool) →
-      ((x : List ℕ) (out : List Handed) → StandsBehind x out old.splitter.left → handed x ≡ out ++ option_to_list mid.splitter.to_hand_out) →
+      ((framing : Framing) (x : List ℕ) (out : List Handed) → StandsBehind framing x out old.splitter.left → handed framing x ≡ out ++ option_to_list mid.splitter.to_hand_out) →
       mid.summary ≡ old.summary → mid.settings ≡ old.settings → AnswersReady Rule mid new h g a b goes_on → Ends Rule old new h g a b []
   Ends-ready old mid new h g a b goes_on all summary settings r = record {
     all = r.0 ∷ [];
-    hands = λ x out s. ap handed (append-nil x) ∙ all x out s ∙ ap (λ (o : Option Handed). out ++ option_to_list o) r.1;
+    hands = λ framing x out s. ap (handed framing) (append-nil x) ∙ all framing x out s ∙ ap (λ (o : Option Handed). out ++ option_to_list o) r.1;
     yes = r.2.yes;
     no = r.2.no;
     completes = subst (λ (s : Settings). Completes s.stop (Rule s.steps) (r.0 ∷ []) h g a b r.2.yes r.2.no) settings r.2.completes;
@@ -189,21 +189,21 @@ module _ (Rule : ByBudget) where
   }
 
   pub Breaks-ready : (old mid : Running) (command : Handed) (h g : History) (a b : Option (List ℕ)) →
-      ((x : List ℕ) (out : List Handed) → StandsBehind x out old.splitter.left → handed x ≡ out ++ option_to_list mid.splitter.to_hand_out) →
+      ((framing : Framing) (x : List ℕ) (out : List Handed) → StandsBehind framing x out old.splitter.left → handed framing x ≡ out ++ option_to_list mid.splitter.to_hand_out) →
       mid.settings ≡ old.settings → mid.splitter.to_hand_out ≡ Some command → BreaksOff mid.settings.stop (Rule mid.settings.steps) (command ∷ []) h g a b → Breaks Rule old h g a b []
   Breaks-ready old mid command h g a b all settings ready broken = record {
     all = command ∷ [];
-    hands = λ x out s. ap handed (append-nil x) ∙ all x out s ∙ ap (λ (o : Option Handed). out ++ option_to_list o) ready;
+    hands = λ framing x out s. ap (handed framing) (append-nil x) ∙ all framing x out s ∙ ap (λ (o : Option Handed). out ++ option_to_list o) ready;
     breaks = subst (λ (s : Settings). BreaksOff s.stop (Rule s.steps) (command ∷ []) h g a b) settings broken;
   }
 
   -- there is no command at the end
   pub Ends-none : (old mid : Running) (h : History) (a : Option (List ℕ)) →
-      ((x : List ℕ) (out : List Handed) → StandsBehind x out old.splitter.left → handed x ≡ out ++ option_to_list mid.splitter.to_hand_out) →
+      ((framing : Framing) (x : List ℕ) (out : List Handed) → StandsBehind framing x out old.splitter.left → handed framing x ≡ out ++ option_to_list mid.splitter.to_hand_out) →
       mid.summary ≡ old.summary → is_some mid.splitter.to_hand_out ≡ false → Ends Rule old mid h h a a []
   Ends-none old mid h a all summary none = record {
     all = [];
-    hands = λ x out s. ap handed (append-nil x) ∙ all x out s ∙ ap (λ (hs : List Handed). out ++ hs) (nothing mid.splitter.to_hand_out none);
+    hands = λ framing x out s. ap (handed framing) (append-nil x) ∙ all framing x out s ∙ ap (λ (hs : List Handed). out ++ hs) (nothing mid.splitter.to_hand_out none);
     yes = 0;
     no = 0;
     completes = Completes-none old.settings.stop (Rule old.settings.steps) h a;
@@ -221,7 +221,7 @@ module _ (Rule : ByBudget) where
   pub Breaks-flush : (old : Running) (h : History) (a b : Option (List ℕ)) → Keeps a b → Breaks Rule old h h a b []
   Breaks-flush old h a b k = record {
     all = option_to_list old.splitter.left.command;
-    hands = λ x out s. ap handed (append-nil x) ∙ StandsBehind-end x out old.splitter.left s;
+    hands = λ framing x out s. ap (handed framing) (append-nil x) ∙ StandsBehind-end framing x out old.splitter.left s;
     breaks = BreaksOff-longer old.settings.stop (Rule old.settings.steps) [] (option_to_list old.splitter.left.command) h h a b (BreaksOff-flush old.settings.stop (Rule old.settings.steps) [] h h a a b 0 0 (Completes-none old.settings.stop (Rule old.settings.steps) h a) k);
   }
 
@@ -278,8 +278,8 @@ module _ (Rule : ByBudget) where
     stop = u.counts.goes.0;
     some = u.counts.goes.1;
     all = u.commands ++ out_of new.splitter.left rest;
-    hands = λ x out s. ap (λ (xs : List ℕ). completed (x ++ xs)) u.all ∙ sym (ap completed (append_assoc x u.taken rest))
-        ∙ StandsBehind-out rest (x ++ u.taken) (out ++ u.commands) new.splitter.left (u.behind x out s) ∙ append_assoc out u.commands (out_of new.splitter.left rest);
+    hands = λ framing x out s. ap (λ (xs : List ℕ). completed framing (x ++ xs)) u.all ∙ sym (ap (completed framing) (append_assoc x u.taken rest))
+        ∙ StandsBehind-out framing rest (x ++ u.taken) (out ++ u.commands) new.splitter.left (u.behind framing x out s) ∙ append_assoc out u.commands (out_of new.splitter.left rest);
     completes = Completes-stopped old.settings.stop (Rule old.settings.steps) u.commands (out_of new.splitter.left rest) h g a b u.counts.yes u.counts.no u.counts.goes.0 u.counts.goes.1 u.counts.completes;
   }
 
@@ -299,14 +299,14 @@ module _ (Rule : ByBudget) where
     pub script : List ℕ
     pub read : Consumes a.left b.left script
     pub done : List Handed
-    pub stands : StandsBehind script done s.splitter.left
+    pub stands : StandsBehind old.settings.framing script done s.splitter.left
     pub counts : Counts Rule done old s h g a.held b.held true
     pub few : length done ≤ length script
     pub least : turns ≤ length script
     pub most : length script ≤ PIECE * turns
     pub calm : Calm a b
 
-  pub Progress-none : (s : Running) (h : History) (a : Streams) → StandsBehind [] [] s.splitter.left → Progress s s h h a a 0
+  pub Progress-none : (s : Running) (h : History) (a : Streams) → StandsBehind s.settings.framing [] [] s.splitter.left → Progress s s h h a a 0
   Progress-none s h a fresh = record {
     script = [];
     read = Consumes-nil a.left;
@@ -325,7 +325,7 @@ module _ (Rule : ByBudget) where
     script = p.script ++ bytes;
     read = Consumes-trans a.left b.left c.left p.script bytes p.read read;
     done = p.done ++ u.commands;
-    stands = subst (λ (xs : List ℕ). StandsBehind (p.script ++ xs) (p.done ++ u.commands) t.splitter.left) (sym (u.all ∙ append-nil u.taken)) (u.behind p.script p.done p.stands);
+    stands = subst (λ (xs : List ℕ). StandsBehind old.settings.framing (p.script ++ xs) (p.done ++ u.commands) t.splitter.left) (sym (u.all ∙ append-nil u.taken)) (u.behind old.settings.framing p.script p.done p.stands);
     counts = Counts-append old s s t h g k a.held b.held c.held p.done u.commands true p.counts refl refl u.counts;
     few = omega (arith, p.few, u.few, length-append p.done u.commands, length-append p.script bytes, ap length (u.all ∙ append-nil u.taken));
     least = omega (arith, p.least, some, length-append p.script bytes);
@@ -359,7 +359,7 @@ module _ (Rule : ByBudget) where
       record {
         part = p.script ++ bytes;
         read = Consumes-trans a.left b.left c.left p.script bytes p.read read;
-        breaks = subst (λ (cs : List Handed). BreaksOff old.settings.stop (Rule old.settings.steps) cs h k a.held c.held) (sym (broken.hands p.script p.done p.stands))
+        breaks = subst (λ (cs : List Handed). BreaksOff old.settings.stop (Rule old.settings.steps) cs h k a.held c.held) (sym (broken.hands old.settings.framing p.script p.done p.stands))
             (BreaksOff-append old.settings.stop (Rule old.settings.steps) p.done broken.all h g k a.held b.held c.held p.counts.yes p.counts.no p.counts.goes p.counts.completes
             (subst (λ (x : Settings). BreaksOff x.stop (Rule x.steps) broken.all g k b.held c.held) p.counts.settings broken.breaks));
       },
@@ -376,7 +376,7 @@ module _ (Rule : ByBudget) where
         part = p.script ++ [];
         read = Consumes-trans a.left b.left c.left p.script [] p.read read;
         breaks = subst (λ (cs : List Handed). BreaksOff old.settings.stop (Rule old.settings.steps) cs h g a.held c.held)
-            (sym (ap handed (append-nil p.script) ∙ StandsBehind-end p.script p.done s.splitter.left p.stands))
+            (sym (ap (handed old.settings.framing) (append-nil p.script) ∙ StandsBehind-end old.settings.framing p.script p.done s.splitter.left p.stands))
             (BreaksOff-longer old.settings.stop (Rule old.settings.steps) p.done (option_to_list s.splitter.left.command) h g a.held c.held
             (BreaksOff-flush old.settings.stop (Rule old.settings.steps) p.done h g a.held b.held c.held p.counts.yes p.counts.no p.counts.completes held));
       },
@@ -391,7 +391,7 @@ module _ (Rule : ByBudget) where
         read = Consumes-trans a.left b.left c.left p.script [] p.read read;
         yes = p.counts.yes;
         no = p.counts.no;
-        completes = subst (λ (cs : List Handed). Completes old.settings.stop (Rule old.settings.steps) cs h g a.held c.held p.counts.yes p.counts.no) (p.stands.complete ∙ ap completed (sym (append-nil p.script)))
+        completes = subst (λ (cs : List Handed). Completes old.settings.stop (Rule old.settings.steps) cs h g a.held c.held p.counts.yes p.counts.no) (p.stands.complete ∙ ap (completed old.settings.framing) (sym (append-nil p.script)))
             (Completes-flushed old.settings.stop (Rule old.settings.steps) p.done h g a.held b.held c.held p.counts.yes p.counts.no p.counts.completes held);
         goes_on = p.counts.goes;
         long = omega (arith, bound, p.least, ap length (append-nil p.script));
@@ -413,8 +413,8 @@ module _ (Rule : ByBudget) where
       all_read : Consumes a.left d.left ((p.script ++ bytes) ++ [])
       all_read = Consumes-trans a.left c.left d.left (p.script ++ bytes) [] (Consumes-trans a.left b.left c.left p.script bytes p.read r.1.1) read
 
-      script_is : handed ((p.script ++ bytes) ++ []) ≡ p.done ++ ends.all
-      script_is = ap handed (append-nil (p.script ++ bytes)) ∙ ends.hands p.script p.done p.stands
+      script_is : handed old.settings.framing ((p.script ++ bytes) ++ []) ≡ p.done ++ ends.all
+      script_is = ap (handed old.settings.framing) (append-nil (p.script ++ bytes)) ∙ ends.hands old.settings.framing p.script p.done p.stands
 
       pub Progress-last-unflushed : d.write_failures ≡ c.write_failures + 1 → d.read_failures ≡ c.read_failures → RunRight Rule (Err Write) old.settings h k a d
       Progress-last-unflushed count reads = (
@@ -449,12 +449,12 @@ module _ (Rule : ByBudget) where
           refused = omega (arith, zero_refused, ends.refused, p.counts.refused)
 
           end : IsAtEnd c.left ⊎ Stops Rule s g k b.held c.held bytes ends.yes ends.no →
-              IsAtEnd d.left ⊎ ((old.settings.stop ≡ true) × (0 < t.summary.refused) × Completes old.settings.stop (Rule old.settings.steps) (completed ((p.script ++ bytes) ++ [])) h k a.held d.held t.summary.accepted t.summary.refused)
+              IsAtEnd d.left ⊎ ((old.settings.stop ≡ true) × (0 < t.summary.refused) × Completes old.settings.stop (Rule old.settings.steps) (completed old.settings.framing ((p.script ++ bytes) ++ [])) h k a.held d.held t.summary.accepted t.summary.refused)
           end (inl e) = inl (at_end e)
           end (inr e) =
               let both = Completes-append old.settings.stop (Rule old.settings.steps) p.done e.all h g k a.held b.held c.held p.counts.yes p.counts.no ends.yes ends.no p.counts.goes p.counts.completes
               (subst (λ (x : Settings). Completes x.stop (Rule x.steps) e.all g k b.held c.held ends.yes ends.no) p.counts.settings e.completes) in
-              let whole_is : completed ((p.script ++ bytes) ++ []) ≡ p.done ++ e.all = ap completed (append-nil (p.script ++ bytes)) ∙ e.hands p.script p.done p.stands in
+              let whole_is : completed old.settings.framing ((p.script ++ bytes) ++ []) ≡ p.done ++ e.all = ap (completed old.settings.framing) (append-nil (p.script ++ bytes)) ∙ e.hands old.settings.framing p.script p.done p.stands in
               inr (
                 sym (ap (λ (x : Settings). x.stop) p.counts.settings) ∙ e.stop,
                 omega (arith, e.some, refused),
@@ -466,13 +466,3 @@ module _ (Rule : ByBudget) where
 
   pub turn_is : (x y : Bool) (s t : Running) (g k : History) (b c : Streams) (most : ℕ) → x ≡ y → TurnRight Rule (Ok x) s t g k b c most → TurnRight Rule (Ok y) s t g k b c most
   turn_is x y s t g k b c most e r = subst (λ (z : Bool). TurnRight Rule (Ok z) s t g k b c most) e r
-
-  -- ---- the clauses of a run
-
-  pub run_done : (r : Result Summary RunFault) (settings : Settings) (h g : History) (a b : Streams) → RunRight Rule r settings h g a b → IfOk r (λ s. Answers settings.stop (Rule settings.steps) h g a.left b.left a.held b.held s.accepted s.refused)
-  run_done (Ok s) settings h g a b p = p.1
-  run_done (Err f) settings h g a b p = tt
-
-  pub run_calm : (r : Result Summary RunFault) (settings : Settings) (h g : History) (a b : Streams) → RunRight Rule r settings h g a b → OnOk r (Calm a b)
-  run_calm (Ok s) settings h g a b p = p.0
-  run_calm (Err f) settings h g a b p = tt

@@ -8,5 +8,5 @@ mod running;
 
 pub use answer::answer_text;
 pub use running::{MAX_READS, PIECE, RunFault, Settings, Summary, run};
-pub use script_commands::{Fed, MAX_COMMAND, Piece, Splitter};
+pub use script_commands::{Fed, Framing, MAX_COMMAND, Piece, Splitter};
 pub use script_forms::{ANSWER_ROOM, Bytes, Command, Counted, Failed, Held, Sink, Source};

@@ -12,7 +12,7 @@ ghost use Rattle.script_forms.specs.inside.Counting.{one_if};
 
 use crate::answer::answer_text;
 use prim_core::Meaning;
-use script_commands::{Fed, Splitter};
+use script_commands::{Fed, Framing, Splitter};
 use script_forms::{ANSWER_ROOM, Failed, Sink, Source, write_whole};
 use session_core::Session;
 use std::alloc::Global;
@@ -31,6 +31,8 @@ pub struct Settings {
     pub steps: u32,
     /// Whether the run ends after the first refused command.
     pub stop: bool,
+    /// Where a command ends.
+    pub framing: Framing,
 }
 
 /// The numbers of accepted and refused commands.
@@ -67,8 +69,8 @@ struct Running {
 }
 
 /// Runs a script: each command is answered when it is complete, and its answer is written. A
-/// command is complete once the first byte of the next one, or the end, was read. The sink is
-/// flushed before each read and at the end.
+/// command is complete once the first byte of the next one was read, or by `Framing::Lines` its
+/// line feed; or at the end. The sink is flushed before each read and at the end.
 ///
 /// Errors: `Memory` only before the first command. After `Read` and `Turns` all complete commands
 /// of the bytes read are answered; an incomplete one isn't run. After `Write` some first commands
@@ -85,7 +87,7 @@ pub fn run<M: Meaning, I: Source, O: Sink>(
     requires sink_counts { O.failed sink.old + 1 < 2 ^ 64 }
 
     // Everything read is answered, up to the end of the script; or the run stopped at a refusal.
-    ensures done { IfOk result (λ summary. Answers settings.stop (ReplyInRun M.meaning settings.steps) session.old session.new
+    ensures done { IfOk result (λ summary. Answers settings.framing settings.stop (ReplyInRun M.meaning settings.steps) session.old session.new
         (I.left source.old) (I.left source.new) (O.held sink.old) (O.held sink.new)
         summary.accepted summary.refused) }
     ensures calm { OnOk result ((I.failed source.new ≡ I.failed source.old)
@@ -95,24 +97,24 @@ pub fn run<M: Meaning, I: Source, O: Sink>(
     // then at least that many bytes were read.
     ensures read { result ≡ Err RunFault.Read → (I.failed source.new ≡ I.failed source.old + 1)
         × (O.failed sink.new ≡ O.failed sink.old)
-        × AnswersPart settings.stop (ReplyInRun M.meaning settings.steps) session.old session.new
+        × AnswersPart settings.framing settings.stop (ReplyInRun M.meaning settings.steps) session.old session.new
         (I.left source.old) (I.left source.new) (O.held sink.old) (O.held sink.new) 0 }
     ensures turns { result ≡ Err RunFault.Turns → ((I.failed source.new ≡ I.failed source.old)
         × (O.failed sink.new ≡ O.failed sink.old))
-        × AnswersPart settings.stop (ReplyInRun M.meaning settings.steps) session.old session.new
+        × AnswersPart settings.framing settings.stop (ReplyInRun M.meaning settings.steps) session.old session.new
         (I.left source.old) (I.left source.new) (O.held sink.old) (O.held sink.new) MAX_READS }
 
     // If a write or a flush fails, some first commands of what was read are answered.
     ensures write { result ≡ Err RunFault.Write → (O.failed sink.new ≡ O.failed sink.old + 1)
         × (I.failed source.new ≡ I.failed source.old)
-        × AnswersFirst settings.stop (ReplyInRun M.meaning settings.steps) session.old session.new
+        × AnswersFirst settings.framing settings.stop (ReplyInRun M.meaning settings.steps) session.old session.new
         (I.left source.old) (I.left source.new) (O.held sink.old) (O.held sink.new) }
 
     // Without memory nothing happened.
     ensures memory { result ≡ Err RunFault.Memory → (session.new ≡ session.old)
         × (source.new ≡ source.old) × (sink.new ≡ sink.old) }
 {
-    let Ok(splitter) = Splitter::new(alloc) else {
+    let Ok(splitter) = Splitter::new(alloc, settings.framing) else {
         return Err(RunFault::Memory);
     };
     let Ok(answer) = Vec::with_capacity(alloc, ANSWER_ROOM) else {
@@ -267,7 +269,7 @@ impl Running {
         source: &mut I,
         sink: &mut O,
     ) -> Result<Summary, RunFault>
-        requires fresh { StandsBehind [] [] self.old.splitter.left }
+        requires fresh { StandsBehind self.old.settings.framing [] [] self.old.splitter.left }
         requires zero { (self.old.summary.accepted ≡ 0) × (self.old.summary.refused ≡ 0) }
         requires steps { AreSteps self.old.settings.steps }
         requires room { ANSWER_ROOM ≤ vec_capacity self.old.answer }

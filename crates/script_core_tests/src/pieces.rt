@@ -3,7 +3,7 @@
 ghost use Rattle.session_steps.specs.Steps.{AreSteps};
 
 use prim_core::{NoPrimitives, Primitives};
-use script_core::{Counted, Held, RunFault, Settings, Summary, run};
+use script_core::{Counted, Framing, Held, RunFault, Settings, Summary, run};
 use session_core::{MAX_STEPS, Session};
 use std::alloc::Global;
 use std::io::{self, Error, ErrorKind, Read};
@@ -41,6 +41,7 @@ pub fn settings(stop: bool) -> Settings
     Settings {
         steps: MAX_STEPS,
         stop,
+        framing: Framing::Continued,
     }
 }
 
@@ -51,6 +52,33 @@ pub fn ends(accepted: u64, refused: u64) -> Outcome {
     Ok(Summary { accepted, refused })
 }
 
+/// The same for a script whose lines are its commands.
+pub fn settings_of_lines() -> Settings
+    ensures { AreSteps result.steps }
+{
+    Settings {
+        steps: MAX_STEPS,
+        stop: false,
+        framing: Framing::Lines,
+    }
+}
+
+fn is_answered_by(
+    alloc: Global,
+    reader: PieceReader<'_>,
+    settings: Settings,
+    answers: &[u8],
+    outcome: Outcome,
+) -> bool
+    requires { AreSteps settings.steps }
+{
+    let mut session = new_session(alloc);
+    let mut source = Counted::new(reader);
+    let mut sink = Held::new(alloc);
+    let ended = run(alloc, &mut session, &mut source, &mut sink, settings);
+    ended == outcome && sink.bytes() == answers
+}
+
 /// Whether a run of a new session over the reader gives these answers and ends like this.
 pub fn is_answered(
     alloc: Global,
@@ -59,14 +87,34 @@ pub fn is_answered(
     answers: &[u8],
     outcome: Outcome,
 ) -> bool {
-    let mut session = new_session(alloc);
-    let mut source = Counted::new(reader);
-    let mut sink = Held::new(alloc);
-    let ended = run(alloc, &mut session, &mut source, &mut sink, settings(stop));
-    ended == outcome && sink.bytes() == answers
+    is_answered_by(alloc, reader, settings(stop), answers, outcome)
 }
 
-/// The same in pieces of 1, 2 and 4,096 bytes, with a reader that doesn't fail.
+// The same in pieces of 1, 2 and 4,096 bytes, with a reader that doesn't fail.
+fn is_row_by(
+    alloc: Global,
+    script: &[u8],
+    settings: Settings,
+    answers: &[u8],
+    outcome: Outcome,
+) -> bool
+    requires { AreSteps settings.steps }
+{
+    for most in [1, 2, 4096] {
+        let reader = PieceReader {
+            rest: script,
+            most,
+            fails: false,
+        };
+        if !is_answered_by(alloc, reader, settings, answers, outcome) {
+            return false;
+        }
+    }
+    true
+}
+
+/// Whether the script, in pieces of 1, 2 and 4,096 bytes, gives these answers and its run ends like
+/// this.
 pub fn is_row(
     alloc: Global,
     script: &[u8],
@@ -74,17 +122,12 @@ pub fn is_row(
     answers: &[u8],
     outcome: Outcome,
 ) -> Result<bool, Fail> {
-    for most in [1, 2, 4096] {
-        let reader = PieceReader {
-            rest: script,
-            most,
-            fails: false,
-        };
-        if !is_answered(alloc, reader, stop, answers, outcome) {
-            return Ok(false);
-        }
-    }
-    Ok(true)
+    Ok(is_row_by(alloc, script, settings(stop), answers, outcome))
+}
+
+/// The same for a script whose lines are its commands.
+pub fn is_row_of_lines(alloc: Global, script: &[u8], answers: &[u8], outcome: Outcome) -> bool {
+    is_row_by(alloc, script, settings_of_lines(), answers, outcome)
 }
 
 /// Each script of the table gives these answers, with these numbers of commands accepted and
@@ -107,7 +150,8 @@ pub fn expect_rows(
 /// The `count` rows of a table, each after the front. A table is one text, since the check of a
 /// literal takes long if it has many values: rows are separated by `%`; a row is a script, a line
 /// `= 4 0` with the numbers of commands accepted and refused, including the front's, and the
-/// answers.
+/// answers. A script whose commands are one line each is answered in the same way if each line is a
+/// command.
 pub fn expect_table(
     rt: &impl Abort,
     alloc: Global,
@@ -129,13 +173,15 @@ fn is_told(alloc: Global, front: &[u8], row: &str) -> Result<bool, Fail> {
     let mut whole = Vec::from_slice(alloc, front)?;
     whole.extend_from_slice(script.as_bytes())?;
     whole.push(b'\n')?;
-    is_row(
-        alloc,
-        &whole,
-        false,
-        answers.as_bytes(),
-        ends(accepted, refused),
-    )
+    let outcome = ends(accepted, refused);
+    let is_so = is_row(alloc, &whole, false, answers.as_bytes(), outcome)?;
+    let has_lines = goes_on(front) || goes_on(script.as_bytes());
+    Ok(is_so && (has_lines || is_row_of_lines(alloc, &whole, answers.as_bytes(), outcome)))
+}
+
+// Whether a command of the script goes on over lines.
+fn goes_on(script: &[u8]) -> bool {
+    script.windows(2).any(|pair| pair[0] == b'\n' && matches!(pair[1], b' ' | b'\t' | b'\n'))
 }
 
 // The script without the line feed at its end, the two numbers and the answers.

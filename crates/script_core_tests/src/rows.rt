@@ -1,6 +1,6 @@
 //! Worked rows, in pieces of 1, 2 and 4,096 bytes.
 
-use crate::pieces::{ends, expect_rows, expect_table, is_row};
+use crate::pieces::{ends, expect_rows, expect_table, is_row, is_row_of_lines};
 use std::alloc::Global;
 use std::test::Fail;
 
@@ -408,6 +408,91 @@ fn answers_rows_of_any_bytes(rt: HostRuntime) -> Result<(), Fail> {
         ),
     ];
     expect_rows(&rt, rt.alloc(), &table)
+}
+
+// Lines that are commands: blanks at their start are skipped, and the CRs at their end dropped;
+// empty lines and comments are none. Nothing goes on, and each is answered at its line feed.
+#[test]
+fn answers_lines(rt: HostRuntime) -> Result<(), Fail> {
+    let table: [(&[u8], &[u8], u64, u64); 6] = [
+        (b"", b"", 0, 0),
+        (b"\n \t\n\r\n# a\n \t # a\n", b"", 0, 0),
+        (
+            b"  tree t f(\n  a)\n# note\n\n\tshow t\r\r\n tree t a",
+            b"refused 7 term\nrefused 2 line\nrefused 5 notree\nok\n",
+            1,
+            3,
+        ),
+        (b"tree t f(a)\n\n show t", b"ok\nf(a)\n", 2, 0),
+        (
+            b"module m strategies f = id // g\ntext m\nunload m",
+            b"ok\nstrategies f = id // g\nok\n",
+            3,
+            0,
+        ),
+        (b"tree t a\rb\n\r\r tree t a", b"refused 7 term\nok\n", 1, 1),
+    ];
+    for (script, answers, accepted, refused) in table {
+        let outcome = ends(accepted, refused);
+        assert!(rt;
+            is_row_of_lines(rt.alloc(), script, answers, outcome),
+            "{script:?}"
+        );
+    }
+    Ok(())
+}
+
+// A line of 65,536 bytes is a command, without the blanks at its start and the CRs at its end; one
+// with a byte more is too long, and the next one is answered.
+#[test]
+fn bounds_lines(rt: HostRuntime) -> Result<(), Fail> {
+    let table: [(&[u8], u8, usize, &[u8], &[u8], u64, u64); 4] = [
+        (
+            b"tree t \"",
+            b'x',
+            65_527,
+            b"\"\ntrees",
+            b"ok\ntrees t\n",
+            2,
+            0,
+        ),
+        (
+            b"tree t \"",
+            b'x',
+            65_528,
+            b"\"\ntrees",
+            b"refused 3 long\ntrees\n",
+            1,
+            1,
+        ),
+        (
+            b"",
+            b' ',
+            70_000,
+            b"tree t a\ntrees",
+            b"ok\ntrees t\n",
+            2,
+            0,
+        ),
+        (
+            b"tree t a",
+            b'\r',
+            70_000,
+            b"\ntrees",
+            b"ok\ntrees t\n",
+            2,
+            0,
+        ),
+    ];
+    for (front, byte, count, end, answers, accepted, refused) in table {
+        let script = with_run(rt.alloc(), front, byte, count, end)?;
+        let outcome = ends(accepted, refused);
+        assert!(rt;
+            is_row_of_lines(rt.alloc(), &script, answers, outcome),
+            "{front:?} {count}"
+        );
+    }
+    Ok(())
 }
 
 // With `stop` nothing after the first refusal is answered.

@@ -1,8 +1,12 @@
 //! Readers and writers that fail, and the order of reads and flushes.
 
-use crate::pieces::{Outcome, PieceReader, ends, is_answered, new_session, settings};
+ghost use Rattle.session_steps.specs.Steps.{AreSteps};
+
+use crate::pieces::{
+    Outcome, PieceReader, ends, is_answered, new_session, settings, settings_of_lines,
+};
 use prim_core::NoPrimitives;
-use script_core::{Bytes, Counted, RunFault, Sink, Source, run};
+use script_core::{Bytes, Counted, RunFault, Settings, Sink, Source, run};
 use session_core::Session;
 use std::alloc::Global;
 use std::cell::Cell;
@@ -94,12 +98,11 @@ fn ends_into(
     }
 }
 
-// A script of joined lines and a comment, and one whose second command changes the tree. The
-// answers to each are eight bytes.
-const WRITTEN: [(&[u8], &[u8]); 2] = [
-    (b"tree t f(\n  a)\n# note\n\nshow t\n", b"ok\nf(a)\n"),
-    (b"tree t a\ntree t b\nshow t\n", b"ok\nok\nb\n"),
-];
+// A script of joined lines and a comment, and its answers, which are eight bytes.
+const JOINED: (&[u8], &[u8]) = (b"tree t f(\n  a)\n# note\n\nshow t\n", b"ok\nf(a)\n");
+
+// A script whose second command changes the tree, and its answers, which are eight bytes, too.
+const CHANGED: (&[u8], &[u8]) = (b"tree t a\ntree t b\nshow t\n", b"ok\nok\nb\n");
 
 // A writer: the most bytes that it takes per write and in all, and whether it then fails or takes
 // none.
@@ -134,8 +137,8 @@ fn steps_after(
 
 // Whether each run breaks off at the answer for which the writer has no room, and ends well if all
 // fits. `steps` are those of the session by then, if the first answer doesn't fit and if it does.
-fn breaks_off(alloc: Global, number: usize, most: usize, steps: [u64; 2]) -> bool {
-    let (script, answers) = WRITTEN[number];
+fn breaks_off(alloc: Global, written: (&[u8], &[u8]), most: usize, steps: [u64; 2]) -> bool {
+    let (script, answers) = written;
     for fails in [true, false] {
         for room in 0..9 {
             let narrow = Narrow { most, room, fails };
@@ -158,8 +161,8 @@ fn breaks_off(alloc: Global, number: usize, most: usize, steps: [u64; 2]) -> boo
 #[test]
 fn breaks_off_at_a_write_fault(rt: HostRuntime) -> Result<(), Fail> {
     for most in [1, 2, 4096] {
-        assert!(rt; breaks_off(rt.alloc(), 0, most, [1, 1]), "{most}");
-        assert!(rt; breaks_off(rt.alloc(), 1, most, [1, 2]), "{most}");
+        assert!(rt; breaks_off(rt.alloc(), JOINED, most, [1, 1]), "{most}");
+        assert!(rt; breaks_off(rt.alloc(), CHANGED, most, [1, 2]), "{most}");
     }
     Ok(())
 }
@@ -190,12 +193,14 @@ fn due_before(read: usize) -> usize {
 struct TypedReader<'a> {
     rest: &'a [u8],
     order: &'a Order,
+    // By how many bytes a command is complete before the first byte of the next.
+    early: usize,
 }
 
 impl Read for TypedReader<'_> {
     fn read(&mut self, buf: &mut [u8]) -> io::Result<usize> {
         let read = self.order.reads.get();
-        if self.order.flushed.get() != due_before(read) {
+        if self.order.flushed.get() != due_before(read.saturating_add(self.early)) {
             self.order.is_kept.set(false);
         }
         self.order.reads.set(read.saturating_add(1));
@@ -230,7 +235,9 @@ impl Write for SeenWriter<'_> {
     }
 }
 
-fn order_of(alloc: Global, script: &[u8]) -> (usize, usize, bool) {
+fn order_of(alloc: Global, script: &[u8], settings: Settings, early: usize) -> (usize, usize, bool)
+    requires { AreSteps settings.steps }
+{
     let order = Order {
         written: Cell::new(0),
         flushed: Cell::new(0),
@@ -241,18 +248,23 @@ fn order_of(alloc: Global, script: &[u8]) -> (usize, usize, bool) {
     let mut source = Counted::new(TypedReader {
         rest: script,
         order: &order,
+        early,
     });
     let mut sink = Counted::new(SeenWriter { order: &order });
-    let outcome = run(alloc, &mut session, &mut source, &mut sink, settings(false));
+    let outcome = run(alloc, &mut session, &mut source, &mut sink, settings);
     let is_kept = order.is_kept.get() && outcome.is_ok() && source.failures() == 0;
     (order.written.get(), order.flushed.get(), is_kept)
 }
 
-// Each answer is flushed before the next read, and the last at the end.
+// Each answer is flushed before the next read, and the last at the end. A line that is a command is
+// answered when its line feed was read.
 #[test]
 fn flushes_before_reads(rt: HostRuntime) -> Result<(), Fail> {
-    let seen = order_of(rt.alloc(), b"tree t a\nshow t\nundo 2\ntrees");
-    assert_eq!(rt; seen, (3 + 2 + 18 + 8, 31, true));
+    let script = b"tree t a\nshow t\nundo 2\ntrees".as_slice();
+    for (settings, early) in [(settings(false), 0), (settings_of_lines(), 1)] {
+        let seen = order_of(rt.alloc(), script, settings, early);
+        assert_eq!(rt; seen, (3 + 2 + 18 + 8, 31, true));
+    }
     Ok(())
 }
 

@@ -2,6 +2,7 @@
 use Rattle.std.proofs.Common.{◌≡◌, [], ◌∷◌, ◌++◌, None, Ok, Err, refl, codes, true, false}
 use Rattle.session_steps.specs.History.{empty_history}
 use Rattle.session_steps.specs.declared.refusal.Refusal.TheVariants.{Line, Name, Memory}
+use Rattle.script_commands.specs.declared.framing.Framing.TheVariants.{Continued, Lines}
 use Rattle.script_commands.specs.Script.{commands, complete}
 use Rattle.script_commands.specs.Handed.{handed}
 use Rattle.script_forms.specs.Form.{tree, show, put, apply, undo, command_of, takes_no_memory}
@@ -9,23 +10,35 @@ use Rattle.script_forms.specs.Answer.{ReplyInRun}
 use Rattle.script_forms.specs.Run.{Replied}
 
 -- `a CR LF CR LF SPACE b CR` is one command of three lines; a last piece of CRs alone is no line
-joined_lines : commands (codes "a" ++ 13 ∷ (10 ∷ (13 ∷ (10 ∷ (codes " b" ++ 13 ∷ []))))) ≡ (codes "a" ++ 10 ∷ (10 ∷ codes " b")) ∷ []
+joined_lines : commands Continued (codes "a" ++ 13 ∷ (10 ∷ (13 ∷ (10 ∷ (codes " b" ++ 13 ∷ []))))) ≡ (codes "a" ++ 10 ∷ (10 ∷ codes " b")) ∷ []
 joined_lines = refl
 
-no_lines : commands (10 ∷ (13 ∷ (13 ∷ []))) ≡ []
+no_lines : commands Continued (10 ∷ (13 ∷ (13 ∷ []))) ≡ []
 no_lines = refl
 
 -- CRs elsewhere stay
-inner_return : commands (13 ∷ (codes "a" ++ 13 ∷ (codes "b" ++ 10 ∷ []))) ≡ (13 ∷ (codes "a" ++ 13 ∷ codes "b")) ∷ []
+inner_return : commands Continued (13 ∷ (codes "a" ++ 13 ∷ (codes "b" ++ 10 ∷ []))) ≡ (13 ∷ (codes "a" ++ 13 ∷ codes "b")) ∷ []
 inner_return = refl
 
 -- a comment is no line, wherever it is; continuation lines before the first command are dropped
-comment_between : commands (codes " x" ++ 10 ∷ (codes "a" ++ 10 ∷ (codes "#b" ++ 10 ∷ codes " c"))) ≡ (codes "a" ++ 10 ∷ codes " c") ∷ []
+comment_between : commands Continued (codes " x" ++ 10 ∷ (codes "a" ++ 10 ∷ (codes "#b" ++ 10 ∷ codes " c"))) ≡ (codes "a" ++ 10 ∷ codes " c") ∷ []
 comment_between = refl
 
 -- the last command isn't complete
-last_is_open : complete (codes "a" ++ 10 ∷ (codes "b" ++ 10 ∷ [])) ≡ codes "a" ∷ []
+last_is_open : complete Continued (codes "a" ++ 10 ∷ (codes "b" ++ 10 ∷ [])) ≡ codes "a" ∷ []
 last_is_open = refl
+
+-- If each line is a command, blanks at its start and the CRs at its end go, and a line of these
+-- alone, or a comment, is none.
+own_lines : commands Lines (codes "a" ++ 13 ∷ (10 ∷ (codes " b" ++ 10 ∷ (9 ∷ (13 ∷ (10 ∷ (codes "  #c" ++ 10 ∷ codes "#d"))))))) ≡ codes "a" ∷ (codes "b" ∷ [])
+own_lines = refl
+
+-- a line is complete at its line feed
+last_is_ended : complete Lines (codes "a" ++ 10 ∷ (codes "b" ++ 10 ∷ [])) ≡ codes "a" ∷ (codes "b" ∷ [])
+last_is_ended = refl
+
+last_has_no_end : complete Lines (codes "a" ++ 10 ∷ codes "b") ≡ codes "a" ∷ []
+last_has_no_end = refl
 
 reads_tree : command_of 100 (codes " tree  t  f(a) ") ≡ Ok (tree (codes "t") (codes "f(a)"))
 reads_tree = refl
@@ -85,9 +98,9 @@ commit_may_not = refl
 -- ---- runs
 
 -- nothing after the refusal at which the run stops is replied to
-stops_at_a_refusal : Replied true (ReplyInRun (λ name terms. None) 1) (handed (codes "undo 0" ++ 10 ∷ codes "trees")) (false ∷ []) (empty_history []) (Err Line ∷ [])
+stops_at_a_refusal : Replied true (ReplyInRun (λ name terms. None) 1) (handed Continued (codes "undo 0" ++ 10 ∷ codes "trees")) (false ∷ []) (empty_history []) (Err Line ∷ [])
 stops_at_a_refusal = (refl, (refl, refl))
 
 -- otherwise the next command is replied to, at the same history; or memory couldn't grow in it
-goes_on_without_memory : Replied false (ReplyInRun (λ name terms. None) 1) (handed (codes "undo 0" ++ 10 ∷ codes "trees")) (false ∷ (true ∷ [])) (empty_history []) (Err Line ∷ (Err Memory ∷ []))
+goes_on_without_memory : Replied false (ReplyInRun (λ name terms. None) 1) (handed Continued (codes "undo 0" ++ 10 ∷ codes "trees")) (false ∷ (true ∷ [])) (empty_history []) (Err Line ∷ (Err Memory ∷ []))
 goes_on_without_memory = (refl, ((refl, refl), tt))

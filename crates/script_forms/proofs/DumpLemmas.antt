@@ -26,6 +26,7 @@ use Rattle.session_steps.specs.Dump.{tree_line, module_line, dumped}
 use Rattle.session_steps.specs.declared.refusal.Refusal.{Refusal}
 use Rattle.session_steps.specs.declared.refusal.Refusal.TheVariants.{Big, Group, NoGroup}
 use Rattle.script_commands.specs.declared.TheConstants.{MAX_COMMAND}
+use Rattle.script_commands.specs.declared.framing.Framing.{Framing}
 use Rattle.script_commands.specs.Script.{commands}
 use Rattle.script_forms.specs.Form.{Form, tree, set_module, begin, commit, command_of}
 use Rattle.script_commands.specs.Handed.{Handed, text, long, handed_as, handed}
@@ -34,7 +35,7 @@ use Rattle.script_forms.specs.Answer.{ReplyInRun}
 use Rattle.session_steps.specs.Applying.{Meaning}
 use Rattle.script_forms.specs.Run.{Replied, history_after_all, out}
 use Rattle.script_forms.specs.Laws.{OneRun, CanBeGiven, IsBare, AreClear, DumpReadsBack, DumpIsAnswered}
-use Rattle.script_forms.proofs.DumpText.{tree_command, module_command, IsDumped, IsWhole, script_of, cut-script, command-is, module_command-is, tree_whole, module_whole, begin_whole, commit_whole}
+use Rattle.script_forms.proofs.DumpText.{tree_command, module_command, IsDumped, IsWhole, script_of, commands-script, command-is, module_command-is, tree_whole, module_whole, begin_whole, commit_whole}
 use Rattle.script_forms.proofs.DumpContents.{TreeEntry, TextEntry, IsGiven, IsTold, inserted, inserted-all, trees_given, modules_told, group_text, dumped-is}
 
 abbrev IsShort : List ℕ → Type 0
@@ -207,17 +208,17 @@ module _ (meaning : Meaning) (steps : ℕ) where
   abbrev module_commands : List TextEntry → List (List ℕ)
   module_commands es = map (λ e. module_command e.0 e.1) es
 
-  module_said : (e : TextEntry) → IsTold e → (h : History) (g : HistoryGroup) → h.group ≡ Some g → ReplyTo meaning steps (text (module_command e.0 e.1)) h (Ok (ok_with (changed (with_module h.now e.0 e.1) h)))
-  module_said e t h g some =
+  module_said : (framing : Framing) (e : TextEntry) → IsTold framing e → (h : History) (g : HistoryGroup) → h.group ≡ Some g → ReplyTo meaning steps (text (module_command e.0 e.1)) h (Ok (ok_with (changed (with_module h.now e.0 e.1) h)))
+  module_said framing e t h g some =
       let k : History = changed (with_module h.now e.0 e.1) h in
-      said (module_command e.0 e.1) (set_module e.0 e.1) h (Ok (ok_with k)) (module_command-is steps e.0 e.1 t.label t.text)
+      said (module_command e.0 e.1) (set_module e.0 e.1) h (Ok (ok_with k)) (module_command-is framing steps e.0 e.1 t.label t.text)
       (Ok k, (Ok t.reads.0, t.reads.1, subst (λ (o : Option HistoryGroup). ChangesModules o (with_module h.now e.0 e.1) h (Ok k)) (sym some) refl), refl)
 
-  modules_said : (es : List TextEntry) → AllByRecursion IsTold es → (h : History) (g : HistoryGroup) → h.group ≡ Some g → Oks (module_commands es) h (modules_after h es)
-  modules_said [] t h g some = refl
-  modules_said (e ∷ es) t h g some =
+  modules_said : (framing : Framing) (es : List TextEntry) → AllByRecursion (IsTold framing) es → (h : History) (g : HistoryGroup) → h.group ≡ Some g → Oks (module_commands es) h (modules_after h es)
+  modules_said framing [] t h g some = refl
+  modules_said framing (e ∷ es) t h g some =
       let c : Contents = with_module h.now e.0 e.1 in
-      (changed c h, module_said e t.0 h g some, modules_said es t.1 (changed c h) (record g { changed = true }) (inside-changed c h g some))
+      (changed c h, module_said framing e t.0 h g some, modules_said framing es t.1 (changed c h) (record g { changed = true }) (inside-changed c h g some))
 
   begin_said : (h : History) → h.group ≡ None → ReplyTo meaning steps (text (codes "begin")) h (Ok (ok_with (record h { group = Some (record { begun = h.now; changed = false }) })))
   begin_said h none =
@@ -244,9 +245,9 @@ module _ (meaning : Meaning) (steps : ℕ) where
     oks : Oks (group_commands es) h last
     now : last.now ≡ record h.now { modules = inserted h.now.modules es }
 
-  group_said : (es : List TextEntry) → AllByRecursion IsTold es → (h : History) → h.group ≡ None → Finds h.primitives (inserted h.now.modules es) None → IsGrouped es h
-  group_said [] t h none finds = record { last = h; oks = refl; now = refl }
-  group_said (e ∷ es) t h none finds =
+  group_said : (framing : Framing) (es : List TextEntry) → AllByRecursion (IsTold framing) es → (h : History) → h.group ≡ None → Finds h.primitives (inserted h.now.modules es) None → IsGrouped es h
+  group_said framing [] t h none finds = record { last = h; oks = refl; now = refl }
+  group_said framing (e ∷ es) t h none finds =
       let g : HistoryGroup = record { begun = h.now; changed = false } in
       let begun : History = record h { group = Some g } in
       let left = has_modules (e ∷ es) begun g refl in
@@ -258,7 +259,7 @@ module _ (meaning : Meaning) (steps : ℕ) where
         oks = (
           begun,
           begin_said h none,
-          oks-append (module_commands (e ∷ es)) (codes "commit" ∷ []) begun k (committed left.open_group k) (modules_said (e ∷ es) t begun g refl)
+          oks-append (module_commands (e ∷ es)) (codes "commit" ∷ []) begun k (committed left.open_group k) (modules_said framing (e ∷ es) t begun g refl)
               (committed left.open_group k, commit_said k left.open_group left.group found, refl),
         );
         now = now-committed left.open_group k ∙ left.now;
@@ -340,13 +341,14 @@ All-front : {X : Type 0} (P : X → Type 0) (xs ys : List X) → AllByRecursion 
 All-front P [] ys h = tt
 All-front P (x ∷ xs) ys h = (h.0, All-front P xs ys h.1)
 
-modules_whole : (es : List TextEntry) → AllByRecursion IsTold es → AllByRecursion IsWhole (map (λ e. module_command e.0 e.1) es)
-modules_whole [] t = tt
-modules_whole (e ∷ es) t = (module_whole e.0 e.1 t.0.label t.0.text, modules_whole es t.1)
+modules_whole : (framing : Framing) (es : List TextEntry) → AllByRecursion (IsTold framing) es → AllByRecursion (IsWhole framing) (map (λ e. module_command e.0 e.1) es)
+modules_whole framing [] t = tt
+modules_whole framing (e ∷ es) t = (module_whole framing e.0 e.1 t.0.label t.0.text, modules_whole framing es t.1)
 
-group_whole : (meaning : Meaning) (steps : ℕ) (es : List TextEntry) → AllByRecursion IsTold es → AllByRecursion IsWhole (group_commands meaning steps es)
-group_whole meaning steps [] t = tt
-group_whole meaning steps (e ∷ es) t = (begin_whole, All-append-rec IsWhole (map (λ e. module_command e.0 e.1) (e ∷ es)) (codes "commit" ∷ []) (modules_whole (e ∷ es) t) (commit_whole, tt))
+group_whole : (framing : Framing) (meaning : Meaning) (steps : ℕ) (es : List TextEntry) → AllByRecursion (IsTold framing) es → AllByRecursion (IsWhole framing) (group_commands meaning steps es)
+group_whole framing meaning steps [] t = tt
+group_whole framing meaning steps (e ∷ es) t =
+    (begin_whole framing, All-append-rec (IsWhole framing) (map (λ e. module_command e.0 e.1) (e ∷ es)) (codes "commit" ∷ []) (modules_whole framing (e ∷ es) t) (commit_whole framing, tt))
 
 as_text : (x : List ℕ) → IsShort x → handed_as x ≡ text x
 as_text x h = ap (λ (b : Bool). if b then long else text x) (le-ltb MAX_COMMAND (length x) h)
@@ -356,34 +358,36 @@ as_texts [] h = refl
 as_texts (c ∷ cs) h = λ i. as_text c h.0 i ∷ as_texts cs h.1 i
 
 module _ (back : PrintedTextReadsBack) (oneline : PrintedTextIsOneLine) (nests : PrintedTextNests) (lengthy : PrintedTextIsAsLong) where
-  trees_whole : (es : List TreeEntry) → AllByRecursion IsGiven es → AllByRecursion IsWhole (map (λ e. tree_command e.0 (print e.1)) es)
-  trees_whole [] g = tt
-  trees_whole (e ∷ es) g = (tree_whole e.0 (print e.1) (record { label = g.0.label; line = oneline e.1 g.0.term }), trees_whole es g.1)
+  trees_whole : (framing : Framing) (es : List TreeEntry) → AllByRecursion IsGiven es → AllByRecursion (IsWhole framing) (map (λ e. tree_command e.0 (print e.1)) es)
+  trees_whole framing [] g = tt
+  trees_whole framing (e ∷ es) g = (tree_whole framing e.0 (print e.1) (record { label = g.0.label; line = oneline e.1 g.0.term }), trees_whole framing es g.1)
 
-  module _ (meaning : Meaning) (steps : ℕ) (c : Contents) (h : History) (can : CanBeGiven h.primitives c) where
+  module _ (meaning : Meaning) (framing : Framing) (steps : ℕ) (c : Contents) (h : History) (can : CanBeGiven framing h.primitives c) where
     abbrev all_commands : List (List ℕ)
     all_commands = map (λ e. tree_command e.0 (print e.1)) (entries c.trees) ++ group_commands meaning steps (entries c.modules)
 
     trees : AllByRecursion IsGiven (entries c.trees)
     trees = trees_given c can.named.0 can.sound.0.0
 
-    modules : AllByRecursion IsTold (entries c.modules)
-    modules = modules_told c can.named.1 can.sound.0.1 can.texts
+    modules : AllByRecursion (IsTold framing) (entries c.modules)
+    modules = modules_told c framing can.named.1 can.sound.0.1 can.texts
 
     text-is : dumped c ≡ script_of all_commands
     text-is =
         dumped-is c ∙ (λ i. trees_script (entries c.trees) i ++ group_script meaning steps (entries c.modules) i)
         ∙ sym (script-append (map (λ e. tree_command e.0 (print e.1)) (entries c.trees)) (group_commands meaning steps (entries c.modules)))
 
-    commands-are : commands (dumped c) ≡ all_commands
+    commands-are : commands framing (dumped c) ≡ all_commands
     commands-are =
-        ap commands text-is
-        ∙ (λ i. (cut-script all_commands (All-append-rec IsWhole (map (λ e. tree_command e.0 (print e.1)) (entries c.trees)) (group_commands meaning steps (entries c.modules)) (trees_whole (entries c.trees) trees) (group_whole meaning steps (entries c.modules) modules)) i).commands)
+        ap (commands framing) text-is
+        ∙ commands-script framing all_commands
+        (All-append-rec (IsWhole framing) (map (λ e. tree_command e.0 (print e.1)) (entries c.trees)) (group_commands meaning steps (entries c.modules)) (trees_whole framing (entries c.trees) trees)
+        (group_whole framing meaning steps (entries c.modules) modules))
 
     short : AllByRecursion IsShort all_commands
     short = subst (λ (cs : List (List ℕ)). AllByRecursion IsShort cs) commands-are can.short
 
-    handed-are : handed (dumped c) ≡ map (λ c. text c) all_commands
+    handed-are : handed framing (dumped c) ≡ map (λ c. text c) all_commands
     handed-are = ap (map handed_as) commands-are ∙ as_texts all_commands short
 
     -- the outcome of the commands
@@ -399,7 +403,7 @@ module _ (back : PrintedTextReadsBack) (oneline : PrintedTextIsOneLine) (nests :
         let bare_now : k.now ≡ record { trees = c.trees; modules = finmap.empty } =
         left.now ∙ ap (λ (d : Contents). record d { trees = inserted d.trees (entries c.trees) }) bare.contents ∙ ap (λ m. record { trees = m; modules = finmap.empty }) (inserted-all c.trees) in
         let all : inserted k.now.modules (entries c.modules) ≡ c.modules = ap (λ (d : Contents). inserted d.modules (entries c.modules)) bare_now ∙ inserted-all c.modules in
-        let grouped = group_said meaning steps (entries c.modules) modules k left.group
+        let grouped = group_said meaning steps framing (entries c.modules) modules k left.group
         (subst (λ (ps : Primitives). Finds ps (inserted k.now.modules (entries c.modules)) None) (sym left.primitives) (subst (λ m. Finds h.primitives m None) (sym all) can.sound.1)) in
         record {
           last = grouped.last;
@@ -409,12 +413,12 @@ module _ (back : PrintedTextReadsBack) (oneline : PrintedTextIsOneLine) (nests :
         }
 
   pub dump_read_back : OneRun → DumpReadsBack
-  dump_read_back one meaning stop steps c h g flags replies can bare clear leads =
-      let there = led meaning steps c h can bare in
-      let cs : List (List ℕ) = all_commands meaning steps c h can in
-      let count = ap length (commands-are meaning steps c h can) in
+  dump_read_back one meaning framing stop steps c h g flags replies can bare clear leads =
+      let there = led meaning framing steps c h can bare in
+      let cs : List (List ℕ) = all_commands meaning framing steps c h can in
+      let count = ap length (commands-are meaning framing steps c h can) in
       let are : replies ≡ replies_of meaning steps cs h there.last there.oks =
-      only one stop meaning steps cs h there.last there.oks flags clear replies (subst (λ (cs : List Handed). Replied stop (ReplyInRun meaning steps) cs flags h replies) (handed-are meaning steps c h can) leads.replied) in
+      only one stop meaning steps cs h there.last there.oks flags clear replies (subst (λ (cs : List Handed). Replied stop (ReplyInRun meaning steps) cs flags h replies) (handed-are meaning framing steps c h can) leads.replied) in
       record {
         contents = ap (λ (x : History). x.now) leads.history ∙ ap (λ (rs : List Reply). (history_after_all h rs).now) are ∙ ap (λ (x : History). x.now) (history-is meaning steps cs h there.last there.oks) ∙ there.now;
         answers = ap out are ∙ out-is meaning steps cs h there.last there.oks ∙ ap (λ (n : ℕ). repeat n (line (codes "ok"))) (sym count);
@@ -423,12 +427,12 @@ module _ (back : PrintedTextReadsBack) (oneline : PrintedTextIsOneLine) (nests :
       }
 
   pub dump_answered : DumpIsAnswered
-  dump_answered meaning stop steps c h can bare =
-      let there = led meaning steps c h can bare in
-      let cs : List (List ℕ) = all_commands meaning steps c h can in (
+  dump_answered meaning framing stop steps c h can bare =
+      let there = led meaning framing steps c h can bare in
+      let cs : List (List ℕ) = all_commands meaning framing steps c h can in (
         falses cs,
         replies_of meaning steps cs h there.last there.oks,
         all-clear cs,
-        subst (λ (cs : List Handed). Replied stop (ReplyInRun meaning steps) cs (falses (all_commands meaning steps c h can)) h (replies_of meaning steps (all_commands meaning steps c h can) h there.last there.oks)) (sym (handed-are meaning steps c h can))
+        subst (λ (cs : List Handed). Replied stop (ReplyInRun meaning steps) cs (falses (all_commands meaning framing steps c h can)) h (replies_of meaning steps (all_commands meaning framing steps c h can) h there.last there.oks)) (sym (handed-are meaning framing steps c h can))
             (answered stop meaning steps cs h there.last there.oks),
       )

@@ -14,6 +14,7 @@ use Rattle.term_core.specs.Size.{height}
 use Rattle.term_core.specs.declared.TheConstants.{MAX_HEIGHT}
 use Rattle.change_plans.specs.Contents.{Contents}
 use Rattle.session_steps.specs.Dump.{tree_line, dumped, IsNamedTerm}
+use Rattle.script_commands.specs.declared.framing.Framing.TheVariants.{Continued}
 use Rattle.script_commands.specs.Script.{commands}
 use Rattle.script_forms.specs.Laws.{IsCommandText, CanBeGiven}
 use Rattle.session_steps.proofs.MapLemmas.{all_there}
@@ -52,8 +53,8 @@ no_modules = by (entries two.modules) (all_there two.modules)
 dump_of_two : dumped two ≡ codes "tree a f(a){x}" ++ 10 ∷ (codes "tree b []" ++ 10 ∷ [])
 dump_of_two = dumped-is two ∙ (λ i. flat_map (λ (e : TreeEntry). tree_line e.0 e.1) (entries-two i) ++ group_text (no_modules i))
 
-commands_of_two : commands (dumped two) ≡ codes "tree a f(a){x}" ∷ (codes "tree b []" ∷ [])
-commands_of_two = ap commands dump_of_two
+commands_of_two : commands Continued (dumped two) ≡ codes "tree a f(a){x}" ∷ (codes "tree b []" ∷ [])
+commands_of_two = ap (commands Continued) dump_of_two
 
 -- ---- the premises of the law hold
 
@@ -70,7 +71,7 @@ found name = get-from_sorted (slice_cmp nat_cmp) two_trees name tt
 named : (name : List ℕ) (t : Tree) → find (slice_cmp nat_cmp) name two_trees ≡ Some t → label_of name ≡ Some name → IsTerm t → IsNamedTerm two name
 named name t h label term = subst (λ (o : Option Tree). IfSome o (λ tree. (label_of name ≡ Some name) × IsTerm tree)) (sym (found name ∙ h)) (label, term)
 
-two_is_given : CanBeGiven [] two
+two_is_given : CanBeGiven Continued [] two
 two_is_given = record {
   named = (
     subst (λ (es : List TreeEntry). AllByRecursion (IsNamedTerm two) (map (λ e. e.0) es)) (sym entries-two) (
@@ -80,7 +81,7 @@ two_is_given = record {
     subst (λ (es : List (List ℕ × List ℕ)). AllByRecursion (λ name. label_of name ≡ Some name) (map (λ e. e.0) es)) (sym no_modules) tt,
   );
   sound = ((λ name. subst (λ (o : Option Tree). IfSome o (λ tree. height tree ≤ MAX_HEIGHT)) (sym (found name)) (low (eq_by_cmp (slice_cmp nat_cmp) name (codes "a")) (eq_by_cmp (slice_cmp nat_cmp) name (codes "b"))), readable_empty), (sound_no_contents []).1);
-  texts = λ name. subst (λ (o : Option (List ℕ)). IfSome o IsCommandText) (sym (get-empty (slice_cmp nat_cmp) name)) tt;
+  texts = λ name. subst (λ (o : Option (List ℕ)). IfSome o (IsCommandText Continued)) (sym (get-empty (slice_cmp nat_cmp) name)) tt;
   short = subst (λ (cs : List (List ℕ)). AllByRecursion (λ command. length command ≤ 65536) cs) (sym commands_of_two) (omega arith, (omega arith, tt));
 }
   where

@@ -13,10 +13,13 @@ use Rattle.term_core.specs.Word.{begins_word, continues_word, is_word, label_of}
 use Rattle.aterm_text.specs.Tokens.{is_blank, without_blanks}
 use Rattle.aterm_text.specs.Laws.{IsPrinted, IsOneLine}
 use Rattle.session_steps.specs.Dump.{behind_name}
-use Rattle.script_commands.specs.Script.{is_line_feed, is_carriage_return, without_end, is_comment, lines, begins_command, Cut, cut}
+use Rattle.script_commands.specs.declared.framing.Framing.{Framing}
+use Rattle.script_commands.specs.declared.framing.Framing.TheVariants.{Continued, Lines}
+use Rattle.script_commands.specs.Script.{is_line_feed, is_carriage_return, without_end, is_comment, lines, begins_command, Cut, cut, commands, without_start, is_command}
 use Rattle.script_forms.specs.Laws.{IsCommandText}
 use Rattle.script_forms.specs.Form.{Form, tree, set_module, front_word, behind_word, has_bytes, form_with, form_of, checked, command_of}
-use Rattle.script_commands.proofs.LineLemmas.{IsCore, with_line, first_piece, lines-line_feed, lines-kept}
+use Rattle.script_commands.proofs.LineLemmas.{IsCore, with_line, first_piece, lines-line_feed, lines-kept, kept-core}
+use Rattle.script_commands.proofs.OwnLineLemmas.{own_command}
 
 -- the command that sets the tree of a name to the term of a text
 abbrev pub tree_command : List ℕ → List ℕ → List ℕ
@@ -189,19 +192,19 @@ command-is steps name x h =
 
 -- ---- commands that set a module
 
-module_form-is : (steps : ℕ) (name text : List ℕ) → label_of name ≡ Some name → IsCommandText text → form_of steps (module_command name text) ≡ Some (set_module name text)
-module_form-is steps name [] label h =
+module_form-is : (framing : Framing) (steps : ℕ) (name text : List ℕ) → label_of name ≡ Some name → IsCommandText framing text → form_of steps (module_command name text) ≡ Some (set_module name text)
+module_form-is framing steps name [] label h =
     let word = label_ink name label in
     ap (λ (rest : List ℕ). form_of steps (codes "module " ++ rest)) (append-nil name)
     ∙ ap (λ (text : List ℕ). form_with steps (front_word text) (behind_word text)) (no_end is_blank (codes "module " ++ name) (end-append is_blank (codes "module ") name word.some (ink_end name word.all)))
     ∙ named-alone set_module name word
-module_form-is steps name (b ∷ text) label h =
+module_form-is framing steps name (b ∷ text) label h =
     ap (λ (text : List ℕ). form_with steps (front_word text) (behind_word text)) (no_end is_blank (module_command name (b ∷ text)) (command_ends (codes "module ") name (b ∷ text) (omega arith) h.end))
     ∙ named-is set_module name (b ∷ text) (label_ink name label) h.front
 
-pub module_command-is : (steps : ℕ) (name text : List ℕ) → label_of name ≡ Some name → IsCommandText text → command_of steps (module_command name text) ≡ Ok (set_module name text)
-module_command-is steps name text label h =
-    ap checked (module_form-is steps name text label h) ∙ ap (λ (label : Option (List ℕ)). if is_some label then Ok (set_module name text) else Err Name) label
+pub module_command-is : (framing : Framing) (steps : ℕ) (name text : List ℕ) → label_of name ≡ Some name → IsCommandText framing text → command_of steps (module_command name text) ≡ Ok (set_module name text)
+module_command-is framing steps name text label h =
+    ap checked (module_form-is framing steps name text label h) ∙ ap (λ (label : Option (List ℕ)). if is_some label then Ok (set_module name text) else Err Name) label
 
 -- ---- lines
 
@@ -268,8 +271,8 @@ kept_line x inner end y = lines-kept x y inner (no_end is_carriage_return x end)
 
 -- A whole command: followed by a line feed, it is a command of its own if what comes next begins a
 -- command, or is nothing.
-abbrev pub IsWhole : List ℕ → Type 0
-IsWhole x = (y : List ℕ) (cs : List (List ℕ)) → cut (lines y) ≡ record { going_on = []; commands = cs } → cut (lines (x ++ 10 ∷ y)) ≡ record { going_on = []; commands = x ∷ cs }
+abbrev pub IsContinued : List ℕ → Type 0
+IsContinued x = (y : List ℕ) (cs : List (List ℕ)) → cut (lines y) ≡ record { going_on = []; commands = cs } → cut (lines (x ++ 10 ∷ y)) ≡ record { going_on = []; commands = x ∷ cs }
 
 -- a line, depending on whether it begins a command
 abbrev cut_by : Bool → List ℕ → Cut → Cut
@@ -308,33 +311,53 @@ further (line ∷ others) y cs h e =
     ∙ ap (λ (q : Bool). cut (if not q then line ∷ lines (followed others y) else lines (followed others y))) (no_comment line h.0.goes_on)
     ∙ (λ i. cut_by (h.0.goes_on i) line (further others y cs h.1 e i))
 
-whole : (first : List ℕ) (others : List (List ℕ)) → IsLine first → is_comment first ≡ false → begins_command first ≡ true → AllByRecursion IsFurther others → IsWhole (first ++ behind_feeds others)
+whole : (first : List ℕ) (others : List (List ℕ)) → IsLine first → is_comment first ≡ false → begins_command first ≡ true → AllByRecursion IsFurther others → IsContinued (first ++ behind_feeds others)
 whole first others line comment begins h y cs e =
     ap (λ (x : List ℕ). cut (lines x)) (seam first others y)
     ∙ ap cut (line (followed others y))
     ∙ ap (λ (q : Bool). cut (if not q then first ∷ lines (followed others y) else lines (followed others y))) comment
     ∙ (λ i. cut_by (begins i) first (further others y cs h e i))
 
-one_line : (x : List ℕ) → IsCore x → is_comment x ≡ false → begins_command x ≡ true → IsWhole x
-one_line x h comment begins = subst IsWhole (append-nil x) (whole x [] (core_line x h) comment begins tt)
+continued_line : (x : List ℕ) → IsCore x → is_comment x ≡ false → begins_command x ≡ true → IsContinued x
+continued_line x h comment begins = subst IsContinued (append-nil x) (whole x [] (core_line x h) comment begins tt)
+
+-- The same if each line is a command.
+abbrev pub IsOwnLine : List ℕ → Type 0
+IsOwnLine x = (y : List ℕ) → commands Lines (x ++ 10 ∷ y) ≡ x ∷ commands Lines y
+
+abbrev pub IsWhole : Framing → List ℕ → Type 0
+IsWhole Continued x = IsContinued x
+IsWhole Lines x = IsOwnLine x
+
+one_line : (framing : Framing) (x : List ℕ) → IsCore x → is_comment x ≡ false → begins_command x ≡ true → without_start x ≡ x → is_command x ≡ true → IsWhole framing x
+one_line Continued x h comment begins start own = continued_line x h comment begins
+one_line Lines x h comment begins start own = λ y. own_command x y h.one_line (kept-core x h) start own
 
 -- commands, each followed by a line feed
 abbrev pub script_of : List (List ℕ) → List ℕ
 script_of cs = flat_map (λ c. c ++ 10 ∷ []) cs
 
-pub cut-script : (cs : List (List ℕ)) → AllByRecursion IsWhole cs → cut (lines (script_of cs)) ≡ record { going_on = []; commands = cs }
+cut-script : (cs : List (List ℕ)) → AllByRecursion IsContinued cs → cut (lines (script_of cs)) ≡ record { going_on = []; commands = cs }
 cut-script [] h = refl
 cut-script (c ∷ cs) h = ap (λ (x : List ℕ). cut (lines x)) (append_assoc c (10 ∷ []) (script_of cs)) ∙ h.0 (script_of cs) cs (cut-script cs h.1)
 
-pub tree_whole : (name x : List ℕ) → IsDumped name x → IsWhole (tree_command name x)
-tree_whole name x h =
-    one_line (tree_command name x) (core-append (codes "tree ") name keyword (label_ink name h.label).all (32 ∷ x) (inner-high 32 (omega arith), inner-printed x h.line.bytes)) refl refl
+own-script : (cs : List (List ℕ)) → AllByRecursion IsOwnLine cs → commands Lines (script_of cs) ≡ cs
+own-script [] h = refl
+own-script (c ∷ cs) h = ap (commands Lines) (append_assoc c (10 ∷ []) (script_of cs)) ∙ h.0 (script_of cs) ∙ ap (λ (ds : List (List ℕ)). c ∷ ds) (own-script cs h.1)
 
-pub begin_whole : IsWhole (codes "begin")
-begin_whole = one_line (codes "begin") (inner-core (codes "begin") begin_keyword) refl refl
+pub commands-script : (framing : Framing) (cs : List (List ℕ)) → AllByRecursion (IsWhole framing) cs → commands framing (script_of cs) ≡ cs
+commands-script Continued cs h = ap (λ (c : Cut). c.commands) (cut-script cs h)
+commands-script Lines cs h = own-script cs h
 
-pub commit_whole : IsWhole (codes "commit")
-commit_whole = one_line (codes "commit") (inner-core (codes "commit") commit_keyword) refl refl
+pub tree_whole : (framing : Framing) (name x : List ℕ) → IsDumped name x → IsWhole framing (tree_command name x)
+tree_whole framing name x h =
+    one_line framing (tree_command name x) (core-append (codes "tree ") name keyword (label_ink name h.label).all (32 ∷ x) (inner-high 32 (omega arith), inner-printed x h.line.bytes)) refl refl refl refl
+
+pub begin_whole : (framing : Framing) → IsWhole framing (codes "begin")
+begin_whole framing = one_line framing (codes "begin") (inner-core (codes "begin") begin_keyword) refl refl refl refl
+
+pub commit_whole : (framing : Framing) → IsWhole framing (codes "commit")
+commit_whole framing = one_line framing (codes "commit") (inner-core (codes "commit") commit_keyword) refl refl refl refl
 
 -- ---- the lines of a module's text
 
@@ -384,11 +407,11 @@ first_line name first ink some inner end =
     (kept_line (front ++ first) (All-append (λ b. is_line_feed b ≡ false) front first (core-append (codes "module ") name module_keyword ink (32 ∷ []) (inner-high 32 (omega arith), tt)).one_line inner)
     (end-append is_carriage_return front first some end))
 
-pub module_whole : (name text : List ℕ) → label_of name ≡ Some name → IsCommandText text → IsWhole (module_command name text)
-module_whole name [] label h = one_line (module_command name []) (core-append (codes "module ") name module_keyword (label_ink name label).all [] tt) refl refl
-module_whole name (b ∷ text) label h = by (is_line_feed b) refl (first_piece text)
+module_continued : (name text : List ℕ) → label_of name ≡ Some name → IsCommandText Continued text → IsContinued (module_command name text)
+module_continued name [] label h = continued_line (module_command name []) (core-append (codes "module ") name module_keyword (label_ink name label).all [] tt) refl refl
+module_continued name (b ∷ text) label h = by (is_line_feed b) refl (first_piece text)
   where
-    by : (q : Bool) → is_line_feed b ≡ q → ((p : List ℕ) × ((ps : List (List ℕ)) × (slice_split is_line_feed text ≡ p ∷ ps))) → IsWhole (module_command name (b ∷ text))
+    by : (q : Bool) → is_line_feed b ≡ q → ((p : List ℕ) × ((ps : List (List ℕ)) × (slice_split is_line_feed text ≡ p ∷ ps))) → IsContinued (module_command name (b ∷ text))
     by true e rest = absurd (blank_front b text e h.front)
     by false e rest =
         let parts = parted (b ∷ text) in
@@ -400,5 +423,37 @@ module_whole name (b ∷ text) label h = by (is_line_feed b) refl (first_piece t
         let same : first ++ behind_feeds rest.1.0 ≡ module_command name (b ∷ text) =
         append_assoc (codes "module ") (name ++ 32 ∷ (b ∷ rest.0)) (behind_feeds rest.1.0)
         ∙ ap (λ (x : List ℕ). codes "module " ++ x) (append_assoc name (32 ∷ (b ∷ rest.0)) (behind_feeds rest.1.0) ∙ ap (λ (x : List ℕ). name ++ 32 ∷ x) (sym (ap joined split) ∙ parts.same)) in
-        subst IsWhole same
+        subst IsContinued same
         (whole first rest.1.0 (first_line name (b ∷ rest.0) (label_ink name label).all (omega arith) inner.0 end.0) refl refl (further_lines rest.1.0 inner.1 end.1 goes_on))
+
+-- a module's text that is one line, with the keyword and the name before it
+module_own : (name text : List ℕ) → label_of name ≡ Some name → IsCommandText Lines text → IsOwnLine (module_command name text)
+module_own name [] label h y =
+    own_command (module_command name []) y (core-append (codes "module ") name module_keyword (label_ink name label).all [] tt).one_line (kept-core (module_command name []) (core-append (codes "module ") name module_keyword (label_ink name label).all [] tt)) refl refl
+module_own name (b ∷ text) label h y = by (is_line_feed b) refl (first_piece text)
+  where
+    front : List ℕ
+    front = codes "module " ++ (name ++ 32 ∷ [])
+
+    same : module_command name (b ∷ text) ≡ front ++ b ∷ text
+    same = ap (λ (x : List ℕ). codes "module " ++ x) (sym (append_assoc name (32 ∷ []) (b ∷ text))) ∙ sym (append_assoc (codes "module ") (name ++ 32 ∷ []) (b ∷ text))
+
+    by : (q : Bool) → is_line_feed b ≡ q → ((p : List ℕ) × ((ps : List (List ℕ)) × (slice_split is_line_feed text ≡ p ∷ ps))) → commands Lines (module_command name (b ∷ text) ++ 10 ∷ y) ≡ module_command name (b ∷ text) ∷ commands Lines y
+    by true e rest = absurd (blank_front b text e h.front)
+    by false e rest =
+        let parts = parted (b ∷ text) in
+        let split : slice_split is_line_feed (b ∷ text) ≡ (b ∷ rest.0) ∷ rest.1.0 = slice_split-cons_no is_line_feed b text e ∙ ap (onto_first b) rest.1.1 in
+        let none : rest.1.0 ≡ [] = subst (λ (ps : List (List ℕ)). drop 1 ps ≡ []) split h.goes_on in
+        let whole : slice_split is_line_feed (b ∷ text) ≡ (b ∷ rest.0) ∷ [] = split ∙ ap (λ (ps : List (List ℕ)). (b ∷ rest.0) ∷ ps) none in
+        let line : b ∷ rest.0 ≡ b ∷ text = sym (append-nil (b ∷ rest.0)) ∙ sym (ap joined whole) ∙ parts.same in
+        let inner : AllByRecursion (λ line. All (λ b. is_line_feed b ≡ false) line) ((b ∷ rest.0) ∷ []) = subst (AllByRecursion (λ line. All (λ b. is_line_feed b ≡ false) line)) whole parts.inner in
+        let end : AllByRecursion (λ line. suffix_len is_carriage_return line ≡ 0) ((b ∷ rest.0) ∷ []) = subst (AllByRecursion (λ line. suffix_len is_carriage_return line ≡ 0)) whole h.lines in
+        let one : All (λ b. is_line_feed b ≡ false) (b ∷ text) = subst (All (λ b. is_line_feed b ≡ false)) line inner.0 in
+        let ends : suffix_len is_carriage_return (b ∷ text) ≡ 0 = subst (λ (x : List ℕ). suffix_len is_carriage_return x ≡ 0) line end.0 in
+        let ahead : All (λ b. is_line_feed b ≡ false) front = (core-append (codes "module ") name module_keyword (label_ink name label).all (32 ∷ []) (inner-high 32 (omega arith), tt)).one_line in
+        own_command (module_command name (b ∷ text)) y (subst (All (λ b. is_line_feed b ≡ false)) (sym same) (All-append (λ b. is_line_feed b ≡ false) front (b ∷ text) ahead one))
+        (subst (λ (x : List ℕ). without_end is_carriage_return x ≡ x) (sym same) (no_end is_carriage_return (front ++ b ∷ text) (end-append is_carriage_return front (b ∷ text) (omega arith) ends))) refl refl
+
+pub module_whole : (framing : Framing) (name text : List ℕ) → label_of name ≡ Some name → IsCommandText framing text → IsWhole framing (module_command name text)
+module_whole Continued name text label h = module_continued name text label h
+module_whole Lines name text label h = module_own name text label h

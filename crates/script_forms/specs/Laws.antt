@@ -1,5 +1,5 @@
 -- Laws of runs.
-use Rattle.std.specs.Prelude.{◌≡◌, ◌≤◌, ℕ, Bool, false, List, length, drop, codes, None, IfSome, count_by, is_ok, is_err}
+use Rattle.std.specs.Prelude.{◌≡◌, ◌≤◌, ℕ, Bool, false, List, [], length, drop, codes, None, IfSome, count_by, is_ok, is_err}
 use Rattle.std.specs.List.{AllByRecursion, repeat, slice_split, prefix_len, suffix_len}
 use Rattle.std.specs.FinMap as finmap
 use Rattle.aterm_text.specs.Tokens.{is_blank}
@@ -9,6 +9,8 @@ use Rattle.session_steps.specs.Applying.{Meaning}
 use Rattle.session_steps.specs.History.{History, AreSound}
 use Rattle.session_steps.specs.Dump.{dumped, AreNamedTerms}
 use Rattle.script_commands.specs.declared.TheConstants.{MAX_COMMAND}
+use Rattle.script_commands.specs.declared.framing.Framing.{Framing}
+use Rattle.script_commands.specs.declared.framing.Framing.TheVariants.{Continued, Lines}
 use Rattle.script_commands.specs.Script.{is_line_feed, is_carriage_return, begins_command, commands}
 use Rattle.script_commands.specs.Handed.{Handed, handed}
 use Rattle.script_forms.specs.Machine.{Reply, line}
@@ -25,24 +27,28 @@ OneRun =
 
 -- ---- dumps
 
+-- The lines of a command after its first: none of them begins a command; or there are none.
+abbrev pub GoOn : Framing → List (List ℕ) → Type 0
+GoOn Continued others = AllByRecursion (λ line. begins_command line ≡ false) others
+GoOn Lines others = others ≡ []
+
 -- A module text that a command can give: it neither begins nor ends with white space, no line of it
--- ends with a carriage return, and no line but the first begins a command.
-pub record IsCommandText (text : List ℕ) : Type 0 where
+-- ends with a carriage return, and its lines go on.
+pub record IsCommandText (framing : Framing) (text : List ℕ) : Type 0 where
   pub front : prefix_len is_blank text ≡ 0
   pub end : suffix_len is_blank text ≡ 0
   pub lines : AllByRecursion (λ line. suffix_len is_carriage_return line ≡ 0)
       (slice_split is_line_feed text)
-  pub goes_on : AllByRecursion (λ line. begins_command line ≡ false)
-      (drop 1 (slice_split is_line_feed text))
+  pub goes_on : GoOn framing (drop 1 (slice_split is_line_feed text))
 
 -- Contents that a script can restore in a session with these primitives: their names are labels and
 -- their trees terms, they are sound, a command can give each module text, and no command of their
 -- dump is longer than 65,536 bytes.
-pub record CanBeGiven (primitives : Primitives) (c : Contents) : Type 0 where
+pub record CanBeGiven (framing : Framing) (primitives : Primitives) (c : Contents) : Type 0 where
   pub named : AreNamedTerms c
   pub sound : AreSound primitives c
-  pub texts : (name : List ℕ) → IfSome (finmap.get c.modules name) IsCommandText
-  pub short : AllByRecursion (λ command. length command ≤ MAX_COMMAND) (commands (dumped c))
+  pub texts : (name : List ℕ) → IfSome (finmap.get c.modules name) (IsCommandText framing)
+  pub short : AllByRecursion (λ command. length command ≤ MAX_COMMAND) (commands framing (dumped c))
 
 -- The current contents are empty, and no group is open.
 pub record IsBare (h : History) : Type 0 where
@@ -54,24 +60,25 @@ abbrev pub AreClear : List Bool → Type 0
 AreClear flags = AllByRecursion (λ flag. flag ≡ false) flags
 
 -- The current contents are c, and the answer to each command of the dump is `ok`.
-pub record GivesAgain (c : Contents) (g : History) (replies : List Reply) : Type 0 where
+pub record GivesAgain (framing : Framing) (c : Contents) (g : History) (replies : List Reply) : Type 0 where
   pub contents : g.now ≡ c
-  pub answers : out replies ≡ repeat (length (commands (dumped c))) (line (codes "ok"))
-  pub accepted : count_by is_ok replies ≡ length (commands (dumped c))
+  pub answers : out replies ≡ repeat (length (commands framing (dumped c))) (line (codes "ok"))
+  pub accepted : count_by is_ok replies ≡ length (commands framing (dumped c))
   pub refused : count_by is_err replies ≡ 0
 
 -- A dump reads back: on a session with empty contents, whatever its settings, it restores the same
 -- contents.
 abbrev pub DumpReadsBack : Type 0
 DumpReadsBack =
-    (meaning : Meaning) (stop : Bool) (steps : ℕ) (c : Contents) (h g : History) (flags : List Bool) (replies : List Reply)
-    → CanBeGiven h.primitives c → IsBare h → AreClear flags
-    → Leads stop (ReplyInRun meaning steps) (handed (dumped c)) h g flags replies → GivesAgain c g replies
+    (meaning : Meaning) (framing : Framing) (stop : Bool) (steps : ℕ) (c : Contents) (h g : History) (flags : List Bool)
+    (replies : List Reply) → CanBeGiven framing h.primitives c → IsBare h → AreClear flags
+    → Leads stop (ReplyInRun meaning steps) (handed framing (dumped c)) h g flags replies → GivesAgain framing c g replies
 
 -- Such a run exists on each such session: the dump is answered, and memory can grow in all its
 -- commands.
 abbrev pub DumpIsAnswered : Type 0
 DumpIsAnswered =
-    (meaning : Meaning) (stop : Bool) (steps : ℕ) (c : Contents) (h : History) → CanBeGiven h.primitives c → IsBare h
+    (meaning : Meaning) (framing : Framing) (stop : Bool) (steps : ℕ) (c : Contents) (h : History)
+    → CanBeGiven framing h.primitives c → IsBare h
     → (flags : List Bool) × (replies : List Reply)
-    × AreClear flags × Replied stop (ReplyInRun meaning steps) (handed (dumped c)) flags h replies
+    × AreClear flags × Replied stop (ReplyInRun meaning steps) (handed framing (dumped c)) flags h replies

@@ -5,6 +5,7 @@ use Rattle.std.specs.Bool.{MatchBool}
 use Rattle.std.specs.List.{flat_map}
 use Rattle.std.specs.Io.KnownBytes.{Appends, Consumes, IsAtEnd}
 use Rattle.session_steps.specs.History.{History}
+use Rattle.script_commands.specs.declared.framing.Framing.{Framing}
 use Rattle.script_commands.specs.Handed.{Handed, handed, completed}
 use Rattle.script_forms.specs.Machine.{Reply, Replying, history_after, written}
 
@@ -79,29 +80,29 @@ pub record BreaksOff (stop : Bool) (Rule : Replying) (commands : List Handed) (h
 
 -- The script is answered, and was read to its end; or the run stopped at the refusal of a command
 -- that is complete in what was read.
-pub record Answers (stop : Bool) (Rule : Replying) (h g : History) (left left' held held' : Option (List ℕ))
-    (yes no : ℕ) : Type 0 where
+pub record Answers (framing : Framing) (stop : Bool) (Rule : Replying) (h g : History)
+    (left left' held held' : Option (List ℕ)) (yes no : ℕ) : Type 0 where
   pub script : List ℕ
   pub read : Consumes left left' script
-  pub completes : Completes stop Rule (handed script) h g held held' yes no
+  pub completes : Completes stop Rule (handed framing script) h g held held' yes no
   pub end : IsAtEnd left'
-      ⊎ ((stop ≡ true) × (0 < no) × Completes stop Rule (completed script) h g held held' yes no)
+      ⊎ ((stop ≡ true) × (0 < no) × Completes stop Rule (completed framing script) h g held held' yes no)
 
 -- A prefix of the script was read, of at least this many bytes, and its complete commands are
 -- answered; the run didn't stop.
-pub record AnswersPart (stop : Bool) (Rule : Replying) (h g : History) (left left' held held' : Option (List ℕ))
-    (least : ℕ) : Type 0 where
+pub record AnswersPart (framing : Framing) (stop : Bool) (Rule : Replying) (h g : History)
+    (left left' held held' : Option (List ℕ)) (least : ℕ) : Type 0 where
   pub part : List ℕ
   pub read : Consumes left left' part
   pub yes : ℕ
   pub no : ℕ
-  pub completes : Completes stop Rule (completed part) h g held held' yes no
+  pub completes : Completes stop Rule (completed framing part) h g held held' yes no
   pub goes_on : stop ≡ true → no ≡ 0
   pub long : least ≤ length part
 
 -- A prefix of the script was read, and the first of its commands are answered.
-pub record AnswersFirst (stop : Bool) (Rule : Replying) (h g : History) (left left' held held' : Option (List ℕ)) : Type 0
-  where
-    pub part : List ℕ
-    pub read : Consumes left left' part
-    pub breaks : BreaksOff stop Rule (handed part) h g held held'
+pub record AnswersFirst (framing : Framing) (stop : Bool) (Rule : Replying) (h g : History)
+    (left left' held held' : Option (List ℕ)) : Type 0 where
+  pub part : List ℕ
+  pub read : Consumes left left' part
+  pub breaks : BreaksOff stop Rule (handed framing part) h g held held'

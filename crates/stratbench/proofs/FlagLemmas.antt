@@ -465,26 +465,7 @@ module _ (flag : Text) where
             let is : find is_own (given words) ≡ Some default_row = first_own (given words) ∙ ap (λ (l : List Row). slice_get l 0) one in
             unset (ap (option_and_then row_text) is) ∙ sym (ap (λ (o : Option Row). option_map_or (λ r. explicit_source r.source) o false) is)
 
--- ---- the two flags
-
-stop_fits : AllFit (codes "stop") rules
-stop_fits = (
-  other_fits (codes "stop") (flag_rule (codes "library")) refl (λ values rows. refl),
-  (
-    other_fits (codes "stop") steps_rule refl (λ values rows. refl),
-    (own_fits (codes "stop"), (other_fits (codes "stop") file_rule refl (λ values rows. refl), (help_fits (codes "stop") refl, tt))),
-  ),
-)
-
-stop_settles : (rows : List Row) → Good (codes "stop") rows → IsSettled (codes "stop") (fold with_default rows rules)
-stop_settles rows good =
-    let stop : Text = codes "stop" in
-    let first : List Row = with_default rows (flag_rule (codes "library")) in
-    let second : List Row = with_default first steps_rule in
-    let third : List Row = with_default second (flag_rule stop) in
-    let fourth : List Row = with_default third file_rule in
-    let is : IsSettled stop third = own_default stop second (good_default stop steps_rule first refl (good_default stop (flag_rule (codes "library")) rows refl good)) in
-    settled_default stop (with_index 2 (filled help_rule)) fourth refl (settled_default stop file_rule third refl is)
+-- ---- the flags
 
 library_fits : AllFit (codes "library") rules
 library_fits = (
@@ -493,7 +474,40 @@ library_fits = (
     other_fits (codes "library") steps_rule refl (λ values rows. refl),
     (
       other_fits (codes "library") (flag_rule (codes "stop")) refl (λ values rows. refl),
-      (other_fits (codes "library") file_rule refl (λ values rows. refl), (help_fits (codes "library") refl, tt)),
+      (
+        other_fits (codes "library") (flag_rule (codes "lines")) refl (λ values rows. refl),
+        (other_fits (codes "library") file_rule refl (λ values rows. refl), (help_fits (codes "library") refl, tt)),
+      ),
+    ),
+  ),
+)
+
+stop_fits : AllFit (codes "stop") rules
+stop_fits = (
+  other_fits (codes "stop") (flag_rule (codes "library")) refl (λ values rows. refl),
+  (
+    other_fits (codes "stop") steps_rule refl (λ values rows. refl),
+    (
+      own_fits (codes "stop"),
+      (
+        other_fits (codes "stop") (flag_rule (codes "lines")) refl (λ values rows. refl),
+        (other_fits (codes "stop") file_rule refl (λ values rows. refl), (help_fits (codes "stop") refl, tt)),
+      ),
+    ),
+  ),
+)
+
+lines_fits : AllFit (codes "lines") rules
+lines_fits = (
+  other_fits (codes "lines") (flag_rule (codes "library")) refl (λ values rows. refl),
+  (
+    other_fits (codes "lines") steps_rule refl (λ values rows. refl),
+    (
+      other_fits (codes "lines") (flag_rule (codes "stop")) refl (λ values rows. refl),
+      (
+        own_fits (codes "lines"),
+        (other_fits (codes "lines") file_rule refl (λ values rows. refl), (help_fits (codes "lines") refl, tt)),
+      ),
     ),
   ),
 )
@@ -504,10 +518,35 @@ library_settles rows good =
     let first : List Row = with_default rows (flag_rule library) in
     let second : List Row = with_default first steps_rule in
     let third : List Row = with_default second (flag_rule (codes "stop")) in
-    let fourth : List Row = with_default third file_rule in
+    let fourth : List Row = with_default third (flag_rule (codes "lines")) in
+    let fifth : List Row = with_default fourth file_rule in
     let is : IsSettled library first = own_default library rows good in
-    settled_default library (with_index 2 (filled help_rule)) fourth refl
-    (settled_default library file_rule third refl (settled_default library (flag_rule (codes "stop")) second refl (settled_default library steps_rule first refl is)))
+    settled_default library (with_index 2 (filled help_rule)) fifth refl
+    (settled_default library file_rule fourth refl (settled_default library (flag_rule (codes "lines")) third refl
+    (settled_default library (flag_rule (codes "stop")) second refl (settled_default library steps_rule first refl is))))
+
+stop_settles : (rows : List Row) → Good (codes "stop") rows → IsSettled (codes "stop") (fold with_default rows rules)
+stop_settles rows good =
+    let stop : Text = codes "stop" in
+    let first : List Row = with_default rows (flag_rule (codes "library")) in
+    let second : List Row = with_default first steps_rule in
+    let third : List Row = with_default second (flag_rule stop) in
+    let fourth : List Row = with_default third (flag_rule (codes "lines")) in
+    let fifth : List Row = with_default fourth file_rule in
+    let is : IsSettled stop third = own_default stop second (good_default stop steps_rule first refl (good_default stop (flag_rule (codes "library")) rows refl good)) in
+    settled_default stop (with_index 2 (filled help_rule)) fifth refl (settled_default stop file_rule fourth refl (settled_default stop (flag_rule (codes "lines")) third refl is))
+
+lines_settles : (rows : List Row) → Good (codes "lines") rows → IsSettled (codes "lines") (fold with_default rows rules)
+lines_settles rows good =
+    let lines : Text = codes "lines" in
+    let first : List Row = with_default rows (flag_rule (codes "library")) in
+    let second : List Row = with_default first steps_rule in
+    let third : List Row = with_default second (flag_rule (codes "stop")) in
+    let fourth : List Row = with_default third (flag_rule lines) in
+    let fifth : List Row = with_default fourth file_rule in
+    let is : IsSettled lines fourth =
+    own_default lines third (good_default lines (flag_rule (codes "stop")) second refl (good_default lines steps_rule first refl (good_default lines (flag_rule (codes "library")) rows refl good))) in
+    settled_default lines (with_index 2 (filled help_rule)) fifth refl (settled_default lines file_rule fourth refl is)
 
 -- whether a flag was given, in the terms of `clap`
 abbrev IsReadAsGiven : Text → Type 0
@@ -519,3 +558,6 @@ stop_is_given = flag_is_given (codes "stop") stop_fits stop_settles
 
 pub library_is_given : IsReadAsGiven (codes "library")
 library_is_given = flag_is_given (codes "library") library_fits library_settles
+
+pub lines_is_given : IsReadAsGiven (codes "lines")
+lines_is_given = flag_is_given (codes "lines") lines_fits lines_settles

@@ -10,6 +10,7 @@ use Rattle.stratbench.specs.Line.{given, line}
 record Row : Type 0 where
   library : Bool
   stop : Bool
+  lines : Bool
   file : Option Text
   steps : Option Text
   fault : Kinds
@@ -18,22 +19,23 @@ abbrev row : List Text → Row
 row words = record {
   library = is_given (codes "library") (given words);
   stop = is_given (codes "stop") (given words);
+  lines = is_given (codes "lines") (given words);
   file = first_of (codes "file") (given words);
   steps = one_of (codes "steps") (given words);
   fault = fault_of line words;
 }
 
-pub nothing : row (codes "stratbench" ∷ []) ≡ record { library = false; stop = false; file = None; steps = Some (codes "100000"); fault = [] }
+pub nothing : row (codes "stratbench" ∷ []) ≡ record { library = false; stop = false; lines = false; file = None; steps = Some (codes "100000"); fault = [] }
 unfolding clap_on_literals
 nothing = refl
 
-pub all : row (codes "stratbench" ∷ codes "--steps=7" ∷ codes "a" ∷ codes "--stop" ∷ codes "--library" ∷ [])
-    ≡ record { library = true; stop = true; file = Some (codes "a"); steps = Some (codes "7"); fault = [] }
+pub all : row (codes "stratbench" ∷ codes "--steps=7" ∷ codes "a" ∷ codes "--lines" ∷ codes "--stop" ∷ codes "--library" ∷ [])
+    ≡ record { library = true; stop = true; lines = true; file = Some (codes "a"); steps = Some (codes "7"); fault = [] }
 unfolding clap_on_literals
 all = refl
 
 pub behind_dashes : row (codes "stratbench" ∷ codes "--steps" ∷ codes "1" ∷ codes "--" ∷ codes "--stop" ∷ [])
-    ≡ record { library = false; stop = false; file = Some (codes "--stop"); steps = Some (codes "1"); fault = [] }
+    ≡ record { library = false; stop = false; lines = false; file = Some (codes "--stop"); steps = Some (codes "1"); fault = [] }
 unfolding clap_on_literals
 behind_dashes = refl
 

@@ -1,5 +1,5 @@
--- The command line, in the terms of `clap`: `--library`, `--steps N`, `--stop` and the name of a
--- file.
+-- The command line, in the terms of `clap`: `--library`, `--steps N`, `--stop`, `--lines` and the
+-- name of a file.
 use Rattle.std.specs.Prelude.{◌≡◌, ℕ, List, [], ◌∷◌, codes, pos, Some}
 use Rattle.std.specs.Str.Parse.{IsNumeral, digits_value, without_leading_plus}
 use Rattle.session_steps.specs.Steps.{AreSteps}
@@ -25,8 +25,8 @@ file_name = record (new_rule (codes "file")) { value_names = 1 }
 
 abbrev pub line : App
 line =
-    with_rule (with_rule (with_rule (with_rule (new_app (codes "stratbench")) (flag_of (codes "library"))) steps_option)
-    (flag_of (codes "stop"))) file_name
+    with_rule (with_rule (with_rule (with_rule (with_rule (new_app (codes "stratbench"))
+    (flag_of (codes "library"))) steps_option) (flag_of (codes "stop"))) (flag_of (codes "lines"))) file_name
 
 -- the values of the words for each of them, the program's name first
 abbrev pub given : List Text → List Row

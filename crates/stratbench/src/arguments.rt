@@ -1,12 +1,14 @@
 //! The command line.
 
-ghost use Rattle.std.specs.Prelude.{◌≡◌, ◌≤◌, ℕ, List, IfOk, Some, codes, map, option_map};
+ghost use Rattle.std.specs.Prelude.{◌≡◌, ◌≤◌, ℕ, List, IfOk, Some, codes, map, option_map, if◌then◌else◌};
 ghost use Rattle.clap.specs.Words.{FailsBy, app_of, fault_of, first_of, found_of, one_of, one_text};
 ghost use Rattle.clap.specs.Takes.{is_given};
+ghost use Rattle.script_commands.specs.declared.framing.Framing.TheVariants.{Continued, Lines};
 ghost use Rattle.session_steps.specs.Steps.{AreSteps};
 ghost use Rattle.stratbench.specs.Line.{IsNumberIfSteps, given, line};
 
 use clap::{Arg, ArgAction, ArgMatches, Command, Error, value_parser};
+use script_core::Framing;
 use session_core::MAX_STEPS;
 use std::alloc::{AllocError, Global};
 use std::convert::AsStr;
@@ -28,11 +30,26 @@ pub struct CommandLine<'a> {
     pub steps: u32,
     /// Whether the run ends after the first refused command.
     pub stop: bool,
+    /// Whether each line of the script is a command.
+    pub lines: bool,
     /// The file that the script is read from, or none for standard input.
     pub file: Option<&'a str>,
 }
 
-/// Reads the command line, the program's name first: `[--library] [--steps N] [--stop] [FILE]`.
+impl CommandLine<'_> {
+    /// Where a command of the script ends.
+    pub fn framing(&self) -> Framing
+        ensures { result ≡ (if self.now.lines then Lines else Continued) }
+    {
+        if self.lines {
+            Framing::Lines
+        } else {
+            Framing::Continued
+        }
+    }
+}
+
+/// Reads the command line, the program's name first: `[--library] [--steps N] [--stop] [--lines] [FILE]`.
 ///
 /// Errors: those of `clap`, which include a request for the help text and want of memory.
 pub fn arguments<'a, S: AsStr>(alloc: Global, words: &'a [S]) -> Result<CommandLine<'a>, Error>
@@ -49,6 +66,9 @@ pub fn arguments<'a, S: AsStr>(alloc: Global, words: &'a [S]) -> Result<CommandL
     ensures stop { IfOk result (λ arguments. arguments.stop
         ≡ is_given (codes "stop") (given (map S.text words.now))) }
 
+    ensures lines { IfOk result (λ arguments. arguments.lines
+        ≡ is_given (codes "lines") (given (map S.text words.now))) }
+
     // Words are refused for the reason that `clap` finds, or for want of memory, and accepted only
     // if it finds none.
     ensures refused { FailsBy (fault_of line (map S.text words.now)) result }
@@ -58,6 +78,7 @@ pub fn arguments<'a, S: AsStr>(alloc: Global, words: &'a [S]) -> Result<CommandL
         library: matches.get_flag("library"),
         steps: steps(&matches),
         stop: matches.get_flag("stop"),
+        lines: matches.get_flag("lines"),
         file: matches.get_str("file"),
     })
 }
@@ -81,6 +102,12 @@ fn command<'a>(alloc: Global) -> Result<Command<'a>, AllocError>
         .long("stop")
         .action(ArgAction::SetTrue)
         .help("Ends the run after the first command that is refused");
+    let lines = Arg::new(alloc, "lines")
+        .long("lines")
+        .action(ArgAction::SetTrue)
+        .help(
+            "Takes each line as a command and answers it at once, for terminals and other programs",
+        );
     let file = Arg::new(alloc, "file")
         .value_name("FILE")
         .help("The script, or standard input where there is none");
@@ -92,6 +119,7 @@ fn command<'a>(alloc: Global) -> Result<Command<'a>, AllocError>
         .arg(library)?
         .arg(steps)?
         .arg(stop)?
+        .arg(lines)?
         .arg(file)
 }
 

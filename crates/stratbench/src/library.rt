@@ -4,7 +4,7 @@ ghost use Rattle.std.specs.Prelude.{◌≡◌, IfErr, None, OnErr, OnOk};
 ghost use Rattle.stratbench.specs.Library.{LoadsLibrary};
 
 use prim_core::Meaning;
-use script_core::{Bytes, Failed, RunFault, Settings, Sink, Summary, run};
+use script_core::{Bytes, Failed, Framing, RunFault, Settings, Sink, Summary, run};
 use session_core::{MAX_STEPS, Session};
 use std::alloc::Global;
 
@@ -63,6 +63,7 @@ pub fn load_library<M: Meaning>(alloc: Global, session: &mut Session<M>) -> Resu
     let settings = Settings {
         steps: MAX_STEPS,
         stop: false,
+        framing: Framing::Continued,
     };
     match run(alloc, session, &mut source, &mut Unseen, settings) {
         Ok(Summary { accepted: 1, .. }) => Ok(()),

@@ -160,6 +160,7 @@ fn run_between<M: Meaning, R: Read + Drop, W: Write + Drop>(
     let settings = Settings {
         steps: line.steps,
         stop: line.stop,
+        framing: line.framing(),
     };
     let mut source = Counted::new(reader);
     let mut sink = Counted::new(writer);

@@ -10,6 +10,7 @@ use Rattle.script_core.specs.declared.running.Summary.{Summary}
 use Rattle.script_core.specs.declared.running.Settings.{Settings}
 use Rattle.script_core.specs.declared.running.RunFault.{RunFault}
 use Rattle.script_core.specs.declared.running.RunFault.TheVariants.{Read, Write, Turns, Memory}
+use Rattle.script_commands.specs.declared.framing.Framing.{Framing}
 use Rattle.script_commands.specs.Handed.{Handed, handed, completed}
 use Rattle.script_forms.specs.Machine.{Replying}
 use Rattle.script_commands.specs.Splitting.{StandsBehind}
@@ -65,7 +66,8 @@ AnswersBytes Rule old new h g held held' bytes false =
 -- After what came before, these bytes complete exactly these commands.
 abbrev pub HandsBehind : Split → List ℕ → List Handed → Type 0
 HandsBehind old bytes all =
-    (x : List ℕ) (out : List Handed) → StandsBehind x out old.left → handed (x ++ bytes) ≡ out ++ all
+    (framing : Framing) (x : List ℕ) (out : List Handed) → StandsBehind framing x out old.left
+    → handed framing (x ++ bytes) ≡ out ++ all
 
 -- Answering these bytes fails partway.
 pub record Breaks (Rule : ByBudget) (old : Running) (h g : History) (held held' : Option (List ℕ)) (bytes : List ℕ) : Type 0
@@ -91,8 +93,8 @@ pub record Stops (Rule : ByBudget) (old : Running) (h g : History) (held held' :
   pub stop : old.settings.stop ≡ true
   pub some : 0 < no
   pub all : List Handed
-  pub hands : (x : List ℕ) (out : List Handed) → StandsBehind x out old.splitter.left
-      → completed (x ++ bytes) ≡ out ++ all
+  pub hands : (framing : Framing) (x : List ℕ) (out : List Handed) → StandsBehind framing x out old.splitter.left
+      → completed framing (x ++ bytes) ≡ out ++ all
   pub completes : Completes old.settings.stop (Rule old.settings.steps) all h g held held' yes no
 
 -- the ghost state of a reader and a writer, and how often they failed
@@ -133,13 +135,13 @@ TurnRight Rule (Err Memory) old new h g a b most = ⊥
 -- A whole run, apart from the memory that it starts with.
 abbrev pub RunRight : ByBudget → Result Summary RunFault → Settings → History → History → Streams → Streams → Type 0
 RunRight Rule (Ok summary) settings h g a b =
-    Calm a b × Answers settings.stop (Rule settings.steps) h g a.left b.left a.held b.held summary.accepted summary.refused
+    Calm a b × Answers settings.framing settings.stop (Rule settings.steps) h g a.left b.left a.held b.held summary.accepted summary.refused
 RunRight Rule (Err Read) settings h g a b =
     (b.read_failures ≡ a.read_failures + 1) × (b.write_failures ≡ a.write_failures)
-    × AnswersPart settings.stop (Rule settings.steps) h g a.left b.left a.held b.held 0
+    × AnswersPart settings.framing settings.stop (Rule settings.steps) h g a.left b.left a.held b.held 0
 RunRight Rule (Err Turns) settings h g a b =
-    Calm a b × AnswersPart settings.stop (Rule settings.steps) h g a.left b.left a.held b.held MAX_READS
+    Calm a b × AnswersPart settings.framing settings.stop (Rule settings.steps) h g a.left b.left a.held b.held MAX_READS
 RunRight Rule (Err Write) settings h g a b =
     (b.write_failures ≡ a.write_failures + 1) × (b.read_failures ≡ a.read_failures)
-    × AnswersFirst settings.stop (Rule settings.steps) h g a.left b.left a.held b.held
+    × AnswersFirst settings.framing settings.stop (Rule settings.steps) h g a.left b.left a.held b.held
 RunRight Rule (Err Memory) settings h g a b = ⊥

@@ -29,6 +29,7 @@ fn taken(steps: u32, stop: bool, file: Option<&str>) -> Line<'_> {
         library: false,
         steps,
         stop,
+        lines: false,
         file,
     })
 }
@@ -39,6 +40,7 @@ fn reads_command_lines(rt: HostRuntime) -> Result<(), Fail> {
         library: true,
         steps: 7,
         stop: true,
+        lines: true,
         file: Some("a"),
     };
     let table: [(&[&str], Line<'_>); 14] = [
@@ -58,7 +60,15 @@ fn reads_command_lines(rt: HostRuntime) -> Result<(), Fail> {
             taken(100_000, false, Some("--library")),
         ),
         (
-            &["stratbench", "a", "--library", "--stop", "--steps", "7"],
+            &[
+                "stratbench",
+                "a",
+                "--library",
+                "--stop",
+                "--lines",
+                "--steps",
+                "7",
+            ],
             Line::Taken(whole),
         ),
         (&["stratbench", "--steps", "0"], Line::Refused(2)),

@@ -49,6 +49,7 @@ fn are_answers<M: Meaning>(
     let settings = Settings {
         steps: line.steps,
         stop: line.stop,
+        framing: line.framing(),
     };
     let ended = run(alloc, session, &mut source, &mut sink, settings);
     Ok(ended.is_ok() && sink.bytes() == answers.as_slice())

@@ -3,7 +3,7 @@ use Rattle.clap.specs.Words.{App, HasMatchesOf, Text, fault_of, first_of, found_
 use Rattle.clap.specs.declared.parser.matches.ArgMatches.{ArgMatches}
 use Rattle.clap.proofs.WalkLemmas.{first_value-rows, one_text-rows}
 use Rattle.stratbench.specs.Line.{given, line}
-use Rattle.stratbench.proofs.FlagLemmas.{library_is_given, stop_is_given}
+use Rattle.stratbench.proofs.FlagLemmas.{library_is_given, stop_is_given, lines_is_given}
 use Rattle.stratbench.proofs.arguments.arguments.Goals as goal
 
 -- the matches of the command that is made are those of the command line
@@ -23,6 +23,13 @@ returns-clause-stop g c =
     let rows = rows_are _ words c.in_ok-matches.matches c.in_ok-matches.ensures.matches c.in_ok-command.ensures in
     let text = one_text-rows (found_of c.in_ok-matches.matches) (codes "stop") ∙ ap (one_of (codes "stop")) rows in
     stop_is_given words c.get_flag-2.result (λ e. c.get_flag-2.ensures.value (text ∙ e)) (λ e. c.get_flag-2.ensures.other (text ∙ e))
+
+pub returns-clause-lines : goal.returns-clause-lines
+returns-clause-lines g c =
+    let words : List Text = map g.S.AsStr.text c.args.words.now in
+    let rows = rows_are _ words c.in_ok-matches.matches c.in_ok-matches.ensures.matches c.in_ok-command.ensures in
+    let text = one_text-rows (found_of c.in_ok-matches.matches) (codes "lines") ∙ ap (one_of (codes "lines")) rows in
+    lines_is_given words c.get_flag-3.result (λ e. c.get_flag-3.ensures.value (text ∙ e)) (λ e. c.get_flag-3.ensures.other (text ∙ e))
 
 pub returns-clause-number : goal.returns-clause-number
 returns-clause-number g c =

@@ -1,4 +1,4 @@
-use Rattle.std.proofs.Common.{rules, ap, ap₂, codes, false, Some, [], ◌∷◌, ◌≡◌, ◌∙◌}
+use Rattle.std.proofs.Common.{ap, ap₂, codes, false, Some, [], ◌∷◌, ◌≡◌, ◌∙◌}
 use Rattle.std.specs.Prelude.{pos}
 use Rattle.std.proofs.lemmas.Result.{IfOk-weaker}
 use Rattle.clap.specs.Words.{Rule, app_of, new_app, rule_of, with_rule}
@@ -30,14 +30,26 @@ returns c =
     rw (c.help-library.ensures, c.action.ensures, c.long.ensures)
     (ap (λ (r : Rule). record r { long = Some (codes "library"); action = Some SetTrue }) c.new.ensures.rule) in
     let library_local : c.help-library.result.global ≡ false = rw (c.help-library.ensures, c.action.ensures, c.long.ensures) c.new.ensures.optional.1 in
-    let stop_is : rule_of c.help-stop.result ≡ flag_of (codes "stop") = search rules in
-    let file_is : rule_of c.help-file.result ≡ file_name = search rules in
-    let about_is : app_of c.about.result ≡ new_app (codes "stratbench") = ap app_of_fields c.about.ensures ∙ c.new-6.ensures.app in
+    let stop_is : rule_of c.help-stop.result ≡ flag_of (codes "stop") =
+    rw (c.help-stop.ensures, c.action-2.ensures, c.long-3.ensures)
+    (ap (λ (r : Rule). record r { long = Some (codes "stop"); action = Some SetTrue }) c.new-4.ensures.rule) in
+    let stop_local : c.help-stop.result.global ≡ false = rw (c.help-stop.ensures, c.action-2.ensures, c.long-3.ensures) c.new-4.ensures.optional.1 in
+    let lines_is : rule_of c.help-lines.result ≡ flag_of (codes "lines") =
+    rw (c.help-lines.ensures, c.action-3.ensures, c.long-4.ensures)
+    (ap (λ (r : Rule). record r { long = Some (codes "lines"); action = Some SetTrue }) c.new-5.ensures.rule) in
+    let lines_local : c.help-lines.result.global ≡ false = rw (c.help-lines.ensures, c.action-3.ensures, c.long-4.ensures) c.new-5.ensures.optional.1 in
+    let file_is : rule_of c.help-file.result ≡ file_name =
+    rw (c.help-file.ensures, c.value_name-2.ensures) (ap (λ (r : Rule). record r { value_names = 1 }) c.new-6.ensures.rule) in
+    let file_local : c.help-file.result.global ≡ false = rw (c.help-file.ensures, c.value_name-2.ensures) c.new-6.ensures.optional.1 in
+    let about_is : app_of c.about.result ≡ new_app (codes "stratbench") = ap app_of_fields c.about.ensures ∙ c.new-7.ensures.app in
     let after_is : app_of c.after_help.result ≡ new_app (codes "stratbench") = ap app_of_fields c.after_help.ensures ∙ about_is in
     let first : app_of c.in_ok-arg.field-0 ≡ with_rule (new_app (codes "stratbench")) (flag_of (codes "library")) =
     c.in_ok-arg.ensures.shape library_local ∙ ap₂ with_rule after_is library_is in
     let second : app_of c.in_ok-arg-2.field-0 ≡ with_rule (with_rule (new_app (codes "stratbench")) (flag_of (codes "library"))) steps_option =
     c.in_ok-arg-2.ensures.shape local ∙ ap₂ with_rule first steps_is in
     let third : app_of c.in_ok-arg-3.field-0 ≡ with_rule (with_rule (with_rule (new_app (codes "stratbench")) (flag_of (codes "library"))) steps_option) (flag_of (codes "stop")) =
-    c.in_ok-arg-3.ensures.shape (search rules) ∙ ap₂ with_rule second stop_is in
-    IfOk-weaker c.arg-4.result _ _ (λ made added. added.shape (search rules) ∙ ap₂ with_rule third file_is) c.arg-4.ensures
+    c.in_ok-arg-3.ensures.shape stop_local ∙ ap₂ with_rule second stop_is in
+    let fourth : app_of c.in_ok-arg-4.field-0
+    ≡ with_rule (with_rule (with_rule (with_rule (new_app (codes "stratbench")) (flag_of (codes "library"))) steps_option) (flag_of (codes "stop"))) (flag_of (codes "lines")) =
+    c.in_ok-arg-4.ensures.shape lines_local ∙ ap₂ with_rule third lines_is in
+    IfOk-weaker c.arg-5.result _ _ (λ made added. added.shape file_local ∙ ap₂ with_rule fourth file_is) c.arg-5.ensures
