@@ -109,7 +109,8 @@ class Workbench:
         """Returns the answer to each of these commands and the number of growths after each, that at the start in front."""
         script, ends = b"", []
         for command in commands:
-            ends.append(len(script) + 1)
+            # A line of carriage returns alone is empty: the first other byte of a line completes the command before it.
+            ends.append(len(script) + len(command) - len(command.lstrip(b"\r")) + 1)
             script += command + b"\n"
         log = f"{self.room}/log-{os.getpid()}"
         open(log, "wb").close()
