@@ -54,14 +54,14 @@ each act [] i c B t = done t B c []
 each act (s ∷ ss) i c B t =
     and_then (on_child (act s) i c B t) (λ b B1 t1. each act ss (i + 1) b B1 t1)
 
--- on the leftmost of n children from child i on on which it succeeds
+-- on n children from child i on, until it succeeds on one
 abbrev pub leftmost : Act → ℕ → ℕ → Act
 leftmost act zero i c B t = failed c
 leftmost act (suc n) i c B t =
     either (on_child act i c B t) done (λ b. leftmost act n (i + 1) b B t)
 
--- on each of n children from child i on on which it succeeds; `any` says whether it succeeded on an
--- earlier one, and in the end it has to have succeeded on one
+-- on n children from child i on, keeping those on which it fails; `any` says whether it succeeded
+-- on an earlier one, and in the end it has to have succeeded on one
 abbrev pub those_done : Act → ℕ → Bool → ℕ → Act
 those_done act zero any i c B t = cond any (done t B c []) (failed c)
 those_done act (suc n) any i c B t =

@@ -17,7 +17,6 @@ mutual
     with_tail : Places → Place → Place
     annotated : Place → Places → Place
 
-  -- a list of patterns
   pub data Places : Type 0 where
     no_places : Places
     and_place : Place → Places → Places
@@ -30,7 +29,6 @@ abbrev pub places_of : List Place → Places
 places_of [] = no_places
 places_of (p ∷ ps) = and_place p (places_of ps)
 
--- A strategy.
 mutual
   pub data ResolvedStrategy : Type 0 where
     id : ResolvedStrategy
@@ -53,7 +51,6 @@ mutual
     rec : ResolvedStrategy → ResolvedStrategy
     prim : ℕ → Places → ResolvedStrategy
 
-  -- a list of strategies
   pub data ResolvedStrategies : Type 0 where
     no_strategies : ResolvedStrategies
     and_strategy : ResolvedStrategy → ResolvedStrategies → ResolvedStrategies

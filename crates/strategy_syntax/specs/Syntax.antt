@@ -13,7 +13,6 @@ mutual
     with_tail : Patterns → Pattern → Pattern  -- `[p1,..,pn|p]`: p is for the list of the rest
     annotated : Pattern → Patterns → Pattern  -- `p{q1,..,qm}`
 
-  -- a list of patterns
   pub data Patterns : Type 0 where
     no_patterns : Patterns
     and_pattern : Pattern → Patterns → Patterns
@@ -26,7 +25,6 @@ abbrev pub patterns_of : List Pattern → Patterns
 patterns_of [] = no_patterns
 patterns_of (p ∷ ps) = and_pattern p (patterns_of ps)
 
--- A strategy.
 mutual
   pub data Strategy : Type 0 where
     id : Strategy
@@ -50,7 +48,6 @@ mutual
     rec : Symbol → Strategy → Strategy  -- `rec x(s)`
     prim : Symbol → Patterns → Strategy  -- `prim("n",p1,..,pk)`, by its quoted name
 
-  -- a list of strategies
   pub data Strategies : Type 0 where
     no_strategies : Strategies
     and_strategy : Strategy → Strategies → Strategies

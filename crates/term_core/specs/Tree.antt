@@ -25,7 +25,6 @@ mutual
     integer : ℤ → Trees → Tree
     branch : Head → Trees → Trees → Tree
 
-  -- a list of terms
   pub data Trees : Type 0 where
     none : Trees
     more : Tree → Trees → Trees
