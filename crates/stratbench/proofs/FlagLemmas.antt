@@ -6,13 +6,13 @@ use Rattle.std.specs.List.{filter}
 use Rattle.std.specs.Str.{bytes_eq, chars}
 use Rattle.std.proofs.lemmas.Slice.Eq.{bytes_eq-Decides}
 use Rattle.std.proofs.lemmas.List.Elements.{filter-append}
-use Rattle.stratbench.specs.Line.{file_name, flag_of, given, line, steps_option}
+use Rattle.stratbench.specs.Line.{file_name, files_option, flag_of, given, interactive_flag, line, steps_option}
 use Rattle.clap.specs.declared.builder.value_parser.Reading.{Reading}
 use Rattle.clap.specs.declared.builder.value_parser.Reading.TheVariants.{AsWritten}
 use Rattle.clap.specs.declared.parser.matches.ValueSource.{ValueSource}
 use Rattle.clap.specs.declared.parser.matches.ValueSource.TheVariants.{CommandLine, DefaultValue}
 use Rattle.clap.specs.Words.{built}
-use Rattle.clap.specs.Simple.{argument_words, filled, help_rule, names_of, with_index}
+use Rattle.clap.specs.Simple.{argument_words, filled, help_rule, names_of, version_rule, with_index}
 use Rattle.clap.specs.Takes.{is_given}
 use Rattle.clap.specs.Facts.{explicit_source}
 use Rattle.clap.specs.Lexer.{long_of, short_of}
@@ -21,9 +21,12 @@ use Rattle.clap.specs.Walk.{has_row, one_of, row_text, has_long, has_short, is_m
 abbrev rules : List Rule
 rules = (built line).top.rules
 
--- a flag of this name, as it is built
-abbrev flag_rule : Text → Rule
-flag_rule name = with_index 1 (filled (flag_of name))
+-- a flag of this name, which may have a short one, as it is built
+abbrev flag_rule : Text → Option ℕ → Rule
+flag_rule name short = with_index 1 (filled (record (flag_of name) { short = short }))
+
+abbrev files_rule : Text → Rule
+files_rule name = with_index 1 (filled (files_option name))
 
 abbrev steps_rule : Rule
 steps_rule = with_index 1 (filled steps_option)
@@ -145,21 +148,87 @@ module _ (flag : Text) where
     other_use = λ e values rows good. subst Good (sym (is values rows)) (other_used a.id (reading_by a) (values_or_missing a values) rows other good);
   }
 
-  own_fits : Fits (flag_rule flag)
-  own_fits = record {
+  -- another argument to which uses add
+  more_fits : (a : Rule) → bytes_eq a.id flag ≡ false
+      → ((values : List Text) (rows : List Row) → used a values rows ≡ with_values a.id (reading_by a) CommandLine (values_or_missing a values) rows) → Fits a
+  more_fits a other is = record {
+    takes = λ e. other;
+    placed = λ e. other;
+    plain_use = λ rows good. subst Good (sym (is [] rows)) (same_own rows _ (values_other a.id (reading_by a) CommandLine (values_or_missing a []) rows other) good);
+    other_use = λ e values rows good. subst Good (sym (is values rows)) (same_own rows _ (values_other a.id (reading_by a) CommandLine (values_or_missing a values) rows other) good);
+  }
+
+  own_fits : (short : Option ℕ) → Fits (flag_rule flag short)
+  own_fits short = record {
     takes = λ e. cc;
     placed = λ e. cc;
     plain_use = λ rows good. flag_used rows good;
     other_use = λ e values rows good. let same = itself in cc;
   }
 
-  help_fits : bytes_eq (codes "help") flag ≡ false → Fits (with_index 2 (filled help_rule))
-  help_fits other = record {
+  -- a request, which has no row
+  request_fits : (a : Rule) → bytes_eq a.id flag ≡ false → ((values : List Text) (rows : List Row) → used a values rows ≡ rows) → Fits a
+  request_fits a other is = record {
     takes = λ e. other;
     placed = λ e. other;
-    plain_use = λ rows good. good;
-    other_use = λ e values rows good. good;
+    plain_use = λ rows good. subst Good (sym (is [] rows)) good;
+    other_use = λ e values rows good. subst Good (sym (is values rows)) good;
   }
+
+  -- a flag of this name or another
+  flag_fits : (name : Text) (short : Option ℕ) → (name ≡ flag) ⊎ (bytes_eq name flag ≡ false) → Fits (flag_rule name short)
+  flag_fits name short (inl same) = subst (λ (it : Text). Fits (flag_rule it short)) (sym same) (own_fits short)
+  flag_fits name short (inr other) = other_fits (flag_rule name short) other (λ values rows. refl)
+
+  -- which flag it is, and that it is no other argument
+  record IsFlag : Type 0 where
+    library : (codes "library" ≡ flag) ⊎ (bytes_eq (codes "library") flag ≡ false)
+    stop : (codes "stop" ≡ flag) ⊎ (bytes_eq (codes "stop") flag ≡ false)
+    lines : (codes "lines" ≡ flag) ⊎ (bytes_eq (codes "lines") flag ≡ false)
+    interactive : (codes "interactive" ≡ flag) ⊎ (bytes_eq (codes "interactive") flag ≡ false)
+    steps : bytes_eq (codes "steps") flag ≡ false
+    modules : bytes_eq (codes "module") flag ≡ false
+    trees : bytes_eq (codes "tree") flag ≡ false
+    writes : bytes_eq (codes "write") flag ≡ false
+    file : bytes_eq (codes "file") flag ≡ false
+    help : bytes_eq (codes "help") flag ≡ false
+    version : bytes_eq (codes "version") flag ≡ false
+
+  all_fit : IsFlag → AllFit rules
+  all_fit is = (
+    flag_fits (codes "library") None is.library,
+    (
+      other_fits steps_rule is.steps (λ values rows. refl),
+      (
+        flag_fits (codes "stop") None is.stop,
+        (
+          flag_fits (codes "lines") None is.lines,
+          (
+            flag_fits (codes "interactive") (Some 105) is.interactive,
+            (
+              more_fits (files_rule (codes "module")) is.modules (λ values rows. refl),
+              (
+                more_fits (files_rule (codes "tree")) is.trees (λ values rows. refl),
+                (
+                  more_fits (files_rule (codes "write")) is.writes (λ values rows. refl),
+                  (
+                    other_fits file_rule is.file (λ values rows. refl),
+                    (
+                      request_fits (with_index 2 (filled help_rule)) is.help (λ values rows. refl),
+                      (
+                        request_fits (with_index 2 (filled version_rule)) is.version (λ values rows. refl),
+                        tt,
+                      ),
+                    ),
+                  ),
+                ),
+              ),
+            ),
+          ),
+        ),
+      ),
+    ),
+  )
 
   -- ---- the rows at the end
 
@@ -205,19 +274,38 @@ module _ (flag : Text) where
   settled_default : (a : Rule) (rows : List Row) → bytes_eq a.id flag ≡ false → IsSettled rows → IsSettled (with_default rows a)
   settled_default a rows other is = same_settled rows (with_default rows a) (other_default a rows other) is
 
-  own_default : (rows : List Row) → Good rows → IsSettled (with_default rows (flag_rule flag))
-  own_default rows (inl none) =
+  own_default : (short : Option ℕ) (rows : List Row) → Good rows → IsSettled (with_default rows (flag_rule flag short))
+  own_default short rows (inl none) =
       let no : has_row flag rows ≡ false = has_own rows none in
       let added : own (with_values flag AsWritten DefaultValue (codes "false" ∷ []) rows) ≡ default_row ∷ [] =
       ap own (at_none (more_values DefaultValue (codes "false" ∷ [])) (default_row ∷ []) rows none) ∙ filter-append is_own rows (default_row ∷ []) ∙ (λ i. none i ++ own_one default_row refl i) in
       inr (ap (λ (b : Bool). own (cond b rows (with_values flag AsWritten DefaultValue (codes "false" ∷ []) rows))) no ∙ added)
-  own_default rows (inr one) = go (has_row flag rows) refl
+  own_default short rows (inr one) = go (has_row flag rows) refl
     where
       go : (b : Bool) → has_row flag rows ≡ b → IsSettled (cond b rows (with_values flag AsWritten DefaultValue (codes "false" ∷ []) rows))
       go true e = inl one
       go false e =
           let none : own rows ≡ [] = has_no_own rows e in
           cc
+
+  -- the arguments, among which the flag comes once
+  abbrev AllOthers : List Rule → Type 0
+  AllOthers [] = ⊤
+  AllOthers (a ∷ more) = (bytes_eq a.id flag ≡ false) × AllOthers more
+
+  abbrev HasFlag : List Rule → Type 0
+  HasFlag [] = ⊥
+  HasFlag (a ∷ more) = (((short : Option ℕ) × (a ≡ flag_rule flag short)) × AllOthers more) ⊎ ((bytes_eq a.id flag ≡ false) × HasFlag more)
+
+  stays_settled : (more : List Rule) (rows : List Row) → AllOthers more → IsSettled rows → IsSettled (fold with_default rows more)
+  stays_settled [] rows others is = is
+  stays_settled (a ∷ more) rows others is = stays_settled more (with_default rows a) others.1 (settled_default a rows others.0 is)
+
+  settles : (more : List Rule) (rows : List Row) → HasFlag more → Good rows → IsSettled (fold with_default rows more)
+  settles [] rows has good = absurd has
+  settles (a ∷ more) rows (inl own) good =
+      stays_settled more (with_default rows a) own.1 (subst (λ (it : Rule). IsSettled (with_default rows it)) (sym own.0.1) (own_default own.0.0 rows good))
+  settles (a ∷ more) rows (inr other) good = settles more (with_default rows a) other.1 (good_default a rows other.0 good)
 
   first_own : (rows : List Row) → find is_own rows ≡ slice_get (own rows) 0
   first_own [] = refl
@@ -467,97 +555,78 @@ module _ (flag : Text) where
 
 -- ---- the flags
 
-library_fits : AllFit (codes "library") rules
-library_fits = (
-  own_fits (codes "library"),
-  (
-    other_fits (codes "library") steps_rule refl (λ values rows. refl),
-    (
-      other_fits (codes "library") (flag_rule (codes "stop")) refl (λ values rows. refl),
-      (
-        other_fits (codes "library") (flag_rule (codes "lines")) refl (λ values rows. refl),
-        (other_fits (codes "library") file_rule refl (λ values rows. refl), (help_fits (codes "library") refl, tt)),
-      ),
-    ),
-  ),
-)
-
-stop_fits : AllFit (codes "stop") rules
-stop_fits = (
-  other_fits (codes "stop") (flag_rule (codes "library")) refl (λ values rows. refl),
-  (
-    other_fits (codes "stop") steps_rule refl (λ values rows. refl),
-    (
-      own_fits (codes "stop"),
-      (
-        other_fits (codes "stop") (flag_rule (codes "lines")) refl (λ values rows. refl),
-        (other_fits (codes "stop") file_rule refl (λ values rows. refl), (help_fits (codes "stop") refl, tt)),
-      ),
-    ),
-  ),
-)
-
-lines_fits : AllFit (codes "lines") rules
-lines_fits = (
-  other_fits (codes "lines") (flag_rule (codes "library")) refl (λ values rows. refl),
-  (
-    other_fits (codes "lines") steps_rule refl (λ values rows. refl),
-    (
-      other_fits (codes "lines") (flag_rule (codes "stop")) refl (λ values rows. refl),
-      (
-        own_fits (codes "lines"),
-        (other_fits (codes "lines") file_rule refl (λ values rows. refl), (help_fits (codes "lines") refl, tt)),
-      ),
-    ),
-  ),
-)
-
-library_settles : (rows : List Row) → Good (codes "library") rows → IsSettled (codes "library") (fold with_default rows rules)
-library_settles rows good =
-    let library : Text = codes "library" in
-    let first : List Row = with_default rows (flag_rule library) in
-    let second : List Row = with_default first steps_rule in
-    let third : List Row = with_default second (flag_rule (codes "stop")) in
-    let fourth : List Row = with_default third (flag_rule (codes "lines")) in
-    let fifth : List Row = with_default fourth file_rule in
-    let is : IsSettled library first = own_default library rows good in
-    settled_default library (with_index 2 (filled help_rule)) fifth refl
-    (settled_default library file_rule fourth refl (settled_default library (flag_rule (codes "lines")) third refl
-    (settled_default library (flag_rule (codes "stop")) second refl (settled_default library steps_rule first refl is))))
-
-stop_settles : (rows : List Row) → Good (codes "stop") rows → IsSettled (codes "stop") (fold with_default rows rules)
-stop_settles rows good =
-    let stop : Text = codes "stop" in
-    let first : List Row = with_default rows (flag_rule (codes "library")) in
-    let second : List Row = with_default first steps_rule in
-    let third : List Row = with_default second (flag_rule stop) in
-    let fourth : List Row = with_default third (flag_rule (codes "lines")) in
-    let fifth : List Row = with_default fourth file_rule in
-    let is : IsSettled stop third = own_default stop second (good_default stop steps_rule first refl (good_default stop (flag_rule (codes "library")) rows refl good)) in
-    settled_default stop (with_index 2 (filled help_rule)) fifth refl (settled_default stop file_rule fourth refl (settled_default stop (flag_rule (codes "lines")) third refl is))
-
-lines_settles : (rows : List Row) → Good (codes "lines") rows → IsSettled (codes "lines") (fold with_default rows rules)
-lines_settles rows good =
-    let lines : Text = codes "lines" in
-    let first : List Row = with_default rows (flag_rule (codes "library")) in
-    let second : List Row = with_default first steps_rule in
-    let third : List Row = with_default second (flag_rule (codes "stop")) in
-    let fourth : List Row = with_default third (flag_rule lines) in
-    let fifth : List Row = with_default fourth file_rule in
-    let is : IsSettled lines fourth =
-    own_default lines third (good_default lines (flag_rule (codes "stop")) second refl (good_default lines steps_rule first refl (good_default lines (flag_rule (codes "library")) rows refl good))) in
-    settled_default lines (with_index 2 (filled help_rule)) fifth refl (settled_default lines file_rule fourth refl is)
-
 -- whether a flag was given, in the terms of `clap`
 abbrev IsReadAsGiven : Text → Type 0
 IsReadAsGiven flag = (words : List Text) (found : Bool) → (one_of flag (given words) ≡ Some (codes "true") → found ≡ true)
     → (one_of flag (given words) ≡ Some (codes "false") → found ≡ false) → found ≡ is_given flag (given words)
 
-pub stop_is_given : IsReadAsGiven (codes "stop")
-stop_is_given = flag_is_given (codes "stop") stop_fits stop_settles
+by_settling : (flag : Text) → IsFlag flag → HasFlag flag rules → IsReadAsGiven flag
+by_settling flag is has = flag_is_given flag (all_fit flag is) (λ rows good. settles flag rules rows has good)
 
 pub library_is_given : IsReadAsGiven (codes "library")
-library_is_given = flag_is_given (codes "library") library_fits library_settles
+library_is_given = by_settling (codes "library")
+    (record {
+      library = inl refl;
+      stop = inr refl;
+      lines = inr refl;
+      interactive = inr refl;
+      steps = refl;
+      modules = refl;
+      trees = refl;
+      writes = refl;
+      file = refl;
+      help = refl;
+      version = refl;
+    })
+    (inl ((None, refl), (refl, (refl, (refl, (refl, (refl, (refl, (refl, (refl, (refl, (refl, tt))))))))))))
+
+pub stop_is_given : IsReadAsGiven (codes "stop")
+stop_is_given = by_settling (codes "stop")
+    (record {
+      library = inr refl;
+      stop = inl refl;
+      lines = inr refl;
+      interactive = inr refl;
+      steps = refl;
+      modules = refl;
+      trees = refl;
+      writes = refl;
+      file = refl;
+      help = refl;
+      version = refl;
+    })
+    (inr (refl, inr (refl, inl ((None, refl), (refl, (refl, (refl, (refl, (refl, (refl, (refl, (refl, tt))))))))))))
 
 pub lines_is_given : IsReadAsGiven (codes "lines")
-lines_is_given = flag_is_given (codes "lines") lines_fits lines_settles
+lines_is_given = by_settling (codes "lines")
+    (record {
+      library = inr refl;
+      stop = inr refl;
+      lines = inl refl;
+      interactive = inr refl;
+      steps = refl;
+      modules = refl;
+      trees = refl;
+      writes = refl;
+      file = refl;
+      help = refl;
+      version = refl;
+    })
+    (inr (refl, inr (refl, inr (refl, inl ((None, refl), (refl, (refl, (refl, (refl, (refl, (refl, (refl, tt))))))))))))
+
+pub interactive_is_given : IsReadAsGiven (codes "interactive")
+interactive_is_given = by_settling (codes "interactive")
+    (record {
+      library = inr refl;
+      stop = inr refl;
+      lines = inr refl;
+      interactive = inl refl;
+      steps = refl;
+      modules = refl;
+      trees = refl;
+      writes = refl;
+      file = refl;
+      help = refl;
+      version = refl;
+    })
+    (inr (refl, inr (refl, inr (refl, inr (refl, inl ((Some 105, refl), (refl, (refl, (refl, (refl, (refl, (refl, tt))))))))))))

@@ -1,3 +1,6 @@
 pub mod FlagLemmas
 pub mod LibraryLemmas
 pub mod LineRows
+pub mod LoadingLemmas
+pub mod NamedLemmas
+pub mod TextLemmas

@@ -1,3 +1,4 @@
 pub mod Status
 pub mod Line
 pub mod Library
+pub mod Files

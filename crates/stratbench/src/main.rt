@@ -1,31 +1,42 @@
 //! Reads a script from a file or standard input and answers each of its commands on standard output.
 #![tactic(auto)]
 
+ghost use Rattle.std.specs.Prelude.{◌+◌, ◌<◌, ◌^◌};
 ghost use Rattle.prim_core.specs.StandardTable.{ComputeStandard};
 ghost use Rattle.session_steps.specs.Steps.{AreSteps};
 
 mod arguments;
+mod dialogue;
 mod library;
+mod loading;
+mod module_text;
+mod named;
 mod status;
 #[cfg(test)]
 mod tests;
+mod writing;
 
 use arguments::{CommandLine, arguments};
 use clap::Error;
 use clap::error::ErrorKind;
+use dialogue::{Group, Prompting, Watched};
 use library::load_library;
+use loading::load_file;
+use named::{Load, Named};
 use prim_core::{
     BoxedOperation, Meaning, Primitives, Standard, StandardOperations, addi, divi, gti,
     int_to_string, muli, standard_primitives, strcat, string_to_int, strlen, subti,
 };
-use script_core::{Counted, RunFault, Settings, Summary, run};
-use session_core::Session;
-use status::status;
+use script_core::{ANSWER_ROOM, Counted, Framing, RunFault, Settings, Sink, Source, Summary, run};
+use script_forms::refuse;
+use session_core::{Refusal, Session};
+use status::{FileFault, file_status, status};
 use std::alloc::{AllocError, Global};
 use std::env;
 use std::fs::File;
-use std::io::{self, BufWriter, Read, Write};
+use std::io::{self, BufWriter, IsTerminal, Read, Write};
 use std::process::ExitCode;
+use writing::write_tree;
 
 // The exit status if the command line is refused.
 const REFUSED: u8 = 2;
@@ -50,8 +61,8 @@ fn start(rt: &HostRuntime) -> u8 {
 
 fn start_with(rt: &HostRuntime, words: &[String]) -> u8 {
     match arguments(rt.alloc(), words) {
-        Ok(line) => report(rt, run_script(rt, &line)),
-        Err(error) => refuse(rt, &error),
+        Ok(line) => run_line(rt, &line),
+        Err(error) => refuse_line(rt, &error),
     }
 }
 
@@ -61,7 +72,7 @@ fn words(rt: &HostRuntime) -> io::Result<Vec<String>> {
 }
 
 // Prints the help text, or why the command line is refused.
-fn refuse(rt: &HostRuntime, error: &Error) -> u8 {
+fn refuse_line(rt: &HostRuntime, error: &Error) -> u8 {
     if error.kind() == ErrorKind::OutOfMemory {
         return report(rt, Err(RunFault::Memory));
     }
@@ -77,21 +88,37 @@ fn report(rt: &HostRuntime, outcome: Result<Summary, RunFault>) -> u8 {
     status(&outcome)
 }
 
-// Runs a new session with the standard primitives over the script.
-fn run_script(rt: &HostRuntime, line: &CommandLine<'_>) -> Result<Summary, RunFault>
+// Prints what is wrong with a file.
+fn report_file(rt: &HostRuntime, file: &str, fault: &FileFault) -> u8 {
+    let _ = match fault {
+        FileFault::Read => eprintln!(rt; "stratbench: read fault: {file}"),
+        FileFault::Write => eprintln!(rt; "stratbench: write fault: {file}"),
+        FileFault::Memory => eprintln!(rt; "stratbench: no memory: {file}"),
+        FileFault::Refused(refusal) => print_refusal(rt, file, refusal),
+    };
+    file_status(fault)
+}
+
+// Prints a refusal as an answer has it.
+fn print_refusal(rt: &HostRuntime, file: &str, refusal: &Refusal) -> io::Result<()> {
+    let mut text = Vec::with_capacity(rt.alloc(), ANSWER_ROOM)?;
+    refuse(&mut text, refusal);
+    eprint!(rt; "stratbench: {file}: ")?;
+    rt.stderr().write_all(&text)
+}
+
+// Runs a new session with the standard primitives over the script. Returns the exit status.
+fn run_line(rt: &HostRuntime, line: &CommandLine<'_>) -> u8
     requires { AreSteps line.now.steps }
 {
     match run_standard(rt, line) {
-        Ok(outcome) => outcome,
-        Err(AllocError) => Err(RunFault::Memory),
+        Ok(status) => status,
+        Err(AllocError) => report(rt, Err(RunFault::Memory)),
     }
 }
 
 // Makes a box for each of the standard primitives.
-fn run_standard(
-    rt: &HostRuntime,
-    line: &CommandLine<'_>,
-) -> Result<Result<Summary, RunFault>, AllocError>
+fn run_standard(rt: &HostRuntime, line: &CommandLine<'_>) -> Result<u8, AllocError>
     requires { AreSteps line.now.steps }
 {
     let alloc = rt.alloc();
@@ -114,18 +141,68 @@ fn run_with<M: Meaning>(
     rt: &HostRuntime,
     line: &CommandLine<'_>,
     operations: StandardOperations<M::Operation>,
-) -> Result<Summary, RunFault>
+) -> u8
     requires steps { AreSteps line.now.steps }
     requires standard { ComputeStandard M.Operation.may_run M.Operation.answers M.meaning operations }
 {
     let Ok(primitives) = standard_primitives::<M>(rt.alloc(), operations) else {
-        return Err(RunFault::Memory);
+        return report(rt, Err(RunFault::Memory));
     };
     let mut session = Session::new(rt.alloc(), Primitives::new(primitives));
     if line.library {
-        load_library(rt.alloc(), &mut session)?;
+        if let Err(fault) = load_library(rt.alloc(), &mut session) {
+            return report(rt, Err(fault));
+        }
     }
-    run_session(rt, line, &mut session)
+    if let Err(status) = load_all(rt, &mut session, &line.loads) {
+        return status;
+    }
+    let outcome = run_session(rt, line, &mut session);
+    let ended = report_run(rt, line, outcome);
+    match outcome {
+        Ok(_) => write_all(rt, &session, &line.writes, ended),
+        // What stands after a fault isn't what the script leads to.
+        Err(_) => ended,
+    }
+}
+
+// Loads the files, up to the first with a fault, whose exit status is returned then.
+fn load_all<M: Meaning>(
+    rt: &HostRuntime,
+    session: &mut Session<M>,
+    loads: &[Load<'_>],
+) -> Result<(), u8> {
+    for load in loads {
+        if let Err(fault) = load_file(rt, session, load) {
+            return Err(report_file(rt, load.file(), &fault));
+        }
+    }
+    Ok(())
+}
+
+// Writes the trees. Returns the greatest exit status, from this one on.
+fn write_all<M: Meaning>(
+    rt: &HostRuntime,
+    session: &Session<M>,
+    writes: &[Named<'_>],
+    ended: u8,
+) -> u8 {
+    let mut status = ended;
+    for named in writes {
+        if let Err(fault) = write_tree(rt, session, named) {
+            status = status.max(report_file(rt, named.file, &fault));
+        }
+    }
+    status
+}
+
+// Prints the fault of a run, if there was one, and the file that couldn't be read.
+fn report_run(rt: &HostRuntime, line: &CommandLine<'_>, outcome: Result<Summary, RunFault>) -> u8 {
+    let ended = report(rt, outcome);
+    if let (Err(RunFault::Read), Some(file)) = (outcome, line.file) {
+        let _ = eprintln!(rt; "stratbench: can't read {file}");
+    }
+    ended
 }
 
 // Runs the session over the file, or over standard input if no file is named.
@@ -140,29 +217,67 @@ fn run_session<M: Meaning>(
         return Err(RunFault::Memory);
     };
     match line.file {
-        None => run_between(rt.alloc(), session, line, rt.stdin(), writer),
+        None => run_input(rt, session, line, writer),
         Some(path) => match File::open(rt, path) {
-            Ok(file) => run_between(rt.alloc(), session, line, file, writer),
+            Ok(file) => run_between(
+                rt.alloc(),
+                session,
+                line,
+                Counted::new(file),
+                Counted::new(writer),
+            ),
             Err(_) => Err(RunFault::Read),
         },
     }
 }
 
-fn run_between<M: Meaning, R: Read + Drop, W: Write + Drop>(
-    alloc: Global,
+// Runs the session over standard input, with prompts if that is wanted, and it is a terminal.
+fn run_input<M: Meaning, W: Write + Drop>(
+    rt: &HostRuntime,
     session: &mut Session<M>,
     line: &CommandLine<'_>,
-    reader: R,
     writer: W,
 ) -> Result<Summary, RunFault>
     requires { AreSteps line.now.steps }
+{
+    let source = Counted::new(rt.stdin());
+    let sink = Counted::new(writer);
+    let at_terminal = rt.stdin().is_terminal() && rt.stderr().is_terminal();
+    if at_terminal && line.interactive {
+        let group = Group::new();
+        let source = Prompting::new(source, rt.stderr(), &group);
+        return run_between(
+            rt.alloc(),
+            session,
+            line,
+            source,
+            Watched::new(sink, &group),
+        );
+    }
+    if at_terminal && line.framing() == Framing::Continued {
+        let _ = eprintln!(rt; "stratbench: {LATE}");
+    }
+    run_between(rt.alloc(), session, line, source, sink)
+}
+
+// What is said at a terminal where lines may go on.
+const LATE: &str = "an answer comes with the next command; with -i each line is answered at once";
+
+fn run_between<M: Meaning, I: Source + Drop, O: Sink + Drop>(
+    alloc: Global,
+    session: &mut Session<M>,
+    line: &CommandLine<'_>,
+    mut source: I,
+    mut sink: O,
+) -> Result<Summary, RunFault>
+    requires steps { AreSteps line.now.steps }
+    requires source { I.failed source + 1 < 2 ^ 64 }
+    requires sink { O.failed sink + 1 < 2 ^ 64 }
 {
     let settings = Settings {
         steps: line.steps,
         stop: line.stop,
         framing: line.framing(),
     };
-    let mut source = Counted::new(reader);
-    let mut sink = Counted::new(writer);
     run(alloc, session, &mut source, &mut sink, settings)
 }

@@ -1,9 +1,11 @@
 //! The exit status for the outcome of a run.
 
 ghost use Rattle.std.specs.Prelude.{◌≡◌};
-ghost use Rattle.stratbench.specs.Status.{status_of};
+ghost use Rattle.stratbench.specs.Status.{status_of, status_of_file};
 
 use script_core::{RunFault, Summary};
+use session_core::Refusal;
+use term_core::NoMemory;
 
 /// The exit status for the outcome of a run: 0 if all commands were accepted, 1 if some were
 /// refused, 3 for a fault of reading or writing or the bound on reads, 4 for want of memory.
@@ -15,5 +17,39 @@ pub fn status(outcome: &Result<Summary, RunFault>) -> u8
         Ok(_) => 1,
         Err(RunFault::Read | RunFault::Write | RunFault::Turns) => 3,
         Err(RunFault::Memory) => 4,
+    }
+}
+
+/// What is wrong with a file of the command line, or with what is in it.
+#[derive(Drop)]
+pub enum FileFault {
+    /// It can't be read.
+    Read,
+    /// It can't be written.
+    Write,
+    /// Memory couldn't grow.
+    Memory,
+    /// The text in it is refused, or there is no tree to write, for any reason but want of memory.
+    Refused(Refusal),
+}
+
+impl From<Refusal> for FileFault {
+    fn from(refusal: Refusal) -> FileFault {
+        match refusal {
+            Refusal::Memory => FileFault::Memory,
+            refusal => FileFault::Refused(refusal),
+        }
+    }
+}
+
+/// The exit status for a fault of a file: 1 for a refusal, 3 if it can't be read or written, 4 for
+/// want of memory.
+pub fn file_status(fault: &FileFault) -> u8
+    ensures { result ≡ status_of_file fault.now }
+{
+    match fault {
+        FileFault::Refused(_) => 1,
+        FileFault::Read | FileFault::Write => 3,
+        FileFault::Memory => 4,
     }
 }

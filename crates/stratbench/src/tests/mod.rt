@@ -1,49 +1,88 @@
 //! The command line, the exit status, and rows that need the library or primitives.
 
+mod loading;
 mod picking;
 mod rows;
 
 use crate::arguments::{CommandLine, arguments};
-use crate::status::status;
-use script_core::{RunFault, Summary};
+use crate::named::{Load, Named};
+use crate::status::{FileFault, file_status, status};
+use script_core::{Framing, RunFault, Summary};
+use session_core::Refusal;
 use std::alloc::Global;
+use std::str;
 use std::test::Fail;
 
-// How a command line is read.
+// How a command line without files is read.
 #[derive(Clone, Copy, Debug, PartialEq, Eq)]
 enum Line<'a> {
-    Taken(CommandLine<'a>),
+    Taken(Flags<'a>),
     Refused(i32),
+}
+
+#[derive(Clone, Copy, Debug, PartialEq, Eq)]
+struct Flags<'a> {
+    library: bool,
+    steps: u32,
+    stop: bool,
+    framing: Framing,
+    interactive: bool,
+    file: Option<&'a str>,
 }
 
 fn line_of<'a>(alloc: Global, words: &'a [&'a str]) -> Line<'a> {
     match arguments(alloc, words) {
-        Ok(line) => Line::Taken(line),
+        Ok(line) => Line::Taken(flags_of(&line)),
         Err(error) => Line::Refused(error.exit_code()),
+    }
+}
+
+fn flags_of<'a>(line: &CommandLine<'a>) -> Flags<'a> {
+    Flags {
+        library: line.library,
+        steps: line.steps,
+        stop: line.stop,
+        framing: line.framing(),
+        interactive: line.interactive,
+        file: line.file,
     }
 }
 
 // An accepted command line without the library.
 fn taken(steps: u32, stop: bool, file: Option<&str>) -> Line<'_> {
-    Line::Taken(CommandLine {
+    Line::Taken(Flags {
         library: false,
         steps,
         stop,
-        lines: false,
+        framing: Framing::Continued,
+        interactive: false,
         file,
+    })
+}
+
+// One on which each line is a command.
+fn by_lines(interactive: bool) -> Line<'static> {
+    Line::Taken(Flags {
+        library: false,
+        steps: 100_000,
+        stop: false,
+        framing: Framing::Lines,
+        interactive,
+        file: None,
     })
 }
 
 #[test]
 fn reads_command_lines(rt: HostRuntime) -> Result<(), Fail> {
-    let whole = CommandLine {
+    let whole = Flags {
         library: true,
         steps: 7,
         stop: true,
-        lines: true,
+        framing: Framing::Lines,
+        interactive: false,
         file: Some("a"),
     };
-    let table: [(&[&str], Line<'_>); 14] = [
+    let table: [(&[&str], Line<'_>); 20] = [
         (&["stratbench"], taken(100_000, false, None)),
         (&["stratbench", "--stop"], taken(100_000, true, None)),
         (&["stratbench", "--steps", "1"], taken(1, false, None)),
@@ -71,13 +110,19 @@ fn reads_command_lines(rt: HostRuntime) -> Result<(), Fail> {
             ],
             Line::Taken(whole),
         ),
+        (&["stratbench", "--lines"], by_lines(false)),
+        (&["stratbench", "-i"], by_lines(true)),
+        (&["stratbench", "--interactive"], by_lines(true)),
         (&["stratbench", "--steps", "0"], Line::Refused(2)),
         (&["stratbench", "--steps", "1000001"], Line::Refused(2)),
         (&["stratbench", "--steps", "x"], Line::Refused(2)),
         (&["stratbench", "--steps"], Line::Refused(2)),
         (&["stratbench", "a", "b"], Line::Refused(2)),
         (&["stratbench", "--frob"], Line::Refused(2)),
+        (&["stratbench", "-i", "-i"], Line::Refused(2)),
         (&["stratbench", "--help"], Line::Refused(0)),
+        (&["stratbench", "--version"], Line::Refused(0)),
+        (&["stratbench", "-V"], Line::Refused(0)),
     ];
     for (words, wanted) in table {
         assert!(rt; line_of(rt.alloc(), words) == wanted, "{words:?}");
@@ -102,7 +147,7 @@ fn has_all(text: &str, parts: &[&str]) -> bool {
 // it.
 #[test]
 fn shows_help_and_faults(rt: HostRuntime) -> Result<(), Fail> {
-    let table: [(&[&str], &[&str]); 5] = [
+    let table: [(&[&str], &[&str]); 8] = [
         (
             &["stratbench", "--help"],
             &[
@@ -111,10 +156,30 @@ fn shows_help_and_faults(rt: HostRuntime) -> Result<(), Fail> {
                 "--steps <N>",
                 "1,000,000",
                 "--stop",
+                "--lines",
+                "-i, --interactive",
+                "--module <NAME=FILE>",
+                "--tree <NAME=FILE>",
+                "--write <NAME=FILE>",
                 "--help",
+                "--version",
                 "FILE",
                 "Examples:",
             ],
+        ),
+        (&["stratbench", "--version"], &["stratbench 1.0.0"]),
+        (
+            &["stratbench", "--tree", "t"],
+            &[
+                "error: ",
+                "'t'",
+                "'--tree <NAME=FILE>'",
+                "Usage: stratbench",
+            ],
+        ),
+        (
+            &["stratbench", "--write", "9=f"],
+            &["error: ", "'9=f'", "'--write <NAME=FILE>'"],
         ),
         (
             &["stratbench", "--frob"],
@@ -131,6 +196,84 @@ fn shows_help_and_faults(rt: HostRuntime) -> Result<(), Fail> {
         let text = shown(rt.alloc(), words)?;
         assert!(rt; has_all(&text, parts), "{words:?}: {text}");
     }
+    Ok(())
+}
+
+// The files of a command line, in their order, or its exit status.
+fn files_of(alloc: Global, words: &[&str]) -> Result<String, Fail> {
+    match arguments(alloc, words) {
+        Ok(line) => shown_files(alloc, &line),
+        Err(error) => Ok(format!(in alloc; "{}", error.exit_code())?),
+    }
+}
+
+fn shown_files(alloc: Global, line: &CommandLine<'_>) -> Result<String, Fail> {
+    let mut text = String::new(alloc);
+    for load in &line.loads {
+        match load {
+            Load::Module(named) => show_file(&mut text, "module", named)?,
+            Load::Tree(named) => show_file(&mut text, "tree", named)?,
+        }
+    }
+    for named in &line.writes {
+        show_file(&mut text, "write", named)?;
+    }
+    Ok(text)
+}
+
+fn show_file(text: &mut String, option: &str, named: &Named<'_>) -> Result<(), Fail> {
+    text.push_str(option)?;
+    text.push_str(" ")?;
+    text.push_str(str::from_utf8(named.name.bytes()).unwrap_or("?"))?;
+    text.push_str(" ")?;
+    text.push_str(named.file)?;
+    text.push_str(";")?;
+    Ok(())
+}
+
+// Modules and trees are loaded in the order of the command line.
+#[test]
+fn reads_files_of_command_lines(rt: HostRuntime) -> Result<(), Fail> {
+    let table: [(&[&str], &str); 8] = [
+        (&["stratbench", "a"], ""),
+        (&["stratbench", "--tree", "t=a"], "tree t a;"),
+        (
+            &[
+                "stratbench",
+                "--tree",
+                "t=a",
+                "--write=u=x",
+                "--module=m=b",
+                "c",
+                "--tree=u=",
+                "--module",
+                "n=d=e",
+            ],
+            "tree t a;module m b;tree u ;module n d=e;write u x;",
+        ),
+        (
+            &["stratbench", "--module", "t=a", "--module", "t=a"],
+            "module t a;module t a;",
+        ),
+        (&["stratbench", "--tree", "t"], "2"),
+        (&["stratbench", "--tree", "=a"], "2"),
+        (&["stratbench", "--module", "1=a"], "2"),
+        (&["stratbench", "--write", "t"], "2"),
+    ];
+    for (words, wanted) in table {
+        let files = files_of(rt.alloc(), words)?;
+        assert!(rt; files.as_str() == wanted, "{words:?}: {files}");
+    }
+    Ok(())
+}
+
+#[test]
+fn tells_statuses_of_files(rt: HostRuntime) -> Result<(), Fail> {
+    assert!(rt; file_status(&FileFault::Read) == 3);
+    assert!(rt; file_status(&FileFault::Write) == 3);
+    assert!(rt; file_status(&FileFault::Memory) == 4);
+    assert!(rt; file_status(&FileFault::from(Refusal::Memory)) == 4);
+    assert!(rt; file_status(&FileFault::from(Refusal::Syntax)) == 1);
     Ok(())
 }
 

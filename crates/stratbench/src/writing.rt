@@ -1,0 +1,110 @@
+//! Trees to files.
+
+ghost use Rattle.std.specs.Prelude.{◌≡◌, ◌⊎◌, IfOk, IfErr, Some, None};
+ghost use Rattle.std.specs.FinMap as finmap;
+ghost use Rattle.term_core.specs.Tree.{Tree};
+ghost use Rattle.aterm_text.specs.Printed.{print};
+ghost use Rattle.script_forms.specs.Machine.{line};
+
+use crate::named::Named;
+use crate::status::FileFault;
+use prim_core::Meaning;
+use script_forms::append_shown;
+use session_core::{Refusal, Session};
+use std::alloc::{AllocError, Global};
+use std::fs::{self, File, Permissions};
+use std::io::{self, ErrorKind, Write};
+use term_core::Label;
+
+// How many names for the new file are tried.
+const MAX_TRIES: u32 = 100;
+
+/// The tree of this name as `show` prints it, and a line feed.
+pub fn shown_tree<M: Meaning>(
+    alloc: Global,
+    session: &Session<M>,
+    name: &Label,
+) -> Result<Vec<u8>, Refusal>
+    ensures shown { IfOk result (λ text. (tree : Tree)
+        × (finmap.get session.now.now.trees name.now ≡ Some tree) × (text.items ≡ line (print tree))) }
+    ensures refused { IfErr result (λ refusal. (refusal ≡ Refusal.Memory)
+        ⊎ ((refusal ≡ Refusal.NoTree) × (finmap.get session.now.now.trees name.now ≡ None))) }
+{
+    let Some(tree) = session.tree(name) else {
+        return Err(Refusal::NoTree);
+    };
+    let mut text = Vec::new(alloc);
+    append_shown(tree, &mut text)?;
+    Ok(text)
+}
+
+/// Writes a tree to its file, whole or not at all.
+pub fn write_tree<M: Meaning>(
+    rt: &HostRuntime,
+    session: &Session<M>,
+    named: &Named<'_>,
+) -> Result<(), FileFault> {
+    let text = shown_tree(rt.alloc(), session, &named.name)?;
+    match replace(rt, named.file, &text) {
+        Ok(()) => Ok(()),
+        Err(error) if error.kind() == ErrorKind::OutOfMemory => Err(FileFault::Memory),
+        Err(_) => Err(FileFault::Write),
+    }
+}
+
+// Writes the text beside its place and moves it there. A file that is there keeps its permissions,
+// and a link to it stays one. What isn't a file stays as it is: a device would be replaced by a file.
+fn replace(rt: &HostRuntime, file: &str, text: &[u8]) -> io::Result<()> {
+    let Ok(there) = fs::metadata(rt, file) else {
+        return write_beside(rt, file, text, None);
+    };
+    if !there.is_file() {
+        return Err(ErrorKind::InvalidInput.into());
+    }
+    let place = fs::canonicalize(rt, file)?;
+    write_beside(rt, place.as_str(), text, Some(there.permissions()))
+}
+
+// A name beside the file that is in use is left alone, and the next is tried.
+fn write_beside(
+    rt: &HostRuntime,
+    file: &str,
+    text: &[u8],
+    permissions: Option<Permissions>,
+) -> io::Result<()> {
+    for number in 0..MAX_TRIES {
+        let beside = beside(rt.alloc(), file, number)?;
+        match File::create_new(rt, &beside) {
+            Ok(new) => {
+                let moved = fill_and_move(rt, new, &beside, file, text, permissions);
+                if moved.is_err() {
+                    let _ = fs::remove_file(rt, &beside);
+                }
+                return moved;
+            }
+            Err(error) if error.kind() == ErrorKind::AlreadyExists => {}
+            Err(error) => return Err(error),
+        }
+    }
+    Err(ErrorKind::AlreadyExists.into())
+}
+
+fn fill_and_move(
+    rt: &HostRuntime,
+    mut new: File,
+    beside: &str,
+    file: &str,
+    text: &[u8],
+    permissions: Option<Permissions>,
+) -> io::Result<()> {
+    if let Some(permissions) = permissions {
+        new.set_permissions(permissions)?;
+    }
+    new.write_all(text)?;
+    fs::rename(rt, beside, file)
+}
+
+// A name in the same folder.
+fn beside(alloc: Global, file: &str, number: u32) -> Result<String, AllocError> {
+    format!(in alloc; "{file}.{number}.new")
+}
