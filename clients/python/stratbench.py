@@ -1,0 +1,200 @@
+"""A client for the workbench `stratbench`: trees that are transformed by strategies, with exact undo.
+
+    >>> bench = Stratbench(library=True)
+    >>> bench.tree("e", "Plus(Zero,Var(\\"x\\"))")
+    >>> bench.module("m", '''
+    ...   signature constructors
+    ...     Plus : e * e -> e   Zero : e
+    ...   rules
+    ...     Unit : Plus(Zero(),x) -> x
+    ... ''')
+    >>> bench.apply("e", "innermost(Unit)")
+    >>> bench.show("e")
+    'Var("x")'
+    >>> bench.undo()
+    >>> bench.show("e")
+    'Plus(Zero,Var("x"))'
+    >>> bench.close()
+    0
+
+The program is looked for in PATH; the environment's STRATBENCH names another. It is run with `--lines`: a line is a
+command, and is answered before the next is sent. Texts may have many lines: they are sent on one, without comments.
+"""
+
+import contextlib
+import os
+import re
+import subprocess
+
+
+class Refused(Exception):
+    """A command that was refused, and changed nothing: its `number` and `word`, and for the number 11 the `fault`, as
+    `('unknown', 'f', 0, 0)`, of which the first is its kind. Names that aren't words have their quotes."""
+
+    def __init__(self, answer):
+        super().__init__(answer)
+        _, number, self.word = answer.split(" ", 2)
+        self.number, self.fault = int(number), None
+        if self.number == 11:
+            kind, rest = self.word.split(" ", 1)
+            name, first, second = rest.rsplit(" ", 2)
+            self.word, self.fault = "check", (kind, name, int(first), int(second))
+
+
+class Stratbench:
+    """A session. `library` loads the usual traversals first, `steps` is the budget of `apply` where it names none, and
+    `options` are further words of the command line, as `["--tree", "t=in.aterm"]`. It can be a context manager, which
+    closes it.
+
+        >>> with Stratbench() as bench:
+        ...     bench.tree("t", "f(1")
+        Traceback (most recent call last):
+        stratbench.Refused: refused 7 term
+    """
+
+    def __init__(self, library=False, steps=None, options=(), program=None):
+        words = [program or os.environ.get("STRATBENCH", "stratbench"), "--lines", *options]
+        words += ["--library"] * library + (["--steps", str(steps)] if steps else [])
+        self._ran = subprocess.Popen(words, stdin=subprocess.PIPE, stdout=subprocess.PIPE)
+
+    def __enter__(self):
+        return self
+
+    def __exit__(self, *_):
+        self.close()
+
+    def close(self):
+        """Ends the session, and returns the exit status of the program."""
+        self._ran.stdin.close()
+        self._ran.stdout.close()
+        return self._ran.wait()
+
+    def tree(self, name, text):
+        """Gives the name the tree that the text spells."""
+        self._do(f"tree {name} {_one_line(text)}")
+
+    def module(self, name, text):
+        """Gives the name a module of strategies."""
+        self._do(f"module {name} {_one_line(text)}")
+
+    def apply(self, name, strategy, at=None, within=None):
+        """Replaces the tree, or its subterm at the path, by what the strategy gives for it in at most `within` steps.
+
+            >>> bench = Stratbench()
+            >>> bench.tree("t", "[1,2]")
+            >>> bench.apply("t", '?x; prim("addi",x,40)', at="/1")
+            >>> bench.show("t"), bench.show("t", at="/1")
+            ('[1,42]', '42')
+            >>> bench.apply("t", "f")
+            Traceback (most recent call last):
+            stratbench.Refused: refused 11 unknown f 0 0
+            >>> try:
+            ...     bench.apply("t", "rec x(x)", within=10)
+            ... except Refused as refused:
+            ...     print(refused.number, refused.word, refused.fault)
+            13 spent None
+        """
+        place = (f" at {at}" if at is not None else "") + (f" within {within}" if within is not None else "")
+        self._do(f"apply {name}{place} do {_one_line(strategy)}")
+
+    def show(self, name, at=None):
+        """Returns the tree, or its subterm at the path, as a text."""
+        return self._answer(f"show {name}" + (f" at {at}" if at is not None else ""))
+
+    def text(self, name):
+        """Returns the text of a module.
+
+            >>> bench = Stratbench()
+            >>> bench.module("m", "strategies  f = id")
+            >>> bench.text("m")
+            'strategies  f = id'
+        """
+        return self._lines(f"text {name}")
+
+    def dump(self):
+        """Returns a script that makes the trees and the modules again.
+
+            >>> bench = Stratbench()
+            >>> bench.tree("t", "f(A)")
+            >>> bench.module("m", "strategies f = id")
+            >>> print(bench.dump())
+            tree t f(A)
+            begin
+            module m strategies f = id
+            commit
+        """
+        return self._lines("dump")
+
+    def undo(self, steps=1):
+        """Undoes this many steps."""
+        self._do(f"undo {steps}")
+
+    def redo(self, steps=1):
+        """Redoes this many undone steps."""
+        self._do(f"redo {steps}")
+
+    @contextlib.contextmanager
+    def group(self):
+        """Makes one step of the changes in it. An exception undoes them all.
+
+            >>> bench = Stratbench()
+            >>> bench.tree("t", "a")
+            >>> with bench.group():
+            ...     bench.tree("t", "b")
+            ...     bench.apply("t", "fail")
+            Traceback (most recent call last):
+            stratbench.Refused: refused 12 fails
+            >>> bench.show("t"), bench.history()
+            ('a', (1, 0))
+        """
+        self._do("begin")
+        try:
+            yield self
+            self._do("commit")
+        except BaseException:
+            self._do("abandon")
+            raise
+
+    def history(self):
+        """Returns the numbers of steps that can be undone and redone."""
+        return tuple(map(int, re.findall(r"\d+", self._answer("history"))))
+
+    # The answer to `history` begins with `undo `. No line of a module's text or a dump does.
+    def _lines(self, command):
+        self._send(command)
+        self._send("history")
+        lines = [self._read()]
+        while not lines[-1].startswith("undo "):
+            lines.append(self._read())
+        if lines[0].startswith("refused "):
+            raise Refused(lines[0])
+        return "\n".join(lines[:-1])
+
+    def _do(self, command):
+        self._answer(command)
+
+    def _answer(self, command):
+        self._send(command)
+        answer = self._read()
+        if answer.startswith("refused "):
+            raise Refused(answer)
+        return answer
+
+    def _send(self, command):
+        self._ran.stdin.write(command.encode(errors="surrogateescape") + b"\n")
+        self._ran.stdin.flush()
+
+    def _read(self):
+        line = self._ran.stdout.readline()
+        if not line.endswith(b"\n"):
+            raise EOFError("the program has ended")
+        return line[:-1].decode(errors="surrogateescape")
+
+
+# A text on one line: without comments, with a space for line feeds, and in strings with the escapes for them.
+def _one_line(text):
+    def flat(found):
+        part = found.group()
+        return part.replace("\n", "\\n").replace("\r", "\\r") if part.startswith('"') else " "
+
+    return re.sub(r'"(?:\\.|[^"\\])*"|/\*.*?\*/|//[^\n]*|[\r\n]+', flat, text, flags=re.DOTALL)
