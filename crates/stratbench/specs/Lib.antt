@@ -1,4 +1,3 @@
 pub mod Status
-pub mod Line
 pub mod Library
 pub mod Files

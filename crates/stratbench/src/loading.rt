@@ -7,9 +7,9 @@ ghost use Rattle.script_forms.specs.inside.Accepting.{reading_refusal};
 ghost use Rattle.stratbench.specs.Files.{LoadsModule, LoadsTree, module_text_of};
 
 use crate::module_text::module_text;
-use crate::named::Load;
 use crate::status::FileFault;
 use aterm_text::{ReadFault, read};
+use command_line::Load;
 use prim_core::Meaning;
 use session_core::{Refusal, Session};
 use std::alloc::Global;

@@ -5,24 +5,21 @@ ghost use Rattle.std.specs.Prelude.{◌+◌, ◌<◌, ◌^◌};
 ghost use Rattle.prim_core.specs.StandardTable.{ComputeStandard};
 ghost use Rattle.session_steps.specs.Steps.{AreSteps};
 
-mod arguments;
 mod dialogue;
 mod library;
 mod loading;
 mod module_text;
-mod named;
 mod status;
 #[cfg(test)]
 mod tests;
 mod writing;
 
-use arguments::{CommandLine, arguments};
 use clap::Error;
 use clap::error::ErrorKind;
+use command_line::{CommandLine, Load, Named, arguments};
 use dialogue::{Group, Prompting, Watched};
 use library::load_library;
 use loading::load_file;
-use named::{Load, Named};
 use prim_core::{
     BoxedOperation, Meaning, Primitives, Standard, StandardOperations, addi, divi, gti,
     int_to_string, muli, standard_primitives, strcat, string_to_int, strlen, subti,

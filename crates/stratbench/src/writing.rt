@@ -6,8 +6,8 @@ ghost use Rattle.term_core.specs.Tree.{Tree};
 ghost use Rattle.aterm_text.specs.Printed.{print};
 ghost use Rattle.script_forms.specs.Machine.{line};
 
-use crate::named::Named;
 use crate::status::FileFault;
+use command_line::Named;
 use prim_core::Meaning;
 use script_forms::append_shown;
 use session_core::{Refusal, Session};

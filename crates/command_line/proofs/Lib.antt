@@ -1,0 +1,3 @@
+pub mod FlagLemmas
+pub mod LineRows
+pub mod NamedLemmas

@@ -1,0 +1,94 @@
+use Rattle.std.proofs.Common.{List, ap, codes, map, sym, ◌≡◌, ◌∙◌}
+use Rattle.clap.specs.Words.{App, HasMatchesOf, Text, fault_of, first_of, found_of, is_simple, is_simple_and_free, matches_of, one_of, rows_of}
+use Rattle.clap.specs.declared.parser.matches.ArgMatches.{ArgMatches}
+use Rattle.clap.proofs.WalkLemmas.{first_value-rows, one_text-rows}
+use Rattle.command_line.specs.Line.{are_named_all, given, line, line_fault, values}
+use Rattle.command_line.proofs.FlagLemmas.{interactive_is_given, library_is_given, lines_is_given, stop_is_given}
+use Rattle.command_line.proofs.NamedLemmas.{err_fails, fault_comes, malformed_fault, malformed_holds, no_fault}
+use Rattle.command_line.proofs.words.arguments.Goals as goal
+
+-- the matches of the command that is made are those of the command line
+rows_are : (app : App) (words : List Text) (m : ArgMatches) → HasMatchesOf app words m → app ≡ line → rows_of (found_of m) ≡ given words
+rows_are app words m has is = (has (ap is_simple is)).0 ∙ ap (λ (a : App). matches_of a words) is
+
+pub returns-in-Ok-clause-library : goal.returns-in-Ok-clause-library
+returns-in-Ok-clause-library g c =
+    let words : List Text = map g.S.AsStr.text c.args.words.now in
+    let rows = rows_are _ words c.in_ok-matches.matches c.in_ok-matches.ensures.ok.2 c.in_ok-command.ensures in
+    let text = one_text-rows (found_of c.in_ok-matches.matches) (codes "library") ∙ ap (one_of (codes "library")) rows in
+    library_is_given words c.get_flag.result (λ e. c.get_flag.ensures.value (text ∙ e)) (λ e. c.get_flag.ensures.other (text ∙ e))
+
+pub returns-in-Ok-clause-stop : goal.returns-in-Ok-clause-stop
+returns-in-Ok-clause-stop g c =
+    let words : List Text = map g.S.AsStr.text c.args.words.now in
+    let rows = rows_are _ words c.in_ok-matches.matches c.in_ok-matches.ensures.ok.2 c.in_ok-command.ensures in
+    let text = one_text-rows (found_of c.in_ok-matches.matches) (codes "stop") ∙ ap (one_of (codes "stop")) rows in
+    stop_is_given words c.get_flag-in-Ok.result (λ e. c.get_flag-in-Ok.ensures.value (text ∙ e)) (λ e. c.get_flag-in-Ok.ensures.other (text ∙ e))
+
+pub returns-in-Ok-clause-lines : goal.returns-in-Ok-clause-lines
+returns-in-Ok-clause-lines g c =
+    let words : List Text = map g.S.AsStr.text c.args.words.now in
+    let rows = rows_are _ words c.in_ok-matches.matches c.in_ok-matches.ensures.ok.2 c.in_ok-command.ensures in
+    let text = one_text-rows (found_of c.in_ok-matches.matches) (codes "lines") ∙ ap (one_of (codes "lines")) rows in
+    lines_is_given words c.get_flag-in-Ok-2.result (λ e. c.get_flag-in-Ok-2.ensures.value (text ∙ e)) (λ e. c.get_flag-in-Ok-2.ensures.other (text ∙ e))
+
+pub returns-in-Ok-clause-interactive : goal.returns-in-Ok-clause-interactive
+returns-in-Ok-clause-interactive g c =
+    let words : List Text = map g.S.AsStr.text c.args.words.now in
+    let rows = rows_are _ words c.in_ok-matches.matches c.in_ok-matches.ensures.ok.2 c.in_ok-command.ensures in
+    let text = one_text-rows (found_of c.in_ok-matches.matches) (codes "interactive") ∙ ap (one_of (codes "interactive")) rows in
+    interactive_is_given words c.get_flag-in-Ok-3.result (λ e. c.get_flag-in-Ok-3.ensures.value (text ∙ e)) (λ e. c.get_flag-in-Ok-3.ensures.other (text ∙ e))
+
+pub returns-in-Ok-clause-number : goal.returns-in-Ok-clause-number
+returns-in-Ok-clause-number g c =
+    let words : List Text = map g.S.AsStr.text c.args.words.now in
+    let rows = rows_are _ words c.in_ok-matches.matches c.in_ok-matches.ensures.ok.2 c.in_ok-command.ensures in
+    let text = one_text-rows (found_of c.in_ok-matches.matches) (codes "steps") ∙ ap (one_of (codes "steps")) rows in
+    λ t e. c.steps.ensures.number t (text ∙ e)
+
+pub returns-in-Ok-clause-file : goal.returns-in-Ok-clause-file
+returns-in-Ok-clause-file g c =
+    let words : List Text = map g.S.AsStr.text c.args.words.now in
+    let rows = rows_are _ words c.in_ok-matches.matches c.in_ok-matches.ensures.ok.2 c.in_ok-command.ensures in
+    c.get_str.ensures ∙ first_value-rows (found_of c.in_ok-matches.matches) (codes "file") ∙ ap (first_of (codes "file")) rows
+
+pub returns-in-Ok-clause-modules : goal.returns-in-Ok-clause-modules
+returns-in-Ok-clause-modules g c =
+    let words : List Text = map g.S.AsStr.text c.args.words.now in
+    let rows = rows_are _ words c.in_ok-matches.matches c.in_ok-matches.ensures.ok.2 c.in_ok-command.ensures in
+    c.in-Ok.ensures.modules ∙ ap (values (codes "module")) rows
+
+pub returns-in-Ok-clause-trees : goal.returns-in-Ok-clause-trees
+returns-in-Ok-clause-trees g c =
+    let words : List Text = map g.S.AsStr.text c.args.words.now in
+    let rows = rows_are _ words c.in_ok-matches.matches c.in_ok-matches.ensures.ok.2 c.in_ok-command.ensures in
+    c.in-Ok.ensures.trees ∙ ap (values (codes "tree")) rows
+
+pub returns-in-Ok-clause-writes : goal.returns-in-Ok-clause-writes
+returns-in-Ok-clause-writes g c =
+    let words : List Text = map g.S.AsStr.text c.args.words.now in
+    let rows = rows_are _ words c.in_ok-matches.matches c.in_ok-matches.ensures.ok.2 c.in_ok-command.ensures in
+    c.in-Ok.ensures.writes ∙ ap (values (codes "write")) rows
+
+pub returns-in-Ok-clause-refused : goal.returns-in-Ok-clause-refused
+returns-in-Ok-clause-refused g c =
+    let words : List Text = map g.S.AsStr.text c.args.words.now in
+    let rows = rows_are _ words c.in_ok-matches.matches c.in_ok-matches.ensures.ok.2 c.in_ok-command.ensures in
+    no_fault words
+    (sym (ap (λ (a : App). fault_of a words) c.in_ok-command.ensures) ∙ c.in_ok-matches.ensures.kinds (ap is_simple_and_free c.in_ok-command.ensures))
+    (sym (ap are_named_all rows) ∙ c.in-Ok.ensures.named)
+
+pub returns-in_err-matches-clause-refused : goal.returns-in_err-matches-clause-refused
+returns-in_err-matches-clause-refused g c =
+    let words : List Text = map g.S.AsStr.text c.args.words.now in
+    err_fails c.from_residual-in_err-matches.result c.in_err-matches.field-0.0 (line_fault words) c.from_residual-in_err-matches.ensures.1
+    (fault_comes _ words c.in_err-matches.field-0.0 c.in_ok-command.ensures (c.in_err-matches.ensures.kinds (ap is_simple_and_free c.in_ok-command.ensures)))
+
+pub returns-in-Err-Malformed-clause-refused : goal.returns-in-Err-Malformed-clause-refused
+returns-in-Err-Malformed-clause-refused g c =
+    let words : List Text = map g.S.AsStr.text c.args.words.now in
+    let rows = rows_are _ words c.in_ok-matches.matches c.in_ok-matches.ensures.ok.2 c.in_ok-command.ensures in
+    malformed_fault words c.in_ok-malformed-in-Err-Malformed.field-0
+    (sym (ap (λ (a : App). fault_of a words) c.in_ok-command.ensures) ∙ c.in_ok-matches.ensures.kinds (ap is_simple_and_free c.in_ok-command.ensures))
+    (sym (ap are_named_all rows)
+    ∙ malformed_holds c.in-Err-Malformed.field-0 _ _ _ c.in-Err-Malformed.field-0-is c.in-Err-Malformed.ensures.malformed) c.in_ok-malformed-in-Err-Malformed.ensures

@@ -1,0 +1,101 @@
+-- The command line, in the terms of `clap`: flags, `--steps N`, options that name files and can be
+-- given again, and the name of a file.
+use Rattle.std.specs.Prelude.{◌≡◌, ◌&&◌, ◌==◌, ℕ, Bool, true, List, [], ◌∷◌, ◌++◌, codes, fold, pos, Some, is_some, unwrap_or, if◌then◌else◌}
+use Rattle.std.specs.List.{list_all, list_any, before_first}
+use Rattle.std.specs.Str.Parse.{IsNumeral, digits_value, without_leading_plus}
+use Rattle.term_core.specs.Word.{label_of}
+use Rattle.session_steps.specs.Steps.{AreSteps}
+use Rattle.clap.specs.Words.{App, Kinds, Row, Rule, Text, all_of, fault_of, matches_of, new_app, new_rule, with_rule}
+use Rattle.clap.specs.Simple.{on_top}
+use Rattle.clap.specs.Kinds.{or_else}
+use Rattle.clap.specs.declared.builder.action.ArgAction.TheVariants.{Append, SetTrue}
+use Rattle.clap.specs.declared.builder.value_parser.ValueParser.TheVariants.{Signed}
+use Rattle.clap.specs.declared.error.kind.ErrorKind.TheVariants.{ValueValidation}
+use Rattle.command_line.specs.declared.named.Named.{Named}
+use Rattle.command_line.specs.declared.named.Load.{Load}
+use Rattle.command_line.specs.declared.named.Load.TheVariants.{Module, Tree}
+
+-- a number from 1 to 1,000,000, and 100,000 if none is given
+abbrev pub steps_option : Rule
+steps_option = record (new_rule (codes "steps")) {
+  long = Some (codes "steps");
+  value_names = 1;
+  defaults = codes "100000" ∷ [];
+  parser = Some (Signed (pos 1) (pos 1000000));
+}
+
+-- a flag of this name
+abbrev pub flag_of : Text → Rule
+flag_of name = record (new_rule name) { long = Some name; action = Some SetTrue }
+
+-- `-i` and `--interactive`
+abbrev pub interactive_flag : Rule
+interactive_flag = record (flag_of (codes "interactive")) { short = Some 105 }
+
+-- an option of this name that can be given again
+abbrev pub files_option : Text → Rule
+files_option name = record (new_rule name) { long = Some name; value_names = 1; action = Some Append }
+
+abbrev pub file_name : Rule
+file_name = record (new_rule (codes "file")) { value_names = 1 }
+
+-- the command of this name, which has a version
+abbrev pub named_app : App
+named_app = on_top (λ s. record s { has_version = true }) (new_app (codes "stratbench"))
+
+abbrev pub line : App
+line = fold with_rule named_app
+    (flag_of (codes "library") ∷ steps_option ∷ flag_of (codes "stop") ∷ flag_of (codes "lines") ∷ interactive_flag
+    ∷ files_option (codes "module") ∷ files_option (codes "tree") ∷ files_option (codes "write") ∷ file_name ∷ [])
+
+-- the values of the words for each of them, the program's name first
+abbrev pub given : List Text → List Row
+given words = matches_of line words
+
+-- n is the number that a text spells, if that is a number of steps
+abbrev pub IsNumberIfSteps : List ℕ → ℕ → Type 0
+IsNumberIfSteps text n =
+    let digits = without_leading_plus text in
+    IsNumeral 10 digits → AreSteps (digits_value 10 digits) → n ≡ digits_value 10 digits
+
+-- ---- NAME=FILE
+
+abbrev pub is_equals : ℕ → Bool
+is_equals b = b == 61
+
+-- the text that gives a name and a file
+abbrev pub as_given : Named → Text
+as_given named = named.name ++ 61 ∷ named.file.now
+
+-- a label, `=` and any file
+abbrev pub is_named : Text → Bool
+is_named text = list_any is_equals text && is_some (label_of (before_first is_equals text))
+
+-- the values of an option, none if it isn't given
+abbrev pub values : Text → List Row → List Text
+values option rows = unwrap_or (all_of option rows) []
+
+-- the modules and the trees among the files that are loaded
+abbrev pub modules_of : List Load → List Named
+modules_of [] = []
+modules_of (Module named ∷ loads) = named ∷ modules_of loads
+modules_of (Tree named ∷ loads) = modules_of loads
+
+abbrev pub trees_of : List Load → List Named
+trees_of [] = []
+trees_of (Module named ∷ loads) = trees_of loads
+trees_of (Tree named ∷ loads) = named ∷ trees_of loads
+
+abbrev pub are_named : Text → List Row → Bool
+are_named option rows = list_all is_named (values option rows)
+
+abbrev pub are_named_all : List Row → Bool
+are_named_all rows = (are_named (codes "module") rows && are_named (codes "tree") rows)
+    && are_named (codes "write") rows
+
+-- Why words are refused: as `clap` finds it; or where it finds nothing, since the value of an option
+-- isn't NAME=FILE.
+abbrev pub line_fault : List Text → Kinds
+line_fault words =
+    or_else (fault_of line words)
+    (if are_named_all (given words) then [] else ValueValidation ∷ [])

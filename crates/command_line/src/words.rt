@@ -1,0 +1,237 @@
+//! The words of the command line, read by `clap`.
+
+ghost use Rattle.std.specs.Prelude.{◌≡◌, ◌≤◌, ◌||◌, ℕ, List, IfOk, IfErr, Some, true, false, codes, map, option_map, if◌then◌else◌};
+ghost use Rattle.clap.specs.Words.{FailsBy, app_of, first_of, found_of, kind_of, one_of, one_text, rows_of};
+ghost use Rattle.clap.specs.Takes.{is_given};
+ghost use Rattle.script_commands.specs.declared.framing.Framing.TheVariants.{Continued, Lines};
+ghost use Rattle.session_steps.specs.Steps.{AreSteps};
+ghost use Rattle.clap.specs.declared.error.kind.ErrorKind.TheVariants.{ValueValidation};
+ghost use Rattle.command_line.specs.Line.{IsNumberIfSteps, are_named_all, as_given, given, line, line_fault, modules_of, trees_of, values};
+ghost use Rattle.command_line.specs.inside.Malformed.{IfMalformed};
+
+use crate::named::{Load, Named, Untaken, in_order, read_all};
+use clap::error::ErrorKind;
+use clap::{Arg, ArgAction, ArgMatches, Command, Error, value_parser};
+use script_commands::Framing;
+use session_steps::MAX_STEPS;
+use std::alloc::{AllocError, Global};
+use std::convert::AsStr;
+
+/// The budget of a command that names none, if the command line names none either.
+pub const DEFAULT_STEPS: u32 = 100_000;
+
+/// The version of the program.
+pub const VERSION: &str = "1.0.0";
+
+// Examples of use, for the end of the help text.
+const EXAMPLES: &str = "Examples:
+  stratbench --library simplify.txt      runs a script that applies definitions of the library
+  stratbench --steps 1000 --stop <FILE   runs standard input up to the first refused command
+  stratbench -i --library                answers line by line at a terminal
+  stratbench --module m=rules.str --tree t=in.aterm --write t=out.aterm script
+                                         loads a module and a tree, runs a script that changes the
+                                         tree, and writes it";
+
+/// What the command line says.
+#[derive(Debug, Drop)]
+pub struct CommandLine<'a> {
+    /// Whether the library's definitions are loaded before the script.
+    pub library: bool,
+    /// The budget of commands that name none, from 1 to 1,000,000.
+    pub steps: u32,
+    /// Whether the run ends after the first refused command.
+    pub stop: bool,
+    /// Whether each line of the script is a command.
+    pub lines: bool,
+    /// Whether, besides, a prompt comes before each line at a terminal.
+    pub interactive: bool,
+    /// The modules and trees that are loaded before the script, in their order.
+    pub loads: Vec<Load<'a>>,
+    /// The trees that are written after the script, and their files.
+    pub writes: Vec<Named<'a>>,
+    /// The file that the script is read from, or none for standard input.
+    pub file: Option<&'a str>,
+}
+
+impl CommandLine<'_> {
+    /// Where a command of the script ends.
+    pub fn framing(&self) -> Framing
+        ensures { result ≡ (if self.now.lines || self.now.interactive then Lines else Continued) }
+    {
+        if self.lines || self.interactive {
+            Framing::Lines
+        } else {
+            Framing::Continued
+        }
+    }
+}
+
+/// Reads the command line, the program's name first: options and a file.
+///
+/// Errors: those of `clap`, which include a request for the help text and want of memory.
+pub fn arguments<'a, S: AsStr>(alloc: Global, words: &'a [S]) -> Result<CommandLine<'a>, Error>
+    ensures steps { IfOk result (λ arguments. AreSteps arguments.steps) }
+
+    // What `clap` finds in the words for this command line, by the names of its arguments.
+    ensures number { IfOk result (λ arguments. (text : List ℕ)
+        → one_of (codes "steps") (given (map S.text words.now)) ≡ Some text
+        → IsNumberIfSteps text arguments.steps) }
+    ensures file { IfOk result (λ arguments. option_map (λ name. name.now) arguments.file
+        ≡ first_of (codes "file") (given (map S.text words.now))) }
+    ensures library { IfOk result (λ arguments. arguments.library
+        ≡ is_given (codes "library") (given (map S.text words.now))) }
+    ensures stop { IfOk result (λ arguments. arguments.stop
+        ≡ is_given (codes "stop") (given (map S.text words.now))) }
+    ensures lines { IfOk result (λ arguments. arguments.lines
+        ≡ is_given (codes "lines") (given (map S.text words.now))) }
+    ensures interactive { IfOk result (λ arguments. arguments.interactive
+        ≡ is_given (codes "interactive") (given (map S.text words.now))) }
+
+    // The files of each option are those of its values, in order.
+    ensures modules { IfOk result (λ arguments. map as_given (modules_of arguments.loads.items)
+        ≡ values (codes "module") (given (map S.text words.now))) }
+    ensures trees { IfOk result (λ arguments. map as_given (trees_of arguments.loads.items)
+        ≡ values (codes "tree") (given (map S.text words.now))) }
+    ensures writes { IfOk result (λ arguments. map as_given arguments.writes.items
+        ≡ values (codes "write") (given (map S.text words.now))) }
+
+    // Words are refused for the reason that `clap` finds, for a value that isn't NAME=FILE, or for
+    // want of memory, and accepted only if there is no such reason.
+    ensures refused { FailsBy (line_fault (map S.text words.now)) result }
+{
+    let mut command = command(alloc)?;
+    let matches = command.try_get_matches_from_mut(words)?;
+    match read_files(alloc, &matches) {
+        Ok((loads, writes)) => Ok(CommandLine {
+            library: matches.get_flag("library"),
+            steps: steps(&matches),
+            stop: matches.get_flag("stop"),
+            lines: matches.get_flag("lines"),
+            interactive: matches.get_flag("interactive"),
+            loads,
+            writes,
+            file: matches.get_str("file"),
+        }),
+        Err(Untaken::Malformed(option, value)) => {
+            Err(malformed(alloc, &mut command, option, value)?)
+        }
+        Err(Untaken::Memory) => Err(Error::from(AllocError)),
+    }
+}
+
+// The files that are loaded, and those that are written.
+fn read_files<'a>(
+    alloc: Global,
+    matches: &ArgMatches<'a>,
+) -> Result<(Vec<Load<'a>>, Vec<Named<'a>>), Untaken<'a>>
+    ensures modules { IfOk result (λ files. map as_given (modules_of files.0.items)
+        ≡ values (codes "module") (rows_of (found_of matches.now))) }
+    ensures trees { IfOk result (λ files. map as_given (trees_of files.0.items)
+        ≡ values (codes "tree") (rows_of (found_of matches.now))) }
+    ensures writes { IfOk result (λ files. map as_given files.1.items
+        ≡ values (codes "write") (rows_of (found_of matches.now))) }
+    ensures named { IfOk result (λ _. are_named_all (rows_of (found_of matches.now)) ≡ true) }
+    ensures malformed { IfErr result (λ untaken. IfMalformed untaken
+        (are_named_all (rows_of (found_of matches.now)) ≡ false)) }
+{
+    let loads = in_order(
+        alloc,
+        matches.get_strs("module").unwrap_or(&[]),
+        matches.indices_of("module").unwrap_or(&[]),
+        matches.get_strs("tree").unwrap_or(&[]),
+        matches.indices_of("tree").unwrap_or(&[]),
+    )?;
+    let writes = read_all(alloc, "write", matches.get_strs("write").unwrap_or(&[]))?;
+    Ok((loads, writes))
+}
+
+fn malformed(
+    alloc: Global,
+    command: &mut Command<'_>,
+    option: &str,
+    value: &str,
+) -> Result<Error, AllocError>
+    ensures { IfOk result (λ error. kind_of error ≡ ValueValidation) }
+{
+    let message = format!(in alloc;
+        "invalid value '{value}' for '--{option} <NAME=FILE>': it has to be a name, '=' and a file"
+    )?;
+    command.error(ErrorKind::ValueValidation, &message)
+}
+
+fn command<'a>(alloc: Global) -> Result<Command<'a>, AllocError>
+    ensures { IfOk result (λ command. app_of command ≡ line) }
+{
+    let library = Arg::new(alloc, "library")
+        .long("library")
+        .action(ArgAction::SetTrue)
+        .help(
+            "Loads the module `library` first, as a step: try, repeat, topdown, innermost, map and others",
+        );
+    let steps = Arg::new(alloc, "steps")
+        .long("steps")
+        .value_name("N")
+        .value_parser(value_parser!(u32).range(1..=MAX_STEPS as i64))
+        .default_value("100000")
+        .help("The steps that a strategy may take where `apply` names none, from 1 to 1,000,000");
+    let stop = Arg::new(alloc, "stop")
+        .long("stop")
+        .action(ArgAction::SetTrue)
+        .help("Ends the run after the first command that is refused");
+    let lines = Arg::new(alloc, "lines")
+        .long("lines")
+        .action(ArgAction::SetTrue)
+        .help(
+            "Takes each line as a command and answers it at once, for terminals and other programs",
+        );
+    let interactive = Arg::new(alloc, "interactive")
+        .short('i')
+        .long("interactive")
+        .action(ArgAction::SetTrue)
+        .help("As --lines, and at a terminal with a prompt before each line");
+    let module = Arg::new(alloc, "module")
+        .long("module")
+        .value_name("NAME=FILE")
+        .action(ArgAction::Append)
+        .help("Loads a module from a file before the script, as a step; can be given again");
+    let tree = Arg::new(alloc, "tree")
+        .long("tree")
+        .value_name("NAME=FILE")
+        .action(ArgAction::Append)
+        .help("Loads a tree from a file before the script, as a step; can be given again");
+    let write = Arg::new(alloc, "write")
+        .long("write")
+        .value_name("NAME=FILE")
+        .action(ArgAction::Append)
+        .help("Writes a tree to a file after the script; can be given again");
+    let file = Arg::new(alloc, "file")
+        .value_name("FILE")
+        .help("The script, or standard input where there is none");
+    Command::new(alloc, "stratbench")
+        .about(
+            "Transforms program trees by the commands of a script, and takes back what they changed",
+        )
+        .version(VERSION)
+        .after_help(EXAMPLES)
+        .arg(library)?
+        .arg(steps)?
+        .arg(stop)?
+        .arg(lines)?
+        .arg(interactive)?
+        .arg(module)?
+        .arg(tree)?
+        .arg(write)?
+        .arg(file)
+}
+
+// The number of steps, which the parser keeps in range.
+fn steps(matches: &ArgMatches<'_>) -> u32
+    ensures within { AreSteps result }
+    ensures number { (text : List ℕ) → one_text (found_of matches.now) (codes "steps") ≡ Some text
+        → IsNumberIfSteps text result }
+{
+    match matches.get_one::<u32>("steps") {
+        Some(steps) if steps >= 1 && steps <= MAX_STEPS => steps,
+        _ => DEFAULT_STEPS,
+    }
+}
