@@ -44,7 +44,8 @@ class Refused(Exception):
 class Stratbench:
     """A session. `library` loads the usual traversals first, `steps` is the budget of `apply` where it names none, and
     `options` are further words of the command line, as `["--tree", "t=in.aterm"]`. It can be a context manager, which
-    closes it.
+    closes it. Where the program has ended, as for a file that isn't there, a call raises `EOFError`; the program says why
+    on standard error.
 
         >>> with Stratbench() as bench:
         ...     bench.tree("t", "f(1")
@@ -65,7 +66,8 @@ class Stratbench:
 
     def close(self):
         """Ends the session, and returns the exit status of the program."""
-        self._ran.stdin.close()
+        with contextlib.suppress(BrokenPipeError):
+            self._ran.stdin.close()
         self._ran.stdout.close()
         return self._ran.wait()
 
@@ -181,8 +183,13 @@ class Stratbench:
         return answer
 
     def _send(self, command):
-        self._ran.stdin.write(command.encode(errors="surrogateescape") + b"\n")
-        self._ran.stdin.flush()
+        if "\n" in command:
+            raise ValueError("a line feed in a name or a path")
+        try:
+            self._ran.stdin.write(command.encode(errors="surrogateescape") + b"\n")
+            self._ran.stdin.flush()
+        except BrokenPipeError:
+            raise EOFError("the program has ended") from None
 
     def _read(self):
         line = self._ran.stdout.readline()
