@@ -86,6 +86,11 @@ trees_of [] = []
 trees_of (Module named ∷ loads) = trees_of loads
 trees_of (Tree named ∷ loads) = named ∷ trees_of loads
 
+-- the file of one that is loaded
+abbrev pub file_of : Load → Text
+file_of (Module named) = named.file.now
+file_of (Tree named) = named.file.now
+
 abbrev pub are_named : Text → List Row → Bool
 are_named option rows = list_all is_named (values option rows)
 

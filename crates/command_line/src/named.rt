@@ -2,7 +2,7 @@
 
 ghost use Rattle.std.specs.Prelude.{◌≡◌, ◌≤◌, ◌&&◌, ◌<◌, ◌⊎◌, IfOk, IfErr, true, false, map, length};
 ghost use Rattle.std.specs.List.{list_all};
-ghost use Rattle.command_line.specs.Line.{as_given, is_named, modules_of, trees_of};
+ghost use Rattle.command_line.specs.Line.{as_given, file_of, is_named, modules_of, trees_of};
 ghost use Rattle.command_line.specs.inside.Malformed.{IfMalformed};
 
 use std::alloc::{AllocError, AllocFailed, Global};
@@ -24,7 +24,9 @@ pub enum Load<'a> {
 
 impl<'a> Load<'a> {
     /// The file.
-    pub fn file(&self) -> &'a str {
+    pub fn file(&self) -> &'a str
+        ensures { result.now ≡ file_of self.now }
+    {
         match self {
             Load::Module(named) | Load::Tree(named) => named.file,
         }
