@@ -3,6 +3,8 @@
 #![tactic(auto)]
 
 #[cfg(test)]
-mod files;
+mod rows;
 #[cfg(test)]
-mod flags;
+mod shown;
+#[cfg(test)]
+mod taken;
