@@ -2,7 +2,7 @@
 #![tactic(auto)]
 
 ghost use Rattle.std.specs.Prelude.{◌+◌, ◌<◌, ◌^◌};
-ghost use Rattle.prim_core.specs.StandardTable.{ComputeStandard};
+ghost use Rattle.prim_extended.specs.ExtendedTable.{ComputeExtended};
 ghost use Rattle.session_steps.specs.Steps.{AreSteps};
 
 mod dialogue;
@@ -21,8 +21,11 @@ use dialogue::{Group, Prompting, Watched};
 use library::load_library;
 use loading::load_file;
 use prim_core::{
-    BoxedOperation, Meaning, Primitives, Standard, StandardOperations, addi, divi, gti,
-    int_to_string, muli, standard_primitives, strcat, string_to_int, strlen, subti,
+    BoxedOperation, Meaning, Primitives, StandardOperations, addi, divi, gti, int_to_string, muli,
+    strcat, string_to_int, strlen, subti,
+};
+use prim_extended::{
+    Extended, ExtendedOperations, explode_string, extended_primitives, gts, implode_string, modi,
 };
 use script_core::{ANSWER_ROOM, Counted, Framing, RunFault, Settings, Sink, Source, Summary, run};
 use script_forms::refuse;
@@ -104,22 +107,22 @@ fn print_refusal(rt: &HostRuntime, file: &str, refusal: &Refusal) -> io::Result<
     rt.stderr().write_all(&text)
 }
 
-// Runs a new session with the standard primitives over the script. Returns the exit status.
+// Runs a new session with the extended primitives over the script. Returns the exit status.
 fn run_line(rt: &HostRuntime, line: &CommandLine<'_>) -> u8
     requires { AreSteps line.now.steps }
 {
-    match run_standard(rt, line) {
+    match run_extended(rt, line) {
         Ok(status) => status,
         Err(AllocError) => report(rt, Err(RunFault::Memory)),
     }
 }
 
-// Makes a box for each of the standard primitives.
-fn run_standard(rt: &HostRuntime, line: &CommandLine<'_>) -> Result<u8, AllocError>
+// Makes a box for each of the extended primitives.
+fn run_extended(rt: &HostRuntime, line: &CommandLine<'_>) -> Result<u8, AllocError>
     requires { AreSteps line.now.steps }
 {
     let alloc = rt.alloc();
-    let operations: StandardOperations<BoxedOperation> = StandardOperations {
+    let standard: StandardOperations<BoxedOperation> = StandardOperations {
         addi: Box::new(alloc, addi)?,
         subti: Box::new(alloc, subti)?,
         muli: Box::new(alloc, muli)?,
@@ -130,19 +133,26 @@ fn run_standard(rt: &HostRuntime, line: &CommandLine<'_>) -> Result<u8, AllocErr
         int_to_string: Box::new(alloc, int_to_string)?,
         string_to_int: Box::new(alloc, string_to_int)?,
     };
-    Ok(run_with::<Standard>(rt, line, operations))
+    let operations: ExtendedOperations<BoxedOperation> = ExtendedOperations {
+        standard,
+        explode_string: Box::new(alloc, explode_string)?,
+        implode_string: Box::new(alloc, implode_string)?,
+        gts: Box::new(alloc, gts)?,
+        modi: Box::new(alloc, modi)?,
+    };
+    Ok(run_with::<Extended>(rt, line, operations))
 }
 
 // The operations are arbitrary, as long as they compute what their names mean.
 fn run_with<M: Meaning>(
     rt: &HostRuntime,
     line: &CommandLine<'_>,
-    operations: StandardOperations<M::Operation>,
+    operations: ExtendedOperations<M::Operation>,
 ) -> u8
     requires steps { AreSteps line.now.steps }
-    requires standard { ComputeStandard M.Operation.may_run M.Operation.answers M.meaning operations }
+    requires extended { ComputeExtended M.Operation.may_run M.Operation.answers M.meaning operations }
 {
-    let Ok(primitives) = standard_primitives::<M>(rt.alloc(), operations) else {
+    let Ok(primitives) = extended_primitives::<M>(rt.alloc(), operations) else {
         return report(rt, Err(RunFault::Memory));
     };
     let mut session = Session::new(rt.alloc(), Primitives::new(primitives));

@@ -1,0 +1,109 @@
+-- The meaning of the extended primitives, computed on worked rows.
+use Rattle.std.proofs.Common.{◌≡◌, ◌-◌, ◌^◌, [], ◌∷◌, Some, None, refl, codes}
+use Rattle.std.specs.Prelude.{ℕ, ℤ, pos, negsuc, List}
+use Rattle.term_core.specs.Tree.{Tree, integer, none, more, integer_term, list_term, tuple_term}
+use Rattle.prim_core.specs.Values.{string_term}
+use Rattle.prim_core.specs.Standard.{standard}
+use Rattle.prim_extended.specs.Extended.{extended}
+
+-- an integer with an annotation
+abbrev noted : ℤ → Tree
+noted z = integer z (more (integer_term (pos 9)) none)
+
+abbrev pair : Tree → Tree → List Tree
+pair t u = t ∷ (u ∷ [])
+
+abbrev strings : List ℕ → List ℕ → List Tree
+strings a b = pair (string_term a) (string_term b)
+
+abbrev integers : ℤ → ℤ → List Tree
+integers a b = pair (integer_term a) (integer_term b)
+
+-- ---- strings as lists
+
+exploded : extended (codes "explode-string") (string_term (codes "aZ") ∷ []) ≡ Some (list_term (integers (pos 97) (pos 90)))
+exploded = refl
+
+exploded_nothing : extended (codes "explode-string") (string_term [] ∷ []) ≡ Some (list_term [])
+exploded_nothing = refl
+
+no_string : extended (codes "explode-string") (integer_term (pos 97) ∷ []) ≡ None
+no_string = refl
+
+imploded : extended (codes "implode-string") (list_term (pair (noted (pos 97)) (integer_term (pos 90))) ∷ []) ≡ Some (string_term (codes "aZ"))
+imploded = refl
+
+imploded_nothing : extended (codes "implode-string") (list_term [] ∷ []) ≡ Some (string_term [])
+imploded_nothing = refl
+
+greatest_byte : extended (codes "implode-string") (list_term (integer_term (pos 255) ∷ []) ∷ []) ≡ Some (string_term (255 ∷ []))
+greatest_byte = refl
+
+above_bytes : extended (codes "implode-string") (list_term (integers (pos 97) (pos 256)) ∷ []) ≡ None
+above_bytes = refl
+
+below_bytes : extended (codes "implode-string") (list_term (integer_term (negsuc 0) ∷ []) ∷ []) ≡ None
+below_bytes = refl
+
+no_list : extended (codes "implode-string") (tuple_term (integers (pos 97) (pos 90)) ∷ []) ≡ None
+no_list = refl
+
+-- ---- the order of strings
+
+greater_byte : extended (codes "gts") (strings (codes "b") (codes "ab")) ≡ Some (tuple_term (strings (codes "b") (codes "ab")))
+greater_byte = refl
+
+longer : extended (codes "gts") (strings (codes "ab") (codes "a")) ≡ Some (tuple_term (strings (codes "ab") (codes "a")))
+longer = refl
+
+shorter : extended (codes "gts") (strings (codes "a") (codes "ab")) ≡ None
+shorter = refl
+
+the_same : extended (codes "gts") (strings (codes "a") (codes "a")) ≡ None
+the_same = refl
+
+-- ---- remainders
+
+remainder : extended (codes "modi") (integers (pos 7) (pos 2)) ≡ Some (integer_term (pos 1))
+remainder = refl
+
+negative_dividend : extended (codes "modi") (integers (negsuc 6) (pos 2)) ≡ Some (integer_term (negsuc 0))
+negative_dividend = refl
+
+negative_divisor : extended (codes "modi") (integers (pos 7) (negsuc 1)) ≡ Some (integer_term (pos 1))
+negative_divisor = refl
+
+least_by_minus_one : extended (codes "modi") (integers (negsuc (2 ^ 63 - 1)) (negsuc 0)) ≡ Some (integer_term (pos 0))
+least_by_minus_one = refl
+
+divided_by_zero : extended (codes "modi") (integers (pos 7) (pos 0)) ≡ None
+divided_by_zero = refl
+
+-- ---- the names of the standard primitives, on all terms
+
+addi_agrees : (terms : List Tree) → extended (codes "addi") terms ≡ standard (codes "addi") terms
+addi_agrees terms = refl
+
+subti_agrees : (terms : List Tree) → extended (codes "subti") terms ≡ standard (codes "subti") terms
+subti_agrees terms = refl
+
+muli_agrees : (terms : List Tree) → extended (codes "muli") terms ≡ standard (codes "muli") terms
+muli_agrees terms = refl
+
+divi_agrees : (terms : List Tree) → extended (codes "divi") terms ≡ standard (codes "divi") terms
+divi_agrees terms = refl
+
+gti_agrees : (terms : List Tree) → extended (codes "gti") terms ≡ standard (codes "gti") terms
+gti_agrees terms = refl
+
+strcat_agrees : (terms : List Tree) → extended (codes "strcat") terms ≡ standard (codes "strcat") terms
+strcat_agrees terms = refl
+
+strlen_agrees : (terms : List Tree) → extended (codes "strlen") terms ≡ standard (codes "strlen") terms
+strlen_agrees terms = refl
+
+int_to_string_agrees : (terms : List Tree) → extended (codes "int-to-string") terms ≡ standard (codes "int-to-string") terms
+int_to_string_agrees terms = refl
+
+string_to_int_agrees : (terms : List Tree) → extended (codes "string-to-int") terms ≡ standard (codes "string-to-int") terms
+string_to_int_agrees terms = refl

@@ -1,0 +1,17 @@
+-- The meaning of the extended primitives: the standard ones, and four more.
+use Rattle.std.specs.Prelude.{ℕ, List, if◌then◌else◌, codes}
+use Rattle.std.specs.declared.option.Option.{Option}
+use Rattle.std.specs.Str.{bytes_eq}
+use Rattle.term_core.specs.Tree.{Tree}
+use Rattle.prim_core.specs.Standard.{standard}
+use Rattle.prim_extended.specs.Bytes.{exploded_of, imploded_of, later_of}
+use Rattle.prim_extended.specs.Remainder.{remainder_of}
+
+-- by name; any other name means what it does among the standard primitives
+abbrev pub extended : List ℕ → List Tree → Option Tree
+extended name arguments =
+    if (bytes_eq name (codes "explode-string")) then exploded_of arguments else
+    if (bytes_eq name (codes "implode-string")) then imploded_of arguments else
+    if (bytes_eq name (codes "gts")) then later_of arguments else
+    if (bytes_eq name (codes "modi")) then remainder_of arguments else
+    standard name arguments

@@ -1,0 +1,4 @@
+pub mod Bytes
+pub mod Remainder
+pub mod Extended
+pub mod ExtendedTable
