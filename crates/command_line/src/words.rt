@@ -1,12 +1,12 @@
 //! The words of the command line, read by `clap`.
 
 ghost use Rattle.std.specs.Prelude.{◌≡◌, ◌≤◌, ◌||◌, ℕ, List, IfOk, IfErr, Some, true, false, codes, map, option_map, if◌then◌else◌};
-ghost use Rattle.clap.specs.Words.{FailsBy, app_of, first_of, found_of, kind_of, one_of, one_text, rows_of};
+ghost use Rattle.clap.specs.Words.{FailsBy, app_of, first_of, found_of, kind_of, one_of, one_text, rows_of, rule_of};
 ghost use Rattle.clap.specs.Takes.{is_given};
 ghost use Rattle.script_commands.specs.declared.framing.Framing.TheVariants.{Continued, Lines};
 ghost use Rattle.session_steps.specs.Steps.{AreSteps};
 ghost use Rattle.clap.specs.declared.error.kind.ErrorKind.TheVariants.{ValueValidation};
-ghost use Rattle.command_line.specs.Line.{IsNumberIfSteps, are_named_all, as_given, given, line, line_fault, modules_of, trees_of, values};
+ghost use Rattle.command_line.specs.Line.{IsNumberIfSteps, are_named_all, as_given, file_name, files_option, flag_of, given, interactive_flag, line, line_fault, modules_of, steps_option, trees_of, values};
 ghost use Rattle.command_line.specs.inside.Malformed.{IfMalformed};
 
 use crate::named::{Load, Named, Untaken, in_order, read_all};
@@ -159,69 +159,103 @@ fn malformed(
     command.error(ErrorKind::ValueValidation, &message)
 }
 
+// Each argument is made where it is added, so that none is dropped where memory is refused.
 fn command<'a>(alloc: Global) -> Result<Command<'a>, AllocError>
     ensures { IfOk result (λ command. app_of command ≡ line) }
 {
-    let library = Arg::new(alloc, "library")
-        .long("library")
-        .action(ArgAction::SetTrue)
-        .help(
-            "Loads the module `library` first, as a step: try, repeat, topdown, innermost, map and others",
-        );
-    let steps = Arg::new(alloc, "steps")
-        .long("steps")
-        .value_name("N")
-        .value_parser(value_parser!(u32).range(1..=MAX_STEPS as i64))
-        .default_value("100000")
-        .help("The steps that a strategy may take where `apply` names none, from 1 to 1,000,000");
-    let stop = Arg::new(alloc, "stop")
-        .long("stop")
-        .action(ArgAction::SetTrue)
-        .help("Ends the run after the first command that is refused");
-    let lines = Arg::new(alloc, "lines")
-        .long("lines")
-        .action(ArgAction::SetTrue)
-        .help(
-            "Takes each line as a command and answers it at once, for terminals and other programs",
-        );
-    let interactive = Arg::new(alloc, "interactive")
-        .short('i')
-        .long("interactive")
-        .action(ArgAction::SetTrue)
-        .help("As --lines, and at a terminal with a prompt before each line");
-    let module = Arg::new(alloc, "module")
-        .long("module")
-        .value_name("NAME=FILE")
-        .action(ArgAction::Append)
-        .help("Loads a module from a file before the script, as a step; can be given again");
-    let tree = Arg::new(alloc, "tree")
-        .long("tree")
-        .value_name("NAME=FILE")
-        .action(ArgAction::Append)
-        .help("Loads a tree from a file before the script, as a step; can be given again");
-    let write = Arg::new(alloc, "write")
-        .long("write")
-        .value_name("NAME=FILE")
-        .action(ArgAction::Append)
-        .help("Writes a tree to a file after the script; can be given again");
-    let file = Arg::new(alloc, "file")
-        .value_name("FILE")
-        .help("The script, or standard input where there is none");
     Command::new(alloc, "stratbench")
         .about(
             "Transforms program trees by the commands of a script, and takes back what they changed",
         )
         .version(VERSION)
         .after_help(EXAMPLES)
-        .arg(library)?
-        .arg(steps)?
-        .arg(stop)?
-        .arg(lines)?
-        .arg(interactive)?
-        .arg(module)?
-        .arg(tree)?
-        .arg(write)?
-        .arg(file)
+        .arg(flag(
+            alloc,
+            "library",
+            "Loads the module `library` first, as a step: try, repeat, topdown, innermost, map and others",
+        ))?
+        .arg(steps_option(alloc))?
+        .arg(flag(
+            alloc,
+            "stop",
+            "Ends the run after the first command that is refused",
+        ))?
+        .arg(flag(
+            alloc,
+            "lines",
+            "Takes each line as a command and answers it at once, for terminals and other programs",
+        ))?
+        .arg(interactive_flag(alloc))?
+        .arg(files_option(
+            alloc,
+            "module",
+            "Loads a module from a file before the script, as a step; can be given again",
+        ))?
+        .arg(files_option(
+            alloc,
+            "tree",
+            "Loads a tree from a file before the script, as a step; can be given again",
+        ))?
+        .arg(files_option(
+            alloc,
+            "write",
+            "Writes a tree to a file after the script; can be given again",
+        ))?
+        .arg(file_name(alloc))
+}
+
+fn flag<'a>(alloc: Global, name: &'a str, help: &'a str) -> Arg<'a>
+    ensures rule { rule_of result ≡ flag_of name.now }
+    ensures local { result.global ≡ false }
+{
+    Arg::new(alloc, name)
+        .long(name)
+        .action(ArgAction::SetTrue)
+        .help(help)
+}
+
+fn interactive_flag<'a>(alloc: Global) -> Arg<'a>
+    ensures rule { rule_of result ≡ interactive_flag }
+    ensures local { result.global ≡ false }
+{
+    flag(
+        alloc,
+        "interactive",
+        "As --lines, and at a terminal with a prompt before each line",
+    )
+    .short('i')
+}
+
+fn steps_option<'a>(alloc: Global) -> Arg<'a>
+    ensures rule { rule_of result ≡ steps_option }
+    ensures local { result.global ≡ false }
+{
+    Arg::new(alloc, "steps")
+        .long("steps")
+        .value_name("N")
+        .value_parser(value_parser!(u32).range(1..=MAX_STEPS as i64))
+        .default_value("100000")
+        .help("The steps that a strategy may take where `apply` names none, from 1 to 1,000,000")
+}
+
+fn files_option<'a>(alloc: Global, name: &'a str, help: &'a str) -> Arg<'a>
+    ensures rule { rule_of result ≡ files_option name.now }
+    ensures local { result.global ≡ false }
+{
+    Arg::new(alloc, name)
+        .long(name)
+        .value_name("NAME=FILE")
+        .action(ArgAction::Append)
+        .help(help)
+}
+
+fn file_name<'a>(alloc: Global) -> Arg<'a>
+    ensures rule { rule_of result ≡ file_name }
+    ensures local { result.global ≡ false }
+{
+    Arg::new(alloc, "file")
+        .value_name("FILE")
+        .help("The script, or standard input where there is none")
 }
 
 // The number of steps, which the parser keeps in range.
