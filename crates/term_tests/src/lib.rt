@@ -7,6 +7,8 @@ mod changes;
 #[cfg(test)]
 mod logs;
 #[cfg(test)]
+mod patches;
+#[cfg(test)]
 mod paths;
 #[cfg(test)]
 mod terms;

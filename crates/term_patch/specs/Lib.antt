@@ -1,0 +1,4 @@
+pub mod Exchange
+pub mod Items
+pub mod PatchLaws
+pub mod inside

@@ -1,0 +1,4 @@
+pub mod ItemCodes
+pub mod Marks
+pub mod Trimmed
+pub mod Walked
