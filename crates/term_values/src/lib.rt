@@ -12,6 +12,7 @@ mod list;
 mod measure;
 mod owned;
 mod part;
+mod patches;
 mod places;
 mod replacements;
 mod value;
