@@ -21,5 +21,5 @@ pub use relation::Relation;
 pub use slots::Slots;
 pub use step::Step;
 #[doc(hidden)]
-pub use step::{Changes, Whole};
+pub use step::{Changes, Parts, Whole};
 pub use store::Store;

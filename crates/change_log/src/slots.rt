@@ -4,6 +4,8 @@ ghost use Rattle.std.specs.Prelude.{◌≡◌, [], Some, unwrap_or, IfOk, OnOk, 
 ghost use Rattle.std.specs.FinMap as finmap;
 ghost use Rattle.term_paths.specs.Paths.{set_at, set_annotations_at};
 ghost use Rattle.change_plans.specs.Slots.{AreApart, slot_at, content, with_content, slot_of, with_slot, named};
+ghost use Rattle.std.specs.Option.{option_map_or};
+ghost use Rattle.term_patch.specs.Exchange.{changed_in, taken_in};
 ghost use Rattle.change_plans.specs.Entries.{changed_tree, subterm_in, annotations_in};
 
 use indexmap::IndexMap;
@@ -11,6 +13,7 @@ use std::alloc::Global;
 use std::marker::Model;
 use std::mem;
 use term_core::{Label, NoMemory, Term};
+use term_patch::Patch;
 use term_paths::{swap_annotations_at_parts, swap_at_parts};
 
 /// The contents of the slots by label. A slot keeps its number once it is made.
@@ -127,5 +130,21 @@ impl Slots<Term> {
             return;
         };
         swap_annotations_at_parts(tree, path, other);
+    }
+
+    /// Exchanges the patch in the subterm that the path leads to in the tree of slot `i`; does nothing
+    /// if there is none.
+    pub(crate) fn exchange(&mut self, i: usize, path: &[usize], patch: &mut Patch)
+        ensures slots { self.new ≡ changed_tree (λ t. changed_in patch.old t path.now) self.old i }
+        ensures patch { patch.new
+            ≡ option_map_or (λ t. taken_in patch.old t path.now) (content self.old i) patch.old }
+    {
+        let Some(content) = self.slots.get_index_mut(i) else {
+            return;
+        };
+        let Some(tree) = content else {
+            return;
+        };
+        patch.exchange_at(tree, path);
     }
 }

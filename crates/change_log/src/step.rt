@@ -4,13 +4,15 @@ ghost use Rattle.std.specs.Prelude.{◌≡◌, ◌∷◌, [], IfOk, OnOk, OnErr}
 ghost use Rattle.change_plans.specs.Slots.{Store};
 ghost use Rattle.change_plans.specs.Entries.{put, found, before, after, flipped_back, flipped_forward, Fits, has_text};
 ghost use Rattle.change_plans.specs.Compact.{IsCompact};
-ghost use Rattle.change_log.specs.inside.StepView.{whole_entry};
+ghost use Rattle.term_patch.specs.PatchLaws.{patch_entries};
+ghost use Rattle.change_log.specs.inside.StepView.{whole_entry, part_entries};
 
 use crate::{Log, Store};
 use change_plans::{Entry, Kept};
 use std::alloc::Global;
 use std::marker::Model;
 use term_core::NoMemory;
+use term_patch::Patch;
 
 /// What the changes of a step replaced, the oldest first. A step with one change of a whole tree or
 /// module text takes no memory.
@@ -24,8 +26,18 @@ pub struct Step {
 pub enum Changes {
     /// One change, of a whole tree or module text.
     One(Whole),
+    /// Changes of subterms of one tree, of which none lies within another.
+    Patched(Parts),
     /// All other changes.
     Logged(Log),
+}
+
+/// What changes in the subterm that a path leads to in a slot's tree replaced.
+#[derive(Drop)]
+pub struct Parts {
+    pub(crate) slot: usize,
+    pub(crate) path: Vec<usize>,
+    pub(crate) patch: Patch,
 }
 
 /// What a change of a whole tree or module text replaced.
@@ -85,12 +97,27 @@ impl Step {
         }
     }
 
+    /// Exchanges the patch in the subterm that the path leads to in the tree of the slot, and makes a
+    /// step of it. It takes no memory.
+    pub fn patched(store: &mut Store, slot: usize, path: Vec<usize>, patch: Patch) -> Step
+        ensures step { result ≡ flipped_forward (patch_entries slot path.items patch) store.old }
+        ensures store { store.new ≡ after (patch_entries slot path.items patch) store.old }
+        ensures compact { IsCompact result }
+    {
+        let mut parts = Parts { slot, path, patch };
+        parts.exchange(store);
+        Step {
+            changes: Changes::Patched(parts),
+        }
+    }
+
     /// Whether any change is of a module text.
     pub fn has_text(&self) -> bool
         ensures { result ≡ has_text self.now }
     {
         match &self.changes {
             Changes::One(whole) => whole.kept.texts() > 0,
+            Changes::Patched(parts) => parts.has_text(),
             Changes::Logged(log) => log.has_text(),
         }
     }
@@ -103,6 +130,7 @@ impl Step {
     {
         match &mut self.changes {
             Changes::One(whole) => whole.exchange(store),
+            Changes::Patched(parts) => parts.exchange(store),
             Changes::Logged(log) => log.flip_back(store),
         }
     }
@@ -115,6 +143,7 @@ impl Step {
     {
         match &mut self.changes {
             Changes::One(whole) => whole.exchange(store),
+            Changes::Patched(parts) => parts.exchange(store),
             Changes::Logged(log) => log.flip_forward(store),
         }
     }
@@ -140,5 +169,26 @@ impl Whole {
         ensures kept { whole_entry self.new ≡ found (whole_entry self.old) store.old }
     {
         store.exchange(self.slot, &[], &mut self.kept);
+    }
+}
+
+impl Parts {
+    // Exchanges the held terms with what stands at their places, which undoes the changes and redoes
+    // them.
+    fn exchange(&mut self, store: &mut Store)
+        ensures back { part_entries self.new ≡ flipped_back (part_entries self.old) store.old }
+        ensures forward { part_entries self.new ≡ flipped_forward (part_entries self.old) store.old }
+        ensures store_back { store.new ≡ before (part_entries self.old) store.old }
+        ensures store_forward { store.new ≡ after (part_entries self.old) store.old }
+        ensures compact { IsCompact (part_entries self.new) }
+    {
+        store.exchange_patch(self.slot, &self.path, &mut self.patch);
+    }
+
+    // No change is of a module text.
+    fn has_text(&self) -> bool
+        ensures { result ≡ has_text (part_entries self.now) }
+    {
+        false
     }
 }

@@ -5,12 +5,14 @@ ghost use Rattle.std.specs.FinMap as finmap;
 ghost use Rattle.change_plans.specs.Slots.{AreApart, content, slot_of, empty_store, contents, with_tree_slot, with_module_slot};
 ghost use Rattle.change_plans.specs.Entries.{put, found};
 ghost use Rattle.change_plans.specs.LogView.{entry_of};
+ghost use Rattle.term_patch.specs.PatchLaws.{patched, taken_slot};
 
 use crate::Slots;
 use change_plans::{Kept, Text};
 use std::alloc::Global;
 use std::marker::Model;
 use term_core::{Label, NoMemory, Term};
+use term_patch::Patch;
 
 /// Trees and module texts in slots. A slot is made when a label is first asked for, and is never
 /// removed; it is empty until a change puts something there. Its number is its index among the
@@ -124,7 +126,15 @@ impl Store {
         }
     }
 
-    // The same for everything but a subterm.
+    // Exchanges the patch in the subterm that the path leads to in the tree of the slot.
+    pub(crate) fn exchange_patch(&mut self, slot: usize, path: &[usize], patch: &mut Patch)
+        ensures store { self.new ≡ patched patch.old slot path.now self.old }
+        ensures patch { patch.new ≡ taken_slot patch.old slot path.now self.old }
+    {
+        self.trees.exchange(slot, path, patch);
+    }
+
+    // The same as `exchange` for everything but a subterm.
     #[inline(never)]
     fn exchange_other(&mut self, slot: usize, path: &[usize], kept: &mut Kept)
         ensures store { self.new ≡ put (entry_of slot path.now kept.old) self.old }

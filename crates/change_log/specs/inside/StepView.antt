@@ -2,15 +2,22 @@
 use Rattle.std.specs.Prelude.{List, [], ◌∷◌}
 use Rattle.change_plans.specs.Entries.{Entry}
 use Rattle.change_plans.specs.LogView.{entry_of}
+use Rattle.term_patch.specs.PatchLaws.{patch_entries}
 use Rattle.change_log.specs.declared.step.Whole.{Whole}
+use Rattle.change_log.specs.declared.step.Parts.{Parts}
 use Rattle.change_log.specs.declared.step.Changes.{Changes}
-use Rattle.change_log.specs.declared.step.Changes.TheVariants.{One, Logged}
+use Rattle.change_log.specs.declared.step.Changes.TheVariants.{One, Patched, Logged}
 
 -- the entry of a change of a whole tree or module text
 abbrev pub whole_entry : Whole → Entry
 whole_entry w = entry_of w.slot [] w.kept
 
+-- the entries of a patch
+abbrev pub part_entries : Parts → List Entry
+part_entries p = patch_entries p.slot p.path.items p.patch
+
 -- the entries of a step's changes
 abbrev pub entries_of : Changes → List Entry
 entries_of (One w) = whole_entry w ∷ []
+entries_of (Patched p) = part_entries p
 entries_of (Logged log) = log
