@@ -8,7 +8,8 @@ use Rattle.term_changes.specs.Change.{replaced}
 use Rattle.term_changes.specs.Follows.{Follows}
 use Rattle.term_changes.specs.Putting.{HasPlaces, HaveAllPlaces}
 use Rattle.term_changes.proofs.FollowLemmas.{follows_itself, follows_on}
-use Rattle.strategy_frames.specs.Leading.{IsOf, IsPlace, IsWithin, Has, Leads}
+use Rattle.strategy_meaning.specs.Outermost.{IsOf}
+use Rattle.strategy_frames.specs.Leading.{IsPlace, IsWithin, Has, Leads}
 use Rattle.strategy_frames.proofs.PlaceLemmas.{of_left, of_right, of_either}
 
 -- a kept subterm has the places of the change

@@ -14,7 +14,8 @@ use Rattle.term_changes.specs.Putting.{HasPlaces, HaveAllPlaces}
 use Rattle.term_changes.proofs.NodeLemmas.{children-with_children, with_children-with_children, same_children}
 use Rattle.term_changes.proofs.StandingLemmas.{length-map_tree}
 use Rattle.term_changes.proofs.FollowLemmas.{follows_itself, follows_on, followers_can_stand, same_root_follows, trees_of_children, tree_over_children}
-use Rattle.strategy_frames.specs.Leading.{IsOf, IsPlace, IsWithin, Has, AllHave, node_now, parts_now, PartsStand, Leads}
+use Rattle.strategy_meaning.specs.Outermost.{IsOf}
+use Rattle.strategy_frames.specs.Leading.{IsPlace, IsWithin, Has, AllHave, node_now, parts_now, PartsStand, Leads}
 use Rattle.strategy_frames.proofs.PlaceLemmas.{of_behind, behind_of}
 use Rattle.strategy_frames.proofs.LeadLemmas.{suits_has}
 

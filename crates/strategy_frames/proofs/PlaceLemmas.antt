@@ -1,13 +1,13 @@
 -- The places of a change, and paths within them.
-use Rattle.std.proofs.Common.{◌≡◌, ℕ, ◌+◌, List, [], ◌∷◌, ◌++◌, ◌⊎◌, inl, inr, refl, sym, ap, subst, ◌∙◌, zero, suc, arith, append_assoc}
+use Rattle.std.proofs.Common.{◌≡◌, ◌<◌, ℕ, ◌+◌, List, [], ◌∷◌, ◌++◌, ◌⊎◌, inl, inr, refl, sym, ap, subst, ◌∙◌, zero, suc, arith, append_assoc}
 use Rattle.term_core.specs.Tree.{Tree}
 use Rattle.term_paths.specs.Paths.{LiesWithin}
 use Rattle.term_paths.specs.Edits.{Edits, behind}
 use Rattle.term_changes.specs.Change.{Change, same, inside, replaced, Changes, no_more, and_then, below, places, places_from}
 use Rattle.term_changes.specs.Edits.{nth_change}
 use Rattle.term_changes.specs.Standing.{Standing, unchanged, standing_change}
-use Rattle.term_changes.proofs.ApartLemmas.{places_lie_apart}
-use Rattle.strategy_frames.specs.Leading.{IsOf, IsPlace, IsWithin, Leads, AreOutermost}
+use Rattle.strategy_meaning.specs.Outermost.{IsOf, IsBefore, IsBeforeAll, AreInOrder, AreOutermost}
+use Rattle.strategy_frames.specs.Leading.{IsPlace, IsWithin, Leads}
 
 -- ---- paths of edits
 
@@ -84,10 +84,57 @@ mutual
       let next : k + suc j ≡ (k + 1) + j = omega arith in
       (r.0, of_right r.0 (below k (places c)) (places_from (k + 1) cs) r.1, (r.2.0, ap (λ n. n ∷ x) next ∙ r.2.1))
 
+-- ---- the places of a change are in order
+
+before_append : (q : List ℕ) (xs ys : Edits) → IsBeforeAll q xs → IsBeforeAll q ys → IsBeforeAll q (xs ++ ys)
+before_append q [] ys h g = g
+before_append q (x ∷ xs) ys h g = (h.0, before_append q xs ys h.1 g)
+
+-- below a path
+before_behind : (p x y : List ℕ) → IsBefore x y → IsBefore (p ++ x) (p ++ y)
+before_behind [] x y h = h
+before_behind (i ∷ p) x y h = inr (refl, before_behind p x y h)
+
+before_all_behind : (p x : List ℕ) (e : Edits) → IsBeforeAll x e → IsBeforeAll (p ++ x) (behind p e)
+before_all_behind p x [] h = tt
+before_all_behind p x (y ∷ e) h = (before_behind p x y.path h.0, before_all_behind p x e h.1)
+
+behind_in_order : (p : List ℕ) (e : Edits) → AreInOrder e → AreInOrder (behind p e)
+behind_in_order p [] h = tt
+behind_in_order p (x ∷ e) h = (before_all_behind p x.path e h.0, behind_in_order p e h.1)
+
+-- below a later child
+before_later : (i k : ℕ) (p : List ℕ) (e : Edits) → i < k → IsBeforeAll (i ∷ p) (below k e)
+before_later i k p [] h = tt
+before_later i k p (x ∷ e) h = (inl h, before_later i k p e h)
+
+before_from : (i k : ℕ) (p : List ℕ) (cs : Changes) → i < k → IsBeforeAll (i ∷ p) (places_from k cs)
+before_from i k p no_more h = tt
+before_from i k p (and_then c cs) h =
+    let next : i < k + 1 = omega (arith, h) in
+    before_append (i ∷ p) (below k (places c)) (places_from (k + 1) cs) (before_later i k p (places c) h) (before_from i (k + 1) p cs next)
+
+in_order_then : (i k : ℕ) (e : Edits) (cs : Changes) → i < k → AreInOrder e → AreInOrder (places_from k cs) → AreInOrder (below i e ++ places_from k cs)
+in_order_then i k [] cs less h g = g
+in_order_then i k (x ∷ e) cs less h g =
+    (before_append (i ∷ x.path) (below i e) (places_from k cs) (before_all_behind (i ∷ []) x.path e h.0) (before_from i k x.path cs less), in_order_then i k e cs less h.1 g)
+
+mutual
+  places_in_order : (c : Change) → AreInOrder (places c)
+  places_in_order same = tt
+  places_in_order (inside cs) = in_order_from 0 cs
+  places_in_order (replaced u) = (tt, tt)
+
+  in_order_from : (i : ℕ) (cs : Changes) → AreInOrder (places_from i cs)
+  in_order_from i no_more = tt
+  in_order_from i (and_then c cs) =
+      let less : i < i + 1 = omega arith in
+      in_order_then i (i + 1) (places c) cs less (places_in_order c) (in_order_from (i + 1) cs)
+
 -- ---- the places of what edits amount to
 
 pub outermost : (p : List ℕ) (t : Tree) (e : Edits) (q : Standing) → Leads (unchanged t) e q → AreOutermost (behind p (places (standing_change q))) (behind p e)
-outermost p t e q h = record { apart = places_lie_apart (standing_change q) p; among = of_edits; covers = covered }
+outermost p t e q h = record { order = behind_in_order p (places (standing_change q)) (places_in_order (standing_change q)); among = of_edits; covers = covered }
   where
     edit : (y : List ℕ) → ⊥ ⊎ IsOf y e → IsOf y e
     edit y (inl never) = absurd never

@@ -1,18 +1,13 @@
 -- How edits lead from what was in a place to what is there now.
 use Rattle.std.specs.Prelude.{◌≡◌, ◌⊎◌, ℕ, List, [], ◌∷◌, ◌++◌, length, drop}
 use Rattle.term_core.specs.Tree.{children}
-use Rattle.term_paths.specs.Paths.{LiesWithin}
 use Rattle.term_paths.specs.Edits.{Edits, Replaces}
 use Rattle.term_changes.specs.Change.{Change, same, inside, replaced}
 use Rattle.term_changes.specs.Edits.{nth_change}
 use Rattle.term_changes.specs.Standing.{Standing, unchanged, altered, fresh, standing_tree, standing_change, standing_children, with_standing}
 use Rattle.term_changes.specs.Follows.{Follows, AllFollow}
-use Rattle.term_changes.specs.Putting.{HaveAllPlaces, AllApart}
-
--- the path of one of the edits
-abbrev pub IsOf : List ℕ → Edits → Type 0
-IsOf x [] = ⊥
-IsOf x (y ∷ e) = (y.path ≡ x) ⊎ IsOf x e
+use Rattle.term_changes.specs.Putting.{HaveAllPlaces}
+use Rattle.strategy_meaning.specs.Outermost.{IsOf}
 
 -- whether a place of the change is at this path
 abbrev pub IsPlace : Change → List ℕ → Type 0
@@ -73,9 +68,3 @@ pub record Leads (p : Standing) (e : Edits) (q : Standing) : Type 0 where
   pub has : Has q
   pub among : (x : List ℕ) → IsPlace (standing_change q) x → IsPlace (standing_change p) x ⊎ IsOf x e
   pub covers : (x : List ℕ) → IsWithin (standing_change p) x ⊎ IsOf x e → IsWithin (standing_change q) x
-
--- The places of ps are the outermost ones of the edits, each once.
-pub record AreOutermost (ps e : Edits) : Type 0 where
-  pub apart : AllApart ps
-  pub among : (x : List ℕ) → IsOf x ps → IsOf x e
-  pub covers : (x : List ℕ) → IsOf x e → (y : List ℕ) × IsOf y ps × LiesWithin x y

@@ -4,4 +4,5 @@ pub mod Scopes
 pub mod Answer
 pub mod Meaning
 pub mod Applied
+pub mod Outermost
 pub mod Laws
