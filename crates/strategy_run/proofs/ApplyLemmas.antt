@@ -50,7 +50,7 @@ low_at (i ∷ p) t u e =
 
 -- ---- edits one after the other, in a slot's tree
 
-edits_make : (e : Edits) (t u : Tree) (slot : ℕ) (s : Store) → content s.trees slot ≡ Some t → Replaces e t u → Makes slot e u s
+pub edits_make : (e : Edits) (t u : Tree) (slot : ℕ) (s : Store) → content s.trees slot ≡ Some t → Replaces e t u → Makes slot e u s
 edits_make [] t u slot s h r =
     let there : content s.trees slot ≡ Some u = h ∙ ap (λ x. Some x) r in
     let stays : with_content s.trees slot (Some u) ≡ s.trees = ap (with_content s.trees slot) (sym there) ∙ same_content s.trees slot in

@@ -11,7 +11,7 @@ use Rattle.strategy_syntax.specs.declared.resolved.Resolved.{Resolved}
 use Rattle.strategy_meaning.specs.Answer.{spent, big}
 use Rattle.strategy_meaning.specs.Meaning.{World}
 use Rattle.strategy_meaning.specs.Applied.{Outcome, gives, fails, stops, applied}
-use Rattle.strategy_frames.specs.Leading.{AreOutermost}
+use Rattle.strategy_meaning.specs.Outermost.{AreOutermost}
 use Rattle.strategy_run.specs.declared.application.Outcome.{Outcome as Ending}
 use Rattle.strategy_run.specs.declared.application.Outcome.TheVariants.{Done, Failed, Spent, Big}
 

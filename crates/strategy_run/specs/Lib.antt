@@ -1,4 +1,5 @@
 pub mod Applies
 pub mod Laws
+pub mod Planning
 pub mod Ends
 pub mod inside

@@ -183,7 +183,7 @@ fn apply_listing<M: Meaning>(
 }
 
 // Runs the strategy on the subterm at the path of the tree, which is left unchanged.
-fn find<M: Meaning>(
+pub(crate) fn find<M: Meaning>(
     alloc: Global,
     program: &Program,
     primitives: &Primitives<M>,

@@ -10,7 +10,9 @@ mod give;
 mod in_place;
 pub mod laws;
 mod lists;
+mod planning;
 mod tails;
 
 pub use application::{Outcome, apply, apply_outermost, is_low_enough};
 pub use evaluation::{Evaluated, evaluate};
+pub use planning::{Planned, plan_entries, plan_patch};

@@ -9,7 +9,7 @@ use Rattle.term_changes.specs.Putting.{entries_at, HasPlaces}
 use Rattle.term_changes.specs.Standing.{Standing, Suits, standing_change}
 use Rattle.strategy_meaning.specs.Answer.{spent, big}
 use Rattle.strategy_meaning.specs.Applied.{Outcome, gives, fails, stops}
-use Rattle.strategy_frames.specs.Leading.{AreOutermost}
+use Rattle.strategy_meaning.specs.Outermost.{AreOutermost}
 use Rattle.strategy_run.specs.declared.application.Outcome.TheVariants.{Failed, Spent, Big}
 use Rattle.strategy_run.specs.declared.application.Found.{Found}
 use Rattle.strategy_run.specs.declared.application.Found.TheVariants as founds

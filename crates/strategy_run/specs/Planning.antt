@@ -1,0 +1,28 @@
+-- What a run on a term would replace in it.
+use Rattle.std.specs.Prelude.{◌≡◌, ℕ, ◌-◌}
+use Rattle.term_core.specs.Tree.{Tree}
+use Rattle.term_paths.specs.Edits.{Edits, Replaces}
+use Rattle.strategy_meaning.specs.Matching.{Bindings}
+use Rattle.strategy_meaning.specs.Answer.{Answer, done, failed, stopped, spent, big}
+use Rattle.strategy_meaning.specs.Outermost.{AreOutermost}
+use Rattle.strategy_run.specs.declared.planning.Planned.{Planned}
+use Rattle.strategy_run.specs.declared.planning.Planned.TheVariants.{Replaced, Failed, Spent, Big}
+
+-- The run of b steps on t succeeds. These places are the outermost ones of its edits, and setting them
+-- makes the resulting term. It took so many steps.
+pub record Gives (t : Tree) (b : ℕ) (whole : Answer) (places : Edits) (taken : ℕ) : Type 0 where
+  pub after : Tree
+  pub bindings : Bindings
+  pub left : ℕ
+  pub edits : Edits
+  pub is : whole ≡ done after bindings left edits
+  pub outermost : AreOutermost places edits
+  pub made : Replaces places t after
+  pub took : taken ≡ b - left
+
+-- What is planned for t, given how the places are represented.
+abbrev pub Plans : {R : Type 0} → (Edits → R → Type 0) → Tree → ℕ → Answer → Planned R → Type 0
+Plans Shows t b whole (Replaced shown taken) = (places : Edits) × Shows places shown × Gives t b whole places taken
+Plans Shows t b whole Failed = (left : ℕ) × (whole ≡ failed left)
+Plans Shows t b whole Spent = whole ≡ stopped spent
+Plans Shows t b whole Big = whole ≡ stopped big
