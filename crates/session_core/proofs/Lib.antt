@@ -1,1 +1,4 @@
+pub mod ResolveLemmas
 pub mod ApplyLemmas
+pub mod PlanLemmas
+pub mod PreviewLemmas

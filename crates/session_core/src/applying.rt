@@ -5,28 +5,25 @@ ghost use Rattle.term_core.specs.Size.{height};
 ghost use Rattle.change_plans.specs.Slots.{contents};
 ghost use Rattle.change_plans.specs.Entries.{subterm_in};
 ghost use Rattle.strategy_run.specs.Applies.{applied_in};
-ghost use Rattle.session_steps.specs.Applying.{ReadsAsStrategy, resolved_in, world_in, given_by};
+ghost use Rattle.session_steps.specs.Applying.{world_in, given_by};
 ghost use Rattle.session_steps.specs.inside.Giving.{GivesIn};
 ghost use Rattle.session_steps.specs.History.{AreFormed, changed};
 ghost use Rattle.session_steps.specs.Modules.{IsKept};
 ghost use Rattle.session_steps.specs.Step.{ComesTo, apply};
-ghost use Rattle.session_steps.specs.Unfolded.{unfolded, IsPlaced, AddsEntries};
+ghost use Rattle.session_steps.specs.Unfolded.{unfolded, IsPlaced};
+ghost use Rattle.session_core.specs.inside.Resolved.{replaced_of};
 
-use change_log::{Log, Store};
+use crate::resolving::resolve_at;
 use prim_core::{Meaning, Primitives};
-use session_steps::{Refusal, Timeline, keep_program};
-use std::alloc::Global;
-use strategy_check::{CheckFault, Program, resolve};
-use strategy_parse::{ParseFault, parse_strategy};
-use strategy_run::{Outcome, apply_outermost};
-use strategy_syntax::{Resolved, Strategy};
-use term_core::{Label, MAX_HEIGHT};
-use term_paths::Path;
+use session_steps::{Refusal, Timeline};
+use strategy_check::Program;
+use strategy_run::{Planned, plan_entries, plan_patch};
+use strategy_syntax::Resolved;
+use term_core::{Label, MAX_HEIGHT, NoMemory};
+use term_paths::{Path, at};
 
 /// Applies the strategy given as text to the subterm at the path of the name's tree, in at most
 /// `steps` steps. The program of the modules is compiled if it isn't cached, and is cached then.
-// What was read is passed to `drop` instead of being left to the ends of scopes: there its drop
-// would be proved anew on each way out.
 pub(crate) fn apply_strategy<M: Meaning>(
     timeline: &mut Timeline,
     primitives: &Primitives<M>,
@@ -49,34 +46,16 @@ pub(crate) fn apply_strategy<M: Meaning>(
         ≡ unfolded primitives.now timeline.old) }
     ensures program { IsKept primitives.now (contents timeline.new.store).modules program.new }
 {
-    let alloc = timeline.allocator();
-    let slot = match timeline.place(name, path) {
-        Ok(slot) => slot,
+    let (slot, whole) = match resolve_at(timeline, primitives, program, name, path, text) {
+        Ok(found) => found,
         Err(refusal) => return Err(refusal),
     };
-    let strategy = match read_strategy(alloc, text) {
-        Ok(strategy) => strategy,
-        Err(refusal) => return Err(refusal),
-    };
-    if let Err(refusal) = keep_program(alloc, &timeline.store, primitives, program) {
-        drop(strategy);
-        return Err(refusal);
-    }
     let Some(checked) = program.as_ref() else {
         unreachable!()
     };
-    match resolve_strategy(alloc, checked, primitives, &strategy) {
-        Ok(whole) => {
-            drop(strategy);
-            let outcome = apply_in_slot(timeline, checked, primitives, slot, path, &whole, steps);
-            drop(whole);
-            outcome
-        }
-        Err(refusal) => {
-            drop(strategy);
-            Err(refusal)
-        }
-    }
+    let outcome = apply_in_slot(timeline, checked, primitives, slot, path, &whole, steps);
+    drop(whole);
+    outcome
 }
 
 // Applies a strategy in the tree of a slot, as one change.
@@ -104,84 +83,54 @@ fn apply_in_slot<M: Meaning>(
         ≡ unfolded primitives.now timeline.old) }
 {
     let alloc = timeline.allocator();
-    timeline.change_by(|store, log| {
-        apply_in(
-            alloc, program, primitives, store, slot, path, strategy, steps, log,
-        )
-    })
-}
-
-// Applies a strategy in the tree of a slot, to a subterm that is low enough at its level. If it
-// succeeds, the log leads back from the new tree; else store and log stay unchanged.
-fn apply_in<M: Meaning>(
-    alloc: Global,
-    program: &Program,
-    primitives: &Primitives<M>,
-    store: &mut Store,
-    slot: usize,
-    path: &Path,
-    strategy: &Resolved,
-    steps: u32,
-    log: &mut Log,
-) -> Result<(), Refusal>
-    requires low { IfSome (subterm_in store.old.trees slot path.now)
-        (λ u. length path.now + height u ≤ MAX_HEIGHT) }
-    ensures entries { AddsEntries store.old log.old store.new log.new }
-    ensures ok { OnOk result (GivesIn (applied_in (world_in M.meaning program.now primitives.now)
-        store.old.trees slot path.now strategy.now steps) slot store.old store.new) }
-    ensures refused { IfErr result (λ refusal. (refusal ≡ Refusal.Memory)
-        ⊎ (given_by (applied_in (world_in M.meaning program.now primitives.now)
-        store.old.trees slot path.now strategy.now steps) ≡ Err refusal)) }
-{
-    match apply_outermost(
+    let Some(tree) = timeline.store.tree(slot) else {
+        return Err(Refusal::Fails);
+    };
+    let Some(part) = at(tree, path) else {
+        return Err(Refusal::Fails);
+    };
+    if timeline.in_group() {
+        let planned = plan_entries(
+            alloc,
+            program,
+            primitives,
+            part,
+            slot,
+            path,
+            strategy,
+            steps as u64,
+        );
+        let (plan, _) = replaced(planned)?;
+        timeline.plan_in_group(plan)?;
+        return Ok(());
+    }
+    let level = path.len() as u64;
+    let planned = plan_patch(
         alloc,
         program,
         primitives,
-        store,
-        slot,
-        path,
+        part,
+        level,
         strategy,
         steps as u64,
-        log,
-    ) {
-        Ok(Outcome::Done) => Ok(()),
-        Ok(Outcome::Failed) => Err(Refusal::Fails),
-        Ok(Outcome::Spent) => Err(Refusal::Spent),
-        Ok(Outcome::Big) => Err(Refusal::Big),
+    );
+    let (patch, _) = replaced(planned)?;
+    let Ok(place) = Vec::from_slice(alloc, path.parts()) else {
+        return Err(Refusal::Memory);
+    };
+    timeline.patch_as_step(slot, place, patch)?;
+    Ok(())
+}
+
+// What is replaced, with the steps that were taken, or the refusal.
+pub(crate) fn replaced<R: Drop>(planned: Result<Planned<R>, NoMemory>) -> Result<(R, u64), Refusal>
+    ensures { result ≡ replaced_of planned }
+{
+    match planned {
+        Ok(Planned::Replaced(shown, taken)) => Ok((shown, taken)),
+        Ok(Planned::Failed) => Err(Refusal::Fails),
+        Ok(Planned::Spent) => Err(Refusal::Spent),
+        Ok(Planned::Big) => Err(Refusal::Big),
         Err(_) => Err(Refusal::Memory),
-    }
-}
-
-// Parses a strategy.
-fn read_strategy(alloc: Global, text: &[u8]) -> Result<Strategy, Refusal>
-    ensures ok { IfOk result (λ s. ReadsAsStrategy text.now (Ok s)) }
-    ensures refused { IfErr result (λ refusal. (refusal ≡ Refusal.Memory)
-        ⊎ ReadsAsStrategy text.now (Err refusal)) }
-{
-    match parse_strategy(alloc, text) {
-        Ok(strategy) => Ok(strategy),
-        Err(ParseFault::Deep) => Err(Refusal::Deep),
-        Err(ParseFault::Syntax) => Err(Refusal::Syntax),
-        Err(ParseFault::Memory) => Err(Refusal::Memory),
-    }
-}
-
-// Resolves the strategy's names to numbers, if the checker finds no fault in it, given the program.
-fn resolve_strategy<M: Meaning>(
-    alloc: Global,
-    program: &Program,
-    primitives: &Primitives<M>,
-    strategy: &Strategy,
-) -> Result<Resolved, Refusal>
-    ensures ok { IfOk result (λ whole. resolved_in program.now primitives.now strategy.now ≡ Ok whole) }
-    ensures refused { IfErr result (λ refusal. (refusal ≡ Refusal.Memory)
-        ⊎ (resolved_in program.now primitives.now strategy.now ≡ Err refusal)) }
-{
-    match resolve(alloc, program, primitives, strategy) {
-        Ok(whole) => Ok(whole),
-        Err(CheckFault::Memory) => Err(Refusal::Memory),
-        Err(CheckFault::Fault(kind, name, first, second)) => {
-            Err(Refusal::Check(kind, name, first, second))
-        }
     }
 }

@@ -3,7 +3,10 @@
 
 mod applying;
 pub mod laws;
+mod preview;
+mod resolving;
 mod session;
 
+pub use preview::{Places, Preview};
 pub use session::Session;
 pub use session_steps::{MAX_STEPS, Refusal};

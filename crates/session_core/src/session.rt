@@ -5,10 +5,13 @@ ghost use Rattle.std.specs.FinMap as finmap;
 ghost use Rattle.session_steps.specs.History.{empty_history, HasSoundContents};
 ghost use Rattle.session_steps.specs.Step.{ComesTo, set_tree, copy_tree, drop_tree, put, annotate, set_module, unload, apply, undo, redo, begin, commit, abandon};
 ghost use Rattle.session_steps.specs.Steps.{AreSteps};
+ghost use Rattle.session_steps.specs.Preview.{Previews};
+ghost use Rattle.session_core.specs.Previewing.{ShowsPreview};
 ghost use Rattle.session_steps.specs.Dump.{dumped, AreNamedTerms};
 ghost use Rattle.session_steps.specs.Unfolded.{unfolded, IsPlaced};
 
 use crate::applying::apply_strategy;
+use crate::preview::{Preview, preview_strategy};
 use prim_core::{Meaning, Primitives};
 use session_steps::{Refusal, Timeline};
 use std::alloc::Global;
@@ -263,6 +266,36 @@ impl<M: Meaning> Session<M> {
         heights_are_kept();
         apply_strategy(
             &mut self.timeline,
+            &self.primitives,
+            &mut self.program,
+            name,
+            path,
+            steps,
+            text,
+        )
+    }
+
+    /// What [`Session::apply`] would replace with the same arguments: the outermost places that the
+    /// strategy replaces, in their order in the tree, also where the new term is equal to the old
+    /// one, and the number of steps that it takes. Nothing changes.
+    ///
+    /// The refusals are those of `apply`, in the same order.
+    pub fn preview(
+        &mut self,
+        name: &Label,
+        path: &Path,
+        steps: u32,
+        text: &[u8],
+    ) -> Result<Preview, Refusal>
+        requires { AreSteps steps }
+        ensures ok { IfOk result (λ preview. ShowsPreview M.meaning name.now path.now steps text.now self.old preview) }
+        ensures refused { IfErr result (λ refusal. (refusal ≡ Refusal.Memory)
+            ⊎ Previews M.meaning name.now path.now steps text.now self.old (Err refusal)) }
+        ensures same { self.new ≡ self.old }
+        ensures sound { HasSoundContents self.new }
+    {
+        preview_strategy(
+            &self.timeline,
             &self.primitives,
             &mut self.program,
             name,

@@ -1,13 +1,8 @@
 //! The calls of a session, with ample memory: the answers to a row of them, and what they leave.
 
-ghost use Rattle.std.specs.Prelude.{◌<◌, length};
-ghost use Rattle.session_steps.specs.Unfolded.{IsPlaced, AddsEntries};
-
-use change_log::{Entry, Log, Store};
 use prim_core::{NoPrimitives, Primitives};
 use session_core::laws::steps_are_compact;
 use session_core::{Refusal, Session};
-use session_steps::Timeline;
 use std::alloc::Global;
 use std::test::Fail;
 use term_core::{Label, LabelFault, NoMemory, Term};
@@ -428,52 +423,5 @@ fn refusals_have_numbers_and_words(rt: HostRuntime) -> Result<(), Fail> {
     assert_eq!(rt; Refusal::NoUndo.word(), "noundo");
     assert_eq!(rt; Refusal::from(LabelFault::Name).number(), 4);
     assert_eq!(rt; Refusal::from(NoMemory).number(), 1);
-    Ok(())
-}
-
-// Takes a tree out of its slot, and then refuses if it is told to.
-fn clear_slot(store: &mut Store, log: &mut Log, slot: usize, refuses: bool) -> Result<(), Refusal>
-    requires { slot < length store.old.trees }
-    ensures { AddsEntries store.old log.old store.new log.new }
-{
-    log.push(store, Entry::tree(slot, None))?;
-    if refuses {
-        return Err(Refusal::Big);
-    }
-    Ok(())
-}
-
-fn clear(timeline: &mut Timeline, slot: usize, refuses: bool) -> Result<(), Refusal>
-    requires placed { IsPlaced timeline.old }
-    requires slot { slot < length timeline.old.store.trees }
-    ensures { IsPlaced timeline.new }
-{
-    timeline.change_by(|store, log| clear_slot(store, log, slot, refuses))
-}
-
-// Whether a slot is cleared by one change, as a step, and stays unchanged if the change is refused.
-fn clears_a_slot(alloc: Global, timeline: &mut Timeline) -> Result<bool, Fail>
-    requires { IsPlaced timeline.old }
-{
-    let name = Label::read(alloc, b"t")?;
-    timeline.set_tree(&name, Term::integer(alloc, 1))?;
-    let slot = timeline.tree_slot(&name)?;
-    let refused = number_of(clear(timeline, slot, true));
-    let stays = timeline.tree(&name).is_some() && timeline.past() == 1;
-    let slot = timeline.tree_slot(&name)?;
-    let done = number_of(clear(timeline, slot, false));
-    let gone = timeline.tree(&name).is_none() && timeline.past() == 2;
-    Ok(refused == 14 && stays && done == 0 && gone)
-}
-
-// A function that holds a timeline has one way out, since each way out is checked to drop it.
-fn changes_by_a_closure(alloc: Global) -> Result<bool, Fail> {
-    let mut timeline = Timeline::new(alloc);
-    clears_a_slot(alloc, &mut timeline)
-}
-
-#[test]
-fn many_entries_are_one_change(rt: HostRuntime) -> Result<(), Fail> {
-    assert!(rt; changes_by_a_closure(rt.alloc())?);
     Ok(())
 }

@@ -6,3 +6,5 @@ pub mod TimelineLemmas
 pub mod PlaceLemmas
 pub mod CheckLemmas
 pub mod ActLemmas
+pub mod PatchLemmas
+pub mod OutermostLemmas

@@ -15,7 +15,8 @@ use Rattle.change_plans.proofs.EntryLemmas.{before-append, pushed_fits, pushed_l
 use Rattle.change_log.proofs.FlipLemmas.{flipped_back_is_compact, flipped_forward_is_compact}
 use Rattle.session_steps.specs.History.{HistoryGroup, History, stepped, changed, back_to, forward_to, step_back, step_forward}
 use Rattle.session_steps.specs.Step.{committed}
-use Rattle.session_steps.specs.Unfolded.{past_of, later_of, FitBack, FitForward, AllCompact, unfolded, IsCurrent, IsPlaced, AddsEntries}
+use Rattle.session_steps.specs.Unfolded.{past_of, later_of, FitBack, FitForward, AllCompact, unfolded, IsCurrent, IsPlaced}
+use Rattle.session_steps.specs.inside.Adding.{AddsEntries}
 use Rattle.session_steps.specs.inside.Adding.{AddsStep}
 use Rattle.session_steps.specs.declared.timeline.Timeline.{Timeline}
 use Rattle.session_steps.specs.declared.timeline.OpenGroup.{OpenGroup}
@@ -182,14 +183,6 @@ module _ (t : Timeline) (s : Store) (log : List Entry) (adds : AddsEntries t.sto
       in_group None there = absurd (cc)
       in_group (Some g) there = refl
 
-  -- the appended entries are rolled back
-  pub taken_back : (mark : ℕ) (r : Store) (rest : List Entry) → mark ≡ length t.current → r ≡ before (drop mark log) s → rest ≡ take mark log → record t { store = r; current = rest } ≡ t
-  taken_back mark r rest is back left =
-      let count : mark ≡ length t.current = is in
-      let store : r ≡ t.store = back ∙ (λ i. before (drop (count i) (adds.behind i)) s) ∙ ap (λ l. before l s) (drop-append t.current adds.added) ∙ adds.back in
-      let current : rest ≡ t.current = left ∙ (λ i. take (count i) (adds.behind i)) ∙ take-append t.current adds.added in
-      λ i. record t { store = store i; current = current i }
-
 -- ---- a change of several entries as a step of its own
 
 module _ (t : Timeline) (s : Store) (logs : Vec (List Entry)) (log new : List Entry) (closed : t.group ≡ None) (none : new ≡ []) (adds : AddsEntries t.store new s log)
@@ -278,18 +271,6 @@ module _ (t : Timeline) (e : Entry) (pushed s : Store) (logs : Vec (List Entry))
 
   pub rolled_unfolded : (ps : List Signature) → unfolded ps (record t { store = s; logs = logs }) ≡ unfolded ps t
   rolled_unfolded ps = roomier_unfolded t s logs rolled_store all h ps
-
--- what a closure appended to a new log was rolled back
-module _ (t : Timeline) (pushed s : Store) (logs : Vec (List Entry)) (log new : List Entry) (none : new ≡ []) (adds : AddsEntries t.store new pushed log) (back : s ≡ before (drop 0 log) pushed)
-    (all : logs.items ≡ t.logs.items) (h : IsPlaced t) where
-  undone_store : s ≡ t.store
-  undone_store = back ∙ ap (λ l. before l pushed) (adds.behind ∙ ap (λ l. l ++ adds.added) none) ∙ adds.back
-
-  pub undone_placed : IsPlaced (record t { store = s; logs = logs })
-  undone_placed = roomier_placed t s logs undone_store all h
-
-  pub undone_unfolded : (ps : List Signature) → unfolded ps (record t { store = s; logs = logs }) ≡ unfolded ps t
-  undone_unfolded ps = roomier_unfolded t s logs undone_store all h ps
 
 -- a timeline by its fields
 pub same_timeline : (t : Timeline) (s : Store) (q : ℕ) (g : Option OpenGroup) (log : List Entry) → t.store ≡ s → t.position ≡ q → t.group ≡ g → t.current ≡ log

@@ -29,15 +29,15 @@ given_Ok Gives next g (Err refusal, gives, p) = absurd (cc)
 
 -- ---- the outcome of an act
 
-module _ {X : Type 0} (test : Result X Refusal) (next : X → Outcome → Type 0) where
-  pub passed : (x : X) (outcome : Outcome) → test ≡ Ok x → next x outcome → Passing test next outcome
+module _ {X Y : Type 0} (test : Result X Refusal) (next : X → Result Y Refusal → Type 0) where
+  pub passed : (x : X) (outcome : Result Y Refusal) → test ≡ Ok x → next x outcome → Passing test next outcome
   passed x outcome is p = subst (λ (r : Result X Refusal). Passing r next outcome) (sym is) p
 
   pub stopped : (refusal : Refusal) → test ≡ Err refusal → Passing test next (Err refusal)
   stopped refusal is = subst (λ (r : Result X Refusal). Passing r next (Err refusal)) (sym is) refl
 
   -- the rest after a test whose result is known
-  pub behind : (x : X) (outcome : Outcome) → test ≡ Ok x → Passing test next outcome → next x outcome
+  pub behind : (x : X) (outcome : Result Y Refusal) → test ≡ Ok x → Passing test next outcome → next x outcome
   behind x outcome is p = subst (λ (r : Result X Refusal). Passing r next outcome) is p
 
 module _ (test : Bool) (refusal : Refusal) (Next : Outcome → Type 0) where

@@ -5,6 +5,7 @@ pub mod Applying
 pub mod History
 pub mod Unfolded
 pub mod Step
+pub mod Preview
 pub mod Dump
 pub mod Laws
 pub use Rattle.term_core.specs.Tree

@@ -41,7 +41,7 @@ Outcome = Result History Refusal
 -- ---- the order of refusals: each test refuses, or the rest decides
 
 -- A test passes on what it found, or refuses.
-abbrev pub Passing : {X : Type 0} → Result X Refusal → (X → Outcome → Type 0) → Outcome → Type 0
+abbrev pub Passing : {X Y : Type 0} → Result X Refusal → (X → Result Y Refusal → Type 0) → Result Y Refusal → Type 0
 Passing (Ok x) next outcome = next x outcome
 Passing (Err refusal) next outcome = outcome ≡ Err refusal
 
@@ -51,9 +51,9 @@ Holding true refusal next outcome = next outcome
 Holding false refusal next outcome = outcome ≡ Err refusal
 
 -- A value continues with the rest; a refusal is the outcome.
-abbrev pub Given : {X : Type 0} → (Result X Refusal → Type 0) → (X → Outcome → Type 0) → Outcome
+abbrev pub Given : {X Y : Type 0} → (Result X Refusal → Type 0) → (X → Result Y Refusal → Type 0) → Result Y Refusal
     → Type 0
-Given {X} Gives next outcome = (given : Result X Refusal) × Gives given × Passing given next outcome
+Given {X} {Y} Gives next outcome = (given : Result X Refusal) × Gives given × Passing given next outcome
 
 abbrev pub Leaves : History → Outcome → Type 0
 Leaves g outcome = outcome ≡ Ok g
@@ -104,6 +104,15 @@ AnnotatesAt name path annotations h place =
     Holding (list_all (fits (length path + 1)) annotations) Big
     (ChangesTo (with_tree h.now name (set_annotations_at place.tree path annotations)) h)
 
+-- A strategy, given as text, for a place: the place has to be there, the text has to be one, and the
+-- checker has to find no fault in the current modules, nor in the strategy, given their program.
+abbrev pub Resolving : {Y : Type 0} → List ℕ → List ℕ → List ℕ → History
+    → (Place → Program → Resolved → Result Y Refusal → Type 0) → Result Y Refusal → Type 0
+Resolving name path text h next =
+    Passing (place_of h.now name path) (λ place. Given (ReadsAsStrategy text) (λ s.
+    Given (Checks h.primitives h.now.modules) (λ program.
+    Passing (resolved_in program h.primitives s) (next place program))))
+
 -- The result of the strategy there becomes the label's tree, by a change.
 abbrev pub AppliesAt : Meaning → List ℕ → List ℕ → ℕ → History → Place → Program → Resolved → Outcome → Type 0
 AppliesAt meaning name path steps h place program strategy =
@@ -115,10 +124,9 @@ abbrev pub committed : HistoryGroup → History → History
 committed g h =
     if g.changed then record (stepped g.begun h) { group = None } else record h { group = None }
 
--- The outcome of each act at a history. A copy needs no test of its size. A strategy is applied if
--- the checker finds no fault in the current modules, nor in the strategy, given their program.
--- Going back or forward needs that many steps, and no open group; a group is committed if the
--- checker finds no fault in the modules.
+-- The outcome of each act at a history. A copy needs no test of its size. Going back or forward needs
+-- that many steps, and no open group; a group is committed if the checker finds no fault in the
+-- modules.
 abbrev pub ComesTo : Act → History → Outcome → Type 0
 ComesTo (set_tree name tree) h = Holding (fits 0 tree) Big (ChangesTo (with_tree h.now name tree) h)
 ComesTo (copy_tree name copy) h =
@@ -132,9 +140,7 @@ ComesTo (set_module name text) h =
 ComesTo (unload name) h =
     Passing (text_of h.now name) (λ text. ChangesModules h.group (without_module h.now name) h)
 ComesTo (apply meaning name path steps text) h =
-    Passing (place_of h.now name path) (λ place. Given (ReadsAsStrategy text) (λ s.
-    Given (Checks h.primitives h.now.modules) (λ program.
-    Passing (resolved_in program h.primitives s) (AppliesAt meaning name path steps h place program))))
+    Resolving name path text h (AppliesAt meaning name path steps h)
 ComesTo (undo k) h =
     Holding (is_none h.group) Group (Passing (ok_or (undone k h) NoUndo) Leaves)
 ComesTo (redo k) h =

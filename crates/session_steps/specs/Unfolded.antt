@@ -2,7 +2,6 @@
 use Rattle.std.specs.Prelude.{◌≡◌, ◌≤◌, ℕ, List, [], ◌∷◌, ◌++◌, length, take, drop, true, Some, None, option_map}
 use Rattle.std.specs.declared.option.Option.{Option}
 use Rattle.std.specs.Bool.{OnFalse}
-use Rattle.std.specs.Borrow.{MutBor}
 use Rattle.term_core.specs.Tree.{Tree}
 use Rattle.term_paths.specs.Paths.{leads}
 use Rattle.prim_core.specs.Signature.{Signature}
@@ -81,35 +80,3 @@ abbrev pub IsPlaceOf : Store → List ℕ → List ℕ → ℕ → Type 0
 IsPlaceOf s name path slot =
     (t : Tree) × (slot_of s.trees name ≡ Some slot) × (AreApart s.trees)
     × (content s.trees slot ≡ Some t) × (leads t path ≡ true)
-
--- ---- a change of many entries
-
--- From one store and log to the other: entries were appended to the log, which lead back and fit.
-pub record AddsEntries (s : Store) (log : List Entry) (t : Store) (longer : List Entry) : Type 0 where
-  pub added : List Entry
-  pub behind : longer ≡ log ++ added
-  pub back : before added t ≡ s
-  pub fits : Fits added t
-
--- what a call may leave of the store and the log that it borrows
-abbrev pub Leaving : Type 1
-Leaving = MutBor Store → MutBor (List Entry) → MutBor Store → MutBor (List Entry) → Type 0
-
--- a call that borrows this store leaves that one
-pub record CallLeaves (Leaves : Leaving) (s t : Store) : Type 0 where
-  pub store : MutBor Store
-  pub log : MutBor (List Entry)
-  pub store_left : MutBor Store
-  pub log_left : MutBor (List Entry)
-  pub leaves : Leaves store log store_left log_left
-  pub lent : store.now ≡ s
-  pub left : store_left.now ≡ t
-
--- a call that borrows this store refuses, whatever it leaves
-pub record CallRefuses (Leaves : Leaving) (s : Store) : Type 0 where
-  pub store : MutBor Store
-  pub log : MutBor (List Entry)
-  pub store_left : MutBor Store
-  pub log_left : MutBor (List Entry)
-  pub leaves : Leaves store log store_left log_left
-  pub lent : store.now ≡ s

@@ -5,24 +5,24 @@ ghost use Rattle.std.specs.Option.{option_map_or};
 ghost use Rattle.std.specs.FinMap as finmap;
 ghost use Rattle.std.specs.declared.option.Option.{Option};
 ghost use Rattle.prim_core.specs.Signature.{Signature};
-ghost use Rattle.std.specs.declared.result.Result.{Result};
-ghost use Rattle.std.specs.Borrow.{MutBor};
 ghost use Rattle.change_plans.specs.Slots.{Store, contents, slot_of, AreApart};
-ghost use Rattle.change_plans.specs.Entries.{Entry, HasPlace, put};
+ghost use Rattle.change_plans.specs.Entries.{Entry, HasPlace, put, after, FitsForward};
+ghost use Rattle.term_patch.specs.PatchLaws.{patch_entries};
 ghost use Rattle.session_steps.specs.History.{empty_history, changed, step_back, step_forward, undone, redone};
 ghost use Rattle.session_steps.specs.Step.{ComesTo, begin, abandon, committed};
 ghost use Rattle.session_steps.specs.Modules.{IsProgram, AreRefused};
-ghost use Rattle.session_steps.specs.Unfolded.{unfolded, IsPlaced, AddsEntries, CallLeaves, CallRefuses};
+ghost use Rattle.session_steps.specs.Unfolded.{unfolded, IsPlaced};
 ghost use Rattle.session_steps.specs.inside.Adding.{AddsStep};
 
 use crate::Refusal;
 use crate::modules::check_modules;
-use change_log::{Entry, Log, Step, Store};
+use change_log::{Entry, Log, Plan, Step, Store};
 use prim_core::{Meaning, Primitives};
 use std::alloc::Global;
 use std::mem;
 use strategy_check::Program;
 use term_core::{Label, NoMemory, Term};
+use term_patch::Patch;
 
 /// The current contents, and the steps that lead back and forward from them.
 #[derive(Drop)]
@@ -197,98 +197,46 @@ impl Timeline {
         Ok(())
     }
 
-    /// Makes a change of the entries, if any, that the closure appends to the log that it borrows:
-    /// as a step or as part of the open group. If the closure refuses, or memory can't grow,
-    /// nothing changes.
-    pub fn change_by<F: FnOnce(&mut Store, &mut Log) -> Result<(), Refusal> + Drop>(
+    /// Exchanges a patch in the subterm that the path leads to in a slot's tree, as a step. If memory
+    /// can't grow, nothing changes.
+    pub fn patch_as_step(
         &mut self,
-        change: F,
-    ) -> Result<(), Refusal>
+        slot: usize,
+        path: Vec<usize>,
+        patch: Patch,
+    ) -> Result<(), NoMemory>
         requires placed { IsPlaced self.old }
-        requires callable { (s : MutBor Store) (l : MutBor (List Entry)) → s.now ≡ self.old.store
-            → F.pre change s l }
-        requires entries { (s : MutBor Store) (l : MutBor (List Entry)) (r : Result _ Refusal)
-            (t : MutBor Store) (m : MutBor (List Entry)) → s.now ≡ self.old.store
-            → F.post change s l r t m → AddsEntries s.now l.now t.now m.now }
+        requires outside { self.old.group ≡ None }
+        requires places { FitsForward (patch_entries slot path.items patch) self.old.store }
         ensures placed { IsPlaced self.new }
         ensures ok { OnOk result ((ps : List Signature) → unfolded ps self.new
             ≡ changed (contents self.new.store) (unfolded ps self.old)) }
-        ensures made { OnOk result (CallLeaves (λ s l t m. F.post change s l (Ok tt) t m)
-            self.old.store self.new.store) }
-        ensures refused { IfErr result (λ refusal. (refusal ≡ Refusal.Memory)
-            ⊎ CallRefuses (λ s l t m. F.post change s l (Err refusal) t m) self.old.store) }
+        ensures store { OnOk result (self.new.store
+            ≡ after (patch_entries slot path.items patch) self.old.store) }
         ensures err { OnErr result ((ps : List Signature) → unfolded ps self.new
             ≡ unfolded ps self.old) }
     {
-        if self.in_group() {
-            self.change_in_group_by(change)
-        } else {
-            self.change_as_step_by(change)
-        }
-    }
-
-    // If the closure refuses, the entries that it appended to the group's log are rolled back.
-    fn change_in_group_by<F: FnOnce(&mut Store, &mut Log) -> Result<(), Refusal> + Drop>(
-        &mut self,
-        change: F,
-    ) -> Result<(), Refusal>
-        requires placed { IsPlaced self.old }
-        requires callable { (s : MutBor Store) (l : MutBor (List Entry)) → s.now ≡ self.old.store
-            → F.pre change s l }
-        requires entries { (s : MutBor Store) (l : MutBor (List Entry)) (r : Result _ Refusal)
-            (t : MutBor Store) (m : MutBor (List Entry)) → s.now ≡ self.old.store
-            → F.post change s l r t m → AddsEntries s.now l.now t.now m.now }
-        requires inside { IsSome self.old.group }
-        ensures placed { IsPlaced self.new }
-        ensures ok { OnOk result ((ps : List Signature) → unfolded ps self.new
-            ≡ changed (contents self.new.store) (unfolded ps self.old)) }
-        ensures made { OnOk result (CallLeaves (λ s l t m. F.post change s l (Ok tt) t m)
-            self.old.store self.new.store) }
-        ensures refused { IfErr result (λ refusal. CallRefuses
-            (λ s l t m. F.post change s l (Err refusal) t m) self.old.store) }
-        ensures err { OnErr result ((ps : List Signature) → unfolded ps self.new
-            ≡ unfolded ps self.old) }
-    {
-        let mark = self.current.mark();
-        if let Err(refusal) = change(&mut self.store, &mut self.current) {
-            self.current.roll_back(mark, &mut self.store);
-            return Err(refusal);
-        }
-        self.group = Some(OpenGroup { changed: true });
+        self.logs.reserve(1)?;
+        let step = Step::patched(&mut self.store, slot, path, patch);
+        self.add(step);
         Ok(())
     }
 
-    // The place in the list of steps is reserved before anything changes.
-    fn change_as_step_by<F: FnOnce(&mut Store, &mut Log) -> Result<(), Refusal> + Drop>(
-        &mut self,
-        change: F,
-    ) -> Result<(), Refusal>
+    /// Makes the planned changes in order, as part of the open group. If memory can't grow, nothing
+    /// changes.
+    pub fn plan_in_group(&mut self, plan: Plan) -> Result<(), NoMemory>
         requires placed { IsPlaced self.old }
-        requires callable { (s : MutBor Store) (l : MutBor (List Entry)) → s.now ≡ self.old.store
-            → F.pre change s l }
-        requires entries { (s : MutBor Store) (l : MutBor (List Entry)) (r : Result _ Refusal)
-            (t : MutBor Store) (m : MutBor (List Entry)) → s.now ≡ self.old.store
-            → F.post change s l r t m → AddsEntries s.now l.now t.now m.now }
-        requires outside { self.old.group ≡ None }
+        requires inside { IsSome self.old.group }
+        requires places { FitsForward plan self.old.store }
         ensures placed { IsPlaced self.new }
         ensures ok { OnOk result ((ps : List Signature) → unfolded ps self.new
             ≡ changed (contents self.new.store) (unfolded ps self.old)) }
-        ensures made { OnOk result (CallLeaves (λ s l t m. F.post change s l (Ok tt) t m)
-            self.old.store self.new.store) }
-        ensures refused { IfErr result (λ refusal. (refusal ≡ Refusal.Memory)
-            ⊎ CallRefuses (λ s l t m. F.post change s l (Err refusal) t m) self.old.store) }
+        ensures store { OnOk result (self.new.store ≡ after plan self.old.store) }
         ensures err { OnErr result ((ps : List Signature) → unfolded ps self.new
             ≡ unfolded ps self.old) }
     {
-        if self.logs.reserve(1).is_err() {
-            return Err(Refusal::Memory);
-        }
-        let mut added = Log::new(*self.logs.allocator());
-        if let Err(refusal) = change(&mut self.store, &mut added) {
-            added.roll_back(0, &mut self.store);
-            return Err(refusal);
-        }
-        self.add_step(added);
+        self.current.make(&mut self.store, plan)?;
+        self.group = Some(OpenGroup { changed: true });
         Ok(())
     }
 

@@ -12,3 +12,10 @@ pub record AddsStep (logs : List (List Entry)) (log : List Entry) (new : List (L
   pub back : (s : Store) → before left s ≡ before log s
   pub fits : (s : Store) → Fits log s → Fits left s
   pub compact : IsCompact left
+
+-- From one store and log to the other: entries were appended to the log, which lead back and fit.
+pub record AddsEntries (s : Store) (log : List Entry) (t : Store) (longer : List Entry) : Type 0 where
+  pub added : List Entry
+  pub behind : longer ≡ log ++ added
+  pub back : before added t ≡ s
+  pub fits : Fits added t

@@ -1,0 +1,183 @@
+-- What a run foresees, in the words of a session.
+use Rattle.std.proofs.Common.{◌≡◌, ◌<◌, ◌-◌, ◌⊎◌, ℕ, true, false, List, [], ◌∷◌, ◌++◌, length, map, Option, Some, None, IsSome, Result, Ok, Err, IfOk, IfErr, inl, inr, refl, sym, ap, subst, ◌∙◌, arith}
+use Rattle.std.specs.Prelude.{option_and_then, unwrap_or, is_some}
+use Rattle.prim_core.specs.Signature.{Signature}
+use Rattle.term_core.specs.Tree.{Tree}
+use Rattle.term_paths.specs.Paths.{at, set_at, LiesWithin}
+use Rattle.term_paths.specs.Laws.{AreApart}
+use Rattle.term_paths.specs.Edits.{Edit, Edits, Replaces, behind, edited}
+use Rattle.term_paths.proofs.PathLemmas.{at-append}
+use Rattle.term_paths.proofs.LawLemmas.{set_is_there}
+use Rattle.term_paths.proofs.ApartLemmas.{apart_is_left}
+use Rattle.term_changes.specs.Putting.{ApartFromAll, entries_at}
+use Rattle.term_patch.proofs.OrderLemmas.{left_apart}
+use Rattle.change_plans.specs.Slots.{contents, content}
+use Rattle.change_plans.specs.Entries.{Entry, subterm, subterm_in}
+use Rattle.strategy_syntax.specs.declared.resolved.Resolved.{Resolved}
+use Rattle.strategy_check.specs.Programs.{Program}
+use Rattle.strategy_meaning.specs.Answer.{Answer, done, failed, stopped}
+use Rattle.strategy_meaning.specs.Meaning.{run_whole}
+use Rattle.strategy_meaning.specs.Outermost.{IsBefore, IsBeforeAll, AreInOrder, AreOutermost}
+use Rattle.strategy_run.specs.Planning.{Gives}
+use Rattle.session_steps.specs.Applying.{Meaning, world_in, stopped_as}
+use Rattle.session_steps.specs.History.{History}
+use Rattle.session_steps.specs.Preview.{Replacement, part_at, replacement, Foresees as Shows, ForeseesAt, Previews}
+use Rattle.session_steps.specs.Preview as definition
+use Rattle.session_steps.specs.Step.{Place, place_of}
+use Rattle.session_steps.specs.Unfolded.{unfolded, IsPlaceOf}
+use Rattle.session_steps.specs.declared.timeline.Timeline.{Timeline}
+use Rattle.session_steps.specs.declared.refusal.Refusal.{Refusal}
+use Rattle.session_steps.specs.declared.refusal.Refusal.TheVariants.{Memory, Fails}
+use Rattle.session_steps.proofs.StepLemmas.{place_there}
+use Rattle.session_steps.proofs.ActLemmas.{tree_held, seen_place, the_place}
+use Rattle.session_core.specs.Previewing.{entry_for, AreThere, ShowsPreview}
+use Rattle.session_core.specs.declared.preview.Preview.{Preview}
+use Rattle.session_core.specs.inside.Foreseen.{Foresees, RefusesRun, ForeseesRefusal}
+use Rattle.session_core.specs.inside.Resolved.{ResolvesTo, IsUnresolved}
+use Rattle.session_core.proofs.ApplyLemmas.{same_program}
+use Rattle.session_core.proofs.ResolveLemmas.{unresolved_before, resolved_then}
+
+-- ---- places that are set one after the other are there in the end
+
+before_apart : (p q : List ℕ) → IsBefore p q → AreApart p q
+before_apart [] q h = absurd h
+before_apart (i ∷ p) [] h = absurd h
+before_apart (i ∷ p) (j ∷ q) (inl less) =
+    (λ w. let e = w.1 in let same : i ≡ j = (cc) in omega (arith, same, less), λ w. let e = w.1 in let same : j ≡ i = (cc) in omega (arith, same, less))
+before_apart (i ∷ p) (j ∷ q) (inr h) =
+    let apart = before_apart p q h.1 in
+    (λ w. let e = w.1 in apart.0 (w.0, (cc)), λ w. let e = w.1 in apart.1 (w.0, (cc)))
+
+before_apart_all : (p : List ℕ) (e : Edits) → IsBeforeAll p e → ApartFromAll p e
+before_apart_all p [] h = tt
+before_apart_all p (x ∷ e) h = (before_apart p x.path h.0, before_apart_all p e h.1)
+
+replaces_edited : (e : Edits) (t u : Tree) → Replaces e t u → edited t e ≡ u
+replaces_edited [] t u h = h
+replaces_edited (x ∷ e) t u h = replaces_edited e (set_at t x.path x.new) u h.1
+
+there_of : (o : Option Tree) → IsSome o → (u : Tree) × (o ≡ Some u)
+there_of None h = absurd (cc)
+there_of (Some u) h = (u, refl)
+
+-- the entries of the places are those of the replacements
+module _ (slot : ℕ) (path : List ℕ) (before after : Tree) where
+  pub entries_for : (e : Edits) (t : Tree) → Replaces e t after → AreInOrder e → entries_at slot (behind path e) ≡ map (entry_for slot) (map (replacement path before after) e)
+  entries_for [] t made order = refl
+  entries_for (x ∷ e) t made order =
+      let u = there_of (at t x.path) made.0 in
+      let next = set_at t x.path x.new in
+      let is : at after x.path ≡ Some x.new =
+      ap (λ y. at y x.path) (sym (replaces_edited e next after made.1)) ∙ left_apart e x.path next (before_apart_all x.path e order.0) ∙ set_is_there t x.new u.0 x.path u.1 in
+      let new : x.new ≡ part_at after x.path = sym (ap (λ o. unwrap_or o after) is) in
+      (λ i. subterm slot (path ++ x.path) (new i) ∷ entries_for e next made.1 order.1 i)
+
+-- ---- places that are set one after the other are there at the start
+
+abbrev AllSome : Tree → Edits → Type 0
+AllSome t [] = Unit {0}
+AllSome t (x ∷ e) = IsSome (at t x.path) × AllSome t e
+
+some_before : (e : Edits) (t u : Tree) (q : List ℕ) → ApartFromAll q e → AllSome (set_at t q u) e → AllSome t e
+some_before [] t u q apart some = tt
+some_before (x ∷ e) t u q apart some = (subst (λ o. IsSome o) (apart_is_left t u q x.path apart.0) some.0, some_before e t u q apart.1 some.1)
+
+all_some : (e : Edits) (t u : Tree) → Replaces e t u → AreInOrder e → AllSome t e
+all_some [] t u made order = tt
+all_some (x ∷ e) t u made order =
+    (made.0, some_before e t x.new x.path (before_apart_all x.path e order.0) (all_some e (set_at t x.path x.new) u made.1 order.1))
+
+module _ (path : List ℕ) (tree before after : Tree) (here : at tree path ≡ Some before) where
+  are_there : (e : Edits) → AllSome before e → AreThere tree (map (replacement path before after) e)
+  are_there [] some = tt
+  are_there (x ∷ e) some =
+      let u = there_of (at before x.path) some.0 in
+      let old : u.0 ≡ part_at before x.path = sym (ap (λ o. unwrap_or o before) u.1) in (
+        at-append tree path x.path ∙ ap (option_and_then (λ y. at y x.path)) here ∙ u.1 ∙ ap (λ y. Some y) old,
+        are_there e some.1,
+      )
+
+-- ---- a run in the slot is a run at the place
+
+module _ (meaning : Meaning) (ps : List Signature) (t : Timeline) (name path text : List ℕ) (steps : ℕ) where
+  abbrev now : History
+  now = unfolded ps t
+
+  pub preview_unresolved : (refusal : Refusal) → (refusal ≡ Memory) ⊎ IsUnresolved name path text now refusal
+      → (refusal ≡ Memory) ⊎ Previews meaning name path steps text now (Err refusal)
+  preview_unresolved refusal (inl memory) = inl memory
+  preview_unresolved refusal (inr before) = inr (unresolved_before ps t name path text (ForeseesAt meaning path steps now) refusal before)
+
+  module _ (cached : Option Program) (i : ℕ) (whole : Resolved) (r : ResolvesTo ps t name path text cached i whole) (lent : Program) (is : Some lent ≡ cached) where
+    abbrev here : Place
+    here = the_place t name path i r.there
+
+    abbrev run_on : Tree → Answer
+    run_on part = run_whole (world_in meaning lent ps) (length path) whole steps part
+
+    found : (part : Tree) → subterm_in t.store.trees i path ≡ Some part → at r.there.0 path ≡ Some part
+    found part found_it = sym (ap (option_and_then (λ y. at y path)) r.there.3) ∙ found_it
+
+    -- the subterm that the slot's tree has there is that of the place
+    same_part : (part : Tree) → subterm_in t.store.trees i path ≡ Some part → part ≡ here.part
+    same_part part found_it =
+        let there = r.there in
+        let again : place_of (contents t.store) name path ≡ Ok (record { tree = there.0; part = part }) =
+        place_there (contents t.store) name path there.0 part (tree_held t.store name there.2 i there.0 (sym there.1) there.3) (found part found_it) in
+        let first : ◌≡◌ {A = Result Place Refusal} (Ok (record { tree = there.0; part = part })) (Ok here) = sym again ∙ (seen_place t name path i there).1 in
+        (cc)
+
+    comes : (outcome : Result definition.Preview Refusal) → Shows path steps here.part (run_on here.part) outcome → Previews meaning name path steps text now outcome
+    comes outcome p =
+        let same : lent ≡ r.program = same_program lent r.program (is ∙ r.cache) in
+        resolved_then ps t name path text (ForeseesAt meaning path steps now) cached i whole r outcome
+        (subst (λ (q : Program). Shows path steps here.part (run_whole (world_in meaning q ps) (length path) whole steps here.part) outcome) same p)
+
+    at_part : (part : Tree) → subterm_in t.store.trees i path ≡ Some part → (outcome : Result definition.Preview Refusal) → Shows path steps part (run_on part) outcome
+        → Previews meaning name path steps text now outcome
+    at_part part found_it outcome p = comes outcome (subst (λ y. Shows path steps y (run_on y) outcome) (same_part part found_it) p)
+
+    pub shows_preview : (preview : Preview) → Foresees (world_in meaning lent ps) t.store i path whole steps preview → ShowsPreview meaning name path steps text now preview
+    shows_preview preview f =
+        let g = f.gives in
+        let list = map (replacement path f.part g.after) f.places in
+        let shown : definition.Preview = record { replacements = list; steps = preview.steps } in
+        let is : ◌≡◌ {A = Result definition.Preview Refusal} (Ok shown) (Ok (record { replacements = list; steps = steps - g.left })) = ap (λ n. Ok (record { replacements = list; steps = n })) g.took in
+        record {
+          shown = shown;
+          previews = at_part f.part f.there (Ok shown) (subst (λ a. Shows path steps f.part a (Ok shown)) (sym g.is) (f.places, g.outermost, is));
+          slot = i;
+          plan = f.plan ∙ entries_for i path f.part g.after f.places f.part g.made g.outermost.order;
+          steps = refl;
+          tree = r.there.0;
+          held = tree_held t.store name r.there.2 i r.there.0 (sym r.there.1) r.there.3;
+          there = are_there path r.there.0 f.part g.after (found f.part f.there) f.places (all_some f.places f.part g.after g.made g.outermost.order);
+        }
+
+    refuses_run : (part : Tree) (refusal : Refusal) → RefusesRun (run_on part) refusal → Shows path steps part (run_on part) (Err refusal)
+    refuses_run part refusal (inl (left, is, why)) = subst (λ a. Shows path steps part a (Err refusal)) (sym is) (ap Err why)
+    refuses_run part refusal (inr (stop, is, why)) = subst (λ a. Shows path steps part a (Err refusal)) (sym is) (ap Err why)
+
+    some_there : subterm_in t.store.trees i path ≡ None → ⊥
+    some_there none =
+        let there = r.there in
+        let nowhere : at there.0 path ≡ None = sym (ap (option_and_then (λ y. at y path)) there.3) ∙ none in
+        let never : true ≡ false = sym there.4 ∙ ap (λ o. is_some o) nowhere in
+        absurd (cc)
+
+    preview_refused : (refusal : Refusal) → (refusal ≡ Memory) ⊎ ForeseesRefusal (world_in meaning lent ps) t.store i path whole steps refusal
+        → (refusal ≡ Memory) ⊎ Previews meaning name path steps text now (Err refusal)
+    preview_refused refusal (inl memory) = inl memory
+    preview_refused refusal (inr (inl none)) = absurd (some_there none)
+    preview_refused refusal (inr (inr (part, is, run))) = inr (at_part part is (Err refusal) (refuses_run part refusal run))
+
+    -- what the call says
+    pub all_shown : (result : Result Preview Refusal) → IfOk result (λ preview. Foresees (world_in meaning lent ps) t.store i path whole steps preview)
+        → IfOk result (λ preview. ShowsPreview meaning name path steps text now preview)
+    all_shown (Ok preview) f = shows_preview preview f
+    all_shown (Err refusal) f = tt
+
+    pub all_refused : (result : Result Preview Refusal) → IfErr result (λ refusal. (refusal ≡ Memory) ⊎ ForeseesRefusal (world_in meaning lent ps) t.store i path whole steps refusal)
+        → IfErr result (λ refusal. (refusal ≡ Memory) ⊎ Previews meaning name path steps text now (Err refusal))
+    all_refused (Ok preview) refused = tt
+    all_refused (Err refusal) refused = preview_refused refusal refused

@@ -1,0 +1,19 @@
+use Rattle.change_plans.specs.Slots.{contents}
+use Rattle.session_core.proofs.ResolveLemmas.{lent_program, unresolved_unread, unresolved_unchecked, unresolved_faulty}
+use Rattle.session_core.proofs.resolving.resolve_at.Goals as goal
+
+pub returns-in-Err-read_strategy-clause-refused : goal.returns-in-Err-read_strategy-clause-refused
+returns-in-Err-read_strategy-clause-refused g c =
+    unresolved_unread c.args.primitives.now c.args.timeline.now c.args.name.now c.args.path.now c.args.text.now c.in-Ok.slot c.in-Ok.ensures.there c.in-Err-read_strategy.refusal c.in-Err-read_strategy.ensures.refused
+
+pub returns-in-Err-keep_program-clause-refused : goal.returns-in-Err-keep_program-clause-refused
+returns-in-Err-keep_program-clause-refused g c =
+    unresolved_unchecked c.args.primitives.now c.args.timeline.now c.args.name.now c.args.path.now c.args.text.now c.in-Ok.slot c.in-Ok.ensures.there c.in-Ok-read_strategy.strategy c.in-Ok-read_strategy.ensures.ok
+    c.in-Err-keep_program.refusal c.requires.formed.1 c.in-Err-keep_program.ensures.refused
+
+pub returns-in-Err-resolved-clause-refused : goal.returns-in-Err-resolved-clause-refused
+returns-in-Err-resolved-clause-refused g c =
+    let ps = c.args.primitives.now in
+    let gives = lent_program ps (contents c.args.timeline.now.store).modules c.keep_program.new.program c.in-Some.checked.now c.in-Some.ensures.value c.in_default.ensures.ok in
+    unresolved_faulty ps c.args.timeline.now c.args.name.now c.args.path.now c.args.text.now c.in-Ok.slot c.in-Ok.ensures.there c.in-Ok-read_strategy.strategy c.in-Ok-read_strategy.ensures.ok c.in-Some.checked.now gives
+    c.in-Err-resolved.refusal c.in-Err-resolved.ensures.refused

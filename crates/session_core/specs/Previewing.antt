@@ -1,0 +1,47 @@
+-- What a preview lists.
+use Rattle.std.specs.Prelude.{◌≡◌, ℕ, List, [], ◌∷◌, map, Some, None, Ok}
+use Rattle.std.specs.FinMap as finmap
+use Rattle.std.specs.declared.option.Option.{Option}
+use Rattle.term_core.specs.Tree.{Tree}
+use Rattle.term_paths.specs.Paths.{at}
+use Rattle.change_plans.specs.Entries.{Entry, slot_tree, subterm, subterm_annotations, slot_text}
+use Rattle.session_steps.specs.Applying.{Meaning}
+use Rattle.session_steps.specs.History.{History}
+use Rattle.session_steps.specs.Preview.{Replacement, Previews}
+use Rattle.session_steps.specs.Preview as definition
+use Rattle.session_core.specs.declared.preview.Preview.{Preview}
+
+-- what would be put at the place, in the tree of a slot
+abbrev pub entry_for : ℕ → Replacement → Entry
+entry_for slot r = subterm slot r.path r.new
+
+-- what is there now is at its path in the tree
+abbrev pub AreThere : Tree → List Replacement → Type 0
+AreThere tree [] = Unit {0}
+AreThere tree (r ∷ rs) = (at tree r.path ≡ Some r.old) × AreThere tree rs
+
+-- It lists what applying would replace, as the plan of it for some slot, and has the number of
+-- steps. What is there now is found in the tree.
+pub record ShowsPreview (meaning : Meaning) (name path : List ℕ) (b : ℕ) (text : List ℕ) (h : History) (preview : Preview) : Type 0 where
+  pub shown : definition.Preview
+  pub previews : Previews meaning name path b text h (Ok shown)
+  pub slot : ℕ
+  pub plan : preview.plan ≡ map (entry_for slot) shown.replacements
+  pub steps : preview.steps ≡ shown.steps
+  pub tree : Tree
+  pub held : finmap.get h.now.trees name ≡ Some tree
+  pub there : AreThere tree shown.replacements
+
+-- a path and a term, if they are given
+abbrev pub StartsWith : List ℕ → Tree → Option (List ℕ × Tree) → Type 0
+StartsWith path t None = ⊥
+StartsWith path t (Some x) = (x.0 ≡ path) × (x.1 ≡ t)
+
+-- The next of the places: the path and the term of the first entry, if that is for a subterm, and the
+-- other entries.
+abbrev pub IsNext : List Entry → Option (List ℕ × Tree) → List Entry → Type 0
+IsNext [] given rest = (given ≡ None) × (rest ≡ [])
+IsNext (subterm slot path t ∷ es) given rest = StartsWith path t given × (rest ≡ es)
+IsNext (slot_tree slot t ∷ es) given rest = Unit {0}
+IsNext (subterm_annotations slot path ts ∷ es) given rest = Unit {0}
+IsNext (slot_text slot x ∷ es) given rest = Unit {0}

@@ -1,0 +1,2 @@
+pub mod Foreseen
+pub mod Resolved

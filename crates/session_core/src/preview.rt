@@ -1,0 +1,164 @@
+//! What applying a strategy would replace.
+
+ghost use Rattle.std.specs.Prelude.{◌≡◌, ◌≤◌, ◌+◌, ◌⊎◌, length, option_map, Err, IfOk, IfErr, IfSome};
+ghost use Rattle.term_core.specs.Size.{height};
+ghost use Rattle.change_plans.specs.Entries.{subterm_in};
+ghost use Rattle.change_plans.specs.Slots.{contents};
+ghost use Rattle.session_steps.specs.Applying.{world_in};
+ghost use Rattle.session_steps.specs.History.{AreFormed};
+ghost use Rattle.session_steps.specs.Modules.{IsKept};
+ghost use Rattle.session_steps.specs.Preview.{Previews};
+ghost use Rattle.session_steps.specs.Unfolded.{unfolded};
+ghost use Rattle.session_core.specs.Previewing.{ShowsPreview, IsNext};
+ghost use Rattle.session_core.specs.inside.Foreseen.{Foresees, ForeseesRefusal};
+
+use crate::applying::replaced;
+use crate::resolving::resolve_at;
+use change_log::Plan;
+use change_plans::{Kept, Replaced};
+use prim_core::{Meaning, Primitives};
+use session_steps::{Refusal, Timeline};
+use std::marker::Model;
+use strategy_check::Program;
+use strategy_run::plan_entries;
+use strategy_syntax::Resolved;
+use term_core::{Label, MAX_HEIGHT, Term};
+use term_paths::{Path, at};
+
+/// What applying a strategy would replace, and in how many steps.
+#[derive(Drop)]
+pub struct Preview {
+    /// The outermost places that would be replaced, in their order, with what would be put there.
+    pub plan: Plan,
+    /// How many steps the strategy takes.
+    pub steps: u64,
+}
+
+impl Preview {
+    /// The places that would be replaced, in their order, with the terms that would be put there.
+    pub fn places(&self) -> Places<'_>
+        ensures { result ≡ self.now.plan }
+    {
+        Places {
+            changes: self.plan.changes.as_slice(),
+            paths: self.plan.paths.as_slice(),
+        }
+    }
+}
+
+/// Places with a term for each. Contracts see entries.
+#[derive(Drop)]
+pub struct Places<'a> {
+    changes: &'a [Replaced],
+    // The paths of all changes, concatenated.
+    paths: &'a [usize],
+}
+
+impl<'a> Model for Places<'a> {
+    ghost use Rattle.std.specs.Prelude.{◌≡◌, List, length};
+    ghost use Rattle.std.specs.Coded.{coded_list};
+    ghost use Rattle.change_plans.specs.Entries.{Entry};
+    ghost use Rattle.change_plans.specs.inside.Codes.{entry_code};
+
+    ghost Value = { List Entry };
+
+    ghost coded = { coded_list entry_code };
+
+    ghost use Rattle.change_plans.specs.inside.LogView.{entries, depths};
+
+    ghost view = { λ a. entries a.changes.now a.paths.now };
+
+    ghost invariant = { λ a. depths a.changes.now ≡ length a.paths.now };
+}
+
+impl<'a> Places<'a> {
+    /// How many there are.
+    pub fn count(&self) -> usize
+        ensures { result ≡ length self.now }
+    {
+        self.changes.len()
+    }
+
+    /// The path of the next place, and the term for it.
+    pub fn next(&mut self) -> Option<(&'a [usize], &'a Term)>
+        ensures { IsNext self.old (option_map (λ x. (x.0.now, x.1.now)) result) self.new }
+    {
+        let (first, rest) = self.changes.split_first()?;
+        let (path, paths) = self.paths.split_at(first.depth);
+        self.changes = rest;
+        self.paths = paths;
+        match &first.kept {
+            Kept::Subterm(term) => Some((path, term)),
+            _ => None,
+        }
+    }
+}
+
+/// What applying the strategy given as text to the subterm at the path of the name's tree would
+/// replace. The program of the modules is compiled if it isn't cached, and is cached then.
+pub(crate) fn preview_strategy<M: Meaning>(
+    timeline: &Timeline,
+    primitives: &Primitives<M>,
+    program: &mut Option<Program>,
+    name: &Label,
+    path: &Path,
+    steps: u32,
+    text: &[u8],
+) -> Result<Preview, Refusal>
+    requires formed { AreFormed (contents timeline.now.store) }
+    requires program { IsKept primitives.now (contents timeline.now.store).modules program.old }
+    ensures ok { IfOk result (λ preview. ShowsPreview M.meaning name.now path.now steps text.now
+        (unfolded primitives.now timeline.now) preview) }
+    ensures refused { IfErr result (λ refusal. (refusal ≡ Refusal.Memory)
+        ⊎ Previews M.meaning name.now path.now steps text.now (unfolded primitives.now timeline.now) (Err refusal)) }
+    ensures program { IsKept primitives.now (contents timeline.now.store).modules program.new }
+{
+    let (slot, whole) = match resolve_at(timeline, primitives, program, name, path, text) {
+        Ok(found) => found,
+        Err(refusal) => return Err(refusal),
+    };
+    let Some(checked) = program.as_ref() else {
+        unreachable!()
+    };
+    let outcome = preview_in_slot(timeline, checked, primitives, slot, path, &whole, steps);
+    drop(whole);
+    outcome
+}
+
+// The same in the tree of a slot.
+fn preview_in_slot<M: Meaning>(
+    timeline: &Timeline,
+    program: &Program,
+    primitives: &Primitives<M>,
+    slot: usize,
+    path: &Path,
+    strategy: &Resolved,
+    steps: u32,
+) -> Result<Preview, Refusal>
+    requires low { IfSome (subterm_in timeline.now.store.trees slot path.now)
+        (λ u. length path.now + height u ≤ MAX_HEIGHT) }
+    ensures ok { IfOk result (λ preview. Foresees (world_in M.meaning program.now primitives.now)
+        timeline.now.store slot path.now strategy.now steps preview) }
+    ensures refused { IfErr result (λ refusal. (refusal ≡ Refusal.Memory)
+        ⊎ ForeseesRefusal (world_in M.meaning program.now primitives.now)
+        timeline.now.store slot path.now strategy.now steps refusal) }
+{
+    let Some(tree) = timeline.store.tree(slot) else {
+        return Err(Refusal::Fails);
+    };
+    let Some(part) = at(tree, path) else {
+        return Err(Refusal::Fails);
+    };
+    let planned = plan_entries(
+        timeline.allocator(),
+        program,
+        primitives,
+        part,
+        slot,
+        path,
+        strategy,
+        steps as u64,
+    );
+    let (plan, taken) = replaced(planned)?;
+    Ok(Preview { plan, steps: taken })
+}

@@ -1,0 +1,96 @@
+//! Strategies given as text, for a place in a tree of a session.
+
+ghost use Rattle.std.specs.Prelude.{◌≡◌, ◌<◌, ◌≤◌, ◌⊎◌, length, Ok, Err, IfOk, IfErr};
+ghost use Rattle.change_plans.specs.Slots.{contents};
+ghost use Rattle.session_steps.specs.Applying.{ReadsAsStrategy, resolved_in};
+ghost use Rattle.session_steps.specs.History.{AreFormed};
+ghost use Rattle.session_steps.specs.Modules.{IsKept};
+ghost use Rattle.session_steps.specs.Unfolded.{unfolded};
+ghost use Rattle.session_core.specs.inside.Resolved.{ResolvesTo, IsUnresolved};
+
+use prim_core::{Meaning, Primitives};
+use session_steps::{Refusal, Timeline, keep_program};
+use std::alloc::Global;
+use strategy_check::{CheckFault, Program, resolve};
+use strategy_parse::{ParseFault, parse_strategy};
+use strategy_syntax::{Resolved, Strategy};
+use term_core::Label;
+use term_paths::Path;
+
+/// The slot of the name's tree, which has a subterm at the path, and the strategy that the text is
+/// resolved to. The program of the modules is compiled if it isn't cached, and is cached then.
+// What was read is passed to `drop` instead of being left to the ends of scopes: there its drop
+// would be proved anew on each way out.
+pub(crate) fn resolve_at<M: Meaning>(
+    timeline: &Timeline,
+    primitives: &Primitives<M>,
+    program: &mut Option<Program>,
+    name: &Label,
+    path: &Path,
+    text: &[u8],
+) -> Result<(usize, Resolved), Refusal>
+    requires formed { AreFormed (contents timeline.now.store) }
+    requires program { IsKept primitives.now (contents timeline.now.store).modules program.old }
+    ensures ok { IfOk result (λ found. ResolvesTo primitives.now timeline.now name.now path.now text.now
+        program.new found.0 found.1) }
+    ensures refused { IfErr result (λ refusal. (refusal ≡ Refusal.Memory)
+        ⊎ IsUnresolved name.now path.now text.now (unfolded primitives.now timeline.now) refusal) }
+    ensures program { IsKept primitives.now (contents timeline.now.store).modules program.new }
+{
+    let alloc = timeline.allocator();
+    let slot = match timeline.place(name, path) {
+        Ok(slot) => slot,
+        Err(refusal) => return Err(refusal),
+    };
+    let strategy = match read_strategy(alloc, text) {
+        Ok(strategy) => strategy,
+        Err(refusal) => return Err(refusal),
+    };
+    if let Err(refusal) = keep_program(alloc, &timeline.store, primitives, program) {
+        drop(strategy);
+        return Err(refusal);
+    }
+    let Some(checked) = program.as_ref() else {
+        unreachable!()
+    };
+    let resolved = resolve_strategy(alloc, checked, primitives, &strategy);
+    drop(strategy);
+    match resolved {
+        Ok(whole) => Ok((slot, whole)),
+        Err(refusal) => Err(refusal),
+    }
+}
+
+// Parses a strategy.
+fn read_strategy(alloc: Global, text: &[u8]) -> Result<Strategy, Refusal>
+    ensures ok { IfOk result (λ s. ReadsAsStrategy text.now (Ok s)) }
+    ensures refused { IfErr result (λ refusal. (refusal ≡ Refusal.Memory)
+        ⊎ ReadsAsStrategy text.now (Err refusal)) }
+{
+    match parse_strategy(alloc, text) {
+        Ok(strategy) => Ok(strategy),
+        Err(ParseFault::Deep) => Err(Refusal::Deep),
+        Err(ParseFault::Syntax) => Err(Refusal::Syntax),
+        Err(ParseFault::Memory) => Err(Refusal::Memory),
+    }
+}
+
+// Resolves the strategy's names to numbers, if the checker finds no fault in it, given the program.
+fn resolve_strategy<M: Meaning>(
+    alloc: Global,
+    program: &Program,
+    primitives: &Primitives<M>,
+    strategy: &Strategy,
+) -> Result<Resolved, Refusal>
+    ensures ok { IfOk result (λ whole. resolved_in program.now primitives.now strategy.now ≡ Ok whole) }
+    ensures refused { IfErr result (λ refusal. (refusal ≡ Refusal.Memory)
+        ⊎ (resolved_in program.now primitives.now strategy.now ≡ Err refusal)) }
+{
+    match resolve(alloc, program, primitives, strategy) {
+        Ok(whole) => Ok(whole),
+        Err(CheckFault::Memory) => Err(Refusal::Memory),
+        Err(CheckFault::Fault(kind, name, first, second)) => {
+            Err(Refusal::Check(kind, name, first, second))
+        }
+    }
+}
