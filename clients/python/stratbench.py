@@ -28,8 +28,8 @@ import subprocess
 
 
 class Refused(Exception):
-    """A command that was refused, and changed nothing: its `number` and `word`, and for the number 11 the `fault`, as
-    `('unknown', 'f', 0, 0)`, of which the first is its kind. Names that aren't words have their quotes."""
+    """A command that was refused, and changed nothing: its `number` and `word`, and for the number 11, whose word
+    is `check`, the `fault`, as `('unknown', 'f', 0, 0)`, of which the first is its kind. Names that aren't words have their quotes."""
 
     def __init__(self, answer):
         super().__init__(answer)
@@ -73,11 +73,49 @@ class Stratbench:
 
     def tree(self, name, text):
         """Gives the name the tree that the text spells."""
-        self._do(f"tree {name} {_one_line(text)}")
+        self._do(f"tree {name} {_one_line(text, comments=False)}")
+
+    def put(self, name, at, text):
+        """Replaces the subterm at the path by what the text spells.
+
+            >>> bench = Stratbench()
+            >>> bench.tree("t", "f(a,b)")
+            >>> bench.put("t", "/1", "g(c)")
+            >>> bench.annotate("t", "/0", "{1}")
+            >>> bench.copy("t", "u")
+            >>> bench.drop("t")
+            >>> bench.trees(), bench.show("u")
+            (['u'], 'f(a{1},g(c))')
+        """
+        self._do(f"put {name} {at} {_one_line(text, comments=False)}")
+
+    def annotate(self, name, at, text):
+        """Replaces the annotations of the subterm at the path by those of the text, `{..}`."""
+        self._do(f"annotate {name} {at} {_one_line(text, comments=False)}")
+
+    def copy(self, name, to):
+        """Gives the other name a copy of the tree."""
+        self._do(f"copy {name} {to}")
+
+    def drop(self, name):
+        """Takes a tree away."""
+        self._do(f"drop {name}")
 
     def module(self, name, text):
         """Gives the name a module of strategies."""
         self._do(f"module {name} {_one_line(text)}")
+
+    def unload(self, name):
+        """Takes a module away."""
+        self._do(f"unload {name}")
+
+    def trees(self):
+        """Returns the names of the trees."""
+        return self._answer("trees").split(" ")[1:]
+
+    def modules(self):
+        """Returns the names of the modules."""
+        return self._answer("modules").split(" ")[1:]
 
     def apply(self, name, strategy, at=None, within=None):
         """Replaces the tree, or its subterm at the path, by what the strategy gives for it in at most `within` steps.
@@ -96,8 +134,24 @@ class Stratbench:
             ...     print(refused.number, refused.word, refused.fault)
             13 spent None
         """
-        place = (f" at {at}" if at is not None else "") + (f" within {within}" if within is not None else "")
-        self._do(f"apply {name}{place} do {_one_line(strategy)}")
+        self._do(f"apply {name}{_place(at, within)} do {_one_line(strategy)}")
+
+    def preview(self, name, strategy, at=None, within=None):
+        """Returns how many steps such an `apply` would take, and what it would replace: for each place its path, the
+        subterm there, and the term that would be there. Nothing changes.
+
+            >>> bench = Stratbench()
+            >>> bench.tree("t", 'f(a,"x => y")')
+            >>> bench.preview("t", "all({x: ?x; ![x]})")
+            (9, [('/0', 'a', '[a]'), ('/1', '"x => y"', '["x => y"]')])
+            >>> bench.show("t")
+            'f(a,"x => y")'
+        """
+        first = self._answer(f"preview {name}{_place(at, within)} do {_one_line(strategy)}")
+        changes, steps = map(int, re.findall(r"\d+", first))
+        # outside strings, a printed term has no blanks
+        line = re.compile(r'(\S+) ((?:"(?:\\.|[^"\\])*"|[^" ])*) => (.*)', re.DOTALL)
+        return steps, [line.fullmatch(self._read()).groups() for _ in range(changes)]
 
     def show(self, name, at=None):
         """Returns the tree, or its subterm at the path, as a text."""
@@ -198,10 +252,20 @@ class Stratbench:
         return line[:-1].decode(errors="surrogateescape")
 
 
-# A text on one line: without comments, with a space for line feeds, and in strings with the escapes for them.
-def _one_line(text):
+def _place(at, within):
+    return (f" at {at}" if at is not None else "") + (f" within {within}" if within is not None else "")
+
+
+# A text on one line: with a space for line feeds, in strings with the escapes for them, and without the comments that
+# strategies and modules may have.
+def _one_line(text, comments=True):
     def flat(found):
         part = found.group()
-        return part.replace("\n", "\\n").replace("\r", "\\r") if part.startswith('"') else " "
+        if not part.startswith('"'):
+            return " "
+        if re.search(r"\\[\r\n]", part):
+            raise ValueError("a backslash before a line feed in a string")
+        return part.replace("\n", "\\n").replace("\r", "\\r")
 
-    return re.sub(r'"(?:\\.|[^"\\])*"|/\*.*?\*/|//[^\n]*|[\r\n]+', flat, text, flags=re.DOTALL)
+    between = r"/\*.*?\*/|//[^\n]*|[\r\n]+" if comments else r"[\r\n]+"
+    return re.sub(r'"(?:\\.|[^"\\])*"|' + between, flat, text, flags=re.DOTALL)

@@ -1,1 +1,2 @@
+pub mod PreviewLines
 pub mod Running

@@ -17,6 +17,7 @@ ghost use Rattle.script_forms.specs.inside.Accepting.{Accepts, Refuses, reading_
 ghost use Rattle.script_forms.specs.Answer.{Answered, ReplyInRun};
 ghost use Rattle.script_forms.specs.CommandView.{form as form_seen};
 
+use crate::preview::show_preview;
 use aterm_text::{ReadFault, read, read_annotations};
 use itoa::Buffer;
 use prim_core::Meaning;
@@ -233,6 +234,9 @@ fn perform<M: Meaning>(
         Command::Unload(name) => say_ok(session.unload(name), answer),
         Command::Apply(name, path, steps, text) => {
             say_ok(session.apply(name, path, *steps, text), answer)
+        }
+        Command::Preview(name, path, steps, text) => {
+            show_preview(session, name, path, *steps, text, answer)
         }
         Command::Undo(n) => say_ok(session.undo(*n), answer),
         Command::Redo(n) => say_ok(session.redo(*n), answer),

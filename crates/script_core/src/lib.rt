@@ -4,6 +4,7 @@
 
 mod answer;
 pub mod laws;
+mod preview;
 mod running;
 
 pub use answer::answer_text;

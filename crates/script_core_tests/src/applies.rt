@@ -386,3 +386,117 @@ F(S(B){A},B)
 fn applies_strategies_with_constructors(rt: HostRuntime) -> Result<(), Fail> {
     expect_table(&rt, rt.alloc(), SIGNATURE, 8, WITH_CONSTRUCTORS)
 }
+
+// What applying would replace; nothing is replaced.
+const PREVIEWS: &str = r#"
+module r signature constructors Plus : t * t -> t rules Unit : Plus(x,0) -> x
+tree t Plus(Plus(1,0),Plus(2,0))
+preview t do all(Unit)
+preview t do id
+preview t do fail
+preview t at /0 do Unit
+history
+show t
+apply t do all(Unit)
+show t
+undo
+show t
+= 11 1
+ok
+ok
+changes 2 steps 11
+/0 Plus(1,0) => 1
+/1 Plus(2,0) => 2
+changes 0 steps 1
+refused 12 fails
+changes 1 steps 5
+/0 Plus(1,0) => 1
+undo 2 redo 0
+Plus(Plus(1,0),Plus(2,0))
+ok
+Plus(1,2)
+ok
+Plus(Plus(1,0),Plus(2,0))
+%
+tree t f(a,g(a))
+begin
+put t /0 b
+preview t do all(!"c")
+history
+abandon
+show t
+undo
+preview t do id
+redo
+preview t at /1 do all({x: ?x; !x})
+history
+= 11 1
+ok
+ok
+ok
+changes 2 steps 3
+/0 b => "c"
+/1 g(a) => "c"
+undo 1 redo 0
+ok
+f(a,g(a))
+ok
+refused 5 notree
+ok
+changes 1 steps 5
+/1/0 a => a
+undo 1 redo 0
+%
+tree t f(a,g(a){1})
+preview t do !"b"
+preview t do 2(1(!"c")); 2(!"d")
+preview t do 2(!"d"); 1(!"c")
+preview t do (1(!"c"); fail) <+ 2(!"d")
+= 5 0
+ok
+changes 1 steps 1
+/ f(a,g(a){1}) => "b"
+changes 1 steps 6
+/1 g(a){1} => "d"
+changes 2 steps 5
+/0 a => "c"
+/1 g(a){1} => "d"
+changes 1 steps 7
+/1 g(a){1} => "d"
+%
+tree t f(a)
+preview t
+preview t within 0 do id
+preview 9t do id
+preview u do id;
+preview t at /7 do id;
+preview t do id;
+preview t do f
+preview t within 1 do all(!"c")
+preview t within 2 do all(!"c")
+preview t do rec x(x)
+preview t do rec x(![x]; x)
+history
+show t
+= 4 10
+ok
+refused 2 line
+refused 2 line
+refused 4 name
+refused 5 notree
+refused 9 path
+refused 10 syntax
+refused 11 unknown f 0 0
+refused 13 spent
+changes 1 steps 2
+/0 a => "c"
+refused 13 spent
+refused 12 fails
+undo 1 redo 0
+f(a)
+"#;
+
+#[test]
+fn previews_strategies(rt: HostRuntime) -> Result<(), Fail> {
+    expect_table(&rt, rt.alloc(), b"", 4, PREVIEWS)
+}

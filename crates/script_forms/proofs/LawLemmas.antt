@@ -1,6 +1,6 @@
 -- The replies to commands are determined, since a text spells at most one term and at most one list
 -- of annotations, and is at most one module and at most one strategy.
-use Rattle.std.proofs.Common.{◌≡◌, ◌<◌, ◌≤◌, ◌⊎◌, ℕ, Some, None, Bool, true, false, ◌&&◌, ◌+◌, List, [], ◌∷◌, length, Ok, Err, Result, refl, sym, ap, ◌∙◌, subst, inl, inr, arith}
+use Rattle.std.proofs.Common.{◌≡◌, ◌<◌, ◌≤◌, ◌⊎◌, ℕ, Some, None, Bool, true, false, ◌&&◌, ◌+◌, ◌-◌, List, [], ◌∷◌, ◌++◌, length, Ok, Err, Result, refl, sym, ap, ◌∙◌, subst, inl, inr, arith}
 use Rattle.std.specs.Prelude.{is_err, is_none, ok_or, IsSomeAnd}
 use Rattle.std.specs.declared.option.Option.{Option}
 use Rattle.std.specs.List.{list_all}
@@ -26,16 +26,20 @@ use Rattle.strategy_check.specs.Programs.{Program, program}
 use Rattle.aterm_text.specs.Nesting.{nesting}
 use Rattle.aterm_text.specs.declared.TheConstants.{MAX_NESTING}
 use Rattle.change_plans.specs.Contents.{Contents, with_tree, without_tree, with_module, without_module}
+use Rattle.strategy_meaning.specs.Answer.{Answer, done as run_done, failed, stopped as run_stopped}
+use Rattle.strategy_meaning.specs.Meaning.{run_whole}
 use Rattle.strategy_meaning.specs.Applied.{applied}
 use Rattle.session_steps.specs.Applying.{Meaning, ReadsAsStrategy, resolved_in, world_in, given_by}
 use Rattle.session_steps.specs.Modules.{Texts, ReadsBy, ReadsAsModule, AreRead, Finds, GivesProgram, Checks, refusal_of}
 use Rattle.session_steps.specs.History.{HistoryGroup, History, changed, undone, redone}
-use Rattle.session_steps.specs.Step.{Act, set_tree as set_tree_act, copy_tree, drop_tree as drop_tree_act, put as put_act, annotate as annotate_act, set_module as set_module_act, unload as unload_act, apply as apply_act, undo as undo_act, redo as redo_act, begin as begin_act, commit as commit_act, abandon as abandon_act, Outcome, Passing, Holding, Given, Leaves, ChangesTo, ChangesModules, PutsAt, AnnotatesAt, AppliesAt, Place, ComesTo, committed, tree_of, text_of, place_of}
+use Rattle.session_steps.specs.Step.{Act, set_tree as set_tree_act, copy_tree, drop_tree as drop_tree_act, put as put_act, annotate as annotate_act, set_module as set_module_act, unload as unload_act, apply as apply_act, undo as undo_act, redo as redo_act, begin as begin_act, commit as commit_act, abandon as abandon_act, Outcome, Passing, Holding, Given, Leaves, ChangesTo, ChangesModules, PutsAt, AnnotatesAt, AppliesAt, Place, Resolving, ComesTo, committed, tree_of, text_of, place_of}
+use Rattle.session_steps.specs.Preview.{Preview, part_at, Foresees, ForeseesAt, Previews}
+use Rattle.session_steps.proofs.OutermostLemmas.{outermost_paths, map_paths}
 use Rattle.session_steps.specs.declared.refusal.Refusal.{Refusal}
 use Rattle.session_steps.specs.declared.refusal.Refusal.TheVariants.{Deep, Term, Syntax, Big, NoUndo, NoRedo, Group, NoGroup}
-use Rattle.script_forms.specs.Form.{Form, tree, copy, drop_tree, put, annotate, set_module, unload, apply, undo, redo, begin, commit, abandon, show, trees, modules, module_text, history, dump, command_of}
+use Rattle.script_forms.specs.Form.{Form, tree, copy, drop_tree, put, annotate, set_module, unload, apply, preview, undo, redo, begin, commit, abandon, show, trees, modules, module_text, history, dump, command_of}
 use Rattle.script_commands.specs.Handed.{Handed, text, long}
-use Rattle.script_forms.specs.Machine.{ReadAs, Told, done, Reply, Replies, history_after}
+use Rattle.script_forms.specs.Machine.{ReadAs, Told, done, previewed, Reply, Replies, history_after}
 use Rattle.script_forms.specs.Answer.{ReplyInRun}
 use Rattle.script_forms.specs.Run.{Replied}
 
@@ -66,13 +70,13 @@ module _ {X : Type 0} (Spelled : List ℕ → X → Type 0) (one : (x : List ℕ
 
 -- ---- tests in order
 
-module _ {X : Type 0} where
-  Passing-one : (test : Result X Refusal) (next : X → Outcome → Type 0) → ((x : X) (a b : Outcome) → next x a → next x b → a ≡ b) → (a b : Outcome) → Passing test next a → Passing test next b → a ≡ b
+module _ {X Y : Type 0} where
+  Passing-one : (test : Result X Refusal) (next : X → Result Y Refusal → Type 0) → ((x : X) (a b : Result Y Refusal) → next x a → next x b → a ≡ b) → (a b : Result Y Refusal) → Passing test next a → Passing test next b → a ≡ b
   Passing-one (Ok x) next one a b p q = one x a b p q
   Passing-one (Err refusal) next one a b p q = p ∙ sym q
 
-  Given-one : (Gives : Result X Refusal → Type 0) (next : X → Outcome → Type 0) → ((r s : Result X Refusal) → Gives r → Gives s → r ≡ s) → ((x : X) (a b : Outcome) → next x a → next x b → a ≡ b)
-      → (a b : Outcome) → Given Gives next a → Given Gives next b → a ≡ b
+  Given-one : (Gives : Result X Refusal → Type 0) (next : X → Result Y Refusal → Type 0) → ((r s : Result X Refusal) → Gives r → Gives s → r ≡ s) → ((x : X) (a b : Result Y Refusal) → next x a → next x b → a ≡ b)
+      → (a b : Result Y Refusal) → Given Gives next a → Given Gives next b → a ≡ b
   Given-one Gives next gives one a b p q = Passing-one p.0 next one a b p.2 (subst (λ (r : Result X Refusal). Passing r next b) (sym (gives p.0 q.0 p.1 q.1)) q.2)
 
 Holding-one : (test : Bool) (refusal : Refusal) (Next : Outcome → Type 0) → ((a b : Outcome) → Next a → Next b → a ≡ b) → (a b : Outcome) → Holding test refusal Next a → Holding test refusal Next b → a ≡ b
@@ -114,6 +118,13 @@ AppliesAt-one : (meaning : Meaning) (name path : List ℕ) (n : ℕ) (h : Histor
     → AppliesAt meaning name path n h place program strategy b → a ≡ b
 AppliesAt-one meaning name path n h place program strategy =
     Passing-one (given_by (applied (world_in meaning program h.primitives) path strategy n place.tree)) (λ t. ChangesTo (with_tree h.now name t) h) (λ t. Leaves-one (changed (with_tree h.now name t) h))
+
+Foresees-one : (path : List ℕ) (n : ℕ) (before : Tree) (answer : Answer) (a b : Result Preview Refusal) → Foresees path n before answer a → Foresees path n before answer b → a ≡ b
+Foresees-one path n before (run_done after bindings left edits) a b p q =
+    let same = map_paths (λ x. record { path = path ++ x; old = part_at before x; new = part_at after x }) p.0 q.0 (outermost_paths p.0 q.0 edits p.1 q.1) in
+    p.2 ∙ ap (λ l. Ok (record { replacements = l; steps = n - left })) same ∙ sym q.2
+Foresees-one path n before (failed left) a b p q = p ∙ sym q
+Foresees-one path n before (run_stopped why) a b p q = p ∙ sym q
 
 module _ (one : OneModule) where
   ReadsAsModule-one : (x : List ℕ) (a b : Result Module Refusal) → ReadsAsModule x a → ReadsAsModule x b → a ≡ b
@@ -159,6 +170,22 @@ module _ (one : OneModule) where
   ChangesModules-one None c h a b p q = Given-one (Checks h.primitives c.modules) (λ program. ChangesTo c h) (Checks-one h.primitives c.modules) (λ program. Leaves-one (changed c h)) a b p q
   ChangesModules-one (Some g) c h a b p q = p ∙ sym q
 
+  Resolving-one : OneResult → {Y : Type 0} (name path x : List ℕ) (h : History) (next : Place → Program → Resolved → Result Y Refusal → Type 0)
+      → ((place : Place) (program : Program) (whole : Resolved) (a b : Result Y Refusal) → next place program whole a → next place program whole b → a ≡ b)
+      → (a b : Result Y Refusal) → Resolving name path x h next a → Resolving name path x h next b → a ≡ b
+  Resolving-one strategies {Y} name path x h next one =
+      let Resolves : Place → Strategy → Program → Result Y Refusal → Type 0 = λ place s program. Passing (resolved_in program h.primitives s) (next place program) in
+      let Checked : Place → Strategy → Result Y Refusal → Type 0 = λ place s. Given (Checks h.primitives h.now.modules) (Resolves place s) in
+      Passing-one (place_of h.now name path) (λ place. Given (ReadsAsStrategy x) (Checked place))
+      (λ place. Given-one (ReadsAsStrategy x) (Checked place) (ReadsBy-one GivesStrategy strategies x)
+      (λ s. Given-one (Checks h.primitives h.now.modules) (Resolves place s) (Checks-one h.primitives h.now.modules)
+      (λ program. Passing-one (resolved_in program h.primitives s) (next place program) (one place program))))
+
+  Previews-one : OneResult → (meaning : Meaning) (name path : List ℕ) (n : ℕ) (x : List ℕ) (h : History) (a b : Result Preview Refusal)
+      → Previews meaning name path n x h a → Previews meaning name path n x h b → a ≡ b
+  Previews-one strategies meaning name path n x h =
+      Resolving-one strategies name path x h (ForeseesAt meaning path n h) (λ place program whole. Foresees-one path n place.part (run_whole (world_in meaning program h.primitives) (length path) whole n place.part))
+
   pub ComesTo-one : OneResult → (act : Act) (h : History) (a b : Outcome) → ComesTo act h a → ComesTo act h b → a ≡ b
   ComesTo-one strategies (set_tree_act name t) h = Holding-one (fits 0 t) Big (ChangesTo (with_tree h.now name t) h) (Leaves-one (changed (with_tree h.now name t) h))
   ComesTo-one strategies (copy_tree name other) h = Passing-one (tree_of h.now name) (λ t. ChangesTo (with_tree h.now other t) h) (λ t. Leaves-one (changed (with_tree h.now other t) h))
@@ -170,12 +197,7 @@ module _ (one : OneModule) where
   ComesTo-one strategies (unload_act name) h =
       Passing-one (text_of h.now name) (λ x. ChangesModules h.group (without_module h.now name) h) (λ x. ChangesModules-one h.group (without_module h.now name) h)
   ComesTo-one strategies (apply_act meaning name path n x) h =
-      let Resolves : Place → Strategy → Program → Outcome → Type 0 = λ place s program. Passing (resolved_in program h.primitives s) (AppliesAt meaning name path n h place program) in
-      let Checked : Place → Strategy → Outcome → Type 0 = λ place s. Given (Checks h.primitives h.now.modules) (Resolves place s) in
-      Passing-one (place_of h.now name path) (λ place. Given (ReadsAsStrategy x) (Checked place))
-      (λ place. Given-one (ReadsAsStrategy x) (Checked place) (ReadsBy-one GivesStrategy strategies x)
-      (λ s. Given-one (Checks h.primitives h.now.modules) (Resolves place s) (Checks-one h.primitives h.now.modules)
-      (λ program. Passing-one (resolved_in program h.primitives s) (AppliesAt meaning name path n h place program) (AppliesAt-one meaning name path n h place program))))
+      Resolving-one strategies name path x h (AppliesAt meaning name path n h) (λ place program whole. AppliesAt-one meaning name path n h place program whole)
   ComesTo-one strategies (undo_act k) h = Holding-one (is_none h.group) Group (Passing (ok_or (undone k h) NoUndo) Leaves) (Passing-one (ok_or (undone k h) NoUndo) Leaves Leaves-one)
   ComesTo-one strategies (redo_act k) h = Holding-one (is_none h.group) Group (Passing (ok_or (redone k h) NoRedo) Leaves) (Passing-one (ok_or (redone k h) NoRedo) Leaves Leaves-one)
   ComesTo-one strategies begin_act h =
@@ -207,6 +229,7 @@ module _ (one : OneTerm) (one_module : OneModule) (one_strategy : OneResult) (me
   Replies-one (set_module name x) h = Told-one (ComesTo (set_module_act name x) h) (ComesTo-one one_module one_strategy (set_module_act name x) h)
   Replies-one (unload name) h = Told-one (ComesTo (unload_act name) h) (ComesTo-one one_module one_strategy (unload_act name) h)
   Replies-one (apply name path n x) h = Told-one (ComesTo (apply_act meaning name path n x) h) (ComesTo-one one_module one_strategy (apply_act meaning name path n x) h)
+  Replies-one (preview name path n x) h = λ r s p q. p.2 ∙ ap (previewed h) (Previews-one one_module one_strategy meaning name path n x h p.0 q.0 p.1 q.1) ∙ sym q.2
   Replies-one (undo n) h = Told-one (ComesTo (undo_act n) h) (ComesTo-one one_module one_strategy (undo_act n) h)
   Replies-one (redo n) h = Told-one (ComesTo (redo_act n) h) (ComesTo-one one_module one_strategy (redo_act n) h)
   Replies-one begin h = Told-one (ComesTo begin_act h) (ComesTo-one one_module one_strategy begin_act h)

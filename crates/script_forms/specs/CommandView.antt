@@ -1,7 +1,7 @@
 -- A parsed command, as its form.
 use Rattle.script_forms.specs.Form as f
 use Rattle.script_forms.specs.declared.command.Command.{Command}
-use Rattle.script_forms.specs.declared.command.Command.TheVariants.{Tree, Copy, Drop, Put, Annotate, Module, Unload, Apply, Undo, Redo, Begin, Commit, Abandon, Show, Trees, Modules, Text, History, Dump}
+use Rattle.script_forms.specs.declared.command.Command.TheVariants.{Tree, Copy, Drop, Put, Annotate, Module, Unload, Apply, Preview, Undo, Redo, Begin, Commit, Abandon, Show, Trees, Modules, Text, History, Dump}
 
 abbrev pub form : Command → f.Form
 form (Tree name text) = f.tree name text.now
@@ -12,6 +12,7 @@ form (Annotate name path text) = f.annotate name path text.now
 form (Module name text) = f.set_module name text.now
 form (Unload name) = f.unload name
 form (Apply name path steps text) = f.apply name path steps text.now
+form (Preview name path steps text) = f.preview name path steps text.now
 form (Undo n) = f.undo n
 form (Redo n) = f.redo n
 form Begin = f.begin

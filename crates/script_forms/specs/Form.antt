@@ -23,6 +23,7 @@ pub data Form : Type 0 where
   set_module : List ℕ → List ℕ → Form  -- sets the module of the name to that of the text
   unload : List ℕ → Form  -- removes the module of the name
   apply : List ℕ → List ℕ → ℕ → List ℕ → Form  -- applies the strategy of the text at the path
+  preview : List ℕ → List ℕ → ℕ → List ℕ → Form  -- shows what that would replace
   undo : ℕ → Form  -- goes this many steps back
   redo : ℕ → Form  -- goes this many steps forward
   begin : Form  -- begins a group
@@ -156,10 +157,10 @@ abbrev pub unload_form : List ℕ → Option Form
 unload_form rest = option_map unload (last_name rest)
 
 -- Both `at` and `within`, in this order, are optional.
-abbrev pub apply_form : ℕ → List ℕ → Option Form
-apply_form steps rest =
+abbrev pub strategy_form : (List ℕ → List ℕ → ℕ → List ℕ → Form) → ℕ → List ℕ → Option Form
+strategy_form form steps rest =
     with_word rest (λ name behind. option_and_then
-    (λ path. with_budget steps (apply name path) (behind_option (codes "at") behind))
+    (λ path. with_budget steps (form name path) (behind_option (codes "at") behind))
     (path_or_root (option_word (codes "at") behind)))
 
 abbrev pub text_form : List ℕ → Option Form
@@ -178,7 +179,8 @@ form_with steps keyword rest =
     if is_same keyword (codes "annotate") then annotate_form rest else
     if is_same keyword (codes "module") then module_form rest else
     if is_same keyword (codes "unload") then unload_form rest else
-    if is_same keyword (codes "apply") then apply_form steps rest else
+    if is_same keyword (codes "apply") then strategy_form apply steps rest else
+    if is_same keyword (codes "preview") then strategy_form preview steps rest else
     if is_same keyword (codes "undo") then option_map undo (last_steps rest) else
     if is_same keyword (codes "redo") then option_map redo (last_steps rest) else
     if is_same keyword (codes "begin") then ended begin rest else
@@ -206,6 +208,7 @@ has_labels (annotate name path text) = is_some (label_of name)
 has_labels (set_module name text) = is_some (label_of name)
 has_labels (unload name) = is_some (label_of name)
 has_labels (apply name path steps text) = is_some (label_of name)
+has_labels (preview name path steps text) = is_some (label_of name)
 has_labels (undo n) = true
 has_labels (redo n) = true
 has_labels begin = true
@@ -230,6 +233,7 @@ command_of steps command = checked (form_of steps command)
 -- the budget of a form, if it has one, is a number of steps
 abbrev pub HasBudget : Form → Type 0
 HasBudget (apply name path steps text) = AreSteps steps
+HasBudget (preview name path steps text) = AreSteps steps
 HasBudget form = Unit {0}
 
 -- ---- commands that take no memory
@@ -253,6 +257,7 @@ is_without_memory (annotate name path text) = false
 is_without_memory (set_module name text) = false
 is_without_memory (unload name) = false
 is_without_memory (apply name path steps text) = false
+is_without_memory (preview name path steps text) = false
 is_without_memory (undo n) = true
 is_without_memory (redo n) = true
 is_without_memory begin = true

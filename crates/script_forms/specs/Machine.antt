@@ -11,12 +11,13 @@ use Rattle.strategy_check.specs.Words.{word_of as kind_word}
 use Rattle.session_steps.specs.History.{History}
 use Rattle.session_steps.specs.Applying.{Meaning}
 use Rattle.session_steps.specs.Step as session
+use Rattle.session_steps.specs.Preview.{Replacement, Preview, Previews}
 use Rattle.session_steps.specs.Dump.{dumped}
 use Rattle.session_steps.specs.Refusal.{number_of, word_of}
 use Rattle.session_steps.specs.declared.refusal.Refusal.{Refusal}
 use Rattle.session_steps.specs.declared.refusal.Refusal.TheVariants.{Long, Term, Deep, Check}
 use Rattle.script_commands.specs.Handed.{Handed, text as handed_text, long}
-use Rattle.script_forms.specs.Form.{Form, tree, copy, drop_tree, put, annotate, set_module, unload, apply, undo, redo, begin, commit, abandon, show, trees, modules, module_text, history, dump, command_of}
+use Rattle.script_forms.specs.Form.{Form, tree, copy, drop_tree, put, annotate, set_module, unload, apply, preview, undo, redo, begin, commit, abandon, show, trees, modules, module_text, history, dump, command_of}
 
 -- an accepted command: its answer, line feeds included, and the history after it
 pub record Accepted : Type 0 where
@@ -59,6 +60,28 @@ abbrev pub shown : History → Result session.Place Refusal → Reply
 shown h (Ok place) = Ok (told_of h (line (print place.part)))
 shown h (Err refusal) = Err refusal
 
+-- a path as a command gives it: `/` for the root, else a `/` and a number for each part
+abbrev pub path_text : List ℕ → List ℕ
+path_text [] = 47 ∷ []
+path_text (i ∷ p) = flat_map (λ part. 47 ∷ decimal part) (i ∷ p)
+
+-- what is at a path and what would be there, on one line
+abbrev pub replacement_line : Replacement → List ℕ
+replacement_line r = line (path_text r.path ++ 32 ∷ print r.old ++ codes " => " ++ print r.new)
+
+-- the numbers of places and of steps
+abbrev pub preview_line : ℕ → ℕ → List ℕ
+preview_line places steps = line (codes "changes " ++ decimal places ++ codes " steps " ++ decimal steps)
+
+-- how many places would be replaced, and in how many steps; and then a line for each of them
+abbrev pub preview_text : Preview → List ℕ
+preview_text p = preview_line (length p.replacements) p.steps ++ flat_map replacement_line p.replacements
+
+-- the answer that shows a preview, if there is one
+abbrev pub previewed : History → Result Preview Refusal → Reply
+previewed h (Ok p) = Ok (told_of h (preview_text p))
+previewed h (Err refusal) = Err refusal
+
 -- a word, followed by a space and a name for each of these, on one line
 abbrev pub listed : List ℕ → List (List ℕ) → List ℕ
 listed word names = line (word ++ flat_map (λ name. 32 ∷ name) names)
@@ -95,6 +118,8 @@ Replies meaning (set_module name text) h = Told (session.ComesTo (session.set_mo
 Replies meaning (unload name) h = Told (session.ComesTo (session.unload name) h)
 Replies meaning (apply name path steps text) h =
     Told (session.ComesTo (session.apply meaning name path steps text) h)
+Replies meaning (preview name path steps text) h =
+    (λ reply. (shown : Result Preview Refusal) × Previews meaning name path steps text h shown × (reply ≡ previewed h shown))
 Replies meaning (undo n) h = Told (session.ComesTo (session.undo n) h)
 Replies meaning (redo n) h = Told (session.ComesTo (session.redo n) h)
 Replies meaning begin h = Told (session.ComesTo session.begin h)

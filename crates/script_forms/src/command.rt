@@ -6,7 +6,7 @@ ghost use Rattle.term_core.specs.Word.{label_of};
 ghost use Rattle.aterm_text.specs.Tokens.{is_blank, without_blanks};
 ghost use Rattle.script_commands.specs.Script.{without_end};
 ghost use Rattle.session_steps.specs.Steps.{AreSteps};
-ghost use Rattle.script_forms.specs.Form.{Form, tree, put, command_of, checked, tree_form, copy_form, drop_form, put_form, annotate_form, module_form, unload_form, apply_form, text_form, show_form, last_name, last_steps, last_text, option_word, behind_option, path_or_root, steps_or, steps_of, ended, HasBudget, is_without_memory, takes_no_memory, front_word, behind_word, has_word, is_same};
+ghost use Rattle.script_forms.specs.Form.{Form, tree, put, apply, preview, command_of, checked, tree_form, copy_form, drop_form, put_form, annotate_form, module_form, unload_form, strategy_form, text_form, show_form, last_name, last_steps, last_text, option_word, behind_option, path_or_root, steps_or, steps_of, ended, HasBudget, is_without_memory, takes_no_memory, front_word, behind_word, has_word, is_same};
 ghost use Rattle.term_paths.specs.PathText.{path_of};
 ghost use Rattle.script_forms.specs.CommandView.{form as form_seen};
 ghost use Rattle.script_forms.specs.inside.KeywordView.{form_behind, is_without_memory_behind};
@@ -37,6 +37,8 @@ pub enum Command<'a> {
     Unload(Label),
     /// Applies the strategy of the text at the path, within this many steps, from 1 to 1,000,000.
     Apply(Label, Path, u32, &'a [u8]),
+    /// Shows what that would replace, with the same operands.
+    Preview(Label, Path, u32, &'a [u8]),
     /// Goes this many steps back.
     Undo(u32),
     /// Goes this many steps forward.
@@ -108,6 +110,7 @@ fn read_form(
         Keyword::Module => read_module(alloc, rest),
         Keyword::Unload => Ok(Command::Unload(read_last_name(alloc, rest)?)),
         Keyword::Apply => read_apply(alloc, rest, steps),
+        Keyword::Preview => read_preview(alloc, rest, steps),
         Keyword::Undo => Ok(Command::Undo(read_steps(rest)?)),
         Keyword::Redo => Ok(Command::Redo(read_steps(rest)?)),
         Keyword::Begin => read_ended(Command::Begin, rest),
@@ -295,11 +298,44 @@ fn read_show<'a>(alloc: Global, rest: &[u8]) -> Result<Command<'a>, Refusal>
 
 fn read_apply(alloc: Global, rest: &[u8], steps: u32) -> Result<Command<'_>, Refusal>
     requires { AreSteps steps }
-    ensures ok { IfOk result (λ read. checked (apply_form steps rest.now) ≡ Ok (form_seen read)) }
+    ensures ok { IfOk result (λ read. checked (strategy_form apply steps rest.now) ≡ Ok (form_seen read)) }
     ensures may_take_memory { IfOk result (λ read. is_without_memory (form_seen read) ≡ false) }
     ensures budget { IfOk result (λ read. HasBudget (form_seen read)) }
     ensures refused { IfErr result (λ refusal. (refusal ≡ Refusal.Memory)
-        ⊎ (checked (apply_form steps rest.now) ≡ Err refusal)) }
+        ⊎ (checked (strategy_form apply steps rest.now) ≡ Err refusal)) }
+{
+    let (name, path, steps, text) = read_strategy_parts(alloc, rest, steps)?;
+    Ok(Command::Apply(name, path, steps, text))
+}
+
+fn read_preview(alloc: Global, rest: &[u8], steps: u32) -> Result<Command<'_>, Refusal>
+    requires { AreSteps steps }
+    ensures ok { IfOk result (λ read. checked (strategy_form preview steps rest.now) ≡ Ok (form_seen read)) }
+    ensures may_take_memory { IfOk result (λ read. is_without_memory (form_seen read) ≡ false) }
+    ensures budget { IfOk result (λ read. HasBudget (form_seen read)) }
+    ensures refused { IfErr result (λ refusal. (refusal ≡ Refusal.Memory)
+        ⊎ (checked (strategy_form preview steps rest.now) ≡ Err refusal)) }
+{
+    let (name, path, steps, text) = read_strategy_parts(alloc, rest, steps)?;
+    Ok(Command::Preview(name, path, steps, text))
+}
+
+// The name, the path, the budget and the text of a command `apply` or `preview`.
+fn read_strategy_parts(
+    alloc: Global,
+    rest: &[u8],
+    steps: u32,
+) -> Result<(Label, Path, u32, &[u8]), Refusal>
+    requires { AreSteps steps }
+    ensures apply { IfOk result (λ read. checked (strategy_form apply steps rest.now)
+        ≡ Ok (apply read.0 read.1 read.2 read.3.now)) }
+    ensures preview { IfOk result (λ read. checked (strategy_form preview steps rest.now)
+        ≡ Ok (preview read.0 read.1 read.2 read.3.now)) }
+    ensures budget { IfOk result (λ read. AreSteps read.2) }
+    ensures apply_refused { IfErr result (λ refusal. (refusal ≡ Refusal.Memory)
+        ⊎ (checked (strategy_form apply steps rest.now) ≡ Err refusal)) }
+    ensures preview_refused { IfErr result (λ refusal. (refusal ≡ Refusal.Memory)
+        ⊎ (checked (strategy_form preview steps rest.now) ≡ Err refusal)) }
 {
     let (name, rest) = split_word(rest);
     if name.is_empty() {
@@ -314,7 +350,7 @@ fn read_apply(alloc: Global, rest: &[u8], steps: u32) -> Result<Command<'_>, Ref
     let path = read_place(alloc, place)?;
     let steps = read_budget(budget, steps)?;
     let name = read_label(alloc, name)?;
-    Ok(Command::Apply(name, path, steps, behind_blanks(text)))
+    Ok((name, path, steps, behind_blanks(text)))
 }
 
 // A name at the end of a form.

@@ -15,6 +15,7 @@ pub enum Keyword {
     Module,
     Unload,
     Apply,
+    Preview,
     Undo,
     Redo,
     Begin,
@@ -52,6 +53,8 @@ pub(crate) fn keyword_of(word: &[u8]) -> Keyword
         Keyword::Unload
     } else if word == b"apply".as_slice() {
         Keyword::Apply
+    } else if word == b"preview".as_slice() {
+        Keyword::Preview
     } else if word == b"undo".as_slice() {
         Keyword::Undo
     } else if word == b"redo".as_slice() {

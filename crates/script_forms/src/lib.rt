@@ -11,7 +11,7 @@ mod telling;
 mod write;
 
 pub use command::{Command, behind_put, behind_tree, read_name_and_text, read_put_parts};
-pub use lines::{append_line, append_shown, list_names};
+pub use lines::{append_line, append_preview_line, append_replacement, append_shown, list_names};
 pub use sink::{Held, Sink};
 pub use source::{Bytes, Counted, Failed, Source};
 pub use telling::{ANSWER_ROOM, refuse};

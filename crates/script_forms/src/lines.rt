@@ -1,12 +1,13 @@
 //! Lines of answers, appended whole or not at all.
 
-ghost use Rattle.std.specs.Prelude.{◌≡◌, ◌≤◌, ◌+◌, ◌++◌, ◌∷◌, OnOk, OnErr, length, take, vec_capacity, vec_len};
+ghost use Rattle.std.specs.Prelude.{◌≡◌, ◌≤◌, ◌+◌, ◌++◌, ◌∷◌, ℕ, List, decimal, OnOk, OnErr, length, take, vec_capacity, vec_len};
 ghost use Rattle.aterm_text.specs.Printed.{print as print_of};
 ghost use Rattle.aterm_text.specs.inside.Printing.{Extends};
 ghost use Rattle.script_forms.specs.Form.{tree};
-ghost use Rattle.script_forms.specs.Machine.{line, listed};
+ghost use Rattle.script_forms.specs.Machine.{line, listed, path_text, preview_line, replacement_line};
 
 use aterm_text::print;
+use itoa::Buffer;
 use term_core::{Label, NoMemory, Term};
 
 /// Appends a printed tree as a line.
@@ -89,5 +90,71 @@ fn append_name(name: &Label, answer: &mut Vec<u8>) -> Result<(), NoMemory>
 {
     answer.push(b' ')?;
     answer.extend_from_slice(name.bytes())?;
+    Ok(())
+}
+
+/// Appends the first line of a preview: the numbers of places and of steps.
+///
+/// Errors: `NoMemory` if memory can't grow; a part of the line may have been appended then.
+pub fn append_preview_line(places: usize, steps: u64, answer: &mut Vec<u8>) -> Result<(), NoMemory>
+    ensures ok { OnOk result (answer.new.items ≡ answer.old.items ++ preview_line places steps) }
+    ensures err { (more : List ℕ) × (answer.new.items ≡ answer.old.items ++ more) }
+    ensures room { vec_capacity answer.old ≤ vec_capacity answer.new }
+{
+    let mut number = Buffer::new();
+    answer.extend_from_slice(b"changes ")?;
+    answer.extend_from_slice(number.format(places).as_bytes())?;
+    answer.extend_from_slice(b" steps ")?;
+    answer.extend_from_slice(number.format(steps).as_bytes())?;
+    answer.push(b'\n')?;
+    Ok(())
+}
+
+/// Appends a line of a preview: a path, what is there, and what would be there.
+///
+/// Errors: `NoMemory` if memory can't grow; a part of the line may have been appended then.
+pub fn append_replacement(
+    path: &[usize],
+    old: &Term,
+    new: &Term,
+    answer: &mut Vec<u8>,
+) -> Result<(), NoMemory>
+    ensures ok { OnOk result (answer.new.items
+        ≡ answer.old.items ++ replacement_line (record { path = path.now; old = old.now; new = new.now })) }
+    ensures err { (more : List ℕ) × (answer.new.items ≡ answer.old.items ++ more) }
+    ensures room { vec_capacity answer.old ≤ vec_capacity answer.new }
+{
+    append_path(path, answer)?;
+    answer.push(b' ')?;
+    print(old, answer)?;
+    answer.extend_from_slice(b" => ")?;
+    print(new, answer)?;
+    answer.push(b'\n')?;
+    Ok(())
+}
+
+fn append_path(path: &[usize], answer: &mut Vec<u8>) -> Result<(), NoMemory>
+    ensures ok { OnOk result (answer.new.items ≡ answer.old.items ++ path_text path.now) }
+    ensures err { Extends answer.old.items answer.new.items }
+    ensures room { vec_capacity answer.old ≤ vec_capacity answer.new }
+{
+    if path.is_empty() {
+        answer.push(b'/')?;
+        return Ok(());
+    }
+    for part in path {
+        append_part(*part, answer)?;
+    }
+    Ok(())
+}
+
+fn append_part(part: usize, answer: &mut Vec<u8>) -> Result<(), NoMemory>
+    ensures ok { OnOk result (answer.new.items ≡ answer.old.items ++ 47 ∷ decimal part) }
+    ensures err { Extends answer.old.items answer.new.items }
+    ensures room { vec_capacity answer.old ≤ vec_capacity answer.new }
+{
+    let mut number = Buffer::new();
+    answer.push(b'/')?;
+    answer.extend_from_slice(number.format(part).as_bytes())?;
     Ok(())
 }

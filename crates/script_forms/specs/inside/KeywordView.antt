@@ -2,8 +2,8 @@
 use Rattle.std.specs.Prelude.{ℕ, Bool, true, false, List, Some, None, option_map}
 use Rattle.std.specs.declared.option.Option.{Option}
 use Rattle.script_forms.specs.declared.keyword.Keyword.{Keyword}
-use Rattle.script_forms.specs.declared.keyword.Keyword.TheVariants.{Tree, Copy, Drop, Put, Annotate, Module, Unload, Apply, Undo, Redo, Begin, Commit, Abandon, Show, Trees, Modules, Text, History, Dump, Other}
-use Rattle.script_forms.specs.Form.{Form, undo, redo, begin, commit, abandon, trees, modules, history, dump, tree_form, copy_form, drop_form, put_form, annotate_form, module_form, unload_form, apply_form, text_form, show_form, last_steps, ended}
+use Rattle.script_forms.specs.declared.keyword.Keyword.TheVariants.{Tree, Copy, Drop, Put, Annotate, Module, Unload, Apply, Preview, Undo, Redo, Begin, Commit, Abandon, Show, Trees, Modules, Text, History, Dump, Other}
+use Rattle.script_forms.specs.Form.{Form, apply, preview, undo, redo, begin, commit, abandon, trees, modules, history, dump, tree_form, copy_form, drop_form, put_form, annotate_form, module_form, unload_form, strategy_form, text_form, show_form, last_steps, ended}
 
 -- the form, given the budget of a command that names none and the rest after the word
 abbrev pub form_behind : Keyword → ℕ → List ℕ → Option Form
@@ -14,7 +14,8 @@ form_behind Put steps rest = put_form rest
 form_behind Annotate steps rest = annotate_form rest
 form_behind Module steps rest = module_form rest
 form_behind Unload steps rest = unload_form rest
-form_behind Apply steps rest = apply_form steps rest
+form_behind Apply steps rest = strategy_form apply steps rest
+form_behind Preview steps rest = strategy_form preview steps rest
 form_behind Undo steps rest = option_map undo (last_steps rest)
 form_behind Redo steps rest = option_map redo (last_steps rest)
 form_behind Begin steps rest = ended begin rest
@@ -38,6 +39,7 @@ is_without_memory_behind Annotate = false
 is_without_memory_behind Module = false
 is_without_memory_behind Unload = false
 is_without_memory_behind Apply = false
+is_without_memory_behind Preview = false
 is_without_memory_behind Undo = true
 is_without_memory_behind Redo = true
 is_without_memory_behind Begin = true
