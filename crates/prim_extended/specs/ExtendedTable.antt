@@ -1,11 +1,9 @@
 -- The table of the extended primitives.
 use Rattle.std.specs.Prelude.{ℕ, List, [], ◌∷◌, ◌++◌, codes}
-use Rattle.std.specs.declared.option.Option.{Option}
-use Rattle.term_core.specs.Tree.{Tree}
 use Rattle.prim_core.specs.Signature.{Signature}
-use Rattle.prim_core.specs.Computes.{Computes}
-use Rattle.prim_core.specs.StandardTable.{standard_signatures, ComputeStandard}
-use Rattle.prim_extended.specs.declared.operations.ExtendedOperations.{ExtendedOperations}
+use Rattle.prim_core.specs.StandardTable.{standard_signatures}
+use Rattle.prim_extended.specs.declared.operations.ExtendedOperation.{ExtendedOperation}
+use Rattle.prim_extended.specs.declared.operations.ExtendedOperation.TheVariants.{Addi, Subti, Muli, Divi, Gti, Strcat, Strlen, IntToString, StringToInt, ExplodeString, ImplodeString, Gts, Modi}
 
 abbrev signature : List ℕ → ℕ → Signature
 signature name arity = record { name = name; arity = arity }
@@ -16,14 +14,34 @@ extended_signatures = standard_signatures
     ++ (signature (codes "explode-string") 1 ∷ (signature (codes "implode-string") 1
     ∷ (signature (codes "gts") 2 ∷ (signature (codes "modi") 2 ∷ []))))
 
--- each of the operations computes what its name means
-pub record ComputeExtended {F : Type 0} (may_run : F → List Tree → Type 0)
-    (answers : F → List Tree → Option Tree → Type 0) (meaning : List ℕ → List Tree → Option Tree)
-    (operations : ExtendedOperations F) : Type 0 where
-  pub standard : ComputeStandard may_run answers meaning operations.standard
-  pub explode_string :
-      Computes may_run answers operations.explode_string 1 (meaning (codes "explode-string"))
-  pub implode_string :
-      Computes may_run answers operations.implode_string 1 (meaning (codes "implode-string"))
-  pub gts : Computes may_run answers operations.gts 2 (meaning (codes "gts"))
-  pub modi : Computes may_run answers operations.modi 2 (meaning (codes "modi"))
+-- ---- each as a value
+
+abbrev pub name_of : ExtendedOperation → List ℕ
+name_of Addi = codes "addi"
+name_of Subti = codes "subti"
+name_of Muli = codes "muli"
+name_of Divi = codes "divi"
+name_of Gti = codes "gti"
+name_of Strcat = codes "strcat"
+name_of Strlen = codes "strlen"
+name_of IntToString = codes "int-to-string"
+name_of StringToInt = codes "string-to-int"
+name_of ExplodeString = codes "explode-string"
+name_of ImplodeString = codes "implode-string"
+name_of Gts = codes "gts"
+name_of Modi = codes "modi"
+
+abbrev pub arity_of : ExtendedOperation → ℕ
+arity_of Addi = 2
+arity_of Subti = 2
+arity_of Muli = 2
+arity_of Divi = 2
+arity_of Gti = 2
+arity_of Strcat = 2
+arity_of Strlen = 1
+arity_of IntToString = 1
+arity_of StringToInt = 1
+arity_of ExplodeString = 1
+arity_of ImplodeString = 1
+arity_of Gts = 2
+arity_of Modi = 2

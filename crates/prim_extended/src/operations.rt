@@ -1,56 +1,106 @@
-//! The extended primitives, given an operation for each.
+//! The extended primitives as values, and their table.
 
-ghost use Rattle.std.specs.Prelude.{◌≡◌, ◌++◌, ◌∷◌, [], IfOk, OnOk};
-ghost use Rattle.prim_core.specs.Computes.{Computes};
-ghost use Rattle.prim_extended.specs.ExtendedTable.{ComputeExtended, extended_signatures};
+ghost use Rattle.std.specs.Prelude.{◌≡◌, ◌++◌, ◌∷◌, [], length, IfOk, OnOk};
+ghost use Rattle.prim_extended.specs.Extended.{extended};
+ghost use Rattle.prim_extended.specs.ExtendedTable.{arity_of, extended_signatures, name_of};
 
-use prim_core::{Meaning, Primitive, StandardOperations, standard_primitives};
+use crate::integers::modi;
+use crate::strings::{explode_string, gts, implode_string};
+use prim_core::{
+    Meaning, Operation, Primitive, addi, divi, gti, int_to_string, muli, strcat, string_to_int,
+    strlen, subti,
+};
 use std::alloc::Global;
-use term_core::NoMemory;
+use term_core::{NoMemory, Term};
 
-/// An operation for each of the extended primitives.
-#[derive(Drop)]
-pub struct ExtendedOperations<F> {
-    pub standard: StandardOperations<F>,
-    pub explode_string: F,
-    pub implode_string: F,
-    pub gts: F,
-    pub modi: F,
+/// One of the extended primitives, by its name.
+#[derive(Clone, Copy, Debug, Drop)]
+pub enum ExtendedOperation {
+    Addi,
+    Subti,
+    Muli,
+    Divi,
+    Gti,
+    Strcat,
+    Strlen,
+    IntToString,
+    StringToInt,
+    ExplodeString,
+    ImplodeString,
+    Gts,
+    Modi,
 }
 
-/// The extended primitives, given an operation for each; a host can add its own. The host makes the
-/// boxes.
-pub fn extended_primitives<M: Meaning>(
-    alloc: Global,
-    operations: ExtendedOperations<M::Operation>,
-) -> Result<Vec<Primitive<M>>, NoMemory>
-    requires { ComputeExtended M.Operation.may_run M.Operation.answers M.meaning operations }
+use ExtendedOperation::{
+    Addi, Divi, ExplodeString, Gti, Gts, ImplodeString, IntToString, Modi, Muli, Strcat,
+    StringToInt, Strlen, Subti,
+};
+
+impl Operation for ExtendedOperation {
+    ghost may_run = { λ operation terms. length terms ≡ arity_of operation };
+
+    ghost answers = { λ operation terms found. found ≡ extended (name_of operation) terms };
+
+    fn run(&self, alloc: Global, arguments: &[Term]) -> Result<Option<Term>, NoMemory> {
+        match self {
+            Addi => addi(alloc, arguments),
+            Subti => subti(alloc, arguments),
+            Muli => muli(alloc, arguments),
+            Divi => divi(alloc, arguments),
+            Gti => gti(alloc, arguments),
+            Strcat => strcat(alloc, arguments),
+            Strlen => strlen(alloc, arguments),
+            IntToString => int_to_string(alloc, arguments),
+            StringToInt => string_to_int(alloc, arguments),
+            ExplodeString => explode_string(alloc, arguments),
+            ImplodeString => implode_string(alloc, arguments),
+            Gts => gts(alloc, arguments),
+            Modi => modi(alloc, arguments),
+        }
+    }
+}
+
+/// The meaning of the extended primitives. It is that of the standard ones on their names.
+pub struct Extended;
+
+impl Meaning for Extended {
+    ghost use Rattle.prim_extended.specs.Extended.{extended};
+
+    type Operation = ExtendedOperation;
+
+    ghost meaning = { extended };
+}
+
+/// The extended primitives, the standard ones first.
+pub fn extended_primitives(alloc: Global) -> Result<Vec<Primitive<Extended>>, NoMemory>
     ensures { IfOk result (λ primitives. primitives.items ≡ extended_signatures) }
 {
-    let ExtendedOperations {
-        standard,
-        explode_string,
-        implode_string,
-        gts,
-        modi,
-    } = operations;
-    let mut primitives = standard_primitives::<M>(alloc, standard)?;
-    add::<M>(alloc, &mut primitives, b"explode-string", 1, explode_string)?;
-    add::<M>(alloc, &mut primitives, b"implode-string", 1, implode_string)?;
-    add::<M>(alloc, &mut primitives, b"gts", 2, gts)?;
-    add::<M>(alloc, &mut primitives, b"modi", 2, modi)?;
+    let mut primitives = Vec::new(alloc);
+    add(alloc, &mut primitives, b"addi", 2, Addi)?;
+    add(alloc, &mut primitives, b"subti", 2, Subti)?;
+    add(alloc, &mut primitives, b"muli", 2, Muli)?;
+    add(alloc, &mut primitives, b"divi", 2, Divi)?;
+    add(alloc, &mut primitives, b"gti", 2, Gti)?;
+    add(alloc, &mut primitives, b"strcat", 2, Strcat)?;
+    add(alloc, &mut primitives, b"strlen", 1, Strlen)?;
+    add(alloc, &mut primitives, b"int-to-string", 1, IntToString)?;
+    add(alloc, &mut primitives, b"string-to-int", 1, StringToInt)?;
+    add(alloc, &mut primitives, b"explode-string", 1, ExplodeString)?;
+    add(alloc, &mut primitives, b"implode-string", 1, ImplodeString)?;
+    add(alloc, &mut primitives, b"gts", 2, Gts)?;
+    add(alloc, &mut primitives, b"modi", 2, Modi)?;
     Ok(primitives)
 }
 
-fn add<M: Meaning>(
+fn add(
     alloc: Global,
-    primitives: &mut Vec<Primitive<M>>,
+    primitives: &mut Vec<Primitive<Extended>>,
     name: &[u8],
     arity: usize,
-    operation: M::Operation,
+    operation: ExtendedOperation,
 ) -> Result<(), NoMemory>
-    requires { Computes M.Operation.may_run M.Operation.answers operation arity
-        (M.meaning name.now) }
+    requires name { name.now ≡ name_of operation }
+    requires arity { arity ≡ arity_of operation }
     ensures { OnOk result (primitives.new.items
         ≡ primitives.old.items ++ record { name = name.now; arity = arity } ∷ []) }
 {

@@ -2,7 +2,6 @@
 #![tactic(auto)]
 
 ghost use Rattle.std.specs.Prelude.{◌+◌, ◌<◌, ◌^◌};
-ghost use Rattle.prim_extended.specs.ExtendedTable.{ComputeExtended};
 ghost use Rattle.session_steps.specs.Steps.{AreSteps};
 
 mod dialogue;
@@ -20,18 +19,13 @@ use command_line::{CommandLine, Load, Named, arguments};
 use dialogue::{Group, Prompting, Watched};
 use library::load_library;
 use loading::load_file;
-use prim_core::{
-    BoxedOperation, Meaning, Primitives, StandardOperations, addi, divi, gti, int_to_string, muli,
-    strcat, string_to_int, strlen, subti,
-};
-use prim_extended::{
-    Extended, ExtendedOperations, explode_string, extended_primitives, gts, implode_string, modi,
-};
+use prim_core::{Meaning, Primitive, Primitives};
+use prim_extended::extended_primitives;
 use script_core::{ANSWER_ROOM, Counted, Framing, RunFault, Settings, Sink, Source, Summary, run};
 use script_forms::refuse;
 use session_core::{Refusal, Session};
 use status::{FileFault, file_status, status};
-use std::alloc::{AllocError, Global};
+use std::alloc::Global;
 use std::env;
 use std::fs::File;
 use std::io::{self, BufWriter, IsTerminal, Read, Write};
@@ -111,63 +105,40 @@ fn print_refusal(rt: &HostRuntime, file: &str, refusal: &Refusal) -> io::Result<
 fn run_line(rt: &HostRuntime, line: &CommandLine<'_>) -> u8
     requires { AreSteps line.now.steps }
 {
-    match run_extended(rt, line) {
-        Ok(status) => status,
-        Err(AllocError) => report(rt, Err(RunFault::Memory)),
+    match extended_primitives(rt.alloc()) {
+        Ok(primitives) => run_with(rt, line, primitives),
+        Err(_) => report(rt, Err(RunFault::Memory)),
     }
 }
 
-// Makes a box for each of the extended primitives.
-fn run_extended(rt: &HostRuntime, line: &CommandLine<'_>) -> Result<u8, AllocError>
-    requires { AreSteps line.now.steps }
-{
-    let alloc = rt.alloc();
-    let standard: StandardOperations<BoxedOperation> = StandardOperations {
-        addi: Box::new(alloc, addi)?,
-        subti: Box::new(alloc, subti)?,
-        muli: Box::new(alloc, muli)?,
-        divi: Box::new(alloc, divi)?,
-        gti: Box::new(alloc, gti)?,
-        strcat: Box::new(alloc, strcat)?,
-        strlen: Box::new(alloc, strlen)?,
-        int_to_string: Box::new(alloc, int_to_string)?,
-        string_to_int: Box::new(alloc, string_to_int)?,
-    };
-    let operations: ExtendedOperations<BoxedOperation> = ExtendedOperations {
-        standard,
-        explode_string: Box::new(alloc, explode_string)?,
-        implode_string: Box::new(alloc, implode_string)?,
-        gts: Box::new(alloc, gts)?,
-        modi: Box::new(alloc, modi)?,
-    };
-    Ok(run_with::<Extended>(rt, line, operations))
-}
-
-// The operations are arbitrary, as long as they compute what their names mean.
+// Runs a new session with these primitives.
 fn run_with<M: Meaning>(
     rt: &HostRuntime,
     line: &CommandLine<'_>,
-    operations: ExtendedOperations<M::Operation>,
+    primitives: Vec<Primitive<M>>,
 ) -> u8
-    requires steps { AreSteps line.now.steps }
-    requires extended { ComputeExtended M.Operation.may_run M.Operation.answers M.meaning operations }
+    requires { AreSteps line.now.steps }
 {
-    let Ok(primitives) = extended_primitives::<M>(rt.alloc(), operations) else {
-        return report(rt, Err(RunFault::Memory));
-    };
     let mut session = Session::new(rt.alloc(), Primitives::new(primitives));
+    run_whole(rt, line, &mut session)
+}
+
+// Loads what is to be loaded, runs the script, and writes what is to be written.
+fn run_whole<M: Meaning>(rt: &HostRuntime, line: &CommandLine<'_>, session: &mut Session<M>) -> u8
+    requires { AreSteps line.now.steps }
+{
     if line.library {
-        if let Err(fault) = load_library(rt.alloc(), &mut session) {
+        if let Err(fault) = load_library(rt.alloc(), session) {
             return report(rt, Err(fault));
         }
     }
-    if let Err(status) = load_all(rt, &mut session, &line.loads) {
+    if let Err(status) = load_all(rt, session, &line.loads) {
         return status;
     }
-    let outcome = run_session(rt, line, &mut session);
+    let outcome = run_session(rt, line, session);
     let ended = report_run(rt, line, outcome);
     match outcome {
-        Ok(_) => write_all(rt, &session, &line.writes, ended),
+        Ok(_) => write_all(rt, session, &line.writes, ended),
         // What stands after a fault isn't what the script leads to.
         Err(_) => ended,
     }

@@ -1,14 +1,7 @@
-//! The extended primitives, each through its box in a table, with ample memory.
+//! The extended primitives, each through the table, with ample memory.
 
-ghost use Rattle.prim_extended.specs.ExtendedTable.{ComputeExtended};
-
-use crate::{
-    Extended, ExtendedOperations, explode_string, extended_primitives, gts, implode_string, modi,
-};
-use prim_core::{
-    BoxedOperation, Meaning, Primitives, StandardOperations, addi, divi, gti, int_to_string, muli,
-    strcat, string_to_int, strlen, subti,
-};
+use crate::extended_primitives;
+use prim_core::{Meaning, Primitives};
 use std::alloc::Global;
 use std::process::Abort;
 use std::test::Fail;
@@ -195,42 +188,13 @@ fn of_two<M: Meaning>(
     )
 }
 
-// The operations are arbitrary, as long as they compute what their names mean.
-fn table<M: Meaning>(
-    rt: &impl Abort,
-    alloc: Global,
-    operations: ExtendedOperations<M::Operation>,
-) -> Result<(), Fail>
-    requires { ComputeExtended M.Operation.may_run M.Operation.answers M.meaning operations }
-{
-    let primitives = Primitives::new(extended_primitives::<M>(alloc, operations)?);
-    assert_eq!(rt; primitives.find(b"addi", 2), Some(0));
-    assert_eq!(rt; primitives.find(b"modi", 2), Some(12));
-    assert!(rt; primitives.arity(13).is_none());
-    of_one(rt, alloc, &primitives)?;
-    of_two(rt, alloc, &primitives)
-}
-
 #[test]
 fn extended(rt: HostRuntime) -> Result<(), Fail> {
     let alloc = rt.alloc();
-    let standard: StandardOperations<BoxedOperation> = StandardOperations {
-        addi: Box::new(alloc, addi)?,
-        subti: Box::new(alloc, subti)?,
-        muli: Box::new(alloc, muli)?,
-        divi: Box::new(alloc, divi)?,
-        gti: Box::new(alloc, gti)?,
-        strcat: Box::new(alloc, strcat)?,
-        strlen: Box::new(alloc, strlen)?,
-        int_to_string: Box::new(alloc, int_to_string)?,
-        string_to_int: Box::new(alloc, string_to_int)?,
-    };
-    let operations: ExtendedOperations<BoxedOperation> = ExtendedOperations {
-        standard,
-        explode_string: Box::new(alloc, explode_string)?,
-        implode_string: Box::new(alloc, implode_string)?,
-        gts: Box::new(alloc, gts)?,
-        modi: Box::new(alloc, modi)?,
-    };
-    table::<Extended>(&rt, alloc, operations)
+    let primitives = Primitives::new(extended_primitives(alloc)?);
+    assert_eq!(rt; primitives.find(b"addi", 2), Some(0));
+    assert_eq!(rt; primitives.find(b"modi", 2), Some(12));
+    assert!(rt; primitives.arity(13).is_none());
+    of_one(&rt, alloc, &primitives)?;
+    of_two(&rt, alloc, &primitives)
 }

@@ -33,8 +33,8 @@ fn makes_texts_of_modules(rt: HostRuntime) -> Result<(), Fail> {
 
 // A session without primitives that loads these texts, and then shows the tree.
 fn is_loaded<M: Meaning>(alloc: Global) -> Result<bool, Fail> {
-    let mut session = Session::<M>::new(alloc, Primitives::new(Vec::new(alloc)));
     let name = Label::read(alloc, b"t")?;
+    let mut session = Session::<M>::new(alloc, Primitives::new(Vec::new(alloc)));
     let well = load_module(alloc, &mut session, &name, b"strategies\nf = id\n").is_ok()
         && load_tree(alloc, &mut session, &name, b"\n f(1,\r\n 2)\n").is_ok();
     let faults = matches!(

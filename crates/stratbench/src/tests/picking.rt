@@ -5,7 +5,7 @@ ghost use Rattle.std.specs.Prelude.{◌≡◌, length, IfOk, codes};
 ghost use Rattle.prim_core.specs.Computes.{Computes};
 ghost use Rattle.prim_core.specs.inside.Pick.{constant, choices as three_choices, pick};
 
-use super::rows::{Row, is_answered};
+use super::rows::is_answered;
 use prim_core::{BoxedOperation, Meaning, Primitive};
 use std::alloc::{AllocError, Global};
 use std::test::Fail;
@@ -48,7 +48,8 @@ fn constant(alloc: Global, text: &[u8]) -> Result<Term, Fail>
 fn is_answered_by_pick<M: Meaning>(
     alloc: Global,
     pick: M::Operation,
-    rows: &[Row<'_>],
+    script: &str,
+    answers: &str,
 ) -> Result<bool, AllocError>
     requires { Computes M.Operation.may_run M.Operation.answers pick 1
         (M.meaning (codes "pick")) }
@@ -56,7 +57,7 @@ fn is_answered_by_pick<M: Meaning>(
     let name = Vec::from_slice(alloc, b"pick")?;
     let mut primitives = Vec::new(alloc);
     primitives.push(Primitive::<M>::new(name, 1, pick))?;
-    Ok(is_answered(alloc, primitives, &["stratbench"], rows))
+    Ok(is_answered(alloc, primitives, &["stratbench"], script, answers))
 }
 
 #[test]
@@ -74,17 +75,20 @@ fn hosts_have_primitives_of_their_own(rt: HostRuntime) -> Result<(), Fail> {
             requires one { length arguments.now ≡ 1 }
         { pick(&choices, arguments) },
     )?;
-    let rows = [
-        ("tree t 2", "ok"),
-        ("apply t do ?x; prim(\"pick\",x)", "ok"),
-        ("show t", "c"),
-        ("tree t 3", "ok"),
-        ("apply t do ?x; prim(\"pick\",x)", "refused 12 fails"),
-        (
-            "apply t do ?x; prim(\"addi\",x,x)",
-            "refused 11 primitive \"addi\" 2 0",
-        ),
-    ];
-    assert!(rt; is_answered_by_pick::<Picking>(alloc, operation, &rows)?);
+    let script = r#"tree t 2
+apply t do ?x; prim("pick",x)
+show t
+tree t 3
+apply t do ?x; prim("pick",x)
+apply t do ?x; prim("addi",x,x)
+"#;
+    let answers = r#"ok
+ok
+c
+ok
+refused 12 fails
+refused 11 primitive "addi" 2 0
+"#;
+    assert!(rt; is_answered_by_pick::<Picking>(alloc, operation, script, answers)?);
     Ok(())
 }

@@ -1,33 +1,29 @@
-//! Rows on a session with the library and the standard primitives, as the program makes it for a command line.
+//! Scripts and their answers on a session with the library and the program's primitives, as it makes it for a command line.
 
-ghost use Rattle.prim_core.specs.StandardTable.{ComputeStandard};
 ghost use Rattle.session_steps.specs.Steps.{AreSteps};
 
 use crate::library::load_library;
 use command_line::{CommandLine, arguments};
-use prim_core::{
-    BoxedOperation, Meaning, Primitive, Primitives, Standard, StandardOperations, addi, divi, gti,
-    int_to_string, muli, standard_primitives, strcat, string_to_int, strlen, subti,
-};
+use prim_core::{Meaning, Primitive, Primitives};
+use prim_extended::extended_primitives;
 use script_core::{Bytes, Held, Settings, run};
 use session_core::Session;
-use std::alloc::{AllocError, Global};
+use std::alloc::Global;
 use std::test::Fail;
+use term_core::NoMemory;
 
-/// A command and its answer.
-pub type Row<'a> = (&'a str, &'a str);
-
-/// Whether a new session with these primitives gives these answers, if the program is started with
-/// these words.
+/// Whether a new session with these primitives gives these answers to the script, if the program is
+/// started with these words.
 pub fn is_answered<M: Meaning>(
     alloc: Global,
     primitives: Vec<Primitive<M>>,
     words: &[&str],
-    rows: &[Row<'_>],
+    script: &str,
+    answers: &str,
 ) -> bool {
     let mut session = Session::new(alloc, Primitives::new(primitives));
     match arguments(alloc, words) {
-        Ok(line) => are_answers(alloc, &mut session, &line, rows) == Ok(true),
+        Ok(line) => are_answers(alloc, &mut session, &line, script, answers),
         Err(_) => false,
     }
 }
@@ -36,15 +32,15 @@ fn are_answers<M: Meaning>(
     alloc: Global,
     session: &mut Session<M>,
     line: &CommandLine<'_>,
-    rows: &[Row<'_>],
-) -> Result<bool, AllocError>
+    script: &str,
+    answers: &str,
+) -> bool
     requires { AreSteps line.now.steps }
 {
     if line.library && load_library(alloc, session).is_err() {
-        return Ok(false);
+        return false;
     }
-    let (script, answers) = script_of(alloc, rows)?;
-    let mut source = Bytes::new(&script);
+    let mut source = Bytes::new(script.as_bytes());
     let mut sink = Held::new(alloc);
     let settings = Settings {
         steps: line.steps,
@@ -52,89 +48,68 @@ fn are_answers<M: Meaning>(
         framing: line.framing(),
     };
     let ended = run(alloc, session, &mut source, &mut sink, settings);
-    Ok(ended.is_ok() && sink.bytes() == answers.as_slice())
-}
-
-// The commands as a script, and their answers.
-fn script_of(alloc: Global, rows: &[Row<'_>]) -> Result<(Vec<u8>, Vec<u8>), AllocError> {
-    let mut script = Vec::new(alloc);
-    let mut answers = Vec::new(alloc);
-    for (command, answer) in rows {
-        script.extend_from_slice(command.as_bytes())?;
-        script.push(b'\n')?;
-        answers.extend_from_slice(answer.as_bytes())?;
-        answers.push(b'\n')?;
-    }
-    Ok((script, answers))
-}
-
-fn is_answered_by_standard<M: Meaning>(
-    alloc: Global,
-    operations: StandardOperations<M::Operation>,
-    words: &[&str],
-    rows: &[Row<'_>],
-) -> bool
-    requires { ComputeStandard M.Operation.may_run M.Operation.answers M.meaning operations }
-{
-    match standard_primitives::<M>(alloc, operations) {
-        Ok(primitives) => is_answered(alloc, primitives, words, rows),
-        Err(_) => false,
-    }
+    ended.is_ok() && sink.bytes() == answers.as_bytes()
 }
 
 fn is_answered_by_program(
     alloc: Global,
     words: &[&str],
-    rows: &[Row<'_>],
-) -> Result<bool, AllocError> {
-    let operations: StandardOperations<BoxedOperation> = StandardOperations {
-        addi: Box::new(alloc, addi)?,
-        subti: Box::new(alloc, subti)?,
-        muli: Box::new(alloc, muli)?,
-        divi: Box::new(alloc, divi)?,
-        gti: Box::new(alloc, gti)?,
-        strcat: Box::new(alloc, strcat)?,
-        strlen: Box::new(alloc, strlen)?,
-        int_to_string: Box::new(alloc, int_to_string)?,
-        string_to_int: Box::new(alloc, string_to_int)?,
-    };
-    Ok(is_answered_by_standard::<Standard>(alloc, operations, words, rows))
+    script: &str,
+    answers: &str,
+) -> Result<bool, NoMemory> {
+    Ok(is_answered(alloc, extended_primitives(alloc)?, words, script, answers))
 }
 
 // The same, and where the commands are one line each, also if each line is a command.
 fn is_answered_in_both(
     alloc: Global,
     words: &[&str],
-    rows: &[Row<'_>],
-) -> Result<bool, AllocError> {
-    if !is_answered_by_program(alloc, words, rows)? {
+    script: &str,
+    answers: &str,
+) -> Result<bool, NoMemory> {
+    if !is_answered_by_program(alloc, words, script, answers)? {
         return Ok(false);
     }
-    if rows.iter().any(|(command, _)| command.contains('\n')) {
+    if script.contains("\n ") {
         return Ok(true);
     }
     let mut words = Vec::from_slice(alloc, words)?;
     words.push("--lines")?;
-    is_answered_by_program(alloc, &words, rows)
+    is_answered_by_program(alloc, &words, script, answers)
 }
 
 #[test]
 fn steps_are_a_budget(rt: HostRuntime) -> Result<(), Fail> {
-    let words = ["stratbench", "--steps", "1"];
-    let rows = [
-        ("tree t a", "ok"),
-        ("apply t do id; id", "refused 13 spent"),
-        ("apply t within 3 do id; id", "ok"),
-        ("modules", "modules"),
-        ("history", "undo 2 redo 0"),
-    ];
-    assert!(rt; is_answered_in_both(rt.alloc(), &words, &rows)?);
+    let script = "tree t a
+apply t do id; id
+apply t within 3 do id; id
+modules
+history
+";
+    let answers = "ok
+refused 13 spent
+ok
+modules
+undo 2 redo 0
+";
+    assert!(rt; is_answered_in_both(rt.alloc(), &["stratbench", "--steps", "1"], script, answers)?);
     Ok(())
 }
 
 #[test]
 fn the_library_is_the_first_step(rt: HostRuntime) -> Result<(), Fail> {
-    let text = "strategies
+    let script = "history
+text library
+undo
+modules
+tree t a
+apply t do try(fail)
+undo
+redo
+undo
+";
+    let answers = "undo 1 redo 0
+strategies
   try(s) = s <+ id
   repeat(s) = try(s; repeat(s))
   topdown(s) = s; all(topdown(s))
@@ -147,100 +122,118 @@ fn the_library_is_the_first_step(rt: HostRuntime) -> Result<(), Fail> {
   somebu(s) = some(somebu(s)) <+ s
   innermost(s) = bottomup(try(s; innermost(s)))
   outermost(s) = repeat(oncetd(s))
-  map(s) = [] <+ [s | map(s)]";
-    let rows = [
-        ("history", "undo 1 redo 0"),
-        ("text library", text),
-        ("undo", "ok"),
-        ("modules", "modules"),
-        ("tree t a", "ok"),
-        ("apply t do try(fail)", "refused 11 unknown try 1 0"),
-        ("undo", "ok"),
-        ("redo", "ok"),
-        ("undo", "ok"),
-    ];
-    assert!(rt; is_answered_in_both(rt.alloc(), &["stratbench", "--library"], &rows)?);
+  map(s) = [] <+ [s | map(s)]
+ok
+modules
+ok
+refused 11 unknown try 1 0
+ok
+ok
+ok
+";
+    assert!(rt; is_answered_in_both(rt.alloc(), &["stratbench", "--library"], script, answers)?);
     Ok(())
 }
 
-// The constructors that the next rows name, and a rule with a condition.
-const SIGNATURE: Row<'_> = (
-    "module sig signature constructors
-  A : t B : t Z : t S : t -> t G : t -> t
-  F : t * t -> t D : t * t -> t Plus : t * t -> t",
-    "ok",
-);
-
-const ARITHMETIC: Row<'_> = (
-    "module arith rules
-  P : Plus(x,y) -> z where <add> (x,y) => z
- strategies
-  add = ?(x,y); prim(\"addi\",x,y)",
-    "ok",
-);
-
 #[test]
 fn traverses_by_the_library(rt: HostRuntime) -> Result<(), Fail> {
-    let rows = [
-        SIGNATURE,
-        ARITHMETIC,
-        ("tree t A", "ok"),
-        ("apply t do try(?x); !F(x,x)", "ok"),
-        ("show t", "F(A,A)"),
-        ("tree t G(A)", "ok"),
-        ("apply t within 9 do topdown(id)", "refused 13 spent"),
-        ("apply t within 10 do topdown(id)", "ok"),
-        ("tree t Plus(1,Plus(2,3))", "ok"),
-        ("apply t do innermost(P)", "ok"),
-        ("show t", "6"),
-        ("undo", "ok"),
-        ("show t", "Plus(1,Plus(2,3))"),
-        ("redo", "ok"),
-        ("show t", "6"),
-        ("tree t Plus(9223372036854775807,1)", "ok"),
-        ("apply t do innermost(P)", "ok"),
-        ("show t", "Plus(9223372036854775807,1)"),
-        ("tree t Z", "ok"),
-        ("apply t do repeat(\\ x -> S(x) \\)", "refused 14 big"),
-        ("apply t do repeat(\\ x -> D(x,x) \\)", "refused 14 big"),
-        ("show t", "Z"),
-        ("apply t do repeat(?x; !S(x))", "ok"),
-        ("show t", "S(Z)"),
-        ("tree t [A,A]{1}", "ok"),
-        ("apply t do map(!B())", "ok"),
-        ("show t", "[B,B]{1}"),
-    ];
-    assert!(rt; is_answered_in_both(rt.alloc(), &["stratbench", "--library"], &rows)?);
+    let script = r#"module sig signature constructors
+  A : t B : t Z : t S : t -> t G : t -> t
+  F : t * t -> t D : t * t -> t Plus : t * t -> t
+module arith rules
+  P : Plus(x,y) -> z where <add> (x,y) => z
+ strategies
+  add = ?(x,y); prim("addi",x,y)
+tree t A
+apply t do try(?x); !F(x,x)
+show t
+tree t G(A)
+apply t within 9 do topdown(id)
+apply t within 10 do topdown(id)
+tree t Plus(1,Plus(2,3))
+apply t do innermost(P)
+show t
+undo
+show t
+redo
+show t
+tree t Plus(9223372036854775807,1)
+apply t do innermost(P)
+show t
+tree t Z
+apply t do repeat(\ x -> S(x) \)
+apply t do repeat(\ x -> D(x,x) \)
+show t
+apply t do repeat(?x; !S(x))
+show t
+tree t [A,A]{1}
+apply t do map(!B())
+show t
+"#;
+    let answers = "ok
+ok
+ok
+ok
+F(A,A)
+ok
+refused 13 spent
+ok
+ok
+ok
+6
+ok
+Plus(1,Plus(2,3))
+ok
+6
+ok
+ok
+Plus(9223372036854775807,1)
+ok
+refused 14 big
+refused 14 big
+Z
+ok
+S(Z)
+ok
+ok
+[B,B]{1}
+";
+    assert!(rt; is_answered_in_both(rt.alloc(), &["stratbench", "--library"], script, answers)?);
     Ok(())
 }
 
 #[test]
 fn calls_standard_primitives(rt: HostRuntime) -> Result<(), Fail> {
-    let rows = [
-        ("tree t a", "ok"),
-        ("apply t do prim(\"divi\",-7,2)", "ok"),
-        ("show t", "-3"),
-        (
-            "apply t do prim(\"divi\",-9223372036854775808,-1)",
-            "refused 12 fails",
-        ),
-        ("apply t do prim(\"string-to-int\",\"-007\")", "ok"),
-        ("show t", "-7"),
-        (
-            "apply t do prim(\"string-to-int\",\"\")",
-            "refused 12 fails",
-        ),
-        (
-            "apply t do prim(\"string-to-int\",\"+1\")",
-            "refused 12 fails",
-        ),
-        ("apply t do prim(\"strlen\",\"\")", "ok"),
-        ("show t", "0"),
-        ("apply t do prim(\"gti\",2,1)", "ok"),
-        ("show t", "(2,1)"),
-        ("apply t do prim(\"gti\",1,1)", "refused 12 fails"),
-        ("show t", "(2,1)"),
-    ];
-    assert!(rt; is_answered_in_both(rt.alloc(), &["stratbench"], &rows)?);
+    let script = r#"tree t a
+apply t do prim("divi",-7,2)
+show t
+apply t do prim("divi",-9223372036854775808,-1)
+apply t do prim("string-to-int","-007")
+show t
+apply t do prim("string-to-int","")
+apply t do prim("string-to-int","+1")
+apply t do prim("strlen","")
+show t
+apply t do prim("gti",2,1)
+show t
+apply t do prim("gti",1,1)
+show t
+"#;
+    let answers = "ok
+ok
+-3
+refused 12 fails
+ok
+-7
+refused 12 fails
+refused 12 fails
+ok
+0
+ok
+(2,1)
+refused 12 fails
+(2,1)
+";
+    assert!(rt; is_answered_in_both(rt.alloc(), &["stratbench"], script, answers)?);
     Ok(())
 }
