@@ -25,14 +25,14 @@ use Rattle.strategy_syntax.specs.declared.resolved.Resolved.{Resolved}
 use Rattle.strategy_meaning.specs.Answer.{Answer}
 use Rattle.strategy_meaning.specs.Meaning.{World, run_whole}
 use Rattle.strategy_meaning.specs.Applied.{Outcome, fails, placed, applied}
-use Rattle.strategy_frames.specs.Turns.{State, IsDone}
+use Rattle.strategy_machine.specs.Turns.{State, IsDone}
 use Rattle.strategy_run.specs.Applies.{applied_in, Applies, PutsAll, PutsOutermost, Stay}
 use Rattle.strategy_run.specs.inside.Finding.{PutsListed, Makes, FindsAll, Lists}
 use Rattle.strategy_run.specs.declared.application.Outcome.{Outcome as Ending}
 use Rattle.strategy_run.specs.declared.application.Outcome.TheVariants.{Done, Failed, Spent, Big}
 use Rattle.strategy_run.specs.declared.application.Listing.{Listing}
 use Rattle.strategy_run.specs.declared.application.Listing.TheVariants.{Outermost, Each}
-use Rattle.strategy_frames.proofs.PlaceLemmas.{outermost}
+use Rattle.strategy_machine.proofs.PlaceLemmas.{outermost}
 
 -- ---- heights
 

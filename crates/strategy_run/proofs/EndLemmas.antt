@@ -10,16 +10,16 @@ use Rattle.strategy_meaning.specs.Meaning.{World, run, run_whole}
 use Rattle.strategy_scopes.specs.Table.{nowhere, scope_at}
 use Rattle.term_match.specs.Contents.{Contents}
 use Rattle.strategy_run.specs.inside.Runs.{IsEmpty}
-use Rattle.strategy_frames.specs.Turns.{HoldsIn, After}
-use Rattle.strategy_frames.specs.declared.machine.Machine.{Machine}
-use Rattle.strategy_frames.specs.declared.frames.Turned.{Turned}
-use Rattle.strategy_frames.specs.Hands.{Begin}
-use Rattle.strategy_frames.specs.Leading.{Has}
-use Rattle.strategy_frames.specs.Frames.{Meets}
+use Rattle.strategy_machine.specs.Turns.{HoldsIn, After}
+use Rattle.strategy_machine.specs.declared.machine.Machine.{Machine}
+use Rattle.strategy_machine.specs.declared.frames.Turned.{Turned}
+use Rattle.strategy_machine.specs.Hands.{Begin}
+use Rattle.strategy_machine.specs.Leading.{Has}
+use Rattle.strategy_machine.specs.Frames.{Meets}
 use Rattle.term_match.specs.Marks.{mark_of}
-use Rattle.strategy_frames.proofs.LeadLemmas.{leads_nothing}
-use Rattle.strategy_frames.proofs.OpenLemmas.{with_edits-none}
-use Rattle.strategy_frames.proofs.ScopeLemmas.{one_more_there, one_more_is}
+use Rattle.strategy_machine.proofs.LeadLemmas.{leads_nothing}
+use Rattle.strategy_machine.proofs.OpenLemmas.{with_edits-none}
+use Rattle.strategy_machine.proofs.ScopeLemmas.{one_more_there, one_more_is}
 
 pub starts : (W : World) (m : Machine) (D : Contents) (bs es : List Scope) (r : Resolved) (s : Bor ResolvedStrategy) (t : Tree) (n : ℕ) (p : Standing)
     → IsEmpty m → D.bindings ≡ m.cells.bindings ++ replicate r.variables None → n ≡ length bs

@@ -17,9 +17,9 @@ use Rattle.strategy_meaning.specs.Answer.{Answer}
 use Rattle.strategy_meaning.specs.Meaning.{World, run_whole}
 use Rattle.strategy_meaning.specs.Applied.{Outcome, gives, applied}
 use Rattle.strategy_meaning.specs.Outermost.{AreOutermost}
-use Rattle.strategy_frames.specs.Leading.{Has}
-use Rattle.strategy_frames.specs.Turns.{State, IsDone}
-use Rattle.strategy_frames.proofs.PlaceLemmas.{outermost}
+use Rattle.strategy_machine.specs.Leading.{Has}
+use Rattle.strategy_machine.specs.Turns.{State, IsDone}
+use Rattle.strategy_machine.proofs.PlaceLemmas.{outermost}
 use Rattle.strategy_run.specs.Planning.{Gives}
 use Rattle.strategy_run.specs.inside.Planned.{StandsFor}
 use Rattle.strategy_run.specs.inside.Finding.{Makes}

@@ -2,23 +2,16 @@
 
 ghost use Rattle.std.specs.Prelude.{◌≡◌, ◌≤◌, ◌+◌, IfOk};
 ghost use Rattle.term_core.specs.Size.{height};
-ghost use Rattle.strategy_meaning.specs.Answer.{Answer};
-ghost use Rattle.strategy_meaning.specs.Meaning.{World, run_whole};
-ghost use Rattle.term_changes.specs.Standing.{Standing, unchanged};
-ghost use Rattle.strategy_frames.specs.Hands.{in_hand};
-ghost use Rattle.strategy_frames.specs.inside.Turning.{Turn, Falls};
-ghost use Rattle.strategy_frames.specs.Turns.{Holds, world_of};
+ghost use Rattle.strategy_meaning.specs.Meaning.{run_whole};
+ghost use Rattle.term_changes.specs.Standing.{unchanged};
+ghost use Rattle.strategy_machine.specs.Turns.{world_of};
 ghost use Rattle.strategy_run.specs.inside.Runs.{Ends, IsEmpty};
 ghost use Rattle.strategy_run.specs.Ends.{IsAnswered};
 
-use crate::begin::begin;
-use crate::children::{go_on, go_over, try_on};
-use crate::fail::give_failed;
-use crate::give::give_done;
 use prim_core::{Meaning, Primitives};
 use std::alloc::Global;
 use strategy_check::Program;
-use strategy_frames::{Host, Machine, Next, Trail, Turned};
+use strategy_machine::{Host, Machine, Next, Trail, Turned, turn};
 use strategy_syntax::Resolved;
 use term_core::{MAX_HEIGHT, NoMemory, Term};
 use term_values::Part;
@@ -123,28 +116,6 @@ pub(crate) fn run_to_end<'t, M: Meaning>(
             Turned::Failed => return Ok(Ended::Failed),
             Turned::Spent => return Ok(Ended::Spent),
             Turned::Big => return Ok(Ended::Big),
-        }
-    }
-}
-
-#[inline(always)]
-fn turn<'t, M: Meaning>(
-    alloc: Global,
-    host: &Host<'t, M>,
-    m: &mut Machine<'t>,
-) -> Result<Turned, NoMemory>
-    requires { (W : World) × (sub : Standing) × (whole : Answer) × Holds W sub whole m.old (in_hand m.old) }
-    ensures ok { IfOk result (λ next. Turn (world_of M.meaning host.now.definitions.now host.now.primitives.now) m.old (in_hand m.old) m.new next) }
-    ensures less { IfOk result (λ next. Falls m.old (in_hand m.old) m.new next) }
-{
-    match m.next {
-        Next::Begin(strategy, scope) => begin(alloc, host, m, strategy, scope),
-        Next::Done => give_done(alloc, m),
-        Next::Failed => give_failed(m),
-        Next::Each(acts, scope, index) => go_on(alloc, m, acts, scope, index),
-        Next::Leftmost(strategy, scope, index) => try_on(alloc, m, strategy, scope, index),
-        Next::Those(strategy, scope, index, any) => {
-            go_over(alloc, m, strategy, scope, index, any)
         }
     }
 }

@@ -1,17 +1,11 @@
-//! One machine that runs strategies on terms.
+//! Strategies run to their end: on a term, and on a subterm of a tree of a store.
 #![tactic(auto)]
 
 mod application;
-mod begin;
-mod children;
 mod evaluation;
-mod fail;
-mod give;
 mod in_place;
 pub mod laws;
-mod lists;
 mod planning;
-mod tails;
 
 pub use application::{Outcome, apply, apply_outermost, is_low_enough};
 pub use evaluation::{Evaluated, evaluate};

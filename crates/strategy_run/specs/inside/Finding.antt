@@ -15,8 +15,8 @@ use Rattle.strategy_run.specs.declared.application.Found.{Found}
 use Rattle.strategy_run.specs.declared.application.Found.TheVariants as founds
 use Rattle.strategy_run.specs.declared.application.Listing.{Listing}
 use Rattle.strategy_run.specs.declared.application.Listing.TheVariants.{Outermost, Each}
-use Rattle.strategy_frames.specs.Trails.{Shows}
-use Rattle.strategy_frames.specs.declared.trail.Trail.{Trail}
+use Rattle.strategy_machine.specs.Trails.{Shows}
+use Rattle.strategy_machine.specs.declared.trail.Trail.{Trail}
 use Rattle.strategy_run.specs.Applies.{PutsAll}
 
 -- The edits that get an entry.

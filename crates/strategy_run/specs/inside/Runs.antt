@@ -3,9 +3,9 @@ use Rattle.std.specs.Prelude.{◌≡◌, ℕ, []}
 use Rattle.term_changes.specs.Standing.{Standing}
 use Rattle.strategy_meaning.specs.Answer.{Answer, failed, stopped, spent, big}
 use Rattle.strategy_scopes.specs.Table.{scopes}
-use Rattle.strategy_frames.specs.Trails.{Shows}
-use Rattle.strategy_frames.specs.Turns.{IsDone, state_of}
-use Rattle.strategy_frames.specs.declared.machine.Machine.{Machine}
+use Rattle.strategy_machine.specs.Trails.{Shows}
+use Rattle.strategy_machine.specs.Turns.{IsDone, state_of}
+use Rattle.strategy_machine.specs.declared.machine.Machine.{Machine}
 use Rattle.strategy_run.specs.declared.evaluation.Ended.{Ended}
 use Rattle.strategy_run.specs.declared.evaluation.Ended.TheVariants as ends
 use Rattle.strategy_run.specs.declared.evaluation.Evaluated.TheVariants.{Done, Failed, Spent, Big}

@@ -1,7 +1,7 @@
-use Rattle.strategy_frames.specs.Turns.{world_of}
+use Rattle.strategy_machine.specs.Turns.{world_of}
 use Rattle.strategy_run.specs.Applies.{applied_in}
 use Rattle.strategy_run.proofs.ApplyLemmas.{applies_each}
-use Rattle.strategy_frames.proofs.ResultLemmas.{ok_map}
+use Rattle.strategy_machine.proofs.ResultLemmas.{ok_map}
 use Rattle.strategy_run.proofs.application.apply.Goals as goal
 
 pub returns-clause-applies : goal.returns-clause-applies

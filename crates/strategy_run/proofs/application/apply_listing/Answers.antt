@@ -2,7 +2,7 @@ use Rattle.std.proofs.Common.{◌≡◌, ◌∙◌, Some, refl, sym, ap, subst}
 use Rattle.std.specs.Prelude.{option_copied}
 use Rattle.change_plans.specs.Slots.{content}
 use Rattle.strategy_meaning.specs.Applied.{applied}
-use Rattle.strategy_frames.specs.Turns.{world_of}
+use Rattle.strategy_machine.specs.Turns.{world_of}
 use Rattle.strategy_run.specs.inside.Finding.{Finds, FindsAll}
 use Rattle.strategy_run.specs.Applies.{applied_in}
 use Rattle.strategy_run.specs.declared.application.Found.{Found}

@@ -6,8 +6,8 @@ use Rattle.change_log.specs.declared.store.Store.{Store}
 use Rattle.change_plans.specs.Slots.{content}
 use Rattle.strategy_meaning.specs.Applied.{applied}
 use Rattle.strategy_run.specs.inside.Finding.{Finds}
-use Rattle.strategy_frames.specs.Trails.{Shows}
-use Rattle.strategy_frames.specs.Turns.{world_of}
+use Rattle.strategy_machine.specs.Trails.{Shows}
+use Rattle.strategy_machine.specs.Turns.{world_of}
 use Rattle.strategy_run.proofs.ApplyLemmas.{applied_nowhere, low_part}
 use Rattle.strategy_run.proofs.application.find.Goals as goal
 

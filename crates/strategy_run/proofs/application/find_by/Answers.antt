@@ -1,7 +1,7 @@
 use Rattle.std.proofs.Common.{length, subst}
 use Rattle.term_changes.specs.Standing.{unchanged}
 use Rattle.strategy_meaning.specs.Meaning.{run_whole}
-use Rattle.strategy_frames.specs.Turns.{world_of, state_of}
+use Rattle.strategy_machine.specs.Turns.{world_of, state_of}
 use Rattle.strategy_run.specs.inside.Runs.{Ends}
 use Rattle.strategy_run.specs.inside.Finding.{Lists}
 use Rattle.strategy_run.specs.declared.evaluation.Ended.{Ended}

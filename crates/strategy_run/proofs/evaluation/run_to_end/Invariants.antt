@@ -1,7 +1,7 @@
 use Rattle.term_changes.specs.Standing.{unchanged}
 use Rattle.strategy_meaning.specs.Meaning.{run_whole}
-use Rattle.strategy_frames.specs.Hands.{in_hand}
-use Rattle.strategy_frames.specs.Turns.{Holds, load, world_of}
+use Rattle.strategy_machine.specs.Hands.{in_hand}
+use Rattle.strategy_machine.specs.Turns.{Holds, load, world_of}
 use Rattle.strategy_run.proofs.evaluation.run_to_end.Given as goal
 
 -- the answer of the focus, passed through the frames, is the whole answer

@@ -1,7 +1,7 @@
 use Rattle.std.proofs.Common.{sym, subst}
 use Rattle.term_changes.specs.Standing.{Standing, unchanged}
 use Rattle.strategy_meaning.specs.Meaning.{run_whole}
-use Rattle.strategy_frames.specs.Turns.{IsDone, world_of, state_of}
+use Rattle.strategy_machine.specs.Turns.{IsDone, world_of, state_of}
 use Rattle.strategy_run.specs.inside.Runs.{Ends}
 use Rattle.strategy_run.specs.declared.evaluation.Ended.{Ended}
 use Rattle.strategy_run.proofs.PlanLemmas.{part_gives}

@@ -1,7 +1,0 @@
-use Rattle.strategy_frames.proofs.ArgumentLemmas.{BuiltSoFar}
-use Rattle.strategy_meaning.specs.Scopes.{cells_in}
-use Rattle.strategy_scopes.specs.Table.{scopes, scope_at}
-use Rattle.strategy_frames.proofs.arguments.build_all.Given as goal
-
-abbrev pub invariant-each : goal.invariant-each
-invariant-each l = BuiltSoFar l.initial.cells l.cells l.patterns (cells_in (scope_at (scopes l.scopes) l.scope)) l.level l.i l.arguments.items

@@ -1,0 +1,97 @@
+use Rattle.std.proofs.Common.{ℕ, arith, sym, ap, ◌∙◌, ◌-◌, subst}
+use Rattle.std.specs.declared.option.Option.{Option}
+use Rattle.term_changes.specs.Standing.{standing_tree}
+use Rattle.strategy_syntax.specs.Heads.{head_of}
+use Rattle.strategy_syntax.specs.ResolvedView.{resolved_of}
+use Rattle.strategy_syntax.specs.Resolved.{call, param, resolveds_of}
+use Rattle.strategy_meaning.specs.Matching.{elements}
+use Rattle.strategy_meaning.specs.Meaning.{is_over, is_list_from}
+use Rattle.strategy_scopes.specs.Table.{scopes}
+use Rattle.strategy_machine.specs.inside.Missing.{FailsAhead}
+use Rattle.strategy_machine.proofs.CallLemmas.{slice_there}
+use Rattle.strategy_machine.proofs.HeadLemmas.{fails_fail, fails_match, fails_seq, fails_guard, fails_test, fails_over, fails_tail, fails_scope, fails_call, fails_param, ahead_is, not_over_many, not_list_many, no_patterns}
+use Rattle.strategy_machine.proofs.heads.+left_by_failure.Goals as goal
+
+pub returns-in-Fail-clause-fails : goal.returns-in-Fail-clause-fails
+returns-in-Fail-clause-fails t c =
+    let u = standing_tree c.args.part.now in
+    c.inward.invariant.whole (c.inward.left - 1) (ahead_is _ _ _ _ _ _ u _ (c.form.ensures ∙ ap resolved_of c.in-Fail.is)
+    (fails_fail c.args.definitions.now (scopes c.args.scopes.now) c.inward.scope u c.inward.left (c.inward.left - 1) (omega (arith, c.if-left-eq0.false))))
+
+pub returns-in-Match-clause-fails : goal.returns-in-Match-clause-fails
+returns-in-Match-clause-fails t c =
+    let u = standing_tree c.args.part.now in
+    c.inward.invariant.whole (c.inward.left - 1) (ahead_is _ _ _ _ _ _ u _ (c.form.ensures ∙ ap resolved_of c.in-Match.is)
+    (fails_match c.args.definitions.now (scopes c.args.scopes.now) c.inward.scope u c.in-Match.pattern c.inward.left (c.inward.left - 1) (omega (arith, c.if-left-eq0.false)) c.if-not-misses.ensures))
+
+pub returns-in-Congruence-clause-fails : goal.returns-in-Congruence-clause-fails
+returns-in-Congruence-clause-fails t c =
+    let u = standing_tree c.args.part.now in
+    c.inward.invariant.whole (c.inward.left - 1) (ahead_is _ _ _ _ _ _ u _ (c.form.ensures ∙ ap resolved_of c.in-Congruence.is)
+    (fails_over c.args.definitions.now (scopes c.args.scopes.now) c.inward.scope u (head_of c.in-Congruence.head) (resolveds_of c.in-Congruence.strategies.items) c.inward.left (c.inward.left - 1) (omega (arith, c.if-left-eq0.false)) (not_over_many (head_of c.in-Congruence.head) c.in-Congruence.strategies.items u (ap (λ k. is_over (head_of c.in-Congruence.head) k u) (sym (c.len.ensures ∙ c.in-Congruence.strategies.ok.0)) ∙ sym c.is_over.ensures ∙ c.if-is_over.false))))
+
+pub returns-in-TailCongruence-clause-fails : goal.returns-in-TailCongruence-clause-fails
+returns-in-TailCongruence-clause-fails t c =
+    let u = standing_tree c.args.part.now in
+    c.inward.invariant.whole (c.inward.left - 1) (ahead_is _ _ _ _ _ _ u _ (c.form.ensures ∙ ap resolved_of c.in-TailCongruence.is)
+    (fails_tail c.args.definitions.now (scopes c.args.scopes.now) c.inward.scope u (resolveds_of c.in-TailCongruence.strategies.items) _ c.inward.left (c.inward.left - 1) (omega (arith, c.if-left-eq0.false)) (not_list_many c.in-TailCongruence.strategies.items u (ap (λ k. is_list_from k (elements u)) (sym (c.len-in-TailCongruence.ensures ∙ c.in-TailCongruence.strategies.ok.0)) ∙ sym c.is_list_from.ensures ∙ c.if-is_list_from.false))))
+
+pub inward-preserved-in-Seq : goal.inward-preserved-in-Seq
+inward-preserved-in-Seq t c =
+    let u = standing_tree c.args.part.now in
+    record {
+      less = omega (arith, c.inward.invariant.less);
+      most = omega (arith, c.inward.invariant.most);
+      whole = λ d h. c.inward.invariant.whole d (ahead_is _ _ _ _ _ _ u _ (c.form.ensures ∙ ap resolved_of c.in-Seq.is)
+          (fails_seq c.args.definitions.now (scopes c.args.scopes.now) c.inward.scope u _ _ c.inward.left (c.inward.left - 1) d (omega (arith, c.if-left-eq0.false)) (ahead_is _ _ _ _ _ _ u _ (ap (λ x. x.0) (sym c.deref.ensures)) h)));
+    }
+
+pub inward-preserved-in-Guard : goal.inward-preserved-in-Guard
+inward-preserved-in-Guard t c =
+    let u = standing_tree c.args.part.now in
+    record {
+      less = omega (arith, c.inward.invariant.less, c.in_ok-left-in-Guard.ensures.less);
+      most = omega (arith, c.inward.invariant.most);
+      whole = λ d h. c.inward.invariant.whole d (ahead_is _ _ _ _ _ _ u _ (c.form.ensures ∙ ap resolved_of c.in-Guard.is)
+          (fails_guard c.args.definitions.now (scopes c.args.scopes.now) c.inward.scope u _ _ _ c.inward.left (c.inward.left - 1) c.in_ok-left-in-Guard.left d (omega (arith, c.if-left-eq0.false)) (ahead_is _ _ _ _ _ _ u _ (ap (λ x. x.0) (sym c.deref-in-Guard.ensures)) c.in_ok-left-in-Guard.ensures.fails) (ahead_is _ _ _ _ _ _ u _ (ap (λ x. x.2) (sym c.deref-in-Guard-2.ensures)) h)));
+    }
+
+pub inward-preserved-in-Test : goal.inward-preserved-in-Test
+inward-preserved-in-Test t c =
+    let u = standing_tree c.args.part.now in
+    record {
+      less = omega (arith, c.inward.invariant.less);
+      most = omega (arith, c.inward.invariant.most);
+      whole = λ d h. c.inward.invariant.whole d (ahead_is _ _ _ _ _ _ u _ (c.form.ensures ∙ ap resolved_of c.in-Test.is)
+          (fails_test c.args.definitions.now (scopes c.args.scopes.now) c.inward.scope u _ c.inward.left (c.inward.left - 1) d (omega (arith, c.if-left-eq0.false)) (ahead_is _ _ _ _ _ _ u _ (sym c.deref-strategy.ensures) h)));
+    }
+
+pub inward-preserved-in-Scope : goal.inward-preserved-in-Scope
+inward-preserved-in-Scope t c =
+    let u = standing_tree c.args.part.now in
+    record {
+      less = omega (arith, c.inward.invariant.less);
+      most = omega (arith, c.inward.invariant.most);
+      whole = λ d h. c.inward.invariant.whole d (ahead_is _ _ _ _ _ _ u _ (c.form.ensures ∙ ap resolved_of c.in-Scope.is)
+          (fails_scope c.args.definitions.now (scopes c.args.scopes.now) c.inward.scope u _ _ c.inward.left (c.inward.left - 1) d (omega (arith, c.if-left-eq0.false)) (ahead_is _ _ _ _ _ _ u _ (sym c.deref-strategy-in-Scope.ensures) h)));
+    }
+
+pub inward-preserved-in-Param : goal.inward-preserved-in-Param
+inward-preserved-in-Param t c =
+    let u = standing_tree c.args.part.now in
+    record {
+      less = omega (arith, c.inward.invariant.less);
+      most = omega (arith, c.inward.invariant.most);
+      whole = λ d h. c.inward.invariant.whole d (ahead_is _ _ _ _ _ _ u _ (c.form.ensures ∙ ap resolved_of c.in-Param.is)
+          (subst (λ (n : Option ℕ). FailsAhead c.args.definitions.now (scopes c.args.scopes.now) n (param c.in-Param.name) c.inward.left u d) (sym c.in-Some.is) (fails_param c.args.definitions.now (scopes c.args.scopes.now) c.in-Some.inside c.in-Param.name u c.in-Some-named.known c.inward.left (c.inward.left - 1) d (omega (arith, c.if-left-eq0.false)) c.in-Some-named.ensures.1 h)));
+    }
+
+pub inward-preserved : goal.inward-preserved
+inward-preserved t c =
+    let u = standing_tree c.args.part.now in
+    record {
+      less = omega (arith, c.inward.invariant.less);
+      most = omega (arith, c.inward.invariant.most);
+      whole = λ d h. c.inward.invariant.whole d (ahead_is _ _ _ _ _ _ u _ (c.form.ensures ∙ ap resolved_of c.in-Call.is ∙ ap (call c.in-Call.definition (resolveds_of c.in-Call.field-1.items)) (no_patterns c.in-Call.patterns.items (omega (arith, c.len-in-Call.ensures, c.in-Call.patterns.ok.0, c.if-len-ne0.false))))
+          (fails_call c.args.definitions.now (scopes c.args.scopes.now) c.inward.scope u c.in-Call.definition (resolveds_of c.in-Call.field-1.items) c.in-Some-get.body.now c.inward.left (c.inward.left - 1) d (omega (arith, c.if-left-eq0.false)) (slice_there c.args.definitions.now c.in-Call.definition c.in-Some-get.body.now c.in-Some-get.ensures.lookup.3.0 (c.in-Some-get.ensures.lookup.3.1 c.in-Some-get.body.now)) h));
+    }

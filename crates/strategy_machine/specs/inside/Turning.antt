@@ -1,0 +1,82 @@
+-- What giving an answer to a frame keeps, and that less is left to do after it.
+use Rattle.std.specs.Prelude.{◌≡◌, ◌<◌, ℕ, ◌+◌, ◌*◌, ◌==◌, not, cond, List, [], ◌∷◌, reverse, slice_set, vec_len, Vec}
+use Rattle.std.specs.Borrow.{Bor}
+use Rattle.std.specs.Global.{Global}
+use Rattle.term_changes.specs.Standing.{Standing}
+use Rattle.strategy_syntax.specs.Resolved.{ResolvedStrategy}
+use Rattle.strategy_meaning.specs.Answer.{Answer}
+use Rattle.strategy_meaning.specs.Meaning.{World}
+use Rattle.strategy_scopes.specs.Table.{scopes}
+use Rattle.strategy_machine.specs.Leading.{parts_now, all_parts}
+use Rattle.strategy_machine.specs.Frames.{walk_parts}
+use Rattle.strategy_machine.specs.declared.frames.Walk.{Walk}
+use Rattle.strategy_machine.specs.declared.frames.Frame.{Frame}
+use Rattle.strategy_machine.specs.declared.frames.Frame.TheVariants.{Tail}
+use Rattle.strategy_machine.specs.Hands.{Hand, in_hand}
+use Rattle.strategy_machine.specs.declared.frames.Turned.{Turned}
+use Rattle.strategy_machine.specs.declared.frames.Turned.TheVariants as turns
+use Rattle.strategy_machine.specs.declared.frames.Next.{Next}
+use Rattle.strategy_machine.specs.declared.machine.Machine.{Machine}
+use Rattle.strategy_machine.specs.Turns.{State, HoldsIn, After, load}
+
+-- the same machine, with this to do next
+abbrev pub with_next : Machine → Next → Machine
+with_next m n = record {
+  next = n;
+  part = m.part;
+  parts = m.parts;
+  frames = m.frames;
+  cells = m.cells;
+  scopes = m.scopes;
+  trail = m.trail;
+  arguments = m.arguments;
+  level = m.level;
+  steps = m.steps;
+}
+
+abbrev pub under : Frame → Machine → State
+under f m = record {
+  cells = m.cells;
+  scopes = scopes m.scopes;
+  trail = m.trail;
+  level = m.level;
+  frames = f ∷ reverse m.frames.items;
+  steps = m.steps;
+}
+
+-- Continuing from there preserves the whole answer.
+pub record Gives (W : World) (f : Frame) (m : Machine) (hand : Hand) (new : Machine) (next : Turned) : Type 0 where
+  pub keeps : (sub : Standing) (whole : Answer) → HoldsIn W sub whole (under f m) hand → After W sub whole new next
+
+-- There is such a run.
+abbrev pub IsOfRun : Frame → Machine → Hand → Type 0
+IsOfRun f m hand = (W : World) × (sub : Standing) × (whole : Answer) × HoldsIn W sub whole (under f m) hand
+
+abbrev pub GiveFalls : Machine → Machine → Turned → Type 0
+GiveFalls m new turns.On = load new (in_hand new) < 7 * m.steps + 2 * vec_len m.frames + 4
+GiveFalls m new turns.Done = Unit {0}
+GiveFalls m new turns.Failed = Unit {0}
+GiveFalls m new turns.Spent = Unit {0}
+GiveFalls m new turns.Big = Unit {0}
+
+-- the innermost frame waits for the first elements of a list
+abbrev pub Waits : List Frame → Bor ResolvedStrategy → ℕ → ℕ → Type 0
+Waits [] s n k = ⊥
+Waits (Tail t m j ∷ fs) s n k = (t ≡ s) × (m ≡ n) × (j ≡ k)
+Waits (f ∷ fs) s n k = ⊥
+
+-- less is left to do than before the next child's turn
+abbrev pub EndFalls : Machine → Machine → Turned → Type 0
+EndFalls m new turns.On = load new (in_hand new) < 7 * m.steps + 2 * vec_len m.frames + 3
+EndFalls m new turns.Done = Unit {0}
+EndFalls m new turns.Failed = Unit {0}
+EndFalls m new turns.Spent = Unit {0}
+EndFalls m new turns.Big = Unit {0}
+
+-- The walk moves up from its child, which is now p; if there was no edit since the child's turn
+-- came, nothing has changed.
+pub record ComesUp (m : Machine) (w : Walk) (p : Standing) (new : Machine) (up : Standing × Vec Standing Global) : Type 0 where
+  pub node : up.0 ≡ w.node
+  pub parts : all_parts w.node up.1.items ≡ cond (not (m.trail.count == w.edits)) (slice_set (parts_now w.node (walk_parts w)) w.index p) (walk_parts w)
+  pub level : new.level ≡ w.level
+  pub rest : (new.frames ≡ m.frames) × (new.cells ≡ m.cells) × (new.scopes ≡ m.scopes) × (new.trail ≡ m.trail) × (new.steps ≡ m.steps)

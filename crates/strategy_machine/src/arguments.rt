@@ -1,0 +1,83 @@
+//! Term arguments of calls and primitives.
+
+ghost use Rattle.std.specs.Prelude.{◌≡◌, ◌++◌, ℕ, List, map, Some, IfOk, OnOk};
+ghost use Rattle.term_core.specs.Tree.{Tree};
+ghost use Rattle.strategy_syntax.specs.Resolved.{places_of};
+ghost use Rattle.strategy_meaning.specs.Scopes.{cells_in};
+ghost use Rattle.strategy_meaning.specs.Answer.{Answer, failed, stopped, big};
+ghost use Rattle.strategy_meaning.specs.Meaning.{built_all};
+ghost use Rattle.strategy_scopes.specs.Table.{scopes as scopes_of, scope_at};
+ghost use Rattle.term_match.specs.Marks.{mark_of, Before, Stays};
+ghost use Rattle.strategy_machine.specs.inside.Arguments.{AreBuilt};
+
+use crate::machine::InTable;
+use std::alloc::Global;
+use strategy_scopes::Scopes;
+use strategy_syntax::Place;
+use term_core::{NoMemory, Term};
+use term_match::{Built, Cells};
+use term_values::Value;
+
+/// The result of building several patterns.
+#[derive(Clone, Copy, Drop)]
+pub(crate) enum BuiltAll {
+    /// All instances are built.
+    All,
+    /// One pattern has no instance.
+    Nothing,
+    /// One instance doesn't fit.
+    Big,
+}
+
+/// Builds the instances of the patterns in order.
+#[inline(always)]
+pub(crate) fn build_all<'t>(
+    alloc: Global,
+    cells: &mut Cells<'t>,
+    scopes: &Scopes<'t>,
+    scope: usize,
+    level: u64,
+    patterns: &'t [Place],
+    arguments: &mut Vec<Value<'t>>,
+) -> Result<BuiltAll, NoMemory>
+    ensures cells { cells.new ≡ cells.old }
+    ensures ok { IfOk result (λ all. AreBuilt (places_of patterns.now) (cells_in (scope_at (scopes_of scopes.now) scope))
+        cells.old.bindings level arguments.new.items all) }
+{
+    arguments.clear();
+    'each: for i in 0..patterns.len() {
+        let places = InTable { scopes, scope };
+        match cells.build(alloc, &places, &patterns[i], level)? {
+            Built::Value(value) => arguments.push(value)?,
+            Built::Nothing => return Ok(BuiltAll::Nothing),
+            Built::Big => return Ok(BuiltAll::Big),
+        }
+    }
+    Ok(BuiltAll::All)
+}
+
+/// Opens cells for the arguments.
+pub(crate) fn open_arguments<'t>(
+    cells: &mut Cells<'t>,
+    arguments: &[Value<'t>],
+) -> Result<(), NoMemory>
+    ensures cells { OnOk result (cells.new.bindings ≡ cells.old.bindings ++ map (λ u. Some u) arguments.now) }
+    ensures later { Before (mark_of cells.old) (mark_of cells.new) }
+    ensures stays { Stays (mark_of cells.old) cells.old cells.new }
+{
+    'each: for i in 0..arguments.len() {
+        cells.open_with(arguments[i].try_clone()?)?;
+    }
+    Ok(())
+}
+
+/// The arguments as owned terms.
+pub(crate) fn owned_terms(alloc: Global, arguments: &[Value<'_>]) -> Result<Vec<Term>, NoMemory>
+    ensures { IfOk result (λ all. all.items ≡ arguments.now) }
+{
+    let mut all = Vec::with_capacity(alloc, arguments.len())?;
+    for argument in arguments {
+        all.push(argument.to_term(alloc)?)?;
+    }
+    Ok(all)
+}

@@ -1,0 +1,91 @@
+//! How a strategy starts.
+
+ghost use Rattle.std.specs.Prelude.{◌≡◌, ◌<◌, length, IfOk};
+ghost use Rattle.strategy_scopes.specs.Table.{scopes as scopes_of};
+ghost use Rattle.strategy_machine.specs.Hands.{Begin};
+ghost use Rattle.strategy_machine.specs.Leading.{Has};
+ghost use Rattle.strategy_machine.specs.Turns.{Turn, Falls, world_of};
+ghost use Rattle.strategy_machine.specs.inside.Taking.{Takes, TakeFalls};
+
+use crate::calls::{take_call, take_param, take_prim, take_rec, take_scope};
+use crate::children::{go_on, go_over, try_on};
+use crate::congruence::{take_child, take_congruence, take_tail};
+use crate::forms::{take_build, take_guard, take_match, take_seq, take_test};
+use crate::frames::{Acts, Turned};
+use crate::machine::{Host, Machine};
+use prim_core::Meaning;
+use std::alloc::Global;
+use strategy_syntax::{ResolvedForm as Form, ResolvedStrategy};
+use term_core::NoMemory;
+
+/// Starts a strategy, which costs a step.
+#[inline(always)]
+pub(crate) fn begin<'t, M: Meaning>(
+    alloc: Global,
+    host: &Host<'t, M>,
+    m: &mut Machine<'t>,
+    strategy: &'t ResolvedStrategy,
+    scope: usize,
+) -> Result<Turned, NoMemory>
+    requires there { scope < length (scopes_of m.old.scopes) }
+    requires has { Has m.old.part }
+    ensures ok { IfOk result (λ next. Turn (world_of M.meaning host.now.definitions.now host.now.primitives.now)
+        m.old (Begin strategy.entry scope m.old.part) m.new next) }
+    ensures less { IfOk result (λ next. Falls m.old (Begin strategy.entry scope m.old.part) m.new next) }
+{
+    if m.steps == 0 {
+        return Ok(Turned::Spent);
+    }
+    m.steps -= 1;
+    take(alloc, host, m, strategy, scope)
+}
+
+// Continues with a strategy by its form.
+#[inline(always)]
+fn take<'t, M: Meaning>(
+    alloc: Global,
+    host: &Host<'t, M>,
+    m: &mut Machine<'t>,
+    strategy: &'t ResolvedStrategy,
+    scope: usize,
+) -> Result<Turned, NoMemory>
+    requires there { scope < length (scopes_of m.old.scopes) }
+    requires has { Has m.old.part }
+    ensures ok { IfOk result (λ next. Takes (world_of M.meaning host.now.definitions.now host.now.primitives.now)
+        m.old strategy.entry.now scope m.old.part m.new next) }
+    ensures less { IfOk result (λ next. TakeFalls m.old m.new next) }
+{
+    match strategy.form() {
+        Form::Id => Ok(m.gives()),
+        Form::Fail => Ok(m.fails()),
+        Form::Match(pattern) => take_match(alloc, m, pattern, scope),
+        Form::Build(pattern) => take_build(alloc, m, pattern, scope),
+        Form::Seq(parts) => take_seq(alloc, m, &parts.0, &parts.1, scope),
+        Form::Guard(parts) => take_guard(host, m, &parts.0, &parts.1, &parts.2, scope),
+        Form::Test(inner) => take_test(m, inner, scope),
+        Form::Scope(count, inner) => take_scope(alloc, m, *count, inner, scope),
+        Form::Param(name) => Ok(take_param(m, *name, scope)),
+        Form::Call(definition, strategies, patterns) => {
+            take_call(alloc, host, m, *definition, strategies, patterns, scope)
+        }
+        Form::Congruence(head, strategies) => take_congruence(alloc, m, head, strategies, scope),
+        Form::TailCongruence(strategies, tail) => take_tail(alloc, m, strategies, tail, scope),
+        Form::All(inner) => {
+            if m.part.child_count() == 0 {
+                return Ok(m.gives());
+            }
+            m.parts.clear();
+            go_on(alloc, m, Acts::Same(inner), scope, 0)
+        }
+        Form::One(inner) => try_on(alloc, m, inner, scope, 0),
+        Form::Some(inner) => {
+            m.parts.clear();
+            go_over(alloc, m, inner, scope, 0, false)
+        }
+        Form::Child(number, inner) => take_child(alloc, m, *number, inner, scope),
+        Form::Rec(body) => take_rec(m, strategy, body, scope),
+        Form::Prim(primitive, patterns) => {
+            take_prim(alloc, host, m, *primitive, patterns, scope)
+        }
+    }
+}

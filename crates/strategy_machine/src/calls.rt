@@ -1,0 +1,220 @@
+//! Calls of definitions and primitives, and the other forms that open scopes.
+
+ghost use Rattle.std.specs.Prelude.{◌≡◌, ◌<◌, ◌++◌, map, replicate, length, Some, None, IfOk};
+ghost use Rattle.strategy_syntax.specs.Resolved.{scope as scope_form, rec, param, call, prim, resolveds_of, places_of};
+ghost use Rattle.strategy_scopes.specs.Table.{scopes as scopes_of};
+ghost use Rattle.strategy_meaning.specs.Meaning.{World, primitive_answer};
+ghost use Rattle.strategy_machine.specs.Turns.{world_of};
+ghost use Rattle.strategy_machine.specs.inside.Taking.{Takes, TakeFalls};
+ghost use Rattle.strategy_machine.specs.inside.Endings.{Enters};
+
+use crate::arguments::{BuiltAll, build_all, open_arguments, owned_terms};
+use crate::endings::{end_cells, end_scopes};
+use crate::forms::replace;
+use crate::frames::Turned;
+use crate::machine::{Host, Machine};
+use crate::rules::take_rule;
+use crate::tries::{take_try, tried};
+use prim_core::Meaning;
+use std::alloc::Global;
+use strategy_scopes::Known;
+use strategy_syntax::{Place, Resolved, ResolvedForm as Form, ResolvedStrategy};
+use term_core::{NoMemory, Term};
+use term_values::Value;
+
+/// A strategy with `count` new variables. A rule is done at once.
+pub(crate) fn take_scope<'t>(
+    alloc: Global,
+    m: &mut Machine<'t>,
+    count: usize,
+    strategy: &'t ResolvedStrategy,
+    scope: usize,
+) -> Result<Turned, NoMemory>
+    requires { scope < length (scopes_of m.old.scopes) }
+    ensures ok { (W : World) → IfOk result (λ next. Takes W m.old (scope_form count strategy.entry.now) scope m.old.part m.new next) }
+    ensures less { IfOk result (λ next. TakeFalls m.old m.new next) }
+{
+    if let Form::Seq(parts) = strategy.form() {
+        if let Form::Match(left) = parts.0.form() {
+            if let Form::Build(right) = parts.1.form() {
+                return take_rule(alloc, m, count, left, right, scope);
+            }
+        }
+    }
+    let first = m.cells.count();
+    if first.checked_add(count).is_none() {
+        return Err(NoMemory);
+    }
+    end_cells(m, scope)?;
+    m.cells.open_cells(count)?;
+    let inner = m.scopes.add_variables(Some(scope), first, count)?;
+    Ok(m.begins(strategy, inner))
+}
+
+/// A strategy in which a new name stands for the whole strategy.
+pub(crate) fn take_rec<'t>(
+    m: &mut Machine<'t>,
+    whole: &'t ResolvedStrategy,
+    body: &'t ResolvedStrategy,
+    scope: usize,
+) -> Result<Turned, NoMemory>
+    requires there { scope < length (scopes_of m.old.scopes) }
+    requires whole { whole.now ≡ rec body.now }
+    ensures ok { (W : World) → IfOk result (λ next. Takes W m.old (rec body.entry.now) scope m.old.part m.new next) }
+    ensures less { IfOk result (λ next. TakeFalls m.old m.new next) }
+{
+    end_scopes(m, scope)?;
+    let known = Known {
+        strategy: whole,
+        inside: scope,
+    };
+    let inner = m.scopes.add_name(Some(scope), known)?;
+    Ok(m.begins(body, inner))
+}
+
+/// The strategy that a name stands for.
+pub(crate) fn take_param<'t>(m: &mut Machine<'t>, name: usize, scope: usize) -> Turned
+    requires { scope < length (scopes_of m.old.scopes) }
+    ensures ok { (W : World) → Takes W m.old (param name) scope m.old.part m.new result }
+    ensures less { TakeFalls m.old m.new result }
+{
+    match m.scopes.named(scope, name) {
+        None => m.fails(),
+        Some(known) => m.begins(known.strategy, known.inside),
+    }
+}
+
+/// A call of a definition. A call of the shape of `try(s)` starts its choice at once.
+pub(crate) fn take_call<'t, M: Meaning>(
+    alloc: Global,
+    host: &Host<'t, M>,
+    m: &mut Machine<'t>,
+    definition: usize,
+    strategies: &'t [ResolvedStrategy],
+    patterns: &'t [Place],
+    scope: usize,
+) -> Result<Turned, NoMemory>
+    requires { scope < length (scopes_of m.old.scopes) }
+    ensures ok { IfOk result (λ next. Takes (world_of M.meaning host.now.definitions.now host.now.primitives.now) m.old
+        (call definition (resolveds_of strategies.entry.now) (places_of patterns.entry.now)) scope m.old.part m.new next) }
+    ensures less { IfOk result (λ next. TakeFalls m.old m.new next) }
+{
+    if let Some(tried) = tried(host.definitions, definition, strategies, patterns) {
+        return take_try(host, m, tried, scope);
+    }
+    let built = build_all(
+        alloc,
+        &mut m.cells,
+        &m.scopes,
+        scope,
+        m.level,
+        patterns,
+        &mut m.arguments,
+    )?;
+    match built {
+        BuiltAll::Nothing => Ok(m.fails()),
+        BuiltAll::Big => Ok(Turned::Big),
+        BuiltAll::All => match host.definitions.get(definition) {
+            None => Ok(m.fails()),
+            Some(body) => {
+                let inner = enter(m, strategies, body, scope)?;
+                Ok(m.begins(&body.strategy, inner))
+            }
+        },
+    }
+}
+
+// Opens the cells and the scope of a definition's body, with the arguments built so far. If there
+// are no cells to open, a scope is reused: the empty one if the call passes no strategies, or the
+// current one if the call passes all its names on.
+fn enter<'t>(
+    m: &mut Machine<'t>,
+    strategies: &'t [ResolvedStrategy],
+    body: &Resolved,
+    scope: usize,
+) -> Result<usize, NoMemory>
+    requires { scope < length (scopes_of m.old.scopes) }
+    ensures { IfOk result (λ inner. Enters m.old (resolveds_of strategies.entry.now) body.now scope m.new inner) }
+{
+    let first = m.cells.count();
+    if m.arguments.len() == 0 && body.variables == 0 {
+        if strategies.is_empty() {
+            if let Some(nowhere) = m.scopes.nowhere() {
+                return Ok(nowhere);
+            }
+        }
+        if m.scopes.hands_all_on(scope, strategies) {
+            return Ok(scope);
+        }
+    }
+    let Some(count) = m.arguments.len().checked_add(body.variables) else {
+        return Err(NoMemory);
+    };
+    if first.checked_add(count).is_none() {
+        return Err(NoMemory);
+    }
+    end_cells(m, scope)?;
+    open_arguments(&mut m.cells, &m.arguments)?;
+    m.cells.open_cells(body.variables)?;
+    Ok(m.scopes.add_call(scope, strategies, first, count)?)
+}
+
+/// A call of a primitive.
+pub(crate) fn take_prim<'t, M: Meaning>(
+    alloc: Global,
+    host: &Host<'t, M>,
+    m: &mut Machine<'t>,
+    primitive: usize,
+    patterns: &'t [Place],
+    scope: usize,
+) -> Result<Turned, NoMemory>
+    ensures ok { IfOk result (λ next. Takes (world_of M.meaning host.now.definitions.now host.now.primitives.now) m.old
+        (prim primitive (places_of patterns.entry.now)) scope m.old.part m.new next) }
+    ensures less { IfOk result (λ next. TakeFalls m.old m.new next) }
+{
+    let built = build_all(
+        alloc,
+        &mut m.cells,
+        &m.scopes,
+        scope,
+        m.level,
+        patterns,
+        &mut m.arguments,
+    )?;
+    match built {
+        BuiltAll::Nothing => Ok(m.fails()),
+        BuiltAll::Big => Ok(Turned::Big),
+        BuiltAll::All => {
+            let terms = owned_terms(alloc, &m.arguments)?;
+            let Some(term) = answer_of(alloc, host, primitive, &terms)? else {
+                return Ok(m.fails());
+            };
+            let mut value = Value::from_term(alloc, &term)?;
+            if !value.fits(m.level) {
+                return Ok(Turned::Big);
+            }
+            replace(alloc, m, value)?;
+            Ok(m.gives())
+        }
+    }
+}
+
+// What a primitive answers on these terms; nothing if there is no such primitive, or if it takes
+// another number of terms.
+fn answer_of<M: Meaning>(
+    alloc: Global,
+    host: &Host<'_, M>,
+    primitive: usize,
+    terms: &[Term],
+) -> Result<Option<Term>, NoMemory>
+    ensures { IfOk result (λ found. found
+        ≡ primitive_answer (world_of M.meaning host.now.definitions.now host.now.primitives.now) primitive terms.now) }
+{
+    let Some(arity) = host.primitives.arity(primitive) else {
+        return Ok(None);
+    };
+    if arity != terms.len() {
+        return Ok(None);
+    }
+    host.primitives.call(alloc, primitive, terms)
+}

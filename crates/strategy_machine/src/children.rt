@@ -1,0 +1,316 @@
+//! Strategies on children.
+
+ghost use Rattle.std.specs.Prelude.{◌≡◌, ℕ, suc, ◌-◌, [], ◌∷◌, ◌++◌, cond, MatchOption, IfOk, IfSome, OnOk, slice_get, slice_set};
+ghost use Rattle.term_core.specs.Tree.{children};
+ghost use Rattle.term_changes.specs.Standing.{standing_tree, standing_children};
+ghost use Rattle.strategy_meaning.specs.Meaning.{World};
+ghost use Rattle.strategy_machine.specs.Frames.{acts_list};
+ghost use Rattle.strategy_machine.specs.Leading.{PartsStand, all_parts, node_with, parts_now};
+ghost use Rattle.strategy_machine.specs.inside.Filling.{Fills};
+ghost use Rattle.strategy_machine.specs.Hands.{Each, Leftmost, Those};
+ghost use Rattle.strategy_machine.specs.Turns.{Turn, Falls};
+
+use crate::frames::{Acts, Frame, Turned, Walk, drop_part, wait};
+use crate::lists::end_each;
+use crate::machine::Machine;
+use std::alloc::Global;
+use std::mem;
+use strategy_syntax::ResolvedStrategy;
+use term_core::NoMemory;
+use term_values::Part;
+
+// The strategy for the next child and those for the children after it, if `left` children remain.
+pub(crate) fn next_act<'t>(acts: Acts<'t>, left: usize) -> Option<(&'t ResolvedStrategy, Acts<'t>)>
+    ensures { MatchOption result (acts_list acts.entry left ≡ [])
+        (λ found. acts_list acts.entry left ≡ found.0.now ∷ acts_list found.1 (left - 1)) }
+{
+    match acts {
+        Acts::Same(strategy) => {
+            if left == 0 {
+                return None;
+            }
+            Some((strategy, Acts::Same(strategy)))
+        }
+        Acts::List(strategies) => {
+            if strategies.is_empty() {
+                return None;
+            }
+            Some((&strategies[0], Acts::List(&strategies[1..])))
+        }
+    }
+}
+
+/// The same if a child is known to remain.
+#[inline(always)]
+pub(crate) fn first_act<'t>(acts: Acts<'t>) -> Option<(&'t ResolvedStrategy, Acts<'t>)>
+    ensures { IfSome result (λ found. (k : ℕ) → acts_list acts.entry (suc k) ≡ found.0.now ∷ acts_list found.1 k) }
+{
+    match acts {
+        Acts::Same(strategy) => Some((strategy, Acts::Same(strategy))),
+        Acts::List(strategies) => {
+            if strategies.is_empty() {
+                return None;
+            }
+            Some((&strategies[0], Acts::List(&strategies[1..])))
+        }
+    }
+}
+
+/// The part in the place of child `i`, given those of the first children.
+#[inline(always)]
+pub(crate) fn child_now<'t>(
+    node: &Part<'t>,
+    parts: &[Part<'t>],
+    i: usize,
+) -> Result<Option<Part<'t>>, NoMemory>
+    ensures { IfOk result (λ child. child ≡ slice_get (parts_now node.now (all_parts node.now parts.now)) i) }
+{
+    if i >= parts.len() {
+        return node.child(i);
+    }
+    Ok(Some(parts[i].try_clone()?))
+}
+
+// Appends parts for further children until there are `count`, or one for each child.
+#[inline(always)]
+fn fill<'t>(parts: &mut Vec<Part<'t>>, node: &Part<'t>, count: usize) -> Result<(), NoMemory>
+    ensures { OnOk result (Fills (standing_children node.now) parts.old.items count parts.new.items) }
+{
+    if parts.len() >= count {
+        return Ok(());
+    }
+    fill_missing(parts, node, count)?;
+    Ok(())
+}
+
+// The same, one by one.
+#[inline(never)]
+fn fill_missing<'t>(
+    parts: &mut Vec<Part<'t>>,
+    node: &Part<'t>,
+    count: usize,
+) -> Result<(), NoMemory>
+    ensures { OnOk result (Fills (standing_children node.now) parts.old.items count parts.new.items) }
+{
+    'fill: while parts.len() < count {
+        let Some(child) = node.child(parts.len())? else {
+            return Ok(());
+        };
+        parts.push(child)?;
+    }
+    Ok(())
+}
+
+/// Replaces the node by the node with these parts in the places of its first children.
+#[inline(always)]
+pub(crate) fn finish<'t>(
+    alloc: Global,
+    node: &mut Part<'t>,
+    parts: &mut Vec<Part<'t>>,
+) -> Result<(), NoMemory>
+    requires { PartsStand node.old (all_parts node.old parts.old.items) }
+    ensures { OnOk result (node.new ≡ node_with node.old parts.old.items) }
+{
+    if parts.is_empty() {
+        return Ok(());
+    }
+    let mut all = mem::replace(parts, Vec::new(alloc));
+    fill(&mut all, node, node.child_count())?;
+    let whole = node.with_parts(alloc, all)?;
+    *node = whole;
+    Ok(())
+}
+
+/// If child `i` has changed, puts its part at its index; missing parts of unchanged children before
+/// it are filled in.
+#[inline(always)]
+pub(crate) fn settle<'t>(
+    parts: &mut Vec<Part<'t>>,
+    node: &Part<'t>,
+    i: usize,
+    part: Part<'t>,
+    changed: bool,
+) -> Result<(), NoMemory>
+    ensures { OnOk result (all_parts node.now parts.new.items
+        ≡ cond changed (slice_set (parts_now node.now (all_parts node.now parts.old.items)) i part.entry) (all_parts node.now parts.old.items)) }
+{
+    if !changed {
+        drop_part(part);
+        return Ok(());
+    }
+    if i < parts.len() {
+        parts[i] = part;
+        return Ok(());
+    }
+    match fill(parts, node, i) {
+        Ok(()) => {
+            if parts.len() < i {
+                drop_part(part);
+                return Ok(());
+            }
+            if i >= node.child_count() {
+                drop_part(part);
+                return Ok(());
+            }
+            add(parts, part)?;
+            Ok(())
+        }
+        Err(error) => {
+            drop_part(part);
+            Err(error)
+        }
+    }
+}
+
+// Appends the part.
+#[inline(always)]
+fn add<'t>(parts: &mut Vec<Part<'t>>, part: Part<'t>) -> Result<(), NoMemory>
+    ensures { OnOk result (parts.new.items ≡ parts.old.items ++ part.entry ∷ []) }
+{
+    match parts.reserve(1) {
+        Ok(()) => {
+            parts.push_reserved(part);
+            Ok(())
+        }
+        Err(_) => {
+            drop_part(part);
+            Err(NoMemory)
+        }
+    }
+}
+
+/// Continues with the children from this index on.
+pub(crate) fn go_on<'t>(
+    alloc: Global,
+    m: &mut Machine<'t>,
+    acts: Acts<'t>,
+    scope: usize,
+    index: usize,
+) -> Result<Turned, NoMemory>
+    requires { PartsStand m.old.part (all_parts m.old.part m.old.parts.items) }
+    ensures ok { (W : World) → IfOk result (λ next. Turn W m.old (Each acts.entry scope m.old.part index m.old.parts) m.new next) }
+    ensures less { IfOk result (λ next. Falls m.old (Each acts.entry scope m.old.part index m.old.parts) m.new next) }
+{
+    let count = m.part.child_count();
+    let left = count.saturating_sub(index);
+    let Some((strategy, others)) = next_act(acts, left) else {
+        return end_each(alloc, m);
+    };
+    let Some(child) = child_now(&m.part, &m.parts, index)? else {
+        return Ok(m.fails());
+    };
+    let level = m.level;
+    if level == u64::MAX {
+        drop_part(child);
+        return Err(NoMemory);
+    }
+    let node = mem::replace(&mut m.part, child);
+    let parts = mem::replace(&mut m.parts, Vec::new(alloc));
+    let edits = m.trail.count;
+    wait(
+        &mut m.frames,
+        Frame::Each {
+            acts: others,
+            scope,
+            walk: Walk {
+                node,
+                parts,
+                index,
+                level,
+                edits,
+            },
+        },
+    )?;
+    m.level += 1;
+    Ok(m.begins(strategy, scope))
+}
+
+/// Tries the children from this index on until the strategy succeeds on one.
+pub(crate) fn try_on<'t>(
+    alloc: Global,
+    m: &mut Machine<'t>,
+    strategy: &'t ResolvedStrategy,
+    scope: usize,
+    index: usize,
+) -> Result<Turned, NoMemory>
+    ensures ok { (W : World) → IfOk result (λ next. Turn W m.old (Leftmost strategy.entry scope m.old.part index) m.new next) }
+    ensures less { IfOk result (λ next. Falls m.old (Leftmost strategy.entry scope m.old.part index) m.new next) }
+{
+    let Some(child) = m.part.child(index)? else {
+        return Ok(m.fails());
+    };
+    let level = m.level;
+    if level == u64::MAX {
+        drop_part(child);
+        return Err(NoMemory);
+    }
+    let mark = m.cells.mark();
+    let node = mem::replace(&mut m.part, child);
+    let edits = m.trail.count;
+    wait(
+        &mut m.frames,
+        Frame::Leftmost {
+            strategy,
+            scope,
+            walk: Walk {
+                node,
+                parts: Vec::new(alloc),
+                index,
+                level,
+                edits,
+            },
+            mark,
+        },
+    )?;
+    m.level += 1;
+    Ok(m.begins(strategy, scope))
+}
+
+/// Continues with the children from this index on, whether or not the strategy succeeds on them.
+pub(crate) fn go_over<'t>(
+    alloc: Global,
+    m: &mut Machine<'t>,
+    strategy: &'t ResolvedStrategy,
+    scope: usize,
+    index: usize,
+    any: bool,
+) -> Result<Turned, NoMemory>
+    requires { PartsStand m.old.part (all_parts m.old.part m.old.parts.items) }
+    ensures ok { (W : World) → IfOk result (λ next. Turn W m.old (Those strategy.entry scope m.old.part index any m.old.parts) m.new next) }
+    ensures less { IfOk result (λ next. Falls m.old (Those strategy.entry scope m.old.part index any m.old.parts) m.new next) }
+{
+    let Some(child) = child_now(&m.part, &m.parts, index)? else {
+        if !any {
+            return Ok(m.fails());
+        }
+        finish(alloc, &mut m.part, &mut m.parts)?;
+        return Ok(m.gives());
+    };
+    let level = m.level;
+    if level == u64::MAX {
+        drop_part(child);
+        return Err(NoMemory);
+    }
+    let mark = m.cells.mark();
+    let node = mem::replace(&mut m.part, child);
+    let parts = mem::replace(&mut m.parts, Vec::new(alloc));
+    let edits = m.trail.count;
+    wait(
+        &mut m.frames,
+        Frame::Those {
+            strategy,
+            scope,
+            walk: Walk {
+                node,
+                parts,
+                index,
+                level,
+                edits,
+            },
+            mark,
+            any,
+        },
+    )?;
+    m.level += 1;
+    Ok(m.begins(strategy, scope))
+}

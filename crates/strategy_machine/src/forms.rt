@@ -1,0 +1,241 @@
+//! Matching, building, sequences, choices and tests.
+
+ghost use Rattle.std.specs.Prelude.{◌≡◌, IfOk, OnOk};
+ghost use Rattle.strategy_syntax.specs.Resolved.{matches, builds, param, seq, guard, test};
+ghost use Rattle.strategy_meaning.specs.Meaning.{World};
+ghost use Rattle.strategy_machine.specs.Turns.{world_of};
+ghost use Rattle.strategy_machine.specs.inside.Taking.{Takes, TakeFalls, Replaced};
+
+use crate::frames::{Frame, Turned, drop_value, put, wait};
+use crate::heads::{MOST, left_by_failure};
+use crate::machine::{Host, InTable, Machine};
+use prim_core::Meaning;
+use std::alloc::Global;
+use strategy_syntax::{Place, ResolvedForm as Form, ResolvedStrategy};
+use term_core::NoMemory;
+use term_match::Built;
+use term_values::{Part, Value};
+
+/// A match of a pattern.
+pub(crate) fn take_match<'t>(
+    alloc: Global,
+    m: &mut Machine<'t>,
+    pattern: &'t Place,
+    scope: usize,
+) -> Result<Turned, NoMemory>
+    ensures ok { (W : World) → IfOk result (λ next. Takes W m.old (matches pattern.entry.now) scope m.old.part m.new next) }
+    ensures less { IfOk result (λ next. TakeFalls m.old m.new next) }
+{
+    let value = m.part.value()?;
+    let places = InTable {
+        scopes: &m.scopes,
+        scope,
+    };
+    let matched = m.cells.matches(alloc, &places, pattern, &value);
+    drop_value(value);
+    if matched? {
+        Ok(m.gives())
+    } else {
+        Ok(m.fails())
+    }
+}
+
+/// A build of a pattern.
+#[inline(always)]
+pub(crate) fn take_build<'t>(
+    alloc: Global,
+    m: &mut Machine<'t>,
+    pattern: &'t Place,
+    scope: usize,
+) -> Result<Turned, NoMemory>
+    ensures ok { (W : World) → IfOk result (λ next. Takes W m.old (builds pattern.entry.now) scope m.old.part m.new next) }
+    ensures less { IfOk result (λ next. TakeFalls m.old m.new next) }
+{
+    let places = InTable {
+        scopes: &m.scopes,
+        scope,
+    };
+    match m.cells.build(alloc, &places, pattern, m.level)? {
+        Built::Nothing => Ok(m.fails()),
+        Built::Big => Ok(Turned::Big),
+        Built::Value(value) => {
+            replace(alloc, m, value)?;
+            Ok(m.gives())
+        }
+    }
+}
+
+/// Replaces the focus by a value, which is an edit.
+#[inline(always)]
+pub(crate) fn replace<'t>(
+    alloc: Global,
+    m: &mut Machine<'t>,
+    value: Value<'t>,
+) -> Result<(), NoMemory>
+    ensures { OnOk result (Replaced m.old value.entry m.new m.new.part) }
+{
+    match m.trail.push(alloc, &m.frames, &value) {
+        Ok(()) => {
+            put(&mut m.part, Part::new(value));
+            Ok(())
+        }
+        Err(error) => {
+            drop_value(value);
+            Err(error)
+        }
+    }
+}
+
+/// A sequence. If its first strategy is a match, or a name of `id`, that is done at once.
+#[inline(always)]
+pub(crate) fn take_seq<'t>(
+    alloc: Global,
+    m: &mut Machine<'t>,
+    first: &'t ResolvedStrategy,
+    second: &'t ResolvedStrategy,
+    scope: usize,
+) -> Result<Turned, NoMemory>
+    ensures ok { (W : World) → IfOk result (λ next. Takes W m.old (seq first.entry.now second.entry.now) scope m.old.part m.new next) }
+    ensures less { IfOk result (λ next. TakeFalls m.old m.new next) }
+{
+    match first.form() {
+        Form::Match(pattern) => match_first(alloc, m, pattern, second, scope),
+        Form::Param(name) => named_first(m, *name, second, scope),
+        _ => {
+            wait(
+                &mut m.frames,
+                Frame::Then {
+                    strategy: second,
+                    scope,
+                },
+            )?;
+            Ok(m.begins(first, scope))
+        }
+    }
+}
+
+// A name, which costs a step of its own, followed by a strategy. If it stands for `id`, that is
+// done at once.
+#[inline(always)]
+fn named_first<'t>(
+    m: &mut Machine<'t>,
+    name: usize,
+    second: &'t ResolvedStrategy,
+    scope: usize,
+) -> Result<Turned, NoMemory>
+    ensures ok { (W : World) → IfOk result (λ next. Takes W m.old (seq (param name) second.entry.now) scope m.old.part m.new next) }
+    ensures less { IfOk result (λ next. TakeFalls m.old m.new next) }
+{
+    if m.steps == 0 {
+        return Ok(Turned::Spent);
+    }
+    m.steps -= 1;
+    let Some(known) = m.scopes.named(scope, name) else {
+        return Ok(m.fails());
+    };
+    if let Form::Id = known.strategy.form() {
+        if m.steps == 0 {
+            return Ok(Turned::Spent);
+        }
+        m.steps -= 1;
+        return Ok(m.begins(second, scope));
+    }
+    wait(
+        &mut m.frames,
+        Frame::Then {
+            strategy: second,
+            scope,
+        },
+    )?;
+    Ok(m.begins(known.strategy, known.inside))
+}
+
+// A match, which costs a step of its own, followed by a strategy.
+#[inline(never)]
+fn match_first<'t>(
+    alloc: Global,
+    m: &mut Machine<'t>,
+    pattern: &'t Place,
+    second: &'t ResolvedStrategy,
+    scope: usize,
+) -> Result<Turned, NoMemory>
+    ensures ok { (W : World) → IfOk result (λ next. Takes W m.old (seq (matches pattern.entry.now) second.entry.now) scope m.old.part m.new next) }
+    ensures less { IfOk result (λ next. TakeFalls m.old m.new next) }
+{
+    if m.steps == 0 {
+        return Ok(Turned::Spent);
+    }
+    m.steps -= 1;
+    let value = m.part.value()?;
+    let places = InTable {
+        scopes: &m.scopes,
+        scope,
+    };
+    let matched = m.cells.matches(alloc, &places, pattern, &value);
+    drop_value(value);
+    if matched? {
+        Ok(m.begins(second, scope))
+    } else {
+        Ok(m.fails())
+    }
+}
+
+/// A guarded choice. If the root symbol rules out the first branch, its steps are charged and the
+/// machine goes straight to the other, with no frame.
+#[inline(always)]
+pub(crate) fn take_guard<'t, M: Meaning>(
+    host: &Host<'t, M>,
+    m: &mut Machine<'t>,
+    first: &'t ResolvedStrategy,
+    second: &'t ResolvedStrategy,
+    other: &'t ResolvedStrategy,
+    scope: usize,
+) -> Result<Turned, NoMemory>
+    ensures ok { IfOk result (λ next. Takes (world_of M.meaning host.now.definitions.now host.now.primitives.now)
+        m.old (guard first.entry.now second.entry.now other.entry.now) scope m.old.part m.new next) }
+    ensures less { IfOk result (λ next. TakeFalls m.old m.new next) }
+{
+    let ahead = left_by_failure(
+        host.definitions,
+        &m.scopes,
+        first,
+        Some(scope),
+        &m.part,
+        m.steps,
+        MOST,
+    );
+    if let Some(left) = ahead {
+        m.steps = left;
+        return Ok(m.begins(other, scope));
+    }
+    let start = m.part.try_clone()?;
+    let mark = m.cells.mark();
+    let edits = m.trail.count;
+    wait(
+        &mut m.frames,
+        Frame::Choose {
+            then: second,
+            otherwise: other,
+            scope,
+            start,
+            edits,
+            mark,
+        },
+    )?;
+    Ok(m.begins(first, scope))
+}
+
+/// A strategy whose result is dropped.
+pub(crate) fn take_test<'t>(
+    m: &mut Machine<'t>,
+    inner: &'t ResolvedStrategy,
+    scope: usize,
+) -> Result<Turned, NoMemory>
+    ensures ok { (W : World) → IfOk result (λ next. Takes W m.old (test inner.entry.now) scope m.old.part m.new next) }
+    ensures less { IfOk result (λ next. TakeFalls m.old m.new next) }
+{
+    let start = m.part.try_clone()?;
+    let edits = m.trail.count;
+    wait(&mut m.frames, Frame::Restore { start, edits })?;
+    Ok(m.begins(inner, scope))
+}

@@ -1,0 +1,134 @@
+//! Failures that the root of a term shows before any frame is pushed.
+
+ghost use Rattle.std.specs.Prelude.{◌≡◌, ◌<◌, cond, Some, None, IfSome};
+ghost use Rattle.term_core.specs.Tree.{children};
+ghost use Rattle.std.specs.Bool.{OnTrue};
+ghost use Rattle.term_changes.specs.Standing.{standing_tree};
+ghost use Rattle.strategy_scopes.specs.Table.{scopes as scopes_of};
+ghost use Rattle.strategy_syntax.specs.Heads.{head_of};
+ghost use Rattle.strategy_meaning.specs.Matching.{is_integer as is_this_integer, is_headed as has_head, elements};
+ghost use Rattle.strategy_machine.specs.inside.Missing.{Misses, FailsAhead};
+
+use crate::congruence::{is_list_from, is_over};
+use strategy_scopes::Scopes;
+use strategy_syntax::{Head, Place, PlaceForm, Resolved, ResolvedForm as Form, ResolvedStrategy};
+use term_core::Kind;
+use term_values::Part;
+
+/// How many nested or successive forms are examined.
+pub(crate) const MOST: usize = 16;
+
+/// The steps that remain once the strategy has failed on the part, if the root alone shows that it
+/// fails: because of a pattern with another head, for example, below calls, choices and new
+/// variables. Names are looked up in the scope, if one is given.
+pub(crate) fn left_by_failure<'t>(
+    definitions: &'t [Resolved],
+    scopes: &Scopes<'t>,
+    strategy: &'t ResolvedStrategy,
+    scope: Option<usize>,
+    part: &Part<'t>,
+    steps: u64,
+    most: usize,
+) -> Option<u64>
+    ensures less { IfSome result (λ left. left < steps) }
+    ensures fails { IfSome result (λ left. FailsAhead definitions.entry.now (scopes_of scopes.now) scope strategy.entry.now steps (standing_tree part.now) left) }
+{
+    let mut strategy = strategy;
+    let mut scope = scope;
+    let mut left = steps;
+    let mut most = most;
+    'inward: loop {
+        if most == 0 || left == 0 {
+            return None;
+        }
+        most -= 1;
+        left -= 1;
+        match strategy.form() {
+            Form::Fail => return Some(left),
+            Form::Match(pattern) => {
+                if !misses(pattern, part) {
+                    return None;
+                }
+                return Some(left);
+            }
+            Form::Congruence(head, strategies) => {
+                if is_over(head, strategies.len(), part) {
+                    return None;
+                }
+                return Some(left);
+            }
+            Form::TailCongruence(strategies, _) => {
+                if is_list_from(strategies.len(), part) {
+                    return None;
+                }
+                return Some(left);
+            }
+            Form::Seq(parts) => strategy = &parts.0,
+            Form::Guard(parts) => {
+                left = left_by_failure(definitions, scopes, &parts.0, scope, part, left, most)?;
+                strategy = &parts.2;
+            }
+            Form::Test(inner) => strategy = inner,
+            Form::Scope(_, inner) => strategy = inner,
+            Form::Param(name) => {
+                let Some(inside) = scope else {
+                    return None;
+                };
+                let Some(known) = scopes.named(inside, *name) else {
+                    return None;
+                };
+                strategy = known.strategy;
+                scope = Some(known.inside);
+            }
+            Form::Call(definition, _, patterns) => {
+                if patterns.len() != 0 {
+                    return None;
+                }
+                let Some(body) = definitions.get(*definition) else {
+                    return None;
+                };
+                strategy = &body.strategy;
+                scope = None;
+            }
+            _ => return None,
+        }
+    }
+}
+
+// Whether the root's kind shows that the pattern can't match.
+fn misses(pattern: &Place, part: &Part<'_>) -> bool
+    ensures { OnTrue result (Misses pattern.now (standing_tree part.now)) }
+{
+    match pattern.form() {
+        PlaceForm::Integer(number) => !is_integer(*number, part),
+        PlaceForm::Compound(head, _) => !is_headed(head, part),
+        PlaceForm::WithTail(_, _) => !is_list(part),
+        _ => false,
+    }
+}
+
+// Whether the part is this integer, whatever its annotations.
+fn is_integer(number: i64, part: &Part<'_>) -> bool
+    ensures { result ≡ is_this_integer number (standing_tree part.now) }
+{
+    match part.kind() {
+        Kind::Integer(same) => same == number,
+        _ => false,
+    }
+}
+
+// Whether the part has this head.
+fn is_headed(head: &Head, part: &Part<'_>) -> bool
+    ensures { result ≡ has_head (head_of head.now) (standing_tree part.now) }
+{
+    head.is_head_of(part.kind())
+}
+
+pub(crate) fn is_list(part: &Part<'_>) -> bool
+    ensures { elements (standing_tree part.now) ≡ cond result (Some (children (standing_tree part.now))) None }
+{
+    match part.kind() {
+        Kind::List => true,
+        _ => false,
+    }
+}

@@ -1,0 +1,27 @@
+//! The machine that runs strategies: a focus, frames that wait for its answer, and what variables
+//! and names stand for. Each turn starts a form, goes on to a child, or gives an answer to a frame.
+#![tactic(auto)]
+
+mod arguments;
+mod begin;
+mod calls;
+mod children;
+mod congruence;
+mod endings;
+mod fail;
+mod forms;
+mod frames;
+mod give;
+mod heads;
+mod lists;
+mod machine;
+mod rules;
+mod tails;
+mod trail;
+mod tries;
+mod turning;
+
+pub use frames::{Acts, Frame, Next, Turned, Walk};
+pub use machine::{Host, Machine};
+pub use trail::{Made, Trail};
+pub use turning::turn;

@@ -1,0 +1,127 @@
+//! The state of a run.
+
+ghost use Rattle.std.specs.Prelude.{◌≡◌, [], slice_get};
+ghost use Rattle.strategy_meaning.specs.Scopes.{cells_in};
+ghost use Rattle.strategy_scopes.specs.Table.{scopes as scopes_of, scope_at};
+ghost use Rattle.strategy_meaning.specs.Answer.{Answer};
+ghost use Rattle.strategy_meaning.specs.Meaning.{World};
+ghost use Rattle.term_changes.specs.Standing.{Standing};
+ghost use Rattle.strategy_machine.specs.Hands.{Begin, Done, Failed};
+ghost use Rattle.strategy_machine.specs.Turns.{Holds, After};
+ghost use Rattle.strategy_machine.specs.inside.Turning.{with_next};
+
+use crate::frames::{Frame, Next, Turned};
+use crate::trail::Trail;
+use prim_core::{Meaning, Primitives};
+use std::alloc::Global;
+use strategy_scopes::Scopes;
+use strategy_syntax::{Resolved, ResolvedStrategy};
+use term_core::Term;
+use term_match::{Cells, Places};
+use term_values::{Part, Value};
+
+/// What the numbers of definitions and primitives stand for.
+#[derive(Drop)]
+pub struct Host<'t, M: Meaning> {
+    pub definitions: &'t [Resolved],
+    pub primitives: &'t Primitives<M>,
+}
+
+/// The focus and what to do next with it; the frames; what variables and names stand for; the
+/// edits; the level of the focus; and the steps left. All parts of a run reuse the vectors.
+#[derive(Drop)]
+pub struct Machine<'t> {
+    pub next: Next<'t>,
+    pub part: Part<'t>,
+    /// Parts in the places of the first children of the focus, up to the last changed one. They
+    /// count if its children are visited next.
+    pub parts: Vec<Part<'t>>,
+    pub frames: Vec<Frame<'t>>,
+    pub cells: Cells<'t>,
+    pub scopes: Scopes<'t>,
+    pub trail: Trail<'t>,
+    /// The term arguments of the current call.
+    pub arguments: Vec<Value<'t>>,
+    pub level: u64,
+    pub steps: u64,
+}
+
+impl<'t> Machine<'t> {
+    /// A machine whose focus is a term, without frames.
+    pub fn new(
+        alloc: Global,
+        trail: Trail<'t>,
+        term: &'t Term,
+        level: u64,
+        steps: u64,
+    ) -> Machine<'t>
+        ensures frames { result.frames.items ≡ [] }
+        ensures cells { result.cells.bindings ≡ [] }
+        ensures scopes { scopes_of result.scopes ≡ [] }
+        ensures trail { result.trail ≡ trail.entry }
+        ensures level { result.level ≡ level }
+        ensures steps { result.steps ≡ steps }
+    {
+        Machine {
+            next: Next::Done,
+            part: Part::original(term),
+            parts: Vec::new(alloc),
+            frames: Vec::new(alloc),
+            cells: Cells::new(alloc),
+            scopes: Scopes::new(alloc),
+            trail,
+            arguments: Vec::new(alloc),
+            level,
+            steps,
+        }
+    }
+
+    /// The focus goes to the innermost frame next, as a success.
+    #[inline(always)]
+    pub(crate) fn gives(&mut self) -> Turned
+        ensures keeps { (W : World) (sub : Standing) (whole : Answer) → Holds W sub whole self.old (Done self.old.part) → After W sub whole self.new result }
+        ensures on { result ≡ Turned.On }
+        ensures next { self.new ≡ with_next self.old Next.Done }
+    {
+        self.next = Next::Done;
+        Turned::On
+    }
+
+    /// A failure goes to the innermost frame next.
+    #[inline(always)]
+    pub(crate) fn fails(&mut self) -> Turned
+        ensures keeps { (W : World) (sub : Standing) (whole : Answer) → Holds W sub whole self.old Failed → After W sub whole self.new result }
+        ensures on { result ≡ Turned.On }
+        ensures next { self.new ≡ with_next self.old Next.Failed }
+    {
+        self.next = Next::Failed;
+        Turned::On
+    }
+
+    /// This strategy starts next.
+    #[inline(always)]
+    pub(crate) fn begins(&mut self, strategy: &'t ResolvedStrategy, scope: usize) -> Turned
+        ensures keeps { (W : World) (sub : Standing) (whole : Answer)
+            → Holds W sub whole self.old (Begin strategy.entry scope self.old.part) → After W sub whole self.new result }
+        ensures on { result ≡ Turned.On }
+        ensures next { self.new ≡ with_next self.old (Next.Begin strategy.entry scope) }
+    {
+        self.next = Next::Begin(strategy, scope);
+        Turned::On
+    }
+}
+
+/// A scope of the table, with the cells of its variables.
+#[derive(Clone, Copy)]
+pub(crate) struct InTable<'s, 't> {
+    pub scopes: &'s Scopes<'t>,
+    pub scope: usize,
+}
+
+impl<'s, 't> Places for InTable<'s, 't> {
+    ghost places = { λ s. cells_in (scope_at (scopes_of s.scopes.now) s.scope) };
+
+    fn cell(&self, variable: usize) -> Option<usize> {
+        self.scopes.cell(self.scope, variable)
+    }
+}

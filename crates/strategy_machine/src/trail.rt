@@ -1,0 +1,167 @@
+//! The edits of a run: their count and, on request, the edits themselves.
+
+ghost use Rattle.std.specs.Prelude.{◌≡◌, ◌++◌, ◌∷◌, [], length, reverse, IfOk, OnOk};
+ghost use Rattle.term_paths.specs.Edits.{Edits, behind};
+ghost use Rattle.term_changes.specs.Putting.{entry_at, entries_at};
+ghost use Rattle.strategy_machine.specs.Trails.{Shows, path_of};
+ghost use Rattle.strategy_machine.specs.inside.Steps.{step_of};
+
+use crate::frames::Frame;
+use change_plans::{Entry, Plan};
+use std::alloc::Global;
+use std::marker::Model;
+use term_core::NoMemory;
+use term_values::Value;
+
+/// A replaced place, by its path in the term of the run, and its new value.
+#[derive(Drop)]
+pub struct Made<'t> {
+    pub path: Vec<usize>,
+    pub value: Value<'t>,
+}
+
+impl<'t> Model for Made<'t> {
+    ghost use Rattle.term_paths.specs.Edits.{Edit};
+    ghost use Rattle.term_changes.specs.inside.ChangeCode.{edit_code};
+
+    ghost Value = { Edit };
+
+    ghost coded = { edit_code };
+
+    ghost view = { λ a. record { path = a.path.items; new = a.value } };
+}
+
+impl<'t> Made<'t> {
+    // Adds the edit to the plan, with `path` in front of its own, as an owned term.
+    fn add_to(
+        &self,
+        alloc: Global,
+        slot: usize,
+        path: &[usize],
+        plan: &mut Plan,
+    ) -> Result<(), NoMemory>
+        ensures { OnOk result (plan.new ≡ plan.old ++ entry_at slot (record { path = path.now ++ self.now.path; new = self.now.new }) ∷ []) }
+    {
+        let mut whole = Vec::from_slice(alloc, path)?;
+        whole.extend_from_slice(&self.path)?;
+        plan.add(Entry::subterm(slot, &whole, self.value.to_term(alloc)?))
+    }
+}
+
+/// The edits so far, the first one first.
+#[derive(Drop)]
+pub struct Trail<'t> {
+    pub count: usize,
+    pub made: Option<Vec<Made<'t>>>,
+}
+
+impl<'t> Trail<'t> {
+    /// No edits; only their count will be kept.
+    pub fn counted() -> Trail<'t>
+        ensures { Shows result [] }
+    {
+        Trail {
+            count: 0,
+            made: None,
+        }
+    }
+
+    /// No edits; they will be kept.
+    pub fn listed(alloc: Global) -> Trail<'t>
+        ensures { Shows result [] }
+    {
+        Trail {
+            count: 0,
+            made: Some(Vec::new(alloc)),
+        }
+    }
+
+    /// Forgets all edits but the first `count`.
+    pub(crate) fn cut(&mut self, count: usize)
+        ensures { (T D : Edits) → count ≡ length T → Shows self.old (T ++ D) → Shows self.new T }
+    {
+        self.count = count;
+        if let Some(made) = &mut self.made {
+            made.truncate(count);
+        }
+    }
+
+    /// Adds an edit at the place that the frames lead to.
+    #[inline(always)]
+    pub(crate) fn push(
+        &mut self,
+        alloc: Global,
+        frames: &[Frame<'t>],
+        value: &Value<'t>,
+    ) -> Result<(), NoMemory>
+        ensures { OnOk result ((T : Edits) → Shows self.old T
+            → Shows self.new (T ++ record { path = path_of (reverse frames.now); new = value.now } ∷ [])) }
+    {
+        let Some(count) = self.count.checked_add(1) else {
+            return Err(NoMemory);
+        };
+        if let Some(made) = &mut self.made {
+            keep(alloc, made, frames, value)?;
+        }
+        self.count = count;
+        Ok(())
+    }
+
+    /// The edits in the tree of a slot as owned terms, in order, with `path` in front of their own.
+    /// A trail that keeps only the count answers `NoMemory`.
+    pub fn replacements(&self, alloc: Global, slot: usize, path: &[usize]) -> Result<Plan, NoMemory>
+        ensures { IfOk result (λ plan. (T : Edits) → Shows self.now T → plan ≡ entries_at slot (behind path.now T)) }
+    {
+        let Some(made) = &self.made else {
+            return Err(NoMemory);
+        };
+        let mut plan = Plan::new(alloc);
+        for edit in made {
+            edit.add_to(alloc, slot, path, &mut plan)?;
+        }
+        Ok(plan)
+    }
+}
+
+// Adds an edit.
+#[inline(never)]
+fn keep<'t>(
+    alloc: Global,
+    made: &mut Vec<Made<'t>>,
+    frames: &[Frame<'t>],
+    value: &Value<'t>,
+) -> Result<(), NoMemory>
+    ensures { OnOk result (made.new.items ≡ made.old.items ++ record { path = path_of (reverse frames.now); new = value.now } ∷ []) }
+{
+    let path = path_through(alloc, frames)?;
+    made.push(Made {
+        path,
+        value: value.try_clone()?,
+    })?;
+    Ok(())
+}
+
+// The path that the frames lead to, the outermost frame first.
+fn path_through(alloc: Global, frames: &[Frame<'_>]) -> Result<Vec<usize>, NoMemory>
+    ensures { IfOk result (λ path. path.items ≡ path_of (reverse frames.now)) }
+{
+    let mut path = Vec::new(alloc);
+    'outermost: for i in 0..frames.len() {
+        add_step(&mut path, &frames[i])?;
+    }
+    Ok(path)
+}
+
+// The child that the frame visits, if it visits one.
+fn add_step(path: &mut Vec<usize>, frame: &Frame<'_>) -> Result<(), NoMemory>
+    ensures { OnOk result (path.new.items ≡ path.old.items ++ step_of frame.now) }
+{
+    match frame {
+        Frame::Each { walk, .. } => path.push(walk.index)?,
+        Frame::Leftmost { walk, .. } => path.push(walk.index)?,
+        Frame::Those { walk, .. } => path.push(walk.index)?,
+        Frame::Head { walk, .. } => path.push(walk.index)?,
+        _ => (),
+    }
+    Ok(())
+}
