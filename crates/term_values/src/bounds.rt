@@ -110,6 +110,28 @@ impl Bounds {
         }
     }
 
+    /// Bounds of trees that are within these and the others.
+    pub(crate) fn both(self, others: Bounds) -> Bounds
+        ensures { (s h : ℕ) → Covers s h self → Covers s h others → Covers s h result }
+    {
+        Bounds {
+            size: self.size.min(others.size),
+            height: self.height.min(others.height),
+            exact: self.exact || others.exact,
+        }
+    }
+
+    /// The same height, and no bound of the size.
+    pub(crate) fn of_any_size(self) -> Bounds
+        ensures { (s r h : ℕ) → Covers s h self → Covers r h result }
+    {
+        Bounds {
+            size: u32::MAX,
+            height: self.height,
+            exact: false,
+        }
+    }
+
     /// Bounds of one tree whose height is at most `height`.
     pub(crate) fn of_height(height: u64) -> Bounds
         ensures { (s h : ℕ) → h ≤ height → Covers s h result }

@@ -11,6 +11,10 @@ use crate::value::{Form, Value};
 use std::alloc::Global;
 use term_core::{NoMemory, Term};
 
+/// The greatest number of children for each of which the bound of all together is a bound worth
+/// keeping.
+const FEW: usize = 8;
+
 impl<'t> Value<'t> {
     /// Child `i`, counted from 0, or `None` if there is none. It takes no memory.
     pub fn child(&self, i: usize) -> Result<Option<Value<'t>>, NoMemory>
@@ -73,7 +77,12 @@ impl<'t> Value<'t> {
         requires { count ≡ length (children self.now) }
         ensures { AllWithin (children self.now) result }
     {
-        self.bounds.less(count, 1)
+        let below = self.bounds.less(count, 1);
+        if count > FEW {
+            below.of_any_size()
+        } else {
+            below
+        }
     }
 }
 

@@ -21,6 +21,9 @@ pub(crate) const CHUNK: usize = 64;
 /// The number of single elements in a row after which they are gathered into a chunk.
 const RUN: usize = 63;
 
+/// The greatest size of an element that is measured when it is put in front of a list.
+const SMALL: u64 = 32;
+
 impl<'t> Value<'t> {
     /// The list of the children without the first `skipped`, and without annotations.
     pub fn rest(&self, alloc: Global, skipped: usize) -> Result<Value<'t>, NoMemory>
@@ -30,6 +33,9 @@ impl<'t> Value<'t> {
         if skipped == 0 && self.is_list() {
             return self.bare();
         }
+        if skipped == self.child_count() {
+            return Ok(Value::leaf(Kind::List));
+        }
         match &self.form {
             Form::Original(term) => Ok(self.rest_of(*term, skipped)),
             Form::Bare(term) => Ok(self.rest_of(*term, skipped)),
@@ -38,9 +44,11 @@ impl<'t> Value<'t> {
                 let list: &Joined<'t> = joined.as_ref();
                 let count = list.front.as_slice().len();
                 if skipped < count {
-                    joined_rest(alloc, list, skipped)
+                    let rest = joined_rest(alloc, list, skipped)?;
+                    Ok(self.bounded_rest(rest, skipped))
                 } else {
-                    list.behind.rest(alloc, skipped - count)
+                    let rest = list.behind.rest(alloc, skipped - count)?;
+                    Ok(self.bounded_rest(rest, skipped))
                 }
             }
             Form::Noted(noted) => noted.node.rest(alloc, skipped),
@@ -133,6 +141,15 @@ impl<'t> Value<'t> {
             form: Form::Rest(term, skipped),
             bounds: self.bounds.less(skipped, 0),
         }
+    }
+
+    // The rest after the first `skipped` children, which is smaller than the whole by these at least.
+    fn bounded_rest(&self, rest: Value<'t>, skipped: usize) -> Value<'t>
+        requires rest { rest ≡ list_term (drop skipped (children self.now)) }
+        requires within { skipped ≤ length (children self.now) }
+        ensures { result ≡ rest.entry }
+    {
+        rest.within(self.bounds.less(skipped, 0))
     }
 
     // The same if this value is a suffix already.
@@ -258,6 +275,20 @@ fn add_all<'t>(all: &mut Vec<Value<'t>>, values: &[Value<'t>]) -> Result<(), NoM
     Ok(())
 }
 
+// The element, whose size is known afterwards if it is small and that of the list is known: so a
+// list that is made element by element is never walked to measure it.
+#[inline(always)]
+fn measured_before<'t>(element: Value<'t>, list: &Value<'t>) -> Value<'t>
+    ensures { result ≡ element.entry }
+{
+    if element.bounds.exact || !list.bounds.exact {
+        return element;
+    }
+    let mut element = element;
+    let _small = element.measure(SMALL);
+    element
+}
+
 // The list of one element in front of another list.
 fn link<'t>(alloc: Global, first: Value<'t>, list: Value<'t>) -> Result<Value<'t>, NoMemory>
     requires list { list ≡ list_term (children list) }
@@ -265,12 +296,13 @@ fn link<'t>(alloc: Global, first: Value<'t>, list: Value<'t>) -> Result<Value<'t
     ensures { IfOk result (λ value. value ≡ list_term (first.entry ∷ children list.entry)) }
 {
     let run = list.run().saturating_add(1);
-    let bounds = first.bounds.before(list.bounds);
+    let element = measured_before(first, &list);
+    let bounds = element.bounds.before(list.bounds);
     let count = list.child_count() + 1;
     let joined = Rc::new(
         alloc,
         Joined {
-            front: Items::One(Single { items: [first] }),
+            front: Items::One(Single { items: [element] }),
             behind: list,
             count,
             run,

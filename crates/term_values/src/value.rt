@@ -180,6 +180,17 @@ impl<'t> Value<'t> {
         })
     }
 
+    /// The same tree, which is within these bounds, too.
+    pub(crate) fn within(self, bounds: Bounds) -> Value<'t>
+        requires { Bounded self bounds }
+        ensures { result ≡ self.entry }
+    {
+        Value {
+            form: self.form,
+            bounds: self.bounds.both(bounds),
+        }
+    }
+
     /// The root.
     pub fn kind(&self) -> Kind<'_>
         ensures { self.now ≡ made_of result (children self.now) (annotations self.now) }

@@ -11,9 +11,9 @@ use Rattle.term_values.proofs.list.link.Goals as goal
 pub invariant_of-result : goal.invariant_of-result
 invariant_of-result c =
     let b = c.before-bounds.result in
-    let v = c.args.first in
+    let v = c.measured_before-element.result in
     let t = c.args.list in
-    let one = bounded_along _ v c.first.inside.bounds c.first.view_is c.first.invariant.bounded in
+    let one = bounded_along _ v c.element.inside.bounds c.element.view_is c.element.invariant.bounded in
     let mine = bounded_along _ t c.list.inside.bounds c.list.view_is c.list.invariant.bounded in
     let both = c.before-bounds.ensures (size v) (height v) (size t) (height t) one mine in
     let us : List Tree = v ∷ [] in
