@@ -6,6 +6,7 @@ pub mod MergeLemmas
 pub mod RunLemmas
 pub mod ChosenLemmas
 pub mod KeepLemmas
+pub mod OrderLemmas
 pub mod CompactLemmas
 pub mod FlipLemmas
 pub mod NameLemmas
