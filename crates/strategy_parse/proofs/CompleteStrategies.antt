@@ -34,13 +34,13 @@ strategies_of-list (syntax.and_strategy s ss) = ap (syntax.and_strategy s) (stra
 
 -- ---- the machine where a form could continue and doesn't
 
-arrow_in : (s : Strategy) (S : List Frame) (y : List Token) (r : Strategy) → Accepts (behind_arrow s S) y r → Accepts (behind s S) y r
+pub arrow_in : (s : Strategy) (S : List Frame) (y : List Token) (r : Strategy) → Accepts (behind_arrow s S) y r → Accepts (behind s S) y r
 arrow_in s S y r k =
     passes FatArrow (goes ToPattern (ForPattern (Matched s) ∷ S)) (λ t. if (is_mark Semicolon t) then goes ToStrategy (Operand Before s ∷ S) else behind_arrow s S t) y r
     (λ K. arrow-stuck (ASign FatArrow) fat_arrow refl refl S s K)
     (passes Semicolon (goes ToStrategy (Operand Before s ∷ S)) (behind_arrow s S) y r (λ K. arrow-stuck (ASign Semicolon) semicolon refl refl S s K) k)
 
-used_in : (f : Symbol) (S : List Frame) (y : List Token) (r : Strategy) → Accepts (behind (syntax.uses f syntax.no_strategies syntax.no_patterns) S) y r → Accepts (step (Used f) S) y r
+pub used_in : (f : Symbol) (S : List Frame) (y : List Token) (r : Strategy) → Accepts (behind (syntax.uses f syntax.no_strategies syntax.no_patterns) S) y r → Accepts (step (Used f) S) y r
 used_in f S y r k =
     passes OpenRound (goes (FirstStrategy (Arguments f)) S) (behind (syntax.uses f syntax.no_strategies syntax.no_patterns) S) y r
     (λ K. behind-stuck (ASign OpenRound) open_round refl refl refl refl S (syntax.uses f syntax.no_strategies syntax.no_patterns) K) k
@@ -63,7 +63,7 @@ bare (At f ∷ S) s x r k a t = refl
 bare (ForStrategy F ∷ S) s x r k a t = refl
 bare (ForPattern F ∷ S) s x r k a t = refl
 
-choice_in : (s : Strategy) (S : List Frame) (y : List Token) (r : Strategy) → Accepts (behind_choice s S) y r → Accepts (behind_seq s S) y r
+pub choice_in : (s : Strategy) (S : List Frame) (y : List Token) (r : Strategy) → Accepts (behind_choice s S) y r → Accepts (behind_seq s S) y r
 choice_in s S y r k =
     passes LeftChoice (goes ToStrategy (Operand Otherwise syntax.id ∷ (Operand Guarded s ∷ S))) (λ t. if (is_mark Less t) then goes ToStrategy (Operand Guarded s ∷ S) else behind_choice s S t) y r
     (λ K. choice-stuck (ASign LeftChoice) left_choice_sign S s K)
@@ -99,10 +99,10 @@ bar-closing Round = refl
 bar-closing Square = refl
 bar-closing (Arguments f) = refl
 
-closes_first : (g : StrategyGroup) (S : List Frame) (y : List Token) (r : Strategy) → Accepts (behind (grouped g []) S) y r → Accepts (first_strategy g S) (ASign (closing g) ∷ y) r
+pub closes_first : (g : StrategyGroup) (S : List Frame) (y : List Token) (r : Strategy) → Accepts (behind (grouped g []) S) y r → Accepts (first_strategy g S) (ASign (closing g) ∷ y) r
 closes_first g S y r k = rw (mark_self (closing g)) k
 
-closes_more : (g : StrategyGroup) (done : List Strategy) (S : List Frame) (y : List Token) (r : Strategy) → Accepts (behind (grouped g done) S) y r → Accepts (behind_element g done S) (ASign (closing g) ∷ y) r
+pub closes_more : (g : StrategyGroup) (done : List Strategy) (S : List Frame) (y : List Token) (r : Strategy) → Accepts (behind (grouped g done) S) y r → Accepts (behind_element g done S) (ASign (closing g) ∷ y) r
 closes_more g done S y r k = rw (comma-closing g, bar-closing g, mark_self (closing g)) k
 
 -- ---- names

@@ -30,3 +30,8 @@ pub mod ModuleFrames
 pub mod OneModule
 pub mod WordLemmas
 pub mod FaultLemmas
+pub mod StuckLemmas
+pub mod FitLemmas
+pub mod FinishLemmas
+pub mod StuckTexts
+pub mod StuckModules

@@ -4,5 +4,7 @@ pub mod GrammarModules
 pub mod Core
 pub mod Gives
 pub mod Laws
+pub mod Stuck
+pub mod StuckModules
 pub mod Faults
 pub mod inside

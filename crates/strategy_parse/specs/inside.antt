@@ -6,3 +6,4 @@ pub mod Fronts
 pub mod Machine
 pub mod ModuleFronts
 pub mod Sections
+pub mod StuckPlaces

@@ -6,8 +6,10 @@ pub mod laws;
 mod modules;
 mod parser;
 mod strategy;
+mod stuck;
 
 pub use fault::ParseFault;
-pub use modules::parse_module;
+pub use modules::{DefinitionTokens, StuckModule, definition_tokens, parse_module, stuck_module};
 pub use strategy::parse_strategy;
 pub use strategy_tokens::{MAX_TOKENS, token_count};
+pub use stuck::{Stuck, stuck_strategy};

@@ -4,8 +4,10 @@
 mod count;
 mod fault;
 mod keyword;
+pub mod laws;
 mod make;
 mod marks;
+mod place;
 mod read;
 mod scan;
 mod string;
@@ -14,6 +16,7 @@ mod token;
 pub use count::token_count;
 pub use fault::TokensFault;
 pub use marks::{is_mark, is_word};
+pub use place::{TokenPlace, token_place};
 pub use read::read_tokens;
 pub use token::{Keyword, Sign, Token};
 

@@ -5,10 +5,15 @@
 mod declarations;
 mod definitions;
 mod headers;
+mod items;
 mod parse;
+mod passing;
 mod rules;
 mod sections;
 mod sorts;
+mod stuck;
 mod tokens;
 
+pub use items::{DefinitionTokens, definition_tokens};
 pub use parse::parse_module;
+pub use stuck::{StuckModule, stuck_module};

@@ -33,8 +33,8 @@ pub fn parse_module(alloc: Global, text: &[u8]) -> Result<Module, ParseFault>
     Ok(module)
 }
 
-// The tokens after the word `module` and a name, if they begin with these.
-fn behind_title<'a>(tokens: &'a [Token]) -> Result<&'a [Token], SyntaxFault>
+/// The tokens after the word `module` and a name, if they begin with these.
+pub fn behind_title<'a>(tokens: &'a [Token]) -> Result<&'a [Token], SyntaxFault>
     ensures back { IfOk result (λ rest. (m : syntax.Module) → Left Part.Outside rest.now m
         → GivesModule tokens.now m) }
     ensures forth { IfOk result (λ rest. (m : syntax.Module) → GivesModule tokens.now m

@@ -59,9 +59,9 @@ pub fn read_sections(alloc: Global, tokens: &[Token]) -> Result<Module, SyntaxFa
     Ok(Module::new(constructors, definitions))
 }
 
-// Reads a word that begins a part of the module, or else an item of the current part, from the
-// start of the tokens. Returns the part and the rest.
-fn read_next<'a>(
+/// Reads a word that begins a part of the module, or else an item of the current part, from the
+/// start of the tokens. Returns the part and the rest.
+pub fn read_next<'a>(
     alloc: Global,
     part: Part,
     token: &Token,

@@ -29,8 +29,8 @@ pub enum Turn {
     Stuck,
 }
 
-// Reads one token, if `depth` brackets are open.
-fn sort_step(place: Place, depth: usize, token: &Token) -> Turn
+/// Reads one token, if `depth` brackets are open.
+pub fn sort_step(place: Place, depth: usize, token: &Token) -> Turn
     requires { depth < 2 ^ 63 }
     ensures { result ≡ sort_step place depth token.now }
 {

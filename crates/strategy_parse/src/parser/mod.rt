@@ -19,6 +19,7 @@ mod stack;
 mod state;
 mod step;
 mod strategies;
+mod stuck;
 
 pub use closure::add_variables;
 pub use condition::{Condition, read_condition};
@@ -27,3 +28,4 @@ pub use lists::NameList;
 pub use make::{make_rewrite, make_rewrite_where, make_scope};
 pub use names::first_ones;
 pub use run::{read_pattern, read_strategy};
+pub use stuck::{Stop, first_stuck, pass_pattern, pass_strategy};

@@ -5,7 +5,7 @@ ghost use Rattle.std.specs.Prelude.{◌≡◌, true};
 ghost use Rattle.strategy_parse.specs.inside.Counts.{IsCounted};
 
 use crate::parser::counts::{count, lower_form, raise_form};
-use crate::parser::state::{Frame, Infix};
+use crate::parser::state::{Frame, Infix, PatternFrame};
 use std::alloc::Global;
 use std::collections::HashMap;
 use strategy_syntax::Strategy;
@@ -115,6 +115,14 @@ impl Stack {
             Some(Frame::Operand(found, _)) => *found == operator,
             _ => false,
         }
+    }
+
+    /// Whether the outermost form is the pattern of a match.
+    pub fn begins_with_match(&self) -> bool {
+        matches!(
+            self.frames.first(),
+            Some(Frame::Pattern(PatternFrame::Match))
+        )
     }
 
     /// Closes the innermost form if it is a strategy with this operator.

@@ -1,0 +1,2 @@
+pub mod ReadTerms
+pub mod ReadStrings
