@@ -20,7 +20,8 @@ use Rattle.script_commands.specs.Split.{Split}
 use Rattle.script_commands.specs.FedRight.{FedRight, GoesBehind}
 use Rattle.script_forms.specs.Run.{Completes, BreaksOff}
 use Rattle.script_forms.specs.inside.Counting.{one_if}
-use Rattle.script_core.specs.inside.Running.{ByBudget, GoesOnBy, Counts, AnswersReady, AnswersBytes, Underway, HandsBehind, Breaks, Ends, Stops, Calm, TurnRight, RunRight, Streams}
+use Rattle.script_core.specs.Ran.{ByBudget, Calm, RunRight, Streams}
+use Rattle.script_core.specs.inside.Running.{GoesOnBy, Counts, AnswersReady, AnswersBytes, Underway, HandsBehind, Breaks, Ends, Stops, TurnRight}
 use Rattle.script_forms.proofs.RunLemmas.{one_if-total, Completes-none, Completes-append, Completes-stopped, Completes-after, Completes-flushed, BreaksOff-append, BreaksOff-longer, BreaksOff-flush, BreaksOff-after}
 use Rattle.script_commands.proofs.SplitLemmas.{StandsBehind-end, StandsBehind-out}
 

@@ -14,10 +14,11 @@ ghost use Rattle.script_forms.specs.Form.{tree, put, annotate, show, module_text
 ghost use Rattle.script_commands.specs.FedRight.{handed_out};
 ghost use Rattle.script_forms.specs.Machine.{ReadAs, Replies, ReplyToText, line, listed, counted, ok_with, told_of};
 ghost use Rattle.script_forms.specs.inside.Accepting.{Accepts, Refuses, reading_refusal};
-ghost use Rattle.script_forms.specs.Answer.{Answered, ReplyInRun};
+ghost use Rattle.script_forms.specs.Answer.{Answered, ReplyInRun, TellsRefusal};
 ghost use Rattle.script_forms.specs.CommandView.{form as form_seen};
 
 use crate::preview::show_preview;
+use crate::watch::{Unwatched, Watch};
 use aterm_text::{ReadFault, read, read_annotations};
 use itoa::Buffer;
 use prim_core::Meaning;
@@ -47,20 +48,79 @@ pub fn answer_text<M: Meaning>(
         answer.new.items result }
     ensures room { vec_capacity answer.old ≤ vec_capacity answer.new }
 {
-    match command {
-        Piece::Text(text) => answer_line(alloc, session, text, steps, answer),
-        Piece::Long => refuse(answer, &Refusal::Long),
+    answer_watched(alloc, session, command, steps, answer, &mut Unwatched)
+}
+
+// Answers a command, and shows it to the observer.
+pub(crate) fn answer_watched<M: Meaning, W: Watch<M>>(
+    alloc: Global,
+    session: &mut Session<M>,
+    command: Piece<'_>,
+    steps: u32,
+    answer: &mut Vec<u8>,
+    watch: &mut W,
+) -> bool
+    requires steps { AreSteps steps }
+    requires room { vec_len answer.old + ANSWER_ROOM ≤ vec_capacity answer.old }
+    ensures answered { Answered (ReplyInRun M.meaning steps) (handed_out command.entry) session.old session.new answer.old.items
+        answer.new.items result }
+    ensures room { vec_capacity answer.old ≤ vec_capacity answer.new }
+{
+    let accepted = answer_piece(alloc, session, command, steps, answer, watch);
+    if accepted {
+        watch.accepted(session, command);
     }
+    accepted
+}
+
+// Answers a command, and shows a refused one to the observer.
+fn answer_piece<M: Meaning, W: Watch<M>>(
+    alloc: Global,
+    session: &mut Session<M>,
+    command: Piece<'_>,
+    steps: u32,
+    answer: &mut Vec<u8>,
+    watch: &mut W,
+) -> bool
+    requires steps { AreSteps steps }
+    requires room { vec_len answer.old + ANSWER_ROOM ≤ vec_capacity answer.old }
+    ensures answered { Answered (ReplyInRun M.meaning steps) (handed_out command.entry) session.old session.new answer.old.items
+        answer.new.items result }
+    ensures room { vec_capacity answer.old ≤ vec_capacity answer.new }
+{
+    match command {
+        Piece::Text(text) => answer_line(alloc, session, text, steps, answer, watch),
+        Piece::Long => refuse_seen(session, command, &Refusal::Long, answer, watch),
+    }
+}
+
+// Shows a refused command to the observer, and appends the refusal.
+#[inline(always)]
+fn refuse_seen<M: Meaning, W: Watch<M>>(
+    session: &Session<M>,
+    command: Piece<'_>,
+    refusal: &Refusal,
+    answer: &mut Vec<u8>,
+    watch: &mut W,
+) -> bool
+    requires { vec_len answer.old + ANSWER_ROOM ≤ vec_capacity answer.old }
+    ensures refused { result ≡ false }
+    ensures told { TellsRefusal answer.old.items answer.new.items refusal.now }
+    ensures room { vec_capacity answer.old ≤ vec_capacity answer.new }
+{
+    watch.refused(session, command, refusal);
+    refuse(answer, refusal)
 }
 
 // A command `tree` is read and answered apart, at less cost: most commands of scripts are of this
 // form.
-fn answer_line<M: Meaning>(
+fn answer_line<M: Meaning, W: Watch<M>>(
     alloc: Global,
     session: &mut Session<M>,
     command: &[u8],
     steps: u32,
     answer: &mut Vec<u8>,
+    watch: &mut W,
 ) -> bool
     requires steps { AreSteps steps }
     requires room { vec_len answer.old + ANSWER_ROOM ≤ vec_capacity answer.old }
@@ -69,19 +129,21 @@ fn answer_line<M: Meaning>(
     ensures room { vec_capacity answer.old ≤ vec_capacity answer.new }
 {
     match behind_tree(command) {
-        Some(rest) => answer_tree(alloc, session, rest, answer),
-        None => answer_other(alloc, session, command, steps, answer),
+        Some(rest) => answer_tree(alloc, session, rest, answer, command, watch),
+        None => answer_other(alloc, session, command, steps, answer, watch),
     }
 }
 
 // Answers the command `tree` with this text after its keyword. A refusal is written where it
 // occurs: it is larger than a truth value, and would be passed on from call to call.
 #[inline(never)]
-fn answer_tree<M: Meaning>(
+fn answer_tree<M: Meaning, W: Watch<M>>(
     alloc: Global,
     session: &mut Session<M>,
     rest: &[u8],
     answer: &mut Vec<u8>,
+    whole: &[u8],
+    watch: &mut W,
 ) -> bool
     requires room { vec_len answer.old + ANSWER_ROOM ≤ vec_capacity answer.old }
     ensures answered { (steps : ℕ) (command : List ℕ) → front_word (without_end is_blank command) ≡ codes "tree"
@@ -96,20 +158,21 @@ fn answer_tree<M: Meaning>(
                 append_ok(answer);
                 true
             }
-            Err(refusal) => refuse(answer, &refusal),
+            Err(refusal) => refuse_seen(session, Piece::Text(whole), &refusal, answer, watch),
         },
-        Err(refusal) => refuse(answer, &refusal),
+        Err(refusal) => refuse_seen(session, Piece::Text(whole), &refusal, answer, watch),
     }
 }
 
 // A command of any form. It isn't inlined, so that `tree` doesn't pay for its variables.
 #[inline(never)]
-fn answer_other<M: Meaning>(
+fn answer_other<M: Meaning, W: Watch<M>>(
     alloc: Global,
     session: &mut Session<M>,
     command: &[u8],
     steps: u32,
     answer: &mut Vec<u8>,
+    watch: &mut W,
 ) -> bool
     requires steps { AreSteps steps }
     requires room { vec_len answer.old + ANSWER_ROOM ≤ vec_capacity answer.old }
@@ -119,7 +182,7 @@ fn answer_other<M: Meaning>(
 {
     match try_answer(alloc, session, command, steps, answer) {
         Ok(()) => true,
-        Err(refusal) => refuse(answer, &refusal),
+        Err(refusal) => refuse_seen(session, Piece::Text(command), &refusal, answer, watch),
     }
 }
 

@@ -6,8 +6,10 @@ mod answer;
 pub mod laws;
 mod preview;
 mod running;
+mod watch;
 
 pub use answer::answer_text;
-pub use running::{MAX_READS, PIECE, RunFault, Settings, Summary, run};
+pub use running::{MAX_READS, PIECE, RunFault, Settings, Summary, run, run_watched};
 pub use script_commands::{Fed, Framing, MAX_COMMAND, Piece, Splitter};
 pub use script_forms::{ANSWER_ROOM, Bytes, Command, Counted, Failed, Held, Sink, Source};
+pub use watch::{Unwatched, Watch};

@@ -6,11 +6,13 @@ ghost use Rattle.script_commands.specs.Handed.{Handed};
 ghost use Rattle.script_commands.specs.Splitting.{StandsBehind};
 ghost use Rattle.session_steps.specs.Steps.{AreSteps};
 ghost use Rattle.script_forms.specs.Answer.{ReplyInRun};
-ghost use Rattle.script_core.specs.inside.Running.{AnswersReady, AnswersBytes, Breaks, Ends, TurnRight, RunRight, streams};
+ghost use Rattle.script_core.specs.Ran.{RunRight, streams};
+ghost use Rattle.script_core.specs.inside.Running.{AnswersReady, AnswersBytes, Breaks, Ends, TurnRight};
 ghost use Rattle.script_forms.specs.Run.{Answers, AnswersPart, AnswersFirst, Completes, BreaksOff};
 ghost use Rattle.script_forms.specs.inside.Counting.{one_if};
 
-use crate::answer::answer_text;
+use crate::answer::answer_watched;
+use crate::watch::{Unwatched, Watch};
 use prim_core::Meaning;
 use script_commands::{Fed, Framing, Splitter};
 use script_forms::{ANSWER_ROOM, Failed, Sink, Source, write_whole};
@@ -114,6 +116,29 @@ pub fn run<M: Meaning, I: Source, O: Sink>(
     ensures memory { result ≡ Err RunFault.Memory → (session.new ≡ session.old)
         × (source.new ≡ source.old) × (sink.new ≡ sink.old) }
 {
+    run_watched(alloc, session, source, sink, &mut Unwatched, settings)
+}
+
+/// Runs a script as `run` does, and shows to an observer what is read and answered.
+///
+/// Errors: those of `run`.
+pub fn run_watched<M: Meaning, I: Source, O: Sink, W: Watch<M>>(
+    alloc: Global,
+    session: &mut Session<M>,
+    source: &mut I,
+    sink: &mut O,
+    watch: &mut W,
+    settings: Settings,
+) -> Result<Summary, RunFault>
+    requires steps { AreSteps settings.steps }
+    requires source_counts { I.failed source.old + 1 < 2 ^ 64 }
+    requires sink_counts { O.failed sink.old + 1 < 2 ^ 64 }
+    ensures right { RunRight (ReplyInRun M.meaning) result settings session.old session.new
+        (streams (I.left source.old) (O.held sink.old) (I.failed source.old) (O.failed sink.old))
+        (streams (I.left source.new) (O.held sink.new) (I.failed source.new) (O.failed sink.new)) }
+    ensures memory { result ≡ Err RunFault.Memory → (session.new ≡ session.old)
+        × (source.new ≡ source.old) × (sink.new ≡ sink.old) }
+{
     let Ok(splitter) = Splitter::new(alloc, settings.framing) else {
         return Err(RunFault::Memory);
     };
@@ -129,16 +154,17 @@ pub fn run<M: Meaning, I: Source, O: Sink>(
         },
         settings,
     };
-    running.answer_all(alloc, session, source, sink)
+    running.answer_all(alloc, session, source, sink, watch)
 }
 
 impl Running {
     // Answers the next complete command, and returns whether the run goes on.
-    fn answer_ready<M: Meaning, O: Sink>(
+    fn answer_ready<M: Meaning, O: Sink, W: Watch<M>>(
         &mut self,
         alloc: Global,
         session: &mut Session<M>,
         sink: &mut O,
+        watch: &mut W,
     ) -> Result<bool, Failed>
         requires ready { is_some self.old.splitter.to_hand_out ≡ true }
         requires steps { AreSteps self.old.settings.steps }
@@ -156,12 +182,13 @@ impl Running {
         ensures room { ANSWER_ROOM ≤ vec_capacity self.new.answer }
     {
         self.answer.clear();
-        let accepted = answer_text(
+        let accepted = answer_watched(
             alloc,
             session,
             self.splitter.command(),
             self.settings.steps,
             &mut self.answer,
+            watch,
         );
         write_whole(sink, &self.answer)?;
         self.summary.count(accepted);
@@ -169,12 +196,13 @@ impl Running {
     }
     // Answers the commands that these bytes complete, until the run stops, and returns whether it
     // goes on.
-    fn answer_bytes<M: Meaning, O: Sink>(
+    fn answer_bytes<M: Meaning, O: Sink, W: Watch<M>>(
         &mut self,
         alloc: Global,
         session: &mut Session<M>,
         sink: &mut O,
         bytes: &[u8],
+        watch: &mut W,
     ) -> Result<bool, Failed>
         requires steps { AreSteps self.old.settings.steps }
         requires room { ANSWER_ROOM ≤ vec_capacity self.old.answer }
@@ -191,20 +219,23 @@ impl Running {
     {
         let mut rest = bytes;
         while let Fed::Command(taken) = self.splitter.feed(rest) {
+            watch.consumed(&rest[..taken]);
             rest = &rest[taken..];
-            if !self.answer_ready(alloc, session, sink)? {
+            if !self.answer_ready(alloc, session, sink, watch)? {
                 return Ok(false);
             }
         }
+        watch.consumed(rest);
         Ok(true)
     }
 
     // Answers the command at the end, if there is one.
-    fn answer_last<M: Meaning, O: Sink>(
+    fn answer_last<M: Meaning, O: Sink, W: Watch<M>>(
         &mut self,
         alloc: Global,
         session: &mut Session<M>,
         sink: &mut O,
+        watch: &mut W,
     ) -> Result<(), Failed>
         requires steps { AreSteps self.old.settings.steps }
         requires room { ANSWER_ROOM ≤ vec_capacity self.old.answer }
@@ -218,19 +249,20 @@ impl Running {
         ensures count { OnErr result (O.failed sink.new ≡ O.failed sink.old + 1) }
     {
         if self.splitter.finish() {
-            self.answer_ready(alloc, session, sink)?;
+            self.answer_ready(alloc, session, sink, watch)?;
         }
         Ok(())
     }
     // Flushes what was written, reads once and answers the commands that are then complete. Returns
     // whether the run goes on.
-    fn turn<M: Meaning, I: Source, O: Sink>(
+    fn turn<M: Meaning, I: Source, O: Sink, W: Watch<M>>(
         &mut self,
         alloc: Global,
         session: &mut Session<M>,
         source: &mut I,
         sink: &mut O,
         piece: &mut [u8],
+        watch: &mut W,
     ) -> Result<bool, RunFault>
         requires steps { AreSteps self.old.settings.steps }
         requires room { ANSWER_ROOM ≤ vec_capacity self.old.answer }
@@ -251,23 +283,24 @@ impl Running {
         };
         match source.read(piece) {
             Err(Failed) => Err(RunFault::Read),
-            Ok(0) => match self.answer_last(alloc, session, sink) {
+            Ok(0) => match self.answer_last(alloc, session, sink, watch) {
                 Ok(()) => Ok(false),
                 Err(Failed) => Err(RunFault::Write),
             },
-            Ok(given) => match self.answer_bytes(alloc, session, sink, &piece[..given]) {
+            Ok(given) => match self.answer_bytes(alloc, session, sink, &piece[..given], watch) {
                 Ok(goes_on) => Ok(goes_on),
                 Err(Failed) => Err(RunFault::Write),
             },
         }
     }
     // Reads and answers until the end, or until the run stops.
-    fn answer_all<M: Meaning, I: Source, O: Sink>(
+    fn answer_all<M: Meaning, I: Source, O: Sink, W: Watch<M>>(
         &mut self,
         alloc: Global,
         session: &mut Session<M>,
         source: &mut I,
         sink: &mut O,
+        watch: &mut W,
     ) -> Result<Summary, RunFault>
         requires fresh { StandsBehind self.old.settings.framing [] [] self.old.splitter.left }
         requires zero { (self.old.summary.accepted ≡ 0) × (self.old.summary.refused ≡ 0) }
@@ -275,13 +308,14 @@ impl Running {
         requires room { ANSWER_ROOM ≤ vec_capacity self.old.answer }
         requires source { I.failed source.old + 1 < 2 ^ 64 }
         requires sink { O.failed sink.old + 1 < 2 ^ 64 }
-        ensures { RunRight (ReplyInRun M.meaning) result self.old.settings session.old session.new
+        ensures some { result ≡ Err RunFault.Memory → ⊥ }
+        ensures right { RunRight (ReplyInRun M.meaning) result self.old.settings session.old session.new
             (streams (I.left source.old) (O.held sink.old) (I.failed source.old) (O.failed sink.old))
             (streams (I.left source.new) (O.held sink.new) (I.failed source.new) (O.failed sink.new)) }
     {
         let mut piece = [0; PIECE];
         for _ in 0..MAX_READS {
-            match self.turn(alloc, session, source, sink, &mut piece) {
+            match self.turn(alloc, session, source, sink, &mut piece, watch) {
                 Ok(true) => {}
                 Ok(false) => {
                     let Ok(()) = sink.flush() else {

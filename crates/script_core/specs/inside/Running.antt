@@ -4,10 +4,8 @@ use Rattle.std.specs.declared.option.Option.{Option}
 use Rattle.std.specs.declared.result.Result.{Result}
 use Rattle.std.specs.Io.KnownBytes.{Consumes, Keeps, IsAtEnd}
 use Rattle.session_steps.specs.History.{History}
-use Rattle.script_core.specs.declared.running.TheConstants.{MAX_READS}
 use Rattle.script_core.specs.declared.running.Running.{Running}
 use Rattle.script_core.specs.declared.running.Summary.{Summary}
-use Rattle.script_core.specs.declared.running.Settings.{Settings}
 use Rattle.script_core.specs.declared.running.RunFault.{RunFault}
 use Rattle.script_core.specs.declared.running.RunFault.TheVariants.{Read, Write, Turns, Memory}
 use Rattle.script_commands.specs.declared.framing.Framing.{Framing}
@@ -16,11 +14,8 @@ use Rattle.script_forms.specs.Machine.{Replying}
 use Rattle.script_commands.specs.Splitting.{StandsBehind}
 use Rattle.script_commands.specs.Split.{Split}
 use Rattle.script_commands.specs.FedRight.{GoesBehind}
-use Rattle.script_forms.specs.Run.{Completes, BreaksOff, Answers, AnswersPart, AnswersFirst}
-
--- the rule of a run by the budget of its settings
-abbrev pub ByBudget : Type 1
-ByBudget = ℕ → Replying
+use Rattle.script_forms.specs.Run.{Completes, BreaksOff}
+use Rattle.script_core.specs.Ran.{ByBudget, Streams, Calm}
 
 -- A run that is to stop at a refusal goes on without one, and ends at one.
 abbrev pub GoesOnBy : Bool → ℕ → Bool → Type 0
@@ -97,20 +92,6 @@ pub record Stops (Rule : ByBudget) (old : Running) (h g : History) (held held' :
       → completed framing (x ++ bytes) ≡ out ++ all
   pub completes : Completes old.settings.stop (Rule old.settings.steps) all h g held held' yes no
 
--- the ghost state of a reader and a writer, and how often they failed
-pub record Streams : Type 0 where
-  pub left : Option (List ℕ)
-  pub held : Option (List ℕ)
-  pub read_failures : ℕ
-  pub write_failures : ℕ
-
-abbrev pub streams : Option (List ℕ) → Option (List ℕ) → ℕ → ℕ → Streams
-streams left held reads writes =
-    record { left = left; held = held; read_failures = reads; write_failures = writes }
-
-abbrev pub Calm : Streams → Streams → Type 0
-Calm old new = (new.read_failures ≡ old.read_failures) × (new.write_failures ≡ old.write_failures)
-
 -- One turn of a run: at most this many bytes are read and their commands answered, and the run goes
 -- on; or it reaches the end, or fails.
 abbrev pub TurnRight : ByBudget → Result Bool RunFault → Running → Running → History → History → Streams → Streams
@@ -131,17 +112,3 @@ TurnRight Rule (Err Write) old new h g a b most =
     × ((bytes : List ℕ) × Consumes a.left b.left bytes × Breaks Rule old h g a.held b.held bytes)
 TurnRight Rule (Err Turns) old new h g a b most = ⊥
 TurnRight Rule (Err Memory) old new h g a b most = ⊥
-
--- A whole run, apart from the memory that it starts with.
-abbrev pub RunRight : ByBudget → Result Summary RunFault → Settings → History → History → Streams → Streams → Type 0
-RunRight Rule (Ok summary) settings h g a b =
-    Calm a b × Answers settings.framing settings.stop (Rule settings.steps) h g a.left b.left a.held b.held summary.accepted summary.refused
-RunRight Rule (Err Read) settings h g a b =
-    (b.read_failures ≡ a.read_failures + 1) × (b.write_failures ≡ a.write_failures)
-    × AnswersPart settings.framing settings.stop (Rule settings.steps) h g a.left b.left a.held b.held 0
-RunRight Rule (Err Turns) settings h g a b =
-    Calm a b × AnswersPart settings.framing settings.stop (Rule settings.steps) h g a.left b.left a.held b.held MAX_READS
-RunRight Rule (Err Write) settings h g a b =
-    (b.write_failures ≡ a.write_failures + 1) × (b.read_failures ≡ a.read_failures)
-    × AnswersFirst settings.framing settings.stop (Rule settings.steps) h g a.left b.left a.held b.held
-RunRight Rule (Err Memory) settings h g a b = ⊥

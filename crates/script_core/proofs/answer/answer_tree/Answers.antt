@@ -9,8 +9,8 @@ returns-in-Ok-set_tree-clause-answered g c steps command front behind =
 
 pub returns-in-Ok-clause-answered : goal.returns-in-Ok-clause-answered
 returns-in-Ok-clause-answered g c steps command front behind =
-    apart_refused_told g.M.Meaning.meaning steps command c.args.session.now c.set_tree.new.session c.args.answer.now.items c.refuse.new.answer.items (tree_form c.args.rest.now) (tree_told steps command c.args.rest.now front behind) (ap takes_no_memory_with front) _ c.in-Ok.ensures.ok c.in-Err-set_tree.refusal c.refuse.result c.in-Err-set_tree.ensures.refused c.in-Err-set_tree.ensures.err c.refuse.ensures.told c.refuse.ensures.refused
+    apart_refused_told g.M.Meaning.meaning steps command c.args.session.now c.set_tree.new.session c.args.answer.now.items c.refuse_seen.new.answer.items (tree_form c.args.rest.now) (tree_told steps command c.args.rest.now front behind) (ap takes_no_memory_with front) _ c.in-Ok.ensures.ok c.in-Err-set_tree.refusal c.refuse_seen.result c.in-Err-set_tree.ensures.refused c.in-Err-set_tree.ensures.err c.refuse_seen.ensures.told c.refuse_seen.ensures.refused
 
 pub returns-clause-answered : goal.returns-clause-answered
 returns-clause-answered g c steps command front behind =
-    apart_unread_told g.M.Meaning.meaning steps command c.args.session.now c.args.session.now c.args.answer.now.items c.refuse-in-Err.new.answer.items (tree_form c.args.rest.now) (tree_told steps command c.args.rest.now front behind) (ap takes_no_memory_with front) c.in-Err.refusal c.refuse-in-Err.result c.in-Err.ensures.refused refl c.refuse-in-Err.ensures.told c.refuse-in-Err.ensures.refused
+    apart_unread_told g.M.Meaning.meaning steps command c.args.session.now c.args.session.now c.args.answer.now.items c.refuse_seen-in-Err.new.answer.items (tree_form c.args.rest.now) (tree_told steps command c.args.rest.now front behind) (ap takes_no_memory_with front) c.in-Err.refusal c.refuse_seen-in-Err.result c.in-Err.ensures.refused refl c.refuse_seen-in-Err.ensures.told c.refuse_seen-in-Err.ensures.refused
