@@ -185,6 +185,7 @@ module _ (flag : Text) where
     library : (codes "library" ≡ flag) ⊎ (bytes_eq (codes "library") flag ≡ false)
     stop : (codes "stop" ≡ flag) ⊎ (bytes_eq (codes "stop") flag ≡ false)
     lines : (codes "lines" ≡ flag) ⊎ (bytes_eq (codes "lines") flag ≡ false)
+    explain : (codes "explain" ≡ flag) ⊎ (bytes_eq (codes "explain") flag ≡ false)
     interactive : (codes "interactive" ≡ flag) ⊎ (bytes_eq (codes "interactive") flag ≡ false)
     steps : bytes_eq (codes "steps") flag ≡ false
     modules : bytes_eq (codes "module") flag ≡ false
@@ -204,20 +205,23 @@ module _ (flag : Text) where
         (
           flag_fits (codes "lines") None is.lines,
           (
-            flag_fits (codes "interactive") (Some 105) is.interactive,
+            flag_fits (codes "explain") None is.explain,
             (
-              more_fits (files_rule (codes "module")) is.modules (λ values rows. refl),
+              flag_fits (codes "interactive") (Some 105) is.interactive,
               (
-                more_fits (files_rule (codes "tree")) is.trees (λ values rows. refl),
+                more_fits (files_rule (codes "module")) is.modules (λ values rows. refl),
                 (
-                  more_fits (files_rule (codes "write")) is.writes (λ values rows. refl),
+                  more_fits (files_rule (codes "tree")) is.trees (λ values rows. refl),
                   (
-                    other_fits file_rule is.file (λ values rows. refl),
+                    more_fits (files_rule (codes "write")) is.writes (λ values rows. refl),
                     (
-                      request_fits (with_index 2 (filled help_rule)) is.help (λ values rows. refl),
+                      other_fits file_rule is.file (λ values rows. refl),
                       (
-                        request_fits (with_index 2 (filled version_rule)) is.version (λ values rows. refl),
-                        tt,
+                        request_fits (with_index 2 (filled help_rule)) is.help (λ values rows. refl),
+                        (
+                          request_fits (with_index 2 (filled version_rule)) is.version (λ values rows. refl),
+                          tt,
+                        ),
                       ),
                     ),
                   ),
@@ -569,6 +573,7 @@ library_is_given = by_settling (codes "library")
       library = inl refl;
       stop = inr refl;
       lines = inr refl;
+      explain = inr refl;
       interactive = inr refl;
       steps = refl;
       modules = refl;
@@ -578,7 +583,7 @@ library_is_given = by_settling (codes "library")
       help = refl;
       version = refl;
     })
-    (inl ((None, refl), (refl, (refl, (refl, (refl, (refl, (refl, (refl, (refl, (refl, (refl, tt))))))))))))
+    (inl ((None, refl), (refl, (refl, (refl, (refl, (refl, (refl, (refl, (refl, (refl, (refl, (refl, tt)))))))))))))
 
 pub stop_is_given : IsReadAsGiven (codes "stop")
 stop_is_given = by_settling (codes "stop")
@@ -586,6 +591,7 @@ stop_is_given = by_settling (codes "stop")
       library = inr refl;
       stop = inl refl;
       lines = inr refl;
+      explain = inr refl;
       interactive = inr refl;
       steps = refl;
       modules = refl;
@@ -595,7 +601,7 @@ stop_is_given = by_settling (codes "stop")
       help = refl;
       version = refl;
     })
-    (inr (refl, inr (refl, inl ((None, refl), (refl, (refl, (refl, (refl, (refl, (refl, (refl, (refl, tt))))))))))))
+    (inr (refl, inr (refl, inl ((None, refl), (refl, (refl, (refl, (refl, (refl, (refl, (refl, (refl, (refl, tt)))))))))))))
 
 pub lines_is_given : IsReadAsGiven (codes "lines")
 lines_is_given = by_settling (codes "lines")
@@ -603,6 +609,7 @@ lines_is_given = by_settling (codes "lines")
       library = inr refl;
       stop = inr refl;
       lines = inl refl;
+      explain = inr refl;
       interactive = inr refl;
       steps = refl;
       modules = refl;
@@ -612,7 +619,25 @@ lines_is_given = by_settling (codes "lines")
       help = refl;
       version = refl;
     })
-    (inr (refl, inr (refl, inr (refl, inl ((None, refl), (refl, (refl, (refl, (refl, (refl, (refl, (refl, tt))))))))))))
+    (inr (refl, inr (refl, inr (refl, inl ((None, refl), (refl, (refl, (refl, (refl, (refl, (refl, (refl, (refl, tt)))))))))))))
+
+pub explain_is_given : IsReadAsGiven (codes "explain")
+explain_is_given = by_settling (codes "explain")
+    (record {
+      library = inr refl;
+      stop = inr refl;
+      lines = inr refl;
+      explain = inl refl;
+      interactive = inr refl;
+      steps = refl;
+      modules = refl;
+      trees = refl;
+      writes = refl;
+      file = refl;
+      help = refl;
+      version = refl;
+    })
+    (inr (refl, inr (refl, inr (refl, inr (refl, inl ((None, refl), (refl, (refl, (refl, (refl, (refl, (refl, (refl, tt)))))))))))))
 
 pub interactive_is_given : IsReadAsGiven (codes "interactive")
 interactive_is_given = by_settling (codes "interactive")
@@ -620,6 +645,7 @@ interactive_is_given = by_settling (codes "interactive")
       library = inr refl;
       stop = inr refl;
       lines = inr refl;
+      explain = inr refl;
       interactive = inl refl;
       steps = refl;
       modules = refl;
@@ -629,4 +655,4 @@ interactive_is_given = by_settling (codes "interactive")
       help = refl;
       version = refl;
     })
-    (inr (refl, inr (refl, inr (refl, inr (refl, inl ((Some 105, refl), (refl, (refl, (refl, (refl, (refl, (refl, tt))))))))))))
+    (inr (refl, inr (refl, inr (refl, inr (refl, inr (refl, inl ((Some 105, refl), (refl, (refl, (refl, (refl, (refl, (refl, tt)))))))))))))

@@ -11,6 +11,7 @@ record Row : Type 0 where
   library : Bool
   stop : Bool
   lines : Bool
+  explain : Bool
   interactive : Bool
   file : Option Text
   steps : Option Text
@@ -24,6 +25,7 @@ row words = record {
   library = is_given (codes "library") (given words);
   stop = is_given (codes "stop") (given words);
   lines = is_given (codes "lines") (given words);
+  explain = is_given (codes "explain") (given words);
   interactive = is_given (codes "interactive") (given words);
   file = first_of (codes "file") (given words);
   steps = one_of (codes "steps") (given words);
@@ -38,6 +40,7 @@ pub nothing : row (codes "stratbench" ∷ [])
       library = false;
       stop = false;
       lines = false;
+      explain = false;
       interactive = false;
       file = None;
       steps = Some (codes "100000");
@@ -49,11 +52,12 @@ pub nothing : row (codes "stratbench" ∷ [])
 unfolding clap_on_literals
 nothing = refl
 
-pub all : row (codes "stratbench" ∷ codes "--steps=7" ∷ codes "a" ∷ codes "--lines" ∷ codes "--stop" ∷ codes "--library" ∷ codes "-i" ∷ [])
+pub all : row (codes "stratbench" ∷ codes "--steps=7" ∷ codes "a" ∷ codes "--lines" ∷ codes "--explain" ∷ codes "--stop" ∷ codes "--library" ∷ codes "-i" ∷ [])
     ≡ record {
       library = true;
       stop = true;
       lines = true;
+      explain = true;
       interactive = true;
       file = Some (codes "a");
       steps = Some (codes "7");
@@ -70,6 +74,7 @@ pub files : row (codes "stratbench" ∷ codes "--tree=t=a" ∷ codes "--module" 
       library = false;
       stop = false;
       lines = false;
+      explain = false;
       interactive = false;
       file = None;
       steps = Some (codes "100000");
@@ -86,6 +91,7 @@ pub behind_dashes : row (codes "stratbench" ∷ codes "--steps" ∷ codes "1" �
       library = false;
       stop = false;
       lines = false;
+      explain = false;
       interactive = false;
       file = Some (codes "--stop");
       steps = Some (codes "1");

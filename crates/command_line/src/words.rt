@@ -43,7 +43,10 @@ pub struct CommandLine<'a> {
     pub stop: bool,
     /// Whether each line of the script is a command.
     pub lines: bool,
-    /// Whether, besides, a prompt comes before each line at a terminal.
+    /// Whether refused commands are explained.
+    pub explain: bool,
+    /// Whether each line is a command, refused commands are explained, and at a terminal a prompt
+    /// comes before each line.
     pub interactive: bool,
     /// The modules and trees that are loaded before the script, in their order.
     pub loads: Vec<Load<'a>>,
@@ -63,6 +66,13 @@ impl CommandLine<'_> {
         } else {
             Framing::Continued
         }
+    }
+
+    /// Whether refused commands are explained.
+    pub fn explains(&self) -> bool
+        ensures { result ≡ (self.now.explain || self.now.interactive) }
+    {
+        self.explain || self.interactive
     }
 }
 
@@ -84,6 +94,8 @@ pub fn arguments<'a, S: AsStr>(alloc: Global, words: &'a [S]) -> Result<CommandL
         ≡ is_given (codes "stop") (given (map S.text words.now))) }
     ensures lines { IfOk result (λ arguments. arguments.lines
         ≡ is_given (codes "lines") (given (map S.text words.now))) }
+    ensures explain { IfOk result (λ arguments. arguments.explain
+        ≡ is_given (codes "explain") (given (map S.text words.now))) }
     ensures interactive { IfOk result (λ arguments. arguments.interactive
         ≡ is_given (codes "interactive") (given (map S.text words.now))) }
 
@@ -107,6 +119,7 @@ pub fn arguments<'a, S: AsStr>(alloc: Global, words: &'a [S]) -> Result<CommandL
             steps: steps(&matches),
             stop: matches.get_flag("stop"),
             lines: matches.get_flag("lines"),
+            explain: matches.get_flag("explain"),
             interactive: matches.get_flag("interactive"),
             loads,
             writes,
@@ -185,6 +198,11 @@ fn command<'a>(alloc: Global) -> Result<Command<'a>, AllocError>
             "lines",
             "Takes each line as a command and answers it at once, for terminals and other programs",
         ))?
+        .arg(flag(
+            alloc,
+            "explain",
+            "Says on standard error why a command was refused, and where, and warns of mistakes in modules",
+        ))?
         .arg(interactive_flag(alloc))?
         .arg(files_option(
             alloc,
@@ -221,7 +239,7 @@ fn interactive_flag<'a>(alloc: Global) -> Arg<'a>
     flag(
         alloc,
         "interactive",
-        "As --lines, and at a terminal with a prompt before each line",
+        "As --lines and --explain, and at a terminal with a prompt before each line",
     )
     .short('i')
 }

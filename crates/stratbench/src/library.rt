@@ -27,6 +27,13 @@ pub const LIBRARY: &[u8] = b"module library
   map(s) = [] <+ [s | map(s)]
 ";
 
+/// The text of the library's module.
+pub fn library_text() -> &'static [u8] {
+    LIBRARY
+        .strip_prefix(b"module library".as_slice())
+        .unwrap_or(&[])
+}
+
 // The sink for the answer, which isn't shown: it takes all bytes and keeps none, so no write fails.
 #[derive(Drop)]
 struct Unseen;

@@ -71,25 +71,25 @@ fn read_refusal(fault: ReadFault) -> Refusal
     }
 }
 
-/// Loads a file of the command line.
-pub fn load_file<M: Meaning>(
-    rt: &HostRuntime,
+/// Loads the text of a file of the command line.
+///
+/// A refusal leaves the session as it was.
+pub fn load_text<M: Meaning>(
+    alloc: Global,
     session: &mut Session<M>,
     load: &Load<'_>,
-) -> Result<(), FileFault> {
+    text: &[u8],
+) -> Result<(), Refusal>
+    ensures err { OnErr result (session.new ≡ session.old) }
+{
     match load {
-        Load::Module(named) => {
-            let text = read_file(rt, named.file)?;
-            Ok(load_module(rt.alloc(), session, &named.name, &text)?)
-        }
-        Load::Tree(named) => {
-            let text = read_file(rt, named.file)?;
-            Ok(load_tree(rt.alloc(), session, &named.name, &text)?)
-        }
+        Load::Module(named) => load_module(alloc, session, &named.name, text),
+        Load::Tree(named) => load_tree(alloc, session, &named.name, text),
     }
 }
 
-fn read_file(rt: &HostRuntime, file: &str) -> Result<Vec<u8>, FileFault> {
+/// The text of a file.
+pub fn read_file(rt: &HostRuntime, file: &str) -> Result<Vec<u8>, FileFault> {
     let read: io::Result<Vec<u8>> = fs::read(rt, file);
     match read {
         Ok(bytes) => Ok(bytes),

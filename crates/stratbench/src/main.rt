@@ -5,6 +5,7 @@ ghost use Rattle.std.specs.Prelude.{◌+◌, ◌<◌, ◌^◌};
 ghost use Rattle.session_steps.specs.Steps.{AreSteps};
 
 mod dialogue;
+mod explaining;
 mod library;
 mod loading;
 mod module_text;
@@ -17,11 +18,14 @@ use clap::Error;
 use clap::error::ErrorKind;
 use command_line::{CommandLine, Load, Named, arguments};
 use dialogue::{Group, Prompting, Watched};
-use library::load_library;
-use loading::load_file;
+use explaining::{Explaining, explain_load, warn_of_load};
+use library::{library_text, load_library};
+use loading::{load_text, read_file};
 use prim_core::{Meaning, Primitive, Primitives};
 use prim_extended::extended_primitives;
-use script_core::{ANSWER_ROOM, Counted, Framing, RunFault, Settings, Sink, Source, Summary, run};
+use script_core::{
+    ANSWER_ROOM, Counted, Framing, RunFault, Settings, Sink, Source, Summary, run, run_watched,
+};
 use script_forms::refuse;
 use session_core::{Refusal, Session};
 use status::{FileFault, file_status, status};
@@ -132,7 +136,7 @@ fn run_whole<M: Meaning>(rt: &HostRuntime, line: &CommandLine<'_>, session: &mut
             return report(rt, Err(fault));
         }
     }
-    if let Err(status) = load_all(rt, session, &line.loads) {
+    if let Err(status) = load_all(rt, session, line) {
         return status;
     }
     let outcome = run_session(rt, line, session);
@@ -148,14 +152,43 @@ fn run_whole<M: Meaning>(rt: &HostRuntime, line: &CommandLine<'_>, session: &mut
 fn load_all<M: Meaning>(
     rt: &HostRuntime,
     session: &mut Session<M>,
-    loads: &[Load<'_>],
+    line: &CommandLine<'_>,
 ) -> Result<(), u8> {
-    for load in loads {
-        if let Err(fault) = load_file(rt, session, load) {
-            return Err(report_file(rt, load.file(), &fault));
+    for load in &line.loads {
+        match read_file(rt, load.file()) {
+            Ok(text) => load_one(rt, session, load, &text, line.explains())?,
+            Err(fault) => return Err(report_file(rt, load.file(), &fault)),
         }
     }
     Ok(())
+}
+
+// Loads the text of a file, and says what is wrong with it.
+fn load_one<M: Meaning>(
+    rt: &HostRuntime,
+    session: &mut Session<M>,
+    load: &Load<'_>,
+    text: &[u8],
+    explains: bool,
+) -> Result<(), u8> {
+    match load_text(rt.alloc(), session, load, text) {
+        Ok(()) => {
+            if explains {
+                warn_of_load(rt.alloc(), rt.stderr(), session, load, text);
+            }
+            Ok(())
+        }
+        Err(refusal) => {
+            let told = explains
+                && explain_load(rt.alloc(), rt.stderr(), session, load, text, &refusal);
+            let fault = FileFault::from(refusal);
+            Err(if told {
+                file_status(&fault)
+            } else {
+                report_file(rt, load.file(), &fault)
+            })
+        }
+    }
 }
 
 // Writes the trees. Returns the greatest exit status, from this one on.
@@ -197,13 +230,7 @@ fn run_session<M: Meaning>(
     match line.file {
         None => run_input(rt, session, line, writer),
         Some(path) => match File::open(rt, path) {
-            Ok(file) => run_between(
-                rt.alloc(),
-                session,
-                line,
-                Counted::new(file),
-                Counted::new(writer),
-            ),
+            Ok(file) => run_between(rt, session, line, Counted::new(file), Counted::new(writer)),
             Err(_) => Err(RunFault::Read),
         },
     }
@@ -224,25 +251,19 @@ fn run_input<M: Meaning, W: Write + Drop>(
     if at_terminal && line.interactive {
         let group = Group::new();
         let source = Prompting::new(source, rt.stderr(), &group);
-        return run_between(
-            rt.alloc(),
-            session,
-            line,
-            source,
-            Watched::new(sink, &group),
-        );
+        return run_between(rt, session, line, source, Watched::new(sink, &group));
     }
     if at_terminal && line.framing() == Framing::Continued {
         let _ = eprintln!(rt; "stratbench: {LATE}");
     }
-    run_between(rt.alloc(), session, line, source, sink)
+    run_between(rt, session, line, source, sink)
 }
 
 // What is said at a terminal where lines may go on.
 const LATE: &str = "an answer comes with the next command; with -i each line is answered at once";
 
 fn run_between<M: Meaning, I: Source + Drop, O: Sink + Drop>(
-    alloc: Global,
+    rt: &HostRuntime,
     session: &mut Session<M>,
     line: &CommandLine<'_>,
     mut source: I,
@@ -257,5 +278,21 @@ fn run_between<M: Meaning, I: Source + Drop, O: Sink + Drop>(
         stop: line.stop,
         framing: line.framing(),
     };
-    run(alloc, session, &mut source, &mut sink, settings)
+    if line.explains() {
+        let unloaded = if line.library {
+            None
+        } else {
+            Some(library_text())
+        };
+        let mut watch = Explaining::new(rt.alloc(), rt.stderr(), settings, unloaded);
+        return run_watched(
+            rt.alloc(),
+            session,
+            &mut source,
+            &mut sink,
+            &mut watch,
+            settings,
+        );
+    }
+    run(rt.alloc(), session, &mut source, &mut sink, settings)
 }

@@ -14,6 +14,7 @@ returns c =
     let library = flag_of (codes "library") in
     let stop = flag_of (codes "stop") in
     let lines = flag_of (codes "lines") in
+    let explain = flag_of (codes "explain") in
     let modules = files_option (codes "module") in
     let trees = files_option (codes "tree") in
     let writes = files_option (codes "write") in
@@ -25,12 +26,14 @@ returns c =
     c.in_ok-arg-3.ensures.shape c.flag-2.ensures.local ∙ ap₂ with_rule second c.flag-2.ensures.rule in
     let fourth : app_of c.in_ok-arg-4.field-0 ≡ fold with_rule named_app (library ∷ steps_option ∷ stop ∷ lines ∷ []) =
     c.in_ok-arg-4.ensures.shape c.flag-3.ensures.local ∙ ap₂ with_rule third c.flag-3.ensures.rule in
-    let fifth : app_of c.in_ok-arg-5.field-0 ≡ fold with_rule named_app (library ∷ steps_option ∷ stop ∷ lines ∷ interactive_flag ∷ []) =
-    c.in_ok-arg-5.ensures.shape c.interactive_flag.ensures.local ∙ ap₂ with_rule fourth c.interactive_flag.ensures.rule in
-    let sixth : app_of c.in_ok-arg-6.field-0 ≡ fold with_rule named_app (library ∷ steps_option ∷ stop ∷ lines ∷ interactive_flag ∷ modules ∷ []) =
-    c.in_ok-arg-6.ensures.shape c.files_option.ensures.local ∙ ap₂ with_rule fifth c.files_option.ensures.rule in
-    let seventh : app_of c.in_ok-arg-7.field-0 ≡ fold with_rule named_app (library ∷ steps_option ∷ stop ∷ lines ∷ interactive_flag ∷ modules ∷ trees ∷ []) =
-    c.in_ok-arg-7.ensures.shape c.files_option-2.ensures.local ∙ ap₂ with_rule sixth c.files_option-2.ensures.rule in
-    let eighth : app_of c.in_ok-arg-8.field-0 ≡ fold with_rule named_app (library ∷ steps_option ∷ stop ∷ lines ∷ interactive_flag ∷ modules ∷ trees ∷ writes ∷ []) =
-    c.in_ok-arg-8.ensures.shape c.files_option-3.ensures.local ∙ ap₂ with_rule seventh c.files_option-3.ensures.rule in
-    IfOk-weaker c.arg-9.result _ _ (λ made added. added.shape c.file_name.ensures.local ∙ ap₂ with_rule eighth c.file_name.ensures.rule) c.arg-9.ensures
+    let fifth : app_of c.in_ok-arg-5.field-0 ≡ fold with_rule named_app (library ∷ steps_option ∷ stop ∷ lines ∷ explain ∷ []) =
+    c.in_ok-arg-5.ensures.shape c.flag-4.ensures.local ∙ ap₂ with_rule fourth c.flag-4.ensures.rule in
+    let sixth : app_of c.in_ok-arg-6.field-0 ≡ fold with_rule named_app (library ∷ steps_option ∷ stop ∷ lines ∷ explain ∷ interactive_flag ∷ []) =
+    c.in_ok-arg-6.ensures.shape c.interactive_flag.ensures.local ∙ ap₂ with_rule fifth c.interactive_flag.ensures.rule in
+    let seventh : app_of c.in_ok-arg-7.field-0 ≡ fold with_rule named_app (library ∷ steps_option ∷ stop ∷ lines ∷ explain ∷ interactive_flag ∷ modules ∷ []) =
+    c.in_ok-arg-7.ensures.shape c.files_option.ensures.local ∙ ap₂ with_rule sixth c.files_option.ensures.rule in
+    let eighth : app_of c.in_ok-arg-8.field-0 ≡ fold with_rule named_app (library ∷ steps_option ∷ stop ∷ lines ∷ explain ∷ interactive_flag ∷ modules ∷ trees ∷ []) =
+    c.in_ok-arg-8.ensures.shape c.files_option-2.ensures.local ∙ ap₂ with_rule seventh c.files_option-2.ensures.rule in
+    let ninth : app_of c.in_ok-arg-9.field-0 ≡ fold with_rule named_app (library ∷ steps_option ∷ stop ∷ lines ∷ explain ∷ interactive_flag ∷ modules ∷ trees ∷ writes ∷ []) =
+    c.in_ok-arg-9.ensures.shape c.files_option-3.ensures.local ∙ ap₂ with_rule eighth c.files_option-3.ensures.rule in
+    IfOk-weaker c.arg-10.result _ _ (λ made added. added.shape c.file_name.ensures.local ∙ ap₂ with_rule ninth c.file_name.ensures.rule) c.arg-10.ensures

@@ -1,0 +1,167 @@
+//! What is said on standard error of refused commands and of accepted modules.
+
+use command_line::Load;
+use prim_core::Meaning;
+use script_core::{Framing, Piece, Settings, Watch};
+use script_hints::{Numbered, Past, Seen, explain, warn};
+use session_core::{MAX_STEPS, Refusal, Session};
+use std::alloc::{AllocError, Global};
+use std::io::Write;
+
+/// Explains each refused command on this screen, and says there what an accepted module may not be
+/// meant to say. What can't be written is left out.
+#[derive(Drop)]
+pub struct Explaining<'a, W> {
+    alloc: Global,
+    screen: W,
+    settings: Settings,
+    // The library's text, if it wasn't loaded.
+    library: Option<&'a [u8]>,
+    numbered: Numbered,
+    past: Past,
+}
+
+impl<'a, W: Write> Explaining<'a, W> {
+    /// One of a run with these settings, before the first command.
+    pub fn new(
+        alloc: Global,
+        screen: W,
+        settings: Settings,
+        library: Option<&'a [u8]>,
+    ) -> Explaining<'a, W> {
+        Explaining {
+            alloc,
+            screen,
+            settings,
+            library,
+            numbered: Numbered::new(alloc, settings.framing),
+            past: Past::new(),
+        }
+    }
+
+    // The command as it stands in the script.
+    fn seen<'c>(&'c self, command: Piece<'c>) -> Seen<'c> {
+        Seen {
+            file: None,
+            line: self.numbered.line(),
+            indent: self.numbered.indent(),
+            comments: self.numbered.comments(),
+            text: text_of(command),
+            steps: self.settings.steps,
+            framing: self.settings.framing,
+            past: self.past,
+            library: self.library,
+        }
+    }
+
+    fn keep(&mut self, command: Piece<'_>, accepted: bool) {
+        let line = self.numbered.line();
+        self.past = self.past.after(line, text_of(command), accepted);
+    }
+}
+
+impl<M: Meaning, W: Write> Watch<M> for Explaining<'_, W> {
+    fn consumed(&mut self, bytes: &[u8]) {
+        self.numbered.consume(bytes);
+    }
+
+    fn accepted(&mut self, session: &Session<M>, command: Piece<'_>) {
+        if let Ok(text) = warn(self.alloc, session, &self.seen(command)) {
+            show(&mut self.screen, &text);
+        }
+        self.keep(command, true);
+    }
+
+    fn refused(&mut self, session: &Session<M>, command: Piece<'_>, refusal: &Refusal) {
+        if let Ok(text) = explain(self.alloc, session, &self.seen(command), refusal) {
+            show(&mut self.screen, &text);
+        }
+        self.keep(command, false);
+    }
+}
+
+/// Says on the screen why the text of a file is refused. Returns whether that could be said.
+pub fn explain_load<M: Meaning>(
+    alloc: Global,
+    mut screen: impl Write + Drop,
+    session: &Session<M>,
+    load: &Load<'_>,
+    text: &[u8],
+    refusal: &Refusal,
+) -> bool {
+    let Ok(command) = command_of(alloc, load, text) else {
+        return false;
+    };
+    match explain(alloc, session, &seen_in_file(load, &command), refusal) {
+        Ok(said) => {
+            show(&mut screen, &said);
+            true
+        }
+        Err(_) => false,
+    }
+}
+
+/// Says on the screen what a module from a file may not be meant to say.
+pub fn warn_of_load<M: Meaning>(
+    alloc: Global,
+    mut screen: impl Write + Drop,
+    session: &Session<M>,
+    load: &Load<'_>,
+    text: &[u8],
+) {
+    if let Ok(command) = command_of(alloc, load, text) {
+        if let Ok(said) = warn(alloc, session, &seen_in_file(load, &command)) {
+            show(&mut screen, &said);
+        }
+    }
+}
+
+// The command that loads this text, which begins on a line of its own.
+fn command_of(alloc: Global, load: &Load<'_>, text: &[u8]) -> Result<Vec<u8>, AllocError> {
+    let (word, named) = match load {
+        Load::Module(named) => (b"module ".as_slice(), named),
+        Load::Tree(named) => (b"tree ".as_slice(), named),
+    };
+    let mut command = Vec::new(alloc);
+    command.extend_from_slice(word)?;
+    command.extend_from_slice(named.name.bytes())?;
+    command.push(b'\n')?;
+    command.extend_from_slice(text)?;
+    Ok(command)
+}
+
+fn seen_in_file<'a>(load: &'a Load<'_>, command: &'a [u8]) -> Seen<'a> {
+    Seen {
+        file: Some(load.file()),
+        line: 0,
+        indent: 0,
+        comments: &[],
+        text: command,
+        steps: MAX_STEPS,
+        framing: Framing::Continued,
+        past: Past::new(),
+        library: None,
+    }
+}
+
+// Shows the lines of a text. Each that isn't indented gets the program's name in front.
+fn show(screen: &mut impl Write, text: &[u8]) {
+    if text.is_empty() {
+        return;
+    }
+    for line in text.split(|byte| *byte == b'\n') {
+        if !line.is_empty() && line[0] != b' ' {
+            let _ = screen.write_all(b"stratbench: ");
+        }
+        let _ = screen.write_all(line);
+        let _ = screen.write_all(b"\n");
+    }
+}
+
+// The bytes of a command; none if it is too long.
+fn text_of(command: Piece<'_>) -> &[u8] {
+    match command {
+        Piece::Text(text) => text,
+        Piece::Long => &[],
+    }
+}
