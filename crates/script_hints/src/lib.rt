@@ -30,4 +30,4 @@ mod warnings;
 pub use numbered::Numbered;
 pub use refusals::explain;
 pub use seen::{Before, Past, Seen};
-pub use warnings::warn;
+pub use warnings::{warn, warn_of_end};

@@ -21,6 +21,8 @@ pub struct Past {
     pub before: Before,
     /// The line on which the last group was begun, counted from 1, if one was.
     pub group: Option<u64>,
+    /// Whether that group is open.
+    pub open: bool,
 }
 
 impl Past {
@@ -29,21 +31,25 @@ impl Past {
         Past {
             before: Before::Other,
             group: None,
+            open: false,
         }
     }
 
     /// What is kept after a command that begins on this line.
     pub fn after(self, line: u64, command: &[u8], accepted: bool) -> Past {
-        let (before, begins) = match parts_of(command).word {
-            b"module" => (Before::Module(line), false),
-            b"tree" => (Before::Tree(line), false),
-            b"begin" => (Before::Other, accepted),
-            _ => (Before::Other, false),
-        };
-        Past {
-            before,
-            group: if begins { Some(line) } else { self.group },
+        let mut past = self;
+        past.before = Before::Other;
+        match parts_of(command).word {
+            b"module" => past.before = Before::Module(line),
+            b"tree" => past.before = Before::Tree(line),
+            b"begin" if accepted => {
+                past.group = Some(line);
+                past.open = true;
+            }
+            b"commit" | b"abandon" if accepted => past.open = false,
+            _ => {}
         }
+        past
     }
 }
 

@@ -5,7 +5,7 @@ use crate::hint::Hint;
 use crate::modules::{module_of, modules_of};
 use crate::parts::parts_of;
 use crate::places::{say_place, say_source};
-use crate::seen::Seen;
+use crate::seen::{Past, Seen};
 use prim_core::Meaning;
 use session_core::Session;
 use std::alloc::Global;
@@ -33,6 +33,19 @@ pub fn warn<M: Meaning>(
     drop(modules);
     let mut hint = Hint::new(alloc);
     warn_of_module(alloc, &mut hint, seen, &constants)?;
+    hint.into_text()
+}
+
+/// What is odd at the end of a script, in the form of `warn`: a group that is still open.
+///
+/// Errors: `NoMemory` if memory can't grow.
+pub fn warn_of_end(alloc: Global, past: Past) -> Result<Vec<u8>, NoMemory> {
+    let mut hint = Hint::new(alloc);
+    if let (Some(line), true) = (past.group, past.open) {
+        hint.say("line ");
+        hint.number(line);
+        hint.say(": warning: the group is still open at the end: what it changed is no step");
+    }
     hint.into_text()
 }
 

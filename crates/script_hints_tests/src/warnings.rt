@@ -1,6 +1,8 @@
 //! What is odd in accepted modules.
 
 use crate::rows::expect_warnings;
+use script_hints::{Past, warn_of_end};
+use std::alloc::Global;
 use std::test::Fail;
 
 const ROWS: &str = r#"
@@ -61,4 +63,48 @@ module m strategies f = ?x; !y g = \ x -> y \
 #[test]
 fn warnings(rt: HostRuntime) -> Result<(), Fail> {
     expect_warnings(rt.alloc(), ROWS)
+}
+
+// What is said at the end, after commands on lines 1, 2, .. that are accepted, but for those with a
+// `!` in front.
+fn at_end(alloc: Global, commands: &[&str]) -> Vec<u8> {
+    let mut past = Past::new();
+    let mut line: u64 = 0;
+    for command in commands {
+        line = line.saturating_add(1);
+        past = match command.strip_prefix('!') {
+            Some(refused) => past.after(line, refused.as_bytes(), false),
+            None => past.after(line, command.as_bytes(), true),
+        };
+    }
+    warn_of_end(alloc, past).unwrap_or(Vec::new(alloc))
+}
+
+#[test]
+fn open_groups(rt: HostRuntime) -> Result<(), Fail> {
+    let second = "line 2: warning: the group is still open at the end: what it changed is no step";
+    let third = "line 3: warning: the group is still open at the end: what it changed is no step";
+    let alloc = rt.alloc();
+    assert_eq!(rt; at_end(alloc, &["tree e a"]).as_slice(), b"".as_slice());
+    assert_eq!(rt;
+        at_end(alloc, &["tree e a", "begin"]).as_slice(),
+        second.as_bytes()
+    );
+    assert_eq!(rt;
+        at_end(alloc, &["tree e a", "!begin"]).as_slice(),
+        b"".as_slice()
+    );
+    assert_eq!(rt;
+        at_end(alloc, &["begin", "commit", "begin", "!begin"]).as_slice(),
+        third.as_bytes()
+    );
+    assert_eq!(rt;
+        at_end(alloc, &["tree e a", "begin", "!commit"]).as_slice(),
+        second.as_bytes()
+    );
+    assert_eq!(rt;
+        at_end(alloc, &["begin", "abandon"]).as_slice(),
+        b"".as_slice()
+    );
+    Ok(())
 }

@@ -3,7 +3,7 @@
 use command_line::Load;
 use prim_core::Meaning;
 use script_core::{Framing, Piece, Settings, Watch};
-use script_hints::{Numbered, Past, Seen, explain, warn};
+use script_hints::{Numbered, Past, Seen, explain, warn, warn_of_end};
 use session_core::{MAX_STEPS, Refusal, Session};
 use std::alloc::{AllocError, Global};
 use std::io::Write;
@@ -36,6 +36,13 @@ impl<'a, W: Write> Explaining<'a, W> {
             library,
             numbered: Numbered::new(alloc, settings.framing),
             past: Past::new(),
+        }
+    }
+
+    /// Says what may not be meant at the end of the script.
+    pub fn end(&mut self) {
+        if let Ok(text) = warn_of_end(self.alloc, self.past) {
+            show(&mut self.screen, &text);
         }
     }
 

@@ -285,7 +285,7 @@ fn run_between<M: Meaning, I: Source + Drop, O: Sink + Drop>(
             Some(library_text())
         };
         let mut watch = Explaining::new(rt.alloc(), rt.stderr(), settings, unloaded);
-        return run_watched(
+        let outcome = run_watched(
             rt.alloc(),
             session,
             &mut source,
@@ -293,6 +293,8 @@ fn run_between<M: Meaning, I: Source + Drop, O: Sink + Drop>(
             &mut watch,
             settings,
         );
+        watch.end();
+        return outcome;
     }
     run(rt.alloc(), session, &mut source, &mut sink, settings)
 }
