@@ -2,3 +2,4 @@ pub mod PatternLemmas
 pub mod StrategyLemmas
 pub mod PlaceLemmas
 pub mod ResolvedLemmas
+pub mod RenumberingLemmas

@@ -8,4 +8,5 @@ pub mod PatternView
 pub mod StrategyView
 pub mod PlaceView
 pub mod ResolvedView
+pub mod Renumbering
 pub mod inside

@@ -1,7 +1,9 @@
 //! Resolved strategies: strategies with numbers for names.
 
 ghost use Rattle.std.specs.Prelude.{◌≡◌};
+ghost use Rattle.strategy_syntax.specs.Resolved.{resolveds_of};
 ghost use Rattle.strategy_syntax.specs.ResolvedView.{resolved_of};
+ghost use Rattle.strategy_syntax.specs.Renumbering.{new_number, renumbered, all_renumbered};
 
 use crate::{Head, Place};
 use std::marker::Model;
@@ -99,5 +101,64 @@ impl ResolvedStrategy {
         ensures { self.now ≡ resolved_of result.now }
     {
         &self.form
+    }
+
+    /// Changes the numbers of the definitions that it calls: definition k gets the number at index k
+    /// of `numbers`, and keeps its own if there is none.
+    #[cycle(renumbering)]
+    pub fn renumber(&mut self, numbers: &[usize])
+        ensures { self.new ≡ renumbered numbers.now self.old }
+    {
+        match &mut self.form {
+            ResolvedForm::Id
+            | ResolvedForm::Fail
+            | ResolvedForm::Match(_)
+            | ResolvedForm::Build(_)
+            | ResolvedForm::Param(_)
+            | ResolvedForm::Prim(_, _) => {}
+            ResolvedForm::Seq(parts) => {
+                parts.0.renumber(numbers);
+                parts.1.renumber(numbers);
+            }
+            ResolvedForm::Guard(parts) => {
+                parts.0.renumber(numbers);
+                parts.1.renumber(numbers);
+                parts.2.renumber(numbers);
+            }
+            ResolvedForm::Test(part) => part.renumber(numbers),
+            ResolvedForm::Scope(_, part) => part.renumber(numbers),
+            ResolvedForm::All(part) => part.renumber(numbers),
+            ResolvedForm::One(part) => part.renumber(numbers),
+            ResolvedForm::Some(part) => part.renumber(numbers),
+            ResolvedForm::Child(_, part) => part.renumber(numbers),
+            ResolvedForm::Rec(part) => part.renumber(numbers),
+            ResolvedForm::Call(number, parts, _) => {
+                *number = renumbered_call(numbers, *number);
+                renumber_all(parts, numbers);
+            }
+            ResolvedForm::Congruence(_, parts) => renumber_all(parts, numbers),
+            ResolvedForm::TailCongruence(parts, part) => {
+                renumber_all(parts, numbers);
+                part.renumber(numbers);
+            }
+        }
+    }
+}
+
+#[cycle(renumbering)]
+fn renumber_all(parts: &mut Vec<ResolvedStrategy>, numbers: &[usize])
+    ensures { resolveds_of parts.new.items ≡ all_renumbered numbers.now (resolveds_of parts.old.items) }
+{
+    for i in 0..parts.len() {
+        parts[i].renumber(numbers);
+    }
+}
+
+fn renumbered_call(numbers: &[usize], number: usize) -> usize
+    ensures { result ≡ new_number numbers.now number }
+{
+    match numbers.get(number) {
+        Some(new) => *new,
+        None => number,
     }
 }
