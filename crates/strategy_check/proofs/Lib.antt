@@ -6,5 +6,12 @@ pub mod GroupLemmas
 pub mod PlaceLemmas
 pub mod BodyLemmas
 pub mod ListLemmas
+pub mod MentionLemmas
 pub mod RangeLemmas
 pub mod ProgramLemmas
+pub mod ChangeLemmas
+pub mod RenumberLemmas
+pub mod ReplacingLemmas
+pub mod AmongLemmas
+pub mod StayingLemmas
+pub mod CheckedLemmas

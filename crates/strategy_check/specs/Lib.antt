@@ -6,4 +6,5 @@ pub mod Free
 pub mod Resolving
 pub mod Programs
 pub mod Ranges
+pub mod Checking
 pub mod inside

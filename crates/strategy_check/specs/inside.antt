@@ -1,7 +1,13 @@
 pub mod BinderView
+pub mod Changing
+pub mod CheckedCodes
 pub mod Closing
 pub mod FirstFault
 pub mod Grouping
+pub mod Mentioned
+pub mod Mentions
 pub mod Met
 pub mod ProgramCodes
+pub mod Replacing
+pub mod Staying
 pub mod TableCodes

@@ -10,13 +10,14 @@ ghost use Rattle.strategy_check.specs.inside.Grouping.{with_definition, with_def
 use crate::binders::Binders;
 use crate::bodies::resolve_strategy;
 use crate::free::free_variables;
+use crate::named::NamedModule;
 use crate::scope::Scope;
 use crate::table::Table;
 use prim_core::{Meaning, Primitives};
 use std::alloc::Global;
 use std::marker::Model;
-use strategy_syntax::{Definition, Module, Resolved, ResolvedForm, ResolvedStrategy};
-use term_core::{Label, NoMemory};
+use strategy_syntax::{Definition, Resolved, ResolvedForm, ResolvedStrategy};
+use term_core::NoMemory;
 
 /// Definitions with one key, in the order of the texts.
 #[derive(Drop)]
@@ -58,13 +59,13 @@ impl<'a> DefinitionGroup<'a> {
 pub fn group_definitions<'a>(
     alloc: Global,
     table: &Table,
-    modules: &'a [(Label, Module)],
+    modules: &'a [NamedModule],
 ) -> Result<Vec<DefinitionGroup<'a>>, NoMemory>
     ensures { IfOk result (λ found. found.items ≡ groups table.now (definitions_of modules.now)) }
 {
     let mut groups = empty_groups(alloc, table.definitions.len())?;
-    for (_, module) in modules {
-        add_to_groups(table, &mut groups, module.definitions())?;
+    for named in modules {
+        add_to_groups(table, &mut groups, named.module().definitions())?;
     }
     Ok(groups)
 }

@@ -3,12 +3,16 @@
 
 mod binders;
 mod bodies;
+mod changes;
+mod checked;
 mod fault;
 mod free;
 mod groups;
 mod headers;
 mod key;
+mod mentions;
 mod modules;
+mod named;
 mod patterns;
 mod places;
 mod program;
@@ -16,5 +20,7 @@ mod scope;
 mod strategies;
 mod table;
 
+pub use checked::Checked;
 pub use fault::{CheckFault, Kind};
+pub use named::NamedModule;
 pub use program::{Program, check, resolve};

@@ -8,25 +8,26 @@ use crate::CheckFault;
 use crate::binders::Binders;
 use crate::headers::check_header;
 use crate::key::DefinitionKey;
+use crate::named::NamedModule;
 use crate::strategies::check_strategy;
 use crate::table::{Table, add_definitions};
 use indexmap::IndexSet;
 use prim_core::{Meaning, Primitives};
 use std::alloc::Global;
-use strategy_syntax::{Definition, Module};
-use term_core::Label;
+use strategy_syntax::Definition;
 
 /// The first fault in modules, in order.
 pub fn check_modules<M: Meaning>(
     alloc: Global,
     table: &Table,
     primitives: &Primitives<M>,
-    modules: &[(Label, Module)],
+    modules: &[NamedModule],
 ) -> Result<(), CheckFault>
     ensures { Tells result (first_in_modules table.now primitives.now [] modules.now) }
 {
     let mut earlier = IndexSet::new(alloc);
-    for (_, module) in modules {
+    for named in modules {
+        let module = named.module();
         check_definitions(alloc, table, primitives, &earlier, module.definitions())?;
         add_definitions(&mut earlier, module.definitions())?;
     }

@@ -1,25 +1,29 @@
 //! Checked programs.
 #![tactic(auto)]
 
-ghost use Rattle.std.specs.Prelude.{◌≡◌, [], IfOk, IfErr};
+ghost use Rattle.std.specs.Prelude.{◌≡◌, ◌≤◌, ◌+◌, [], length, map, IfOk, OnOk, IfErr};
 ghost use Rattle.strategy_check.specs.Faults.{faults, first, IsTold};
 ghost use Rattle.strategy_check.specs.Programs.{program, faults_of, resolved};
 ghost use Rattle.strategy_check.specs.Ranges.{IsInRange, BodiesInRange};
+ghost use Rattle.strategy_check.specs.inside.Replacing.{renumbered_definition};
+ghost use Rattle.strategy_check.specs.inside.Staying.{joined_bodies, with_bodies};
 
 use crate::CheckFault;
 use crate::binders::Binders;
 use crate::bodies::resolve_strategy;
+use crate::changes::new_numbers;
 use crate::free::free_variables;
 use crate::groups::{group_definitions, join_groups};
 use crate::modules::check_modules;
+use crate::named::NamedModule;
 use crate::scope::Scope;
 use crate::strategies::check_strategy;
 use crate::table::Table;
 use prim_core::{Meaning, Primitives};
 use std::alloc::Global;
 use std::marker::Model;
-use strategy_syntax::{Module, Resolved, Strategy};
-use term_core::{Label, NoMemory};
+use strategy_syntax::{Resolved, Strategy};
+use term_core::NoMemory;
 
 /// The definitions and declarations of checked modules, with each definition resolved.
 #[derive(Drop)]
@@ -46,13 +50,70 @@ impl Program {
     {
         self.bodies.as_slice()
     }
+
+    /// The definitions and declarations.
+    pub(crate) fn table(&self) -> &Table
+        ensures { result.now ≡ self.now.table }
+    {
+        &self.table
+    }
+
+    /// Changes the table, and puts the bodies of new modules in the places of `gone` bodies, from
+    /// index `first` on. The other bodies get the new numbers of the definitions that they call.
+    pub(crate) fn replace_bodies<M: Meaning>(
+        &mut self,
+        alloc: Global,
+        primitives: &Primitives<M>,
+        table: Table,
+        first: usize,
+        gone: usize,
+        new: &[NamedModule],
+    ) -> Result<(), NoMemory>
+        requires { first + gone ≤ length self.old.bodies }
+        ensures { OnOk result (self.new
+            ≡ with_bodies table primitives.now first gone new.now self.old) }
+    {
+        let numbers = new_numbers(alloc, &self.table, &table)?;
+        let mut joined = join_modules(alloc, &table, primitives, new)?;
+        let mut last = self.bodies.split_off(first + gone)?;
+        self.bodies.truncate(first);
+        renumber_bodies(&mut self.bodies, numbers.as_slice());
+        renumber_bodies(&mut last, numbers.as_slice());
+        self.bodies.append(&mut joined)?;
+        self.bodies.append(&mut last)?;
+        self.table = table;
+        Ok(())
+    }
+}
+
+fn renumber_bodies(bodies: &mut Vec<Resolved>, numbers: &[usize])
+    ensures { bodies.new.items ≡ map (renumbered_definition numbers.now) bodies.old.items }
+{
+    for i in 0..bodies.len() {
+        bodies[i].strategy.renumber(numbers);
+    }
+}
+
+// The bodies of the definitions of modules, in a table that has more.
+fn join_modules<M: Meaning>(
+    alloc: Global,
+    table: &Table,
+    primitives: &Primitives<M>,
+    modules: &[NamedModule],
+) -> Result<Vec<Resolved>, NoMemory>
+    ensures { IfOk result (λ bodies. bodies.items
+        ≡ joined_bodies table.now primitives.now modules.now) }
+{
+    let own = Table::new(alloc, modules)?;
+    let groups = group_definitions(alloc, &own, modules)?;
+    join_groups(alloc, table, primitives, groups.as_slice())
 }
 
 /// The program of the modules, if they have no fault, else the first fault. The modules are in the
 /// order of their names, which faults follow.
 pub fn check<M: Meaning>(
     alloc: Global,
-    modules: &[(Label, Module)],
+    modules: &[NamedModule],
     primitives: &Primitives<M>,
 ) -> Result<Program, CheckFault>
     ensures faultless { IfOk result (λ _. faults modules.now primitives.now ≡ []) }

@@ -1,16 +1,18 @@
 //! The definitions and declarations of all modules together.
 #![tactic(auto)]
 
-ghost use Rattle.std.specs.Prelude.{◌≡◌, IfOk, OnOk};
+ghost use Rattle.std.specs.Prelude.{◌≡◌, [], IfOk, OnOk};
 ghost use Rattle.strategy_syntax.specs.Lists.{with_new};
 ghost use Rattle.strategy_check.specs.Tables.{definition_number, is_declared, same_key, same_constructor, keys_of, table_of};
+ghost use Rattle.strategy_check.specs.inside.Changing.{with_module, with_all};
 
 use crate::key::DefinitionKey;
+use crate::named::NamedModule;
 use indexmap::IndexSet;
 use std::alloc::Global;
 use std::marker::Model;
 use strategy_syntax::{Constructor, Definition, Module};
-use term_core::{Label, Name, NoMemory};
+use term_core::{Name, NoMemory};
 
 /// The keys of the definitions, whose indices are the numbers of these, and the constructors.
 #[derive(Drop)]
@@ -31,20 +33,41 @@ impl Model for Table {
 }
 
 impl Table {
+    /// The table of no modules. It takes no memory.
+    pub fn empty(alloc: Global) -> Table
+        ensures { result ≡ record { definitions = []; constructors = [] } }
+    {
+        Table {
+            definitions: IndexSet::new(alloc),
+            constructors: IndexSet::new(alloc),
+        }
+    }
+
     /// The table of the modules, in order.
-    pub fn new(alloc: Global, modules: &[(Label, Module)]) -> Result<Table, NoMemory>
+    pub fn new(alloc: Global, modules: &[NamedModule]) -> Result<Table, NoMemory>
         ensures { IfOk result (λ table. table ≡ table_of modules.now) }
     {
-        let mut definitions = IndexSet::new(alloc);
-        let mut constructors = IndexSet::new(alloc);
-        for (_, module) in modules {
-            add_definitions(&mut definitions, module.definitions())?;
-            add_constructors(&mut constructors, module.constructors())?;
+        let mut table = Table::empty(alloc);
+        table.add_all(modules)?;
+        Ok(table)
+    }
+
+    /// Adds what further modules define and declare, in order.
+    pub fn add_all(&mut self, modules: &[NamedModule]) -> Result<(), NoMemory>
+        ensures { OnOk result (self.new ≡ with_all self.old modules.now) }
+    {
+        for named in modules {
+            self.add(named.module())?;
         }
-        Ok(Table {
-            definitions,
-            constructors,
-        })
+        Ok(())
+    }
+
+    /// Adds what a further module defines and declares.
+    pub fn add(&mut self, module: &Module) -> Result<(), NoMemory>
+        ensures { OnOk result (self.new ≡ with_module self.old «module».now) }
+    {
+        add_definitions(&mut self.definitions, module.definitions())?;
+        add_constructors(&mut self.constructors, module.constructors())
     }
 
     /// The number of the definition of this name with these numbers of strategies and terms.

@@ -3,7 +3,7 @@
 use prim_core::{NoPrimitives, Primitives};
 use std::alloc::Global;
 use std::test::Fail;
-use strategy_check::{CheckFault, Kind, Program, check, resolve};
+use strategy_check::{CheckFault, Kind, NamedModule, Program, check, resolve};
 use strategy_syntax::{Definition, Module, Resolved, ResolvedForm, Strategy, StrategyForm};
 use term_core::{Label, Name};
 
@@ -19,13 +19,13 @@ fn name_alone(alloc: Global, name: &[u8]) -> Result<Strategy, Fail> {
 
 // `f = f`, in a module of its own. What can fail is made before the body where possible, since each
 // later way out would drop the body.
-fn recursive(alloc: Global) -> Result<(Label, Module), Fail> {
+fn recursive(alloc: Global) -> Result<NamedModule, Fail> {
     let label = Label::read(alloc, b"m")?;
     let name = word(alloc, b"f")?;
     let body = name_alone(alloc, b"f")?;
     let f = Definition::new(name, Vec::new(alloc), Vec::new(alloc), body);
     let definitions = vec![in alloc; f]?;
-    Ok((label, Module::new(Vec::new(alloc), definitions)))
+    Ok(NamedModule::new(alloc, label, Module::new(Vec::new(alloc), definitions))?)
 }
 
 fn is_first_call(whole: &Resolved) -> bool {
@@ -70,7 +70,7 @@ fn resolves(
 // The same for a strategy in the program of the modules, if they have one.
 fn answers(
     alloc: Global,
-    modules: &[(Label, Module)],
+    modules: &[NamedModule],
     strategy: &Strategy,
     primitives: &Primitives<NoPrimitives>,
     expected: Option<(Kind, &[u8])>,
@@ -89,7 +89,7 @@ fn answers(
     }
 }
 
-fn add_modules(alloc: Global, modules: &mut Vec<(Label, Module)>, count: u32) -> Result<(), Fail> {
+fn add_modules(alloc: Global, modules: &mut Vec<NamedModule>, count: u32) -> Result<(), Fail> {
     for _ in 0..count {
         modules.push(recursive(alloc)?)?;
     }
@@ -98,7 +98,7 @@ fn add_modules(alloc: Global, modules: &mut Vec<(Label, Module)>, count: u32) ->
 
 fn answers_in(
     alloc: Global,
-    modules: &mut Vec<(Label, Module)>,
+    modules: &mut Vec<NamedModule>,
     count: u32,
     strategy: &Strategy,
     expected: Option<(Kind, &[u8])>,

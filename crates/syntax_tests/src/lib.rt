@@ -6,3 +6,7 @@
 mod checking;
 #[cfg(test)]
 mod forms;
+#[cfg(test)]
+mod marks;
+#[cfg(test)]
+mod replacing;

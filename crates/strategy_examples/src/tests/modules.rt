@@ -4,9 +4,8 @@ use super::rows::{Row, first_wrong};
 use prim_core::{Meaning, Primitives};
 use std::alloc::{AllocError, Global};
 use std::test::Fail;
-use strategy_check::{Program, check};
+use strategy_check::{NamedModule, Program, check};
 use strategy_parse::parse_module;
-use strategy_syntax::Module;
 use term_core::Label;
 
 /// A module's name and text.
@@ -81,7 +80,7 @@ pub fn first_wrong_beside<M: Meaning>(
     first_wrong_in(alloc, &modules, primitives, levels, rows)
 }
 
-fn read_modules(alloc: Global, texts: &[Text<'_>]) -> Result<Vec<(Label, Module)>, Fail> {
+fn read_modules(alloc: Global, texts: &[Text<'_>]) -> Result<Vec<NamedModule>, Fail> {
     let mut modules = Vec::new(alloc);
     for (name, text) in texts {
         modules.push(read_module(alloc, name, text)?)?;
@@ -89,14 +88,15 @@ fn read_modules(alloc: Global, texts: &[Text<'_>]) -> Result<Vec<(Label, Module)
     Ok(modules)
 }
 
-fn read_module(alloc: Global, name: &str, text: &str) -> Result<(Label, Module), Fail> {
+fn read_module(alloc: Global, name: &str, text: &str) -> Result<NamedModule, Fail> {
     let module = parse_module(alloc, text.as_bytes())?;
-    Ok((Label::read(alloc, name.as_bytes())?, module))
+    let name = Label::read(alloc, name.as_bytes())?;
+    Ok(NamedModule::new(alloc, name, module)?)
 }
 
 fn first_wrong_in<M: Meaning>(
     alloc: Global,
-    modules: &[(Label, Module)],
+    modules: &[NamedModule],
     primitives: &Primitives<M>,
     levels: &[usize],
     rows: &[Row<'_>],
@@ -108,7 +108,7 @@ fn first_wrong_in<M: Meaning>(
 /// The program of modules without a fault, in a box, whose drop is a call.
 pub fn checked<M: Meaning>(
     alloc: Global,
-    modules: &[(Label, Module)],
+    modules: &[NamedModule],
     primitives: &Primitives<M>,
 ) -> Result<Box<Program>, Fail> {
     match check(alloc, modules, primitives) {

@@ -1,0 +1,84 @@
+//! Modules with their names, and what the checker keeps beside them.
+#![tactic(auto)]
+
+ghost use Rattle.std.specs.Prelude.{◌≡◌, IfOk};
+ghost use Rattle.strategy_check.specs.inside.Changing.{mentioned, own_table};
+
+use crate::mentions::mentions;
+use crate::table::Table;
+use std::alloc::Global;
+use std::marker::Model;
+use strategy_syntax::Module;
+use term_core::{Label, NoMemory};
+
+/// A module with its name, and what it defines and mentions.
+#[derive(Drop)]
+pub struct NamedModule {
+    name: Label,
+    module: Module,
+    // The keys of its definitions, and its constructors.
+    defines: Table,
+    // What its bodies mention.
+    mentions: Table,
+}
+
+impl Model for NamedModule {
+    ghost use Rattle.std.specs.Prelude.{◌≡◌, ℕ, List, [], ◌∷◌};
+    ghost use Rattle.strategy_syntax.specs.Modules.{Module};
+    ghost use Rattle.strategy_check.specs.inside.Changing.{mentioned, own_table};
+    ghost use Rattle.strategy_check.specs.inside.CheckedCodes.{named_code};
+
+    ghost Value = { List ℕ × Module };
+
+    ghost coded = { named_code };
+
+    ghost view = { λ m. (m.name, m.module) };
+
+    ghost invariant = { λ m. (m.defines ≡ own_table (m.name, m.module))
+        × (m.mentions ≡ mentioned m.module) };
+}
+
+impl NamedModule {
+    /// The module with this name.
+    pub fn new(alloc: Global, name: Label, module: Module) -> Result<NamedModule, NoMemory>
+        ensures { IfOk result (λ named. named ≡ (name, «module»)) }
+    {
+        let mut defines = Table::empty(alloc);
+        defines.add(&module)?;
+        let mentions = mentions(alloc, &module)?;
+        Ok(NamedModule {
+            name,
+            module,
+            defines,
+            mentions,
+        })
+    }
+
+    /// Its name.
+    pub fn name(&self) -> &Label
+        ensures { result.now ≡ self.now.0 }
+    {
+        &self.name
+    }
+
+    /// The module.
+    pub fn module(&self) -> &Module
+        ensures { result.now ≡ self.now.1 }
+    {
+        &self.module
+    }
+
+    /// The keys of its definitions, and its constructors.
+    pub(crate) fn defines(&self) -> &Table
+        ensures { result.now ≡ own_table self.now }
+    {
+        &self.defines
+    }
+
+    /// What its bodies mention.
+    pub(crate) fn mentions(&self) -> &Table
+        ensures { result.now ≡ mentioned self.now.1 }
+    {
+        &self.mentions
+    }
+}
