@@ -1,4 +1,5 @@
 pub mod PlaceLemmas
+pub mod TextLemmas
 pub mod PatchLemmas
 pub mod KeyLemmas
 pub mod RelationLemmas

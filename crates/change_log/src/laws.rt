@@ -2,6 +2,7 @@
 //! does nothing.
 
 ghost use Rattle.change_plans.specs.Laws.{FlipsForward, FlipsBack, StoreFromAfter, StoreFromBefore, FlippedBackFits, FlippedForwardFits, PushedFits, RolledBackFits, PushedLeadsBack, RolledBackLeadsBack, FlippedBackIsCompact, FlippedForwardIsCompact, BeforeKeepsTexts, AfterKeepsTexts, NewSlotsAreEmpty, TreePut, TreeTaken, ModulePut, ModuleTaken, SubtermPut, AnnotationsPut, TreeOfName, ModuleOfName, FitsWithMore, FitsForwardWithMore, FitsWithMoreModules, FitsForwardWithMoreModules};
+ghost use Rattle.change_log.specs.Texts.{BeforeChangesTexts, AfterChangesTexts, BothChangeTexts};
 
 /// The two flips are inverse: each restores the store and the log from before the other.
 pub fn flips_are_inverse()
@@ -34,10 +35,14 @@ pub fn flips_keep_places()
     ensures forward { FlippedForwardIsCompact }
 {}
 
-/// A log without module texts leads back and forward without changing those of the store.
+/// A log without module texts leads back and forward without changing those of the store. Any other
+/// changes only those that it concerns, and two changes only those that either may change.
 pub fn texts_stay()
     ensures back { BeforeKeepsTexts }
     ensures forward { AfterKeepsTexts }
+    ensures changed_back { BeforeChangesTexts }
+    ensures changed_forward { AfterChangesTexts }
+    ensures both { BothChangeTexts }
 {}
 
 /// The contents of a store by name: new slots are empty; a put in the slot of a name is seen under

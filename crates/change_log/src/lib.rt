@@ -10,6 +10,7 @@ mod relation;
 mod slots;
 mod step;
 mod store;
+mod texts;
 
 pub use change_plans::{Entry, Plan};
 #[doc(hidden)]
@@ -23,3 +24,4 @@ pub use step::Step;
 #[doc(hidden)]
 pub use step::{Changes, Parts, Whole};
 pub use store::Store;
+pub use texts::Texts;

@@ -2,13 +2,14 @@
 
 ghost use Rattle.std.specs.Prelude.{◌≡◌, ◌<◌, ◌≤◌, ◌+◌, ◌-◌, ◌*◌, ◌++◌, ℕ, List, [], ◌∷◌, length, take, drop, OnOk, OnErr, vec_len, vec_capacity};
 ghost use Rattle.change_plans.specs.Slots.{Store};
-ghost use Rattle.change_plans.specs.Entries.{put, found, before, after, flipped_back, flipped_forward, Fits, texts, has_text};
+ghost use Rattle.change_plans.specs.Entries.{put, found, before, after, flipped_back, flipped_forward, Fits, texts};
 ghost use Rattle.change_plans.specs.Compact.{IsCompact};
 ghost use Rattle.change_plans.specs.LogView.{entry_of};
 ghost use Rattle.change_plans.specs.inside.LogView.{entries, depths};
+ghost use Rattle.change_log.specs.Texts.{texts_in};
 
-use crate::Store;
 use crate::compact::compact;
+use crate::{Store, Texts};
 use change_plans::{Entry, Kept, Plan, Replaced};
 use std::alloc::Global;
 use std::marker::Model;
@@ -74,11 +75,14 @@ impl Log {
         self.count()
     }
 
-    /// Whether any entry holds a module text.
-    pub fn has_text(&self) -> bool
-        ensures { result ≡ has_text self.now }
+    /// The module texts that the entries hold.
+    pub fn texts(&self) -> Texts
+        ensures { result ≡ texts_in self.now }
     {
-        self.text_count > 0
+        if self.text_count == 0 {
+            return Texts::None;
+        }
+        Texts::of_all(&self.replaced)
     }
 
     /// Makes the change: puts the entry's value at its place, and records what was there. If the

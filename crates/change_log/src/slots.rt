@@ -1,6 +1,6 @@
 //! Slots: numbered places with a label each, for trees or for module texts.
 
-ghost use Rattle.std.specs.Prelude.{◌≡◌, [], Some, unwrap_or, IfOk, OnOk, OnErr, option_copied};
+ghost use Rattle.std.specs.Prelude.{◌≡◌, [], Some, unwrap_or, IfOk, OnOk, OnErr, option_copied, option_map, slice_get};
 ghost use Rattle.std.specs.FinMap as finmap;
 ghost use Rattle.term_paths.specs.Paths.{set_at, set_annotations_at};
 ghost use Rattle.change_plans.specs.Slots.{AreApart, slot_at, content, with_content, slot_of, with_slot, named};
@@ -72,6 +72,18 @@ impl<T: Drop> Slots<T> {
     {
         let (_name, content) = self.slots.get_index(i)?;
         content.as_ref()
+    }
+
+    /// The label of slot `i`, if the slot exists.
+    pub(crate) fn label(&self, i: usize) -> Option<&Label>
+        ensures label { option_copied result ≡ option_map (λ s. s.0) (slice_get self.now i) }
+        ensures apart { AreApart self.now }
+    {
+        if i >= self.slots.len() {
+            return None;
+        }
+        let (name, _content) = self.slots.get_index(i)?;
+        Some(name)
     }
 
     /// The labels of the slots that have content, in byte order.

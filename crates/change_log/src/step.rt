@@ -2,12 +2,13 @@
 
 ghost use Rattle.std.specs.Prelude.{◌≡◌, ◌∷◌, [], IfOk, OnOk, OnErr};
 ghost use Rattle.change_plans.specs.Slots.{Store};
-ghost use Rattle.change_plans.specs.Entries.{put, found, before, after, flipped_back, flipped_forward, Fits, has_text};
+ghost use Rattle.change_plans.specs.Entries.{put, found, before, after, flipped_back, flipped_forward, Fits};
 ghost use Rattle.change_plans.specs.Compact.{IsCompact};
 ghost use Rattle.term_patch.specs.PatchLaws.{patch_entries};
+ghost use Rattle.change_log.specs.Texts.{texts_in};
 ghost use Rattle.change_log.specs.inside.StepView.{whole_entry, part_entries};
 
-use crate::{Log, Store};
+use crate::{Log, Store, Texts};
 use change_plans::{Entry, Kept};
 use std::alloc::Global;
 use std::marker::Model;
@@ -111,14 +112,14 @@ impl Step {
         }
     }
 
-    /// Whether any change is of a module text.
-    pub fn has_text(&self) -> bool
-        ensures { result ≡ has_text self.now }
+    /// The module texts that the changes concern.
+    pub fn texts(&self) -> Texts
+        ensures { result ≡ texts_in self.now }
     {
         match &self.changes {
-            Changes::One(whole) => whole.kept.texts() > 0,
-            Changes::Patched(parts) => parts.has_text(),
-            Changes::Logged(log) => log.has_text(),
+            Changes::One(whole) => Texts::of(whole.slot, &whole.kept),
+            Changes::Patched(parts) => parts.texts(),
+            Changes::Logged(log) => log.texts(),
         }
     }
 
@@ -186,9 +187,9 @@ impl Parts {
     }
 
     // No change is of a module text.
-    fn has_text(&self) -> bool
-        ensures { result ≡ has_text (part_entries self.now) }
+    fn texts(&self) -> Texts
+        ensures { result ≡ texts_in (part_entries self.now) }
     {
-        false
+        Texts::None
     }
 }

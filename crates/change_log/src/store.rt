@@ -1,6 +1,6 @@
 //! Stores: trees and module texts by name, in numbered slots.
 
-ghost use Rattle.std.specs.Prelude.{◌≡◌, IfOk, OnOk, OnErr, Some, option_copied};
+ghost use Rattle.std.specs.Prelude.{◌≡◌, IfOk, OnOk, OnErr, Some, option_copied, option_map, slice_get};
 ghost use Rattle.std.specs.FinMap as finmap;
 ghost use Rattle.change_plans.specs.Slots.{AreApart, content, slot_of, empty_store, contents, with_tree_slot, with_module_slot};
 ghost use Rattle.change_plans.specs.Entries.{put, found};
@@ -97,6 +97,14 @@ impl Store {
             Some(text) => Some(text.bytes()),
             None => None,
         }
+    }
+
+    /// The name of the module whose slot this is, or `None` if there is no such slot.
+    pub fn module_name(&self, slot: usize) -> Option<&Label>
+        ensures label { option_copied result ≡ option_map (λ s. s.0) (slice_get self.now.modules slot) }
+        ensures apart { AreApart self.now.modules }
+    {
+        self.modules.label(slot)
     }
 
     /// The names of the trees, in byte order.
