@@ -1,6 +1,6 @@
 -- Resolving a strategy for a place: the tests, one after the other.
 use Rattle.std.proofs.Common.{◌≡◌, ◌≤◌, ◌+◌, ◌⊎◌, ℕ, List, length, Option, Some, None, IfSome, option_and_then, Result, Ok, Err, inl, inr, refl, sym, ap, subst, arith}
-use Rattle.std.specs.Prelude.{IsSomeAnd}
+use Rattle.std.specs.Prelude.{IsSomeAnd, option_map}
 use Rattle.prim_core.specs.Signature.{Signature}
 use Rattle.term_core.specs.Tree.{Tree}
 use Rattle.term_core.specs.Size.{height}
@@ -11,7 +11,10 @@ use Rattle.strategy_syntax.specs.declared.resolved.Resolved.{Resolved}
 use Rattle.strategy_check.specs.Programs.{Program}
 use Rattle.change_plans.specs.Slots.{Store, contents}
 use Rattle.change_plans.specs.Entries.{subterm_in}
-use Rattle.session_steps.specs.Modules.{Texts, AreReadable, GivesProgram, IsProgram, Checks, AreRefused}
+use Rattle.strategy_check.specs.Checking.{Checked as CheckedModules}
+use Rattle.session_steps.specs.declared.kept.KeptModules.{KeptModules}
+use Rattle.session_steps.proofs.CheckLemmas.{given_by, none_unread}
+use Rattle.session_steps.specs.Modules.{Texts, AreReadable, GivesProgram, AreCurrent, IsCurrent, program_in, Checks, AreRefused}
 use Rattle.session_steps.specs.Applying.{ReadsAsStrategy, resolved_in}
 use Rattle.session_steps.specs.History.{History, AreFormed}
 use Rattle.session_steps.specs.Step.{Passing, Given, Place, Resolving, place_of}
@@ -22,12 +25,15 @@ use Rattle.session_steps.specs.declared.refusal.Refusal.TheVariants.{Memory}
 use Rattle.strategy_run.proofs.ApplyLemmas.{low_at}
 use Rattle.session_steps.proofs.StepLemmas.{passed, stopped}
 use Rattle.session_steps.proofs.ActLemmas.{tree_held, seen_place, the_place}
-use Rattle.session_steps.proofs.CheckLemmas.{none_unread}
 use Rattle.session_core.specs.inside.Resolved.{ResolvesTo, Never, IsUnresolved}
 
 -- the cached program, if one is passed
-pub lent_program : (ps : List Signature) (texts : Texts) (kept : Option Program) (lent : Program) → Some lent ≡ kept → IsSomeAnd kept (IsProgram ps texts) → GivesProgram ps texts lent
-lent_program ps texts kept lent is there = let known : IsProgram ps texts lent = subst (λ (o : Option Program). IsSomeAnd o (IsProgram ps texts)) (sym is) there in known.gives
+pub lent_program : (ps : List Signature) (texts : Texts) (kept : KeptModules) (lent : Program) → Some lent ≡ program_in kept → IsCurrent ps texts kept → GivesProgram ps texts lent
+lent_program ps texts kept lent is there = by kept.checked is there
+  where
+    by : (o : Option CheckedModules) → Some lent ≡ option_map (λ c. c.program) o → IsSomeAnd o (AreCurrent ps texts) → GivesProgram ps texts lent
+    by None e current = absurd current
+    by (Some c) e current = let same : lent ≡ c.program = cc in subst (GivesProgram ps texts) (sym same) (given_by ps texts c current)
 
 -- ---- a place in a tree that is low enough
 

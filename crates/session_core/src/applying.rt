@@ -15,7 +15,7 @@ ghost use Rattle.session_core.specs.inside.Resolved.{replaced_of};
 
 use crate::resolving::resolve_at;
 use prim_core::{Meaning, Primitives};
-use session_steps::{Refusal, Timeline};
+use session_steps::{KeptModules, Refusal, Timeline};
 use strategy_check::Program;
 use strategy_run::{Planned, plan_entries, plan_patch};
 use strategy_syntax::Resolved;
@@ -23,11 +23,11 @@ use term_core::{Label, MAX_HEIGHT, NoMemory};
 use term_paths::{Path, at};
 
 /// Applies the strategy given as text to the subterm at the path of the name's tree, in at most
-/// `steps` steps. The program of the modules is compiled if it isn't cached, and is cached then.
+/// `steps` steps. The modules are checked unless they are kept, and are kept then.
 pub(crate) fn apply_strategy<M: Meaning>(
     timeline: &mut Timeline,
     primitives: &Primitives<M>,
-    program: &mut Option<Program>,
+    kept: &mut KeptModules,
     name: &Label,
     path: &Path,
     steps: u32,
@@ -35,7 +35,7 @@ pub(crate) fn apply_strategy<M: Meaning>(
 ) -> Result<(), Refusal>
     requires placed { IsPlaced timeline.old }
     requires formed { AreFormed (contents timeline.old.store) }
-    requires program { IsKept primitives.now (contents timeline.old.store).modules program.old }
+    requires kept { IsKept primitives.now (contents timeline.old.store).modules kept.old }
     ensures placed { IsPlaced timeline.new }
     ensures ok { OnOk result (ComesTo (apply M.meaning name.now path.now steps text.now)
         (unfolded primitives.now timeline.old) (Ok (unfolded primitives.now timeline.new))) }
@@ -44,13 +44,13 @@ pub(crate) fn apply_strategy<M: Meaning>(
         (unfolded primitives.now timeline.old) (Err refusal)) }
     ensures err { OnErr result (unfolded primitives.now timeline.new
         ≡ unfolded primitives.now timeline.old) }
-    ensures program { IsKept primitives.now (contents timeline.new.store).modules program.new }
+    ensures kept { IsKept primitives.now (contents timeline.new.store).modules kept.new }
 {
-    let (slot, whole) = match resolve_at(timeline, primitives, program, name, path, text) {
+    let (slot, whole) = match resolve_at(timeline, primitives, kept, name, path, text) {
         Ok(found) => found,
         Err(refusal) => return Err(refusal),
     };
-    let Some(checked) = program.as_ref() else {
+    let Some(checked) = kept.program() else {
         unreachable!()
     };
     let outcome = apply_in_slot(timeline, checked, primitives, slot, path, &whole, steps);

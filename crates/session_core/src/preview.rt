@@ -17,7 +17,7 @@ use crate::resolving::resolve_at;
 use change_log::Plan;
 use change_plans::{Kept, Replaced};
 use prim_core::{Meaning, Primitives};
-use session_steps::{Refusal, Timeline};
+use session_steps::{KeptModules, Refusal, Timeline};
 use std::marker::Model;
 use strategy_check::Program;
 use strategy_run::plan_entries;
@@ -95,29 +95,29 @@ impl<'a> Places<'a> {
 }
 
 /// What applying the strategy given as text to the subterm at the path of the name's tree would
-/// replace. The program of the modules is compiled if it isn't cached, and is cached then.
+/// replace. The modules are checked unless they are kept, and are kept then.
 pub(crate) fn preview_strategy<M: Meaning>(
     timeline: &Timeline,
     primitives: &Primitives<M>,
-    program: &mut Option<Program>,
+    kept: &mut KeptModules,
     name: &Label,
     path: &Path,
     steps: u32,
     text: &[u8],
 ) -> Result<Preview, Refusal>
     requires formed { AreFormed (contents timeline.now.store) }
-    requires program { IsKept primitives.now (contents timeline.now.store).modules program.old }
+    requires kept { IsKept primitives.now (contents timeline.now.store).modules kept.old }
     ensures ok { IfOk result (λ preview. ShowsPreview M.meaning name.now path.now steps text.now
         (unfolded primitives.now timeline.now) preview) }
     ensures refused { IfErr result (λ refusal. (refusal ≡ Refusal.Memory)
         ⊎ Previews M.meaning name.now path.now steps text.now (unfolded primitives.now timeline.now) (Err refusal)) }
-    ensures program { IsKept primitives.now (contents timeline.now.store).modules program.new }
+    ensures kept { IsKept primitives.now (contents timeline.now.store).modules kept.new }
 {
-    let (slot, whole) = match resolve_at(timeline, primitives, program, name, path, text) {
+    let (slot, whole) = match resolve_at(timeline, primitives, kept, name, path, text) {
         Ok(found) => found,
         Err(refusal) => return Err(refusal),
     };
-    let Some(checked) = program.as_ref() else {
+    let Some(checked) = kept.program() else {
         unreachable!()
     };
     let outcome = preview_in_slot(timeline, checked, primitives, slot, path, &whole, steps);

@@ -4,12 +4,12 @@ ghost use Rattle.std.specs.Prelude.{◌≡◌, ◌<◌, ◌≤◌, ◌⊎◌, le
 ghost use Rattle.change_plans.specs.Slots.{contents};
 ghost use Rattle.session_steps.specs.Applying.{ReadsAsStrategy, resolved_in};
 ghost use Rattle.session_steps.specs.History.{AreFormed};
-ghost use Rattle.session_steps.specs.Modules.{IsKept};
+ghost use Rattle.session_steps.specs.Modules.{IsKept, program_in};
 ghost use Rattle.session_steps.specs.Unfolded.{unfolded};
 ghost use Rattle.session_core.specs.inside.Resolved.{ResolvesTo, IsUnresolved};
 
 use prim_core::{Meaning, Primitives};
-use session_steps::{Refusal, Timeline, keep_program};
+use session_steps::{KeptModules, Refusal, Timeline, keep_modules};
 use std::alloc::Global;
 use strategy_check::{CheckFault, Program, resolve};
 use strategy_parse::{ParseFault, parse_strategy};
@@ -18,24 +18,24 @@ use term_core::Label;
 use term_paths::Path;
 
 /// The slot of the name's tree, which has a subterm at the path, and the strategy that the text is
-/// resolved to. The program of the modules is compiled if it isn't cached, and is cached then.
+/// resolved to. The modules are checked unless they are kept, and are kept then.
 // What was read is passed to `drop` instead of being left to the ends of scopes: there its drop
 // would be proved anew on each way out.
 pub(crate) fn resolve_at<M: Meaning>(
     timeline: &Timeline,
     primitives: &Primitives<M>,
-    program: &mut Option<Program>,
+    kept: &mut KeptModules,
     name: &Label,
     path: &Path,
     text: &[u8],
 ) -> Result<(usize, Resolved), Refusal>
     requires formed { AreFormed (contents timeline.now.store) }
-    requires program { IsKept primitives.now (contents timeline.now.store).modules program.old }
+    requires kept { IsKept primitives.now (contents timeline.now.store).modules kept.old }
     ensures ok { IfOk result (λ found. ResolvesTo primitives.now timeline.now name.now path.now text.now
-        program.new found.0 found.1) }
+        (program_in kept.new) found.0 found.1) }
     ensures refused { IfErr result (λ refusal. (refusal ≡ Refusal.Memory)
         ⊎ IsUnresolved name.now path.now text.now (unfolded primitives.now timeline.now) refusal) }
-    ensures program { IsKept primitives.now (contents timeline.now.store).modules program.new }
+    ensures kept { IsKept primitives.now (contents timeline.now.store).modules kept.new }
 {
     let alloc = timeline.allocator();
     let slot = match timeline.place(name, path) {
@@ -46,11 +46,11 @@ pub(crate) fn resolve_at<M: Meaning>(
         Ok(strategy) => strategy,
         Err(refusal) => return Err(refusal),
     };
-    if let Err(refusal) = keep_program(alloc, &timeline.store, primitives, program) {
+    if let Err(refusal) = keep_modules(alloc, &timeline.store, primitives, kept) {
         drop(strategy);
         return Err(refusal);
     }
-    let Some(checked) = program.as_ref() else {
+    let Some(checked) = kept.program() else {
         unreachable!()
     };
     let resolved = resolve_strategy(alloc, checked, primitives, &strategy);

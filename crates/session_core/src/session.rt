@@ -1,6 +1,6 @@
 //! Sessions: contents that change in steps, which can be undone and redone.
 
-ghost use Rattle.std.specs.Prelude.{◌≡◌, ◌≤◌, ◌↔◌, ◌⊎◌, ◌++◌, Ok, Err, vec_capacity, OnOk, OnErr, IfOk, IfErr, None, length, option_copied, if◌then◌else◌};
+ghost use Rattle.std.specs.Prelude.{◌≡◌, ◌≢◌, ◌≤◌, ◌↔◌, ◌⊎◌, ◌++◌, Ok, Err, vec_capacity, OnOk, OnErr, IfOk, IfErr, None, length, option_copied};
 ghost use Rattle.std.specs.FinMap as finmap;
 ghost use Rattle.session_steps.specs.History.{empty_history, HasSoundContents};
 ghost use Rattle.session_steps.specs.Step.{ComesTo, set_tree, copy_tree, drop_tree, put, annotate, set_module, unload, apply, undo, redo, begin, commit, abandon};
@@ -13,10 +13,9 @@ ghost use Rattle.session_steps.specs.Unfolded.{unfolded, IsPlaced};
 use crate::applying::apply_strategy;
 use crate::preview::{Preview, preview_strategy};
 use prim_core::{Meaning, Primitives};
-use session_steps::{Refusal, Timeline};
+use session_steps::{KeptModules, Refusal, Timeline};
 use std::alloc::Global;
 use std::marker::Model;
-use strategy_check::Program;
 use strategy_meaning::laws::heights_are_kept;
 use term_core::{Label, NoMemory, Term};
 use term_paths::Path;
@@ -27,9 +26,8 @@ use term_paths::Path;
 pub struct Session<M: Meaning> {
     primitives: Primitives<M>,
     timeline: Timeline,
-    // The program of the current modules, if it is known; undo, redo and abandon forget it where
-    // module texts may change.
-    program: Option<Program>,
+    // Checked modules with their program: the current ones, or others from which these may differ.
+    kept: KeptModules,
 }
 
 impl<M: Meaning> Model for Session<M> {
@@ -48,7 +46,7 @@ impl<M: Meaning> Model for Session<M> {
     ghost view = { λ a. unfolded a.primitives a.timeline };
 
     ghost invariant = { λ a. IsPlaced a.timeline × HasSoundContents (unfolded a.primitives a.timeline)
-        × IsKept a.primitives (contents a.timeline.store).modules a.program };
+        × IsKept a.primitives (contents a.timeline.store).modules a.kept };
 }
 
 impl<M: Meaning> Session<M> {
@@ -61,7 +59,7 @@ impl<M: Meaning> Session<M> {
         Session {
             primitives,
             timeline: Timeline::new(alloc),
-            program: None,
+            kept: KeptModules::new(),
         }
     }
 
@@ -218,8 +216,8 @@ impl<M: Meaning> Session<M> {
         ensures err { OnErr result (self.new ≡ self.old) }
         ensures sound { HasSoundContents self.new }
     {
-        self.program = self.timeline.set_module(&self.primitives, name, text)?;
-        Ok(())
+        self.timeline
+            .set_module(&self.primitives, &mut self.kept, name, text)
     }
 
     /// Removes the module of this name. If there is none, the refusal is `NoModule`. Outside a
@@ -232,8 +230,7 @@ impl<M: Meaning> Session<M> {
         ensures err { OnErr result (self.new ≡ self.old) }
         ensures sound { HasSoundContents self.new }
     {
-        self.program = self.timeline.unload(&self.primitives, name)?;
-        Ok(())
+        self.timeline.unload(&self.primitives, &mut self.kept, name)
     }
 
     /// Replaces the subterm at the path of the name's tree by the result of a strategy, given as
@@ -267,7 +264,7 @@ impl<M: Meaning> Session<M> {
         apply_strategy(
             &mut self.timeline,
             &self.primitives,
-            &mut self.program,
+            &mut self.kept,
             name,
             path,
             steps,
@@ -297,7 +294,7 @@ impl<M: Meaning> Session<M> {
         preview_strategy(
             &self.timeline,
             &self.primitives,
-            &mut self.program,
+            &mut self.kept,
             name,
             path,
             steps,
@@ -314,7 +311,8 @@ impl<M: Meaning> Session<M> {
         ensures err { OnErr result (self.new ≡ self.old) }
         ensures sound { HasSoundContents self.new }
     {
-        forget_changed(&mut self.program, self.timeline.undo(n)?);
+        let texts = self.timeline.undo(n)?;
+        self.kept.note(&self.timeline.store, texts);
         Ok(())
     }
 
@@ -327,7 +325,8 @@ impl<M: Meaning> Session<M> {
         ensures err { OnErr result (self.new ≡ self.old) }
         ensures sound { HasSoundContents self.new }
     {
-        forget_changed(&mut self.program, self.timeline.redo(n)?);
+        let texts = self.timeline.redo(n)?;
+        self.kept.note(&self.timeline.store, texts);
         Ok(())
     }
 
@@ -353,7 +352,7 @@ impl<M: Meaning> Session<M> {
         ensures err { OnErr result (self.new ≡ self.old) }
         ensures sound { HasSoundContents self.new }
     {
-        self.timeline.commit(&self.primitives, &mut self.program)
+        self.timeline.commit(&self.primitives, &mut self.kept)
     }
 
     /// Closes the group and undoes its changes; what can be undone and redone is the same as before
@@ -365,16 +364,8 @@ impl<M: Meaning> Session<M> {
         ensures err { OnErr result (self.new ≡ self.old) }
         ensures sound { HasSoundContents self.new }
     {
-        forget_changed(&mut self.program, self.timeline.abandon()?);
+        let texts = self.timeline.abandon()?;
+        self.kept.note(&self.timeline.store, texts);
         Ok(())
-    }
-}
-
-// Forgets the program if module texts may have changed.
-fn forget_changed(program: &mut Option<Program>, changed: bool)
-    ensures { program.new ≡ (if changed then None else program.old) }
-{
-    if changed {
-        *program = None;
     }
 }

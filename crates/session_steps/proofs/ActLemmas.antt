@@ -1,17 +1,18 @@
 -- What the calls that change a tree leave, and what a call on the timeline means for the session.
-use Rattle.std.proofs.Common.{◌≡◌, ◌⊎◌, ℕ, ◌+◌, List, length, Option, Some, None, Bool, true, false, is_some, IsSome, option_map, option_and_then, option_copied, Bor, Result, Ok, Err, ok_or, is_none, IfErr, OnOk, OnErr, inl, inr, refl, sym, ap, subst, ◌∙◌}
+use Rattle.std.proofs.Common.{◌≡◌, ◌≢◌, ◌⊎◌, ℕ, ◌+◌, List, length, Option, Some, None, Bool, true, false, is_some, IsSome, option_map, option_and_then, option_copied, Bor, Result, Ok, Err, ok_or, is_none, IfErr, OnOk, OnErr, inl, inr, refl, sym, ap, subst, ◌∙◌}
 use Rattle.std.specs.Prelude.{IsSomeAnd, if◌then◌else◌}
 use Rattle.std.specs.FinMap as finmap
 use Rattle.prim_core.specs.Signature.{Signature}
 use Rattle.std.specs.List.{list_all}
 use Rattle.term_core.specs.Tree.{Tree}
 use Rattle.term_core.specs.Size.{fits}
-use Rattle.strategy_check.specs.Programs.{Program}
+use Rattle.session_steps.specs.declared.kept.KeptModules.{KeptModules}
 use Rattle.term_paths.specs.Paths.{at, leads, set_at, set_annotations_at}
 use Rattle.change_plans.specs.Contents.{Contents, with_tree, without_tree}
 use Rattle.change_plans.specs.Slots.{Store, AreApart, contents, content, named, slot_of}
 use Rattle.change_plans.specs.Entries.{Entry, slot_tree, subterm, subterm_annotations, subterm_in, before, put}
 use Rattle.change_plans.proofs.ContentsLemmas.{tree_put, tree_taken, tree_of_name, subterm_put, annotations_put}
+use Rattle.change_log.specs.Texts.{TextsChange}
 use Rattle.session_steps.specs.History.{HistoryGroup, History, changed, HasSoundContents}
 use Rattle.session_steps.specs.Step.{Act, set_tree, copy_tree, drop_tree, put as put_act, annotate, Outcome, Passing, Holding, Leaves, ChangesTo, PutsAt, AnnotatesAt, Place, ComesTo, committed, place_of, tree_of}
 use Rattle.session_steps.specs.Modules.{Texts, IsKept}
@@ -33,13 +34,6 @@ tree_told t m n name tree i e ps here is same done =
     let now : contents m.store ≡ contents t.store = ap (λ h. h.now) same in
     let put_now = ap (λ e. contents (put e m.store)) is ∙ tree_put m.store name i tree here ∙ ap (λ c. with_tree c name tree) now in
     done ∙ (λ j. changed (put_now j) (same j))
-
--- A program is kept if module texts stay the same, and forgotten if they may not.
-pub kept_where_same : (ps : List Signature) (t u : Timeline) (changed : Bool) (p q : Option Program) → (changed ≡ false → u.store.modules ≡ t.store.modules)
-    → q ≡ (if changed then None else p) → IsKept ps (contents t.store).modules p → IsKept ps (contents u.store).modules q
-kept_where_same ps t u true p q same is k = subst (IsKept ps (contents u.store).modules) (sym is) tt
-kept_where_same ps t u false p q same is k =
-    subst (IsKept ps (contents u.store).modules) (sym is) (subst (λ (texts : Texts). IsKept ps texts p) (sym (ap named (same refl))) k)
 
 -- ---- a session over its timeline
 
@@ -88,7 +82,7 @@ module _ {A : Type 0} (act : Act) (r : Result A Refusal) (ps : List Signature) (
 
 -- ---- the program that a session caches
 
-module _ (ps : List Signature) (old new : Timeline) (kept : Option Program) where
+module _ (ps : List Signature) (old new : Timeline) (kept : KeptModules) where
   pub kept_same : unfolded ps new ≡ unfolded ps old → IsKept ps (contents old.store).modules kept → IsKept ps (contents new.store).modules kept
   kept_same same k = subst (λ (texts : Texts). IsKept ps texts kept) (sym (ap (λ (h : History). h.now.modules) same)) k
 

@@ -1,5 +1,5 @@
 -- What parsing and checking the modules of a store means for the history.
-use Rattle.std.proofs.Common.{◌≡◌, ◌<◌, ◌≤◌, ◌⊎◌, ℕ, Bool, true, false, cond, List, [], ◌∷◌, ◌++◌, map, Option, Some, None, IsSome, is_some, IfSome, Result, Ok, Err, IfErr, ok_or, option_and_then, inl, inr, refl, sym, ap, subst, ◌∙◌, arith, append_assoc}
+use Rattle.std.proofs.Common.{◌≡◌, ◌<◌, ◌≤◌, ◌⊎◌, ℕ, Bool, true, false, cond, List, [], ◌∷◌, ◌++◌, ◌+◌, suc, length, drop, drop-cons, add-one, get_or, map, Option, Some, None, IsSome, is_some, IfSome, Result, Ok, Err, IfErr, ok_or, option_and_then, inl, inr, refl, sym, ap, subst, ◌∙◌, arith, append_assoc}
 use Rattle.std.specs.Prelude.{IsSomeAnd, IfOk, option_map}
 use Rattle.std.proofs.lemmas.List.{append-nil}
 use Rattle.std.proofs.lemmas.Bool.{cases_lt}
@@ -12,6 +12,7 @@ use Rattle.strategy_syntax.specs.Modules.{Module}
 use Rattle.strategy_check.specs.Tables.{Modules}
 use Rattle.strategy_check.specs.Faults.{Primitives}
 use Rattle.strategy_check.specs.Programs.{Program}
+use Rattle.strategy_check.specs.Checking.{Checked}
 use Rattle.change_plans.specs.Contents.{Contents, with_module, without_module}
 use Rattle.change_plans.specs.Slots.{Store, AreApart, contents, content, slot_of}
 use Rattle.change_plans.specs.Entries.{Entry, slot_text, put, before}
@@ -22,10 +23,11 @@ use Rattle.session_steps.specs.declared.timeline.Timeline.{Timeline}
 use Rattle.session_steps.specs.declared.timeline.OpenGroup.{OpenGroup}
 use Rattle.session_steps.specs.History.{HistoryGroup, History, changed}
 use Rattle.session_steps.specs.Step.{set_module, unload, commit, Outcome, Given, Leaves, ChangesModules, ComesTo, committed, text_of}
-use Rattle.session_steps.specs.Modules.{Texts, ReadsAsModule, AreReadable, AreRead, AreModules, GivesProgram, IsProgram, IsKept, Checks, IsUnread, AreRefused}
+use Rattle.session_steps.specs.Modules.{Texts, ReadsAsModule, SameBut, AreReadable, AreRead, AreModules, GivesProgram, AreCurrent, Checks, IsUnread, AreRefused}
 use Rattle.session_steps.specs.declared.refusal.Refusal.{Refusal}
 use Rattle.session_steps.specs.declared.refusal.Refusal.TheVariants.{Memory, NoModule, NoGroup}
 use Rattle.session_steps.proofs.MapLemmas.{R, same_key}
+use Rattle.session_steps.proofs.KeepingLemmas.{put_same_but, taken_same_but}
 use Rattle.session_steps.proofs.StepLemmas.{passed, stopped}
 use Rattle.session_steps.proofs.SoundLemmas.{readable_without, now_changed}
 
@@ -33,6 +35,14 @@ use Rattle.session_steps.proofs.SoundLemmas.{readable_without, now_changed}
 pub reads_one : (text : List ℕ) (m : Module) (refusal : Refusal) → ReadsAsModule text (Ok m) → ReadsAsModule text (Err refusal) → ⊥
 reads_one text m refusal ok (inl (deep, more)) = omega (arith, ok.0, more)
 reads_one text m refusal ok (inr (syntax, few, none)) = none m ok.1
+
+-- checked modules give their program
+pub given_by : (ps : Primitives) (texts : Texts) (c : Checked) → AreCurrent ps texts c → GivesProgram ps texts c.program
+given_by ps texts c current = record { modules = c.modules; are = current.are; faultless = current.checked.faultless; given = current.checked.given }
+
+pub current_gives : (ps : Primitives) (texts : Texts) (o : Option Checked) → IsSomeAnd o (AreCurrent ps texts) → (p : Program) × GivesProgram ps texts p
+current_gives ps texts None current = absurd current
+current_gives ps texts (Some c) current = (c.program, given_by ps texts c current)
 
 abbrev Reads : Module → Option (List ℕ) → Type 0
 Reads m o = IsSomeAnd o (λ text. ReadsAsModule text (Ok m))
@@ -179,11 +189,11 @@ module _ (h : History) where
   commits_by : (group : HistoryGroup) (outcome : Outcome) → h.group ≡ Some group → Closes group outcome → ComesTo commit h outcome
   commits_by group outcome inside closes = passed (ok_or h.group NoGroup) Closes group outcome (ap (λ (o : Option HistoryGroup). ok_or o NoGroup) inside) closes
 
-  pub commit_found : (group : HistoryGroup) (g : History) (kept : Option Program) → h.group ≡ Some group → IsSomeAnd kept (IsProgram h.primitives h.now.modules) → IsSomeAnd h.group (λ k. g ≡ committed k h) → ComesTo commit h (Ok g)
+  pub commit_found : (group : HistoryGroup) (g : History) (kept : Option Checked) → h.group ≡ Some group → IsSomeAnd kept (AreCurrent h.primitives h.now.modules) → IsSomeAnd h.group (λ k. g ≡ committed k h) → ComesTo commit h (Ok g)
   commit_found group g None there is closes = absurd is
-  commit_found group g (Some p) there is closes =
+  commit_found group g (Some c) there is closes =
       let left : g ≡ committed group h = subst (λ (o : Option HistoryGroup). IsSomeAnd o (λ k. g ≡ committed k h)) there closes in
-      commits_by group (Ok g) there (Ok p, is.gives, ap Ok left)
+      commits_by group (Ok g) there (Ok c.program, given_by h.primitives h.now.modules c is, ap Ok left)
 
   pub commit_refused : (group : HistoryGroup) (refusal : Refusal) → h.group ≡ Some group → AreReadable h.now.modules → AreRefused h.primitives h.now.modules refusal → (refusal ≡ Memory) ⊎ ComesTo commit h (Err refusal)
   commit_refused group refusal inside readable (inl (inl memory)) = inl memory
@@ -201,6 +211,10 @@ few_tokens n m h = by (cases_lt m n)
     by : (m < n) ⊎ (n ≤ m) → n ≤ m
     by (inl more) = absurd (h more)
     by (inr few) = few
+
+-- the names from index i on
+pub next_one : (names : List (List ℕ)) (i : ℕ) (name : List ℕ) → i < length names → name ≡ get_or names i name → drop i names ≡ name ∷ drop (i + 1) names
+next_one names i name lt at = rw add-one (drop-cons names i name lt ∙ ap (λ x. x ∷ drop (suc i) names) (sym at))
 
 pub read_more : (texts : Texts) (all next : List (List ℕ)) (ms : Modules) (name : List ℕ) (m : List ℕ × Module) → m.0 ≡ name → IsSomeAnd (finmap.get texts name) (λ text. ReadsAsModule text (Ok m.1))
     → ((rest : Modules) → AreRead texts (name ∷ next) rest → AreRead texts all (ms ++ rest)) → (rest : Modules) → AreRead texts next rest → AreRead texts all ((ms ++ m ∷ []) ++ rest)
@@ -239,13 +253,15 @@ text_told t m n name copy text i e ps here is copied same done =
 pub text_taken : (t : Timeline) (name : List ℕ) (i : ℕ) (e : Entry) → AreApart t.store.modules → slot_of t.store.modules name ≡ Some i → e ≡ slot_text i None → contents (put e t.store) ≡ without_module (contents t.store) name
 text_taken t name i e apart here is = ap (λ e. contents (put e t.store)) is ∙ module_taken t.store name i apart here
 
--- ---- the program of the modules
+-- ---- the text of one name changes
 
--- one that is cached exists
-pub kept_there : (ps : Primitives) (texts : Texts) (kept : Option Program) → is_some kept ≡ true → IsKept ps texts kept → IsSomeAnd kept (IsProgram ps texts)
-kept_there ps texts None there is = absurd (cc)
-kept_there ps texts (Some p) there is = is
+-- the contents after a change
+pub now_then : (n : Timeline) (c : Contents) (h : History) (ps : List Signature) → unfolded ps n ≡ changed c h → contents n.store ≡ c
+now_then n c h ps done = ap (λ h. h.now) done ∙ now_changed c h
 
--- the program of the modules after a change
-pub program_then : (n : Timeline) (c : Contents) (h : History) (p : Program) (ps : List Signature) → unfolded ps n ≡ changed c h → IsProgram ps c.modules p → IsProgram ps (contents n.store).modules p
-program_then n c h p ps done is = subst (λ (x : Contents). IsProgram ps x.modules p) (sym (ap (λ h. h.now) done ∙ now_changed c h)) is
+pub set_same_but : (before after : Contents) (c : Contents) (name text : List ℕ) → before ≡ c → after ≡ with_module c name text → SameBut name before.modules after.modules
+set_same_but before after c name text old new =
+    subst (λ (x : Contents). SameBut name x.modules after.modules) (sym old) (subst (λ (x : Contents). SameBut name c.modules x.modules) (sym new) (put_same_but c.modules name text))
+
+pub unload_same_but : (before after : Contents) (name : List ℕ) → after ≡ without_module before name → SameBut name before.modules after.modules
+unload_same_but before after name new = subst (λ (x : Contents). SameBut name before.modules x.modules) (sym new) (taken_same_but before.modules name)

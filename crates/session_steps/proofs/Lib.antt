@@ -4,7 +4,10 @@ pub mod SoundLemmas
 pub mod HistoryLemmas
 pub mod TimelineLemmas
 pub mod PlaceLemmas
+pub mod TextLemmas
 pub mod CheckLemmas
 pub mod ActLemmas
 pub mod PatchLemmas
 pub mod OutermostLemmas
+pub mod KeepingLemmas
+pub mod KeptLemmas

@@ -20,7 +20,7 @@ use Rattle.session_steps.specs.inside.Adding.{AddsEntries}
 use Rattle.session_steps.specs.inside.Adding.{AddsStep}
 use Rattle.session_steps.specs.declared.timeline.Timeline.{Timeline}
 use Rattle.session_steps.specs.declared.timeline.OpenGroup.{OpenGroup}
-use Rattle.session_steps.proofs.TimelineLemmas.{fits-append, take-append, drop-append, IsGrowth, rewound_grown, past_grown, later_grown, length-past_of, length-later_of, count_past, compact-append, compact-take, compact-set, compact_at, grouped_past, grouped_later, grouped_back, grouped_forward, grouped_within, back_past, back_later, back_back, back_forward, forward_later, forward_past, forward_back, forward_forward}
+use Rattle.session_steps.proofs.TimelineLemmas.{fits-append, IsGrowth, rewound_grown, past_grown, later_grown, length-past_of, length-later_of, count_past, compact-append, compact-take, compact-set, compact_at, grouped_past, grouped_later, grouped_back, grouped_forward, grouped_within, back_past, back_later, back_back, back_forward, forward_later, forward_past, forward_back, forward_forward}
 use Rattle.session_steps.proofs.HistoryLemmas.{back_to-append}
 
 -- ---- slots

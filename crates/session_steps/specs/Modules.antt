@@ -1,9 +1,11 @@
 -- The modules in the contents of a session: parsing their texts, and what the checker finds in
 -- them.
-use Rattle.std.specs.Prelude.{◌≡◌, ◌<◌, ◌≤◌, ◌⊎◌, ℕ, List, [], ◌∷◌, length, Some, Ok, Err, IfSome, IsSomeAnd}
+use Rattle.std.specs.Prelude.{◌≡◌, ◌<◌, ◌≤◌, ◌⊎◌, ℕ, List, [], ◌∷◌, length, Some, Ok, Err, IfSome, IsSomeAnd, false, option_map}
 use Rattle.std.specs.declared.option.Option.{Option}
 use Rattle.std.specs.declared.result.Result.{Result}
 use Rattle.std.specs.FinMap as finmap
+use Rattle.std.specs.Ordering.{nat_cmp, eq_by_cmp}
+use Rattle.std.specs.Cmp.Lexicographic.{slice_cmp}
 use Rattle.strategy_syntax.specs.Modules.{Module}
 use Rattle.strategy_tokens.specs.declared.TheConstants.{MAX_TOKENS}
 use Rattle.strategy_tokens.specs.declared.token.Token.{Token}
@@ -12,8 +14,11 @@ use Rattle.strategy_parse.specs.Gives.{GivesModule}
 use Rattle.strategy_check.specs.Tables.{Modules}
 use Rattle.strategy_check.specs.Faults.{Fault, Primitives, faults, first}
 use Rattle.strategy_check.specs.Programs.{Program, program}
-use Rattle.strategy_check.specs.Ranges.{BodiesInRange}
+use Rattle.strategy_check.specs.Checking.{Checked, IsChecked}
 use Rattle.change_plans.specs.Contents.{Named}
+use Rattle.session_steps.specs.declared.kept.Changed.{Changed}
+use Rattle.session_steps.specs.declared.kept.Changed.TheVariants.{Nothing, One, Several}
+use Rattle.session_steps.specs.declared.kept.KeptModules.{KeptModules}
 use Rattle.session_steps.specs.declared.refusal.Refusal.{Refusal}
 use Rattle.session_steps.specs.declared.refusal.Refusal.TheVariants.{Memory, Deep, Syntax, Check}
 
@@ -66,14 +71,40 @@ pub record GivesProgram (primitives : Primitives) (texts : Texts) (checked : Pro
   pub faultless : faults modules primitives ≡ []
   pub given : checked ≡ program modules primitives
 
--- It is such a program, and all its numbers are in range.
-pub record IsProgram (primitives : Primitives) (texts : Texts) (checked : Program) : Type 0 where
-  pub gives : GivesProgram primitives texts checked
-  pub in_range : BodiesInRange checked primitives
+-- ---- checked modules that are kept
 
--- A cached program is that of these texts.
-abbrev pub IsKept : Primitives → Texts → Option Program → Type 0
-IsKept primitives texts kept = IfSome kept (IsProgram primitives texts)
+-- The texts are the same, but perhaps for that of this name.
+abbrev pub SameBut : List ℕ → Texts → Texts → Type 0
+SameBut name old now =
+    (q : List ℕ) → eq_by_cmp (slice_cmp nat_cmp) q name ≡ false → finmap.get old q ≡ finmap.get now q
+
+-- how the texts now may differ from old ones
+abbrev pub Differ : Changed → Texts → Texts → Type 0
+Differ Nothing old now = old ≡ now
+Differ (One name) old now = SameBut name.items old now
+Differ Several old now = Unit {0}
+
+-- Checked modules are those of old texts, from which these may differ so.
+pub record IsKeptFor (primitives : Primitives) (texts : Texts) (changed : Changed) (c : Checked) : Type 0 where
+  pub old : Texts
+  pub are : AreModules old c.modules
+  pub checked : IsChecked primitives c
+  pub differ : Differ changed old texts
+
+abbrev pub IsKept : Primitives → Texts → KeptModules → Type 0
+IsKept primitives texts kept = IfSome kept.checked (IsKeptFor primitives texts kept.changed)
+
+-- They are those of these texts.
+pub record AreCurrent (primitives : Primitives) (texts : Texts) (c : Checked) : Type 0 where
+  pub are : AreModules texts c.modules
+  pub checked : IsChecked primitives c
+
+abbrev pub IsCurrent : Primitives → Texts → KeptModules → Type 0
+IsCurrent primitives texts kept = IsSomeAnd kept.checked (AreCurrent primitives texts)
+
+-- the program of the modules that are kept
+abbrev pub program_in : KeptModules → Option Program
+program_in kept = option_map (λ c. c.program) kept.checked
 
 -- the refusal that reports a fault
 abbrev pub refusal_of : Fault → Refusal

@@ -1,3 +1,4 @@
 pub mod Adding
 pub mod Codes
 pub mod Giving
+pub mod Keeping

@@ -1,16 +1,17 @@
 //! What commands do to a timeline: each is a step of the session's machine, or is refused and
 //! changes nothing.
 
-ghost use Rattle.std.specs.Prelude.{◌≡◌, ◌⊎◌, List, false, Ok, Err, IfOk, OnOk, OnErr, IfErr};
+ghost use Rattle.std.specs.Prelude.{◌≡◌, ◌⊎◌, List, Ok, Err, IfOk, OnOk, OnErr, IfErr};
 ghost use Rattle.std.specs.List.{list_all};
 ghost use Rattle.term_core.specs.Size.{fits};
 ghost use Rattle.prim_core.specs.Signature.{Signature};
 ghost use Rattle.change_plans.specs.Slots.{contents};
+ghost use Rattle.change_log.specs.Texts.{TextsChange};
 ghost use Rattle.session_steps.specs.Step.{ComesTo, set_tree, copy_tree, drop_tree, put, annotate, undo, redo, begin, abandon, place_of};
 ghost use Rattle.session_steps.specs.Unfolded.{unfolded, IsPlaced, IsPlaceOf};
 
 use crate::{Refusal, Timeline};
-use change_log::Entry;
+use change_log::{Entry, Texts};
 use term_core::{Label, Term};
 use term_paths::{Path, at};
 
@@ -140,13 +141,12 @@ impl Timeline {
         Ok(slot)
     }
 
-    /// Goes `n` steps back. Returns whether module texts may have changed.
-    pub fn undo(&mut self, n: u32) -> Result<bool, Refusal>
+    /// Goes `n` steps back. Returns which module texts may have changed.
+    pub fn undo(&mut self, n: u32) -> Result<Texts, Refusal>
         requires { IsPlaced self.old }
         ensures placed { IsPlaced self.new }
         ensures ok { OnOk result ((ps : List Signature) → ComesTo (undo n) (unfolded ps self.old) (Ok (unfolded ps self.new))) }
-        ensures texts { IfOk result (λ texts. texts ≡ false
-            → self.new.store.modules ≡ self.old.store.modules) }
+        ensures texts { IfOk result (λ texts. TextsChange texts self.old.store self.new.store) }
         ensures refused { IfErr result (λ refusal. (ps : List Signature) → ComesTo (undo n) (unfolded ps self.old) (Err refusal)) }
         ensures err { OnErr result ((ps : List Signature) → unfolded ps self.new
             ≡ unfolded ps self.old) }
@@ -161,13 +161,12 @@ impl Timeline {
         Ok(self.back_by(steps))
     }
 
-    /// Goes `n` steps forward. Returns whether module texts may have changed.
-    pub fn redo(&mut self, n: u32) -> Result<bool, Refusal>
+    /// Goes `n` steps forward. Returns which module texts may have changed.
+    pub fn redo(&mut self, n: u32) -> Result<Texts, Refusal>
         requires { IsPlaced self.old }
         ensures placed { IsPlaced self.new }
         ensures ok { OnOk result ((ps : List Signature) → ComesTo (redo n) (unfolded ps self.old) (Ok (unfolded ps self.new))) }
-        ensures texts { IfOk result (λ texts. texts ≡ false
-            → self.new.store.modules ≡ self.old.store.modules) }
+        ensures texts { IfOk result (λ texts. TextsChange texts self.old.store self.new.store) }
         ensures refused { IfErr result (λ refusal. (ps : List Signature) → ComesTo (redo n) (unfolded ps self.old) (Err refusal)) }
         ensures err { OnErr result ((ps : List Signature) → unfolded ps self.new
             ≡ unfolded ps self.old) }
@@ -198,14 +197,13 @@ impl Timeline {
         Ok(())
     }
 
-    /// Undoes the changes of the open group and closes it. Returns whether module texts may have
+    /// Undoes the changes of the open group and closes it. Returns which module texts may have
     /// changed.
-    pub fn abandon(&mut self) -> Result<bool, Refusal>
+    pub fn abandon(&mut self) -> Result<Texts, Refusal>
         requires { IsPlaced self.old }
         ensures placed { IsPlaced self.new }
         ensures ok { OnOk result ((ps : List Signature) → ComesTo abandon (unfolded ps self.old) (Ok (unfolded ps self.new))) }
-        ensures texts { IfOk result (λ texts. texts ≡ false
-            → self.new.store.modules ≡ self.old.store.modules) }
+        ensures texts { IfOk result (λ texts. TextsChange texts self.old.store self.new.store) }
         ensures refused { IfErr result (λ refusal. (ps : List Signature) → ComesTo abandon (unfolded ps self.old) (Err refusal)) }
         ensures err { OnErr result ((ps : List Signature) → unfolded ps self.new
             ≡ unfolded ps self.old) }

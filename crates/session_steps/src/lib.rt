@@ -4,11 +4,12 @@
 
 mod acts;
 mod dump;
+mod kept;
 mod modules;
 mod refusal;
 mod timeline;
 
-pub use modules::keep_program;
+pub use kept::{KeptModules, keep_modules};
 pub use refusal::Refusal;
 pub use timeline::{OpenGroup, Timeline};
 

@@ -4,29 +4,32 @@ ghost use Rattle.std.specs.Prelude.{◌≡◌, ◌⊎◌, Ok, Err, None, IfOk, I
 ghost use Rattle.std.specs.FinMap as finmap;
 ghost use Rattle.change_plans.specs.Slots.{contents};
 ghost use Rattle.session_steps.specs.Step.{ComesTo, set_module, unload, commit};
-ghost use Rattle.session_steps.specs.Modules.{ReadsAsModule, AreModules, AreReadable, AreRefused, Finds, IsProgram, IsKept, IsUnread};
+ghost use Rattle.session_steps.specs.Modules.{ReadsAsModule, AreModules, AreReadable, AreRefused, AreCurrent, IsKept, IsUnread};
 ghost use Rattle.session_steps.specs.Unfolded.{unfolded, IsPlaced};
 
-use crate::{Refusal, Timeline};
+use crate::kept::keep_modules;
+use crate::{KeptModules, Refusal, Timeline};
 use change_log::{Entry, Store};
 use prim_core::{Meaning, Primitives};
 use std::alloc::Global;
-use strategy_check::{CheckFault, Program, check};
+use strategy_check::{CheckFault, Checked, NamedModule};
 use strategy_parse::{ParseFault, parse_module};
 use strategy_syntax::Module;
 use term_core::{Label, NoMemory};
 
 impl Timeline {
     /// Sets the text of the module of this name. Outside a group the checker must then find no
-    /// fault in the modules, and their program is returned.
+    /// fault in the modules, which are kept.
     pub fn set_module<M: Meaning>(
         &mut self,
         primitives: &Primitives<M>,
+        kept: &mut KeptModules,
         name: &Label,
         text: &[u8],
-    ) -> Result<Option<Program>, Refusal>
+    ) -> Result<(), Refusal>
         requires placed { IsPlaced self.old }
         requires readable { AreReadable (contents self.old.store).modules }
+        requires kept { IsKept primitives.now (contents self.old.store).modules kept.old }
         ensures placed { IsPlaced self.new }
         ensures ok { OnOk result (ComesTo (set_module name.now text.now) (unfolded primitives.now self.old)
             (Ok (unfolded primitives.now self.new))) }
@@ -34,17 +37,15 @@ impl Timeline {
             ⊎ ComesTo (set_module name.now text.now) (unfolded primitives.now self.old) (Err refusal)) }
         ensures err { OnErr result (unfolded primitives.now self.new
             ≡ unfolded primitives.now self.old) }
-        ensures program { IfOk result (λ program. IsKept primitives.now
-            (contents self.new.store).modules program) }
+        ensures kept { IsKept primitives.now (contents self.new.store).modules kept.new }
     {
         if self.in_group() {
-            self.set_module_in_group(primitives, name, text)?;
-            return Ok(None);
+            return self.set_module_in_group(primitives, kept, name, text);
         }
         let copy = copied(self.allocator(), text)?;
         let slot = self.module_slot(name)?;
-        match self.change_checked(primitives, Entry::text(slot, Some(copy))) {
-            Ok(program) => Ok(Some(program)),
+        match self.change_checked(primitives, kept, name, Entry::text(slot, Some(copy))) {
+            Ok(()) => Ok(()),
             Err(refusal) => Err(refusal),
         }
     }
@@ -53,10 +54,12 @@ impl Timeline {
     fn set_module_in_group<M: Meaning>(
         &mut self,
         primitives: &Primitives<M>,
+        kept: &mut KeptModules,
         name: &Label,
         text: &[u8],
     ) -> Result<(), Refusal>
         requires placed { IsPlaced self.old }
+        requires kept { IsKept primitives.now (contents self.old.store).modules kept.old }
         requires inside { IsSome self.old.group }
         ensures placed { IsPlaced self.new }
         ensures ok { OnOk result (ComesTo (set_module name.now text.now) (unfolded primitives.now self.old)
@@ -65,23 +68,27 @@ impl Timeline {
             ⊎ ComesTo (set_module name.now text.now) (unfolded primitives.now self.old) (Err refusal)) }
         ensures err { OnErr result (unfolded primitives.now self.new
             ≡ unfolded primitives.now self.old) }
+        ensures kept { IsKept primitives.now (contents self.new.store).modules kept.new }
     {
         drop(read_module(self.allocator(), text)?);
         let copy = copied(self.allocator(), text)?;
         let slot = self.module_slot(name)?;
         self.change_in_group(Entry::text(slot, Some(copy)))?;
+        kept.note_name(name);
         Ok(())
     }
 
     /// Removes the module of this name. Outside a group the checker must then find no fault in the
-    /// modules, and their program is returned.
+    /// modules, which are kept.
     pub fn unload<M: Meaning>(
         &mut self,
         primitives: &Primitives<M>,
+        kept: &mut KeptModules,
         name: &Label,
-    ) -> Result<Option<Program>, Refusal>
+    ) -> Result<(), Refusal>
         requires placed { IsPlaced self.old }
         requires readable { AreReadable (contents self.old.store).modules }
+        requires kept { IsKept primitives.now (contents self.old.store).modules kept.old }
         ensures placed { IsPlaced self.new }
         ensures ok { OnOk result (ComesTo (unload name.now) (unfolded primitives.now self.old)
             (Ok (unfolded primitives.now self.new))) }
@@ -89,8 +96,7 @@ impl Timeline {
             ⊎ ComesTo (unload name.now) (unfolded primitives.now self.old) (Err refusal)) }
         ensures err { OnErr result (unfolded primitives.now self.new
             ≡ unfolded primitives.now self.old) }
-        ensures program { IfOk result (λ program. IsKept primitives.now
-            (contents self.new.store).modules program) }
+        ensures kept { IsKept primitives.now (contents self.new.store).modules kept.new }
     {
         let Some(slot) = self.store.find_module(name) else {
             return Err(Refusal::NoModule);
@@ -100,25 +106,25 @@ impl Timeline {
         }
         if self.in_group() {
             self.change_in_group(Entry::text(slot, None))?;
-            return Ok(None);
+            kept.note_name(name);
+            return Ok(());
         }
-        match self.change_checked(primitives, Entry::text(slot, None)) {
-            Ok(left) => Ok(Some(left)),
+        match self.change_checked(primitives, kept, name, Entry::text(slot, None)) {
+            Ok(()) => Ok(()),
             Err(refusal) => Err(refusal),
         }
     }
 
     /// Makes the changes of the open group one step and closes it, if the checker finds no fault in
-    /// the modules. They are checked only if their program isn't known. A program that the check
-    /// makes is kept, even if there is no memory for the step.
+    /// the modules, which are kept then, even if there is no memory for the step.
     pub fn commit<M: Meaning>(
         &mut self,
         primitives: &Primitives<M>,
-        program: &mut Option<Program>,
+        kept: &mut KeptModules,
     ) -> Result<(), Refusal>
         requires placed { IsPlaced self.old }
         requires readable { AreReadable (contents self.old.store).modules }
-        requires program { IsKept primitives.now (contents self.old.store).modules program.old }
+        requires kept { IsKept primitives.now (contents self.old.store).modules kept.old }
         ensures placed { IsPlaced self.new }
         ensures ok { OnOk result (ComesTo commit (unfolded primitives.now self.old)
             (Ok (unfolded primitives.now self.new))) }
@@ -126,48 +132,25 @@ impl Timeline {
             ⊎ ComesTo commit (unfolded primitives.now self.old) (Err refusal)) }
         ensures err { OnErr result (unfolded primitives.now self.new
             ≡ unfolded primitives.now self.old) }
-        ensures program { IsKept primitives.now (contents self.new.store).modules program.new }
+        ensures kept { IsKept primitives.now (contents self.new.store).modules kept.new }
     {
         if !self.in_group() {
             return Err(Refusal::NoGroup);
         }
-        match keep_program(self.allocator(), &self.store, primitives, program) {
+        match keep_modules(self.allocator(), &self.store, primitives, kept) {
             Ok(()) => Ok(self.close_group()?),
             Err(refusal) => Err(refusal),
         }
     }
 }
 
-/// Keeps the program of the modules of the store, if the checker finds no fault in them. A program
-/// that is kept already is theirs.
-pub fn keep_program<M: Meaning>(
-    alloc: Global,
-    store: &Store,
-    primitives: &Primitives<M>,
-    program: &mut Option<Program>,
-) -> Result<(), Refusal>
-    requires { IsKept primitives.now (contents store.now).modules program.old }
-    ensures ok { OnOk result (IsSomeAnd program.new (IsProgram primitives.now
-        (contents store.now).modules)) }
-    ensures refused { IfErr result (λ refusal. AreRefused primitives.now
-        (contents store.now).modules refusal) }
-    ensures program { IsKept primitives.now (contents store.now).modules program.new }
-{
-    if program.is_some() {
-        return Ok(());
-    }
-    *program = Some(check_modules(alloc, store, primitives)?);
-    Ok(())
-}
-
-/// The program of the modules of the store, if the checker finds no fault in them.
+/// The modules of the store with their program, if the checker finds no fault in them.
 pub fn check_modules<M: Meaning>(
     alloc: Global,
     store: &Store,
     primitives: &Primitives<M>,
-) -> Result<Program, Refusal>
-    ensures ok { IfOk result (λ program. IsProgram primitives.now
-        (contents store.now).modules program) }
+) -> Result<Checked, Refusal>
+    ensures ok { IfOk result (AreCurrent primitives.now (contents store.now).modules) }
     ensures refused { IfErr result (λ refusal. AreRefused primitives.now
         (contents store.now).modules refusal) }
 {
@@ -175,8 +158,8 @@ pub fn check_modules<M: Meaning>(
         Ok(modules) => modules,
         Err(refusal) => return Err(refusal),
     };
-    match check(alloc, &modules, primitives) {
-        Ok(program) => Ok(program),
+    match Checked::new(alloc, modules, primitives) {
+        Ok(checked) => Ok(checked),
         Err(CheckFault::Memory) => Err(Refusal::Memory),
         Err(CheckFault::Fault(kind, name, first, second)) => {
             Err(Refusal::Check(kind, name, first, second))
@@ -185,7 +168,7 @@ pub fn check_modules<M: Meaning>(
 }
 
 // The modules of the store, in byte order of their names.
-fn read_modules(alloc: Global, store: &Store) -> Result<Vec<(Label, Module)>, Refusal>
+fn read_modules(alloc: Global, store: &Store) -> Result<Vec<NamedModule>, Refusal>
     ensures ok { IfOk result (λ modules. AreModules (contents store.now).modules modules.items) }
     ensures refused { IfErr result (λ refusal. (refusal ≡ Refusal.Memory)
         ⊎ IsUnread (contents store.now).modules refusal) }
@@ -199,8 +182,8 @@ fn read_modules(alloc: Global, store: &Store) -> Result<Vec<(Label, Module)>, Re
             Ok(module) => module,
             Err(refusal) => return Err(refusal),
         };
-        let name = name.try_clone()?;
-        let Ok(()) = modules.push((name, module)) else {
+        let named = with_name(alloc, name, module)?;
+        let Ok(()) = modules.push(named) else {
             return Err(Refusal::Memory);
         };
     }
@@ -224,8 +207,8 @@ fn read_named(alloc: Global, store: &Store, name: &Label) -> Result<Module, Refu
     read_module(alloc, text)
 }
 
-// Parses a module.
-fn read_module(alloc: Global, text: &[u8]) -> Result<Module, Refusal>
+/// Parses a module.
+pub fn read_module(alloc: Global, text: &[u8]) -> Result<Module, Refusal>
     ensures ok { IfOk result (λ m. ReadsAsModule text.now (Ok m)) }
     ensures refused { IfErr result (λ refusal. (refusal ≡ Refusal.Memory)
         ⊎ ReadsAsModule text.now (Err refusal)) }
@@ -236,6 +219,14 @@ fn read_module(alloc: Global, text: &[u8]) -> Result<Module, Refusal>
         Err(ParseFault::Syntax) => Err(Refusal::Syntax),
         Err(ParseFault::Memory) => Err(Refusal::Memory),
     }
+}
+
+/// A module with its name.
+pub fn with_name(alloc: Global, name: &Label, module: Module) -> Result<NamedModule, NoMemory>
+    ensures { IfOk result (λ named. named ≡ (name.now, «module»)) }
+{
+    let name = name.try_clone()?;
+    NamedModule::new(alloc, name, module)
 }
 
 fn copied(alloc: Global, text: &[u8]) -> Result<Vec<u8>, NoMemory>

@@ -8,19 +8,19 @@ ghost use Rattle.prim_core.specs.Signature.{Signature};
 ghost use Rattle.change_plans.specs.Slots.{Store, contents, slot_of, AreApart};
 ghost use Rattle.change_plans.specs.Entries.{Entry, HasPlace, put, after, FitsForward};
 ghost use Rattle.term_patch.specs.PatchLaws.{patch_entries};
+ghost use Rattle.change_log.specs.Texts.{TextsChange};
 ghost use Rattle.session_steps.specs.History.{empty_history, changed, step_back, step_forward, undone, redone};
 ghost use Rattle.session_steps.specs.Step.{ComesTo, begin, abandon, committed};
-ghost use Rattle.session_steps.specs.Modules.{IsProgram, AreRefused};
+ghost use Rattle.session_steps.specs.Modules.{AreRefused, SameBut, IsCurrent, IsKept};
 ghost use Rattle.session_steps.specs.Unfolded.{unfolded, IsPlaced};
 ghost use Rattle.session_steps.specs.inside.Adding.{AddsStep};
 
-use crate::Refusal;
-use crate::modules::check_modules;
-use change_log::{Entry, Log, Plan, Step, Store};
+use crate::kept::{keep_modules, settle};
+use crate::{KeptModules, Refusal};
+use change_log::{Entry, Log, Plan, Step, Store, Texts};
 use prim_core::{Meaning, Primitives};
 use std::alloc::Global;
 use std::mem;
-use strategy_check::Program;
 use term_core::{Label, NoMemory, Term};
 use term_patch::Patch;
 
@@ -240,38 +240,48 @@ impl Timeline {
         Ok(())
     }
 
-    /// Makes a change as a step, if the checker then finds no fault in the modules, and returns
-    /// their program. Else nothing changes.
+    /// Makes a change of the text of the module of this name as a step, if the checker then finds no
+    /// fault in the modules, which are kept. Else nothing changes.
     pub fn change_checked<M: Meaning>(
         &mut self,
         primitives: &Primitives<M>,
+        kept: &mut KeptModules,
+        name: &Label,
         entry: Entry<'_>,
-    ) -> Result<Program, Refusal>
+    ) -> Result<(), Refusal>
         requires placed { IsPlaced self.old }
         requires place { HasPlace entry self.old.store }
         requires outside { self.old.group ≡ None }
+        requires one { SameBut name.now (contents self.old.store).modules
+            (contents (put entry self.old.store)).modules }
+        requires kept { IsKept primitives.now (contents self.old.store).modules kept.old }
         ensures placed { IsPlaced self.new }
         ensures ok { OnOk result (unfolded primitives.now self.new
             ≡ changed (contents (put entry.entry self.old.store)) (unfolded primitives.now self.old)) }
-        ensures program { IfOk result (λ program. IsProgram primitives.now
-            (contents (put entry.entry self.old.store)).modules program) }
+        ensures current { OnOk result (IsCurrent primitives.now
+            (contents (put entry.entry self.old.store)).modules kept.new) }
         ensures refused { IfErr result (λ refusal. AreRefused primitives.now
             (contents (put entry.entry self.old.store)).modules refusal) }
         ensures err { OnErr result (unfolded primitives.now self.new
             ≡ unfolded primitives.now self.old) }
+        ensures kept { IsKept primitives.now (contents self.new.store).modules kept.new }
     {
+        let alloc = *self.logs.allocator();
         let Ok(()) = self.logs.reserve(1) else {
             return Err(Refusal::Memory);
         };
-        let mut log = Log::new(*self.logs.allocator());
+        settle(alloc, &self.store, primitives, kept);
+        let mut log = Log::new(alloc);
         log.push(&mut self.store, entry)?;
-        match check_modules(*self.logs.allocator(), &self.store, primitives) {
-            Ok(program) => {
+        kept.note_name(name);
+        match keep_modules(alloc, &self.store, primitives, kept) {
+            Ok(()) => {
                 self.add_step(log);
-                Ok(program)
+                Ok(())
             }
             Err(refusal) => {
                 log.roll_back(0, &mut self.store);
+                kept.note_name(name);
                 Err(refusal)
             }
         }
@@ -306,48 +316,46 @@ impl Timeline {
         self.position += 1;
     }
 
-    /// Goes one step back. Returns whether module texts may have changed.
-    pub fn back(&mut self) -> bool
+    /// Goes one step back. Returns which module texts may have changed.
+    pub fn back(&mut self) -> Texts
         requires placed { IsPlaced self.old }
         requires some { 0 < self.old.position }
         requires outside { self.old.group ≡ None }
         ensures placed { IsPlaced self.new }
         ensures outside { self.new.group ≡ None }
         ensures position { self.new.position ≡ self.old.position - 1 }
-        ensures texts { result ≡ false → self.new.store.modules ≡ self.old.store.modules }
+        ensures texts { TextsChange result self.old.store self.new.store }
         ensures value { (ps : List Signature) → step_back (unfolded ps self.old)
             ≡ Some (unfolded ps self.new) }
     {
         self.position -= 1;
         let step = &mut self.logs[self.position];
-        let texts = step.has_text();
+        let texts = step.texts();
         step.flip_back(&mut self.store);
         texts
     }
 
-    /// Goes this many steps back. Returns whether module texts may have changed.
-    pub fn back_by(&mut self, steps: usize) -> bool
+    /// Goes this many steps back. Returns which module texts may have changed.
+    pub fn back_by(&mut self, steps: usize) -> Texts
         requires placed { IsPlaced self.old }
         requires enough { steps ≤ self.old.position }
         requires outside { self.old.group ≡ None }
         ensures placed { IsPlaced self.new }
         ensures value { (ps : List Signature) → undone steps (unfolded ps self.old)
             ≡ Some (unfolded ps self.new) }
-        ensures texts { result ≡ false → self.new.store.modules ≡ self.old.store.modules }
+        ensures texts { TextsChange result self.old.store self.new.store }
     {
-        let mut texts = false;
+        let mut texts = Texts::None;
         let mut left = steps;
         while left > 0 {
             left -= 1;
-            if self.back() {
-                texts = true;
-            }
+            texts = texts.and(self.back());
         }
         texts
     }
 
-    /// Goes one step forward. Returns whether module texts may have changed.
-    pub fn forward(&mut self) -> bool
+    /// Goes one step forward. Returns which module texts may have changed.
+    pub fn forward(&mut self) -> Texts
         requires placed { IsPlaced self.old }
         requires some { self.old.position < length self.old.logs.items }
         requires outside { self.old.group ≡ None }
@@ -355,34 +363,32 @@ impl Timeline {
         ensures outside { self.new.group ≡ None }
         ensures position { self.new.position ≡ self.old.position + 1 }
         ensures count { length self.new.logs.items ≡ length self.old.logs.items }
-        ensures texts { result ≡ false → self.new.store.modules ≡ self.old.store.modules }
+        ensures texts { TextsChange result self.old.store self.new.store }
         ensures value { (ps : List Signature) → step_forward (unfolded ps self.old)
             ≡ Some (unfolded ps self.new) }
     {
         let step = &mut self.logs[self.position];
-        let texts = step.has_text();
+        let texts = step.texts();
         step.flip_forward(&mut self.store);
         self.position += 1;
         texts
     }
 
-    /// Goes this many steps forward. Returns whether module texts may have changed.
-    pub fn forward_by(&mut self, steps: usize) -> bool
+    /// Goes this many steps forward. Returns which module texts may have changed.
+    pub fn forward_by(&mut self, steps: usize) -> Texts
         requires placed { IsPlaced self.old }
         requires enough { self.old.position + steps ≤ length self.old.logs.items }
         requires outside { self.old.group ≡ None }
         ensures placed { IsPlaced self.new }
         ensures value { (ps : List Signature) → redone steps (unfolded ps self.old)
             ≡ Some (unfolded ps self.new) }
-        ensures texts { result ≡ false → self.new.store.modules ≡ self.old.store.modules }
+        ensures texts { TextsChange result self.old.store self.new.store }
     {
-        let mut texts = false;
+        let mut texts = Texts::None;
         let mut left = steps;
         while left > 0 {
             left -= 1;
-            if self.forward() {
-                texts = true;
-            }
+            texts = texts.and(self.forward());
         }
         texts
     }
@@ -427,16 +433,16 @@ impl Timeline {
         self.group.is_some_and(|group| group.changed)
     }
 
-    /// Undoes the changes of the open group and closes it. Returns whether module texts may have
+    /// Undoes the changes of the open group and closes it. Returns which module texts may have
     /// changed. It takes no memory.
-    pub fn leave_group(&mut self) -> bool
+    pub fn leave_group(&mut self) -> Texts
         requires placed { IsPlaced self.old }
         requires inside { IsSome self.old.group }
         ensures placed { IsPlaced self.new }
         ensures value { (ps : List Signature) → ComesTo abandon (unfolded ps self.old) (Ok (unfolded ps self.new)) }
-        ensures texts { result ≡ false → self.new.store.modules ≡ self.old.store.modules }
+        ensures texts { TextsChange result self.old.store self.new.store }
     {
-        let texts = self.current.has_text();
+        let texts = self.current.texts();
         self.current.roll_back(0, &mut self.store);
         self.group = None;
         texts

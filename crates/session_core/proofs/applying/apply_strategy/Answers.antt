@@ -1,4 +1,5 @@
 use Rattle.std.proofs.Common.{refl}
+use Rattle.session_steps.specs.Modules.{program_in}
 use Rattle.session_core.proofs.ResolveLemmas.{is_low}
 use Rattle.session_core.proofs.ApplyLemmas.{apply_ok, apply_refused}
 use Rattle.session_core.proofs.applying.apply_strategy.Goals as goal
@@ -8,10 +9,10 @@ apply_in_slot-outcome-requires-clause-low g c = is_low c.args.timeline.now c.arg
 
 pub returns-clause-ok : goal.returns-clause-ok
 returns-clause-ok g c =
-    apply_ok g.M.Meaning.meaning c.args.primitives.now c.args.timeline.now c.args.name.now c.args.path.now c.args.text.now c.args.steps c.resolve_at.new.program c.in-Ok.found.0 c.in-Ok.found.1 c.in-Ok.ensures.ok
-    c.in-Some.checked.now c.in-Some.ensures.value c.apply_in_slot-outcome.result c.apply_in_slot-outcome.new.timeline c.apply_in_slot-outcome.ensures.made c.apply_in_slot-outcome.ensures.ok
+    apply_ok g.M.Meaning.meaning c.args.primitives.now c.args.timeline.now c.args.name.now c.args.path.now c.args.text.now c.args.steps (program_in c.resolve_at.new.kept) c.in-Ok.found.0 c.in-Ok.found.1 c.in-Ok.ensures.ok
+    c.in-Some.checked.now c.in-Some.ensures c.apply_in_slot-outcome.result c.apply_in_slot-outcome.new.timeline c.apply_in_slot-outcome.ensures.made c.apply_in_slot-outcome.ensures.ok
 
 pub returns-clause-refused : goal.returns-clause-refused
 returns-clause-refused g c =
-    apply_refused g.M.Meaning.meaning c.args.primitives.now c.args.timeline.now c.args.name.now c.args.path.now c.args.text.now c.args.steps c.resolve_at.new.program c.in-Ok.found.0 c.in-Ok.found.1 c.in-Ok.ensures.ok
-    c.in-Some.checked.now c.in-Some.ensures.value c.apply_in_slot-outcome.result c.apply_in_slot-outcome.new.timeline c.apply_in_slot-outcome.ensures.refused
+    apply_refused g.M.Meaning.meaning c.args.primitives.now c.args.timeline.now c.args.name.now c.args.path.now c.args.text.now c.args.steps (program_in c.resolve_at.new.kept) c.in-Ok.found.0 c.in-Ok.found.1 c.in-Ok.ensures.ok
+    c.in-Some.checked.now c.in-Some.ensures c.apply_in_slot-outcome.result c.apply_in_slot-outcome.new.timeline c.apply_in_slot-outcome.ensures.refused

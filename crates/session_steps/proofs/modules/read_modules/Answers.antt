@@ -1,11 +1,11 @@
-use Rattle.std.proofs.Common.{◌++◌, IsSome, sym, subst, ◌∙◌}
+use Rattle.std.proofs.Common.{◌+◌, ◌++◌, ◌∷◌, [], drop, IsSome, refl, sym, ap, subst, ◌∙◌}
 use Rattle.std.specs.List.{AllByRecursion}
 use Rattle.std.specs.FinMap as finmap
 use Rattle.std.proofs.lemmas.List.{drop_all}
 use Rattle.change_plans.specs.Slots.{contents}
 use Rattle.session_steps.specs.Modules.{AreRead}
 use Rattle.session_steps.proofs.MapLemmas.{keys_there}
-use Rattle.session_steps.proofs.CheckLemmas.{read_all}
+use Rattle.session_steps.proofs.CheckLemmas.{read_more, read_all, next_one}
 use Rattle.session_steps.proofs.modules.read_modules.Goals as goal
 
 pub loop-name-init : goal.loop-name-init
@@ -15,6 +15,21 @@ loop-name-init c =
     record {
       read = λ rest h. subst (λ ms. AreRead texts c.deref-name-items.result.now (ms ++ rest)) (sym c.in-Ok.ensures.items) h;
       there = subst (AllByRecursion (λ name. IsSome (finmap.get texts name))) (sym names) (keys_there texts);
+    }
+
+pub loop-name-preserved : goal.loop-name-preserved
+loop-name-preserved c =
+    let texts = (contents c.args.store.now).modules in
+    let names = c.deref-name-items.result.now in
+    let i = c.loop-name.name-index in
+    let name = c.name-item.result in
+    let ms = c.loop-name.modules.items in
+    let more = next_one names i name c.loop-name-test.true c.name-item.is in
+    record {
+      read = λ rest h.
+          subst (λ all. AreRead texts names (all ++ rest)) (sym (c.in-Ok-push.ensures.items ∙ ap (λ m. ms ++ m ∷ []) c.in_ok-named.ensures))
+          (read_more texts names (drop (i + 1) names) ms name (name, c.in-Ok-read_named.module) refl c.in-Ok-read_named.ensures.ok (λ rest h. c.loop-name.invariant.read rest (subst (λ left. AreRead texts left rest) (sym more) h)) rest h);
+      there = (subst (AllByRecursion (λ name. IsSome (finmap.get texts name))) more c.loop-name.invariant.there).1;
     }
 
 pub returns-clause-ok : goal.returns-clause-ok

@@ -6,7 +6,7 @@ pub invariant_of-self : goal.invariant_of-self
 invariant_of-self g c = (
   c.annotate.ensures.placed,
   sound_seen (annotate c.args.name.now c.args.path.now c.args.annotations.items) c.annotate.result c.self.inside.primitives c.self.inside.timeline c.annotate.new.self c.args.self.now c.self.view_is tt c.annotate.ensures.ok c.annotate.ensures.err c.self.invariant.1,
-  kept_seen c.self.inside.primitives c.self.inside.timeline c.annotate.new.self c.self.inside.program (annotate c.args.name.now c.args.path.now c.args.annotations.items) c.annotate.result tt c.annotate.ensures.ok c.annotate.ensures.err c.self.invariant.2,
+  kept_seen c.self.inside.primitives c.self.inside.timeline c.annotate.new.self c.self.inside.kept (annotate c.args.name.now c.args.path.now c.args.annotations.items) c.annotate.result tt c.annotate.ensures.ok c.annotate.ensures.err c.self.invariant.2,
 )
 
 pub returns-clause-ok : goal.returns-clause-ok

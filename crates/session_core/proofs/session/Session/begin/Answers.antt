@@ -6,7 +6,7 @@ pub invariant_of-self : goal.invariant_of-self
 invariant_of-self g c = (
   c.begin.ensures.placed,
   sound_seen begin c.begin.result c.self.inside.primitives c.self.inside.timeline c.begin.new.self c.args.self.now c.self.view_is tt c.begin.ensures.ok c.begin.ensures.err c.self.invariant.1,
-  kept_seen c.self.inside.primitives c.self.inside.timeline c.begin.new.self c.self.inside.program begin c.begin.result tt c.begin.ensures.ok c.begin.ensures.err c.self.invariant.2,
+  kept_seen c.self.inside.primitives c.self.inside.timeline c.begin.new.self c.self.inside.kept begin c.begin.result tt c.begin.ensures.ok c.begin.ensures.err c.self.invariant.2,
 )
 
 pub returns-clause-ok : goal.returns-clause-ok

@@ -8,7 +8,7 @@ pub invariant_of-self : goal.invariant_of-self
 invariant_of-self g c = (
   c.commit.ensures.placed,
   said_sound (ComesTo commit) c.commit.result _ _ c.args.self.now c.self.view_is (λ g d s. step_sound commit _ g tt s d) c.commit.ensures.ok c.commit.ensures.err c.self.invariant.1,
-  c.commit.ensures.program,
+  c.commit.ensures.kept,
 )
 
 pub returns-clause-ok : goal.returns-clause-ok

@@ -6,7 +6,7 @@ pub invariant_of-self : goal.invariant_of-self
 invariant_of-self g c = (
   c.copy_tree.ensures.placed,
   sound_seen (copy_tree c.args.name.now c.args.copy.now) c.copy_tree.result c.self.inside.primitives c.self.inside.timeline c.copy_tree.new.self c.args.self.now c.self.view_is tt c.copy_tree.ensures.ok c.copy_tree.ensures.err c.self.invariant.1,
-  kept_seen c.self.inside.primitives c.self.inside.timeline c.copy_tree.new.self c.self.inside.program (copy_tree c.args.name.now c.args.copy.now) c.copy_tree.result tt c.copy_tree.ensures.ok c.copy_tree.ensures.err c.self.invariant.2,
+  kept_seen c.self.inside.primitives c.self.inside.timeline c.copy_tree.new.self c.self.inside.kept (copy_tree c.args.name.now c.args.copy.now) c.copy_tree.result tt c.copy_tree.ensures.ok c.copy_tree.ensures.err c.self.invariant.2,
 )
 
 pub returns-clause-ok : goal.returns-clause-ok

@@ -6,7 +6,7 @@ pub invariant_of-self : goal.invariant_of-self
 invariant_of-self g c = (
   c.drop_tree.ensures.placed,
   sound_seen (drop_tree c.args.name.now) c.drop_tree.result c.self.inside.primitives c.self.inside.timeline c.drop_tree.new.self c.args.self.now c.self.view_is tt c.drop_tree.ensures.ok c.drop_tree.ensures.err c.self.invariant.1,
-  kept_seen c.self.inside.primitives c.self.inside.timeline c.drop_tree.new.self c.self.inside.program (drop_tree c.args.name.now) c.drop_tree.result tt c.drop_tree.ensures.ok c.drop_tree.ensures.err c.self.invariant.2,
+  kept_seen c.self.inside.primitives c.self.inside.timeline c.drop_tree.new.self c.self.inside.kept (drop_tree c.args.name.now) c.drop_tree.result tt c.drop_tree.ensures.ok c.drop_tree.ensures.err c.self.invariant.2,
 )
 
 pub returns-clause-ok : goal.returns-clause-ok

@@ -1,10 +1,15 @@
 use Rattle.std.proofs.Common.{sym, subst}
+use Rattle.change_plans.specs.Slots.{contents}
 use Rattle.session_steps.specs.History.{HasSoundContents}
 use Rattle.session_steps.proofs.SoundLemmas.{sound_no_contents}
 use Rattle.session_core.proofs.session.Session.new.Goals as goal
 
 pub invariant_of-result : goal.invariant_of-result
-invariant_of-result g c = (c.new.ensures.placed, subst HasSoundContents (sym (c.new.ensures.value c.args.primitives)) (tt, sound_no_contents c.args.primitives, tt), tt)
+invariant_of-result g c = (
+  c.new.ensures.placed,
+  subst HasSoundContents (sym (c.new.ensures.value c.args.primitives)) (tt, sound_no_contents c.args.primitives, tt),
+  c.new-2.ensures c.args.primitives (contents c.new.result.store).modules,
+)
 
 pub returns-clause-value : goal.returns-clause-value
 returns-clause-value g c = c.new.ensures.value c.args.primitives

@@ -6,7 +6,7 @@ pub invariant_of-self : goal.invariant_of-self
 invariant_of-self g c = (
   c.put.ensures.placed,
   sound_seen (put c.args.name.now c.args.path.now c.args.part) c.put.result c.self.inside.primitives c.self.inside.timeline c.put.new.self c.args.self.now c.self.view_is tt c.put.ensures.ok c.put.ensures.err c.self.invariant.1,
-  kept_seen c.self.inside.primitives c.self.inside.timeline c.put.new.self c.self.inside.program (put c.args.name.now c.args.path.now c.args.part) c.put.result tt c.put.ensures.ok c.put.ensures.err c.self.invariant.2,
+  kept_seen c.self.inside.primitives c.self.inside.timeline c.put.new.self c.self.inside.kept (put c.args.name.now c.args.path.now c.args.part) c.put.result tt c.put.ensures.ok c.put.ensures.err c.self.invariant.2,
 )
 
 pub returns-clause-ok : goal.returns-clause-ok

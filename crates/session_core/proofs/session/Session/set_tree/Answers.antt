@@ -6,7 +6,7 @@ pub invariant_of-self : goal.invariant_of-self
 invariant_of-self g c = (
   c.set_tree.ensures.placed,
   sound_seen (set_tree c.args.name.now c.args.tree) c.set_tree.result c.self.inside.primitives c.self.inside.timeline c.set_tree.new.self c.args.self.now c.self.view_is tt c.set_tree.ensures.ok c.set_tree.ensures.err c.self.invariant.1,
-  kept_seen c.self.inside.primitives c.self.inside.timeline c.set_tree.new.self c.self.inside.program (set_tree c.args.name.now c.args.tree) c.set_tree.result tt c.set_tree.ensures.ok c.set_tree.ensures.err c.self.invariant.2,
+  kept_seen c.self.inside.primitives c.self.inside.timeline c.set_tree.new.self c.self.inside.kept (set_tree c.args.name.now c.args.tree) c.set_tree.result tt c.set_tree.ensures.ok c.set_tree.ensures.err c.self.invariant.2,
 )
 
 pub returns-clause-ok : goal.returns-clause-ok

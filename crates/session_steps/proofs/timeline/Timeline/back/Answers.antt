@@ -1,9 +1,8 @@
 use Rattle.std.proofs.Common.{sym, ap, ◌∙◌, ◌-◌, Some, set, arith}
 use Rattle.std.specs.Vec.{with_item}
 use Rattle.std.proofs.lemmas.Option.{slice_get-get_or}
-use Rattle.change_plans.specs.Slots.{Store}
-use Rattle.change_log.proofs.FlipLemmas.{before_keeps_texts}
 use Rattle.session_steps.proofs.PlaceLemmas.{placed_back, unfolded_back}
+use Rattle.session_steps.proofs.TextLemmas.{changed_back}
 use Rattle.session_steps.proofs.timeline.Timeline.back.Goals as goal
 
 pub returns-clause-placed : goal.returns-clause-placed
@@ -19,4 +18,4 @@ returns-clause-value c = λ ps.
     (omega (arith, c.requires.some)) c.flip_back.ensures.store (ap (set c.args.self.now.logs.items (c.args.self.now.position - 1)) c.flip_back.ensures.step) ps
 
 pub returns-clause-texts : goal.returns-clause-texts
-returns-clause-texts c = λ none. ap (λ (s : Store). s.modules) c.flip_back.ensures.store ∙ before_keeps_texts c.index_mut-step.result.now c.args.self.now.store (sym c.has_text-texts.ensures ∙ none)
+returns-clause-texts c = changed_back c.texts-texts.result c.index_mut-step.result.now c.args.self.now.store c.flip_back.new.store c.texts-texts.ensures c.flip_back.ensures.store

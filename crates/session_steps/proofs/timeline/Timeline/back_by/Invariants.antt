@@ -1,5 +1,6 @@
-use Rattle.std.proofs.Common.{◌≡◌, ◌≤◌, List, None, false}
+use Rattle.std.proofs.Common.{◌≡◌, ◌≤◌, List, None}
 use Rattle.prim_core.specs.Signature.{Signature}
+use Rattle.change_log.specs.Texts.{TextsChange}
 use Rattle.session_steps.specs.History.{undone}
 use Rattle.session_steps.specs.Unfolded.{unfolded, IsPlaced}
 use Rattle.session_steps.proofs.timeline.Timeline.back_by.Given as goal
@@ -11,7 +12,7 @@ invariant-loop-left l = record {
   outside : l.self.group ≡ None;
   enough : l.left ≤ l.self.position;
   value : (ps : List Signature) → undone l.steps (unfolded ps l.initial.self) ≡ undone l.left (unfolded ps l.self);
-  texts : l.texts ≡ false → l.self.store.modules ≡ l.initial.self.store.modules;
+  texts : TextsChange l.texts l.initial.self.store l.self.store;
 }
 
 abbrev pub decreases-loop-left : goal.decreases-loop-left

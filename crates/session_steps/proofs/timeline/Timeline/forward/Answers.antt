@@ -1,9 +1,8 @@
 use Rattle.std.proofs.Common.{refl, sym, ap, ◌∙◌, Some, set}
 use Rattle.std.specs.Vec.{with_item}
 use Rattle.std.proofs.lemmas.Option.{slice_get-get_or}
-use Rattle.change_plans.specs.Slots.{Store}
-use Rattle.change_log.proofs.FlipLemmas.{after_keeps_texts}
 use Rattle.session_steps.proofs.PlaceLemmas.{placed_forward, unfolded_forward}
+use Rattle.session_steps.proofs.TextLemmas.{changed_forward}
 use Rattle.session_steps.proofs.timeline.Timeline.forward.Goals as goal
 
 pub returns-clause-placed : goal.returns-clause-placed
@@ -19,4 +18,4 @@ returns-clause-value c = λ ps.
     refl c.flip_forward.ensures.store (ap (set c.args.self.now.logs.items c.args.self.now.position) c.flip_forward.ensures.step) ps
 
 pub returns-clause-texts : goal.returns-clause-texts
-returns-clause-texts c = λ none. ap (λ (s : Store). s.modules) c.flip_forward.ensures.store ∙ after_keeps_texts c.index_mut-step.result.now c.args.self.now.store (sym c.has_text-texts.ensures ∙ none)
+returns-clause-texts c = changed_forward c.texts-texts.result c.index_mut-step.result.now c.args.self.now.store c.flip_forward.new.store c.texts-texts.ensures c.flip_forward.ensures.store

@@ -1,5 +1,6 @@
-use Rattle.std.proofs.Common.{◌≡◌, ◌≤◌, ◌+◌, List, None, false, length}
+use Rattle.std.proofs.Common.{◌≡◌, ◌≤◌, ◌+◌, List, None, length}
 use Rattle.prim_core.specs.Signature.{Signature}
+use Rattle.change_log.specs.Texts.{TextsChange}
 use Rattle.session_steps.specs.History.{redone}
 use Rattle.session_steps.specs.Unfolded.{unfolded, IsPlaced}
 use Rattle.session_steps.proofs.timeline.Timeline.forward_by.Given as goal
@@ -11,7 +12,7 @@ invariant-loop-left l = record {
   outside : l.self.group ≡ None;
   enough : l.self.position + l.left ≤ length l.self.logs.items;
   value : (ps : List Signature) → redone l.steps (unfolded ps l.initial.self) ≡ redone l.left (unfolded ps l.self);
-  texts : l.texts ≡ false → l.self.store.modules ≡ l.initial.self.store.modules;
+  texts : TextsChange l.texts l.initial.self.store l.self.store;
 }
 
 abbrev pub decreases-loop-left : goal.decreases-loop-left

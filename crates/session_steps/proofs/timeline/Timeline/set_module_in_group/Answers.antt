@@ -1,7 +1,9 @@
-use Rattle.std.proofs.Common.{◌∙◌}
+use Rattle.std.proofs.Common.{refl, ◌∙◌}
+use Rattle.change_plans.specs.Slots.{contents}
+use Rattle.change_plans.specs.Entries.{put}
 use Rattle.session_steps.specs.Unfolded.{unfolded}
-use Rattle.session_steps.proofs.ActLemmas.{on_err}
-use Rattle.session_steps.proofs.CheckLemmas.{group_of, set_inside, text_told}
+use Rattle.session_steps.proofs.ActLemmas.{on_err, kept_same}
+use Rattle.session_steps.proofs.CheckLemmas.{group_of, set_inside, text_told, text_put, now_then, set_same_but}
 use Rattle.session_steps.proofs.timeline.Timeline.set_module_in_group.Goals as goal
 
 pub returns-in_err-slot-clause-err : goal.returns-in_err-slot-clause-err
@@ -16,3 +18,23 @@ returns-clause-ok g c =
     let there = group_of c.args.self.now ps c.requires.inside in
     set_inside (unfolded ps c.args.self.now) c.args.name.now c.args.text.now (unfolded ps c.change_in_group.new.self) there.0 c.in_ok-read_module.field-0 there.1 c.in_ok-read_module.ensures.ok
     (text_told c.args.self.now c.module_slot.new.self c.change_in_group.new.self c.args.name.now c.in_ok-copy.copy.items c.args.text.now c.in_ok-slot.slot c.text.result ps c.in_ok-slot.ensures.slot c.text.ensures c.in_ok-copy.ensures (c.module_slot.ensures.same ps) (c.in_ok-change_in_group.ensures.ok ps))
+
+pub returns-in_err-slot-clause-kept : goal.returns-in_err-slot-clause-kept
+returns-in_err-slot-clause-kept g c =
+    kept_same c.args.primitives.now c.args.self.now c.module_slot.new.self c.args.kept.now (c.module_slot.ensures.same c.args.primitives.now) c.requires.kept
+
+pub returns-in_err-change_in_group-clause-kept : goal.returns-in_err-change_in_group-clause-kept
+returns-in_err-change_in_group-clause-kept g c =
+    kept_same c.args.primitives.now c.args.self.now c.change_in_group.new.self c.args.kept.now (c.in_err-change_in_group.ensures.err c.args.primitives.now ∙ c.module_slot.ensures.same c.args.primitives.now) c.requires.kept
+
+pub returns-clause-kept : goal.returns-clause-kept
+returns-clause-kept g c =
+    let ps = c.args.primitives.now in
+    let t = c.args.self.now in
+    let m = c.module_slot.new.self in
+    let n = c.change_in_group.new.self in
+    c.note_name.ensures ps (contents t.store).modules (contents n.store).modules
+    (set_same_but (contents t.store) (contents n.store) (contents t.store) c.args.name.now c.args.text.now refl
+    (now_then n (contents (put c.text.result m.store)) (unfolded ps m) ps (c.in_ok-change_in_group.ensures.ok ps)
+    ∙ text_put t m c.args.name.now c.in_ok-copy.copy.items c.args.text.now c.in_ok-slot.slot c.text.result ps c.in_ok-slot.ensures.slot c.text.ensures c.in_ok-copy.ensures (c.module_slot.ensures.same ps)))
+    c.requires.kept
