@@ -11,6 +11,7 @@ pub mod RangeLemmas
 pub mod ProgramLemmas
 pub mod ChangeLemmas
 pub mod RenumberLemmas
+pub mod NumberLemmas
 pub mod ReplacingLemmas
 pub mod AmongLemmas
 pub mod StayingLemmas

@@ -1,10 +1,11 @@
 //! Checked programs.
 #![tactic(auto)]
 
-ghost use Rattle.std.specs.Prelude.{◌≡◌, ◌≤◌, ◌+◌, [], length, map, IfOk, OnOk, IfErr};
+ghost use Rattle.std.specs.Prelude.{◌≡◌, ◌≤◌, ◌+◌, ℕ, true, [], length, map, IfOk, OnOk, IfErr};
 ghost use Rattle.strategy_check.specs.Faults.{faults, first, IsTold};
 ghost use Rattle.strategy_check.specs.Programs.{program, faults_of, resolved};
 ghost use Rattle.strategy_check.specs.Ranges.{IsInRange, BodiesInRange};
+ghost use Rattle.strategy_syntax.specs.Renumbering.{new_number};
 ghost use Rattle.strategy_check.specs.inside.Replacing.{renumbered_definition};
 ghost use Rattle.strategy_check.specs.inside.Staying.{joined_bodies, with_bodies};
 
@@ -87,6 +88,27 @@ impl Program {
 }
 
 fn renumber_bodies(bodies: &mut Vec<Resolved>, numbers: &[usize])
+    ensures { bodies.new.items ≡ map (renumbered_definition numbers.now) bodies.old.items }
+{
+    if keep_numbers(numbers) {
+        return;
+    }
+    renumber_each(bodies, numbers);
+}
+
+// Whether each number stays.
+fn keep_numbers(numbers: &[usize]) -> bool
+    ensures { result ≡ true → (k : ℕ) → new_number numbers.now k ≡ k }
+{
+    for i in 0..numbers.len() {
+        if numbers[i] != i {
+            return false;
+        }
+    }
+    true
+}
+
+fn renumber_each(bodies: &mut Vec<Resolved>, numbers: &[usize])
     ensures { bodies.new.items ≡ map (renumbered_definition numbers.now) bodies.old.items }
 {
     for i in 0..bodies.len() {

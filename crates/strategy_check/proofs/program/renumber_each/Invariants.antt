@@ -1,7 +1,7 @@
 use Rattle.std.proofs.Common.{◌≡◌}
 use Rattle.strategy_check.specs.inside.Replacing.{renumbered_definition}
 use Rattle.strategy_check.proofs.ChangeLemmas.{partly}
-use Rattle.strategy_check.proofs.program.renumber_bodies.Given as goal
+use Rattle.strategy_check.proofs.program.renumber_each.Given as goal
 
 -- the first i have new numbers
 abbrev pub invariant-loop-i : goal.invariant-loop-i
