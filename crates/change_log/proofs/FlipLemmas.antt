@@ -2,13 +2,13 @@
 use Rattle.std.proofs.Common.{◌≡◌, ℕ, zero, suc, ◌+◌, ◌-◌, ◌≤◌, List, [], ◌∷◌, ◌++◌, length, take, drop, slice_get, Some, false, refl, ap, ◌∙◌, arith}
 use Rattle.std.specs.List.{All}
 use Rattle.std.proofs.lemmas.Bool.{ltb-false}
-use Rattle.change_plans.specs.Slots.{Store}
-use Rattle.change_plans.specs.Entries.{Entry, slot_tree, subterm, subterm_annotations, slot_text, put, found, before, after, flipped_back, flipped_forward, text_of, texts, has_text}
-use Rattle.change_plans.specs.Compact.{LiesWithin, AreApart, IsCompact}
-use Rattle.change_plans.specs.Laws.{FlippedBackIsCompact, FlippedForwardIsCompact, BeforeKeepsTexts, AfterKeepsTexts}
-use Rattle.change_plans.specs.LogView.{entry_of}
-use Rattle.change_plans.specs.inside.LogView.{entries}
-use Rattle.change_plans.specs.declared.plan.Replaced.{Replaced}
+use Rattle.term_changes.specs.Slots.{Store}
+use Rattle.term_changes.specs.Entries.{Entry, slot_tree, subterm, subterm_annotations, slot_text, put, found, before, after, flipped_back, flipped_forward, text_of, texts, has_text}
+use Rattle.term_changes.specs.Compact.{LiesWithin, AreApart, IsCompact}
+use Rattle.term_changes.specs.Laws.{FlippedBackIsCompact, FlippedForwardIsCompact, BeforeKeepsTexts, AfterKeepsTexts}
+use Rattle.term_changes.specs.LogView.{entry_of}
+use Rattle.term_changes.specs.inside.LogView.{entries}
+use Rattle.term_changes.specs.declared.plan.Replaced.{Replaced}
 use Rattle.change_log.proofs.MergeLemmas.{ApartFrom}
 use Rattle.change_log.proofs.ChosenLemmas.{AllApart, compact_if_apart}
 

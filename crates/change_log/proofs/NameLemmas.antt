@@ -17,7 +17,7 @@ use Rattle.std.proofs.lemmas.Map.Keys.{IsDistinct-IsPermutation, IsDistinct-head
 use Rattle.std.proofs.lemmas.List.Sorted.{list_any-IsPermutation}
 use Rattle.std.proofs.lemmas.List.Kept.{IsStrictlySortedBy-dedup}
 use Rattle.std.proofs.lemmas.List.{append-nil}
-use Rattle.change_plans.specs.Slots.{Slots, labels, AreApart, filled, named}
+use Rattle.term_changes.specs.Slots.{Slots, labels, AreApart, filled, named}
 
 -- ---- a strictly rising list of keys is the list of a map
 

@@ -1,7 +1,7 @@
 -- Patches have no module texts.
 use Rattle.std.proofs.Common.{◌≡◌, ℕ, [], ◌∷◌, refl, sym, arith}
 use Rattle.term_paths.specs.Edits.{Edits}
-use Rattle.change_plans.specs.Entries.{texts}
+use Rattle.term_changes.specs.Entries.{texts}
 use Rattle.term_changes.specs.Putting.{entries_at}
 use Rattle.change_log.specs.declared.texts.Texts.TheVariants.{None}
 use Rattle.change_log.specs.Texts.{texts_in}

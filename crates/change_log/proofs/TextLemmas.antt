@@ -2,12 +2,12 @@
 use Rattle.std.proofs.Common.{◌≡◌, ℕ, zero, suc, ◌+◌, List, [], ◌∷◌, take, drop, slice_get, Option, Some, Bool, true, false, unwrap_or, refl, sym, ap, subst, ◌∙◌, arith}
 use Rattle.std.specs.Prelude.{nat_eq, if◌then◌else◌}
 use Rattle.std.proofs.lemmas.Bool.Decides.{nat_tests}
-use Rattle.change_plans.specs.Slots.{Slots, Store, slot_at, with_content}
-use Rattle.change_plans.specs.Entries.{Entry, slot_tree, subterm, subterm_annotations, slot_text, put, before, after, texts}
-use Rattle.change_plans.specs.LogView.{entry_of}
-use Rattle.change_plans.specs.inside.LogView.{entries}
-use Rattle.change_plans.specs.declared.plan.Replaced.{Replaced}
-use Rattle.change_plans.proofs.SlotLemmas.{slot_twice}
+use Rattle.term_changes.specs.Slots.{Slots, Store, slot_at, with_content}
+use Rattle.term_changes.specs.Entries.{Entry, slot_tree, subterm, subterm_annotations, slot_text, put, before, after, texts}
+use Rattle.term_changes.specs.LogView.{entry_of}
+use Rattle.term_changes.specs.inside.LogView.{entries}
+use Rattle.term_changes.specs.declared.plan.Replaced.{Replaced}
+use Rattle.term_changes.proofs.SlotLemmas.{slot_twice}
 use Rattle.change_log.specs.declared.texts.Texts.{Texts}
 use Rattle.change_log.specs.declared.texts.Texts.TheVariants.{None, One, Several}
 use Rattle.change_log.specs.Texts.{text_in, both, texts_in, TextsChange, BeforeChangesTexts, AfterChangesTexts, BothChangeTexts}

@@ -1,8 +1,8 @@
 -- Which module texts changes concern, and what that says of the stores before and after them.
 use Rattle.std.specs.Prelude.{◌≡◌, ℕ, List, [], ◌∷◌, nat_eq, if◌then◌else◌}
 use Rattle.std.specs.declared.option.Option.{Option}
-use Rattle.change_plans.specs.Slots.{Store, with_content}
-use Rattle.change_plans.specs.Entries.{Entry, slot_tree, subterm, subterm_annotations, slot_text, before, after}
+use Rattle.term_changes.specs.Slots.{Store, with_content}
+use Rattle.term_changes.specs.Entries.{Entry, slot_tree, subterm, subterm_annotations, slot_text, before, after}
 use Rattle.change_log.specs.declared.texts.Texts.{Texts}
 use Rattle.change_log.specs.declared.texts.Texts.TheVariants.{None, One, Several}
 

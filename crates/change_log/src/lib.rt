@@ -12,9 +12,9 @@ mod step;
 mod store;
 mod texts;
 
-pub use change_plans::{Entry, Plan};
+pub use term_changes::{Entry, Plan};
 #[doc(hidden)]
-pub use change_plans::{Kept, Replaced, Text};
+pub use term_changes::{Kept, Replaced, Text};
 pub use log::Log;
 #[doc(hidden)]
 pub use relation::Relation;

@@ -1,16 +1,16 @@
 //! Logs: what changes of a store replaced, so that they can be undone.
 
 ghost use Rattle.std.specs.Prelude.{◌≡◌, ◌<◌, ◌≤◌, ◌+◌, ◌-◌, ◌*◌, ◌++◌, ℕ, List, [], ◌∷◌, length, take, drop, OnOk, OnErr, vec_len, vec_capacity};
-ghost use Rattle.change_plans.specs.Slots.{Store};
-ghost use Rattle.change_plans.specs.Entries.{put, found, before, after, flipped_back, flipped_forward, Fits, texts};
-ghost use Rattle.change_plans.specs.Compact.{IsCompact};
-ghost use Rattle.change_plans.specs.LogView.{entry_of};
-ghost use Rattle.change_plans.specs.inside.LogView.{entries, depths};
+ghost use Rattle.term_changes.specs.Slots.{Store};
+ghost use Rattle.term_changes.specs.Entries.{put, found, before, after, flipped_back, flipped_forward, Fits, texts};
+ghost use Rattle.term_changes.specs.Compact.{IsCompact};
+ghost use Rattle.term_changes.specs.LogView.{entry_of};
+ghost use Rattle.term_changes.specs.inside.LogView.{entries, depths};
 ghost use Rattle.change_log.specs.Texts.{texts_in};
 
 use crate::compact::compact;
 use crate::{Store, Texts};
-use change_plans::{Entry, Kept, Plan, Replaced};
+use term_changes::{Entry, Kept, Plan, Replaced};
 use std::alloc::Global;
 use std::marker::Model;
 use term_core::NoMemory;
@@ -31,15 +31,15 @@ pub struct Log {
 impl Model for Log {
     ghost use Rattle.std.specs.Prelude.{◌≡◌, ◌<◌, ◌≤◌, ◌*◌, List, length};
     ghost use Rattle.std.specs.Coded.{coded_list};
-    ghost use Rattle.change_plans.specs.Entries.{Entry};
-    ghost use Rattle.change_plans.specs.inside.Codes.{entry_code};
+    ghost use Rattle.term_changes.specs.Entries.{Entry};
+    ghost use Rattle.term_changes.specs.inside.Codes.{entry_code};
 
     ghost Value = { List Entry };
 
     ghost coded = { coded_list entry_code };
 
-    ghost use Rattle.change_plans.specs.Entries.{texts};
-    ghost use Rattle.change_plans.specs.inside.LogView.{entries, depths};
+    ghost use Rattle.term_changes.specs.Entries.{texts};
+    ghost use Rattle.term_changes.specs.inside.LogView.{entries, depths};
 
     ghost view = { λ a. entries a.replaced.items a.paths.items };
 

@@ -3,17 +3,17 @@
 ghost use Rattle.std.specs.Prelude.{◌≡◌, [], Some, unwrap_or, IfOk, OnOk, OnErr, option_copied, option_map, slice_get};
 ghost use Rattle.std.specs.FinMap as finmap;
 ghost use Rattle.term_paths.specs.Paths.{set_at, set_annotations_at};
-ghost use Rattle.change_plans.specs.Slots.{AreApart, slot_at, content, with_content, slot_of, with_slot, named};
+ghost use Rattle.term_changes.specs.Slots.{AreApart, slot_at, content, with_content, slot_of, with_slot, named};
 ghost use Rattle.std.specs.Option.{option_map_or};
-ghost use Rattle.term_patch.specs.Exchange.{changed_in, taken_in};
-ghost use Rattle.change_plans.specs.Entries.{changed_tree, subterm_in, annotations_in};
+ghost use Rattle.term_changes.specs.Exchange.{changed_in, taken_in};
+ghost use Rattle.term_changes.specs.Entries.{changed_tree, subterm_in, annotations_in};
 
 use indexmap::IndexMap;
 use std::alloc::Global;
 use std::marker::Model;
 use std::mem;
 use term_core::{Label, NoMemory, Term};
-use term_patch::Patch;
+use term_changes::Patch;
 use term_paths::{swap_annotations_at_parts, swap_at_parts};
 
 /// The contents of the slots by label. A slot keeps its number once it is made.
@@ -23,8 +23,8 @@ pub struct Slots<T: Drop> {
 }
 
 impl<T: Drop> Model for Slots<T> {
-    ghost use Rattle.change_plans.specs.Slots.{Slots};
-    ghost use Rattle.change_plans.specs.inside.Codes.{slots_code};
+    ghost use Rattle.term_changes.specs.Slots.{Slots};
+    ghost use Rattle.term_changes.specs.inside.Codes.{slots_code};
 
     ghost Value = { Slots T };
 

@@ -1,19 +1,19 @@
 //! Steps: changes that are undone and redone together.
 
 ghost use Rattle.std.specs.Prelude.{◌≡◌, ◌∷◌, [], IfOk, OnOk, OnErr};
-ghost use Rattle.change_plans.specs.Slots.{Store};
-ghost use Rattle.change_plans.specs.Entries.{put, found, before, after, flipped_back, flipped_forward, Fits};
-ghost use Rattle.change_plans.specs.Compact.{IsCompact};
-ghost use Rattle.term_patch.specs.PatchLaws.{patch_entries};
+ghost use Rattle.term_changes.specs.Slots.{Store};
+ghost use Rattle.term_changes.specs.Entries.{put, found, before, after, flipped_back, flipped_forward, Fits};
+ghost use Rattle.term_changes.specs.Compact.{IsCompact};
+ghost use Rattle.term_changes.specs.PatchLaws.{patch_entries};
 ghost use Rattle.change_log.specs.Texts.{texts_in};
 ghost use Rattle.change_log.specs.inside.StepView.{whole_entry, part_entries};
 
 use crate::{Log, Store, Texts};
-use change_plans::{Entry, Kept};
+use term_changes::{Entry, Kept};
 use std::alloc::Global;
 use std::marker::Model;
 use term_core::NoMemory;
-use term_patch::Patch;
+use term_changes::Patch;
 
 /// What the changes of a step replaced, the oldest first. A step with one change of a whole tree or
 /// module text takes no memory.
@@ -51,8 +51,8 @@ pub struct Whole {
 impl Model for Step {
     ghost use Rattle.std.specs.Prelude.{List};
     ghost use Rattle.std.specs.Coded.{coded_list};
-    ghost use Rattle.change_plans.specs.Entries.{Entry};
-    ghost use Rattle.change_plans.specs.inside.Codes.{entry_code};
+    ghost use Rattle.term_changes.specs.Entries.{Entry};
+    ghost use Rattle.term_changes.specs.inside.Codes.{entry_code};
 
     ghost Value = { List Entry };
 

@@ -2,17 +2,17 @@
 
 ghost use Rattle.std.specs.Prelude.{◌≡◌, IfOk, OnOk, OnErr, Some, option_copied, option_map, slice_get};
 ghost use Rattle.std.specs.FinMap as finmap;
-ghost use Rattle.change_plans.specs.Slots.{AreApart, content, slot_of, empty_store, contents, with_tree_slot, with_module_slot};
-ghost use Rattle.change_plans.specs.Entries.{put, found};
-ghost use Rattle.change_plans.specs.LogView.{entry_of};
-ghost use Rattle.term_patch.specs.PatchLaws.{patched, taken_slot};
+ghost use Rattle.term_changes.specs.Slots.{AreApart, content, slot_of, empty_store, contents, with_tree_slot, with_module_slot};
+ghost use Rattle.term_changes.specs.Entries.{put, found};
+ghost use Rattle.term_changes.specs.LogView.{entry_of};
+ghost use Rattle.term_changes.specs.PatchLaws.{patched, taken_slot};
 
 use crate::Slots;
-use change_plans::{Kept, Text};
+use term_changes::{Kept, Text};
 use std::alloc::Global;
 use std::marker::Model;
 use term_core::{Label, NoMemory, Term};
-use term_patch::Patch;
+use term_changes::Patch;
 
 /// Trees and module texts in slots. A slot is made when a label is first asked for, and is never
 /// removed; it is empty until a change puts something there. Its number is its index among the
@@ -25,8 +25,8 @@ pub struct Store {
 }
 
 impl Model for Store {
-    ghost use Rattle.change_plans.specs.Slots.{Store};
-    ghost use Rattle.change_plans.specs.inside.Codes.{store_code};
+    ghost use Rattle.term_changes.specs.Slots.{Store};
+    ghost use Rattle.term_changes.specs.inside.Codes.{store_code};
 
     ghost Value = { Store };
 

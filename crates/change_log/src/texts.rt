@@ -1,11 +1,11 @@
 //! Which module texts changes concern.
 
 ghost use Rattle.std.specs.Prelude.{◌≡◌, List, ℕ};
-ghost use Rattle.change_plans.specs.LogView.{entry_of};
-ghost use Rattle.change_plans.specs.inside.LogView.{entries};
+ghost use Rattle.term_changes.specs.LogView.{entry_of};
+ghost use Rattle.term_changes.specs.inside.LogView.{entries};
 ghost use Rattle.change_log.specs.Texts.{text_in, both, texts_in};
 
-use change_plans::{Kept, Replaced};
+use term_changes::{Kept, Replaced};
 
 /// Which module texts a change may concern.
 #[derive(Clone, Copy)]

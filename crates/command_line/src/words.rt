@@ -3,8 +3,8 @@
 ghost use Rattle.std.specs.Prelude.{◌≡◌, ◌≤◌, ◌||◌, ℕ, List, IfOk, IfErr, Some, true, false, codes, map, option_map, if◌then◌else◌};
 ghost use Rattle.clap.specs.Words.{FailsBy, app_of, first_of, found_of, kind_of, one_of, one_text, rows_of, rule_of};
 ghost use Rattle.clap.specs.Takes.{is_given};
-ghost use Rattle.script_commands.specs.declared.framing.Framing.TheVariants.{Continued, Lines};
-ghost use Rattle.session_steps.specs.Steps.{AreSteps};
+ghost use Rattle.script_text.specs.declared.framing.Framing.TheVariants.{Continued, Lines};
+ghost use Rattle.session_history.specs.Steps.{AreSteps};
 ghost use Rattle.clap.specs.declared.error.kind.ErrorKind.TheVariants.{ValueValidation};
 ghost use Rattle.command_line.specs.Line.{IsNumberIfSteps, are_named_all, as_given, file_name, files_option, flag_of, given, interactive_flag, line, line_fault, modules_of, steps_option, trees_of, values};
 ghost use Rattle.command_line.specs.inside.Malformed.{IfMalformed};
@@ -12,8 +12,8 @@ ghost use Rattle.command_line.specs.inside.Malformed.{IfMalformed};
 use crate::named::{Load, Named, Untaken, in_order, read_all};
 use clap::error::ErrorKind;
 use clap::{Arg, ArgAction, ArgMatches, Command, Error, value_parser};
-use script_commands::Framing;
-use session_steps::MAX_STEPS;
+use script_text::Framing;
+use session_history::MAX_STEPS;
 use std::alloc::{AllocError, Global};
 use std::convert::AsStr;
 

@@ -5,25 +5,25 @@ use Rattle.std.proofs.lemmas.List.{length-append, length-take}
 use Rattle.std.specs.Io.KnownBytes.{Keeps, Consumes, IsAtEnd}
 use Rattle.std.proofs.KnownBytes.{Consumes-nil, Consumes-trans, Consumes-kept}
 use Rattle.std.specs.Option.{option_to_list}
-use Rattle.session_steps.specs.History.{History}
+use Rattle.session_history.specs.History.{History}
 use Rattle.script_core.specs.declared.running.Running.{Running}
 use Rattle.script_core.specs.declared.running.Settings.{Settings}
 use Rattle.script_core.specs.declared.running.RunFault.{RunFault}
 use Rattle.script_core.specs.declared.running.RunFault.TheVariants.{Read, Write, Turns, Memory}
 use Rattle.script_core.specs.declared.running.TheConstants.{MAX_READS, PIECE}
-use Rattle.script_commands.specs.declared.splitter.Fed.TheVariants.{Command}
-use Rattle.script_commands.specs.declared.framing.Framing.{Framing}
-use Rattle.script_commands.specs.Handed.{Handed, handed, completed}
-use Rattle.script_commands.specs.Splitting.{StandsBehind, rest_of}
-use Rattle.script_commands.specs.inside.Passing.{out_of}
-use Rattle.script_commands.specs.Split.{Split}
-use Rattle.script_commands.specs.FedRight.{FedRight, GoesBehind}
-use Rattle.script_forms.specs.Run.{Completes, BreaksOff}
-use Rattle.script_forms.specs.inside.Counting.{one_if}
+use Rattle.script_text.specs.declared.splitter.Fed.TheVariants.{Command}
+use Rattle.script_text.specs.declared.framing.Framing.{Framing}
+use Rattle.script_text.specs.Handed.{Handed, handed, completed}
+use Rattle.script_text.specs.Splitting.{StandsBehind, rest_of}
+use Rattle.script_text.specs.inside.Passing.{out_of}
+use Rattle.script_text.specs.Split.{Split}
+use Rattle.script_text.specs.FedRight.{FedRight, GoesBehind}
+use Rattle.script_text.specs.Run.{Completes, BreaksOff}
+use Rattle.script_text.specs.inside.Counting.{one_if}
 use Rattle.script_core.specs.Ran.{ByBudget, Calm, RunRight, Streams}
 use Rattle.script_core.specs.inside.Running.{GoesOnBy, Counts, AnswersReady, AnswersBytes, Underway, HandsBehind, Breaks, Ends, Stops, TurnRight}
-use Rattle.script_forms.proofs.RunLemmas.{one_if-total, Completes-none, Completes-append, Completes-stopped, Completes-after, Completes-flushed, BreaksOff-append, BreaksOff-longer, BreaksOff-flush, BreaksOff-after}
-use Rattle.script_commands.proofs.SplitLemmas.{StandsBehind-end, StandsBehind-out}
+use Rattle.script_text.proofs.RunLemmas.{one_if-total, Completes-none, Completes-append, Completes-stopped, Completes-after, Completes-flushed, BreaksOff-append, BreaksOff-longer, BreaksOff-flush, BreaksOff-after}
+use Rattle.script_text.proofs.SplitLemmas.{StandsBehind-end, StandsBehind-out}
 
 pub OnErr-from : {T E P : Type 0} (r : Result T E) → P → OnErr r P
 OnErr-from (Ok x) p = tt

@@ -2,14 +2,14 @@
 use Rattle.std.specs.Prelude.{◌≡◌, ◌+◌, ℕ, List, Ok, Err, ⊤}
 use Rattle.std.specs.declared.option.Option.{Option}
 use Rattle.std.specs.declared.result.Result.{Result}
-use Rattle.session_steps.specs.History.{History}
+use Rattle.session_history.specs.History.{History}
 use Rattle.script_core.specs.declared.running.TheConstants.{MAX_READS}
 use Rattle.script_core.specs.declared.running.Summary.{Summary}
 use Rattle.script_core.specs.declared.running.Settings.{Settings}
 use Rattle.script_core.specs.declared.running.RunFault.{RunFault}
 use Rattle.script_core.specs.declared.running.RunFault.TheVariants.{Read, Write, Turns, Memory}
-use Rattle.script_forms.specs.Machine.{Replying}
-use Rattle.script_forms.specs.Run.{Answers, AnswersPart, AnswersFirst}
+use Rattle.script_text.specs.Machine.{Replying}
+use Rattle.script_text.specs.Run.{Answers, AnswersPart, AnswersFirst}
 
 -- the rule of a run by the budget of its settings
 abbrev pub ByBudget : Type 1

@@ -5,11 +5,11 @@ ghost use Rattle.term_core.specs.Word.{is_word, label_of};
 ghost use Rattle.term_core.specs.declared.TheConstants.{MAX_HEIGHT, MAX_SIZE};
 ghost use Rattle.aterm_text.specs.declared.TheConstants.{MAX_NESTING};
 ghost use Rattle.strategy_tokens.specs.declared.TheConstants.{MAX_TOKENS};
-ghost use Rattle.session_steps.specs.declared.TheConstants.{MAX_STEPS};
-ghost use Rattle.script_commands.specs.declared.TheConstants.{MAX_COMMAND};
-ghost use Rattle.script_forms.specs.declared.telling.TheConstants.{ANSWER_ROOM};
+ghost use Rattle.session_history.specs.declared.TheConstants.{MAX_STEPS};
+ghost use Rattle.script_text.specs.declared.TheConstants.{MAX_COMMAND};
+ghost use Rattle.script_text.specs.declared.telling.TheConstants.{ANSWER_ROOM};
 ghost use Rattle.script_core.specs.declared.running.TheConstants.{MAX_READS};
-ghost use Rattle.script_forms.specs.Laws.{OneRun, DumpReadsBack, DumpIsAnswered};
+ghost use Rattle.script_text.specs.Laws.{OneRun, DumpReadsBack, DumpIsAnswered};
 
 use aterm_text::laws::{
     one_term, printed_text_is_as_long, printed_text_is_one_line, printed_text_nests,

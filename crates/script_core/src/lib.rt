@@ -10,6 +10,6 @@ mod watch;
 
 pub use answer::answer_text;
 pub use running::{MAX_READS, PIECE, RunFault, Settings, Summary, run, run_watched};
-pub use script_commands::{Fed, Framing, MAX_COMMAND, Piece, Splitter};
-pub use script_forms::{ANSWER_ROOM, Bytes, Command, Counted, Failed, Held, Sink, Source};
+pub use script_text::{Fed, Framing, MAX_COMMAND, Piece, Splitter};
+pub use script_text::{ANSWER_ROOM, Bytes, Command, Counted, Failed, Held, Sink, Source};
 pub use watch::{Unwatched, Watch};

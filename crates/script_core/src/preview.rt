@@ -3,14 +3,14 @@
 ghost use Rattle.std.specs.Prelude.{◌≡◌, ◌≤◌, ◌++◌, ℕ, List, length, false, vec_capacity, vec_len, OnOk, OnErr, IfErr};
 ghost use Rattle.std.specs.List.{flat_map};
 ghost use Rattle.aterm_text.specs.inside.Printing.{Extends};
-ghost use Rattle.session_steps.specs.Steps.{AreSteps};
-ghost use Rattle.script_forms.specs.Form.{preview as preview_form};
-ghost use Rattle.script_forms.specs.Machine.{Replies, preview_line};
-ghost use Rattle.script_forms.specs.inside.Accepting.{Accepts, Refuses};
+ghost use Rattle.session_history.specs.Steps.{AreSteps};
+ghost use Rattle.script_text.specs.Form.{preview as preview_form};
+ghost use Rattle.script_text.specs.Machine.{Replies, preview_line};
+ghost use Rattle.script_text.specs.inside.Accepting.{Accepts, Refuses};
 ghost use Rattle.script_core.specs.inside.PreviewLines.{AreSubterms, entry_line};
 
 use prim_core::Meaning;
-use script_forms::{append_preview_line, append_replacement};
+use script_text::{append_preview_line, append_replacement};
 use session_core::{Preview, Refusal, Session};
 use term_core::{Label, NoMemory, Term};
 use term_paths::{Path, at_parts};

@@ -2,20 +2,20 @@
 //! the answers.
 
 ghost use Rattle.std.specs.Prelude.{◌≡◌, ◌≤◌, ◌<◌, ◌+◌, ◌*◌, ◌^◌, ◌∷◌, [], Ok, Err, OnOk, OnErr, IfOk, true, false, not, is_some, Some, vec_capacity, length};
-ghost use Rattle.script_commands.specs.Handed.{Handed};
-ghost use Rattle.script_commands.specs.Splitting.{StandsBehind};
-ghost use Rattle.session_steps.specs.Steps.{AreSteps};
-ghost use Rattle.script_forms.specs.Answer.{ReplyInRun};
+ghost use Rattle.script_text.specs.Handed.{Handed};
+ghost use Rattle.script_text.specs.Splitting.{StandsBehind};
+ghost use Rattle.session_history.specs.Steps.{AreSteps};
+ghost use Rattle.script_text.specs.Answer.{ReplyInRun};
 ghost use Rattle.script_core.specs.Ran.{RunRight, streams};
 ghost use Rattle.script_core.specs.inside.Running.{AnswersReady, AnswersBytes, Breaks, Ends, TurnRight};
-ghost use Rattle.script_forms.specs.Run.{Answers, AnswersPart, AnswersFirst, Completes, BreaksOff};
-ghost use Rattle.script_forms.specs.inside.Counting.{one_if};
+ghost use Rattle.script_text.specs.Run.{Answers, AnswersPart, AnswersFirst, Completes, BreaksOff};
+ghost use Rattle.script_text.specs.inside.Counting.{one_if};
 
 use crate::answer::answer_watched;
 use crate::watch::{Unwatched, Watch};
 use prim_core::Meaning;
-use script_commands::{Fed, Framing, Splitter};
-use script_forms::{ANSWER_ROOM, Failed, Sink, Source, write_whole};
+use script_text::{Fed, Framing, Splitter};
+use script_text::{ANSWER_ROOM, Failed, Sink, Source, write_whole};
 use session_core::Session;
 use std::alloc::Global;
 use thiserror::Error;

@@ -1,7 +1,7 @@
 //! Seeing what a run does.
 
 use prim_core::Meaning;
-use script_commands::Piece;
+use script_text::Piece;
 use session_core::{Refusal, Session};
 
 /// Sees what a run reads, and how it answers. It changes nothing of the run: a session is lent for

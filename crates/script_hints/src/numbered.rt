@@ -1,6 +1,6 @@
 //! The lines of a script on which its commands begin.
 
-use script_commands::Framing;
+use script_text::Framing;
 use std::alloc::Global;
 use std::mem;
 

@@ -18,7 +18,7 @@ use crate::trees::{explain_fails, explain_path};
 use crate::uses::fault_of;
 use prim_core::Meaning;
 use session_core::Session;
-use session_steps::Refusal;
+use session_history::Refusal;
 use std::alloc::Global;
 use term_core::{Label, NoMemory, Term};
 

@@ -1,7 +1,7 @@
 //! A command, and what came before it.
 
 use crate::parts::parts_of;
-use script_commands::Framing;
+use script_text::Framing;
 
 /// What the command before was.
 #[derive(Clone, Copy, Debug, PartialEq, Eq)]

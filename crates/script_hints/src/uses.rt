@@ -1,6 +1,6 @@
 //! Where a definition or a strategy has the fault that the checker found.
 
-use session_steps::Refusal;
+use session_history::Refusal;
 use std::alloc::Global;
 use strategy_check::Kind;
 use strategy_parse::definition_tokens;

@@ -7,19 +7,19 @@ use Rattle.strategy_check.specs.Programs.{Program}
 use Rattle.strategy_meaning.specs.Applied.{Outcome as Ending, fails, applied}
 use Rattle.strategy_run.specs.Applies.{applied_in}
 use Rattle.term_core.specs.Tree.{Tree}
-use Rattle.change_plans.specs.Contents.{Contents, with_tree}
-use Rattle.change_plans.specs.Slots.{contents}
-use Rattle.change_plans.proofs.ContentsLemmas.{tree_put}
-use Rattle.session_steps.specs.Applying.{Meaning, world_in, given_by}
-use Rattle.session_steps.specs.inside.Giving.{GivesIn}
-use Rattle.session_steps.specs.History.{History, changed}
-use Rattle.session_steps.specs.Step.{apply, Outcome, ChangesTo, AppliesAt, Place, ComesTo}
-use Rattle.session_steps.specs.Unfolded.{unfolded}
-use Rattle.session_steps.specs.declared.timeline.Timeline.{Timeline}
-use Rattle.session_steps.specs.declared.refusal.Refusal.{Refusal}
-use Rattle.session_steps.specs.declared.refusal.Refusal.TheVariants.{Memory}
-use Rattle.session_steps.proofs.StepLemmas.{passed, stopped}
-use Rattle.session_steps.proofs.ActLemmas.{the_place}
+use Rattle.term_changes.specs.Contents.{Contents, with_tree}
+use Rattle.term_changes.specs.Slots.{contents}
+use Rattle.term_changes.proofs.ContentsLemmas.{tree_put}
+use Rattle.session_history.specs.Applying.{Meaning, world_in, given_by}
+use Rattle.session_history.specs.inside.Giving.{GivesIn}
+use Rattle.session_history.specs.History.{History, changed}
+use Rattle.session_history.specs.Step.{apply, Outcome, ChangesTo, AppliesAt, Place, ComesTo}
+use Rattle.session_history.specs.Unfolded.{unfolded}
+use Rattle.session_history.specs.declared.timeline.Timeline.{Timeline}
+use Rattle.session_history.specs.declared.refusal.Refusal.{Refusal}
+use Rattle.session_history.specs.declared.refusal.Refusal.TheVariants.{Memory}
+use Rattle.session_history.proofs.StepLemmas.{passed, stopped}
+use Rattle.session_history.proofs.ActLemmas.{the_place}
 use Rattle.session_core.specs.inside.Resolved.{ResolvesTo, IsUnresolved}
 use Rattle.session_core.proofs.ResolveLemmas.{unresolved_before, resolved_then}
 

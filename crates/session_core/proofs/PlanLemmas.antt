@@ -8,9 +8,9 @@ use Rattle.term_paths.specs.Paths.{at, set_at}
 use Rattle.term_paths.specs.Edits.{Edits, behind}
 use Rattle.term_changes.specs.Change.{Change, places}
 use Rattle.term_changes.specs.Putting.{entries_at}
-use Rattle.term_patch.specs.PatchLaws.{patch_entries}
-use Rattle.change_plans.specs.Slots.{Store, content}
-use Rattle.change_plans.specs.Entries.{Entry, after, FitsForward}
+use Rattle.term_changes.specs.PatchLaws.{patch_entries}
+use Rattle.term_changes.specs.Slots.{Store, content}
+use Rattle.term_changes.specs.Entries.{Entry, after, FitsForward}
 use Rattle.strategy_syntax.specs.declared.resolved.Resolved.{Resolved}
 use Rattle.strategy_meaning.specs.Answer.{Answer, failed, stopped, spent, big}
 use Rattle.strategy_meaning.specs.Meaning.{World, run_whole}
@@ -21,10 +21,10 @@ use Rattle.strategy_run.specs.declared.planning.Planned.{Planned}
 use Rattle.strategy_run.specs.declared.planning.Planned.TheVariants as planned
 use Rattle.strategy_run.proofs.ApplyLemmas.{in_tree, in_none, applied_there, applied_nowhere}
 use Rattle.strategy_run.proofs.PlanLemmas.{gives_there, makes_there}
-use Rattle.session_steps.specs.Applying.{given_by}
-use Rattle.session_steps.specs.inside.Giving.{GivesIn}
-use Rattle.session_steps.specs.declared.refusal.Refusal.{Refusal}
-use Rattle.session_steps.specs.declared.refusal.Refusal.TheVariants.{Memory, Fails, Spent, Big}
+use Rattle.session_history.specs.Applying.{given_by}
+use Rattle.session_history.specs.inside.Giving.{GivesIn}
+use Rattle.session_history.specs.declared.refusal.Refusal.{Refusal}
+use Rattle.session_history.specs.declared.refusal.Refusal.TheVariants.{Memory, Fails, Spent, Big}
 use Rattle.session_core.specs.inside.Resolved.{replaced_of}
 
 module _ (W : World) (s : Store) (slot : ℕ) (path : List ℕ) (r : Resolved) (b : ℕ) where

@@ -10,26 +10,26 @@ use Rattle.term_paths.proofs.PathLemmas.{at-append}
 use Rattle.term_paths.proofs.LawLemmas.{set_is_there}
 use Rattle.term_paths.proofs.ApartLemmas.{apart_is_left}
 use Rattle.term_changes.specs.Putting.{ApartFromAll, entries_at}
-use Rattle.term_patch.proofs.OrderLemmas.{left_apart}
-use Rattle.change_plans.specs.Slots.{contents, content}
-use Rattle.change_plans.specs.Entries.{Entry, subterm, subterm_in}
+use Rattle.term_changes.proofs.OrderLemmas.{left_apart}
+use Rattle.term_changes.specs.Slots.{contents, content}
+use Rattle.term_changes.specs.Entries.{Entry, subterm, subterm_in}
 use Rattle.strategy_syntax.specs.declared.resolved.Resolved.{Resolved}
 use Rattle.strategy_check.specs.Programs.{Program}
 use Rattle.strategy_meaning.specs.Answer.{Answer, done, failed, stopped}
 use Rattle.strategy_meaning.specs.Meaning.{run_whole}
 use Rattle.strategy_meaning.specs.Outermost.{IsBefore, IsBeforeAll, AreInOrder, AreOutermost}
 use Rattle.strategy_run.specs.Planning.{Gives}
-use Rattle.session_steps.specs.Applying.{Meaning, world_in, stopped_as}
-use Rattle.session_steps.specs.History.{History}
-use Rattle.session_steps.specs.Preview.{Replacement, part_at, replacement, Foresees as Shows, ForeseesAt, Previews}
-use Rattle.session_steps.specs.Preview as definition
-use Rattle.session_steps.specs.Step.{Place, place_of}
-use Rattle.session_steps.specs.Unfolded.{unfolded, IsPlaceOf}
-use Rattle.session_steps.specs.declared.timeline.Timeline.{Timeline}
-use Rattle.session_steps.specs.declared.refusal.Refusal.{Refusal}
-use Rattle.session_steps.specs.declared.refusal.Refusal.TheVariants.{Memory, Fails}
-use Rattle.session_steps.proofs.StepLemmas.{place_there}
-use Rattle.session_steps.proofs.ActLemmas.{tree_held, seen_place, the_place}
+use Rattle.session_history.specs.Applying.{Meaning, world_in, stopped_as}
+use Rattle.session_history.specs.History.{History}
+use Rattle.session_history.specs.Preview.{Replacement, part_at, replacement, Foresees as Shows, ForeseesAt, Previews}
+use Rattle.session_history.specs.Preview as definition
+use Rattle.session_history.specs.Step.{Place, place_of}
+use Rattle.session_history.specs.Unfolded.{unfolded, IsPlaceOf}
+use Rattle.session_history.specs.declared.timeline.Timeline.{Timeline}
+use Rattle.session_history.specs.declared.refusal.Refusal.{Refusal}
+use Rattle.session_history.specs.declared.refusal.Refusal.TheVariants.{Memory, Fails}
+use Rattle.session_history.proofs.StepLemmas.{place_there}
+use Rattle.session_history.proofs.ActLemmas.{tree_held, seen_place, the_place}
 use Rattle.session_core.specs.Previewing.{entry_for, AreThere, ShowsPreview}
 use Rattle.session_core.specs.declared.preview.Preview.{Preview}
 use Rattle.session_core.specs.inside.Foreseen.{Foresees, RefusesRun, ForeseesRefusal}

@@ -9,22 +9,22 @@ use Rattle.term_paths.specs.Paths.{at}
 use Rattle.strategy_syntax.specs.Syntax.{Strategy}
 use Rattle.strategy_syntax.specs.declared.resolved.Resolved.{Resolved}
 use Rattle.strategy_check.specs.Programs.{Program}
-use Rattle.change_plans.specs.Slots.{Store, contents}
-use Rattle.change_plans.specs.Entries.{subterm_in}
+use Rattle.term_changes.specs.Slots.{Store, contents}
+use Rattle.term_changes.specs.Entries.{subterm_in}
 use Rattle.strategy_check.specs.Checking.{Checked as CheckedModules}
-use Rattle.session_steps.specs.declared.kept.KeptModules.{KeptModules}
-use Rattle.session_steps.proofs.CheckLemmas.{given_by, none_unread}
-use Rattle.session_steps.specs.Modules.{Texts, AreReadable, GivesProgram, AreCurrent, IsCurrent, program_in, Checks, AreRefused}
-use Rattle.session_steps.specs.Applying.{ReadsAsStrategy, resolved_in}
-use Rattle.session_steps.specs.History.{History, AreFormed}
-use Rattle.session_steps.specs.Step.{Passing, Given, Place, Resolving, place_of}
-use Rattle.session_steps.specs.Unfolded.{unfolded, IsPlaceOf}
-use Rattle.session_steps.specs.declared.timeline.Timeline.{Timeline}
-use Rattle.session_steps.specs.declared.refusal.Refusal.{Refusal}
-use Rattle.session_steps.specs.declared.refusal.Refusal.TheVariants.{Memory}
+use Rattle.session_history.specs.declared.kept.KeptModules.{KeptModules}
+use Rattle.session_history.proofs.CheckLemmas.{given_by, none_unread}
+use Rattle.session_history.specs.Modules.{Texts, AreReadable, GivesProgram, AreCurrent, IsCurrent, program_in, Checks, AreRefused}
+use Rattle.session_history.specs.Applying.{ReadsAsStrategy, resolved_in}
+use Rattle.session_history.specs.History.{History, AreFormed}
+use Rattle.session_history.specs.Step.{Passing, Given, Place, Resolving, place_of}
+use Rattle.session_history.specs.Unfolded.{unfolded, IsPlaceOf}
+use Rattle.session_history.specs.declared.timeline.Timeline.{Timeline}
+use Rattle.session_history.specs.declared.refusal.Refusal.{Refusal}
+use Rattle.session_history.specs.declared.refusal.Refusal.TheVariants.{Memory}
 use Rattle.strategy_run.proofs.ApplyLemmas.{low_at}
-use Rattle.session_steps.proofs.StepLemmas.{passed, stopped}
-use Rattle.session_steps.proofs.ActLemmas.{tree_held, seen_place, the_place}
+use Rattle.session_history.proofs.StepLemmas.{passed, stopped}
+use Rattle.session_history.proofs.ActLemmas.{tree_held, seen_place, the_place}
 use Rattle.session_core.specs.inside.Resolved.{ResolvesTo, Never, IsUnresolved}
 
 -- the cached program, if one is passed

@@ -4,11 +4,11 @@ use Rattle.std.specs.FinMap as finmap
 use Rattle.std.specs.declared.option.Option.{Option}
 use Rattle.term_core.specs.Tree.{Tree}
 use Rattle.term_paths.specs.Paths.{at}
-use Rattle.change_plans.specs.Entries.{Entry, slot_tree, subterm, subterm_annotations, slot_text}
-use Rattle.session_steps.specs.Applying.{Meaning}
-use Rattle.session_steps.specs.History.{History}
-use Rattle.session_steps.specs.Preview.{Replacement, Previews}
-use Rattle.session_steps.specs.Preview as definition
+use Rattle.term_changes.specs.Entries.{Entry, slot_tree, subterm, subterm_annotations, slot_text}
+use Rattle.session_history.specs.Applying.{Meaning}
+use Rattle.session_history.specs.History.{History}
+use Rattle.session_history.specs.Preview.{Replacement, Previews}
+use Rattle.session_history.specs.Preview as definition
 use Rattle.session_core.specs.declared.preview.Preview.{Preview}
 
 -- what would be put at the place, in the tree of a slot

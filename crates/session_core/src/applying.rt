@@ -2,20 +2,20 @@
 
 ghost use Rattle.std.specs.Prelude.{◌≡◌, ◌≤◌, ◌+◌, ◌⊎◌, length, Ok, Err, IfOk, IfErr, IfSome, OnOk, OnErr};
 ghost use Rattle.term_core.specs.Size.{height};
-ghost use Rattle.change_plans.specs.Slots.{contents};
-ghost use Rattle.change_plans.specs.Entries.{subterm_in};
+ghost use Rattle.term_changes.specs.Slots.{contents};
+ghost use Rattle.term_changes.specs.Entries.{subterm_in};
 ghost use Rattle.strategy_run.specs.Applies.{applied_in};
-ghost use Rattle.session_steps.specs.Applying.{world_in, given_by};
-ghost use Rattle.session_steps.specs.inside.Giving.{GivesIn};
-ghost use Rattle.session_steps.specs.History.{AreFormed, changed};
-ghost use Rattle.session_steps.specs.Modules.{IsKept};
-ghost use Rattle.session_steps.specs.Step.{ComesTo, apply};
-ghost use Rattle.session_steps.specs.Unfolded.{unfolded, IsPlaced};
+ghost use Rattle.session_history.specs.Applying.{world_in, given_by};
+ghost use Rattle.session_history.specs.inside.Giving.{GivesIn};
+ghost use Rattle.session_history.specs.History.{AreFormed, changed};
+ghost use Rattle.session_history.specs.Modules.{IsKept};
+ghost use Rattle.session_history.specs.Step.{ComesTo, apply};
+ghost use Rattle.session_history.specs.Unfolded.{unfolded, IsPlaced};
 ghost use Rattle.session_core.specs.inside.Resolved.{replaced_of};
 
 use crate::resolving::resolve_at;
 use prim_core::{Meaning, Primitives};
-use session_steps::{KeptModules, Refusal, Timeline};
+use session_history::{KeptModules, Refusal, Timeline};
 use strategy_check::Program;
 use strategy_run::{Planned, plan_entries, plan_patch};
 use strategy_syntax::Resolved;

@@ -1,12 +1,12 @@
 //! Laws of undo and redo over every history, and of the logs that a session keeps.
 
 ghost use Rattle.std.specs.Prelude.{◌≡◌};
-ghost use Rattle.session_steps.specs.Laws.{ChangeIsToContents, ChangeIsUndone, GroupIsUndone, RedoTakesUndoBack, UndoTakesRedoBack};
-ghost use Rattle.session_steps.specs.Unfolded.{unfolded, AllCompact, logs_of};
+ghost use Rattle.session_history.specs.Laws.{ChangeIsToContents, ChangeIsUndone, GroupIsUndone, RedoTakesUndoBack, UndoTakesRedoBack};
+ghost use Rattle.session_history.specs.Unfolded.{unfolded, AllCompact, logs_of};
 
 use crate::Session;
 use prim_core::Meaning;
-use session_steps::Timeline;
+use session_history::Timeline;
 
 /// Each accepted change makes new contents; undo takes that change, or a group of changes, back,
 /// and redo makes it again. Undo and redo are inverse over the same number of steps, and restore

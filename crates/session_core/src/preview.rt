@@ -2,22 +2,22 @@
 
 ghost use Rattle.std.specs.Prelude.{◌≡◌, ◌≤◌, ◌+◌, ◌⊎◌, length, option_map, Err, IfOk, IfErr, IfSome};
 ghost use Rattle.term_core.specs.Size.{height};
-ghost use Rattle.change_plans.specs.Entries.{subterm_in};
-ghost use Rattle.change_plans.specs.Slots.{contents};
-ghost use Rattle.session_steps.specs.Applying.{world_in};
-ghost use Rattle.session_steps.specs.History.{AreFormed};
-ghost use Rattle.session_steps.specs.Modules.{IsKept};
-ghost use Rattle.session_steps.specs.Preview.{Previews};
-ghost use Rattle.session_steps.specs.Unfolded.{unfolded};
+ghost use Rattle.term_changes.specs.Entries.{subterm_in};
+ghost use Rattle.term_changes.specs.Slots.{contents};
+ghost use Rattle.session_history.specs.Applying.{world_in};
+ghost use Rattle.session_history.specs.History.{AreFormed};
+ghost use Rattle.session_history.specs.Modules.{IsKept};
+ghost use Rattle.session_history.specs.Preview.{Previews};
+ghost use Rattle.session_history.specs.Unfolded.{unfolded};
 ghost use Rattle.session_core.specs.Previewing.{ShowsPreview, IsNext};
 ghost use Rattle.session_core.specs.inside.Foreseen.{Foresees, ForeseesRefusal};
 
 use crate::applying::replaced;
 use crate::resolving::resolve_at;
 use change_log::Plan;
-use change_plans::{Kept, Replaced};
+use term_changes::{Kept, Replaced};
 use prim_core::{Meaning, Primitives};
-use session_steps::{KeptModules, Refusal, Timeline};
+use session_history::{KeptModules, Refusal, Timeline};
 use std::marker::Model;
 use strategy_check::Program;
 use strategy_run::plan_entries;
@@ -57,14 +57,14 @@ pub struct Places<'a> {
 impl<'a> Model for Places<'a> {
     ghost use Rattle.std.specs.Prelude.{◌≡◌, List, length};
     ghost use Rattle.std.specs.Coded.{coded_list};
-    ghost use Rattle.change_plans.specs.Entries.{Entry};
-    ghost use Rattle.change_plans.specs.inside.Codes.{entry_code};
+    ghost use Rattle.term_changes.specs.Entries.{Entry};
+    ghost use Rattle.term_changes.specs.inside.Codes.{entry_code};
 
     ghost Value = { List Entry };
 
     ghost coded = { coded_list entry_code };
 
-    ghost use Rattle.change_plans.specs.inside.LogView.{entries, depths};
+    ghost use Rattle.term_changes.specs.inside.LogView.{entries, depths};
 
     ghost view = { λ a. entries a.changes.now a.paths.now };
 

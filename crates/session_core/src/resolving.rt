@@ -1,15 +1,15 @@
 //! Strategies given as text, for a place in a tree of a session.
 
 ghost use Rattle.std.specs.Prelude.{◌≡◌, ◌<◌, ◌≤◌, ◌⊎◌, length, Ok, Err, IfOk, IfErr};
-ghost use Rattle.change_plans.specs.Slots.{contents};
-ghost use Rattle.session_steps.specs.Applying.{ReadsAsStrategy, resolved_in};
-ghost use Rattle.session_steps.specs.History.{AreFormed};
-ghost use Rattle.session_steps.specs.Modules.{IsKept, program_in};
-ghost use Rattle.session_steps.specs.Unfolded.{unfolded};
+ghost use Rattle.term_changes.specs.Slots.{contents};
+ghost use Rattle.session_history.specs.Applying.{ReadsAsStrategy, resolved_in};
+ghost use Rattle.session_history.specs.History.{AreFormed};
+ghost use Rattle.session_history.specs.Modules.{IsKept, program_in};
+ghost use Rattle.session_history.specs.Unfolded.{unfolded};
 ghost use Rattle.session_core.specs.inside.Resolved.{ResolvesTo, IsUnresolved};
 
 use prim_core::{Meaning, Primitives};
-use session_steps::{KeptModules, Refusal, Timeline, keep_modules};
+use session_history::{KeptModules, Refusal, Timeline, keep_modules};
 use std::alloc::Global;
 use strategy_check::{CheckFault, Program, resolve};
 use strategy_parse::{ParseFault, parse_strategy};

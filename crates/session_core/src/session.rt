@@ -2,18 +2,18 @@
 
 ghost use Rattle.std.specs.Prelude.{◌≡◌, ◌≢◌, ◌≤◌, ◌↔◌, ◌⊎◌, ◌++◌, Ok, Err, vec_capacity, OnOk, OnErr, IfOk, IfErr, None, length, option_copied};
 ghost use Rattle.std.specs.FinMap as finmap;
-ghost use Rattle.session_steps.specs.History.{empty_history, HasSoundContents};
-ghost use Rattle.session_steps.specs.Step.{ComesTo, set_tree, copy_tree, drop_tree, put, annotate, set_module, unload, apply, undo, redo, begin, commit, abandon};
-ghost use Rattle.session_steps.specs.Steps.{AreSteps};
-ghost use Rattle.session_steps.specs.Preview.{Previews};
+ghost use Rattle.session_history.specs.History.{empty_history, HasSoundContents};
+ghost use Rattle.session_history.specs.Step.{ComesTo, set_tree, copy_tree, drop_tree, put, annotate, set_module, unload, apply, undo, redo, begin, commit, abandon};
+ghost use Rattle.session_history.specs.Steps.{AreSteps};
+ghost use Rattle.session_history.specs.Preview.{Previews};
 ghost use Rattle.session_core.specs.Previewing.{ShowsPreview};
-ghost use Rattle.session_steps.specs.Dump.{dumped, AreNamedTerms};
-ghost use Rattle.session_steps.specs.Unfolded.{unfolded, IsPlaced};
+ghost use Rattle.session_history.specs.Dump.{dumped, AreNamedTerms};
+ghost use Rattle.session_history.specs.Unfolded.{unfolded, IsPlaced};
 
 use crate::applying::apply_strategy;
 use crate::preview::{Preview, preview_strategy};
 use prim_core::{Meaning, Primitives};
-use session_steps::{KeptModules, Refusal, Timeline};
+use session_history::{KeptModules, Refusal, Timeline};
 use std::alloc::Global;
 use std::marker::Model;
 use strategy_meaning::laws::heights_are_kept;
@@ -31,17 +31,17 @@ pub struct Session<M: Meaning> {
 }
 
 impl<M: Meaning> Model for Session<M> {
-    ghost use Rattle.session_steps.specs.History.{History};
-    ghost use Rattle.session_steps.specs.inside.Codes.{history_code};
+    ghost use Rattle.session_history.specs.History.{History};
+    ghost use Rattle.session_history.specs.inside.Codes.{history_code};
 
     ghost Value = { History };
 
     ghost coded = { history_code };
 
-    ghost use Rattle.change_plans.specs.Slots.{contents};
-    ghost use Rattle.session_steps.specs.History.{HasSoundContents};
-    ghost use Rattle.session_steps.specs.Modules.{IsKept};
-    ghost use Rattle.session_steps.specs.Unfolded.{unfolded, IsPlaced};
+    ghost use Rattle.term_changes.specs.Slots.{contents};
+    ghost use Rattle.session_history.specs.History.{HasSoundContents};
+    ghost use Rattle.session_history.specs.Modules.{IsKept};
+    ghost use Rattle.session_history.specs.Unfolded.{unfolded, IsPlaced};
 
     ghost view = { λ a. unfolded a.primitives a.timeline };
 

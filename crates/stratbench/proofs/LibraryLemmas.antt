@@ -2,16 +2,16 @@
 use Rattle.std.proofs.Common.{◌≡◌, ◌≤◌, ◌<◌, ◌+◌, ◌-◌, ◌⊎◌, ℕ, Bool, true, false, List, [], ◌∷◌, ◌++◌, Option, Some, None, Ok, Err, inl, inr, refl, sym, ap, ◌∙◌, subst, codes, length, take, arith, append-nil, length-append}
 use Rattle.std.specs.Prelude.{count_by, is_ok, MatchResult}
 use Rattle.std.specs.Io.KnownBytes.{Consumes, IsAtEnd}
-use Rattle.session_steps.specs.Applying.{Meaning}
-use Rattle.session_steps.specs.History.{History}
-use Rattle.session_steps.specs.Step.{ComesTo, Outcome, set_module}
-use Rattle.session_steps.specs.declared.TheConstants.{MAX_STEPS}
-use Rattle.script_forms.specs.Form as form
-use Rattle.script_commands.specs.declared.framing.Framing.TheVariants.{Continued}
-use Rattle.script_commands.specs.Handed.{Handed, handed, completed, text}
-use Rattle.script_forms.specs.Machine.{Reply, Replies, Told, done, history_after}
-use Rattle.script_forms.specs.Answer.{ReplyInRun}
-use Rattle.script_forms.specs.Run.{Answers, AnswersPart, Completes, Replied, history_after_all}
+use Rattle.session_history.specs.Applying.{Meaning}
+use Rattle.session_history.specs.History.{History}
+use Rattle.session_history.specs.Step.{ComesTo, Outcome, set_module}
+use Rattle.session_history.specs.declared.TheConstants.{MAX_STEPS}
+use Rattle.script_text.specs.Form as form
+use Rattle.script_text.specs.declared.framing.Framing.TheVariants.{Continued}
+use Rattle.script_text.specs.Handed.{Handed, handed, completed, text}
+use Rattle.script_text.specs.Machine.{Reply, Replies, Told, done, history_after}
+use Rattle.script_text.specs.Answer.{ReplyInRun}
+use Rattle.script_text.specs.Run.{Answers, AnswersPart, Completes, Replied, history_after_all}
 use Rattle.script_core.specs.declared.running.RunFault.{RunFault}
 use Rattle.script_core.specs.declared.running.RunFault.TheVariants.{Read, Write, Turns, Memory}
 use Rattle.script_core.specs.declared.running.TheConstants.{MAX_READS}

@@ -7,10 +7,10 @@ use Rattle.std.proofs.lemmas.List.Splits.{slice_split_none, slice_split_at, slic
 use Rattle.std.proofs.lemmas.List.Sums.{suffix_len-take_no, suffix_len-take_yes, suffix_len-le-length}
 use Rattle.std.proofs.Math.Seq.{take-length}
 use Rattle.aterm_text.specs.Tokens.{is_blank, without_blanks}
-use Rattle.script_commands.specs.Script.{begins_command, is_carriage_return, is_line_feed, pieces, without_end}
-use Rattle.script_commands.specs.declared.framing.Framing.TheVariants.{Continued}
-use Rattle.script_commands.proofs.LineLemmas.{first_piece}
-use Rattle.script_forms.specs.Laws.{GoOn, IsCommandText}
+use Rattle.script_text.specs.Script.{begins_command, is_carriage_return, is_line_feed, pieces, without_end}
+use Rattle.script_text.specs.declared.framing.Framing.TheVariants.{Continued}
+use Rattle.script_text.proofs.LineLemmas.{first_piece}
+use Rattle.script_text.specs.Laws.{GoOn, IsCommandText}
 use Rattle.stratbench.specs.Files.{indented, module_text_of, next_line, one_command, trimmed}
 
 abbrev pub kept : List ℕ → List ℕ

@@ -3,10 +3,10 @@ use Rattle.std.specs.Prelude.{ℕ, List, [], ◌∷◌, ◌++◌, if◌then◌el
 use Rattle.std.specs.List.{flat_map}
 use Rattle.aterm_text.specs.Tokens.{is_blank, without_blanks}
 use Rattle.aterm_text.specs.Grammar.{Spells}
-use Rattle.session_steps.specs.History.{History}
-use Rattle.session_steps.specs.Step.{ComesTo, Given, Outcome, set_module, set_tree}
-use Rattle.script_commands.specs.Script.{begins_command, pieces, without_end}
-use Rattle.script_forms.specs.Machine.{ReadAs}
+use Rattle.session_history.specs.History.{History}
+use Rattle.session_history.specs.Step.{ComesTo, Given, Outcome, set_module, set_tree}
+use Rattle.script_text.specs.Script.{begins_command, pieces, without_end}
+use Rattle.script_text.specs.Machine.{ReadAs}
 
 -- a text without the blanks at both ends
 abbrev pub trimmed : List ℕ → List ℕ

@@ -2,7 +2,7 @@
 #![tactic(auto)]
 
 ghost use Rattle.std.specs.Prelude.{◌+◌, ◌<◌, ◌^◌};
-ghost use Rattle.session_steps.specs.Steps.{AreSteps};
+ghost use Rattle.session_history.specs.Steps.{AreSteps};
 
 mod dialogue;
 mod explaining;
@@ -26,7 +26,7 @@ use prim_extended::extended_primitives;
 use script_core::{
     ANSWER_ROOM, Counted, Framing, RunFault, Settings, Sink, Source, Summary, run, run_watched,
 };
-use script_forms::refuse;
+use script_text::refuse;
 use session_core::{Refusal, Session};
 use status::{FileFault, file_status, status};
 use std::alloc::Global;

@@ -3,9 +3,9 @@
 ghost use Rattle.std.specs.Prelude.{◌≡◌, ◌≤◌, ◌++◌, OnOk, IfOk, length, if◌then◌else◌};
 ghost use Rattle.std.specs.List.{suffix_len};
 ghost use Rattle.aterm_text.specs.Tokens.{is_blank};
-ghost use Rattle.script_commands.specs.Script.{begins_command, is_carriage_return, without_end};
-ghost use Rattle.script_commands.specs.declared.framing.Framing.TheVariants.{Continued};
-ghost use Rattle.script_forms.specs.Laws.{IsCommandText};
+ghost use Rattle.script_text.specs.Script.{begins_command, is_carriage_return, without_end};
+ghost use Rattle.script_text.specs.declared.framing.Framing.TheVariants.{Continued};
+ghost use Rattle.script_text.specs.Laws.{IsCommandText};
 ghost use Rattle.stratbench.specs.Files.{module_text_of, next_line};
 
 use aterm_text::{after_blanks, is_blank};

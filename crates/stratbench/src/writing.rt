@@ -4,12 +4,12 @@ ghost use Rattle.std.specs.Prelude.{◌≡◌, ◌⊎◌, IfOk, IfErr, Some, Non
 ghost use Rattle.std.specs.FinMap as finmap;
 ghost use Rattle.term_core.specs.Tree.{Tree};
 ghost use Rattle.aterm_text.specs.Printed.{print};
-ghost use Rattle.script_forms.specs.Machine.{line};
+ghost use Rattle.script_text.specs.Machine.{line};
 
 use crate::status::FileFault;
 use command_line::Named;
 use prim_core::Meaning;
-use script_forms::append_shown;
+use script_text::append_shown;
 use session_core::{Refusal, Session};
 use std::alloc::{AllocError, Global};
 use std::fs::{self, File, Permissions};

@@ -10,7 +10,7 @@ use Rattle.strategy_syntax.specs.declared.resolved.Resolved.{Resolved}
 use Rattle.strategy_meaning.specs.Scopes.{cells_in, inside, numbers_from, arguments}
 use Rattle.strategy_meaning.specs.Answer.{Answer, failed}
 use Rattle.strategy_meaning.specs.Meaning.{World, run, form, enter, opened}
-use Rattle.strategy_scopes.specs.Table.{scopes, scope_at}
+use Rattle.strategy_machine.specs.Table.{scopes, scope_at}
 use Rattle.term_match.specs.Contents.{Contents}
 use Rattle.strategy_machine.specs.inside.Arguments.{AreBuilt}
 use Rattle.strategy_machine.specs.Turns.{State, state_of, HoldsIn}

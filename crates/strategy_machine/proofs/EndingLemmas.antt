@@ -9,7 +9,7 @@ use Rattle.strategy_syntax.specs.Resolved.{ResolvedStrategy}
 use Rattle.strategy_meaning.specs.Scopes.{Scope}
 use Rattle.strategy_meaning.specs.Answer.{Answer, done, failed, stopped, with_edits}
 use Rattle.strategy_meaning.specs.Meaning.{World, run, form, cut}
-use Rattle.strategy_scopes.specs.Table.{nowhere, scope_at, Starts}
+use Rattle.strategy_machine.specs.Table.{nowhere, scope_at, Starts}
 use Rattle.term_match.specs.Contents.{Contents}
 use Rattle.term_match.specs.Marks.{mark_of, Before, Stays}
 use Rattle.strategy_machine.specs.Frames.{Meets}

@@ -6,7 +6,7 @@ use Rattle.strategy_meaning.specs.Scopes.{Scope}
 use Rattle.strategy_meaning.specs.Matching.{Bindings}
 use Rattle.strategy_meaning.specs.Answer.{Answer}
 use Rattle.strategy_meaning.specs.Meaning.{World, run, leftmost, those_done}
-use Rattle.strategy_scopes.specs.Table.{scope_at}
+use Rattle.strategy_machine.specs.Table.{scope_at}
 use Rattle.term_match.specs.Contents.{Contents}
 use Rattle.term_match.specs.Marks.{kept, mark_of, Before, Stays}
 use Rattle.term_match.specs.declared.cells.Mark.{Mark}

@@ -9,7 +9,7 @@ use Rattle.strategy_meaning.specs.Scopes.{Scope}
 use Rattle.strategy_meaning.specs.Matching.{elements}
 use Rattle.strategy_meaning.specs.Answer.{Answer, done, and_then, at_root}
 use Rattle.strategy_meaning.specs.Meaning.{World, run, form, on_child, rest_of, with_rest, on_rest, is_list_from}
-use Rattle.strategy_scopes.specs.Table.{scope_at}
+use Rattle.strategy_machine.specs.Table.{scope_at}
 use Rattle.term_match.specs.Contents.{Contents}
 use Rattle.term_match.specs.Marks.{mark_of}
 use Rattle.strategy_machine.specs.Leading.{parts_now, all_parts, node_with, PartsStand}

@@ -10,7 +10,7 @@ use Rattle.strategy_meaning.specs.Scopes.{Scope}
 use Rattle.strategy_meaning.specs.Matching.{Bindings, elements}
 use Rattle.strategy_meaning.specs.Answer.{Answer, done, failed, either, with_edits, and_then, at_root}
 use Rattle.strategy_meaning.specs.Meaning.{World, run, each, leftmost, those_done, rest_of, with_rest, on_rest}
-use Rattle.strategy_scopes.specs.Table.{scope_at}
+use Rattle.strategy_machine.specs.Table.{scope_at}
 use Rattle.term_match.specs.Contents.{Contents}
 use Rattle.term_match.specs.Marks.{kept, mark_of, Before, Stays}
 use Rattle.term_match.specs.declared.cells.Mark.{Mark}

@@ -10,8 +10,8 @@ use Rattle.strategy_meaning.specs.Scopes.{Scope, inside, Closure, cells_in, stan
 use Rattle.strategy_meaning.specs.Matching.{Bindings, elements}
 use Rattle.strategy_meaning.specs.Answer.{Answer, failed, either, if_done, with_edits, and_then, done}
 use Rattle.strategy_meaning.specs.Meaning.{World, run, form, with_some, cut, is_over, is_list_from, enter}
-use Rattle.strategy_scopes.specs.Table.{scope_at, closure_of}
-use Rattle.strategy_scopes.specs.declared.scopes.Known.{Known}
+use Rattle.strategy_machine.specs.Table.{scope_at, closure_of}
+use Rattle.strategy_machine.specs.declared.scopes.Known.{Known}
 use Rattle.strategy_machine.specs.inside.Missing.{Misses, HasNames, FailsAhead}
 use Rattle.strategy_machine.specs.Turns.{State, HoldsIn}
 use Rattle.strategy_machine.specs.inside.Taking.{FormIn}

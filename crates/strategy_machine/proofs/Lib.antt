@@ -1,3 +1,6 @@
+pub mod TableLemmas
+pub mod LookupLemmas
+pub mod TableArguments
 pub mod PlaceLemmas
 pub mod LeadLemmas
 pub mod NodeLeads

@@ -7,8 +7,8 @@ use Rattle.strategy_meaning.specs.Scopes.{Scope, Closure, stands_for}
 use Rattle.strategy_meaning.specs.Matching.{Bindings}
 use Rattle.strategy_meaning.specs.Answer.{Answer, Act, done, failed, stopped, spent, and_then}
 use Rattle.strategy_meaning.specs.Meaning.{World, run, form}
-use Rattle.strategy_scopes.specs.Table.{scope_at, Stands, closure_of}
-use Rattle.strategy_scopes.specs.declared.scopes.Known.{Known}
+use Rattle.strategy_machine.specs.Table.{scope_at, Stands, closure_of}
+use Rattle.strategy_machine.specs.declared.scopes.Known.{Known}
 use Rattle.term_match.specs.Marks.{mark_of}
 use Rattle.strategy_machine.specs.Frames.{Meets}
 use Rattle.strategy_machine.specs.Turns.{State, HoldsIn}

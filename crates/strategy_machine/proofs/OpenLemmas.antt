@@ -8,7 +8,7 @@ use Rattle.strategy_meaning.specs.Scopes.{Scope}
 use Rattle.strategy_meaning.specs.Matching.{Bindings}
 use Rattle.strategy_meaning.specs.Answer.{Stop, Answer, done, failed, stopped, Act, either, with_edits, and_then}
 use Rattle.strategy_meaning.specs.Meaning.{World, run, leftmost, those_done, cut}
-use Rattle.strategy_scopes.specs.Table.{scope_at}
+use Rattle.strategy_machine.specs.Table.{scope_at}
 use Rattle.term_match.specs.Contents.{Contents}
 use Rattle.term_match.specs.Marks.{Before, Stays}
 use Rattle.term_match.specs.declared.cells.Mark.{Mark}

@@ -9,7 +9,7 @@ use Rattle.strategy_meaning.specs.Scopes.{Scope, cells_in, with_variables}
 use Rattle.strategy_meaning.specs.Matching.{Bindings, match_place, build_place}
 use Rattle.strategy_meaning.specs.Answer.{Answer, done, failed, stopped, spent, big, and_then, at_root}
 use Rattle.strategy_meaning.specs.Meaning.{World, run, form, built, cut}
-use Rattle.strategy_scopes.specs.Table.{scope_at}
+use Rattle.strategy_machine.specs.Table.{scope_at}
 use Rattle.term_match.specs.Contents.{Contents}
 use Rattle.term_match.specs.Marks.{mark_of, Before, Stays}
 use Rattle.strategy_machine.specs.Trails.{Shows, path_of}

@@ -3,7 +3,7 @@ use Rattle.std.proofs.Common.{◌≡◌, ◌<◌, ℕ, List, [], ◌∷◌, ◌+
 use Rattle.std.proofs.lemmas.List.{length-append}
 use Rattle.std.proofs.Math.Seq.{get_or-append_seam, take-append_seam}
 use Rattle.strategy_meaning.specs.Scopes.{Scope}
-use Rattle.strategy_scopes.specs.Table.{nowhere, scope_at, Starts}
+use Rattle.strategy_machine.specs.Table.{nowhere, scope_at, Starts}
 
 pub one_more_there : (old new : List Scope) (E : Scope) {n : ℕ} → n ≡ length old → new ≡ old ++ E ∷ [] → n < length new
 one_more_there old new E e is = omega (arith, e, ap (λ (l : List Scope). length l) is, length-append old (E ∷ []))

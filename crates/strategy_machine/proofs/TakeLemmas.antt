@@ -13,8 +13,8 @@ use Rattle.strategy_meaning.specs.Matching.{Bindings, match_place, elements}
 use Rattle.strategy_meaning.specs.Answer.{Stop, Answer, Act, done, failed, stopped, spent, big, either, with_edits, and_then, at_root}
 use Rattle.strategy_meaning.specs.Meaning.{World, run, form, with_some, built, each, leftmost, those_done, on_rest, is_over, is_list_from, on_child, cut, opened}
 use Rattle.strategy_meaning.proofs.StepLemmas.{one_step_is_one_form}
-use Rattle.strategy_scopes.specs.Table.{scopes, scope_at, Stands, closure_of}
-use Rattle.strategy_scopes.specs.declared.scopes.Known.{Known}
+use Rattle.strategy_machine.specs.Table.{scopes, scope_at, Stands, closure_of}
+use Rattle.strategy_machine.specs.declared.scopes.Known.{Known}
 use Rattle.term_match.specs.Contents.{Contents}
 use Rattle.term_match.specs.Marks.{kept, mark_of, Before, Stays}
 use Rattle.strategy_machine.specs.Leading.{Has, node_now, all_parts, PartsStand}

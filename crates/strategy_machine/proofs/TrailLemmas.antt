@@ -3,7 +3,7 @@ use Rattle.std.proofs.Common.{◌≡◌, ◌<◌, ◌≤◌, ℕ, ◌+◌, List,
 use Rattle.std.proofs.lemmas.List.{append-nil, take_all, map-append}
 use Rattle.std.proofs.Math.Seq.{take-suc}
 use Rattle.term_paths.specs.Edits.{Edit, Edits, behind}
-use Rattle.change_plans.specs.Entries.{Entry}
+use Rattle.term_changes.specs.Entries.{Entry}
 use Rattle.term_changes.specs.Putting.{entry_at, entries_at}
 use Rattle.strategy_machine.specs.Trails.{path_of}
 use Rattle.strategy_machine.specs.inside.Steps.{step_of}

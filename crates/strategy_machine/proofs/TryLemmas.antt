@@ -9,7 +9,7 @@ use Rattle.strategy_meaning.specs.Scopes.{Scope, inside, no_closures, and_closur
 use Rattle.strategy_meaning.specs.Matching.{Bindings}
 use Rattle.strategy_meaning.specs.Answer.{Answer, stopped, spent, either, with_edits}
 use Rattle.strategy_meaning.specs.Meaning.{World, run, form, with_some, built_all, enter, cut}
-use Rattle.strategy_scopes.specs.Table.{scope_at}
+use Rattle.strategy_machine.specs.Table.{scope_at}
 use Rattle.strategy_machine.specs.Turns.{State}
 use Rattle.strategy_machine.specs.inside.Taking.{FormIn}
 use Rattle.strategy_machine.specs.inside.Tries.{IsTry}

@@ -6,7 +6,7 @@ use Rattle.term_core.specs.Tree.{Tree}
 use Rattle.term_changes.specs.Standing.{Standing}
 use Rattle.strategy_meaning.specs.Answer.{Answer}
 use Rattle.strategy_meaning.specs.Meaning.{World}
-use Rattle.strategy_scopes.specs.Table.{scopes}
+use Rattle.strategy_machine.specs.Table.{scopes}
 use Rattle.strategy_machine.specs.Turns.{State, state_of, HoldsIn, Holds}
 use Rattle.strategy_machine.specs.inside.Taking.{Replaced}
 use Rattle.strategy_machine.specs.inside.Turning.{ComesUp, Waits}

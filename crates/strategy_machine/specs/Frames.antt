@@ -9,7 +9,7 @@ use Rattle.strategy_meaning.specs.Scopes.{Scope}
 use Rattle.strategy_meaning.specs.Matching.{elements}
 use Rattle.strategy_meaning.specs.Answer.{Answer, done, either, if_done, with_edits, and_then, at_root}
 use Rattle.strategy_meaning.specs.Meaning.{World, run, with_some, each, leftmost, those_done, rest_of, with_rest, on_rest, cut}
-use Rattle.strategy_scopes.specs.Table.{scope_at}
+use Rattle.strategy_machine.specs.Table.{scope_at}
 use Rattle.term_match.specs.Contents.{Contents}
 use Rattle.term_match.specs.Marks.{kept, Before}
 use Rattle.term_match.specs.declared.cells.Mark.{Mark}

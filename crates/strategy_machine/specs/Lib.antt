@@ -1,3 +1,5 @@
+pub use Rattle.strategy_meaning.specs.Scopes
+pub mod Table
 pub mod Trails
 pub mod Leading
 pub mod Frames

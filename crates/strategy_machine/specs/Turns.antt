@@ -10,7 +10,7 @@ use Rattle.strategy_meaning.specs.Scopes.{Scope}
 use Rattle.strategy_meaning.specs.Matching.{Bindings}
 use Rattle.strategy_meaning.specs.Answer.{Answer, done, failed, stopped, spent, big}
 use Rattle.strategy_meaning.specs.Meaning.{World, run, each, leftmost, those_done}
-use Rattle.strategy_scopes.specs.Table.{scopes, scope_at}
+use Rattle.strategy_machine.specs.Table.{scopes, scope_at}
 use Rattle.term_match.specs.Contents.{Contents}
 use Rattle.term_match.specs.Marks.{mark_of}
 use Rattle.strategy_machine.specs.Leading.{Leads, Has, all_parts, node_with, PartsStand}

@@ -1,3 +1,5 @@
+pub mod Entries
+pub mod TableCode
 pub mod Arguments
 pub mod Endings
 pub mod Filling

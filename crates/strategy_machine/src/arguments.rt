@@ -6,13 +6,13 @@ ghost use Rattle.strategy_syntax.specs.Resolved.{places_of};
 ghost use Rattle.strategy_meaning.specs.Scopes.{cells_in};
 ghost use Rattle.strategy_meaning.specs.Answer.{Answer, failed, stopped, big};
 ghost use Rattle.strategy_meaning.specs.Meaning.{built_all};
-ghost use Rattle.strategy_scopes.specs.Table.{scopes as scopes_of, scope_at};
+ghost use Rattle.strategy_machine.specs.Table.{scopes as scopes_of, scope_at};
 ghost use Rattle.term_match.specs.Marks.{mark_of, Before, Stays};
 ghost use Rattle.strategy_machine.specs.inside.Arguments.{AreBuilt};
 
 use crate::machine::InTable;
 use std::alloc::Global;
-use strategy_scopes::Scopes;
+use crate::scopes::Scopes;
 use strategy_syntax::Place;
 use term_core::{NoMemory, Term};
 use term_match::{Built, Cells};

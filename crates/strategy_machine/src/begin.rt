@@ -1,7 +1,7 @@
 //! How a strategy starts.
 
 ghost use Rattle.std.specs.Prelude.{◌≡◌, ◌<◌, length, IfOk};
-ghost use Rattle.strategy_scopes.specs.Table.{scopes as scopes_of};
+ghost use Rattle.strategy_machine.specs.Table.{scopes as scopes_of};
 ghost use Rattle.strategy_machine.specs.Hands.{Begin};
 ghost use Rattle.strategy_machine.specs.Leading.{Has};
 ghost use Rattle.strategy_machine.specs.Turns.{Turn, Falls, world_of};

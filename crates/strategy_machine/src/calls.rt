@@ -2,7 +2,7 @@
 
 ghost use Rattle.std.specs.Prelude.{◌≡◌, ◌<◌, ◌++◌, map, replicate, length, Some, None, IfOk};
 ghost use Rattle.strategy_syntax.specs.Resolved.{scope as scope_form, rec, param, call, prim, resolveds_of, places_of};
-ghost use Rattle.strategy_scopes.specs.Table.{scopes as scopes_of};
+ghost use Rattle.strategy_machine.specs.Table.{scopes as scopes_of};
 ghost use Rattle.strategy_meaning.specs.Meaning.{World, primitive_answer};
 ghost use Rattle.strategy_machine.specs.Turns.{world_of};
 ghost use Rattle.strategy_machine.specs.inside.Taking.{Takes, TakeFalls};
@@ -17,7 +17,7 @@ use crate::rules::take_rule;
 use crate::tries::{take_try, tried};
 use prim_core::Meaning;
 use std::alloc::Global;
-use strategy_scopes::Known;
+use crate::scopes::Known;
 use strategy_syntax::{Place, Resolved, ResolvedForm as Form, ResolvedStrategy};
 use term_core::{NoMemory, Term};
 use term_values::Value;

@@ -4,7 +4,7 @@
 //! loop, by `rec` or by calls that pass all names on, takes constant space.
 
 ghost use Rattle.std.specs.Prelude.{◌≡◌, ◌<◌, ◌≤◌, ◌-◌, ◌^◌, length, reverse, IfSome, OnOk};
-ghost use Rattle.strategy_scopes.specs.Table.{scopes as scopes_of};
+ghost use Rattle.strategy_machine.specs.Table.{scopes as scopes_of};
 ghost use Rattle.strategy_machine.specs.inside.Endings.{LeavesScopes, LeavesCells, ScopesEnd, CellsEnd};
 
 use crate::frames::{Frame, wait};

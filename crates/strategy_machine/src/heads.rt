@@ -4,13 +4,13 @@ ghost use Rattle.std.specs.Prelude.{◌≡◌, ◌<◌, cond, Some, None, IfSome
 ghost use Rattle.term_core.specs.Tree.{children};
 ghost use Rattle.std.specs.Bool.{OnTrue};
 ghost use Rattle.term_changes.specs.Standing.{standing_tree};
-ghost use Rattle.strategy_scopes.specs.Table.{scopes as scopes_of};
+ghost use Rattle.strategy_machine.specs.Table.{scopes as scopes_of};
 ghost use Rattle.strategy_syntax.specs.Heads.{head_of};
 ghost use Rattle.strategy_meaning.specs.Matching.{is_integer as is_this_integer, is_headed as has_head, elements};
 ghost use Rattle.strategy_machine.specs.inside.Missing.{Misses, FailsAhead};
 
 use crate::congruence::{is_list_from, is_over};
-use strategy_scopes::Scopes;
+use crate::scopes::Scopes;
 use strategy_syntax::{Head, Place, PlaceForm, Resolved, ResolvedForm as Form, ResolvedStrategy};
 use term_core::Kind;
 use term_values::Part;

@@ -16,6 +16,7 @@ mod heads;
 mod lists;
 mod machine;
 mod rules;
+mod scopes;
 mod tails;
 mod trail;
 mod tries;
@@ -23,5 +24,6 @@ mod turning;
 
 pub use frames::{Acts, Frame, Next, Turned, Walk};
 pub use machine::{Host, Machine};
+pub use scopes::{Known, Scopes};
 pub use trail::{Made, Trail};
 pub use turning::turn;

@@ -2,7 +2,7 @@
 
 ghost use Rattle.std.specs.Prelude.{◌≡◌, [], slice_get};
 ghost use Rattle.strategy_meaning.specs.Scopes.{cells_in};
-ghost use Rattle.strategy_scopes.specs.Table.{scopes as scopes_of, scope_at};
+ghost use Rattle.strategy_machine.specs.Table.{scopes as scopes_of, scope_at};
 ghost use Rattle.strategy_meaning.specs.Answer.{Answer};
 ghost use Rattle.strategy_meaning.specs.Meaning.{World};
 ghost use Rattle.term_changes.specs.Standing.{Standing};
@@ -14,7 +14,7 @@ use crate::frames::{Frame, Next, Turned};
 use crate::trail::Trail;
 use prim_core::{Meaning, Primitives};
 use std::alloc::Global;
-use strategy_scopes::Scopes;
+use crate::scopes::Scopes;
 use strategy_syntax::{Resolved, ResolvedStrategy};
 use term_core::Term;
 use term_match::{Cells, Places};

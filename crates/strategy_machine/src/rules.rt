@@ -2,7 +2,7 @@
 
 ghost use Rattle.std.specs.Prelude.{◌<◌, length, IfOk};
 ghost use Rattle.strategy_meaning.specs.Meaning.{World};
-ghost use Rattle.strategy_scopes.specs.Table.{scopes as scopes_of};
+ghost use Rattle.strategy_machine.specs.Table.{scopes as scopes_of};
 ghost use Rattle.strategy_syntax.specs.Resolved.{scope as scope_form, seq, matches, builds};
 ghost use Rattle.strategy_machine.specs.inside.Taking.{Takes, TakeFalls};
 

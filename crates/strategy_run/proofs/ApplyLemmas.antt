@@ -11,11 +11,11 @@ use Rattle.term_paths.specs.Paths.{at, set_at}
 use Rattle.term_paths.proofs.PathLemmas.{at-child, at-no_child}
 use Rattle.term_paths.specs.Edits.{Edits, behind, Replaces}
 use Rattle.term_paths.proofs.EditLemmas.{edits_of_a_subterm}
-use Rattle.change_plans.specs.Slots.{Store, content, with_content}
-use Rattle.change_plans.specs.Entries.{Entry, slot_tree, subterm_in, put, before, after, flipped_forward, Fits, FitsForward}
-use Rattle.change_plans.proofs.SlotLemmas.{same_content}
-use Rattle.change_plans.proofs.EntryLemmas.{store_from_before, flipped_forward_fits}
-use Rattle.change_plans.proofs.ContentsLemmas.{subterm_put}
+use Rattle.term_changes.specs.Slots.{Store, content, with_content}
+use Rattle.term_changes.specs.Entries.{Entry, slot_tree, subterm_in, put, before, after, flipped_forward, Fits, FitsForward}
+use Rattle.term_changes.proofs.SlotLemmas.{same_content}
+use Rattle.term_changes.proofs.EntryLemmas.{store_from_before, flipped_forward_fits}
+use Rattle.term_changes.proofs.ContentsLemmas.{subterm_put}
 use Rattle.term_changes.specs.Change.{places, changed}
 use Rattle.term_changes.specs.Putting.{entries_at, entry_at}
 use Rattle.term_changes.specs.Standing.{Standing, unchanged, standing_tree, standing_change}

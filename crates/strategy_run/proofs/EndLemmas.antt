@@ -7,7 +7,7 @@ use Rattle.strategy_syntax.specs.declared.resolved.Resolved.{Resolved}
 use Rattle.strategy_meaning.specs.Scopes.{Scope, inside, no_closures, numbers_from, with_variables}
 use Rattle.strategy_meaning.specs.Answer.{Answer, with_edits}
 use Rattle.strategy_meaning.specs.Meaning.{World, run, run_whole}
-use Rattle.strategy_scopes.specs.Table.{nowhere, scope_at}
+use Rattle.strategy_machine.specs.Table.{nowhere, scope_at}
 use Rattle.term_match.specs.Contents.{Contents}
 use Rattle.strategy_run.specs.inside.Runs.{IsEmpty}
 use Rattle.strategy_machine.specs.Turns.{HoldsIn, After}

@@ -4,8 +4,8 @@ use Rattle.term_core.specs.Tree.{Tree, children}
 use Rattle.term_paths.specs.Paths.{at, set_at}
 use Rattle.term_paths.specs.Edits.{Edits, Replaces, behind, edited}
 use Rattle.term_paths.proofs.EditLemmas.{edits_of_a_subterm}
-use Rattle.change_plans.specs.Slots.{Store, content}
-use Rattle.change_plans.specs.Entries.{slot_tree, put, after, FitsForward}
+use Rattle.term_changes.specs.Slots.{Store, content}
+use Rattle.term_changes.specs.Entries.{slot_tree, put, after, FitsForward}
 use Rattle.term_changes.specs.Change.{places}
 use Rattle.term_changes.specs.Putting.{HasPlaces, HaveAllPlaces, entries_at}
 use Rattle.term_changes.specs.Standing.{Standing, unchanged, altered, fresh, Suits, standing_tree, standing_change}

@@ -3,8 +3,8 @@ use Rattle.std.specs.Prelude.{◌≡◌, ℕ, List, ◌++◌, Some}
 use Rattle.std.specs.Option.{option_map_or}
 use Rattle.term_core.specs.Tree.{Tree}
 use Rattle.term_paths.specs.Edits.{Edits, behind}
-use Rattle.change_plans.specs.Slots.{Slots, Store, content}
-use Rattle.change_plans.specs.Entries.{Entry, slot_tree, put, before, flipped_forward, Fits}
+use Rattle.term_changes.specs.Slots.{Slots, Store, content}
+use Rattle.term_changes.specs.Entries.{Entry, slot_tree, put, before, flipped_forward, Fits}
 use Rattle.term_changes.specs.Change.{places}
 use Rattle.term_changes.specs.Putting.{entries_at}
 use Rattle.strategy_syntax.specs.declared.resolved.Resolved.{Resolved}

@@ -4,8 +4,8 @@ ghost use Rattle.std.specs.Prelude.{[], ◌≡◌, ◌≤◌, ◌+◌, ℕ, Some
 ghost use Rattle.term_core.specs.Tree.{Tree};
 ghost use Rattle.term_core.specs.Size.{height};
 ghost use Rattle.term_paths.specs.Paths.{at as found_at};
-ghost use Rattle.change_plans.specs.Slots.{Store, content};
-ghost use Rattle.change_plans.specs.Entries.{subterm_in};
+ghost use Rattle.term_changes.specs.Slots.{Store, content};
+ghost use Rattle.term_changes.specs.Entries.{subterm_in};
 ghost use Rattle.strategy_meaning.specs.Applied.{applied};
 ghost use Rattle.strategy_machine.specs.Trails.{Shows};
 ghost use Rattle.strategy_run.specs.inside.Runs.{IsEmpty};

@@ -1,7 +1,7 @@
 //! Putting replaced subterms into the tree.
 
 ghost use Rattle.std.specs.Prelude.{◌≡◌, ◌++◌, OnOk, OnErr};
-ghost use Rattle.change_plans.specs.Entries.{before, after, flipped_forward, Fits, FitsForward};
+ghost use Rattle.term_changes.specs.Entries.{before, after, flipped_forward, Fits, FitsForward};
 
 use change_log::{Log, Plan, Store};
 use term_core::NoMemory;

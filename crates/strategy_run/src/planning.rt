@@ -20,7 +20,7 @@ use strategy_check::Program;
 use strategy_machine::{Host, Machine, Trail};
 use strategy_syntax::Resolved;
 use term_core::{MAX_HEIGHT, NoMemory, Term};
-use term_patch::Patch;
+use term_changes::Patch;
 use term_paths::Path;
 use term_values::Part;
 

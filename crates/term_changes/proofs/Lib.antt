@@ -1,3 +1,7 @@
+pub mod SlotLemmas
+pub mod EntryLemmas
+pub mod ContentsLemmas
+pub mod LogLemmas
 pub mod NodeLemmas
 pub mod StandingLemmas
 pub mod ApartLemmas
@@ -5,5 +9,14 @@ pub mod PlacesMade
 pub mod PlacesThere
 pub mod FollowLemmas
 pub mod EditLemmas
-pub mod LogLemmas
+pub mod PlacesLogged
 pub mod StoreLemmas
+pub mod TwiceLemmas
+pub mod OrderLemmas
+pub mod FlipLemmas
+pub mod PathLemmas
+pub mod WalkLemmas
+pub mod WalkedLemmas
+pub mod ExchangeLemmas
+pub mod DraftLemmas
+pub mod TrimLemmas

@@ -6,9 +6,9 @@ use Rattle.term_core.specs.Tree.{Tree}
 use Rattle.term_paths.specs.Paths.{at, set_at}
 use Rattle.term_paths.proofs.PathLemmas.{set_at-changed, changed_at-same, at-append}
 use Rattle.term_paths.proofs.LawLemmas.{set_is_there, last_set_stays, set_behind}
-use Rattle.change_plans.specs.Slots.{Slots, Store, content, with_content}
-use Rattle.change_plans.specs.Entries.{slot_tree, subterm, subterm_in, put, after, FitsForward}
-use Rattle.change_plans.proofs.ContentsLemmas.{subterm_put}
+use Rattle.term_changes.specs.Slots.{Slots, Store, content, with_content}
+use Rattle.term_changes.specs.Entries.{slot_tree, subterm, subterm_in, put, after, FitsForward}
+use Rattle.term_changes.proofs.ContentsLemmas.{subterm_put}
 use Rattle.term_paths.specs.Edits.{Edits, behind}
 use Rattle.term_changes.specs.Change.{changed, places}
 use Rattle.term_changes.specs.Putting.{entries_at, PlacesPutTheChange, PlacesAreThere}

@@ -2,8 +2,8 @@
 use Rattle.std.specs.Prelude.{◌≡◌, ℕ, List, [], ◌∷◌, ◌++◌, map, Some}
 use Rattle.term_core.specs.Tree.{Tree, children}
 use Rattle.term_paths.specs.Laws.{AreApart}
-use Rattle.change_plans.specs.Slots.{Store}
-use Rattle.change_plans.specs.Entries.{Entry, subterm, subterm_in, put, before, after, flipped_forward, Fits, FitsForward}
+use Rattle.term_changes.specs.Slots.{Store}
+use Rattle.term_changes.specs.Entries.{Entry, subterm, subterm_in, put, before, after, flipped_forward, Fits, FitsForward}
 use Rattle.term_paths.specs.Edits.{Edit, Edits, edited, behind}
 use Rattle.term_changes.specs.Change.{Change, same, inside, replaced, Changes, no_more, and_then, changed, places}
 

@@ -1,8 +1,9 @@
-//! Laws of changes. Each is the contract of a function that does nothing.
+//! Laws of changes and of patches. Each is the contract of a function that does nothing.
 
 ghost use Rattle.term_changes.specs.Edits.{EditsComeTo};
 ghost use Rattle.term_changes.specs.Follows.{FollowsItself, FollowsOn, FollowersCanStand, SameRootFollows, TreesOfChildren, FollowersAreTheChange, TreeOverChildren};
 ghost use Rattle.term_changes.specs.Putting.{PlacesLieApart, PlacesMakeTheChange, PlacesPutTheChange, PlacesAreThere, AllLeadBack, AllFit};
+ghost use Rattle.term_changes.specs.PatchLaws.{TwiceIsNothing, TakenIsThere, EitherOrder, PlacesStay, LeadsBothWays, KeepsBothWays, FitsBothWays, PatchesAreCompact};
 
 /// The places of a change are disjoint. Setting them one by one makes the change, in a tree and in
 /// any store that has the places.
@@ -33,4 +34,24 @@ pub fn followers()
 /// A sequence of edits amounts to one change.
 pub fn edits()
     ensures { EditsComeTo }
+{}
+
+/// Exchanging twice changes nothing.
+pub fn patches_taken_twice()
+    ensures { TwiceIsNothing }
+{}
+
+/// What an exchange takes is what stands at the places, in whatever order they are set; the places stay.
+pub fn places_of_patches()
+    ensures taken { TakenIsThere }
+    ensures order { EitherOrder }
+    ensures stay { PlacesStay }
+{}
+
+/// A patch in a slot's tree, as entries of a log.
+pub fn entries_of_patches()
+    ensures leads { LeadsBothWays }
+    ensures keeps { KeepsBothWays }
+    ensures fits { FitsBothWays }
+    ensures compact { PatchesAreCompact }
 {}

@@ -1,4 +1,19 @@
-//! What a run of a strategy replaced in a term, as plain data, and the laws of such changes.
+//! What is to change in terms and stores: plans and the entries of logs, the change that a run makes,
+//! and patches, which are exchanged with a tree by one walk.
 #![tactic(auto)]
 
+mod draft;
+mod entry;
+mod exchange;
 pub mod laws;
+mod patch;
+mod plan;
+mod text;
+
+pub use draft::Draft;
+#[doc(hidden)]
+pub use draft::Mark;
+pub use entry::{Entry, Kept};
+pub use patch::Patch;
+pub use plan::{Plan, Replaced};
+pub use text::Text;

@@ -1,11 +1,13 @@
-//! Terms, places in them, and their changes in stores. The crate holds only tests, so that the
-//! crates of terms are proved once and not again with their tests.
+//! Terms: places in them, their changes in stores, matching and building. The crate holds only tests,
+//! so that the crates of terms are proved once and not again with their tests.
 #![tactic(auto)]
 
 #[cfg(test)]
 mod changes;
 #[cfg(test)]
 mod logs;
+#[cfg(test)]
+mod matching;
 #[cfg(test)]
 mod patches;
 #[cfg(test)]

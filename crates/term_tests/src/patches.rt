@@ -3,7 +3,7 @@
 use std::alloc::Global;
 use std::test::Fail;
 use term_core::{NoMemory, Term};
-use term_patch::Draft;
+use term_changes::Draft;
 
 fn list(alloc: Global, numbers: &[i64]) -> Result<Term, NoMemory> {
     let mut terms = Vec::new(alloc);

@@ -8,7 +8,7 @@ use Rattle.term_core.specs.Size.{height, heights}
 use Rattle.term_paths.specs.Edits.{Edits, behind}
 use Rattle.term_changes.specs.Change.{below, places, places_from, changed_all}
 use Rattle.term_changes.specs.Standing.{Altered, after, Standing, unchanged, Suits, SuitAll, stand_all, standing_tree, standing_change, standing_changes}
-use Rattle.change_plans.specs.Entries.{Entry}
+use Rattle.term_changes.specs.Entries.{Entry}
 use Rattle.term_changes.specs.Putting.{entry_at, entries_at, HasPlaces, HaveAllPlaces}
 use Rattle.term_changes.proofs.NodeLemmas.{annotations-with_children}
 use Rattle.term_changes.proofs.StandingLemmas.{suits_stand_all, altered_children}

@@ -6,12 +6,12 @@ ghost use Rattle.term_core.specs.Tree.{Tree, children};
 ghost use Rattle.term_changes.specs.Change.{inside, places};
 ghost use Rattle.term_changes.specs.Putting.{HasPlaces, HaveAllPlaces};
 ghost use Rattle.term_changes.specs.Standing.{Suits, SuitAll, standing_change, standing_changes};
-ghost use Rattle.term_patch.specs.inside.Trimmed.{item_of, items_of};
+ghost use Rattle.term_changes.specs.inside.Trimmed.{item_of, items_of};
 
 use crate::part::{Changed, Part, PartForm};
 use std::alloc::Global;
 use term_core::NoMemory;
-use term_patch::{Draft, Patch};
+use term_changes::{Draft, Patch};
 
 impl<'t> Part<'t> {
     /// The outermost places that were replaced, each with an owned term. The places exist in each

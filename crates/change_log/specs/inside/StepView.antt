@@ -1,8 +1,8 @@
 -- What the fields of a step represent.
 use Rattle.std.specs.Prelude.{List, [], ◌∷◌}
-use Rattle.change_plans.specs.Entries.{Entry}
-use Rattle.change_plans.specs.LogView.{entry_of}
-use Rattle.term_patch.specs.PatchLaws.{patch_entries}
+use Rattle.term_changes.specs.Entries.{Entry}
+use Rattle.term_changes.specs.LogView.{entry_of}
+use Rattle.term_changes.specs.PatchLaws.{patch_entries}
 use Rattle.change_log.specs.declared.step.Whole.{Whole}
 use Rattle.change_log.specs.declared.step.Parts.{Parts}
 use Rattle.change_log.specs.declared.step.Changes.{Changes}

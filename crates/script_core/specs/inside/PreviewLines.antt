@@ -1,9 +1,9 @@
 -- The lines of a preview, by the entries of its plan.
 use Rattle.std.specs.Prelude.{ℕ, List, [], ◌∷◌}
 use Rattle.term_core.specs.Tree.{Tree}
-use Rattle.change_plans.specs.Entries.{Entry, slot_tree, subterm, subterm_annotations, slot_text}
-use Rattle.session_steps.specs.Preview.{part_at}
-use Rattle.script_forms.specs.Machine.{replacement_line}
+use Rattle.term_changes.specs.Entries.{Entry, slot_tree, subterm, subterm_annotations, slot_text}
+use Rattle.session_history.specs.Preview.{part_at}
+use Rattle.script_text.specs.Machine.{replacement_line}
 
 -- each is for a subterm
 abbrev pub AreSubterms : List Entry → Type 0

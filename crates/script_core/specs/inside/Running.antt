@@ -3,18 +3,18 @@ use Rattle.std.specs.Prelude.{◌≡◌, ◌<◌, ◌≤◌, ◌+◌, ◌⊎◌,
 use Rattle.std.specs.declared.option.Option.{Option}
 use Rattle.std.specs.declared.result.Result.{Result}
 use Rattle.std.specs.Io.KnownBytes.{Consumes, Keeps, IsAtEnd}
-use Rattle.session_steps.specs.History.{History}
+use Rattle.session_history.specs.History.{History}
 use Rattle.script_core.specs.declared.running.Running.{Running}
 use Rattle.script_core.specs.declared.running.Summary.{Summary}
 use Rattle.script_core.specs.declared.running.RunFault.{RunFault}
 use Rattle.script_core.specs.declared.running.RunFault.TheVariants.{Read, Write, Turns, Memory}
-use Rattle.script_commands.specs.declared.framing.Framing.{Framing}
-use Rattle.script_commands.specs.Handed.{Handed, handed, completed}
-use Rattle.script_forms.specs.Machine.{Replying}
-use Rattle.script_commands.specs.Splitting.{StandsBehind}
-use Rattle.script_commands.specs.Split.{Split}
-use Rattle.script_commands.specs.FedRight.{GoesBehind}
-use Rattle.script_forms.specs.Run.{Completes, BreaksOff}
+use Rattle.script_text.specs.declared.framing.Framing.{Framing}
+use Rattle.script_text.specs.Handed.{Handed, handed, completed}
+use Rattle.script_text.specs.Machine.{Replying}
+use Rattle.script_text.specs.Splitting.{StandsBehind}
+use Rattle.script_text.specs.Split.{Split}
+use Rattle.script_text.specs.FedRight.{GoesBehind}
+use Rattle.script_text.specs.Run.{Completes, BreaksOff}
 use Rattle.script_core.specs.Ran.{ByBudget, Streams, Calm}
 
 -- A run that is to stop at a refusal goes on without one, and ends at one.

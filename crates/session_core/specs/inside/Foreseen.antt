@@ -4,15 +4,15 @@ use Rattle.term_core.specs.Tree.{Tree}
 use Rattle.term_paths.specs.Paths.{at}
 use Rattle.term_paths.specs.Edits.{Edits, behind}
 use Rattle.term_changes.specs.Putting.{entries_at}
-use Rattle.change_plans.specs.Slots.{Store, content}
-use Rattle.change_plans.specs.Entries.{subterm_in}
+use Rattle.term_changes.specs.Slots.{Store, content}
+use Rattle.term_changes.specs.Entries.{subterm_in}
 use Rattle.strategy_syntax.specs.declared.resolved.Resolved.{Resolved}
 use Rattle.strategy_meaning.specs.Answer.{Answer, failed, stopped}
 use Rattle.strategy_meaning.specs.Meaning.{World, run_whole}
 use Rattle.strategy_run.specs.Planning.{Gives}
-use Rattle.session_steps.specs.Applying.{stopped_as}
-use Rattle.session_steps.specs.declared.refusal.Refusal.{Refusal}
-use Rattle.session_steps.specs.declared.refusal.Refusal.TheVariants.{Fails}
+use Rattle.session_history.specs.Applying.{stopped_as}
+use Rattle.session_history.specs.declared.refusal.Refusal.{Refusal}
+use Rattle.session_history.specs.declared.refusal.Refusal.TheVariants.{Fails}
 use Rattle.session_core.specs.declared.preview.Preview.{Preview}
 
 -- The slot's tree has a subterm at the path, and these are the places that a run on it replaces.

@@ -4,18 +4,18 @@ use Rattle.std.specs.declared.option.Option.{Option}
 use Rattle.std.specs.declared.result.Result.{Result}
 use Rattle.prim_core.specs.Signature.{Signature}
 use Rattle.term_core.specs.declared.memory.NoMemory.{NoMemory}
-use Rattle.change_plans.specs.Slots.{contents}
+use Rattle.term_changes.specs.Slots.{contents}
 use Rattle.strategy_syntax.specs.Syntax.{Strategy}
 use Rattle.strategy_syntax.specs.declared.resolved.Resolved.{Resolved}
 use Rattle.strategy_check.specs.Programs.{Program}
-use Rattle.session_steps.specs.Modules.{GivesProgram}
-use Rattle.session_steps.specs.Applying.{ReadsAsStrategy, resolved_in}
-use Rattle.session_steps.specs.History.{History}
-use Rattle.session_steps.specs.Step.{Place, Resolving}
-use Rattle.session_steps.specs.Unfolded.{IsPlaceOf}
-use Rattle.session_steps.specs.declared.timeline.Timeline.{Timeline}
-use Rattle.session_steps.specs.declared.refusal.Refusal.{Refusal}
-use Rattle.session_steps.specs.declared.refusal.Refusal.TheVariants as refusals
+use Rattle.session_history.specs.Modules.{GivesProgram}
+use Rattle.session_history.specs.Applying.{ReadsAsStrategy, resolved_in}
+use Rattle.session_history.specs.History.{History}
+use Rattle.session_history.specs.Step.{Place, Resolving}
+use Rattle.session_history.specs.Unfolded.{IsPlaceOf}
+use Rattle.session_history.specs.declared.timeline.Timeline.{Timeline}
+use Rattle.session_history.specs.declared.refusal.Refusal.{Refusal}
+use Rattle.session_history.specs.declared.refusal.Refusal.TheVariants as refusals
 use Rattle.strategy_run.specs.declared.planning.Planned.{Planned}
 use Rattle.strategy_run.specs.declared.planning.Planned.TheVariants.{Replaced, Failed, Spent, Big}
 

@@ -1,6 +1,6 @@
 //! Scripts and their answers on a session with the library and the program's primitives, as it makes it for a command line.
 
-ghost use Rattle.session_steps.specs.Steps.{AreSteps};
+ghost use Rattle.session_history.specs.Steps.{AreSteps};
 
 use crate::library::load_library;
 use command_line::{CommandLine, arguments};

@@ -7,7 +7,7 @@ use Rattle.strategy_syntax.specs.declared.resolved.Resolved.{Resolved}
 use Rattle.strategy_meaning.specs.Scopes.{Scope, inside, numbers_from, arguments}
 use Rattle.strategy_meaning.specs.Answer.{Answer, IfDone}
 use Rattle.strategy_meaning.specs.Meaning.{World, cut}
-use Rattle.strategy_scopes.specs.Table.{scopes, scope_at, Starts}
+use Rattle.strategy_machine.specs.Table.{scopes, scope_at, Starts}
 use Rattle.term_match.specs.Contents.{Contents}
 use Rattle.term_match.specs.Marks.{mark_of, Before, Stays}
 use Rattle.strategy_machine.specs.Trails.{Shows, path_of}

@@ -8,7 +8,7 @@ use Rattle.strategy_meaning.specs.Scopes.{Scope, stands_for}
 use Rattle.strategy_meaning.specs.Matching.{Bindings, match_place}
 use Rattle.strategy_meaning.specs.Answer.{failed}
 use Rattle.strategy_meaning.specs.Meaning.{World, run}
-use Rattle.strategy_scopes.specs.Table.{scope_at}
+use Rattle.strategy_machine.specs.Table.{scope_at}
 
 -- the pattern doesn't match the term, whatever the variables are bound to
 pub record Misses (p : Place) (t : Tree) : Type 0 where

@@ -6,7 +6,7 @@ use Rattle.term_changes.specs.Standing.{Standing, fresh, standing_tree}
 use Rattle.strategy_syntax.specs.Resolved.{ResolvedStrategy}
 use Rattle.strategy_meaning.specs.Answer.{Answer}
 use Rattle.strategy_meaning.specs.Meaning.{World, run, form}
-use Rattle.strategy_scopes.specs.Table.{scope_at}
+use Rattle.strategy_machine.specs.Table.{scope_at}
 use Rattle.term_match.specs.Marks.{mark_of}
 use Rattle.strategy_machine.specs.Trails.{Shows, path_of}
 use Rattle.strategy_machine.specs.Frames.{Meets, Opens}

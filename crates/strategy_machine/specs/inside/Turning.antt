@@ -6,7 +6,7 @@ use Rattle.term_changes.specs.Standing.{Standing}
 use Rattle.strategy_syntax.specs.Resolved.{ResolvedStrategy}
 use Rattle.strategy_meaning.specs.Answer.{Answer}
 use Rattle.strategy_meaning.specs.Meaning.{World}
-use Rattle.strategy_scopes.specs.Table.{scopes}
+use Rattle.strategy_machine.specs.Table.{scopes}
 use Rattle.strategy_machine.specs.Leading.{parts_now, all_parts}
 use Rattle.strategy_machine.specs.Frames.{walk_parts}
 use Rattle.strategy_machine.specs.declared.frames.Walk.{Walk}

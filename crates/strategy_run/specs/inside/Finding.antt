@@ -2,8 +2,8 @@
 use Rattle.std.specs.Prelude.{◌≡◌, ℕ, List, Some}
 use Rattle.term_core.specs.Tree.{Tree}
 use Rattle.term_paths.specs.Edits.{Edits, behind}
-use Rattle.change_plans.specs.Slots.{Store}
-use Rattle.change_plans.specs.Entries.{Entry, slot_tree, put, after, FitsForward}
+use Rattle.term_changes.specs.Slots.{Store}
+use Rattle.term_changes.specs.Entries.{Entry, slot_tree, put, after, FitsForward}
 use Rattle.term_changes.specs.Change.{places}
 use Rattle.term_changes.specs.Putting.{entries_at, HasPlaces}
 use Rattle.term_changes.specs.Standing.{Standing, Suits, standing_change}

@@ -2,7 +2,7 @@
 use Rattle.std.specs.Prelude.{◌≡◌, ℕ, []}
 use Rattle.term_changes.specs.Standing.{Standing}
 use Rattle.strategy_meaning.specs.Answer.{Answer, failed, stopped, spent, big}
-use Rattle.strategy_scopes.specs.Table.{scopes}
+use Rattle.strategy_machine.specs.Table.{scopes}
 use Rattle.strategy_machine.specs.Trails.{Shows}
 use Rattle.strategy_machine.specs.Turns.{IsDone, state_of}
 use Rattle.strategy_machine.specs.declared.machine.Machine.{Machine}

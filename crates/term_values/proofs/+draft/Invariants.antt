@@ -2,8 +2,8 @@ use Rattle.std.proofs.Common.{◌≡◌, ◌≤◌, ◌+◌, ◌-◌, ◌*◌, �
 use Rattle.term_core.specs.Tree.{of_list}
 use Rattle.term_core.specs.Size.{height, heights}
 use Rattle.term_changes.specs.Standing.{after, standing_tree, standing_changes}
-use Rattle.term_patch.specs.Items.{first_item}
-use Rattle.term_patch.specs.inside.Trimmed.{items_of}
+use Rattle.term_changes.specs.Items.{first_item}
+use Rattle.term_changes.specs.inside.Trimmed.{items_of}
 use Rattle.term_values.proofs.PlaceLemmas.{AllThere}
 use Rattle.term_values.proofs.+draft.Given as goal
 

@@ -1,4 +1,4 @@
-use Rattle.change_plans.proofs.ContentsLemmas.{new_slots_are_empty, tree_put, tree_taken, module_put, module_taken, subterm_put, annotations_put, tree_of_name, module_of_name}
+use Rattle.term_changes.proofs.ContentsLemmas.{new_slots_are_empty, tree_put, tree_taken, module_put, module_taken, subterm_put, annotations_put, tree_of_name, module_of_name}
 use Rattle.change_log.proofs.laws.contents_by_name.Goals as goal
 
 pub returns-clause-new_slots : goal.returns-clause-new_slots

@@ -1,4 +1,4 @@
-use Rattle.change_plans.proofs.EntryLemmas.{flips_forward, flips_back, store_from_after, store_from_before}
+use Rattle.term_changes.proofs.EntryLemmas.{flips_forward, flips_back, store_from_after, store_from_before}
 use Rattle.change_log.proofs.laws.flips_are_inverse.Goals as goal
 
 pub returns-clause-forward : goal.returns-clause-forward

@@ -1,4 +1,4 @@
-use Rattle.change_plans.proofs.EntryLemmas.{pushed_fits, rolled_back_fits, flipped_back_fits, flipped_forward_fits}
+use Rattle.term_changes.proofs.EntryLemmas.{pushed_fits, rolled_back_fits, flipped_back_fits, flipped_forward_fits}
 use Rattle.change_log.proofs.laws.logs_fit.Goals as goal
 
 pub returns-clause-pushed : goal.returns-clause-pushed

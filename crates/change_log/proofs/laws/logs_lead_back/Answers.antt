@@ -1,4 +1,4 @@
-use Rattle.change_plans.proofs.EntryLemmas.{pushed_leads_back, rolled_back_leads_back}
+use Rattle.term_changes.proofs.EntryLemmas.{pushed_leads_back, rolled_back_leads_back}
 use Rattle.change_log.proofs.laws.logs_lead_back.Goals as goal
 
 pub returns-clause-pushed : goal.returns-clause-pushed

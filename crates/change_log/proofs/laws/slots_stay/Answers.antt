@@ -1,4 +1,4 @@
-use Rattle.change_plans.proofs.ContentsLemmas.{fits_with_more, fits_forward_with_more, fits_with_more_modules, fits_forward_with_more_modules}
+use Rattle.term_changes.proofs.ContentsLemmas.{fits_with_more, fits_forward_with_more, fits_with_more_modules, fits_forward_with_more_modules}
 use Rattle.change_log.proofs.laws.slots_stay.Goals as goal
 
 pub returns-clause-trees : goal.returns-clause-trees

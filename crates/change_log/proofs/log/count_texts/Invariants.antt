@@ -1,6 +1,6 @@
 use Rattle.std.proofs.Common.{◌≡◌, ◌≤◌, List, ℕ, take}
-use Rattle.change_plans.specs.Entries.{texts}
-use Rattle.change_plans.specs.inside.LogView.{entries}
+use Rattle.term_changes.specs.Entries.{texts}
+use Rattle.term_changes.specs.inside.LogView.{entries}
 use Rattle.change_log.proofs.log.count_texts.Given as goal
 
 abbrev pub invariant-loop-entry : goal.invariant-loop-entry

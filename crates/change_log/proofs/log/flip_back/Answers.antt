@@ -1,7 +1,7 @@
 use Rattle.std.proofs.Common.{sym, ◌-◌, length, slice_index_or, arith}
 use Rattle.std.proofs.lemmas.List.{take_all}
 use Rattle.std.proofs.lemmas.Option.{slice_get-get_or}
-use Rattle.change_plans.proofs.LogLemmas.{none_flipped_back, path_begin, path_begin_all, turn_back, path_left_back}
+use Rattle.term_changes.proofs.LogLemmas.{none_flipped_back, path_begin, path_begin_all, turn_back, path_left_back}
 use Rattle.change_log.proofs.log.flip_back.Goals as goal
 
 pub loop-left-init : goal.loop-left-init

@@ -1,5 +1,5 @@
 use Rattle.std.proofs.Common.{◌≡◌, ◌≤◌, length, take}
-use Rattle.change_plans.proofs.LogLemmas.{FlippedFrom, path_begin}
+use Rattle.term_changes.proofs.LogLemmas.{FlippedFrom, path_begin}
 use Rattle.change_log.proofs.log.flip_back.Given as goal
 
 -- the entries from `left` on are flipped, and the paths of the others remain

@@ -1,6 +1,6 @@
 use Rattle.std.proofs.Common.{slice_index_or, arith}
 use Rattle.std.proofs.lemmas.Option.{slice_get-get_or}
-use Rattle.change_plans.proofs.LogLemmas.{turn_forward, path_left_forward, all_flipped_forward}
+use Rattle.term_changes.proofs.LogLemmas.{turn_forward, path_left_forward, all_flipped_forward}
 use Rattle.change_log.proofs.log.flip_forward.Goals as goal
 
 pub loop-i-preserved : goal.loop-i-preserved

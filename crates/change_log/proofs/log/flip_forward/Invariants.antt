@@ -1,6 +1,6 @@
 use Rattle.std.proofs.Common.{◌≡◌, length, drop}
-use Rattle.change_plans.specs.inside.LogView.{depths}
-use Rattle.change_plans.proofs.LogLemmas.{FlippedTo, path_begin}
+use Rattle.term_changes.specs.inside.LogView.{depths}
+use Rattle.term_changes.proofs.LogLemmas.{FlippedTo, path_begin}
 use Rattle.change_log.proofs.log.flip_forward.Given as goal
 
 -- the entries before `i` are flipped, and the paths of the others remain

@@ -1,7 +1,7 @@
 use Rattle.aterm_text.specs.Grammar.{SpellsAnnotations}
-use Rattle.session_steps.specs.Step.{AnnotatesAt, place_of}
-use Rattle.script_forms.specs.Machine.{ReadAs}
-use Rattle.script_forms.proofs.AnswerLemmas.{nowhere, placed_ok, placed_unread, placed_refused}
+use Rattle.session_history.specs.Step.{AnnotatesAt, place_of}
+use Rattle.script_text.specs.Machine.{ReadAs}
+use Rattle.script_text.proofs.AnswerLemmas.{nowhere, placed_ok, placed_unread, placed_refused}
 use Rattle.script_core.proofs.answer.annotate.Goals as goal
 
 pub returns-in-Err-clause-refused : goal.returns-in-Err-clause-refused

@@ -1,5 +1,5 @@
-use Rattle.script_forms.specs.CommandView.{form}
-use Rattle.script_forms.proofs.AnswerLemmas.{formed_ok, formed_refused}
+use Rattle.script_text.specs.CommandView.{form}
+use Rattle.script_text.proofs.AnswerLemmas.{formed_ok, formed_refused}
 use Rattle.script_core.proofs.answer.answer_form.Goals as goal
 
 pub returns-in-Ok-clause-ok : goal.returns-in-Ok-clause-ok

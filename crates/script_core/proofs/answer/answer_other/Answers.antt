@@ -1,7 +1,7 @@
 use Rattle.std.proofs.Common.{List, ℕ, subst}
-use Rattle.script_commands.specs.Handed.{text as handed_text}
-use Rattle.script_forms.specs.Answer.{TellsRefusal}
-use Rattle.script_forms.proofs.AnswerLemmas.{answered_told}
+use Rattle.script_text.specs.Handed.{text as handed_text}
+use Rattle.script_text.specs.Answer.{TellsRefusal}
+use Rattle.script_text.proofs.AnswerLemmas.{answered_told}
 use Rattle.script_core.proofs.answer.answer_other.Goals as goal
 
 pub returns-in-Err-clause-answered : goal.returns-in-Err-clause-answered

@@ -1,10 +1,10 @@
 use Rattle.std.proofs.Common.{refl, sym, subst, inr}
-use Rattle.session_steps.specs.declared.refusal.Refusal.TheVariants.{Long}
-use Rattle.script_commands.specs.declared.splitter.Piece.{Piece}
-use Rattle.script_commands.specs.Handed.{long}
-use Rattle.script_commands.specs.FedRight.{handed_out}
-use Rattle.script_forms.specs.Answer.{Answered, ReplyInRun}
-use Rattle.script_forms.proofs.AnswerLemmas.{answered_told}
+use Rattle.session_history.specs.declared.refusal.Refusal.TheVariants.{Long}
+use Rattle.script_text.specs.declared.splitter.Piece.{Piece}
+use Rattle.script_text.specs.Handed.{long}
+use Rattle.script_text.specs.FedRight.{handed_out}
+use Rattle.script_text.specs.Answer.{Answered, ReplyInRun}
+use Rattle.script_text.proofs.AnswerLemmas.{answered_told}
 use Rattle.script_core.proofs.answer.answer_piece.Goals as goal
 
 pub returns-in-Long-clause-answered : goal.returns-in-Long-clause-answered

@@ -1,6 +1,6 @@
 use Rattle.std.proofs.Common.{ap}
-use Rattle.script_forms.specs.Form.{put_form, takes_no_memory_with}
-use Rattle.script_forms.proofs.AnswerLemmas.{put_told, apart_answered, apart_refused, apart_unread}
+use Rattle.script_text.specs.Form.{put_form, takes_no_memory_with}
+use Rattle.script_text.proofs.AnswerLemmas.{put_told, apart_answered, apart_refused, apart_unread}
 use Rattle.script_core.proofs.answer.answer_put.Goals as goal
 
 pub returns-in-Ok-clause-ok : goal.returns-in-Ok-clause-ok

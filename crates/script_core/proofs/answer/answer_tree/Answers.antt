@@ -1,6 +1,6 @@
 use Rattle.std.proofs.Common.{ap, refl}
-use Rattle.script_forms.specs.Form.{tree_form, takes_no_memory_with}
-use Rattle.script_forms.proofs.AnswerLemmas.{tree_told, apart_accepted, apart_refused_told, apart_unread_told}
+use Rattle.script_text.specs.Form.{tree_form, takes_no_memory_with}
+use Rattle.script_text.proofs.AnswerLemmas.{tree_told, apart_accepted, apart_refused_told, apart_unread_told}
 use Rattle.script_core.proofs.answer.answer_tree.Goals as goal
 
 pub returns-in-Ok-set_tree-clause-answered : goal.returns-in-Ok-set_tree-clause-answered

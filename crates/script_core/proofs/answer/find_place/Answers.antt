@@ -1,5 +1,5 @@
 use Rattle.std.proofs.Common.{sym}
-use Rattle.session_steps.proofs.StepLemmas.{place_there}
+use Rattle.session_history.proofs.StepLemmas.{place_there}
 use Rattle.script_core.proofs.answer.find_place.Goals as goal
 
 pub returns-in-Some-at-clause-found : goal.returns-in-Some-at-clause-found

@@ -1,4 +1,4 @@
-use Rattle.script_forms.proofs.DumpLemmas.{dump_read_back, dump_answered}
+use Rattle.script_text.proofs.DumpLemmas.{dump_read_back, dump_answered}
 use Rattle.script_core.proofs.laws.dump_reads_back.Goals as goal
 
 pub returns : goal.returns

@@ -1,4 +1,4 @@
-use Rattle.script_forms.proofs.LawLemmas.{Replied-one}
+use Rattle.script_text.proofs.LawLemmas.{Replied-one}
 use Rattle.script_core.proofs.laws.one_run.Goals as goal
 
 pub returns : goal.returns

@@ -4,13 +4,13 @@ use Rattle.term_paths.specs.Paths.{at}
 use Rattle.term_paths.specs.Edits.{Edits, behind}
 use Rattle.term_changes.specs.Change.{Change, places}
 use Rattle.term_changes.specs.Putting.{entries_at}
-use Rattle.term_patch.specs.PatchLaws.{patch_entries}
-use Rattle.change_plans.specs.Slots.{content}
-use Rattle.change_plans.specs.Entries.{Entry}
+use Rattle.term_changes.specs.PatchLaws.{patch_entries}
+use Rattle.term_changes.specs.Slots.{content}
+use Rattle.term_changes.specs.Entries.{Entry}
 use Rattle.strategy_meaning.specs.Meaning.{run_whole}
 use Rattle.strategy_run.specs.Planning.{Plans}
-use Rattle.session_steps.specs.Applying.{world_in}
-use Rattle.session_steps.proofs.ActLemmas.{on_err}
+use Rattle.session_history.specs.Applying.{world_in}
+use Rattle.session_history.proofs.ActLemmas.{on_err}
 use Rattle.session_core.proofs.PlanLemmas.{gives_in, fits_in, planned_there, patch_entries_are}
 use Rattle.session_core.proofs.applying.apply_in_slot.Goals as goal
 

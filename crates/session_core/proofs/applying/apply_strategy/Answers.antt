@@ -1,5 +1,5 @@
 use Rattle.std.proofs.Common.{refl}
-use Rattle.session_steps.specs.Modules.{program_in}
+use Rattle.session_history.specs.Modules.{program_in}
 use Rattle.session_core.proofs.ResolveLemmas.{is_low}
 use Rattle.session_core.proofs.ApplyLemmas.{apply_ok, apply_refused}
 use Rattle.session_core.proofs.applying.apply_strategy.Goals as goal

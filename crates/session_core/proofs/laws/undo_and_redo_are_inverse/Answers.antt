@@ -1,5 +1,5 @@
-use Rattle.session_steps.proofs.SoundLemmas.{change_is_to_contents}
-use Rattle.session_steps.proofs.HistoryLemmas.{change_is_undone, group_is_undone, redo_takes_undo_back, undo_takes_redo_back}
+use Rattle.session_history.proofs.SoundLemmas.{change_is_to_contents}
+use Rattle.session_history.proofs.HistoryLemmas.{change_is_undone, group_is_undone, redo_takes_undo_back, undo_takes_redo_back}
 use Rattle.session_core.proofs.laws.undo_and_redo_are_inverse.Goals as goal
 
 pub returns-clause-contents : goal.returns-clause-contents

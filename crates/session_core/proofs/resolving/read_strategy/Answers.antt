@@ -1,7 +1,7 @@
 use Rattle.std.proofs.Common.{◌<◌, length, inr, refl, Err}
 use Rattle.strategy_tokens.specs.declared.TheConstants.{MAX_TOKENS}
 use Rattle.strategy_tokens.specs.Tokens.{tokens}
-use Rattle.session_steps.proofs.CheckLemmas.{few_tokens}
+use Rattle.session_history.proofs.CheckLemmas.{few_tokens}
 use Rattle.session_core.proofs.resolving.read_strategy.Goals as goal
 
 pub returns-in-Err-Syntax-clause-refused : goal.returns-in-Err-Syntax-clause-refused

@@ -1,4 +1,4 @@
-use Rattle.change_plans.specs.Slots.{contents}
+use Rattle.term_changes.specs.Slots.{contents}
 use Rattle.session_core.proofs.ResolveLemmas.{lent_program, unresolved_unread, unresolved_unchecked, unresolved_faulty}
 use Rattle.session_core.proofs.resolving.resolve_at.Goals as goal
 

@@ -4,9 +4,9 @@ use Rattle.std.proofs.lemmas.List.{length_push}
 use Rattle.std.proofs.lemmas.Iterator.Consumers.{YieldsList-turn, YieldsList-end}
 use Rattle.std.proofs.lemmas.Iterator.Splits.{YieldsList-from_slice_split}
 use Rattle.aterm_text.specs.Tokens.{is_blank}
-use Rattle.script_commands.specs.Script.{is_line_feed, without_end}
-use Rattle.script_commands.specs.declared.framing.Framing.TheVariants.{Continued}
-use Rattle.script_forms.specs.Laws.{IsCommandText}
+use Rattle.script_text.specs.Script.{is_line_feed, without_end}
+use Rattle.script_text.specs.declared.framing.Framing.TheVariants.{Continued}
+use Rattle.script_text.specs.Laws.{IsCommandText}
 use Rattle.stratbench.specs.Files.{next_line, trimmed}
 use Rattle.stratbench.proofs.TextLemmas.{all_lines, kept, lines_in, one_more_line, rest_of, text_is_given}
 use Rattle.stratbench.proofs.module_text.module_text.Goals as goal

@@ -4,7 +4,7 @@ use Rattle.term_match.specs.Building.{Builds}
 use Rattle.term_match.specs.declared.building.Built.{Built}
 use Rattle.strategy_meaning.specs.Matching.{build_place}
 use Rattle.strategy_meaning.specs.Scopes.{cells_in}
-use Rattle.strategy_scopes.specs.Table.{scopes, scope_at}
+use Rattle.strategy_machine.specs.Table.{scopes, scope_at}
 use Rattle.strategy_machine.proofs.arguments.build_all.Goals as goal
 
 pub each-init : goal.each-init

@@ -1,6 +1,6 @@
 use Rattle.strategy_machine.proofs.ArgumentLemmas.{BuiltSoFar}
 use Rattle.strategy_meaning.specs.Scopes.{cells_in}
-use Rattle.strategy_scopes.specs.Table.{scopes, scope_at}
+use Rattle.strategy_machine.specs.Table.{scopes, scope_at}
 use Rattle.strategy_machine.proofs.arguments.build_all.Given as goal
 
 abbrev pub invariant-each : goal.invariant-each

@@ -7,7 +7,7 @@ use Rattle.strategy_machine.specs.Turns.{state_of}
 use Rattle.strategy_meaning.specs.Scopes.{inside, numbers_from, arguments}
 use Rattle.term_match.specs.Contents.{Contents}
 use Rattle.term_match.specs.Marks.{mark_of, Before, Stays}
-use Rattle.strategy_scopes.specs.Table.{scopes, scope_at}
+use Rattle.strategy_machine.specs.Table.{scopes, scope_at}
 use Rattle.strategy_syntax.specs.Resolved.{resolveds_of}
 use Rattle.strategy_machine.proofs.calls.enter.Goals as goal
 

@@ -7,7 +7,7 @@ use Rattle.strategy_machine.specs.declared.arguments.BuiltAll.{BuiltAll}
 use Rattle.strategy_machine.specs.declared.arguments.BuiltAll.TheVariants.{All}
 use Rattle.strategy_syntax.specs.Resolved.{places_of, resolveds_of}
 use Rattle.strategy_meaning.specs.Scopes.{cells_in}
-use Rattle.strategy_scopes.specs.Table.{scopes, scope_at}
+use Rattle.strategy_machine.specs.Table.{scopes, scope_at}
 use Rattle.strategy_meaning.specs.Answer.{big}
 use Rattle.strategy_machine.proofs.calls.take_call.Goals as goal
 

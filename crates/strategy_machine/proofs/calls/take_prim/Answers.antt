@@ -7,7 +7,7 @@ use Rattle.strategy_meaning.specs.Meaning.{primitive_answer}
 use Rattle.term_core.specs.Size.{fits}
 use Rattle.strategy_syntax.specs.Resolved.{places_of}
 use Rattle.strategy_meaning.specs.Scopes.{cells_in}
-use Rattle.strategy_scopes.specs.Table.{scopes, scope_at}
+use Rattle.strategy_machine.specs.Table.{scopes, scope_at}
 use Rattle.strategy_meaning.specs.Answer.{big, done, at_root}
 use Rattle.strategy_machine.proofs.calls.take_prim.Goals as goal
 

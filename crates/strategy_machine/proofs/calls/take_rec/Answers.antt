@@ -1,5 +1,5 @@
 use Rattle.std.proofs.Common.{sym, subst, reverse}
-use Rattle.strategy_scopes.specs.Table.{scopes}
+use Rattle.strategy_machine.specs.Table.{scopes}
 use Rattle.strategy_machine.specs.Turns.{State, HoldsIn, state_of}
 use Rattle.strategy_machine.specs.inside.Endings.{frames_of}
 use Rattle.strategy_machine.specs.Hands.{Begin}

@@ -1,5 +1,5 @@
 use Rattle.std.proofs.Common.{refl, sym, ap, ◌∙◌, ◌++◌, subst, None, length, replicate, reverse}
-use Rattle.strategy_scopes.specs.Table.{scopes, scope_at}
+use Rattle.strategy_machine.specs.Table.{scopes, scope_at}
 use Rattle.strategy_meaning.specs.Scopes.{with_variables}
 use Rattle.term_match.specs.Contents.{Contents}
 use Rattle.term_match.specs.Marks.{mark_of, Before, Stays}

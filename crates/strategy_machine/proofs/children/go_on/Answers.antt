@@ -5,7 +5,7 @@ use Rattle.strategy_machine.proofs.TakeLemmas.{with_frames}
 use Rattle.strategy_machine.specs.Turns.{state_of}
 use Rattle.strategy_machine.proofs.OpenLemmas.{pushed}
 use Rattle.strategy_machine.proofs.GiveLemmas.{st}
-use Rattle.strategy_scopes.specs.Table.{scopes}
+use Rattle.strategy_machine.specs.Table.{scopes}
 use Rattle.strategy_machine.specs.Leading.{parts_now, all_parts, node_with}
 use Rattle.std.specs.Prelude.{slice_get}
 use Rattle.strategy_machine.specs.Hands.{Begin}

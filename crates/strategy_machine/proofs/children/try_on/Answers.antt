@@ -4,7 +4,7 @@ use Rattle.strategy_machine.proofs.TakeLemmas.{with_frames}
 use Rattle.strategy_machine.specs.Turns.{state_of}
 use Rattle.strategy_machine.proofs.OpenLemmas.{pushed}
 use Rattle.strategy_machine.proofs.GiveLemmas.{st}
-use Rattle.strategy_scopes.specs.Table.{scopes}
+use Rattle.strategy_machine.specs.Table.{scopes}
 use Rattle.term_match.specs.Marks.{kept, mark_of}
 use Rattle.strategy_machine.specs.Hands.{Begin}
 use Rattle.strategy_machine.specs.declared.frames.Frame.TheVariants.{Leftmost}

@@ -5,7 +5,7 @@ use Rattle.strategy_machine.proofs.TakeLemmas.{with_frames}
 use Rattle.strategy_machine.specs.Turns.{state_of}
 use Rattle.strategy_machine.proofs.OpenLemmas.{pushed}
 use Rattle.strategy_machine.proofs.GiveLemmas.{st}
-use Rattle.strategy_scopes.specs.Table.{scopes}
+use Rattle.strategy_machine.specs.Table.{scopes}
 use Rattle.strategy_machine.specs.Hands.{Begin}
 use Rattle.strategy_machine.specs.declared.frames.Frame.TheVariants.{Head}
 use Rattle.strategy_machine.proofs.congruence.take_head.Goals as goal

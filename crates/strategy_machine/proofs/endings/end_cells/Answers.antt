@@ -1,5 +1,5 @@
 use Rattle.std.proofs.Common.{refl, sym, ◌∙◌, ◌∷◌, subst, reverse, arith, List}
-use Rattle.strategy_scopes.specs.Table.{scopes}
+use Rattle.strategy_machine.specs.Table.{scopes}
 use Rattle.strategy_machine.specs.Turns.{state_of}
 use Rattle.strategy_machine.specs.inside.Endings.{LeavesCells, AnswersIn, with_those}
 use Rattle.strategy_machine.specs.declared.frames.Frame.{Frame}

@@ -1,5 +1,5 @@
 use Rattle.std.proofs.Common.{reverse, subst, sym}
-use Rattle.strategy_scopes.specs.Table.{scopes}
+use Rattle.strategy_machine.specs.Table.{scopes}
 use Rattle.strategy_machine.proofs.GiveLemmas.{st}
 use Rattle.strategy_machine.proofs.ResultLemmas.{ok_map}
 use Rattle.strategy_machine.proofs.FirstLemmas.{fail_head, fail_behind}

@@ -3,7 +3,7 @@ use Rattle.strategy_machine.proofs.TakeLemmas.{take_match_spent, take_matched_fi
 use Rattle.strategy_machine.specs.Turns.{state_of}
 use Rattle.strategy_meaning.specs.Matching.{match_place}
 use Rattle.strategy_meaning.specs.Scopes.{cells_in}
-use Rattle.strategy_scopes.specs.Table.{scopes, scope_at}
+use Rattle.strategy_machine.specs.Table.{scopes, scope_at}
 use Rattle.strategy_machine.proofs.forms.match_first.Goals as goal
 
 pub returns-then-m-eq0-clause-ok : goal.returns-then-m-eq0-clause-ok

@@ -7,7 +7,7 @@ use Rattle.term_match.specs.declared.building.Built.{Built}
 use Rattle.strategy_meaning.specs.Answer.{big, at_root, done}
 use Rattle.strategy_meaning.specs.Matching.{build_place}
 use Rattle.strategy_meaning.specs.Scopes.{cells_in}
-use Rattle.strategy_scopes.specs.Table.{scopes, scope_at}
+use Rattle.strategy_machine.specs.Table.{scopes, scope_at}
 use Rattle.strategy_machine.proofs.forms.take_build.Goals as goal
 
 pub returns-in-Nothing-clause-ok : goal.returns-in-Nothing-clause-ok

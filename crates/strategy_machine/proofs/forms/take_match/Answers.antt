@@ -3,7 +3,7 @@ use Rattle.strategy_machine.proofs.TakeLemmas.{take_matched, take_unmatched}
 use Rattle.strategy_machine.specs.Turns.{state_of}
 use Rattle.strategy_meaning.specs.Matching.{match_place}
 use Rattle.strategy_meaning.specs.Scopes.{cells_in}
-use Rattle.strategy_scopes.specs.Table.{scopes, scope_at}
+use Rattle.strategy_machine.specs.Table.{scopes, scope_at}
 use Rattle.strategy_machine.proofs.forms.take_match.Goals as goal
 
 pub returns-then-branch-clause-ok : goal.returns-then-branch-clause-ok

@@ -1,5 +1,5 @@
 use Rattle.std.proofs.Common.{reverse, sym, subst}
-use Rattle.strategy_scopes.specs.Table.{scopes}
+use Rattle.strategy_machine.specs.Table.{scopes}
 use Rattle.strategy_machine.proofs.GiveLemmas.{st, give_then, give_choice, give_test, give_leave, give_cut}
 use Rattle.std.specs.Prelude.{IfOk}
 use Rattle.strategy_machine.specs.Turns.{HoldsIn}

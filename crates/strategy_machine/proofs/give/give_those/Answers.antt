@@ -3,7 +3,7 @@ use Rattle.strategy_machine.proofs.GiveLemmas.{st, give_those}
 use Rattle.strategy_machine.proofs.FormLemmas.{those_stand}
 use Rattle.strategy_machine.proofs.ResultLemmas.{ok_map}
 use Rattle.strategy_machine.proofs.WalkLemmas.{came_up}
-use Rattle.strategy_scopes.specs.Table.{scopes}
+use Rattle.strategy_machine.specs.Table.{scopes}
 use Rattle.strategy_machine.specs.Hands.{Those}
 use Rattle.strategy_machine.specs.Turns.{HoldsIn}
 use Rattle.strategy_machine.proofs.give.give_those.Goals as goal

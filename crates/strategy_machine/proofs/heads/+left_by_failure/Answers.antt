@@ -6,7 +6,7 @@ use Rattle.strategy_syntax.specs.ResolvedView.{resolved_of}
 use Rattle.strategy_syntax.specs.Resolved.{call, param, resolveds_of}
 use Rattle.strategy_meaning.specs.Matching.{elements}
 use Rattle.strategy_meaning.specs.Meaning.{is_over, is_list_from}
-use Rattle.strategy_scopes.specs.Table.{scopes}
+use Rattle.strategy_machine.specs.Table.{scopes}
 use Rattle.strategy_machine.specs.inside.Missing.{FailsAhead}
 use Rattle.strategy_machine.proofs.CallLemmas.{slice_there}
 use Rattle.strategy_machine.proofs.HeadLemmas.{fails_fail, fails_match, fails_seq, fails_guard, fails_test, fails_over, fails_tail, fails_scope, fails_call, fails_param, ahead_is, not_over_many, not_list_many, no_patterns}

@@ -1,6 +1,6 @@
 use Rattle.std.proofs.Common.{◌≤◌, ℕ}
 use Rattle.term_changes.specs.Standing.{standing_tree}
-use Rattle.strategy_scopes.specs.Table.{scopes}
+use Rattle.strategy_machine.specs.Table.{scopes}
 use Rattle.strategy_machine.specs.inside.Missing.{FailsAhead}
 use Rattle.strategy_machine.proofs.heads.+left_by_failure.Given as goal
 

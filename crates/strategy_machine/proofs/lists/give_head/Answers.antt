@@ -3,7 +3,7 @@ use Rattle.strategy_machine.proofs.FirstLemmas.{give_head}
 use Rattle.strategy_machine.proofs.TakeLemmas.{with_frames}
 use Rattle.strategy_machine.proofs.OpenLemmas.{pushed}
 use Rattle.strategy_machine.proofs.GiveLemmas.{st}
-use Rattle.strategy_scopes.specs.Table.{scopes}
+use Rattle.strategy_machine.specs.Table.{scopes}
 use Rattle.term_changes.specs.Standing.{fresh}
 use Rattle.strategy_machine.proofs.lists.give_head.Goals as goal
 

@@ -5,7 +5,7 @@ use Rattle.term_match.specs.Marks.{mark_of, Before, Stays}
 use Rattle.term_match.specs.declared.building.Built.{Built}
 use Rattle.strategy_meaning.specs.Matching.{match_place, build_place}
 use Rattle.strategy_meaning.specs.Scopes.{Scope, cells_in, with_variables}
-use Rattle.strategy_scopes.specs.Table.{scopes, scope_at}
+use Rattle.strategy_machine.specs.Table.{scopes, scope_at}
 use Rattle.strategy_machine.specs.Turns.{State, state_of, HoldsIn}
 use Rattle.strategy_machine.specs.Hands.{Done, Failed}
 use Rattle.strategy_machine.proofs.ScopeLemmas.{one_more_is}

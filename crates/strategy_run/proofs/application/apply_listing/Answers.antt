@@ -1,6 +1,6 @@
 use Rattle.std.proofs.Common.{◌≡◌, ◌∙◌, Some, refl, sym, ap, subst}
 use Rattle.std.specs.Prelude.{option_copied}
-use Rattle.change_plans.specs.Slots.{content}
+use Rattle.term_changes.specs.Slots.{content}
 use Rattle.strategy_meaning.specs.Applied.{applied}
 use Rattle.strategy_machine.specs.Turns.{world_of}
 use Rattle.strategy_run.specs.inside.Finding.{Finds, FindsAll}

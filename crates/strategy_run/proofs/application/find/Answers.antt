@@ -3,7 +3,7 @@ use Rattle.std.proofs.lemmas.Result.{IfOk-weaker}
 use Rattle.std.specs.Prelude.{IfOk, option_copied}
 use Rattle.term_paths.specs.Paths.{at}
 use Rattle.change_log.specs.declared.store.Store.{Store}
-use Rattle.change_plans.specs.Slots.{content}
+use Rattle.term_changes.specs.Slots.{content}
 use Rattle.strategy_meaning.specs.Applied.{applied}
 use Rattle.strategy_run.specs.inside.Finding.{Finds}
 use Rattle.strategy_machine.specs.Trails.{Shows}

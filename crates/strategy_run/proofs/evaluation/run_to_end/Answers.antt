@@ -1,6 +1,6 @@
 use Rattle.std.proofs.Common.{refl}
 use Rattle.strategy_run.proofs.EndLemmas.{starts, after_is}
-use Rattle.strategy_scopes.specs.Table.{scopes}
+use Rattle.strategy_machine.specs.Table.{scopes}
 use Rattle.strategy_machine.specs.Turns.{world_of}
 use Rattle.strategy_run.proofs.evaluation.run_to_end.Goals as goal
 

@@ -1,6 +1,6 @@
 use Rattle.std.proofs.Common.{sym, subst, ◌∙◌}
-use Rattle.change_plans.specs.Entries.{before, after, Fits}
-use Rattle.term_changes.proofs.LogLemmas.{all_lead_back, all_fit}
+use Rattle.term_changes.specs.Entries.{before, after, Fits}
+use Rattle.term_changes.proofs.PlacesLogged.{all_lead_back, all_fit}
 use Rattle.strategy_run.proofs.in_place.put_in_place.Goals as goal
 
 pub returns-clause-leads_back : goal.returns-clause-leads_back

@@ -1,4 +1,4 @@
-use Rattle.term_changes.proofs.LogLemmas.{all_lead_back, all_fit}
+use Rattle.term_changes.proofs.PlacesLogged.{all_lead_back, all_fit}
 use Rattle.term_changes.proofs.laws.logs_of_changes.Goals as goal
 
 pub returns-clause-back : goal.returns-clause-back

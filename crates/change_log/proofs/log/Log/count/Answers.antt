@@ -1,5 +1,5 @@
 use Rattle.std.proofs.Common.{length, ap, arith}
-use Rattle.change_plans.proofs.LogLemmas.{length-entries}
+use Rattle.term_changes.proofs.LogLemmas.{length-entries}
 use Rattle.change_log.proofs.log.Log.count.Goals as goal
 
 pub returns : goal.returns

@@ -1,7 +1,7 @@
 use Rattle.std.proofs.Common.{◌≡◌, ◌∙◌, length, sym, ap, arith}
 use Rattle.std.proofs.lemmas.List.{take_at}
-use Rattle.change_plans.specs.Entries.{texts}
-use Rattle.change_plans.specs.inside.LogView.{entries, depths}
+use Rattle.term_changes.specs.Entries.{texts}
+use Rattle.term_changes.specs.inside.LogView.{entries, depths}
 use Rattle.change_log.proofs.FlipLemmas.{texts_back}
 use Rattle.change_log.proofs.log.Log.flip_back.Goals as goal
 

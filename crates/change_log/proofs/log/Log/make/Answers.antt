@@ -1,9 +1,9 @@
 use Rattle.std.proofs.Common.{◌≡◌, ◌∙◌, ◌++◌, ◌+◌, length, sym, ap, arith, length-append}
 use Rattle.std.proofs.lemmas.List.{take_at}
-use Rattle.change_plans.specs.Entries.{texts, flipped_forward}
-use Rattle.change_plans.specs.inside.LogView.{entries, depths}
+use Rattle.term_changes.specs.Entries.{texts, flipped_forward}
+use Rattle.term_changes.specs.inside.LogView.{entries, depths}
 use Rattle.change_log.proofs.FlipLemmas.{few_texts, texts-append, texts_forward}
-use Rattle.change_plans.proofs.LogLemmas.{length-entries, made_depths, made_entries}
+use Rattle.term_changes.proofs.LogLemmas.{length-entries, made_depths, made_entries}
 use Rattle.change_log.proofs.log.Log.make.Goals as goal
 
 pub overflow_add-self : goal.overflow_add-self

@@ -1,9 +1,9 @@
 use Rattle.std.proofs.Common.{refl, sym, ap, ◌∙◌, ◌++◌, ◌∷◌, [], length, arith}
 use Rattle.std.proofs.lemmas.List.{length_push}
-use Rattle.change_plans.specs.Entries.{found, text_of, texts}
-use Rattle.change_plans.specs.LogView.{entry_of}
-use Rattle.change_plans.specs.inside.LogView.{entries, depths}
-use Rattle.change_plans.proofs.LogLemmas.{length-entries, pushed_depths, pushed_entries}
+use Rattle.term_changes.specs.Entries.{found, text_of, texts}
+use Rattle.term_changes.specs.LogView.{entry_of}
+use Rattle.term_changes.specs.inside.LogView.{entries, depths}
+use Rattle.term_changes.proofs.LogLemmas.{length-entries, pushed_depths, pushed_entries}
 use Rattle.change_log.proofs.FlipLemmas.{few_texts, text_found, text_pushed}
 use Rattle.change_log.proofs.log.Log.push.Goals as goal
 

@@ -1,5 +1,5 @@
 use Rattle.std.proofs.Common.{arith}
-use Rattle.change_plans.proofs.LogLemmas.{rolled_once}
+use Rattle.term_changes.proofs.LogLemmas.{rolled_once}
 use Rattle.change_log.proofs.log.Log.roll_back.Goals as goal
 
 pub loop-self-preserved : goal.loop-self-preserved

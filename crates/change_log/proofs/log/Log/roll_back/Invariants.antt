@@ -1,5 +1,5 @@
 use Rattle.std.proofs.Common.{◌≡◌, ◌≤◌, length, take, drop, min}
-use Rattle.change_plans.specs.Entries.{before}
+use Rattle.term_changes.specs.Entries.{before}
 use Rattle.change_log.proofs.log.Log.roll_back.Given as goal
 
 -- the first entries remain, and the changes of the others are undone

@@ -1,10 +1,10 @@
 use Rattle.std.proofs.Common.{◌≡◌, sym, ap, ◌∙◌, ◌-◌, length, take, drop, arith}
 use Rattle.std.proofs.lemmas.List.{take_all, length-drop, length_push}
-use Rattle.change_plans.specs.Entries.{put, texts}
-use Rattle.change_plans.specs.LogView.{entry_of}
-use Rattle.change_plans.specs.inside.LogView.{entries}
+use Rattle.term_changes.specs.Entries.{put, texts}
+use Rattle.term_changes.specs.LogView.{entry_of}
+use Rattle.term_changes.specs.inside.LogView.{entries}
 use Rattle.change_log.proofs.FlipLemmas.{text_popped}
-use Rattle.change_plans.proofs.LogLemmas.{popped_depth, popped_depths, popped_entries, all_but_newest, before_newest}
+use Rattle.term_changes.proofs.LogLemmas.{popped_depth, popped_depths, popped_entries, all_but_newest, before_newest}
 use Rattle.change_log.proofs.log.Log.take_back.Goals as goal
 
 pub overflow_sub-begin : goal.overflow_sub-begin

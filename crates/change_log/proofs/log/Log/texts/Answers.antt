@@ -1,5 +1,5 @@
 use Rattle.std.proofs.Common.{◌≡◌, sym}
-use Rattle.change_plans.specs.Entries.{texts}
+use Rattle.term_changes.specs.Entries.{texts}
 use Rattle.change_log.proofs.TextLemmas.{no_texts_in}
 use Rattle.change_log.proofs.log.Log.texts.Goals as goal
 

@@ -1,6 +1,6 @@
 use Rattle.std.proofs.Common.{◌∙◌, Some, option_and_then, unwrap_or, refl, sym, ap}
 use Rattle.term_paths.specs.Paths.{at, set_at}
-use Rattle.change_plans.proofs.SlotLemmas.{tree_stays, empty_put, tree_put, found_part, set_or_stays, old_or_stays}
+use Rattle.term_changes.proofs.SlotLemmas.{tree_stays, empty_put, tree_put, found_part, set_or_stays, old_or_stays}
 use Rattle.change_log.proofs.slots.Slots+Term.swap_subterm.Goals as goal
 
 pub returns-in_default-clause-slots : goal.returns-in_default-clause-slots

@@ -1,6 +1,6 @@
 use Rattle.std.proofs.Common.{◌∙◌, ap}
-use Rattle.change_plans.specs.Slots.{slot_of}
-use Rattle.change_plans.proofs.SlotLemmas.{position-slot_of}
+use Rattle.term_changes.specs.Slots.{slot_of}
+use Rattle.term_changes.proofs.SlotLemmas.{position-slot_of}
 use Rattle.change_log.proofs.slots.Slots.find.Goals as goal
 
 pub returns-clause-slot : goal.returns-clause-slot

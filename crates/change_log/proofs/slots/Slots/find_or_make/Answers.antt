@@ -1,6 +1,6 @@
 use Rattle.std.proofs.Common.{◌∙◌, sym, ap, Some}
-use Rattle.change_plans.specs.Slots.{slot_of}
-use Rattle.change_plans.proofs.SlotLemmas.{slot_stays, slot_made}
+use Rattle.term_changes.specs.Slots.{slot_of}
+use Rattle.term_changes.proofs.SlotLemmas.{slot_stays, slot_made}
 use Rattle.change_log.proofs.slots.Slots.find_or_make.Goals as goal
 
 pub returns-in-Some-clause-ok : goal.returns-in-Some-clause-ok

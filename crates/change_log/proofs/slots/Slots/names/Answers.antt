@@ -1,5 +1,5 @@
 use Rattle.std.proofs.Common.{subst}
-use Rattle.change_plans.specs.Slots.{AreApart}
+use Rattle.term_changes.specs.Slots.{AreApart}
 use Rattle.change_log.proofs.NameLemmas.{sorted_names, all_taken}
 use Rattle.change_log.proofs.slots.Slots.names.Goals as goal
 

@@ -1,6 +1,6 @@
 use Rattle.std.proofs.Common.{◌≡◌, ◌++◌}
 use Rattle.std.specs.Map.{keys_of}
-use Rattle.change_plans.specs.Slots.{filled}
+use Rattle.term_changes.specs.Slots.{filled}
 use Rattle.change_log.proofs.slots.Slots.names.Given as goal
 
 -- the labels taken so far, followed by those still to come, are those of all slots with content

@@ -1,5 +1,5 @@
 use Rattle.std.proofs.Common.{◌∙◌}
-use Rattle.change_plans.proofs.SlotLemmas.{nothing_put, found_at}
+use Rattle.term_changes.proofs.SlotLemmas.{nothing_put, found_at}
 use Rattle.change_log.proofs.slots.Slots.swap.Goals as goal
 
 pub returns-in_default-clause-slots : goal.returns-in_default-clause-slots

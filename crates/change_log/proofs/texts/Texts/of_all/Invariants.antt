@@ -1,5 +1,5 @@
 use Rattle.std.proofs.Common.{◌≡◌, List, ℕ, take}
-use Rattle.change_plans.specs.inside.LogView.{entries}
+use Rattle.term_changes.specs.inside.LogView.{entries}
 use Rattle.change_log.specs.Texts.{texts_in}
 use Rattle.change_log.proofs.texts.Texts.of_all.Given as goal
 

@@ -1,7 +1,7 @@
 use Rattle.std.proofs.Common.{refl, ap, Ok, true, false, length, ◌∙◌}
 use Rattle.std.proofs.KnownBytes.{Consumes-nil}
 use Rattle.script_core.specs.Ran.{streams}
-use Rattle.script_forms.specs.Answer.{ReplyInRun}
+use Rattle.script_text.specs.Answer.{ReplyInRun}
 use Rattle.script_core.proofs.RunningLemmas.{Progress-none, Progress-more, Progress-fault, Progress-unflushed, Progress-last, Progress-last-unflushed, turn_is}
 use Rattle.script_core.proofs.running.Running.answer_all.Goals as goal
 

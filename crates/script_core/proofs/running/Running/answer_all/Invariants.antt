@@ -1,7 +1,7 @@
 use Rattle.std.proofs.Common.{◌≡◌, ◌≤◌, length, vec_capacity}
-use Rattle.script_forms.specs.declared.telling.TheConstants.{ANSWER_ROOM}
+use Rattle.script_text.specs.declared.telling.TheConstants.{ANSWER_ROOM}
 use Rattle.script_core.specs.declared.running.TheConstants.{PIECE}
-use Rattle.script_forms.specs.Answer.{ReplyInRun}
+use Rattle.script_text.specs.Answer.{ReplyInRun}
 use Rattle.script_core.specs.Ran.{streams}
 use Rattle.script_core.proofs.RunningLemmas.{Progress}
 use Rattle.script_core.proofs.running.Running.answer_all.Given as goal

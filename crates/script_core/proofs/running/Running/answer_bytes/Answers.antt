@@ -1,6 +1,6 @@
 use Rattle.std.proofs.Common.{refl, ◌∙◌}
 use Rattle.std.proofs.lemmas.List.{take_rest}
-use Rattle.script_forms.specs.Answer.{ReplyInRun}
+use Rattle.script_text.specs.Answer.{ReplyInRun}
 use Rattle.script_core.proofs.RunningLemmas.{OnErr-from, Underway-none, Underway-more, Underway-all, Breaks-more, goes_on_is, stops_is}
 use Rattle.script_core.proofs.running.Running.answer_bytes.Goals as goal
 

@@ -1,6 +1,6 @@
 use Rattle.std.proofs.Common.{◌≡◌, ◌≤◌, length, vec_capacity, true}
-use Rattle.script_forms.specs.declared.telling.TheConstants.{ANSWER_ROOM}
-use Rattle.script_forms.specs.Answer.{ReplyInRun}
+use Rattle.script_text.specs.declared.telling.TheConstants.{ANSWER_ROOM}
+use Rattle.script_text.specs.Answer.{ReplyInRun}
 use Rattle.script_core.specs.inside.Running.{Underway}
 use Rattle.script_core.proofs.running.Running.answer_bytes.Given as goal
 

@@ -1,5 +1,5 @@
 use Rattle.std.proofs.Common.{refl, sym, ◌∙◌}
-use Rattle.script_forms.specs.Answer.{ReplyInRun}
+use Rattle.script_text.specs.Answer.{ReplyInRun}
 use Rattle.script_core.proofs.RunningLemmas.{OnErr-from, Ends-ready, Breaks-ready, Ends-none}
 use Rattle.script_core.proofs.running.Running.answer_last.Goals as goal
 

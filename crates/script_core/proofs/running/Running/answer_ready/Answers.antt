@@ -1,7 +1,7 @@
 use Rattle.std.proofs.Common.{refl, not}
-use Rattle.script_commands.specs.FedRight.{handed_out}
-use Rattle.script_forms.specs.Answer.{ReplyInRun}
-use Rattle.script_forms.proofs.RunLemmas.{Answered-alone, Completes-one, BreaksOff-one}
+use Rattle.script_text.specs.FedRight.{handed_out}
+use Rattle.script_text.specs.Answer.{ReplyInRun}
+use Rattle.script_text.proofs.RunLemmas.{Answered-alone, Completes-one, BreaksOff-one}
 use Rattle.script_core.proofs.RunningLemmas.{OnErr-from, ready_answered, true_or, false_or}
 use Rattle.script_core.proofs.running.Running.answer_ready.Goals as goal
 

@@ -1,7 +1,7 @@
 use Rattle.std.proofs.Common.{[], refl, ◌∙◌, arith}
 use Rattle.std.proofs.lemmas.List.{length-take}
 use Rattle.std.proofs.KnownBytes.{Consumes-nil}
-use Rattle.script_forms.specs.Answer.{ReplyInRun}
+use Rattle.script_text.specs.Answer.{ReplyInRun}
 use Rattle.script_core.proofs.RunningLemmas.{Breaks-flush, turned}
 use Rattle.script_core.proofs.running.Running.turn.Goals as goal
 

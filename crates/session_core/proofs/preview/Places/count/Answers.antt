@@ -1,5 +1,5 @@
 use Rattle.std.proofs.Common.{length, sym, ap, ◌∙◌}
-use Rattle.change_plans.proofs.LogLemmas.{length-entries}
+use Rattle.term_changes.proofs.LogLemmas.{length-entries}
 use Rattle.session_core.proofs.preview.Places.count.Goals as goal
 
 pub returns : goal.returns

@@ -1,5 +1,5 @@
-use Rattle.session_steps.specs.Step.{annotate}
-use Rattle.session_steps.proofs.ActLemmas.{ok_seen, refused_seen, err_seen, sound_seen, kept_seen}
+use Rattle.session_history.specs.Step.{annotate}
+use Rattle.session_history.proofs.ActLemmas.{ok_seen, refused_seen, err_seen, sound_seen, kept_seen}
 use Rattle.session_core.proofs.session.Session.annotate.Goals as goal
 
 pub invariant_of-self : goal.invariant_of-self

@@ -1,6 +1,6 @@
-use Rattle.session_steps.specs.Step.{apply, ComesTo}
-use Rattle.session_steps.proofs.SoundLemmas.{step_sound}
-use Rattle.session_steps.proofs.ActLemmas.{said_sound}
+use Rattle.session_history.specs.Step.{apply, ComesTo}
+use Rattle.session_history.proofs.SoundLemmas.{step_sound}
+use Rattle.session_history.proofs.ActLemmas.{said_sound}
 use Rattle.session_core.proofs.session.Session.apply.Goals as goal
 
 pub invariant_of-self : goal.invariant_of-self

@@ -1,7 +1,7 @@
 use Rattle.std.proofs.Common.{sym, subst}
-use Rattle.change_plans.specs.Slots.{contents}
-use Rattle.session_steps.specs.History.{HasSoundContents}
-use Rattle.session_steps.proofs.SoundLemmas.{sound_no_contents}
+use Rattle.term_changes.specs.Slots.{contents}
+use Rattle.session_history.specs.History.{HasSoundContents}
+use Rattle.session_history.proofs.SoundLemmas.{sound_no_contents}
 use Rattle.session_core.proofs.session.Session.new.Goals as goal
 
 pub invariant_of-result : goal.invariant_of-result

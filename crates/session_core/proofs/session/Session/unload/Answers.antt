@@ -1,7 +1,7 @@
-use Rattle.session_steps.specs.Step.{unload, ComesTo}
-use Rattle.session_steps.specs.Unfolded.{unfolded}
-use Rattle.session_steps.proofs.SoundLemmas.{step_sound}
-use Rattle.session_steps.proofs.ActLemmas.{said_ok, said_refused, said_err, said_sound}
+use Rattle.session_history.specs.Step.{unload, ComesTo}
+use Rattle.session_history.specs.Unfolded.{unfolded}
+use Rattle.session_history.proofs.SoundLemmas.{step_sound}
+use Rattle.session_history.proofs.ActLemmas.{said_ok, said_refused, said_err, said_sound}
 use Rattle.session_core.proofs.session.Session.unload.Goals as goal
 
 pub invariant_of-self : goal.invariant_of-self

@@ -1,7 +1,7 @@
 use Rattle.std.proofs.Common.{◌∙◌, ◌++◌, ap}
 use Rattle.term_changes.specs.Change.{places}
 use Rattle.term_changes.specs.Standing.{standing_change}
-use Rattle.term_patch.specs.inside.Trimmed.{item_of}
+use Rattle.term_changes.specs.inside.Trimmed.{item_of}
 use Rattle.term_values.proofs.PatchLemmas.{all_places}
 use Rattle.term_values.proofs.part.Part.patch.Goals as goal
 

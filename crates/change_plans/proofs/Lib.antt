@@ -1,4 +1,0 @@
-pub mod SlotLemmas
-pub mod EntryLemmas
-pub mod ContentsLemmas
-pub mod LogLemmas

@@ -1,9 +1,0 @@
-pub mod Contents
-pub mod Slots
-pub mod Entries
-pub mod Compact
-pub mod Laws
-pub use Rattle.term_core.specs.Tree
-pub use Rattle.term_paths.specs.Paths
-pub mod LogView
-pub mod inside

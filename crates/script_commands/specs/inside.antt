@@ -1,4 +1,0 @@
-pub mod HandedCode
-pub mod Passing
-pub mod PendingView
-pub mod SplitView

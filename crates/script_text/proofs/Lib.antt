@@ -1,0 +1,17 @@
+pub mod HandedLemmas
+pub mod ReturnLemmas
+pub mod FramingLemmas
+pub mod LineLemmas
+pub mod OwnLineLemmas
+pub mod SplitLemmas
+pub mod SplitRunLemmas
+pub mod AnswerLemmas
+pub mod WriteLemmas
+pub mod RunLemmas
+pub mod LawLemmas
+pub mod DumpText
+pub mod DumpContents
+pub mod DumpLemmas
+pub mod DumpRows
+pub mod DefinitionRows
+pub mod FormLemmas

@@ -1,0 +1,270 @@
+-- Lemmas on runs: one command, several in order, and a run that fails partway.
+use Rattle.std.proofs.Common.{◌≡◌, ◌<◌, ◌+◌, ℕ, Bool, cond, true, false, not, ◌&&◌, List, [], ◌∷◌, ◌++◌, Some, None, Ok, Err, refl, sym, ap, ◌∙◌, subst, append_assoc, append-nil, arith}
+use Rattle.std.specs.declared.option.Option.{Option}
+use Rattle.std.specs.Prelude.{is_ok, is_err, count_by}
+use Rattle.std.specs.Io.KnownBytes.{Appends, Keeps}
+use Rattle.std.proofs.KnownBytes.{Appends-trans, Appends-kept}
+use Rattle.std.proofs.lemmas.List.Concat.{flat_map-append}
+use Rattle.std.proofs.lemmas.List.Sums.{sum_by-append, sum_by-cons}
+use Rattle.std.specs.Bool.{MatchBool}
+use Rattle.session_history.specs.History.{History}
+use Rattle.script_text.specs.Handed.{Handed}
+use Rattle.script_text.specs.Machine.{Reply, Replying, history_after, written}
+use Rattle.script_text.specs.Answer.{Answered}
+use Rattle.script_text.specs.Run.{Replied, history_after_all, out, last_answer, Leads, Completes, WritesFront, BreaksOff}
+use Rattle.script_text.specs.inside.Counting.{one_if}
+use Rattle.script_text.proofs.WriteLemmas.{Appends-none}
+
+-- ---- lists of replies
+
+history_after_all-append : (h : History) (rs ss : List Reply) → history_after_all h (rs ++ ss) ≡ history_after_all (history_after_all h rs) ss
+history_after_all-append h [] ss = refl
+history_after_all-append h (r ∷ rs) ss = history_after_all-append (history_after h r) rs ss
+
+-- a run that doesn't stop at these replies
+abbrev pub GoesBehind : Bool → List Reply → Type 0
+GoesBehind stop rs = stop ≡ true → count_by is_err rs ≡ 0
+
+some_refused : (r : Reply) (rs : List Reply) → count_by is_err (r ∷ rs) ≡ 0 → is_err r ≡ true → ⊥
+some_refused (Ok x) rs e err = absurd (cc)
+some_refused (Err x) rs e err = omega (arith, e, sum_by-cons (λ r. cond (is_err r) 1 0) (Err x) rs)
+
+goes-first : (stop : Bool) (r : Reply) (rs : List Reply) → GoesBehind stop (r ∷ rs) → (stop && is_err r) ≡ false
+goes-first false r rs g = refl
+goes-first true (Ok x) rs g = refl
+goes-first true (Err x) rs g = absurd (some_refused (Err x) rs (g refl) refl)
+
+goes-rest : (stop : Bool) (r : Reply) (rs : List Reply) → GoesBehind stop (r ∷ rs) → GoesBehind stop rs
+goes-rest stop (Ok x) rs g e = g e
+goes-rest stop (Err x) rs g e = absurd (some_refused (Err x) rs (g e) refl)
+
+-- the replies after which the run goes on, followed by those to the later commands
+Replied-append : (stop : Bool) (Rule : Replying) (cs ds : List Handed) (fs gs : List Bool) (h : History) (rs ss : List Reply) → GoesBehind stop rs → Replied stop Rule cs fs h rs →
+    Replied stop Rule ds gs (history_after_all h rs) ss → Replied stop Rule (cs ++ ds) (fs ++ gs) h (rs ++ ss)
+Replied-append stop Rule [] ds [] gs h [] ss g p q = q
+Replied-append stop Rule (c ∷ cs) ds (f ∷ fs) gs h (r ∷ rs) ss g p q =
+    let goes = goes-first stop r rs g in
+    let rest : Replied stop Rule cs fs (history_after h r) rs = subst (λ (b : Bool). MatchBool b ((fs ≡ []) × (rs ≡ [])) (Replied stop Rule cs fs (history_after h r) rs)) goes p.1 in (
+      p.0,
+      subst (λ (b : Bool). MatchBool b ((fs ++ gs ≡ []) × (rs ++ ss ≡ [])) (Replied stop Rule (cs ++ ds) (fs ++ gs) (history_after h r) (rs ++ ss))) (sym goes)
+          (Replied-append stop Rule cs ds fs gs (history_after h r) rs ss (goes-rest stop r rs g) rest q),
+    )
+Replied-append stop Rule [] ds [] gs h (r ∷ rs) ss g p q = absurd p
+Replied-append stop Rule [] ds (f ∷ fs) gs h rs ss g p q = absurd p
+Replied-append stop Rule (c ∷ cs) ds [] gs h rs ss g p q = absurd p
+Replied-append stop Rule (c ∷ cs) ds (f ∷ fs) gs h [] ss g p q = absurd p
+
+-- if the run stopped, no later command is replied to
+Replied-stopped : (stop : Bool) (Rule : Replying) (cs ds : List Handed) (fs : List Bool) (h : History) (rs : List Reply) → stop ≡ true → 0 < count_by is_err rs → Replied stop Rule cs fs h rs →
+    Replied stop Rule (cs ++ ds) fs h rs
+Replied-stopped stop Rule [] ds [] h [] e some p = absurd (omega (arith, some))
+Replied-stopped stop Rule (c ∷ cs) ds (f ∷ fs) h (Ok x ∷ rs) e some p =
+    let Behind : Bool → List Handed → Type 0 = λ b commands. MatchBool (b && false) ((fs ≡ []) × (rs ≡ [])) (Replied stop Rule commands fs (history_after h (Ok x)) rs) in
+    let rest = Replied-stopped stop Rule cs ds fs (history_after h (Ok x)) rs e some (subst (λ (b : Bool). Behind b cs) e p.1) in (
+      p.0,
+      subst (λ (b : Bool). Behind b (cs ++ ds)) (sym e) rest,
+    )
+Replied-stopped stop Rule (c ∷ cs) ds (f ∷ fs) h (Err x ∷ rs) e some p =
+    let Behind : Bool → List Handed → Type 0 = λ b commands. MatchBool (b && true) ((fs ≡ []) × (rs ≡ [])) (Replied stop Rule commands fs (history_after h (Err x)) rs) in
+    let ends = subst (λ (b : Bool). Behind b cs) e p.1 in (p.0, subst (λ (b : Bool). Behind b (cs ++ ds)) (sym e) ends)
+Replied-stopped stop Rule [] ds [] h (r ∷ rs) e some p = absurd p
+Replied-stopped stop Rule [] ds (f ∷ fs) h rs e some p = absurd p
+Replied-stopped stop Rule (c ∷ cs) ds [] h rs e some p = absurd p
+Replied-stopped stop Rule (c ∷ cs) ds (f ∷ fs) h [] e some p = absurd p
+
+last_answer-append : (rs : List Reply) (s : Reply) (ss : List Reply) → last_answer (rs ++ (s ∷ ss)) ≡ last_answer (s ∷ ss)
+last_answer-append [] s ss = refl
+last_answer-append (r ∷ []) s ss = refl
+last_answer-append (r ∷ (t ∷ rs)) s ss = last_answer-append (t ∷ rs) s ss
+
+append-empty : {A : Type 0} (xs ys : List A) → [] ≡ xs ++ ys → ys ≡ []
+append-empty [] ys e = sym e
+append-empty (x ∷ xs) ys e = absurd (cc)
+
+Leads-append : (stop : Bool) (Rule : Replying) (cs ds : List Handed) (h g k : History) (fs gs : List Bool) (rs ss : List Reply) → GoesBehind stop rs → Leads stop Rule cs h g fs rs → Leads stop Rule ds g k gs ss →
+    Leads stop Rule (cs ++ ds) h k (fs ++ gs) (rs ++ ss)
+Leads-append stop Rule cs ds h g k fs gs rs ss goes p q = record {
+  replied = Replied-append stop Rule cs ds fs gs h rs ss goes p.replied (subst (λ (x : History). Replied stop Rule ds gs x ss) p.history q.replied);
+  history = q.history ∙ ap (λ (x : History). history_after_all x ss) p.history ∙ sym (history_after_all-append h rs ss);
+}
+
+count_by-append : (p : Reply → Bool) (rs ss : List Reply) → count_by p (rs ++ ss) ≡ count_by p rs + count_by p ss
+count_by-append p rs ss = sum_by-append (λ r. cond (p r) 1 0) rs ss
+
+pub one_if-total : (b : Bool) → one_if b + one_if (not b) ≡ 1
+one_if-total true = refl
+one_if-total false = refl
+
+-- ---- one command
+
+Replied-one : (stop : Bool) (Rule : Replying) (command : Handed) (flag : Bool) (h : History) (r : Reply) → Rule command flag h r → Replied stop Rule (command ∷ []) (flag ∷ []) h (r ∷ [])
+Replied-one stop Rule command flag h r p = (p, at (stop && is_err r))
+  where
+    at : (b : Bool) → MatchBool b ((◌≡◌ {A = List Bool} [] []) × (◌≡◌ {A = List Reply} [] [])) (Replied stop Rule [] [] (history_after h r) [])
+    at true = (refl, refl)
+    at false = tt
+
+Leads-one : (stop : Bool) (Rule : Replying) (command : Handed) (h g : History) (before after : List ℕ) (verdict : Bool) (a : Answered Rule command h g before after verdict) →
+    Leads stop Rule (command ∷ []) h g (a.flag ∷ []) (a.reply ∷ [])
+Leads-one stop Rule command h g before after verdict a = record { replied = Replied-one stop Rule command a.flag h a.reply a.replied; history = a.history }
+
+one_ok : (verdict : Bool) (reply : Reply) → verdict ≡ is_ok reply → (one_if verdict ≡ count_by is_ok (reply ∷ [])) × (one_if (not verdict) ≡ count_by is_err (reply ∷ []))
+one_ok verdict (Ok x) e = (ap one_if e, ap (λ (b : Bool). one_if (not b)) e)
+one_ok verdict (Err x) e = (ap one_if e, ap (λ (b : Bool). one_if (not b)) e)
+
+-- the buffer was empty before, and is sent
+pub Answered-alone : (Rule : Replying) (command : Handed) (h g : History) (before bytes sent : List ℕ) (verdict : Bool) → before ≡ [] → sent ≡ bytes → Answered Rule command h g before bytes verdict → Answered Rule command h g [] sent verdict
+Answered-alone Rule command h g before bytes sent verdict e s a =
+    subst (λ (xs : List ℕ). Answered Rule command h g xs sent verdict) e (subst (λ (ys : List ℕ). Answered Rule command h g before ys verdict) (sym s) a)
+
+-- a command that was answered into an empty buffer, which was written
+pub Completes-one : (stop : Bool) (Rule : Replying) (command : Handed) (h g : History) (bytes : List ℕ) (verdict : Bool) (old new : Option (List ℕ)) →
+    Answered Rule command h g [] bytes verdict → Appends old new bytes → Completes stop Rule (command ∷ []) h g old new (one_if verdict) (one_if (not verdict))
+Completes-one stop Rule command h g bytes verdict old new a w = record {
+  flags = a.flag ∷ [];
+  replies = a.reply ∷ [];
+  leads = Leads-one stop Rule command h g [] bytes verdict a;
+  written = subst (λ (xs : List ℕ). Appends old new xs) (a.answer ∙ sym (append-nil (written a.reply))) w;
+  accepted = (one_ok verdict a.reply a.accepted).0;
+  refused = (one_ok verdict a.reply a.accepted).1;
+}
+
+pub BreaksOff-one : (stop : Bool) (Rule : Replying) (command : Handed) (h g : History) (bytes : List ℕ) (verdict : Bool) (old new : Option (List ℕ)) (lost : List ℕ) →
+    Answered Rule command h g [] bytes verdict → WritesFront old new bytes lost → BreaksOff stop Rule (command ∷ []) h g old new
+BreaksOff-one stop Rule command h g bytes verdict old new lost a w = record {
+  first = command ∷ [];
+  others = [];
+  split = refl;
+  flags = a.flag ∷ [];
+  replies = a.reply ∷ [];
+  leads = Leads-one stop Rule command h g [] bytes verdict a;
+  lost = lost;
+  written = record { kept = w.kept; all = append-nil (written a.reply) ∙ sym a.answer ∙ w.all; written = w.written };
+  front = w.kept;
+  last = sym a.answer ∙ w.all;
+}
+
+-- ---- several in order
+
+pub Completes-none : (stop : Bool) (Rule : Replying) (h : History) (a : Option (List ℕ)) → Completes stop Rule [] h h a a 0 0
+Completes-none stop Rule h a = record { flags = []; replies = []; leads = record { replied = tt; history = refl }; written = Appends-none a a (kept a); accepted = refl; refused = refl }
+  where
+    kept : (o : Option (List ℕ)) → Keeps o o
+    kept None = tt
+    kept (Some xs) = refl
+
+goes_from : (stop : Bool) (n : ℕ) (rs : List Reply) → n ≡ count_by is_err rs → (stop ≡ true → n ≡ 0) → GoesBehind stop rs
+goes_from stop n rs e goes s = sym e ∙ goes s
+
+pub Completes-append : (stop : Bool) (Rule : Replying) (cs ds : List Handed) (h g k : History) (a b c : Option (List ℕ)) (y n z m : ℕ) → (stop ≡ true → n ≡ 0) → Completes stop Rule cs h g a b y n → Completes stop Rule ds g k b c z m →
+    Completes stop Rule (cs ++ ds) h k a c (y + z) (n + m)
+Completes-append stop Rule cs ds h g k a b c y n z m goes p q = record {
+  flags = p.flags ++ q.flags;
+  replies = p.replies ++ q.replies;
+  leads = Leads-append stop Rule cs ds h g k p.flags q.flags p.replies q.replies (goes_from stop n p.replies p.refused goes) p.leads q.leads;
+  written = subst (λ (xs : List ℕ). Appends a c xs) (sym (flat_map-append written p.replies q.replies)) (Appends-trans a b c _ _ p.written q.written);
+  accepted = omega (arith, p.accepted, q.accepted, count_by-append is_ok p.replies q.replies);
+  refused = omega (arith, p.refused, q.refused, count_by-append is_err p.replies q.replies);
+}
+
+-- a run that stopped answers no later command
+pub Completes-stopped : (stop : Bool) (Rule : Replying) (cs ds : List Handed) (h g : History) (a b : Option (List ℕ)) (y n : ℕ) → stop ≡ true → 0 < n → Completes stop Rule cs h g a b y n → Completes stop Rule (cs ++ ds) h g a b y n
+Completes-stopped stop Rule cs ds h g a b y n e some p = record {
+  flags = p.flags;
+  replies = p.replies;
+  leads = record {
+    replied = Replied-stopped stop Rule cs ds p.flags h p.replies e (omega (arith, some, p.refused)) p.leads.replied;
+    history = p.leads.history;
+  };
+  written = p.written;
+  accepted = p.accepted;
+  refused = p.refused;
+}
+
+pub BreaksOff-append : (stop : Bool) (Rule : Replying) (cs ds : List Handed) (h g k : History) (a b c : Option (List ℕ)) (y n : ℕ) → (stop ≡ true → n ≡ 0) → Completes stop Rule cs h g a b y n → BreaksOff stop Rule ds g k b c →
+    BreaksOff stop Rule (cs ++ ds) h k a c
+BreaksOff-append stop Rule cs ds h g k a b c y n goes p q = record {
+  first = cs ++ q.first;
+  others = q.others;
+  split = ap (λ (xs : List Handed). cs ++ xs) q.split ∙ sym (append_assoc cs q.first q.others);
+  flags = p.flags ++ q.flags;
+  replies = p.replies ++ q.replies;
+  leads = Leads-append stop Rule cs q.first h g k p.flags q.flags p.replies q.replies (goes_from stop n p.replies p.refused goes) p.leads q.leads;
+  lost = q.lost;
+  written = record {
+    kept = out p.replies ++ q.written.kept;
+    all = flat_map-append written p.replies q.replies ∙ ap (λ (xs : List ℕ). out p.replies ++ xs) q.written.all ∙ sym (append_assoc (out p.replies) q.written.kept q.lost);
+    written = Appends-trans a b c _ _ p.written q.written.written;
+  };
+  front = (last p.replies q.replies q.front q.lost q.last).0;
+  last = (last p.replies q.replies q.front q.lost q.last).1;
+}
+  where
+    last : (rs ss : List Reply) (front lost : List ℕ) → last_answer ss ≡ front ++ lost → (f : List ℕ) × (last_answer (rs ++ ss) ≡ f ++ lost)
+    last rs [] front lost e = (last_answer (rs ++ []), sym (append-nil _) ∙ ap (λ (xs : List ℕ). last_answer (rs ++ []) ++ xs) (sym (append-empty front lost e)))
+    last rs (s ∷ ss) front lost e = (front, last_answer-append rs s ss ∙ e)
+
+-- the commands after those at which a run failed aren't answered
+pub BreaksOff-longer : (stop : Bool) (Rule : Replying) (cs ds : List Handed) (h g : History) (a b : Option (List ℕ)) → BreaksOff stop Rule cs h g a b → BreaksOff stop Rule (cs ++ ds) h g a b
+BreaksOff-longer stop Rule cs ds h g a b p = record {
+  first = p.first;
+  others = p.others ++ ds;
+  split = ap (λ (xs : List Handed). xs ++ ds) p.split ∙ append_assoc p.first p.others ds;
+  flags = p.flags;
+  replies = p.replies;
+  leads = p.leads;
+  lost = p.lost;
+  written = p.written;
+  front = p.front;
+  last = p.last;
+}
+
+-- ---- a flush
+
+pub Completes-flushed : (stop : Bool) (Rule : Replying) (cs : List Handed) (h g : History) (a b c : Option (List ℕ)) (y n : ℕ) → Completes stop Rule cs h g a b y n → Keeps b c → Completes stop Rule cs h g a c y n
+Completes-flushed stop Rule cs h g a b c y n p k = record {
+  flags = p.flags;
+  replies = p.replies;
+  leads = p.leads;
+  written = Appends-kept a b c _ p.written k;
+  accepted = p.accepted;
+  refused = p.refused;
+}
+
+pub BreaksOff-flush : (stop : Bool) (Rule : Replying) (cs : List Handed) (h g : History) (a b c : Option (List ℕ)) (y n : ℕ) → Completes stop Rule cs h g a b y n → Keeps b c → BreaksOff stop Rule cs h g a c
+BreaksOff-flush stop Rule cs h g a b c y n p k = record {
+  first = cs;
+  others = [];
+  split = sym (append-nil cs);
+  flags = p.flags;
+  replies = p.replies;
+  leads = p.leads;
+  lost = [];
+  written = record { kept = out p.replies; all = sym (append-nil _); written = Appends-kept a b c _ p.written k };
+  front = last_answer p.replies;
+  last = sym (append-nil _);
+}
+
+pub Completes-after : (stop : Bool) (Rule : Replying) (cs : List Handed) (h g : History) (a b c : Option (List ℕ)) (y n : ℕ) → Keeps a b → Completes stop Rule cs h g b c y n → Completes stop Rule cs h g a c y n
+Completes-after stop Rule cs h g a b c y n k p = record {
+  flags = p.flags;
+  replies = p.replies;
+  leads = p.leads;
+  written = Appends-trans a b c [] (out p.replies) (Appends-none a b k) p.written;
+  accepted = p.accepted;
+  refused = p.refused;
+}
+
+pub BreaksOff-after : (stop : Bool) (Rule : Replying) (cs : List Handed) (h g : History) (a b c : Option (List ℕ)) → Keeps a b → BreaksOff stop Rule cs h g b c → BreaksOff stop Rule cs h g a c
+BreaksOff-after stop Rule cs h g a b c k p = record {
+  first = p.first;
+  others = p.others;
+  split = p.split;
+  flags = p.flags;
+  replies = p.replies;
+  leads = p.leads;
+  lost = p.lost;
+  written = record { kept = p.written.kept; all = p.written.all; written = Appends-trans a b c [] p.written.kept (Appends-none a b k) p.written.written };
+  front = p.front;
+  last = p.last;
+}

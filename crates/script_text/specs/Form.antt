@@ -1,0 +1,271 @@
+-- The forms of commands, as their bytes spell them.
+use Rattle.std.specs.Prelude.{ℕ, Bool, true, false, not, ◌||◌, ◌&&◌, nat_eq, nat_le, List, [], ◌∷◌, drop, codes, Some, None, Ok, Err, is_some, option_map, option_and_then, if◌then◌else◌}
+use Rattle.std.specs.declared.option.Option.{Option}
+use Rattle.std.specs.declared.result.Result.{Result}
+use Rattle.std.specs.List.{before_first, position_or_len}
+use lib.Pointwise.{pointwise}
+use Rattle.term_core.specs.Word.{label_of}
+use Rattle.term_paths.specs.PathText.{path_of, part_of}
+use Rattle.aterm_text.specs.Tokens.{is_blank, without_blanks}
+use Rattle.session_history.specs.declared.refusal.Refusal.{Refusal}
+use Rattle.session_history.specs.declared.refusal.Refusal.TheVariants.{Line, Name}
+use Rattle.script_text.specs.Script.{without_end}
+use Rattle.session_history.specs.Steps.{AreSteps}
+use Rattle.session_history.specs.declared.TheConstants.{MAX_STEPS}
+
+-- The operands are names, paths, numbers of steps and texts, in the order of the command.
+pub data Form : Type 0 where
+  tree : List ℕ → List ℕ → Form  -- sets the tree of the name to the term of the text
+  copy : List ℕ → List ℕ → Form  -- sets the tree of the second name to a copy of that of the first
+  drop_tree : List ℕ → Form  -- removes the tree of the name
+  put : List ℕ → List ℕ → List ℕ → Form  -- replaces the subterm at the path by the term of the text
+  annotate : List ℕ → List ℕ → List ℕ → Form  -- replaces the annotations there by those of the text
+  set_module : List ℕ → List ℕ → Form  -- sets the module of the name to that of the text
+  unload : List ℕ → Form  -- removes the module of the name
+  apply : List ℕ → List ℕ → ℕ → List ℕ → Form  -- applies the strategy of the text at the path
+  preview : List ℕ → List ℕ → ℕ → List ℕ → Form  -- shows what that would replace
+  undo : ℕ → Form  -- goes this many steps back
+  redo : ℕ → Form  -- goes this many steps forward
+  begin : Form  -- begins a group
+  commit : Form  -- makes the changes of the group one step
+  abandon : Form  -- undoes the changes of the group
+  show : List ℕ → List ℕ → Form  -- shows the subterm at the path of the name's tree
+  trees : Form  -- lists the names of the trees
+  modules : Form  -- lists the names of the modules
+  module_text : List ℕ → Form  -- shows the text of the name's module
+  history : Form  -- counts the steps
+  dump : Form  -- writes a script that restores the contents
+
+-- ---- words, separated by blanks: spaces, tabs, line feeds and carriage returns
+
+-- the first word, empty if there is none
+abbrev pub front_word : List ℕ → List ℕ
+front_word text = before_first is_blank (without_blanks text)
+
+-- the rest after the first word
+abbrev pub behind_word : List ℕ → List ℕ
+behind_word text = drop (position_or_len is_blank (without_blanks text)) (without_blanks text)
+
+abbrev pub has_bytes : List ℕ → Bool
+has_bytes [] = false
+has_bytes (b ∷ bytes) = true
+
+abbrev pub has_word : List ℕ → Bool
+has_word text = has_bytes (front_word text)
+
+-- whether the word has the bytes of the other
+abbrev pub is_same : List ℕ → List ℕ → Bool
+is_same word other = pointwise nat_eq word other
+
+-- ---- parts of forms
+
+-- A form that continues with a word, given what that makes of the rest.
+abbrev pub with_word : List ℕ → (List ℕ → List ℕ → Option Form) → Option Form
+with_word rest next = if has_word rest then next (front_word rest) (behind_word rest) else None
+
+-- A form that ends here.
+abbrev pub ended : Form → List ℕ → Option Form
+ended form rest = if has_word rest then None else Some form
+
+-- A form that ends with a text: everything from the first byte that isn't a blank. It may be empty.
+abbrev pub last_text : List ℕ → List ℕ
+last_text rest = without_blanks rest
+
+-- A form that continues with a path and ends with a text.
+abbrev pub with_path_and_text : (List ℕ → List ℕ → Form) → List ℕ → Option Form
+with_path_and_text form rest =
+    option_map (λ path. form path (last_text (behind_word rest))) (path_of (front_word rest))
+
+-- A form that ends with a name.
+abbrev pub last_name : List ℕ → Option (List ℕ)
+last_name rest =
+    if has_word rest && not (has_word (behind_word rest)) then Some (front_word rest) else None
+
+-- a number of steps, from 1 to 1,000,000, written as a number in a path is
+abbrev pub within_steps : ℕ → Option ℕ
+within_steps n = if nat_le 1 n && nat_le n MAX_STEPS then Some n else None
+
+abbrev pub steps_of : List ℕ → Option ℕ
+steps_of digits = option_and_then within_steps (part_of digits)
+
+-- A form that ends with a number of steps, which is 1 if it is missing.
+abbrev pub last_steps : List ℕ → Option ℕ
+last_steps rest =
+    if has_word rest
+    then (if has_word (behind_word rest) then None else steps_of (front_word rest))
+    else Some 1
+
+-- An optional keyword followed by a word: that word, if the keyword comes next, and the rest.
+abbrev pub option_word : List ℕ → List ℕ → Option (List ℕ)
+option_word keyword rest =
+    if is_same (front_word rest) keyword then Some (front_word (behind_word rest)) else None
+
+abbrev pub behind_option : List ℕ → List ℕ → List ℕ
+behind_option keyword rest =
+    if is_same (front_word rest) keyword then behind_word (behind_word rest) else rest
+
+-- the path of a word, or the root if there is none
+abbrev pub path_or_root : Option (List ℕ) → Option (List ℕ)
+path_or_root None = Some []
+path_or_root (Some word) = path_of word
+
+-- the number of steps of a word, or this one if there is none
+abbrev pub steps_or : ℕ → Option (List ℕ) → Option ℕ
+steps_or steps None = Some steps
+steps_or steps (Some word) = steps_of word
+
+-- A form that ends with `at` and a path, both optional.
+abbrev pub last_place : List ℕ → Option (List ℕ)
+last_place rest =
+    if has_word (behind_option (codes "at") rest) then None
+    else path_or_root (option_word (codes "at") rest)
+
+-- A form that ends with `do` and a text.
+abbrev pub with_do : (List ℕ → Form) → List ℕ → Option Form
+with_do form rest =
+    if is_same (front_word rest) (codes "do") then Some (form (last_text (behind_word rest))) else None
+
+-- A form that continues with `within` and a number of steps, both optional, and ends with `do` and
+-- a text.
+abbrev pub with_budget : ℕ → (ℕ → List ℕ → Form) → List ℕ → Option Form
+with_budget steps form rest =
+    option_and_then (λ n. with_do (form n) (behind_option (codes "within") rest))
+    (steps_or steps (option_word (codes "within") rest))
+
+-- ---- forms
+
+abbrev pub tree_form : List ℕ → Option Form
+tree_form rest = with_word rest (λ name behind. Some (tree name (last_text behind)))
+
+abbrev pub copy_form : List ℕ → Option Form
+copy_form rest =
+    with_word rest (λ name behind. with_word behind (λ other end. ended (copy name other) end))
+
+abbrev pub drop_form : List ℕ → Option Form
+drop_form rest = option_map drop_tree (last_name rest)
+
+abbrev pub put_form : List ℕ → Option Form
+put_form rest = with_word rest (λ name behind. with_path_and_text (put name) behind)
+
+abbrev pub annotate_form : List ℕ → Option Form
+annotate_form rest = with_word rest (λ name behind. with_path_and_text (annotate name) behind)
+
+abbrev pub module_form : List ℕ → Option Form
+module_form rest = with_word rest (λ name behind. Some (set_module name (last_text behind)))
+
+abbrev pub unload_form : List ℕ → Option Form
+unload_form rest = option_map unload (last_name rest)
+
+-- Both `at` and `within`, in this order, are optional.
+abbrev pub strategy_form : (List ℕ → List ℕ → ℕ → List ℕ → Form) → ℕ → List ℕ → Option Form
+strategy_form form steps rest =
+    with_word rest (λ name behind. option_and_then
+    (λ path. with_budget steps (form name path) (behind_option (codes "at") behind))
+    (path_or_root (option_word (codes "at") behind)))
+
+abbrev pub text_form : List ℕ → Option Form
+text_form rest = option_map module_text (last_name rest)
+
+abbrev pub show_form : List ℕ → Option Form
+show_form rest = with_word rest (λ name behind. option_map (show name) (last_place behind))
+
+-- the form that a keyword starts, given the budget of a command that names none
+abbrev pub form_with : ℕ → List ℕ → List ℕ → Option Form
+form_with steps keyword rest =
+    if is_same keyword (codes "tree") then tree_form rest else
+    if is_same keyword (codes "copy") then copy_form rest else
+    if is_same keyword (codes "drop") then drop_form rest else
+    if is_same keyword (codes "put") then put_form rest else
+    if is_same keyword (codes "annotate") then annotate_form rest else
+    if is_same keyword (codes "module") then module_form rest else
+    if is_same keyword (codes "unload") then unload_form rest else
+    if is_same keyword (codes "apply") then strategy_form apply steps rest else
+    if is_same keyword (codes "preview") then strategy_form preview steps rest else
+    if is_same keyword (codes "undo") then option_map undo (last_steps rest) else
+    if is_same keyword (codes "redo") then option_map redo (last_steps rest) else
+    if is_same keyword (codes "begin") then ended begin rest else
+    if is_same keyword (codes "commit") then ended commit rest else
+    if is_same keyword (codes "abandon") then ended abandon rest else
+    if is_same keyword (codes "show") then show_form rest else
+    if is_same keyword (codes "trees") then ended trees rest else
+    if is_same keyword (codes "modules") then ended modules rest else
+    if is_same keyword (codes "text") then text_form rest else
+    if is_same keyword (codes "history") then ended history rest else
+    if is_same keyword (codes "dump") then ended dump rest else None
+
+-- the form of a command, without the blanks at its end, given that budget
+abbrev pub form_of : ℕ → List ℕ → Option Form
+form_of steps command =
+    let text = without_end is_blank command in form_with steps (front_word text) (behind_word text)
+
+-- whether the names of a form are labels
+abbrev pub has_labels : Form → Bool
+has_labels (tree name text) = is_some (label_of name)
+has_labels (copy name other) = is_some (label_of name) && is_some (label_of other)
+has_labels (drop_tree name) = is_some (label_of name)
+has_labels (put name path text) = is_some (label_of name)
+has_labels (annotate name path text) = is_some (label_of name)
+has_labels (set_module name text) = is_some (label_of name)
+has_labels (unload name) = is_some (label_of name)
+has_labels (apply name path steps text) = is_some (label_of name)
+has_labels (preview name path steps text) = is_some (label_of name)
+has_labels (undo n) = true
+has_labels (redo n) = true
+has_labels begin = true
+has_labels commit = true
+has_labels abandon = true
+has_labels (show name path) = is_some (label_of name)
+has_labels trees = true
+has_labels modules = true
+has_labels (module_text name) = is_some (label_of name)
+has_labels history = true
+has_labels dump = true
+
+-- The form is tested before the names.
+abbrev pub checked : Option Form → Result Form Refusal
+checked None = Err Line
+checked (Some form) = if has_labels form then Ok form else Err Name
+
+-- The meaning of a command's bytes. The number of steps is the budget of a command that names none.
+abbrev pub command_of : ℕ → List ℕ → Result Form Refusal
+command_of steps command = checked (form_of steps command)
+
+-- the budget of a form, if it has one, is a number of steps
+abbrev pub HasBudget : Form → Type 0
+HasBudget (apply name path steps text) = AreSteps steps
+HasBudget (preview name path steps text) = AreSteps steps
+HasBudget form = Unit {0}
+
+-- ---- commands that take no memory
+
+-- whether a keyword is `undo`, `redo`, `begin` or `abandon`
+abbrev pub takes_no_memory_with : List ℕ → Bool
+takes_no_memory_with word =
+    is_same word (codes "undo") || is_same word (codes "redo")
+    || is_same word (codes "begin") || is_same word (codes "abandon")
+
+abbrev pub takes_no_memory : List ℕ → Bool
+takes_no_memory command = takes_no_memory_with (front_word (without_end is_blank command))
+
+-- the same for a form
+abbrev pub is_without_memory : Form → Bool
+is_without_memory (tree name text) = false
+is_without_memory (copy name other) = false
+is_without_memory (drop_tree name) = false
+is_without_memory (put name path text) = false
+is_without_memory (annotate name path text) = false
+is_without_memory (set_module name text) = false
+is_without_memory (unload name) = false
+is_without_memory (apply name path steps text) = false
+is_without_memory (preview name path steps text) = false
+is_without_memory (undo n) = true
+is_without_memory (redo n) = true
+is_without_memory begin = true
+is_without_memory commit = false
+is_without_memory abandon = true
+is_without_memory (show name path) = false
+is_without_memory trees = false
+is_without_memory modules = false
+is_without_memory (module_text name) = false
+is_without_memory history = false
+is_without_memory dump = false

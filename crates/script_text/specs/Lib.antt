@@ -1,0 +1,12 @@
+pub mod Script
+pub mod Handed
+pub mod Split
+pub mod FedRight
+pub mod Splitting
+pub mod Form
+pub mod CommandView
+pub mod Machine
+pub mod Answer
+pub mod Run
+pub mod Laws
+pub mod inside

@@ -1,0 +1,54 @@
+-- The forms that a command's first word starts.
+use Rattle.std.specs.Prelude.{ℕ, Bool, true, false, List, Some, None, option_map}
+use Rattle.std.specs.declared.option.Option.{Option}
+use Rattle.script_text.specs.declared.keyword.Keyword.{Keyword}
+use Rattle.script_text.specs.declared.keyword.Keyword.TheVariants.{Tree, Copy, Drop, Put, Annotate, Module, Unload, Apply, Preview, Undo, Redo, Begin, Commit, Abandon, Show, Trees, Modules, Text, History, Dump, Other}
+use Rattle.script_text.specs.Form.{Form, apply, preview, undo, redo, begin, commit, abandon, trees, modules, history, dump, tree_form, copy_form, drop_form, put_form, annotate_form, module_form, unload_form, strategy_form, text_form, show_form, last_steps, ended}
+
+-- the form, given the budget of a command that names none and the rest after the word
+abbrev pub form_behind : Keyword → ℕ → List ℕ → Option Form
+form_behind Tree steps rest = tree_form rest
+form_behind Copy steps rest = copy_form rest
+form_behind Drop steps rest = drop_form rest
+form_behind Put steps rest = put_form rest
+form_behind Annotate steps rest = annotate_form rest
+form_behind Module steps rest = module_form rest
+form_behind Unload steps rest = unload_form rest
+form_behind Apply steps rest = strategy_form apply steps rest
+form_behind Preview steps rest = strategy_form preview steps rest
+form_behind Undo steps rest = option_map undo (last_steps rest)
+form_behind Redo steps rest = option_map redo (last_steps rest)
+form_behind Begin steps rest = ended begin rest
+form_behind Commit steps rest = ended commit rest
+form_behind Abandon steps rest = ended abandon rest
+form_behind Show steps rest = show_form rest
+form_behind Trees steps rest = ended trees rest
+form_behind Modules steps rest = ended modules rest
+form_behind Text steps rest = text_form rest
+form_behind History steps rest = ended history rest
+form_behind Dump steps rest = ended dump rest
+form_behind Other steps rest = None
+
+-- whether it is `undo`, `redo`, `begin` or `abandon`
+abbrev pub is_without_memory_behind : Keyword → Bool
+is_without_memory_behind Tree = false
+is_without_memory_behind Copy = false
+is_without_memory_behind Drop = false
+is_without_memory_behind Put = false
+is_without_memory_behind Annotate = false
+is_without_memory_behind Module = false
+is_without_memory_behind Unload = false
+is_without_memory_behind Apply = false
+is_without_memory_behind Preview = false
+is_without_memory_behind Undo = true
+is_without_memory_behind Redo = true
+is_without_memory_behind Begin = true
+is_without_memory_behind Commit = false
+is_without_memory_behind Abandon = true
+is_without_memory_behind Show = false
+is_without_memory_behind Trees = false
+is_without_memory_behind Modules = false
+is_without_memory_behind Text = false
+is_without_memory_behind History = false
+is_without_memory_behind Dump = false
+is_without_memory_behind Other = false

@@ -1,0 +1,522 @@
+//! The forms of commands.
+
+ghost use Rattle.std.specs.Prelude.{◌≡◌, ◌≤◌, length, ◌⊎◌, ℕ, List, true, false, codes, IfOk, IfErr, IfSome, Ok, Err, Some, None, option_copied};
+ghost use Rattle.std.specs.List.{prefix_len, suffix_len, position_or_len};
+ghost use Rattle.term_core.specs.Word.{label_of};
+ghost use Rattle.aterm_text.specs.Tokens.{is_blank, without_blanks};
+ghost use Rattle.script_text.specs.Script.{without_end};
+ghost use Rattle.session_history.specs.Steps.{AreSteps};
+ghost use Rattle.script_text.specs.Form.{Form, tree, put, apply, preview, command_of, checked, tree_form, copy_form, drop_form, put_form, annotate_form, module_form, unload_form, strategy_form, text_form, show_form, last_name, last_steps, last_text, option_word, behind_option, path_or_root, steps_or, steps_of, ended, HasBudget, is_without_memory, takes_no_memory, front_word, behind_word, has_word, is_same};
+ghost use Rattle.term_paths.specs.PathText.{path_of};
+ghost use Rattle.script_text.specs.CommandView.{form as form_seen};
+ghost use Rattle.script_text.specs.inside.KeywordView.{form_behind, is_without_memory_behind};
+
+use crate::keyword::{Keyword, keyword_of};
+use aterm_text::{after_blanks, after_byte, is_blank};
+use session_history::{MAX_STEPS, Refusal};
+use std::alloc::Global;
+use term_core::Label;
+use term_paths::{Path, PathFault, read_number, read_path};
+
+/// A command, with its operands.
+#[derive(Drop)]
+pub enum Command<'a> {
+    /// Sets the tree of the name to the term of the text.
+    Tree(Label, &'a [u8]),
+    /// Sets the tree of the second name to a copy of that of the first.
+    Copy(Label, Label),
+    /// Removes the tree of the name.
+    Drop(Label),
+    /// Replaces the subterm at the path by the term of the text.
+    Put(Label, Path, &'a [u8]),
+    /// Replaces the annotations there by those of the text.
+    Annotate(Label, Path, &'a [u8]),
+    /// Sets the text of the name's module.
+    Module(Label, &'a [u8]),
+    /// Removes the module of the name.
+    Unload(Label),
+    /// Applies the strategy of the text at the path, within this many steps, from 1 to 1,000,000.
+    Apply(Label, Path, u32, &'a [u8]),
+    /// Shows what that would replace, with the same operands.
+    Preview(Label, Path, u32, &'a [u8]),
+    /// Goes this many steps back.
+    Undo(u32),
+    /// Goes this many steps forward.
+    Redo(u32),
+    /// Begins a group.
+    Begin,
+    /// Makes the changes of a group one step.
+    Commit,
+    /// Undoes the changes of a group.
+    Abandon,
+    /// Shows the subterm at the path.
+    Show(Label, Path),
+    /// Lists the names of the trees.
+    Trees,
+    /// Lists the names of the modules.
+    Modules,
+    /// Shows the text of the name's module.
+    Text(Label),
+    /// Counts the steps.
+    History,
+    /// Writes a script that restores the contents.
+    Dump,
+}
+
+impl<'a> Command<'a> {
+    /// Reads a command. Its form is tested before its names. `undo`, `redo`, `begin` and `abandon`
+    /// take no memory. `steps`, from 1 to 1,000,000, is the budget of a command that names none.
+    ///
+    /// Errors: `Line` if the command has none of the forms above; `Name` if a name is no word or is
+    /// longer than 64 bytes; `Memory` if memory can't grow.
+    pub fn read(alloc: Global, command: &'a [u8], steps: u32) -> Result<Command<'a>, Refusal>
+        requires { AreSteps steps }
+        ensures ok { IfOk result (λ read. command_of steps command.now ≡ Ok (form_seen read)) }
+        ensures without_memory { IfOk result (λ read. takes_no_memory command.now
+            ≡ is_without_memory (form_seen read)) }
+        ensures budget { IfOk result (λ read. HasBudget (form_seen read)) }
+        ensures refused { IfErr result (λ refusal. ((refusal ≡ Refusal.Memory)
+            × (takes_no_memory command.now ≡ false))
+            ⊎ (command_of steps command.now ≡ Err refusal)) }
+    {
+        let text = without_last_blanks(command);
+        let (word, rest) = split_word(text);
+        read_form(alloc, keyword_of(word), rest, steps)
+    }
+}
+
+// The form that this keyword starts. `steps` is the budget of a form that names none.
+fn read_form(
+    alloc: Global,
+    keyword: Keyword,
+    rest: &[u8],
+    steps: u32,
+) -> Result<Command<'_>, Refusal>
+    requires { AreSteps steps }
+    ensures ok { IfOk result (λ read. checked (form_behind keyword steps rest.now) ≡ Ok (form_seen read)) }
+    ensures without_memory { IfOk result (λ read. is_without_memory_behind keyword
+        ≡ is_without_memory (form_seen read)) }
+    ensures budget { IfOk result (λ read. HasBudget (form_seen read)) }
+    ensures refused { IfErr result (λ refusal. ((refusal ≡ Refusal.Memory)
+        × (is_without_memory_behind keyword ≡ false))
+        ⊎ (checked (form_behind keyword steps rest.now) ≡ Err refusal)) }
+{
+    match keyword {
+        Keyword::Tree => read_tree(alloc, rest),
+        Keyword::Copy => read_copy(alloc, rest),
+        Keyword::Drop => Ok(Command::Drop(read_last_name(alloc, rest)?)),
+        Keyword::Put => read_put(alloc, rest),
+        Keyword::Annotate => read_annotate(alloc, rest),
+        Keyword::Module => read_module(alloc, rest),
+        Keyword::Unload => Ok(Command::Unload(read_last_name(alloc, rest)?)),
+        Keyword::Apply => read_apply(alloc, rest, steps),
+        Keyword::Preview => read_preview(alloc, rest, steps),
+        Keyword::Undo => Ok(Command::Undo(read_steps(rest)?)),
+        Keyword::Redo => Ok(Command::Redo(read_steps(rest)?)),
+        Keyword::Begin => read_ended(Command::Begin, rest),
+        Keyword::Commit => read_ended(Command::Commit, rest),
+        Keyword::Abandon => read_ended(Command::Abandon, rest),
+        Keyword::Show => read_show(alloc, rest),
+        Keyword::Trees => read_ended(Command::Trees, rest),
+        Keyword::Modules => read_ended(Command::Modules, rest),
+        Keyword::Text => Ok(Command::Text(read_last_name(alloc, rest)?)),
+        Keyword::History => read_ended(Command::History, rest),
+        Keyword::Dump => read_ended(Command::Dump, rest),
+        Keyword::Other => Err(Refusal::Line),
+    }
+}
+
+fn read_tree(alloc: Global, rest: &[u8]) -> Result<Command<'_>, Refusal>
+    ensures ok { IfOk result (λ read. checked (tree_form rest.now) ≡ Ok (form_seen read)) }
+    ensures may_take_memory { IfOk result (λ read. is_without_memory (form_seen read) ≡ false) }
+    ensures budget { IfOk result (λ read. HasBudget (form_seen read)) }
+    ensures refused { IfErr result (λ refusal. (refusal ≡ Refusal.Memory)
+        ⊎ (checked (tree_form rest.now) ≡ Err refusal)) }
+{
+    let (name, text) = read_name_and_text(alloc, rest)?;
+    Ok(Command::Tree(name, text))
+}
+
+/// The name and the text of a command `tree`, given what follows its keyword.
+///
+/// Errors: those of `Command::read`.
+#[inline(always)]
+pub fn read_name_and_text(alloc: Global, rest: &[u8]) -> Result<(Label, &[u8]), Refusal>
+    ensures ok { IfOk result (λ read. checked (tree_form rest.now) ≡ Ok (tree read.0 read.1.now)) }
+    ensures refused { IfErr result (λ refusal. (refusal ≡ Refusal.Memory)
+        ⊎ (checked (tree_form rest.now) ≡ Err refusal)) }
+{
+    let (name, rest) = split_word(rest);
+    if name.is_empty() {
+        return Err(Refusal::Line);
+    }
+    let name = read_label(alloc, name)?;
+    Ok((name, behind_blanks(rest)))
+}
+
+/// What follows the keyword `tree`, if the command begins with it and not with blanks. The first
+/// byte rules out most other commands.
+pub fn behind_tree(command: &[u8]) -> Option<&[u8]>
+    ensures { IfSome result (λ rest.
+        (front_word (without_end is_blank command.now) ≡ codes "tree")
+        × (behind_word (without_end is_blank command.now) ≡ rest.now)) }
+{
+    after_byte(b't', command)?;
+    let behind_t = after_byte(b't', without_last_blanks(command))?;
+    let behind_tr = after_byte(b'r', behind_t)?;
+    let behind_tre = after_byte(b'e', behind_tr)?;
+    let rest = after_byte(b'e', behind_tre)?;
+    if !ends_word(rest) {
+        return None;
+    }
+    Some(rest)
+}
+
+// Whether a word ends before this text.
+fn ends_word(rest: &[u8]) -> bool
+    ensures { result ≡ true → position_or_len is_blank rest.now ≡ 0 }
+{
+    match rest.first() {
+        Some(byte) => is_blank(*byte),
+        None => true,
+    }
+}
+
+fn read_copy<'a>(alloc: Global, rest: &[u8]) -> Result<Command<'a>, Refusal>
+    ensures ok { IfOk result (λ read. checked (copy_form rest.now) ≡ Ok (form_seen read)) }
+    ensures may_take_memory { IfOk result (λ read. is_without_memory (form_seen read) ≡ false) }
+    ensures budget { IfOk result (λ read. HasBudget (form_seen read)) }
+    ensures refused { IfErr result (λ refusal. (refusal ≡ Refusal.Memory)
+        ⊎ (checked (copy_form rest.now) ≡ Err refusal)) }
+{
+    let (name, rest) = split_word(rest);
+    let (copy, rest) = split_word(rest);
+    if name.is_empty() || copy.is_empty() || has_more(rest) {
+        return Err(Refusal::Line);
+    }
+    let name = read_label(alloc, name)?;
+    let copy = read_label(alloc, copy)?;
+    Ok(Command::Copy(name, copy))
+}
+
+fn read_put(alloc: Global, rest: &[u8]) -> Result<Command<'_>, Refusal>
+    ensures ok { IfOk result (λ read. checked (put_form rest.now) ≡ Ok (form_seen read)) }
+    ensures may_take_memory { IfOk result (λ read. is_without_memory (form_seen read) ≡ false) }
+    ensures budget { IfOk result (λ read. HasBudget (form_seen read)) }
+    ensures refused { IfErr result (λ refusal. (refusal ≡ Refusal.Memory)
+        ⊎ (checked (put_form rest.now) ≡ Err refusal)) }
+{
+    let (name, path, text) = read_put_parts(alloc, rest)?;
+    Ok(Command::Put(name, path, text))
+}
+
+/// The name, the path and the text of a command `put`, given what follows its keyword.
+///
+/// Errors: those of `Command::read`.
+pub fn read_put_parts(alloc: Global, rest: &[u8]) -> Result<(Label, Path, &[u8]), Refusal>
+    ensures ok { IfOk result (λ read. checked (put_form rest.now) ≡ Ok (put read.0 read.1 read.2.now)) }
+    ensures refused { IfErr result (λ refusal. (refusal ≡ Refusal.Memory)
+        ⊎ (checked (put_form rest.now) ≡ Err refusal)) }
+{
+    let (name, rest) = split_word(rest);
+    if name.is_empty() {
+        return Err(Refusal::Line);
+    }
+    let (path, rest) = split_word(rest);
+    let path = read_path_word(alloc, path)?;
+    let name = read_label(alloc, name)?;
+    Ok((name, path, behind_blanks(rest)))
+}
+
+/// What follows the keyword `put`, if the command begins with it and not with blanks.
+pub fn behind_put(command: &[u8]) -> Option<&[u8]>
+    ensures { IfSome result (λ rest.
+        (front_word (without_end is_blank command.now) ≡ codes "put")
+        × (behind_word (without_end is_blank command.now) ≡ rest.now)) }
+{
+    after_byte(b'p', command)?;
+    let behind_p = after_byte(b'p', without_last_blanks(command))?;
+    let behind_pu = after_byte(b'u', behind_p)?;
+    let rest = after_byte(b't', behind_pu)?;
+    if !ends_word(rest) {
+        return None;
+    }
+    Some(rest)
+}
+
+fn read_annotate(alloc: Global, rest: &[u8]) -> Result<Command<'_>, Refusal>
+    ensures ok { IfOk result (λ read. checked (annotate_form rest.now) ≡ Ok (form_seen read)) }
+    ensures may_take_memory { IfOk result (λ read. is_without_memory (form_seen read) ≡ false) }
+    ensures budget { IfOk result (λ read. HasBudget (form_seen read)) }
+    ensures refused { IfErr result (λ refusal. (refusal ≡ Refusal.Memory)
+        ⊎ (checked (annotate_form rest.now) ≡ Err refusal)) }
+{
+    let (name, rest) = split_word(rest);
+    if name.is_empty() {
+        return Err(Refusal::Line);
+    }
+    let (path, rest) = split_word(rest);
+    let path = read_path_word(alloc, path)?;
+    let name = read_label(alloc, name)?;
+    Ok(Command::Annotate(name, path, behind_blanks(rest)))
+}
+
+fn read_module(alloc: Global, rest: &[u8]) -> Result<Command<'_>, Refusal>
+    ensures ok { IfOk result (λ read. checked (module_form rest.now) ≡ Ok (form_seen read)) }
+    ensures may_take_memory { IfOk result (λ read. is_without_memory (form_seen read) ≡ false) }
+    ensures budget { IfOk result (λ read. HasBudget (form_seen read)) }
+    ensures refused { IfErr result (λ refusal. (refusal ≡ Refusal.Memory)
+        ⊎ (checked (module_form rest.now) ≡ Err refusal)) }
+{
+    let (name, rest) = split_word(rest);
+    if name.is_empty() {
+        return Err(Refusal::Line);
+    }
+    let name = read_label(alloc, name)?;
+    Ok(Command::Module(name, behind_blanks(rest)))
+}
+
+fn read_show<'a>(alloc: Global, rest: &[u8]) -> Result<Command<'a>, Refusal>
+    ensures ok { IfOk result (λ read. checked (show_form rest.now) ≡ Ok (form_seen read)) }
+    ensures may_take_memory { IfOk result (λ read. is_without_memory (form_seen read) ≡ false) }
+    ensures budget { IfOk result (λ read. HasBudget (form_seen read)) }
+    ensures refused { IfErr result (λ refusal. (refusal ≡ Refusal.Memory)
+        ⊎ (checked (show_form rest.now) ≡ Err refusal)) }
+{
+    let (name, rest) = split_word(rest);
+    if name.is_empty() {
+        return Err(Refusal::Line);
+    }
+    let (word, rest) = split_option(b"at", rest);
+    if has_more(rest) {
+        return Err(Refusal::Line);
+    }
+    let path = read_place(alloc, word)?;
+    let name = read_label(alloc, name)?;
+    Ok(Command::Show(name, path))
+}
+
+fn read_apply(alloc: Global, rest: &[u8], steps: u32) -> Result<Command<'_>, Refusal>
+    requires { AreSteps steps }
+    ensures ok { IfOk result (λ read. checked (strategy_form apply steps rest.now) ≡ Ok (form_seen read)) }
+    ensures may_take_memory { IfOk result (λ read. is_without_memory (form_seen read) ≡ false) }
+    ensures budget { IfOk result (λ read. HasBudget (form_seen read)) }
+    ensures refused { IfErr result (λ refusal. (refusal ≡ Refusal.Memory)
+        ⊎ (checked (strategy_form apply steps rest.now) ≡ Err refusal)) }
+{
+    let (name, path, steps, text) = read_strategy_parts(alloc, rest, steps)?;
+    Ok(Command::Apply(name, path, steps, text))
+}
+
+fn read_preview(alloc: Global, rest: &[u8], steps: u32) -> Result<Command<'_>, Refusal>
+    requires { AreSteps steps }
+    ensures ok { IfOk result (λ read. checked (strategy_form preview steps rest.now) ≡ Ok (form_seen read)) }
+    ensures may_take_memory { IfOk result (λ read. is_without_memory (form_seen read) ≡ false) }
+    ensures budget { IfOk result (λ read. HasBudget (form_seen read)) }
+    ensures refused { IfErr result (λ refusal. (refusal ≡ Refusal.Memory)
+        ⊎ (checked (strategy_form preview steps rest.now) ≡ Err refusal)) }
+{
+    let (name, path, steps, text) = read_strategy_parts(alloc, rest, steps)?;
+    Ok(Command::Preview(name, path, steps, text))
+}
+
+// The name, the path, the budget and the text of a command `apply` or `preview`.
+fn read_strategy_parts(
+    alloc: Global,
+    rest: &[u8],
+    steps: u32,
+) -> Result<(Label, Path, u32, &[u8]), Refusal>
+    requires { AreSteps steps }
+    ensures apply { IfOk result (λ read. checked (strategy_form apply steps rest.now)
+        ≡ Ok (apply read.0 read.1 read.2 read.3.now)) }
+    ensures preview { IfOk result (λ read. checked (strategy_form preview steps rest.now)
+        ≡ Ok (preview read.0 read.1 read.2 read.3.now)) }
+    ensures budget { IfOk result (λ read. AreSteps read.2) }
+    ensures apply_refused { IfErr result (λ refusal. (refusal ≡ Refusal.Memory)
+        ⊎ (checked (strategy_form apply steps rest.now) ≡ Err refusal)) }
+    ensures preview_refused { IfErr result (λ refusal. (refusal ≡ Refusal.Memory)
+        ⊎ (checked (strategy_form preview steps rest.now) ≡ Err refusal)) }
+{
+    let (name, rest) = split_word(rest);
+    if name.is_empty() {
+        return Err(Refusal::Line);
+    }
+    let (place, rest) = split_option(b"at", rest);
+    let (budget, rest) = split_option(b"within", rest);
+    let (keyword, text) = split_word(rest);
+    if keyword != b"do".as_slice() {
+        return Err(Refusal::Line);
+    }
+    let path = read_place(alloc, place)?;
+    let steps = read_budget(budget, steps)?;
+    let name = read_label(alloc, name)?;
+    Ok((name, path, steps, behind_blanks(text)))
+}
+
+// A name at the end of a form.
+fn read_last_name(alloc: Global, rest: &[u8]) -> Result<Label, Refusal>
+    ensures ok { IfOk result (λ label. last_name rest.now ≡ Some label) }
+    ensures label { IfOk result (λ label. label_of label ≡ Some label) }
+    ensures refused { IfErr result (λ refusal. (refusal ≡ Refusal.Memory)
+        ⊎ (((refusal ≡ Refusal.Line) × (last_name rest.now ≡ None))
+        ⊎ ((refusal ≡ Refusal.Name) × (name : List ℕ) × (last_name rest.now ≡ Some name)
+        × (label_of name ≡ None)))) }
+{
+    let (name, rest) = split_word(rest);
+    if name.is_empty() || has_more(rest) {
+        return Err(Refusal::Line);
+    }
+    read_label(alloc, name)
+}
+
+// The path of a word, or the root if there is none.
+fn read_place(alloc: Global, word: Option<&[u8]>) -> Result<Path, Refusal>
+    ensures ok { IfOk result (λ path. path_or_root (option_copied word.entry) ≡ Some path) }
+    ensures refused { IfErr result (λ refusal. (refusal ≡ Refusal.Memory)
+        ⊎ ((refusal ≡ Refusal.Line) × (path_or_root (option_copied word.entry) ≡ None))) }
+{
+    match word {
+        Some(word) => read_path_word(alloc, word),
+        None => Ok(Path::root(alloc)),
+    }
+}
+
+fn read_path_word(alloc: Global, word: &[u8]) -> Result<Path, Refusal>
+    ensures ok { IfOk result (λ path. path_of word.now ≡ Some path) }
+    ensures refused { IfErr result (λ refusal. (refusal ≡ Refusal.Memory)
+        ⊎ ((refusal ≡ Refusal.Line) × (path_of word.now ≡ None))) }
+{
+    match read_path(alloc, word) {
+        Ok(path) => Ok(path),
+        Err(PathFault::Line) => Err(Refusal::Line),
+        Err(PathFault::Memory) => Err(Refusal::Memory),
+    }
+}
+
+// A number of steps at the end of a form; 1 if it is missing.
+fn read_steps(rest: &[u8]) -> Result<u32, Refusal>
+    ensures ok { IfOk result (λ steps. last_steps rest.now ≡ Some steps) }
+    ensures refused { IfErr result (λ refusal. (refusal ≡ Refusal.Line)
+        × (last_steps rest.now ≡ None)) }
+{
+    let (word, rest) = split_word(rest);
+    if word.is_empty() {
+        return Ok(1);
+    }
+    if has_more(rest) {
+        return Err(Refusal::Line);
+    }
+    read_steps_word(word)
+}
+
+// The number of steps of a word, or `steps` if there is none.
+fn read_budget(word: Option<&[u8]>, steps: u32) -> Result<u32, Refusal>
+    requires { AreSteps steps }
+    ensures ok { IfOk result (λ n. steps_or steps (option_copied word.entry) ≡ Some n) }
+    ensures steps { IfOk result AreSteps }
+    ensures refused { IfErr result (λ refusal. (refusal ≡ Refusal.Line)
+        × (steps_or steps (option_copied word.entry) ≡ None)) }
+{
+    match word {
+        Some(word) => read_steps_word(word),
+        None => Ok(steps),
+    }
+}
+
+// A number of steps, from 1 to 1,000,000.
+fn read_steps_word(word: &[u8]) -> Result<u32, Refusal>
+    ensures ok { IfOk result (λ steps. steps_of word.now ≡ Some steps) }
+    ensures steps { IfOk result AreSteps }
+    ensures refused { IfErr result (λ refusal. (refusal ≡ Refusal.Line)
+        × (steps_of word.now ≡ None)) }
+{
+    match read_number(word) {
+        Some(steps) if steps >= 1 && steps <= MAX_STEPS as usize => Ok(steps as u32),
+        _ => Err(Refusal::Line),
+    }
+}
+
+// A form without further words.
+fn read_ended<'a>(form: Command<'a>, rest: &[u8]) -> Result<Command<'a>, Refusal>
+    ensures ok { IfOk result (λ read. ended (form_seen form.entry) rest.now
+        ≡ Some (form_seen read)) }
+    ensures refused { IfErr result (λ refusal. (refusal ≡ Refusal.Line)
+        × (ended (form_seen form.entry) rest.now ≡ None)) }
+{
+    if has_more(rest) {
+        return Err(Refusal::Line);
+    }
+    Ok(form)
+}
+
+fn has_more(rest: &[u8]) -> bool
+    ensures { result ≡ has_word rest.now }
+{
+    let (word, _) = split_word(rest);
+    !word.is_empty()
+}
+
+#[inline(always)]
+fn read_label(alloc: Global, name: &[u8]) -> Result<Label, Refusal>
+    ensures ok { IfOk result (λ label. label_of name.now ≡ Some label) }
+    ensures same { IfOk result (λ label. label ≡ name.now) }
+    ensures refused { IfErr result (λ refusal. (refusal ≡ Refusal.Memory)
+        ⊎ ((refusal ≡ Refusal.Name) × (label_of name.now ≡ None))) }
+{
+    Ok(Label::read(alloc, name)?)
+}
+
+// ---- words
+
+// The text after its leading blanks. Usually there is one, so the first is tested alone.
+fn behind_blanks(text: &[u8]) -> &[u8]
+    ensures { result.now ≡ without_blanks text.now }
+{
+    match text.split_first() {
+        Some((first, rest)) if is_blank(*first) => after_blanks(rest),
+        _ => after_blanks(text),
+    }
+}
+
+fn without_last_blanks(text: &[u8]) -> &[u8]
+    ensures { result.now ≡ without_end is_blank text.now }
+{
+    &text[..text.len() - blanks_at_end(text)]
+}
+
+fn blanks_at_end(text: &[u8]) -> usize
+    ensures run { result ≡ suffix_len is_blank text.now }
+    ensures within { result ≤ length text.now }
+{
+    text.iter().rev().take_while(|b| is_blank(**b)).count()
+}
+
+// The first word of a text, empty if there is none, and what follows it.
+fn split_word(text: &[u8]) -> (&[u8], &[u8])
+    ensures word { result.0.now ≡ front_word text.now }
+    ensures behind { result.1.now ≡ behind_word text.now }
+{
+    let text = behind_blanks(text);
+    text.split_at(word_len(text))
+}
+
+// If this keyword comes next: the word after it, and what follows that; else nothing, and the whole
+// text.
+fn split_option<'a>(keyword: &[u8], rest: &'a [u8]) -> (Option<&'a [u8]>, &'a [u8])
+    ensures word { option_copied result.0 ≡ option_word keyword.now rest.now }
+    ensures behind { result.1.now ≡ behind_option keyword.now rest.now }
+{
+    let (word, behind) = split_word(rest);
+    if word != keyword {
+        return (None, rest);
+    }
+    let (word, behind) = split_word(behind);
+    (Some(word), behind)
+}
+
+fn word_len(text: &[u8]) -> usize
+    ensures run { result ≡ position_or_len is_blank text.now }
+    ensures within { result ≤ length text.now }
+{
+    text.iter().take_while(|b| !is_blank(**b)).count()
+}

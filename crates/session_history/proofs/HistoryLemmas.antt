@@ -1,0 +1,199 @@
+-- One step back and one step forward are inverse, and so are any number of them.
+use Rattle.std.proofs.Common.{◌≡◌, ◌<◌, ℕ, zero, suc, List, [], ◌∷◌, ◌++◌, length, arith, true, cond, is_none, Some, None, Ok, Option, option_and_then, ok_or, refl, sym, ap, subst, ◌∙◌}
+use Rattle.std.specs.Option.{option_map_or}
+use Rattle.term_changes.specs.Contents.{Contents}
+use Rattle.session_history.specs.Modules.{Checks}
+use Rattle.session_history.specs.History.{HistoryGroup, History, stepped, newest, older, back_to, forward_to, step_back, step_forward, undone, redone}
+use Rattle.session_history.specs.Step.{Outcome, Passing, Holding, Given, Leaves, ComesTo, committed, undo, redo}
+use Rattle.session_history.specs.Laws.{ChangeIsUndone, GroupIsUndone, RedoTakesUndoBack, UndoTakesRedoBack}
+use Rattle.session_history.specs.declared.refusal.Refusal.{Refusal}
+use Rattle.session_history.specs.declared.refusal.Refusal.TheVariants.{NoUndo, NoRedo, Group, NoGroup}
+use Rattle.session_history.proofs.StepLemmas.{same_Ok, passing_Ok, holding_Ok, given_Ok, passed, held, ok_or-Ok, none_of}
+
+-- ---- the last of a list
+
+older-append : (c : Contents) (cs : List Contents) (x : Contents) → older c (cs ++ x ∷ []) ≡ c ∷ cs
+older-append c [] x = refl
+older-append c (d ∷ ds) x = ap (λ l. c ∷ l) (older-append d ds x)
+
+newest-append : (c : Contents) (cs : List Contents) (x : Contents) → newest c (cs ++ x ∷ []) ≡ x
+newest-append c [] x = refl
+newest-append c (d ∷ ds) x = newest-append d ds x
+
+older-newest : (c : Contents) (cs : List Contents) → older c cs ++ newest c cs ∷ [] ≡ c ∷ cs
+older-newest c [] = refl
+older-newest c (d ∷ ds) = ap (λ l. c ∷ l) (older-newest d ds)
+
+pub back_to-append : (h : History) (past : List Contents) (x : Contents)
+    → back_to h (past ++ x ∷ []) ≡ Some (record h { past = past; now = x; later = h.now ∷ h.later })
+back_to-append h [] x = refl
+back_to-append h (c ∷ cs) x = λ i. Some (record h { past = older-append c cs x i; now = newest-append c cs x i; later = h.now ∷ h.later })
+
+-- ---- one step
+
+same_Some : (g h : History) → Some g ≡ Some h → g ≡ h
+same_Some g h e = cc
+
+back_after_forward : (h g : History) (later : List Contents) → h.later ≡ later → forward_to h later ≡ Some g → step_back g ≡ Some h
+back_after_forward h g [] p e = absurd (cc)
+back_after_forward h g (c ∷ cs) p e =
+    ap step_back (sym (same_Some _ _ e)) ∙ back_to-append (record h { past = h.past ++ h.now ∷ []; now = c; later = cs }) h.past h.now ∙ (λ i. Some (record h { later = sym p i }))
+
+forward_after_back : (h g : History) (past : List Contents) → h.past ≡ past → back_to h past ≡ Some g → step_forward g ≡ Some h
+forward_after_back h g [] p e = absurd (cc)
+forward_after_back h g (c ∷ cs) p e =
+    ap step_forward (sym (same_Some _ _ e)) ∙ (λ i. Some (record h { past = (older-newest c cs ∙ sym p) i }))
+
+pub step_back-step_forward : (h g : History) → step_forward h ≡ Some g → step_back g ≡ Some h
+step_back-step_forward h g e = back_after_forward h g h.later refl e
+
+pub step_forward-step_back : (h g : History) → step_back h ≡ Some g → step_forward g ≡ Some h
+step_forward-step_back h g e = forward_after_back h g h.past refl e
+
+-- ---- several steps
+
+and_then-Some : (o : Option History) → option_and_then (λ g. Some g) o ≡ o
+and_then-Some None = refl
+and_then-Some (Some g) = refl
+
+-- the last step taken first
+pub redone_last : (k : ℕ) (h : History) → redone (suc k) h ≡ option_and_then step_forward (redone k h)
+redone_last zero h = and_then-Some (step_forward h)
+redone_last (suc k) h =
+    elim (step_forward h) as (λ o. option_and_then (λ g. redone (suc k) g) o ≡ option_and_then step_forward (option_and_then (λ g. redone k g) o)) [
+      | None ↦ refl
+      | Some g ↦ redone_last k g
+    ]
+
+pub undone_last : (k : ℕ) (h : History) → undone (suc k) h ≡ option_and_then step_back (undone k h)
+undone_last zero h = and_then-Some (step_back h)
+undone_last (suc k) h =
+    elim (step_back h) as (λ o. option_and_then (λ g. undone (suc k) g) o ≡ option_and_then step_back (option_and_then (λ g. undone k g) o)) [
+      | None ↦ refl
+      | Some g ↦ undone_last k g
+    ]
+
+pub redone-undone : (k : ℕ) (h g : History) → undone k h ≡ Some g → redone k g ≡ Some h
+redone-undone zero h g e = sym e
+redone-undone (suc k) h g e = by (step_back h) refl (λ m. redone-undone k m g) e
+  where
+    by : (o : Option History) → step_back h ≡ o → ((m : History) → undone k m ≡ Some g → redone k g ≡ Some m) → option_and_then (λ m. undone k m) o ≡ Some g → redone (suc k) g ≡ Some h
+    by None p rest q = absurd (cc)
+    by (Some m) p rest q = redone_last k g ∙ ap (option_and_then step_forward) (rest m q) ∙ step_forward-step_back h m p
+
+pub undone-redone : (k : ℕ) (h g : History) → redone k h ≡ Some g → undone k g ≡ Some h
+undone-redone zero h g e = sym e
+undone-redone (suc k) h g e = by (step_forward h) refl (λ m. undone-redone k m g) e
+  where
+    by : (o : Option History) → step_forward h ≡ o → ((m : History) → redone k m ≡ Some g → undone k g ≡ Some m) → option_and_then (λ m. redone k m) o ≡ Some g → undone (suc k) g ≡ Some h
+    by None p rest q = absurd (cc)
+    by (Some m) p rest q = undone_last k g ∙ ap (option_and_then step_back) (rest m q) ∙ step_back-step_forward h m p
+
+-- fewer steps than asked for
+length-older : (c : Contents) (cs : List Contents) → length (older c cs) ≡ length cs
+length-older c [] = refl
+length-older c (d ∷ ds) = ap suc (length-older d ds)
+
+pub undone_past : (k : ℕ) (h : History) → length h.past < k → undone k h ≡ None
+undone_past zero h l = absurd (omega (arith, l))
+undone_past (suc k) h l = by h.past (λ m l. undone_past k m l) l
+  where
+    by : (past : List Contents) → ((m : History) → length m.past < k → undone k m ≡ None) → length past < suc k → option_and_then (λ m. undone k m) (back_to h past) ≡ None
+    by [] rest l = refl
+    by (c ∷ cs) rest l = rest _ (omega (arith, l, length-older c cs))
+
+pub redone_past : (k : ℕ) (h : History) → length h.later < k → redone k h ≡ None
+redone_past zero h l = absurd (omega (arith, l))
+redone_past (suc k) h l = by h.later (λ m l. redone_past k m l) l
+  where
+    by : (later : List Contents) → ((m : History) → length m.later < k → redone k m ≡ None) → length later < suc k → option_and_then (λ m. redone k m) (forward_to h later) ≡ None
+    by [] rest l = refl
+    by (c ∷ cs) rest l = rest _ (omega (arith, l))
+
+-- ---- going back and forward leaves the group
+
+same_group_back : (h : History) (past : List Contents) (g : History) → back_to h past ≡ Some g → g.group ≡ h.group
+same_group_back h [] g e = absurd (cc)
+same_group_back h (c ∷ cs) g e = ap (λ g. g.group) (sym (same_Some _ _ e))
+
+same_group_forward : (h : History) (later : List Contents) (g : History) → forward_to h later ≡ Some g → g.group ≡ h.group
+same_group_forward h [] g e = absurd (cc)
+same_group_forward h (c ∷ cs) g e = ap (λ g. g.group) (sym (same_Some _ _ e))
+
+undone_group : (k : ℕ) (h g : History) → undone k h ≡ Some g → g.group ≡ h.group
+undone_group zero h g e = ap (λ g. g.group) (sym (same_Some _ _ e))
+undone_group (suc k) h g e = by (step_back h) refl (λ m. undone_group k m g) e
+  where
+    by : (o : Option History) → step_back h ≡ o → ((m : History) → undone k m ≡ Some g → g.group ≡ m.group) → option_and_then (λ m. undone k m) o ≡ Some g → g.group ≡ h.group
+    by None p rest q = absurd (cc)
+    by (Some m) p rest q = rest m q ∙ same_group_back h h.past m p
+
+redone_group : (k : ℕ) (h g : History) → redone k h ≡ Some g → g.group ≡ h.group
+redone_group zero h g e = ap (λ g. g.group) (sym (same_Some _ _ e))
+redone_group (suc k) h g e = by (step_forward h) refl (λ m. redone_group k m g) e
+  where
+    by : (o : Option History) → step_forward h ≡ o → ((m : History) → redone k m ≡ Some g → g.group ≡ m.group) → option_and_then (λ m. redone k m) o ≡ Some g → g.group ≡ h.group
+    by None p rest q = absurd (cc)
+    by (Some m) p rest q = rest m q ∙ same_group_forward h h.later m p
+
+-- ---- the laws
+
+-- going this many steps, which exist, outside a group
+module _ (h g : History) (o : Option History) (refusal : Refusal) where
+  abbrev Goes : Outcome → Type 0
+  Goes = Holding (is_none h.group) Group (Passing (ok_or o refusal) Leaves)
+
+  pub goes : h.group ≡ None → o ≡ Some g → Goes (Ok g)
+  goes outside there =
+      held (is_none h.group) Group (Passing (ok_or o refusal) Leaves) (Ok g) (ap is_none outside)
+      (passed (ok_or o refusal) Leaves g (Ok g) (ap (λ (o : Option History). ok_or o refusal) there) refl)
+
+  pub went : Goes (Ok g) → (h.group ≡ None) × (o ≡ Some g)
+  went done =
+      let outside = holding_Ok (is_none h.group) Group (Passing (ok_or o refusal) Leaves) g done in
+      let there = passing_Ok (ok_or o refusal) Leaves g outside.1 in
+      (none_of h.group outside.0, ok_or-Ok o refusal there.0 there.1 ∙ ap (λ (x : History). Some x) (sym (same_Ok there.0 g there.2)))
+
+pub redo_takes_undo_back : RedoTakesUndoBack
+redo_takes_undo_back k h g done =
+    let back = went h g (undone k h) NoUndo done in
+    goes g h (redone k g) NoRedo (undone_group k h g back.1 ∙ back.0) (redone-undone k h g back.1)
+
+pub undo_takes_redo_back : UndoTakesRedoBack
+undo_takes_redo_back k h g done =
+    let forth = went h g (redone k h) NoRedo done in
+    goes g h (undone k g) NoUndo (redone_group k h g forth.1 ∙ forth.0) (undone-redone k h g forth.1)
+
+-- a step from these contents to the current ones is undone and redone
+step_is_undone : (from c : Contents) (h : History) → h.group ≡ None → (g : History) → record (stepped from h) { now = c } ≡ g
+    → ComesTo (undo 1) g (Ok (record h { now = from; later = g.now ∷ [] })) × ComesTo (redo 1) (record h { now = from; later = g.now ∷ [] }) (Ok g)
+step_is_undone from c h none g e =
+    let Back : History → Type 0 = λ g. ComesTo (undo 1) g (Ok (record h { now = from; later = g.now ∷ [] })) × ComesTo (redo 1) (record h { now = from; later = g.now ∷ [] }) (Ok g) in
+    let then : History = record (stepped from h) { now = c } in
+    let back : History = record h { now = from; later = c ∷ [] } in
+    subst Back e (
+      goes then back (undone 1 then) NoUndo none (and_then-Some _ ∙ back_to-append then h.past from),
+      goes back then (redone 1 back) NoRedo none refl,
+    )
+
+pub change_is_undone : ChangeIsUndone
+change_is_undone c h g e none =
+    step_is_undone h.now c h none g
+    (sym (e ∙ ap (λ o. option_map_or (λ g. record h { now = c; group = Some (record g { changed = true }) }) o (record (stepped h.now h) { now = c })) none))
+
+pub group_is_undone : GroupIsUndone
+group_is_undone group h g is was done =
+    let there = passing_Ok (ok_or h.group NoGroup) (λ group. Given (Checks h.primitives h.now.modules) (λ p. Leaves (committed group h))) g done in
+    let checked = given_Ok (Checks h.primitives h.now.modules) (λ p. Leaves (committed there.0 h)) g there.2 in
+    let same : there.0 ≡ group = same_group there.0 group (sym (ok_or-Ok h.group NoGroup there.0 there.1) ∙ is) in
+    let left : committed group h ≡ g = ap (λ (x : HistoryGroup). committed x h) (sym same) ∙ sym (same_Ok (committed there.0 h) g checked.2) in
+    let stepped_from : record (stepped group.begun (record h { group = None })) { now = h.now } ≡ g =
+    ap (λ b. cond b (record (stepped group.begun h) { group = None }) (record h { group = None })) (sym was) ∙ left in
+    let undone = step_is_undone group.begun h.now (record h { group = None }) refl g stepped_from in
+    let now : g.now ≡ h.now = ap (λ g. g.now) (sym stepped_from) in (
+      subst (λ (x : Contents). ComesTo (undo 1) g (Ok (record h { now = group.begun; later = x ∷ []; group = None }))) now undone.0,
+      subst (λ (x : Contents). ComesTo (redo 1) (record h { now = group.begun; later = x ∷ []; group = None }) (Ok g)) now undone.1,
+    )
+  where
+    same_group : (a b : HistoryGroup) → Some a ≡ Some b → a ≡ b
+    same_group a b e = cc

@@ -1,0 +1,85 @@
+-- The tests of an act: what an accepted one passed, and the outcome if the results of the tests are
+-- known.
+use Rattle.std.proofs.Common.{◌≡◌, ℕ, Bool, true, false, List, Option, Some, None, Result, Ok, Err, is_none, ok_or, option_map, refl, sym, ap, subst, ◌∙◌}
+use Rattle.std.specs.FinMap as finmap
+use Rattle.term_core.specs.Tree.{Tree}
+use Rattle.term_paths.specs.Paths.{at}
+use Rattle.term_changes.specs.Contents.{Contents}
+use Rattle.session_history.specs.History.{HistoryGroup, History}
+use Rattle.session_history.specs.Step.{Outcome, Passing, Holding, Given, Place, place_in, place_of}
+use Rattle.session_history.specs.declared.refusal.Refusal.{Refusal}
+use Rattle.session_history.specs.declared.refusal.Refusal.TheVariants.{NoTree, Path}
+
+-- ---- what was accepted
+
+pub same_Ok : (g h : History) → ◌≡◌ {A = Outcome} (Ok h) (Ok g) → h ≡ g
+same_Ok g h e = cc
+
+pub passing_Ok : {X : Type 0} (test : Result X Refusal) (next : X → Outcome → Type 0) (g : History) → Passing test next (Ok g) → (x : X) × (test ≡ Ok x) × next x (Ok g)
+passing_Ok (Ok x) next g p = (x, refl, p)
+passing_Ok (Err refusal) next g p = absurd (cc)
+
+pub holding_Ok : (test : Bool) (refusal : Refusal) (Next : Outcome → Type 0) (g : History) → Holding test refusal Next (Ok g) → (test ≡ true) × Next (Ok g)
+holding_Ok true refusal Next g p = (refl, p)
+holding_Ok false refusal Next g p = absurd (cc)
+
+pub given_Ok : {X : Type 0} (Gives : Result X Refusal → Type 0) (next : X → Outcome → Type 0) (g : History) → Given Gives next (Ok g) → (x : X) × Gives (Ok x) × next x (Ok g)
+given_Ok Gives next g (Ok x, gives, p) = (x, gives, p)
+given_Ok Gives next g (Err refusal, gives, p) = absurd (cc)
+
+-- ---- the outcome of an act
+
+module _ {X Y : Type 0} (test : Result X Refusal) (next : X → Result Y Refusal → Type 0) where
+  pub passed : (x : X) (outcome : Result Y Refusal) → test ≡ Ok x → next x outcome → Passing test next outcome
+  passed x outcome is p = subst (λ (r : Result X Refusal). Passing r next outcome) (sym is) p
+
+  pub stopped : (refusal : Refusal) → test ≡ Err refusal → Passing test next (Err refusal)
+  stopped refusal is = subst (λ (r : Result X Refusal). Passing r next (Err refusal)) (sym is) refl
+
+  -- the rest after a test whose result is known
+  pub behind : (x : X) (outcome : Result Y Refusal) → test ≡ Ok x → Passing test next outcome → next x outcome
+  behind x outcome is p = subst (λ (r : Result X Refusal). Passing r next outcome) is p
+
+module _ (test : Bool) (refusal : Refusal) (Next : Outcome → Type 0) where
+  pub held : (outcome : Outcome) → test ≡ true → Next outcome → Holding test refusal Next outcome
+  held outcome is p = subst (λ (b : Bool). Holding b refusal Next outcome) (sym is) p
+
+  pub missed : test ≡ false → Holding test refusal Next (Err refusal)
+  missed is = subst (λ (b : Bool). Holding b refusal Next (Err refusal)) (sym is) refl
+
+-- ---- what the tests find
+
+pub ok_or-Ok : {X : Type 0} (o : Option X) (r : Refusal) (x : X) → ◌≡◌ {A = Result X Refusal} (ok_or o r) (Ok x) → o ≡ Some x
+ok_or-Ok None r x e = absurd (cc)
+ok_or-Ok (Some y) r x e = cc
+
+pub none_of : (o : Option HistoryGroup) → is_none o ≡ true → o ≡ None
+none_of None e = refl
+none_of (Some g) e = absurd (cc)
+
+module _ (path : List ℕ) (t : Tree) where
+  abbrev here : Option Tree → Result Place Refusal
+  here o = ok_or (option_map (λ part. record { tree = t; part = part }) o) Path
+
+  at_tree : (o : Option Tree) (place : Place) → here o ≡ Ok place → t ≡ place.tree
+  at_tree None place e = absurd (cc)
+  at_tree (Some part) place e = let same : record { tree = t; part = part } ≡ place = cc in ap (λ (p : Place). p.tree) same
+
+-- the tree of a place is that of the label
+pub place_tree : (c : Contents) (name path : List ℕ) (place : Place) → place_of c name path ≡ Ok place → finmap.get c.trees name ≡ Some place.tree
+place_tree c name path place = by (finmap.get c.trees name)
+  where
+    by : (o : Option Tree) → place_in path (ok_or o NoTree) ≡ Ok place → o ≡ Some place.tree
+    by None e = absurd (cc)
+    by (Some t) e = ap (λ (t : Tree). Some t) (at_tree path t (at t path) place e)
+
+module _ (c : Contents) (name path : List ℕ) where
+  -- a label with a tree, and a path in it
+  pub place_there : (t part : Tree) → finmap.get c.trees name ≡ Some t → at t path ≡ Some part → place_of c name path ≡ Ok (record { tree = t; part = part })
+  place_there t part is leads_to = ap (λ (o : Option Tree). place_in path (ok_or o NoTree)) is ∙ ap (here path t) leads_to
+
+  pub place_missing : (t : Tree) → finmap.get c.trees name ≡ Some t → at t path ≡ None → place_of c name path ≡ Err Path
+  place_missing t is none = ap (λ (o : Option Tree). place_in path (ok_or o NoTree)) is ∙ ap (here path t) none
+
+  pub place_none : finmap.get c.trees name ≡ None → place_of c name path ≡ Err NoTree
+  place_none none = ap (λ (o : Option Tree). place_in path (ok_or o NoTree)) none

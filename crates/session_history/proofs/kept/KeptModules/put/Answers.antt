@@ -1,0 +1,4 @@
+use Rattle.session_history.proofs.kept.KeptModules.put.Goals as goal
+
+pub returns : goal.returns
+returns c ps texts but = record { old = but.old; are = but.are; checked = but.checked; differ = c.one-self.ensures but.old texts but.same }

@@ -1,0 +1,15 @@
+use Rattle.std.proofs.Common.{◌∙◌, sym, ap, option_and_then}
+use Rattle.std.specs.Prelude.{option_copied}
+use Rattle.term_changes.specs.Slots.{content}
+use Rattle.term_changes.proofs.ContentsLemmas.{module_of_name}
+use Rattle.session_history.proofs.timeline.Timeline.module_text.Goals as goal
+
+pub returns-in_err-slot : goal.returns-in_err-slot
+returns-in_err-slot c =
+    ap option_copied c.from_residual.ensures
+    ∙ sym (module_of_name c.args.self.now.store c.args.name.now c.find_module.ensures.apart ∙ ap (option_and_then (content c.args.self.now.store.modules)) (sym c.in_err-slot.ensures.slot))
+
+pub returns : goal.returns
+returns c =
+    c.«module».ensures
+    ∙ sym (module_of_name c.args.self.now.store c.args.name.now c.find_module.ensures.apart ∙ ap (option_and_then (content c.args.self.now.store.modules)) (sym c.in_ok-slot.ensures.slot))

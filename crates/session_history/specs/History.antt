@@ -1,0 +1,112 @@
+-- What a session holds: the current contents, those from before each step, those that were undone,
+-- and the open group.
+use Rattle.std.specs.Prelude.{◌≡◌, ◌≤◌, ℕ, zero, suc, Bool, true, List, [], ◌∷◌, ◌++◌, Some, None, IfSome, option_and_then}
+use Rattle.std.specs.declared.option.Option.{Option}
+use Rattle.std.specs.Option.{option_map_or}
+use Rattle.std.specs.Bool.{OnFalse}
+use Rattle.std.specs.List.{AllByRecursion}
+use Rattle.std.specs.FinMap as finmap
+use Rattle.term_core.specs.Size.{height}
+use Rattle.term_core.specs.declared.TheConstants.{MAX_HEIGHT}
+use Rattle.prim_core.specs.Signature.{Signature}
+use Rattle.term_core.specs.Tree.{Tree}
+use Rattle.term_changes.specs.Contents.{Contents, Named, no_contents}
+use Rattle.strategy_check.specs.Faults.{Primitives}
+use Rattle.session_history.specs.Modules.{AreReadable, Finds}
+
+-- An open group: the contents where it began, and whether a change was accepted since.
+pub record HistoryGroup : Type 0 where
+  pub begun : Contents
+  pub changed : Bool
+
+-- The primitives of the session; the contents from before each step, the newest last; the current
+-- contents; those that were undone, the nearest first; and the open group, if there is one.
+pub record History : Type 0 where
+  pub primitives : List Signature
+  pub past : List Contents
+  pub now : Contents
+  pub later : List Contents
+  pub group : Option HistoryGroup
+
+-- a new session with these primitives
+abbrev pub empty_history : List Signature → History
+empty_history primitives =
+    record { primitives = primitives; past = []; now = no_contents; later = []; group = None }
+
+-- One more step, from these contents to the current ones: the former become past, and nothing is
+-- later.
+abbrev pub stepped : Contents → History → History
+stepped from h = record h { past = h.past ++ from ∷ []; later = [] }
+
+-- An accepted change to these contents. It is a step of its own or, in a group, part of the group's
+-- step.
+abbrev pub changed : Contents → History → History
+changed c h =
+    option_map_or (λ g. record h { now = c; group = Some (record g { changed = true }) }) h.group
+    (record (stepped h.now h) { now = c })
+
+-- the last of c and the contents after it
+abbrev pub newest : Contents → List Contents → Contents
+newest c [] = c
+newest c (d ∷ ds) = newest d ds
+
+-- c and the contents after it, without the last
+abbrev pub older : Contents → List Contents → List Contents
+older c [] = []
+older c (d ∷ ds) = c ∷ older d ds
+
+-- One step back, if there is a past: the newest past contents become current, and the current ones
+-- become the nearest later ones.
+abbrev pub back_to : History → List Contents → Option History
+back_to h [] = None
+back_to h (c ∷ cs) =
+    Some (record h { past = older c cs; now = newest c cs; later = h.now ∷ h.later })
+
+abbrev pub step_back : History → Option History
+step_back h = back_to h h.past
+
+-- One step forward, if something is later: the nearest later contents become current, and the
+-- current ones become the newest past ones.
+abbrev pub forward_to : History → List Contents → Option History
+forward_to h [] = None
+forward_to h (c ∷ cs) = Some (record h { past = h.past ++ h.now ∷ []; now = c; later = cs })
+
+abbrev pub step_forward : History → Option History
+step_forward h = forward_to h h.later
+
+-- k steps back, if there are that many
+abbrev pub undone : ℕ → History → Option History
+undone zero h = Some h
+undone (suc k) h = option_and_then (undone k) (step_back h)
+
+-- k steps forward, if there are that many
+abbrev pub redone : ℕ → History → Option History
+redone zero h = Some h
+redone (suc k) h = option_and_then (redone k) (step_forward h)
+
+-- no tree is higher than 1,000, the greatest height that fits at level 0
+abbrev pub AreLow : Named Tree → Type 0
+AreLow trees =
+    (name : List ℕ) → IfSome (finmap.get trees name) (λ tree. height tree ≤ MAX_HEIGHT)
+
+-- Contents are well formed if no tree is higher than 1,000, and each module text has at most 4,000
+-- tokens and is a module.
+abbrev pub AreFormed : Contents → Type 0
+AreFormed c = AreLow c.trees × AreReadable c.modules
+
+-- They are sound if in addition the checker finds no fault in all their modules together.
+abbrev pub AreSound : Primitives → Contents → Type 0
+AreSound primitives c = AreFormed c × Finds primitives c.modules None
+
+-- Outside a group the current contents are sound. Inside one they are well formed, and those where
+-- it began are sound; these are still the current ones if nothing has changed.
+abbrev pub IsSoundNow : Primitives → Contents → Option HistoryGroup → Type 0
+IsSoundNow primitives c None = AreSound primitives c
+IsSoundNow primitives c (Some g) =
+    AreFormed c × AreSound primitives g.begun × OnFalse g.changed (c ≡ g.begun)
+
+-- All contents of a history are sound: the past, the current and the later ones.
+abbrev pub HasSoundContents : History → Type 0
+HasSoundContents h =
+    AllByRecursion (AreSound h.primitives) h.past × IsSoundNow h.primitives h.now h.group
+    × AllByRecursion (AreSound h.primitives) h.later

@@ -1,0 +1,14 @@
+pub mod Refusal
+pub mod Steps
+pub mod Modules
+pub mod Applying
+pub mod History
+pub mod Unfolded
+pub mod Step
+pub mod Preview
+pub mod Dump
+pub mod Laws
+pub use Rattle.term_core.specs.Tree
+pub use Rattle.term_core.specs.Size
+pub use Rattle.term_changes.specs.Contents
+pub mod inside

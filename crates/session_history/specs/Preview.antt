@@ -1,0 +1,54 @@
+-- What applying a strategy would change, without changing it.
+use Rattle.std.specs.Prelude.{◌≡◌, ℕ, ◌-◌, List, ◌++◌, length, map, Ok, Err, unwrap_or}
+use Rattle.std.specs.declared.result.Result.{Result}
+use Rattle.term_core.specs.Tree.{Tree}
+use Rattle.term_paths.specs.Paths.{at}
+use Rattle.term_paths.specs.Edits.{Edit, Edits}
+use Rattle.strategy_syntax.specs.declared.resolved.Resolved.{Resolved}
+use Rattle.strategy_check.specs.Programs.{Program}
+use Rattle.strategy_meaning.specs.Answer.{Answer, done, failed, stopped}
+use Rattle.strategy_meaning.specs.Meaning.{run_whole}
+use Rattle.strategy_meaning.specs.Outermost.{AreOutermost}
+use Rattle.session_history.specs.Applying.{Meaning, world_in, stopped_as}
+use Rattle.session_history.specs.History.{History}
+use Rattle.session_history.specs.Step.{Place, Resolving}
+use Rattle.session_history.specs.declared.refusal.Refusal.{Refusal}
+use Rattle.session_history.specs.declared.refusal.Refusal.TheVariants.{Fails}
+
+-- a path in a tree, the subterm there, and the one that would be there
+pub record Replacement : Type 0 where
+  pub path : List ℕ
+  pub old : Tree
+  pub new : Tree
+
+-- what would be replaced, and how many steps the strategy took
+pub record Preview : Type 0 where
+  pub replacements : List Replacement
+  pub steps : ℕ
+
+-- the subterm at the path, which is there
+abbrev pub part_at : Tree → List ℕ → Tree
+part_at t p = unwrap_or (at t p) t
+
+-- the replacement at a place of an edit, in the subterm at the path
+abbrev pub replacement : List ℕ → Tree → Tree → Edit → Replacement
+replacement path before after x =
+    record { path = path ++ x.path; old = part_at before x.path; new = part_at after x.path }
+
+-- What a run of b steps on the subterm at the path leads to: the outermost places of its edits, in their
+-- order.
+abbrev pub Foresees : List ℕ → ℕ → Tree → Answer → Result Preview Refusal → Type 0
+Foresees path b before (done after bindings left edits) outcome =
+    (places : Edits) × AreOutermost places edits
+    × (outcome ≡ Ok (record { replacements = map (replacement path before after) places; steps = b - left }))
+Foresees path b before (failed left) outcome = outcome ≡ Err Fails
+Foresees path b before (stopped why) outcome = outcome ≡ Err (stopped_as why)
+
+abbrev pub ForeseesAt : Meaning → List ℕ → ℕ → History → Place → Program → Resolved → Result Preview Refusal → Type 0
+ForeseesAt meaning path b h place program strategy =
+    Foresees path b place.part (run_whole (world_in meaning program h.primitives) (length path) strategy b place.part)
+
+-- What applying a strategy, given as text, to the subterm at a path of a label's tree would replace,
+-- or the refusal. Its tests are those of `apply`.
+abbrev pub Previews : Meaning → List ℕ → List ℕ → ℕ → List ℕ → History → Result Preview Refusal → Type 0
+Previews meaning name path b text h = Resolving name path text h (ForeseesAt meaning path b h)

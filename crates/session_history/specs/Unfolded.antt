@@ -1,0 +1,82 @@
+-- What the logs of a session represent: the whole contents before and after each step.
+use Rattle.std.specs.Prelude.{◌≡◌, ◌≤◌, ℕ, List, [], ◌∷◌, length, take, drop, true, Some, None, option_map}
+use Rattle.std.specs.declared.option.Option.{Option}
+use Rattle.std.specs.Bool.{OnFalse}
+use Rattle.term_core.specs.Tree.{Tree}
+use Rattle.term_paths.specs.Paths.{leads}
+use Rattle.prim_core.specs.Signature.{Signature}
+use Rattle.term_changes.specs.Contents.{Contents}
+use Rattle.term_changes.specs.Slots.{Store, AreApart, contents, content, slot_of}
+use Rattle.term_changes.specs.Entries.{Entry, before, after, Fits, FitsForward}
+use Rattle.term_changes.specs.Compact.{IsCompact}
+use Rattle.session_history.specs.History.{History}
+use Rattle.session_history.specs.declared.timeline.Timeline.{Timeline}
+use Rattle.session_history.specs.declared.timeline.OpenGroup.{OpenGroup}
+
+-- the store before the steps of these logs, the newest last
+abbrev pub rewound : List (List Entry) → Store → Store
+rewound [] s = s
+rewound (log ∷ logs) s = before log (rewound logs s)
+
+-- the contents before each of the steps
+abbrev pub past_of : List (List Entry) → Store → List Contents
+past_of [] s = []
+past_of (log ∷ logs) s = contents (before log (rewound logs s)) ∷ past_of logs s
+
+-- the contents after each of the steps that these logs redo, the nearest first
+abbrev pub later_of : List (List Entry) → Store → List Contents
+later_of [] s = []
+later_of (log ∷ logs) s = contents (after log s) ∷ later_of logs (after log s)
+
+-- each log fits where undo reaches it
+abbrev pub FitBack : List (List Entry) → Store → Type 0
+FitBack [] s = Unit {0}
+FitBack (log ∷ logs) s = Fits log (rewound logs s) × FitBack logs s
+
+-- each log fits forward where redo reaches it
+abbrev pub FitForward : List (List Entry) → Store → Type 0
+FitForward [] s = Unit {0}
+FitForward (log ∷ logs) s = FitsForward log s × FitForward logs (after log s)
+
+-- The history that a timeline represents, in a session with these primitives. The current log holds
+-- the changes since the open group began, and is empty outside a group.
+abbrev pub unfolded : List Signature → Timeline → History
+unfolded primitives t =
+    let start = before t.current t.store in
+    record {
+      primitives = primitives;
+      past = past_of (take t.position t.logs.items) start;
+      now = contents t.store;
+      later = later_of (drop t.position t.logs.items) start;
+      group = option_map (λ g. record { begun = contents start; changed = g.changed }) t.group;
+    }
+
+-- if nothing has changed in a group, or no group is open, the current log is empty
+abbrev pub IsCurrent : Option OpenGroup → List Entry → Type 0
+IsCurrent None log = log ≡ []
+IsCurrent (Some g) log = OnFalse g.changed (log ≡ [])
+
+-- in each log the entries are at disjoint places
+abbrev pub AllCompact : List (List Entry) → Type 0
+AllCompact [] = Unit {0}
+AllCompact (log ∷ logs) = IsCompact log × AllCompact logs
+
+-- the log of each step
+abbrev pub logs_of : Timeline → List (List Entry)
+logs_of t = t.logs.items
+
+-- The position is that of a log or the end; the logs before it lead back, the others forward. All
+-- are compact. The changes of an open group lead back too.
+pub record IsPlaced (t : Timeline) : Type 0 where
+  pub within : t.position ≤ length t.logs.items
+  pub back : FitBack (take t.position t.logs.items) (before t.current t.store)
+  pub forward : FitForward (drop t.position t.logs.items) (before t.current t.store)
+  pub compact : AllCompact t.logs.items
+  pub fits : Fits t.current t.store
+  pub current : IsCurrent t.group t.current
+
+-- the slot of a name's tree, which has a subterm at the path
+abbrev pub IsPlaceOf : Store → List ℕ → List ℕ → ℕ → Type 0
+IsPlaceOf s name path slot =
+    (t : Tree) × (slot_of s.trees name ≡ Some slot) × (AreApart s.trees)
+    × (content s.trees slot ≡ Some t) × (leads t path ≡ true)

@@ -1,0 +1,223 @@
+//! What commands do to a timeline: each is a step of the session's machine, or is refused and
+//! changes nothing.
+
+ghost use Rattle.std.specs.Prelude.{◌≡◌, ◌⊎◌, List, Ok, Err, IfOk, OnOk, OnErr, IfErr};
+ghost use Rattle.std.specs.List.{list_all};
+ghost use Rattle.term_core.specs.Size.{fits};
+ghost use Rattle.prim_core.specs.Signature.{Signature};
+ghost use Rattle.term_changes.specs.Slots.{contents};
+ghost use Rattle.change_log.specs.Texts.{TextsChange};
+ghost use Rattle.session_history.specs.Step.{ComesTo, set_tree, copy_tree, drop_tree, put, annotate, undo, redo, begin, abandon, place_of};
+ghost use Rattle.session_history.specs.Unfolded.{unfolded, IsPlaced, IsPlaceOf};
+
+use crate::{Refusal, Timeline};
+use change_log::{Entry, Texts};
+use term_core::{Label, Term};
+use term_paths::{Path, at};
+
+impl Timeline {
+    /// Sets the tree of this name.
+    #[inline(always)]
+    pub fn set_tree(&mut self, name: &Label, tree: Term) -> Result<(), Refusal>
+        requires { IsPlaced self.old }
+        ensures placed { IsPlaced self.new }
+        ensures ok { OnOk result ((ps : List Signature) → ComesTo (set_tree name.now tree) (unfolded ps self.old) (Ok (unfolded ps self.new))) }
+        ensures refused { IfErr result (λ refusal. (refusal ≡ Refusal.Memory)
+            ⊎ ((ps : List Signature) → ComesTo (set_tree name.now tree) (unfolded ps self.old) (Err refusal))) }
+        ensures err { OnErr result ((ps : List Signature) → unfolded ps self.new
+            ≡ unfolded ps self.old) }
+    {
+        if !tree.fits(0) {
+            return Err(Refusal::Big);
+        }
+        let slot = self.tree_slot(name)?;
+        self.change(Entry::tree(slot, Some(tree)))?;
+        Ok(())
+    }
+
+    /// Sets the tree of `copy` to a copy of the tree of `name`.
+    pub fn copy_tree(&mut self, name: &Label, copy: &Label) -> Result<(), Refusal>
+        requires { IsPlaced self.old }
+        ensures placed { IsPlaced self.new }
+        ensures ok { OnOk result ((ps : List Signature) → ComesTo (copy_tree name.now copy.now) (unfolded ps self.old) (Ok (unfolded ps self.new))) }
+        ensures refused { IfErr result (λ refusal. (refusal ≡ Refusal.Memory)
+            ⊎ ((ps : List Signature) → ComesTo (copy_tree name.now copy.now) (unfolded ps self.old) (Err refusal))) }
+        ensures err { OnErr result ((ps : List Signature) → unfolded ps self.new
+            ≡ unfolded ps self.old) }
+    {
+        let Some(tree) = self.tree(name) else {
+            return Err(Refusal::NoTree);
+        };
+        let tree = tree.try_clone()?;
+        let slot = self.tree_slot(copy)?;
+        self.change(Entry::tree(slot, Some(tree)))?;
+        Ok(())
+    }
+
+    /// Removes the tree of this name.
+    pub fn drop_tree(&mut self, name: &Label) -> Result<(), Refusal>
+        requires { IsPlaced self.old }
+        ensures placed { IsPlaced self.new }
+        ensures ok { OnOk result ((ps : List Signature) → ComesTo (drop_tree name.now) (unfolded ps self.old) (Ok (unfolded ps self.new))) }
+        ensures refused { IfErr result (λ refusal. (refusal ≡ Refusal.Memory)
+            ⊎ ((ps : List Signature) → ComesTo (drop_tree name.now) (unfolded ps self.old) (Err refusal))) }
+        ensures err { OnErr result ((ps : List Signature) → unfolded ps self.new
+            ≡ unfolded ps self.old) }
+    {
+        let Some(slot) = self.store.find_tree(name) else {
+            return Err(Refusal::NoTree);
+        };
+        if self.store.tree(slot).is_none() {
+            return Err(Refusal::NoTree);
+        }
+        self.change(Entry::tree(slot, None))?;
+        Ok(())
+    }
+
+    /// Replaces the subterm at the path in the tree of this name.
+    pub fn put(&mut self, name: &Label, path: &Path, part: Term) -> Result<(), Refusal>
+        requires { IsPlaced self.old }
+        ensures placed { IsPlaced self.new }
+        ensures ok { OnOk result ((ps : List Signature) → ComesTo (put name.now path.now part) (unfolded ps self.old) (Ok (unfolded ps self.new))) }
+        ensures refused { IfErr result (λ refusal. (refusal ≡ Refusal.Memory)
+            ⊎ ((ps : List Signature) → ComesTo (put name.now path.now part) (unfolded ps self.old) (Err refusal))) }
+        ensures err { OnErr result ((ps : List Signature) → unfolded ps self.new
+            ≡ unfolded ps self.old) }
+    {
+        let slot = match self.place(name, path) {
+            Ok(slot) => slot,
+            Err(refusal) => return Err(refusal),
+        };
+        if !part.fits(path.len() as u64) {
+            return Err(Refusal::Big);
+        }
+        self.change(Entry::subterm(slot, path.parts(), part))?;
+        Ok(())
+    }
+
+    /// Replaces the annotations of the subterm at the path in the tree of this name.
+    pub fn annotate(
+        &mut self,
+        name: &Label,
+        path: &Path,
+        annotations: Vec<Term>,
+    ) -> Result<(), Refusal>
+        requires { IsPlaced self.old }
+        ensures placed { IsPlaced self.new }
+        ensures ok { OnOk result ((ps : List Signature)
+            → ComesTo (annotate name.now path.now annotations.items) (unfolded ps self.old) (Ok (unfolded ps self.new))) }
+        ensures refused { IfErr result (λ refusal. (refusal ≡ Refusal.Memory)
+            ⊎ ((ps : List Signature)
+            → ComesTo (annotate name.now path.now annotations.items) (unfolded ps self.old) (Err refusal))) }
+        ensures err { OnErr result ((ps : List Signature) → unfolded ps self.new
+            ≡ unfolded ps self.old) }
+    {
+        let slot = match self.place(name, path) {
+            Ok(slot) => slot,
+            Err(refusal) => return Err(refusal),
+        };
+        if !all_fit(&annotations, path.parts().len() as u64 + 1) {
+            return Err(Refusal::Big);
+        }
+        self.change(Entry::annotations(slot, path.parts(), annotations))?;
+        Ok(())
+    }
+
+    /// The slot of the name's tree, if that has a subterm at the path.
+    pub fn place(&self, name: &Label, path: &Path) -> Result<usize, Refusal>
+        ensures there { IfOk result (λ slot. IsPlaceOf self.now.store name.now path.now slot) }
+        ensures refused { IfErr result (λ refusal. place_of (contents self.now.store) name.now path.now
+            ≡ Err refusal) }
+    {
+        let Some(slot) = self.store.find_tree(name) else {
+            return Err(Refusal::NoTree);
+        };
+        let Some(tree) = self.store.tree(slot) else {
+            return Err(Refusal::NoTree);
+        };
+        if at(tree, path).is_none() {
+            return Err(Refusal::Path);
+        }
+        Ok(slot)
+    }
+
+    /// Goes `n` steps back. Returns which module texts may have changed.
+    pub fn undo(&mut self, n: u32) -> Result<Texts, Refusal>
+        requires { IsPlaced self.old }
+        ensures placed { IsPlaced self.new }
+        ensures ok { OnOk result ((ps : List Signature) → ComesTo (undo n) (unfolded ps self.old) (Ok (unfolded ps self.new))) }
+        ensures texts { IfOk result (λ texts. TextsChange texts self.old.store self.new.store) }
+        ensures refused { IfErr result (λ refusal. (ps : List Signature) → ComesTo (undo n) (unfolded ps self.old) (Err refusal)) }
+        ensures err { OnErr result ((ps : List Signature) → unfolded ps self.new
+            ≡ unfolded ps self.old) }
+    {
+        if self.in_group() {
+            return Err(Refusal::Group);
+        }
+        let steps = n as usize;
+        if self.past() < steps {
+            return Err(Refusal::NoUndo);
+        }
+        Ok(self.back_by(steps))
+    }
+
+    /// Goes `n` steps forward. Returns which module texts may have changed.
+    pub fn redo(&mut self, n: u32) -> Result<Texts, Refusal>
+        requires { IsPlaced self.old }
+        ensures placed { IsPlaced self.new }
+        ensures ok { OnOk result ((ps : List Signature) → ComesTo (redo n) (unfolded ps self.old) (Ok (unfolded ps self.new))) }
+        ensures texts { IfOk result (λ texts. TextsChange texts self.old.store self.new.store) }
+        ensures refused { IfErr result (λ refusal. (ps : List Signature) → ComesTo (redo n) (unfolded ps self.old) (Err refusal)) }
+        ensures err { OnErr result ((ps : List Signature) → unfolded ps self.new
+            ≡ unfolded ps self.old) }
+    {
+        if self.in_group() {
+            return Err(Refusal::Group);
+        }
+        let steps = n as usize;
+        if self.later() < steps {
+            return Err(Refusal::NoRedo);
+        }
+        Ok(self.forward_by(steps))
+    }
+
+    /// Opens a group.
+    pub fn begin(&mut self) -> Result<(), Refusal>
+        requires { IsPlaced self.old }
+        ensures placed { IsPlaced self.new }
+        ensures ok { OnOk result ((ps : List Signature) → ComesTo begin (unfolded ps self.old) (Ok (unfolded ps self.new))) }
+        ensures refused { IfErr result (λ refusal. (ps : List Signature) → ComesTo begin (unfolded ps self.old) (Err refusal)) }
+        ensures err { OnErr result ((ps : List Signature) → unfolded ps self.new
+            ≡ unfolded ps self.old) }
+    {
+        if self.in_group() {
+            return Err(Refusal::Group);
+        }
+        self.open_group();
+        Ok(())
+    }
+
+    /// Undoes the changes of the open group and closes it. Returns which module texts may have
+    /// changed.
+    pub fn abandon(&mut self) -> Result<Texts, Refusal>
+        requires { IsPlaced self.old }
+        ensures placed { IsPlaced self.new }
+        ensures ok { OnOk result ((ps : List Signature) → ComesTo abandon (unfolded ps self.old) (Ok (unfolded ps self.new))) }
+        ensures texts { IfOk result (λ texts. TextsChange texts self.old.store self.new.store) }
+        ensures refused { IfErr result (λ refusal. (ps : List Signature) → ComesTo abandon (unfolded ps self.old) (Err refusal)) }
+        ensures err { OnErr result ((ps : List Signature) → unfolded ps self.new
+            ≡ unfolded ps self.old) }
+    {
+        if !self.in_group() {
+            return Err(Refusal::NoGroup);
+        }
+        Ok(self.leave_group())
+    }
+}
+
+// Whether all terms fit at the level.
+fn all_fit(terms: &[Term], level: u64) -> bool
+    ensures { result ≡ list_all (fits level) terms.now }
+{
+    terms.iter().all(|term| term.fits(level))
+}

@@ -1,0 +1,450 @@
+//! Steps over one store: the logs that lead back from each, or forward again.
+
+ghost use Rattle.std.specs.Prelude.{◌≡◌, ◌⊎◌, ◌<◌, ◌≤◌, ◌+◌, ◌-◌, ◌++◌, ℕ, List, [], ◌∷◌, length, take, vec_capacity, IfOk, OnOk, OnErr, Some, None, Ok, Err, IsSome, IsSomeAnd, true, false, is_some, option_copied, IfErr};
+ghost use Rattle.std.specs.Option.{option_map_or};
+ghost use Rattle.std.specs.FinMap as finmap;
+ghost use Rattle.std.specs.declared.option.Option.{Option};
+ghost use Rattle.prim_core.specs.Signature.{Signature};
+ghost use Rattle.term_changes.specs.Slots.{Store, contents, slot_of, AreApart};
+ghost use Rattle.term_changes.specs.Entries.{Entry, HasPlace, put, after, FitsForward};
+ghost use Rattle.term_changes.specs.PatchLaws.{patch_entries};
+ghost use Rattle.change_log.specs.Texts.{TextsChange};
+ghost use Rattle.session_history.specs.History.{empty_history, changed, step_back, step_forward, undone, redone};
+ghost use Rattle.session_history.specs.Step.{ComesTo, begin, abandon, committed};
+ghost use Rattle.session_history.specs.Modules.{AreRefused, SameBut, IsCurrent, IsKept};
+ghost use Rattle.session_history.specs.Unfolded.{unfolded, IsPlaced};
+ghost use Rattle.session_history.specs.inside.Adding.{AddsStep};
+
+use crate::kept::{keep_modules, settle};
+use crate::{KeptModules, Refusal};
+use change_log::{Entry, Log, Plan, Step, Store, Texts};
+use prim_core::{Meaning, Primitives};
+use std::alloc::Global;
+use std::mem;
+use term_core::{Label, NoMemory, Term};
+use term_changes::Patch;
+
+/// The current contents, and the steps that lead back and forward from them.
+#[derive(Drop)]
+pub struct Timeline {
+    pub store: Store,
+    // The steps, the oldest first. Those before the position lead back; the others are undone and
+    // lead forward.
+    logs: Vec<Step>,
+    position: usize,
+    group: Option<OpenGroup>,
+    // The changes since the open group began; empty outside a group.
+    current: Log,
+}
+
+/// An open group.
+#[derive(Clone, Copy)]
+pub struct OpenGroup {
+    // Whether a change was accepted since it began.
+    changed: bool,
+}
+
+impl Timeline {
+    /// A timeline without contents and steps. It takes no memory.
+    pub fn new(alloc: Global) -> Timeline
+        ensures value { (ps : List Signature) → unfolded ps result ≡ empty_history ps }
+        ensures placed { IsPlaced result }
+    {
+        Timeline {
+            store: Store::new(alloc),
+            logs: Vec::new(alloc),
+            position: 0,
+            group: None,
+            current: Log::new(alloc),
+        }
+    }
+
+    /// The allocator of everything kept.
+    pub fn allocator(&self) -> Global {
+        *self.logs.allocator()
+    }
+
+    /// The number of steps to undo.
+    pub fn past(&self) -> usize
+        requires { IsPlaced self.now }
+        ensures value { (ps : List Signature) → length (unfolded ps self.now).past ≡ result }
+        ensures position { result ≡ self.now.position }
+    {
+        self.position
+    }
+
+    /// The number of steps to redo.
+    pub fn later(&self) -> usize
+        requires { IsPlaced self.now }
+        ensures value { (ps : List Signature) → length (unfolded ps self.now).later ≡ result }
+        ensures rest { self.now.position + result ≡ length self.now.logs.items }
+    {
+        self.logs.len() - self.position
+    }
+
+    /// Whether a group is open.
+    pub fn in_group(&self) -> bool
+        ensures open { result ≡ true → (ps : List Signature) → is_some (unfolded ps self.now).group ≡ true }
+        ensures inside { result ≡ true → IsSome self.now.group }
+        ensures closed { result ≡ false → self.now.group ≡ None }
+    {
+        self.group.is_some()
+    }
+
+    /// The tree of this name, or `None` if there is none.
+    pub fn tree(&self, name: &Label) -> Option<&Term>
+        ensures { option_copied result ≡ finmap.get (contents self.now.store).trees name.now }
+    {
+        let slot = self.store.find_tree(name)?;
+        self.store.tree(slot)
+    }
+
+    /// The names of the trees, in byte order.
+    pub fn tree_names(&self) -> Result<Vec<Label>, NoMemory>
+        ensures { IfOk result (λ names. names.items
+            ≡ finmap.keys (contents self.now.store).trees) }
+    {
+        self.store.tree_names(*self.logs.allocator())
+    }
+
+    /// The module text of this name, or `None` if there is none.
+    pub fn module_text(&self, name: &Label) -> Option<&[u8]>
+        ensures { option_copied result ≡ finmap.get (contents self.now.store).modules name.now }
+    {
+        let slot = self.store.find_module(name)?;
+        self.store.module(slot)
+    }
+
+    /// The names of the modules, in byte order.
+    pub fn module_names(&self) -> Result<Vec<Label>, NoMemory>
+        ensures { IfOk result (λ names. names.items
+            ≡ finmap.keys (contents self.now.store).modules) }
+    {
+        self.store.module_names(*self.logs.allocator())
+    }
+
+    /// The slot for the tree of this name. It is made if there is none.
+    pub fn tree_slot(&mut self, name: &Label) -> Result<usize, NoMemory>
+        requires { IsPlaced self.old }
+        ensures placed { IsPlaced self.new }
+        ensures same { (ps : List Signature) → unfolded ps self.new ≡ unfolded ps self.old }
+        ensures slot { IfOk result (λ i. slot_of self.new.store.trees name.now ≡ Some i) }
+        ensures within { IfOk result (λ i. i < length self.new.store.trees) }
+    {
+        self.store.tree_slot(name)
+    }
+
+    /// The slot for the module of this name. It is made if there is none.
+    pub fn module_slot(&mut self, name: &Label) -> Result<usize, NoMemory>
+        requires { IsPlaced self.old }
+        ensures placed { IsPlaced self.new }
+        ensures same { (ps : List Signature) → unfolded ps self.new ≡ unfolded ps self.old }
+        ensures slot { IfOk result (λ i. slot_of self.new.store.modules name.now ≡ Some i) }
+        ensures within { IfOk result (λ i. i < length self.new.store.modules) }
+        ensures apart { AreApart self.new.store.modules }
+        ensures group { self.new.group ≡ self.old.group }
+    {
+        self.store.module_slot(name)
+    }
+
+    /// Makes a change, as a step or as part of the open group. If memory can't grow, nothing
+    /// changes.
+    pub fn change(&mut self, entry: Entry<'_>) -> Result<(), NoMemory>
+        requires placed { IsPlaced self.old }
+        requires place { HasPlace entry self.old.store }
+        ensures placed { IsPlaced self.new }
+        ensures ok { OnOk result ((ps : List Signature) → unfolded ps self.new
+            ≡ changed (contents (put entry.entry self.old.store)) (unfolded ps self.old)) }
+        ensures err { OnErr result ((ps : List Signature) → unfolded ps self.new
+            ≡ unfolded ps self.old) }
+    {
+        if self.in_group() {
+            self.change_in_group(entry)
+        } else {
+            self.change_as_step(entry)
+        }
+    }
+
+    pub fn change_in_group(&mut self, entry: Entry<'_>) -> Result<(), NoMemory>
+        requires placed { IsPlaced self.old }
+        requires place { HasPlace entry self.old.store }
+        requires inside { IsSome self.old.group }
+        ensures placed { IsPlaced self.new }
+        ensures ok { OnOk result ((ps : List Signature) → unfolded ps self.new
+            ≡ changed (contents (put entry.entry self.old.store)) (unfolded ps self.old)) }
+        ensures err { OnErr result ((ps : List Signature) → unfolded ps self.new
+            ≡ unfolded ps self.old) }
+    {
+        self.current.push(&mut self.store, entry)?;
+        self.group = Some(OpenGroup { changed: true });
+        Ok(())
+    }
+
+    // The place in the list of steps is reserved before anything changes.
+    fn change_as_step(&mut self, entry: Entry<'_>) -> Result<(), NoMemory>
+        requires placed { IsPlaced self.old }
+        requires place { HasPlace entry self.old.store }
+        requires outside { self.old.group ≡ None }
+        ensures placed { IsPlaced self.new }
+        ensures ok { OnOk result ((ps : List Signature) → unfolded ps self.new
+            ≡ changed (contents (put entry.entry self.old.store)) (unfolded ps self.old)) }
+        ensures err { OnErr result ((ps : List Signature) → unfolded ps self.new
+            ≡ unfolded ps self.old) }
+    {
+        self.logs.reserve(1)?;
+        let step = Step::make(*self.logs.allocator(), &mut self.store, entry)?;
+        self.add(step);
+        Ok(())
+    }
+
+    /// Exchanges a patch in the subterm that the path leads to in a slot's tree, as a step. If memory
+    /// can't grow, nothing changes.
+    pub fn patch_as_step(
+        &mut self,
+        slot: usize,
+        path: Vec<usize>,
+        patch: Patch,
+    ) -> Result<(), NoMemory>
+        requires placed { IsPlaced self.old }
+        requires outside { self.old.group ≡ None }
+        requires places { FitsForward (patch_entries slot path.items patch) self.old.store }
+        ensures placed { IsPlaced self.new }
+        ensures ok { OnOk result ((ps : List Signature) → unfolded ps self.new
+            ≡ changed (contents self.new.store) (unfolded ps self.old)) }
+        ensures store { OnOk result (self.new.store
+            ≡ after (patch_entries slot path.items patch) self.old.store) }
+        ensures err { OnErr result ((ps : List Signature) → unfolded ps self.new
+            ≡ unfolded ps self.old) }
+    {
+        self.logs.reserve(1)?;
+        let step = Step::patched(&mut self.store, slot, path, patch);
+        self.add(step);
+        Ok(())
+    }
+
+    /// Makes the planned changes in order, as part of the open group. If memory can't grow, nothing
+    /// changes.
+    pub fn plan_in_group(&mut self, plan: Plan) -> Result<(), NoMemory>
+        requires placed { IsPlaced self.old }
+        requires inside { IsSome self.old.group }
+        requires places { FitsForward plan self.old.store }
+        ensures placed { IsPlaced self.new }
+        ensures ok { OnOk result ((ps : List Signature) → unfolded ps self.new
+            ≡ changed (contents self.new.store) (unfolded ps self.old)) }
+        ensures store { OnOk result (self.new.store ≡ after plan self.old.store) }
+        ensures err { OnErr result ((ps : List Signature) → unfolded ps self.new
+            ≡ unfolded ps self.old) }
+    {
+        self.current.make(&mut self.store, plan)?;
+        self.group = Some(OpenGroup { changed: true });
+        Ok(())
+    }
+
+    /// Makes a change of the text of the module of this name as a step, if the checker then finds no
+    /// fault in the modules, which are kept. Else nothing changes.
+    pub fn change_checked<M: Meaning>(
+        &mut self,
+        primitives: &Primitives<M>,
+        kept: &mut KeptModules,
+        name: &Label,
+        entry: Entry<'_>,
+    ) -> Result<(), Refusal>
+        requires placed { IsPlaced self.old }
+        requires place { HasPlace entry self.old.store }
+        requires outside { self.old.group ≡ None }
+        requires one { SameBut name.now (contents self.old.store).modules
+            (contents (put entry self.old.store)).modules }
+        requires kept { IsKept primitives.now (contents self.old.store).modules kept.old }
+        ensures placed { IsPlaced self.new }
+        ensures ok { OnOk result (unfolded primitives.now self.new
+            ≡ changed (contents (put entry.entry self.old.store)) (unfolded primitives.now self.old)) }
+        ensures current { OnOk result (IsCurrent primitives.now
+            (contents (put entry.entry self.old.store)).modules kept.new) }
+        ensures refused { IfErr result (λ refusal. AreRefused primitives.now
+            (contents (put entry.entry self.old.store)).modules refusal) }
+        ensures err { OnErr result (unfolded primitives.now self.new
+            ≡ unfolded primitives.now self.old) }
+        ensures kept { IsKept primitives.now (contents self.new.store).modules kept.new }
+    {
+        let alloc = *self.logs.allocator();
+        let Ok(()) = self.logs.reserve(1) else {
+            return Err(Refusal::Memory);
+        };
+        settle(alloc, &self.store, primitives, kept);
+        let mut log = Log::new(alloc);
+        log.push(&mut self.store, entry)?;
+        kept.note_name(name);
+        match keep_modules(alloc, &self.store, primitives, kept) {
+            Ok(()) => {
+                self.add_step(log);
+                Ok(())
+            }
+            Err(refusal) => {
+                log.roll_back(0, &mut self.store);
+                kept.note_name(name);
+                Err(refusal)
+            }
+        }
+    }
+
+    // Appends a step of the compacted log, for which there is room, and drops the undone steps.
+    fn add_step(&mut self, log: Log)
+        requires within { self.old.position ≤ length self.old.logs.items }
+        requires room { length self.old.logs.items < vec_capacity self.old.logs }
+        ensures logs { AddsStep (take self.old.position self.old.logs.items) log self.new.logs.items }
+        ensures position { self.new.position ≡ self.old.position + 1 }
+        ensures store { self.new.store ≡ self.old.store }
+        ensures group { self.new.group ≡ self.old.group }
+        ensures current { self.new.current ≡ self.old.current }
+    {
+        self.add(Step::of(log));
+    }
+
+    // Appends a step, for which there is room, and drops the undone steps.
+    #[inline(always)]
+    fn add(&mut self, step: Step)
+        requires within { self.old.position ≤ length self.old.logs.items }
+        requires room { length self.old.logs.items < vec_capacity self.old.logs }
+        ensures logs { self.new.logs.items ≡ take self.old.position self.old.logs.items ++ step ∷ [] }
+        ensures position { self.new.position ≡ self.old.position + 1 }
+        ensures store { self.new.store ≡ self.old.store }
+        ensures group { self.new.group ≡ self.old.group }
+        ensures current { self.new.current ≡ self.old.current }
+    {
+        self.logs.truncate(self.position);
+        self.logs.push_reserved(step);
+        self.position += 1;
+    }
+
+    /// Goes one step back. Returns which module texts may have changed.
+    pub fn back(&mut self) -> Texts
+        requires placed { IsPlaced self.old }
+        requires some { 0 < self.old.position }
+        requires outside { self.old.group ≡ None }
+        ensures placed { IsPlaced self.new }
+        ensures outside { self.new.group ≡ None }
+        ensures position { self.new.position ≡ self.old.position - 1 }
+        ensures texts { TextsChange result self.old.store self.new.store }
+        ensures value { (ps : List Signature) → step_back (unfolded ps self.old)
+            ≡ Some (unfolded ps self.new) }
+    {
+        self.position -= 1;
+        let step = &mut self.logs[self.position];
+        let texts = step.texts();
+        step.flip_back(&mut self.store);
+        texts
+    }
+
+    /// Goes this many steps back. Returns which module texts may have changed.
+    pub fn back_by(&mut self, steps: usize) -> Texts
+        requires placed { IsPlaced self.old }
+        requires enough { steps ≤ self.old.position }
+        requires outside { self.old.group ≡ None }
+        ensures placed { IsPlaced self.new }
+        ensures value { (ps : List Signature) → undone steps (unfolded ps self.old)
+            ≡ Some (unfolded ps self.new) }
+        ensures texts { TextsChange result self.old.store self.new.store }
+    {
+        let mut texts = Texts::None;
+        let mut left = steps;
+        while left > 0 {
+            left -= 1;
+            texts = texts.and(self.back());
+        }
+        texts
+    }
+
+    /// Goes one step forward. Returns which module texts may have changed.
+    pub fn forward(&mut self) -> Texts
+        requires placed { IsPlaced self.old }
+        requires some { self.old.position < length self.old.logs.items }
+        requires outside { self.old.group ≡ None }
+        ensures placed { IsPlaced self.new }
+        ensures outside { self.new.group ≡ None }
+        ensures position { self.new.position ≡ self.old.position + 1 }
+        ensures count { length self.new.logs.items ≡ length self.old.logs.items }
+        ensures texts { TextsChange result self.old.store self.new.store }
+        ensures value { (ps : List Signature) → step_forward (unfolded ps self.old)
+            ≡ Some (unfolded ps self.new) }
+    {
+        let step = &mut self.logs[self.position];
+        let texts = step.texts();
+        step.flip_forward(&mut self.store);
+        self.position += 1;
+        texts
+    }
+
+    /// Goes this many steps forward. Returns which module texts may have changed.
+    pub fn forward_by(&mut self, steps: usize) -> Texts
+        requires placed { IsPlaced self.old }
+        requires enough { self.old.position + steps ≤ length self.old.logs.items }
+        requires outside { self.old.group ≡ None }
+        ensures placed { IsPlaced self.new }
+        ensures value { (ps : List Signature) → redone steps (unfolded ps self.old)
+            ≡ Some (unfolded ps self.new) }
+        ensures texts { TextsChange result self.old.store self.new.store }
+    {
+        let mut texts = Texts::None;
+        let mut left = steps;
+        while left > 0 {
+            left -= 1;
+            texts = texts.and(self.forward());
+        }
+        texts
+    }
+
+    /// Opens a group. It takes no memory.
+    pub fn open_group(&mut self)
+        requires placed { IsPlaced self.old }
+        requires outside { self.old.group ≡ None }
+        ensures placed { IsPlaced self.new }
+        ensures value { (ps : List Signature) → ComesTo begin (unfolded ps self.old) (Ok (unfolded ps self.new)) }
+    {
+        self.group = Some(OpenGroup { changed: false });
+    }
+
+    /// Makes the changes of the open group one step and closes it. If memory can't grow, nothing
+    /// changes.
+    pub fn close_group(&mut self) -> Result<(), NoMemory>
+        requires placed { IsPlaced self.old }
+        requires inside { IsSome self.old.group }
+        ensures placed { IsPlaced self.new }
+        ensures ok { OnOk result ((ps : List Signature)
+            → IsSomeAnd (unfolded ps self.old).group (λ g. unfolded ps self.new
+            ≡ committed g (unfolded ps self.old))) }
+        ensures err { OnErr result ((ps : List Signature) → unfolded ps self.new
+            ≡ unfolded ps self.old) }
+    {
+        if !self.has_changed() {
+            self.group = None;
+            return Ok(());
+        }
+        self.logs.reserve(1)?;
+        let log = mem::replace(&mut self.current, Log::new(*self.logs.allocator()));
+        self.add_step(log);
+        self.group = None;
+        Ok(())
+    }
+
+    // Whether the open group has changes.
+    fn has_changed(&self) -> bool
+        ensures { result ≡ option_map_or (λ g. g.changed) self.now.group false }
+    {
+        self.group.is_some_and(|group| group.changed)
+    }
+
+    /// Undoes the changes of the open group and closes it. Returns which module texts may have
+    /// changed. It takes no memory.
+    pub fn leave_group(&mut self) -> Texts
+        requires placed { IsPlaced self.old }
+        requires inside { IsSome self.old.group }
+        ensures placed { IsPlaced self.new }
+        ensures value { (ps : List Signature) → ComesTo abandon (unfolded ps self.old) (Ok (unfolded ps self.new)) }
+        ensures texts { TextsChange result self.old.store self.new.store }
+    {
+        let texts = self.current.texts();
+        self.current.roll_back(0, &mut self.store);
+        self.group = None;
+        texts
+    }
+}

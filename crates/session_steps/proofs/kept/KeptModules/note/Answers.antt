@@ -1,6 +1,0 @@
-use Rattle.change_plans.specs.Slots.{contents}
-use Rattle.session_steps.proofs.KeptLemmas.{kept_several}
-use Rattle.session_steps.proofs.kept.KeptModules.note.Goals as goal
-
-pub returns-in-Several : goal.returns-in-Several
-returns-in-Several c ps old change k = kept_several ps (contents old).modules (contents c.args.store.now).modules c.args.self.now.checked c.args.self.now.changed k

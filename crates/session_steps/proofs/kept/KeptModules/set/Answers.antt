@@ -1,5 +1,0 @@
-use Rattle.session_steps.proofs.KeptLemmas.{kept_current}
-use Rattle.session_steps.proofs.kept.KeptModules.set.Goals as goal
-
-pub returns-clause-kept : goal.returns-clause-kept
-returns-clause-kept c ps texts current = kept_current ps texts c.args.checked current

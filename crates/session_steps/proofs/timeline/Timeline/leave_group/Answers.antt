@@ -1,6 +1,0 @@
-use Rattle.std.proofs.Common.{drop}
-use Rattle.session_steps.proofs.TextLemmas.{changed_back}
-use Rattle.session_steps.proofs.timeline.Timeline.leave_group.Goals as goal
-
-pub returns-clause-texts : goal.returns-clause-texts
-returns-clause-texts c = changed_back c.texts-texts.result (drop 0 c.args.self.now.current) c.args.self.now.store c.roll_back.new.store c.texts-texts.ensures c.roll_back.ensures.store

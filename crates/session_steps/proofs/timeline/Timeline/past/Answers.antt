@@ -1,5 +1,0 @@
-use Rattle.session_steps.proofs.PlaceLemmas.{past_count}
-use Rattle.session_steps.proofs.timeline.Timeline.past.Goals as goal
-
-pub returns-clause-value : goal.returns-clause-value
-returns-clause-value c = λ ps. past_count c.args.self.now c.requires

@@ -1,6 +1,0 @@
-use Rattle.strategy_scopes.specs.Table.{scopes}
-use Rattle.strategy_scopes.proofs.ArgumentLemmas.{Added}
-use Rattle.strategy_scopes.proofs.scopes.Scopes.add_arguments.Given as goal
-
-abbrev pub invariant-each : goal.invariant-each
-invariant-each l = Added (scopes l.initial.self) (scopes l.self) l.scope l.strategies l.strategy-index l.names

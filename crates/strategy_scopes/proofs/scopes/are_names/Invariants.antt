@@ -1,6 +1,0 @@
-use Rattle.std.proofs.Common.{take}
-use Rattle.strategy_scopes.specs.inside.Entries.{AreNames}
-use Rattle.strategy_scopes.proofs.scopes.are_names.Given as goal
-
-abbrev pub invariant-each : goal.invariant-each
-invariant-each l = AreNames 0 (take l.i l.strategies)

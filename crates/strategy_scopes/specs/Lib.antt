@@ -1,3 +1,0 @@
-pub mod Table
-pub use Rattle.strategy_meaning.specs.Scopes
-pub mod inside

@@ -1,9 +1,0 @@
-pub mod TwiceLemmas
-pub mod OrderLemmas
-pub mod FlipLemmas
-pub mod PathLemmas
-pub mod WalkLemmas
-pub mod WalkedLemmas
-pub mod ExchangeLemmas
-pub mod DraftLemmas
-pub mod TrimLemmas

@@ -1,4 +1,0 @@
-pub mod Exchange
-pub mod Items
-pub mod PatchLaws
-pub mod inside

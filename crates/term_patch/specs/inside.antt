@@ -1,4 +1,0 @@
-pub mod ItemCodes
-pub mod Marks
-pub mod Trimmed
-pub mod Walked
