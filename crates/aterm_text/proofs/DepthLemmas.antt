@@ -10,15 +10,15 @@ use Rattle.term_core.specs.Tree.{Tree}
 use Rattle.aterm_text.specs.Nesting.{greatest_open, outside_quotes, inside_quotes, behind_backslash, open_after}
 use Rattle.aterm_text.specs.Tokens.{is_blank, without_blanks, NextQuoted, NextWord, integer_len, ReadsItems, item_at, escape_at, short_or_octal, octal_at, octal_value, is_octal_digit, are_octal_digits}
 use Rattle.aterm_text.specs.inside.Beginnings.{Begins, beginning_of}
-use Rattle.aterm_text.specs.inside.Stack.{Stack, OpenBracket, on_top, with_top, inside, first_closing, closes_first, closes}
+use Rattle.aterm_text.specs.inside.TermStack.{TermStack, OpenBracket, on_top, with_top, inside, first_closing, closes_first, closes}
 use Rattle.aterm_text.specs.inside.Depth.{depth, IsTooDeep, IsAsDeep, KeepsDepth}
 use Rattle.aterm_text.specs.declared.TheConstants.{MAX_NESTING}
 use Rattle.aterm_text.specs.declared.reader.lexeme.Lexeme.{Lexeme}
 use Rattle.aterm_text.specs.declared.reader.lexeme.Lexeme.TheVariants.{Integer, Named}
 use Rattle.aterm_text.specs.declared.reader.stack.Opening.{Opening}
 use Rattle.aterm_text.specs.declared.reader.stack.Opening.TheVariants.{Round, Square, Curly}
-use Rattle.aterm_text.specs.declared.reader.machine.Step.{Step}
-use Rattle.aterm_text.specs.declared.reader.machine.Step.TheVariants.{More, Done}
+use Rattle.aterm_text.specs.declared.reader.machine.Progress.{Progress}
+use Rattle.aterm_text.specs.declared.reader.machine.Progress.TheVariants.{More, Done}
 use Rattle.aterm_text.proofs.ScanLemmas.{same_pair}
 
 -- the greatest number of brackets open in x, if n are open before it
@@ -96,7 +96,7 @@ closing_first : (open_brackets : List OpenBracket) (n : ℕ) (x : List ℕ) (clo
 closing_first [] n x closing e = absurd (cc)
 closing_first (g ∷ gs) n x closing e = let same : closing ≡ closes g.opening = cc in closes_so g.opening n x closing same
 
-pub closing-byte : (s : Stack) (n : ℕ) (x : List ℕ) (closing : ℕ) → first_closing s ≡ Some closing → Greatest n (closing ∷ x) ≡ max n (Greatest (n - 1) x)
+pub closing-byte : (s : TermStack) (n : ℕ) (x : List ℕ) (closing : ℕ) → first_closing s ≡ Some closing → Greatest n (closing ∷ x) ≡ max n (Greatest (n - 1) x)
 closing-byte s n x closing e = closing_first s.open_brackets n x closing e
 
 -- ---- quoted bytes
@@ -201,24 +201,24 @@ top_so : (t : Tree) (outside : List Tree) (open_brackets : List OpenBracket) →
 top_so t outside [] = refl
 top_so t outside (g ∷ gs) = refl
 
-depth-top : (s s' : Stack) (t : Tree) → s' ≡ with_top t s → depth s' ≡ depth s
+depth-top : (s s' : TermStack) (t : Tree) → s' ≡ with_top t s → depth s' ≡ depth s
 depth-top s s' t e = ap depth e ∙ top_so t s.outside s.open_brackets
 
-pub depth-inside : (s s' : Stack) (o : Opening) (ts : List Tree) → s' ≡ inside o ts s → depth s' ≡ depth s + 1
+pub depth-inside : (s s' : TermStack) (o : Opening) (ts : List Tree) → s' ≡ inside o ts s → depth s' ≡ depth s + 1
 depth-inside s s' o ts e = ap depth e ∙ omega arith
 
-depth-opened : (s s' : Stack) (t : Tree) (o : Opening) → s' ≡ inside o [] (with_top t s) → depth s' ≡ depth s + 1
+depth-opened : (s s' : TermStack) (t : Tree) (o : Opening) → s' ≡ inside o [] (with_top t s) → depth s' ≡ depth s + 1
 depth-opened s s' t o e = depth-inside (with_top t s) s' o [] e ∙ ap (λ n. n + 1) (depth-top s (with_top t s) t refl)
 
 nothing_so : (open_brackets : List OpenBracket) → closes_first open_brackets ≡ None → length open_brackets ≡ 0
 nothing_so [] e = refl
 nothing_so (g ∷ gs) e = absurd (cc)
 
-pub depth-nothing : (s : Stack) → first_closing s ≡ None → depth s ≡ 0
+pub depth-nothing : (s : TermStack) → first_closing s ≡ None → depth s ≡ 0
 depth-nothing s e = nothing_so s.open_brackets e
 
 -- closing removes one bracket
-pub depth-left : (s s1 s' : Stack) (o : Opening) (ts : List Tree) (t : Tree) → s ≡ inside o ts s1 → s' ≡ with_top t s1 → depth s' ≡ depth s - 1
+pub depth-left : (s s1 s' : TermStack) (o : Opening) (ts : List Tree) (t : Tree) → s ≡ inside o ts s1 → s' ≡ with_top t s1 → depth s' ≡ depth s - 1
 depth-left s s1 s' o ts t e f = omega (arith, depth-inside s1 s o ts e, depth-top s1 s' t f)
 
 -- ---- steps
@@ -229,7 +229,7 @@ as_deep n n' x x' e few = record { few = few; forth = λ h. omega (arith, e, h);
 as_deep-less : (n n' : ℕ) (x x' : List ℕ) → Greatest n x ≡ max n (Greatest n' x') → n ≤ MAX_NESTING → n' ≤ MAX_NESTING → IsAsDeep n x n' x'
 as_deep-less n n' x x' e few' few = record { few = few; forth = λ h. omega (arith, e, h, few'); back = λ h. omega (arith, e, h) }
 
-module _ (s s' : Stack) (x y : List ℕ) where
+module _ (s s' : TermStack) (x y : List ℕ) where
   pub keeps-push : (t : Tree) → Greatest (depth s) x ≡ Greatest (depth s) y → s' ≡ with_top t s → depth s ≤ MAX_NESTING → IsAsDeep (depth s) x (depth s') y
   keeps-push t e same few =
       let d = depth-top s s' t same in
@@ -251,17 +251,17 @@ module _ (s s' : Stack) (x y : List ℕ) where
       as_deep-less (depth s) (depth s') x y
       (ap (Greatest (depth s)) next ∙ closing-byte s (depth s) y closing e ∙ ap (λ k. max (depth s) (Greatest k y)) (sym d)) few (omega (arith, d))
 
-pub keeps-comma : (s : Stack) (x y : List ℕ) → x ≡ 44 ∷ y → depth s ≤ MAX_NESTING → IsAsDeep (depth s) x (depth s) y
+pub keeps-comma : (s : TermStack) (x y : List ℕ) → x ≡ 44 ∷ y → depth s ≤ MAX_NESTING → IsAsDeep (depth s) x (depth s) y
 keeps-comma s x y next few = as_deep (depth s) (depth s) x y (ap (Greatest (depth s)) next ∙ comma-neutral (depth s) y) few
 
 -- a step from a text that is equally deep
-pub keeps-after : (s s' : Stack) (x text : List ℕ) (step : Step) → Greatest (depth s) x ≡ Greatest (depth s) text → KeepsDepth s text step s' → KeepsDepth s x step s'
+pub keeps-after : (s s' : TermStack) (x text : List ℕ) (step : Progress) → Greatest (depth s) x ≡ Greatest (depth s) text → KeepsDepth s text step s' → KeepsDepth s x step s'
 keeps-after s s' x text (More state rest) e keeps = λ few.
     let k = keeps few in
     record { few = k.few; forth = λ h. k.forth (omega (arith, e, h)); back = λ h. let g = k.back h in omega (arith, e, g) }
 keeps-after s s' x text Done e keeps = λ few h. keeps few (omega (arith, e, h))
 
-pub keeps-end : (s : Stack) (x : List ℕ) → (length x == 0) ≡ true → depth s ≤ MAX_NESTING → IsTooDeep (depth s) x → ⊥
+pub keeps-end : (s : TermStack) (x : List ℕ) → (length x == 0) ≡ true → depth s ≤ MAX_NESTING → IsTooDeep (depth s) x → ⊥
 keeps-end s [] e few h = omega (arith, few, h)
 keeps-end s (b ∷ x) e few h = let zero : length (b ∷ x) ≡ 0 = grind (arith, nat_tests) in omega (arith, zero)
 

@@ -1,13 +1,13 @@
 -- The greatest number of open brackets, byte by byte.
 use Rattle.std.proofs.Common.{◌≡◌, ℕ, ◌+◌, ◌≤◌, ◌<◌, ◌-◌, ◌==◌, ◌||◌, List, [], ◌∷◌, length, drop, get_or, refl, ap, ◌∙◌, arith, max, Bool, true, false, if◌then◌else◌, add-one, drop-cons}
 use Rattle.std.proofs.lemmas.Bool.{eqb-true}
-use Rattle.aterm_text.specs.declared.brackets.Place.{Place}
-use Rattle.aterm_text.specs.declared.brackets.Place.TheVariants.{OutsideQuotes, InsideQuotes, BehindBackslash}
+use Rattle.aterm_text.specs.declared.brackets.Quoting.{Quoting}
+use Rattle.aterm_text.specs.declared.brackets.Quoting.TheVariants.{OutsideQuotes, InsideQuotes, BehindBackslash}
 use Rattle.aterm_text.specs.Nesting.{outside_quotes, inside_quotes, behind_backslash, open_after, greatest_open}
 use Rattle.aterm_text.specs.inside.NestingPlaces.{place_after, depth_after}
 
 -- the counted part of a text that begins at p
-abbrev pub counted : Place → List ℕ → List ℕ
+abbrev pub counted : Quoting → List ℕ → List ℕ
 counted OutsideQuotes x = outside_quotes x
 counted InsideQuotes x = inside_quotes x
 counted BehindBackslash x = behind_backslash x
@@ -16,7 +16,7 @@ greatest_open-le : (n : ℕ) (x : List ℕ) → n ≤ greatest_open n x
 greatest_open-le n [] = omega arith
 greatest_open-le n (b ∷ bs) = omega arith
 
-pub counted-empty : (p : Place) (n : ℕ) → greatest_open n (counted p []) ≡ n
+pub counted-empty : (p : Quoting) (n : ℕ) → greatest_open n (counted p []) ≡ n
 counted-empty OutsideQuotes n = refl
 counted-empty InsideQuotes n = refl
 counted-empty BehindBackslash n = refl
@@ -42,7 +42,7 @@ quoted-byte x false true = refl
 quoted-byte x false false = refl
 
 -- one more byte, if n brackets are open and at most g were
-pub counted-byte : (p : Place) (n g b : ℕ) (x : List ℕ) → n ≤ g →
+pub counted-byte : (p : Quoting) (n g b : ℕ) (x : List ℕ) → n ≤ g →
     max g (greatest_open n (counted p (b ∷ x))) ≡ max (max (depth_after p b n) g) (greatest_open (depth_after p b n) (counted (place_after p b) x))
 counted-byte OutsideQuotes n g b x h = outside-byte n g b x (b == 34) (λ e. quote_leaves b n (eqb-true b 34 e)) h
 counted-byte InsideQuotes n g b x h = ap (λ r. max g (greatest_open n r)) (quoted-byte x (b == 34) (b == 92)) ∙ max-again n g _ h
@@ -53,12 +53,12 @@ cases-le true c n = omega arith
 cases-le false true n = omega arith
 cases-le false false n = omega arith
 
-pub depth_after-le : (p : Place) (b n : ℕ) → depth_after p b n ≤ n + 1
+pub depth_after-le : (p : Quoting) (b n : ℕ) → depth_after p b n ≤ n + 1
 depth_after-le OutsideQuotes b n = cases-le ((b == 40) || (b == 91) || (b == 123)) ((b == 41) || (b == 93) || (b == 125)) n
 depth_after-le InsideQuotes b n = omega arith
 depth_after-le BehindBackslash b n = omega arith
 
-pub nesting-byte : (p : Place) (n g i : ℕ) (x : List ℕ) → i < length x → n ≤ g →
+pub nesting-byte : (p : Quoting) (n g i : ℕ) (x : List ℕ) → i < length x → n ≤ g →
     max g (greatest_open n (counted p (drop i x))) ≡ max (max (depth_after p (get_or x i 0) n) g) (greatest_open (depth_after p (get_or x i 0) n) (counted (place_after p (get_or x i 0)) (drop (i + 1) x)))
 nesting-byte p n g i x h k = rw (add-one, drop-cons x i 0 h) (counted-byte p n g (get_or x i 0) _ k)
 

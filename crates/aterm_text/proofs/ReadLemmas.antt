@@ -4,13 +4,13 @@ use Rattle.term_core.specs.Tree.{Tree, to_list, of_list, list_term, annotations,
 use Rattle.term_core.proofs.TreeLemmas.{to_list-of_list, of_list-to_list}
 use Rattle.aterm_text.specs.Tokens.{NextSign, without_blanks}
 use Rattle.aterm_text.specs.Grammar.{Reads, ReadsUntil, Spells, SpellsAnnotations}
-use Rattle.aterm_text.specs.inside.Stack.{Stack, no_terms, with_top}
-use Rattle.aterm_text.specs.inside.Unread.{Reading, expected, base, Unread, Stands, Continues, GoesOn, Goes, Leads, IsLost, IsStuck, IsEnd}
+use Rattle.aterm_text.specs.inside.TermStack.{TermStack, no_terms, with_top}
+use Rattle.aterm_text.specs.inside.Unread.{Reading, expected, base, Unread, ReaderStands, Continues, GoesOn, Goes, ReaderLeads, IsLost, IsStuck, IsEnd}
 use Rattle.aterm_text.specs.inside.Level.{Level}
-use Rattle.aterm_text.specs.declared.reader.machine.State.{State}
-use Rattle.aterm_text.specs.declared.reader.machine.State.TheVariants.{Expected, Base}
-use Rattle.aterm_text.specs.declared.reader.machine.Step.{Step}
-use Rattle.aterm_text.specs.declared.reader.machine.Step.TheVariants.{More, Done}
+use Rattle.aterm_text.specs.declared.reader.machine.ReaderState.{ReaderState}
+use Rattle.aterm_text.specs.declared.reader.machine.ReaderState.TheVariants.{Expected, Base}
+use Rattle.aterm_text.specs.declared.reader.machine.Progress.{Progress}
+use Rattle.aterm_text.specs.declared.reader.machine.Progress.TheVariants.{More, Done}
 use Rattle.std.specs.declared.option.Option.{Option}
 use Rattle.std.specs.declared.result.Result.{Result}
 use Rattle.aterm_text.specs.declared.reader.ReadFault.{ReadFault}
@@ -24,10 +24,10 @@ spells-unread x t h = (t, h.0, h.1, (h.2, refl))
 pub unread-spells : (x : List ℕ) (t : Tree) → Unread expected [] x t → Spells x t
 unread-spells x t k = (k.1, subst (λ u. Reads u x k.1) (sym k.3.1) k.2, k.3.0)
 
-pub stands-expected : (s : Stack) → s ≡ no_terms → Stands expected [] Expected s
+pub stands-expected : (s : TermStack) → s ≡ no_terms → ReaderStands expected [] Expected s
 stands-expected s e = (refl, e)
 
-pub stands-bearer : (s s0 : Stack) (t : Tree) (us : List Tree) → s0 ≡ no_terms → t ≡ list_term us → us ≡ [] → s ≡ with_top t s0 → Stands (base (list_term [])) [] Base s
+pub stands-bearer : (s s0 : TermStack) (t : Tree) (us : List Tree) → s0 ≡ no_terms → t ≡ list_term us → us ≡ [] → s ≡ with_top t s0 → ReaderStands (base (list_term [])) [] Base s
 stands-bearer s s0 t us e made empty same = (no_terms, refl, same ∙ (λ i. with_top ((made ∙ ap list_term empty) i) (e i)), refl, refl)
 
 -- the annotations of a term that was read after an empty list
@@ -61,17 +61,17 @@ module _ (x text : List ℕ) (trim : text ≡ without_blanks x) where
   only_annotations found only notes h = sym (to_list-of_list notes) ∙ ap annotations (only _ (spells_annotations-unread notes h))
 
 -- reading from r, with no bracket open, has reached this state, this stack and this rest
-pub record IsUnderWay (r : Reading) (x : List ℕ) (state : State) (s : Stack) (rest : List ℕ) : Type 0 where
+pub record IsUnderWay (r : Reading) (x : List ℕ) (state : ReaderState) (s : TermStack) (rest : List ℕ) : Type 0 where
   pub reading : Reading
   pub levels : List Level
-  pub stands : Stands reading levels state s
+  pub stands : ReaderStands reading levels state s
   pub continues : Continues r [] x reading levels rest
 
 same_end : (r : Reading) (x : List ℕ) (t u : Tree) → Some u ≡ Some t → IsEnd r [] x t → IsEnd r [] x u
 same_end r x t u e h = let same : u ≡ t = cc in subst (IsEnd r [] x) (sym same) h
 
-module _ (r : Reading) (x : List ℕ) (state : State) (s : Stack) (rest : List ℕ) (way : IsUnderWay r x state s rest) where
-  pub way_on : (state' : State) (s' : Stack) (left : Bor (List ℕ)) (step : Step) → step ≡ More state' left → Leads state s rest step s' → IsUnderWay r x state' s' left.now
+module _ (r : Reading) (x : List ℕ) (state : ReaderState) (s : TermStack) (rest : List ℕ) (way : IsUnderWay r x state s rest) where
+  pub way_on : (state' : ReaderState) (s' : TermStack) (left : Bor (List ℕ)) (step : Progress) → step ≡ More state' left → ReaderLeads state s rest step s' → IsUnderWay r x state' s' left.now
   way_on state' s' left step e leads =
       let g : GoesOn way.reading way.levels rest state' s' left.now = subst (λ k. Goes way.reading way.levels rest k s') e (leads way.reading way.levels way.stands) in
       record {
@@ -81,7 +81,7 @@ module _ (r : Reading) (x : List ℕ) (state : State) (s : Stack) (rest : List �
         continues = continues_on r way.reading g.reading [] way.levels g.levels' x rest left.now way.continues g.continues;
       }
 
-  pub way_shorter : (state' : State) (s' : Stack) (left : Bor (List ℕ)) (step : Step) → step ≡ More state' left → Leads state s rest step s' → length left.now < length rest
+  pub way_shorter : (state' : ReaderState) (s' : TermStack) (left : Bor (List ℕ)) (step : Progress) → step ≡ More state' left → ReaderLeads state s rest step s' → length left.now < length rest
   way_shorter state' s' left step e leads =
       let g : GoesOn way.reading way.levels rest state' s' left.now = subst (λ k. Goes way.reading way.levels rest k s') e (leads way.reading way.levels way.stands) in
       g.shorter
@@ -89,13 +89,13 @@ module _ (r : Reading) (x : List ℕ) (state : State) (s : Stack) (rest : List �
   pub way_stuck : IsLost state s rest → IsStuck r [] x
   way_stuck lost = stuck_after r way.reading [] way.levels x rest way.continues (lost way.reading way.levels way.stands)
 
-  pub way_ends : (s' : Stack) (step : Step) → step ≡ Done → Leads state s rest step s' → (t : Tree) × (s' ≡ with_top t no_terms) × IsEnd r [] x t
+  pub way_ends : (s' : TermStack) (step : Progress) → step ≡ Done → ReaderLeads state s rest step s' → (t : Tree) × (s' ≡ with_top t no_terms) × IsEnd r [] x t
   way_ends s' step e leads =
       let end : (t : Tree) × (s' ≡ with_top t no_terms) × IsEnd way.reading way.levels rest t = subst (λ k. Goes way.reading way.levels rest k s') e (leads way.reading way.levels way.stands) in
       (end.0, end.1, end_after r way.reading [] way.levels x rest end.0 way.continues end.2)
 
 -- the term that is on the stack at the end
-module _ (r : Reading) (x : List ℕ) (state : State) (s : Stack) (rest : List ℕ) (way : IsUnderWay r x state s rest) (s' : Stack) (step : Step) (done : step ≡ Done) (leads : Leads state s rest step s') where
+module _ (r : Reading) (x : List ℕ) (state : ReaderState) (s : TermStack) (rest : List ℕ) (way : IsUnderWay r x state s rest) (s' : TermStack) (step : Progress) (done : step ≡ Done) (leads : ReaderLeads state s rest step s') where
   pub end-is : (found : Option Tree) → ((t : Tree) → s' ≡ with_top t no_terms → found ≡ Some t) → (u : Tree) → found ≡ Some u → IsEnd r [] x u
   end-is found only u e =
       let end = way_ends r x state s rest way s' step done leads in

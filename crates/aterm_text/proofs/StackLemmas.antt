@@ -5,7 +5,7 @@ use Rattle.std.proofs.Math.ListN.{set}
 use Rattle.std.proofs.Math.Seq.{set-append_seam, get_or-append_seam, take-append_seam, drop-append_seam, take-length}
 use Rattle.std.proofs.lemmas.List.{take-append-le, drop-append-le, take-append-drop, length-take, length-take-le, drop_all}
 use Rattle.term_core.specs.Tree.{Tree}
-use Rattle.aterm_text.specs.inside.Stack.{Stack, OpenBracket, no_terms, on_top, with_top, inside, closes, closes_first}
+use Rattle.aterm_text.specs.inside.TermStack.{TermStack, OpenBracket, no_terms, on_top, with_top, inside, closes, closes_first}
 use Rattle.aterm_text.specs.inside.BracketsView.{innermost_of}
 use Rattle.aterm_text.specs.inside.StackView.{cut, IsCut}
 use Rattle.aterm_text.specs.declared.reader.open_brackets.Bracket.{Bracket}
@@ -53,13 +53,13 @@ still_cut bs bs' b ts h e =
 
 -- ---- the term on top
 
-on_top-bare : (ts outside : List Tree) (open_brackets : List OpenBracket) (t : Tree) → ◌≡◌ {A = Stack} (record { outside = ts; open_brackets = [] }) (on_top t outside open_brackets)
+on_top-bare : (ts outside : List Tree) (open_brackets : List OpenBracket) (t : Tree) → ◌≡◌ {A = TermStack} (record { outside = ts; open_brackets = [] }) (on_top t outside open_brackets)
     → (ts ≡ outside ++ t ∷ []) × (open_brackets ≡ [])
-on_top-bare ts outside [] t e = (ap (λ (s : Stack). s.outside) e, refl)
-on_top-bare ts outside (g ∷ gs) t e = let no : ◌≡◌ {A = List OpenBracket} [] (record { opening = g.opening; terms = g.terms ++ t ∷ [] } ∷ gs) = ap (λ (s : Stack). s.open_brackets) e in absurd (cc)
+on_top-bare ts outside [] t e = (ap (λ (s : TermStack). s.outside) e, refl)
+on_top-bare ts outside (g ∷ gs) t e = let no : ◌≡◌ {A = List OpenBracket} [] (record { opening = g.opening; terms = g.terms ++ t ∷ [] } ∷ gs) = ap (λ (s : TermStack). s.open_brackets) e in absurd (cc)
 
 -- the terms below the one on top
-pub record Below (bs : List Bracket) (ts : List Tree) (t : Tree) (below : Stack) : Type 0 where
+pub record Below (bs : List Bracket) (ts : List Tree) (t : Tree) (below : TermStack) : Type 0 where
   pub front : List Tree
   pub is : ts ≡ front ++ t ∷ []
   pub is_cut : IsCut bs front
@@ -68,11 +68,11 @@ pub record Below (bs : List Bracket) (ts : List Tree) (t : Tree) (below : Stack)
 bracket-below : (b : Bracket) (bs : List Bracket) (ts outside : List Tree) (open_brackets : List OpenBracket) (t : Tree) → IsCut (b ∷ bs) ts
     → inside b.opening (drop b.before ts) (cut bs (take b.before ts)) ≡ on_top t outside open_brackets → Below (b ∷ bs) ts t (record { outside = outside; open_brackets = open_brackets })
 bracket-below b bs ts outside [] t h e =
-    let no : ◌≡◌ {A = List OpenBracket} (record { opening = b.opening; terms = drop b.before ts } ∷ (cut bs (take b.before ts)).open_brackets) [] = ap (λ (s : Stack). s.open_brackets) e in absurd (cc)
+    let no : ◌≡◌ {A = List OpenBracket} (record { opening = b.opening; terms = drop b.before ts } ∷ (cut bs (take b.before ts)).open_brackets) [] = ap (λ (s : TermStack). s.open_brackets) e in absurd (cc)
 bracket-below b bs ts outside (g ∷ gs) t h e =
     let before = take b.before ts in
     let open_brackets : ◌≡◌ {A = List OpenBracket} (record { opening = b.opening; terms = drop b.before ts } ∷ (cut bs before).open_brackets) (record { opening = g.opening; terms = g.terms ++ t ∷ [] } ∷ gs)
-    = ap (λ (s : Stack). s.open_brackets) e in
+    = ap (λ (s : TermStack). s.open_brackets) e in
     let first : ◌≡◌ {A = OpenBracket} (record { opening = b.opening; terms = drop b.before ts }) (record { opening = g.opening; terms = g.terms ++ t ∷ [] }) = cc in
     let others : (cut bs before).open_brackets ≡ gs = cc in
     let count : length before ≡ b.before = length-take-le b.before ts h.0 in
@@ -83,10 +83,10 @@ bracket-below b bs ts outside (g ∷ gs) t h e =
       is = sym (take-append-drop b.before ts) ∙ ap (λ l. before ++ l) (ap (λ (k : OpenBracket). k.terms) first) ∙ sym (append_assoc before g.terms (t ∷ []));
       is_cut = (omega (arith, count, length-append before g.terms), subst (IsCut bs) (sym again) h.1);
       is_below = (λ i. inside b.opening (rest i) (cut bs (again i)))
-          ∙ (λ i. record { outside = (ap (λ (s : Stack). s.outside) e) i; open_brackets = record { opening = (ap (λ (k : OpenBracket). k.opening) first) i; terms = g.terms } ∷ others i });
+          ∙ (λ i. record { outside = (ap (λ (s : TermStack). s.outside) e) i; open_brackets = record { opening = (ap (λ (k : OpenBracket). k.opening) first) i; terms = g.terms } ∷ others i });
     }
 
-pub below-top : (bs : List Bracket) (ts : List Tree) (t : Tree) (below : Stack) → IsCut bs ts → cut bs ts ≡ with_top t below → Below bs ts t below
+pub below-top : (bs : List Bracket) (ts : List Tree) (t : Tree) (below : TermStack) → IsCut bs ts → cut bs ts ≡ with_top t below → Below bs ts t below
 below-top [] ts t below h e =
     let parts = on_top-bare ts below.outside below.open_brackets t e in
     record { front = below.outside; is = parts.0; is_cut = tt; is_below = λ i. record { outside = below.outside; open_brackets = sym parts.1 i } }
@@ -99,7 +99,7 @@ is_cut-same_length (b ∷ bs) ts us e h = (
   is_cut-same_length bs (take b.before ts) (take b.before us) (length-take b.before ts ∙ ap (λ n. min b.before n) e ∙ sym (length-take b.before us)) h.1,
 )
 
-pub cut-change : (change : Tree → Tree) (bs : List Bracket) (ts : List Tree) (n : ℕ) (x x' t : Tree) (below : Stack) → IsCut bs ts → n + 1 ≡ length ts → x ≡ get_or ts n x
+pub cut-change : (change : Tree → Tree) (bs : List Bracket) (ts : List Tree) (n : ℕ) (x x' t : Tree) (below : TermStack) → IsCut bs ts → n + 1 ≡ length ts → x ≡ get_or ts n x
     → x' ≡ change x → cut bs ts ≡ with_top t below → cut bs (set ts n x') ≡ with_top (change t) below
 cut-change change bs ts n x x' t below h len got made e =
     let b = below-top bs ts t below h e in
@@ -111,7 +111,7 @@ cut-change change bs ts n x x' t below h len got made e =
     ap (cut bs) written ∙ cut-push bs b.front (change t) b.is_cut ∙ ap (with_top (change t)) b.is_below
 
 -- if there is no term, none is on top
-pub no_top : (bs : List Bracket) (ts : List Tree) (t : Tree) (below : Stack) → IsCut bs ts → cut bs ts ≡ with_top t below → length ts ≡ 0 → ⊥
+pub no_top : (bs : List Bracket) (ts : List Tree) (t : Tree) (below : TermStack) → IsCut bs ts → cut bs ts ≡ with_top t below → length ts ≡ 0 → ⊥
 no_top bs ts t below h e len =
     let b = below-top bs ts t below h e in
     omega (arith, len, length-append b.front (t ∷ []), ap length b.is)

@@ -5,6 +5,6 @@ pub mod Level
 pub mod NestingPlaces
 pub mod Printing
 pub mod Runs
-pub mod Stack
+pub mod TermStack
 pub mod StackView
 pub mod Unread

@@ -7,22 +7,22 @@ ghost use Rattle.aterm_text.specs.inside.NestingPlaces.{place_after, depth_after
 
 // Where the next byte is.
 #[derive(Clone, Copy)]
-enum Place {
+enum Quoting {
     OutsideQuotes,
     InsideQuotes,
     BehindBackslash,
 }
 
-impl Place {
-    fn after(self, byte: u8) -> Place
+impl Quoting {
+    fn after(self, byte: u8) -> Quoting
         ensures { result ≡ place_after self byte }
     {
         match (self, byte) {
-            (Place::OutsideQuotes, b'"') => Place::InsideQuotes,
-            (Place::OutsideQuotes, _) => Place::OutsideQuotes,
-            (Place::InsideQuotes, b'"') => Place::OutsideQuotes,
-            (Place::InsideQuotes, b'\\') => Place::BehindBackslash,
-            (Place::InsideQuotes | Place::BehindBackslash, _) => Place::InsideQuotes,
+            (Quoting::OutsideQuotes, b'"') => Quoting::InsideQuotes,
+            (Quoting::OutsideQuotes, _) => Quoting::OutsideQuotes,
+            (Quoting::InsideQuotes, b'"') => Quoting::OutsideQuotes,
+            (Quoting::InsideQuotes, b'\\') => Quoting::BehindBackslash,
+            (Quoting::InsideQuotes | Quoting::BehindBackslash, _) => Quoting::InsideQuotes,
         }
     }
 
@@ -31,8 +31,8 @@ impl Place {
         ensures { result ≡ depth_after_of self byte depth }
     {
         match (self, byte) {
-            (Place::OutsideQuotes, b'(' | b'[' | b'{') => depth + 1,
-            (Place::OutsideQuotes, b')' | b']' | b'}') => depth.saturating_sub(1),
+            (Quoting::OutsideQuotes, b'(' | b'[' | b'{') => depth + 1,
+            (Quoting::OutsideQuotes, b')' | b']' | b'}') => depth.saturating_sub(1),
             _ => depth,
         }
     }
@@ -44,7 +44,7 @@ impl Place {
 pub fn nesting(text: &[u8]) -> u64
     ensures { result ≡ nesting_of text.now }
 {
-    let mut place = Place::OutsideQuotes;
+    let mut place = Quoting::OutsideQuotes;
     let mut depth = 0;
     let mut greatest = 0;
     for byte in text {

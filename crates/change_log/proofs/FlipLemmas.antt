@@ -3,8 +3,8 @@ use Rattle.std.proofs.Common.{◌≡◌, ℕ, zero, suc, ◌+◌, ◌-◌, ◌�
 use Rattle.std.specs.List.{All}
 use Rattle.std.proofs.lemmas.Bool.{ltb-false}
 use Rattle.term_changes.specs.Slots.{Store}
-use Rattle.term_changes.specs.Entries.{Entry, slot_tree, subterm, subterm_annotations, slot_text, put, found, before, after, flipped_back, flipped_forward, text_of, texts, has_text}
-use Rattle.term_changes.specs.Compact.{LiesWithin, AreApart, IsCompact}
+use Rattle.term_changes.specs.Entries.{Entry, slot_tree, subterm, subterm_annotations, slot_text, put, found, before, after, flipped_back, flipped_forward, text_count, texts, has_text}
+use Rattle.term_changes.specs.Compact.{LiesWithin, EntriesAreApart, IsCompact}
 use Rattle.term_changes.specs.Laws.{FlippedBackIsCompact, FlippedForwardIsCompact, BeforeKeepsTexts, AfterKeepsTexts}
 use Rattle.term_changes.specs.LogView.{entry_of}
 use Rattle.term_changes.specs.inside.LogView.{entries}
@@ -32,7 +32,7 @@ within_found (slot_text i c) (subterm j q v) s t w = w
 within_found (slot_text i c) (subterm_annotations j q vs) s t w = w
 within_found (slot_text i c) (slot_text j b) s t w = w
 
-apart_found : (d e : Entry) (s t : Store) → AreApart d e → AreApart (found d s) (found e t)
+apart_found : (d e : Entry) (s t : Store) → EntriesAreApart d e → EntriesAreApart (found d s) (found e t)
 apart_found d e s t h = (λ w. h.0 (within_found d e s t w), λ w. h.1 (within_found e d t s w))
 
 apart_if_compact : (es : List Entry) → IsCompact es → AllApart es
@@ -40,7 +40,7 @@ apart_if_compact [] h = tt
 apart_if_compact (e ∷ es) h =
     (apart_from e es (λ k d l. h 0 (suc k) d (omega arith) (omega (arith, l))), apart_if_compact es (λ i j d lt within. h (suc i) (suc j) d (omega (arith, lt)) (omega (arith, within))))
   where
-    apart_from : (e : Entry) (es : List Entry) → All (AreApart e) es → ApartFrom e es
+    apart_from : (e : Entry) (es : List Entry) → All (EntriesAreApart e) es → ApartFrom e es
     apart_from e [] h = tt
     apart_from e (x ∷ es) h = (h 0 x (omega arith), apart_from e es (λ k d l. h (suc k) d (omega (arith, l))))
 
@@ -68,7 +68,7 @@ flipped_forward_is_compact log s h = compact_if_apart (flipped_forward log s) (a
 
 -- ---- module texts
 
-pub text_found : (e : Entry) (s : Store) → text_of (found e s) ≡ text_of e
+pub text_found : (e : Entry) (s : Store) → text_count (found e s) ≡ text_count e
 text_found (slot_tree i c) s = refl
 text_found (subterm i p u) s = refl
 text_found (subterm_annotations i p us) s = refl
@@ -90,13 +90,13 @@ pub few_texts : (es : List Entry) → texts es ≤ length es
 few_texts [] = omega arith
 few_texts (e ∷ es) = let rest = few_texts es in let one = at_most_one e in omega (arith, rest, one)
   where
-    at_most_one : (e : Entry) → text_of e ≤ 1
+    at_most_one : (e : Entry) → text_count e ≤ 1
     at_most_one (slot_tree i c) = omega arith
     at_most_one (subterm i p u) = omega arith
     at_most_one (subterm_annotations i p us) = omega arith
     at_most_one (slot_text i c) = omega arith
 
-modules_kept : (e : Entry) (s : Store) → text_of e ≡ 0 → (put e s).modules ≡ s.modules
+modules_kept : (e : Entry) (s : Store) → text_count e ≡ 0 → (put e s).modules ≡ s.modules
 modules_kept (slot_tree i c) s h = refl
 modules_kept (subterm i p u) s h = refl
 modules_kept (subterm_annotations i p us) s h = refl
@@ -123,26 +123,26 @@ after_keeps_texts log s h = after_kept log s (without_texts log h)
 
 -- the first entries and one more
 pub one_counted : (rs : List Replaced) (ps : List ℕ) (i n m : ℕ) (r : Replaced) → slice_get rs i ≡ Some r → n ≡ texts (entries (take i rs) ps)
-    → ((j : ℕ) (p : List ℕ) → m ≡ text_of (entry_of j p r.kept)) → n + m ≡ texts (entries (take (i + 1) rs) ps)
+    → ((j : ℕ) (p : List ℕ) → m ≡ text_count (entry_of j p r.kept)) → n + m ≡ texts (entries (take (i + 1) rs) ps)
 one_counted rs ps i n m r g h k =
     let on : i + 1 ≡ suc i = omega arith in
     let step = counted_more rs ps i r g (k r.slot) in omega (arith, h, step, ap (λ n. texts (entries (take n rs) ps)) on)
   where
-    counted_more : (rs : List Replaced) (ps : List ℕ) (i : ℕ) (r : Replaced) → slice_get rs i ≡ Some r → ((p : List ℕ) → m ≡ text_of (entry_of r.slot p r.kept))
+    counted_more : (rs : List Replaced) (ps : List ℕ) (i : ℕ) (r : Replaced) → slice_get rs i ≡ Some r → ((p : List ℕ) → m ≡ text_count (entry_of r.slot p r.kept))
         → texts (entries (take (suc i) rs) ps) ≡ texts (entries (take i rs) ps) + m
     counted_more [] ps i r g k = absurd (cc)
     counted_more (x ∷ rs) ps zero r g k =
         let same : x ≡ r = cc in
         let first = k (take r.depth ps) in
-        let is : text_of (entry_of x.slot (take x.depth ps) x.kept) ≡ text_of (entry_of r.slot (take r.depth ps) r.kept) = ap (λ r. text_of (entry_of r.slot (take r.depth ps) r.kept)) same in
+        let is : text_count (entry_of x.slot (take x.depth ps) x.kept) ≡ text_count (entry_of r.slot (take r.depth ps) r.kept) = ap (λ r. text_count (entry_of r.slot (take r.depth ps) r.kept)) same in
         omega (arith, is, first)
     counted_more (x ∷ rs) ps (suc i) r g k = let rest = counted_more rs (drop x.depth ps) i r g k in omega (arith, rest)
 
 -- one more entry, which holds what was found
-pub text_pushed : (es fs : List Entry) (e : Entry) (s : Store) (n m : ℕ) → n ≡ texts es → fs ≡ es ++ found e s ∷ [] → m ≡ text_of e → n + m ≡ texts fs
+pub text_pushed : (es fs : List Entry) (e : Entry) (s : Store) (n m : ℕ) → n ≡ texts es → fs ≡ es ++ found e s ∷ [] → m ≡ text_count e → n + m ≡ texts fs
 text_pushed es fs e s n m h a k = omega (arith, h, ap texts a, texts-append es (found e s ∷ []), text_found e s, k)
 
 -- one entry less
-pub text_popped : (es fs : List Entry) (e : Entry) (n m : ℕ) → n ≡ texts es → es ≡ fs ++ e ∷ [] → m ≡ text_of e → (m ≤ n) × (n - m ≡ texts fs)
+pub text_popped : (es fs : List Entry) (e : Entry) (n m : ℕ) → n ≡ texts es → es ≡ fs ++ e ∷ [] → m ≡ text_count e → (m ≤ n) × (n - m ≡ texts fs)
 text_popped es fs e n m h a k =
     let all = texts-append fs (e ∷ []) in (omega (arith, h, ap texts a, all, k), omega (arith, h, ap texts a, all, k))

@@ -17,7 +17,7 @@ use Rattle.std.proofs.lemmas.Map.Keys.{IsDistinct-IsPermutation, IsDistinct-head
 use Rattle.std.proofs.lemmas.List.Sorted.{list_any-IsPermutation}
 use Rattle.std.proofs.lemmas.List.Kept.{IsStrictlySortedBy-dedup}
 use Rattle.std.proofs.lemmas.List.{append-nil}
-use Rattle.term_changes.specs.Slots.{Slots, labels, AreApart, filled, named}
+use Rattle.term_changes.specs.Slots.{Slots, labels, HaveDistinctLabels, filled, named}
 
 -- ---- a strictly rising list of keys is the list of a map
 
@@ -112,7 +112,7 @@ module _ {X : Type 0} where
   apart_filled k ((l, None) ∷ ss) h = apart_filled k ss h.1
   apart_filled k ((l, Some x) ∷ ss) h = (h.0, apart_filled k ss h.1)
 
-  pub filled_distinct : (ss : Slots X) → AreApart ss → IsDistinct (pointwise nat_eq) (keys_of (filled ss))
+  pub filled_distinct : (ss : Slots X) → HaveDistinctLabels ss → IsDistinct (pointwise nat_eq) (keys_of (filled ss))
   unfolding IsDistinct
   filled_distinct [] h = tt
   filled_distinct ((l, None) ∷ ss) h = filled_distinct ss h.1
@@ -126,7 +126,7 @@ module _ {X : Type 0} where
   ]
 
   -- sorted, they are the keys of the map
-  pub sorted_names : (ss : Slots X) (names sorted : List (List ℕ)) → AreApart ss → names ≡ keys_of (filled ss) → IsPermutation names sorted → IsSorted (slice_cmp nat_cmp) sorted
+  pub sorted_names : (ss : Slots X) (names sorted : List (List ℕ)) → HaveDistinctLabels ss → names ≡ keys_of (filled ss) → IsPermutation names sorted → IsSorted (slice_cmp nat_cmp) sorted
       → sorted ≡ finmap.keys (named ss)
   sorted_names ss names sorted a e p s =
       let R = slice_cmp nat_cmp in

@@ -12,9 +12,6 @@ mod step;
 mod store;
 mod texts;
 
-pub use term_changes::{Entry, Plan};
-#[doc(hidden)]
-pub use term_changes::{Kept, Replaced, Text};
 pub use log::Log;
 #[doc(hidden)]
 pub use relation::Relation;
@@ -24,4 +21,6 @@ pub use step::Step;
 #[doc(hidden)]
 pub use step::{Changes, Parts, Whole};
 pub use store::Store;
+pub use term_changes::{Entry, Kept, Plan, Replaced, Text};
+#[doc(hidden)]
 pub use texts::Texts;

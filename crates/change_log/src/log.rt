@@ -10,9 +10,9 @@ ghost use Rattle.change_log.specs.Texts.{texts_in};
 
 use crate::compact::compact;
 use crate::{Store, Texts};
-use term_changes::{Entry, Kept, Plan, Replaced};
 use std::alloc::Global;
 use std::marker::Model;
+use term_changes::{Entry, Kept, Plan, Replaced};
 use term_core::NoMemory;
 
 /// What changes of one store replaced, the oldest first. The changes can be undone, one by one or

@@ -3,7 +3,7 @@
 ghost use Rattle.std.specs.Prelude.{◌≡◌, [], Some, unwrap_or, IfOk, OnOk, OnErr, option_copied, option_map, slice_get};
 ghost use Rattle.std.specs.FinMap as finmap;
 ghost use Rattle.term_paths.specs.Paths.{set_at, set_annotations_at};
-ghost use Rattle.term_changes.specs.Slots.{AreApart, slot_at, content, with_content, slot_of, with_slot, named};
+ghost use Rattle.term_changes.specs.Slots.{HaveDistinctLabels, slot_at, content, with_content, slot_of, with_slot, named};
 ghost use Rattle.std.specs.Option.{option_map_or};
 ghost use Rattle.term_changes.specs.Exchange.{changed_in, taken_in};
 ghost use Rattle.term_changes.specs.Entries.{changed_tree, subterm_in, annotations_in};
@@ -12,8 +12,8 @@ use indexmap::IndexMap;
 use std::alloc::Global;
 use std::marker::Model;
 use std::mem;
-use term_core::{Label, NoMemory, Term};
 use term_changes::Patch;
+use term_core::{Label, NoMemory, Term};
 use term_paths::{swap_annotations_at_parts, swap_at_parts};
 
 /// The contents of the slots by label. A slot keeps its number once it is made.
@@ -45,7 +45,7 @@ impl<T: Drop> Slots<T> {
 
     pub(crate) fn find(&self, name: &Label) -> Option<usize>
         ensures slot { result ≡ slot_of self.now name.now }
-        ensures apart { AreApart self.now }
+        ensures apart { HaveDistinctLabels self.now }
     {
         self.slots.get_index_of(name)
     }
@@ -55,7 +55,7 @@ impl<T: Drop> Slots<T> {
         ensures ok { OnOk result (self.new ≡ with_slot self.old name.now) }
         ensures slot { IfOk result (λ i. slot_of self.new name.now ≡ Some i) }
         ensures err { OnErr result (self.new ≡ self.old) }
-        ensures apart { AreApart self.new }
+        ensures apart { HaveDistinctLabels self.new }
     {
         if let Some(i) = self.slots.get_index_of(name) {
             return Ok(i);
@@ -77,7 +77,7 @@ impl<T: Drop> Slots<T> {
     /// The label of slot `i`, if the slot exists.
     pub(crate) fn label(&self, i: usize) -> Option<&Label>
         ensures label { option_copied result ≡ option_map (λ s. s.0) (slice_get self.now i) }
-        ensures apart { AreApart self.now }
+        ensures apart { HaveDistinctLabels self.now }
     {
         if i >= self.slots.len() {
             return None;

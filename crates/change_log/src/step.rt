@@ -9,11 +9,10 @@ ghost use Rattle.change_log.specs.Texts.{texts_in};
 ghost use Rattle.change_log.specs.inside.StepView.{whole_entry, part_entries};
 
 use crate::{Log, Store, Texts};
-use term_changes::{Entry, Kept};
 use std::alloc::Global;
 use std::marker::Model;
+use term_changes::{Entry, Kept, Patch};
 use term_core::NoMemory;
-use term_changes::Patch;
 
 /// What the changes of a step replaced, the oldest first. A step with one change of a whole tree or
 /// module text takes no memory.

@@ -2,17 +2,16 @@
 
 ghost use Rattle.std.specs.Prelude.{◌≡◌, IfOk, OnOk, OnErr, Some, option_copied, option_map, slice_get};
 ghost use Rattle.std.specs.FinMap as finmap;
-ghost use Rattle.term_changes.specs.Slots.{AreApart, content, slot_of, empty_store, contents, with_tree_slot, with_module_slot};
+ghost use Rattle.term_changes.specs.Slots.{HaveDistinctLabels, content, slot_of, empty_store, contents, with_tree_slot, with_module_slot};
 ghost use Rattle.term_changes.specs.Entries.{put, found};
 ghost use Rattle.term_changes.specs.LogView.{entry_of};
 ghost use Rattle.term_changes.specs.PatchLaws.{patched, taken_slot};
 
 use crate::Slots;
-use term_changes::{Kept, Text};
 use std::alloc::Global;
 use std::marker::Model;
+use term_changes::{Kept, Patch, Text};
 use term_core::{Label, NoMemory, Term};
-use term_changes::Patch;
 
 /// Trees and module texts in slots. A slot is made when a label is first asked for, and is never
 /// removed; it is empty until a change puts something there. Its number is its index among the
@@ -51,7 +50,7 @@ impl Store {
         ensures ok { OnOk result (self.new ≡ with_tree_slot self.old name.now) }
         ensures slot { IfOk result (λ i. slot_of self.new.trees name.now ≡ Some i) }
         ensures err { OnErr result (self.new ≡ self.old) }
-        ensures apart { AreApart self.new.trees }
+        ensures apart { HaveDistinctLabels self.new.trees }
     {
         self.trees.find_or_make(name)
     }
@@ -61,7 +60,7 @@ impl Store {
         ensures ok { OnOk result (self.new ≡ with_module_slot self.old name.now) }
         ensures slot { IfOk result (λ i. slot_of self.new.modules name.now ≡ Some i) }
         ensures err { OnErr result (self.new ≡ self.old) }
-        ensures apart { AreApart self.new.modules }
+        ensures apart { HaveDistinctLabels self.new.modules }
     {
         self.modules.find_or_make(name)
     }
@@ -69,7 +68,7 @@ impl Store {
     /// The slot for the tree of this label, empty or not, or `None` if it has none.
     pub fn find_tree(&self, name: &Label) -> Option<usize>
         ensures slot { result ≡ slot_of self.now.trees name.now }
-        ensures apart { AreApart self.now.trees }
+        ensures apart { HaveDistinctLabels self.now.trees }
     {
         self.trees.find(name)
     }
@@ -77,7 +76,7 @@ impl Store {
     /// The slot for the module of this label, empty or not, or `None` if it has none.
     pub fn find_module(&self, name: &Label) -> Option<usize>
         ensures slot { result ≡ slot_of self.now.modules name.now }
-        ensures apart { AreApart self.now.modules }
+        ensures apart { HaveDistinctLabels self.now.modules }
     {
         self.modules.find(name)
     }
@@ -102,7 +101,7 @@ impl Store {
     /// The name of the module whose slot this is, or `None` if there is no such slot.
     pub fn module_name(&self, slot: usize) -> Option<&Label>
         ensures label { option_copied result ≡ option_map (λ s. s.0) (slice_get self.now.modules slot) }
-        ensures apart { AreApart self.now.modules }
+        ensures apart { HaveDistinctLabels self.now.modules }
     {
         self.modules.label(slot)
     }

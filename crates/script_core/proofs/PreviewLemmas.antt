@@ -7,7 +7,7 @@ use Rattle.term_core.specs.Tree.{Tree}
 use Rattle.term_changes.specs.Entries.{Entry}
 use Rattle.session_history.specs.Preview.{Replacement, Preview, part_at}
 use Rattle.session_core.specs.Previewing.{entry_for, AreThere}
-use Rattle.script_text.specs.Machine.{replacement_line, preview_line, preview_text}
+use Rattle.script_text.specs.Replies.{replacement_line, preview_line, preview_text}
 use Rattle.script_core.specs.inside.PreviewLines.{AreSubterms, entry_line}
 
 subterms_of : (slot : ℕ) (rs : List Replacement) → AreSubterms (map (entry_for slot) rs)

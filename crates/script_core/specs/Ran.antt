@@ -8,7 +8,7 @@ use Rattle.script_core.specs.declared.running.Summary.{Summary}
 use Rattle.script_core.specs.declared.running.Settings.{Settings}
 use Rattle.script_core.specs.declared.running.RunFault.{RunFault}
 use Rattle.script_core.specs.declared.running.RunFault.TheVariants.{Read, Write, Turns, Memory}
-use Rattle.script_text.specs.Machine.{Replying}
+use Rattle.script_text.specs.Replies.{Replying}
 use Rattle.script_text.specs.Run.{Answers, AnswersPart, AnswersFirst}
 
 -- the rule of a run by the budget of its settings

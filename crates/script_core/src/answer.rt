@@ -5,14 +5,14 @@ ghost use Rattle.std.specs.FinMap as finmap;
 ghost use Rattle.aterm_text.specs.Tokens.{is_blank};
 ghost use Rattle.aterm_text.specs.Grammar.{Spells, SpellsAnnotations};
 ghost use Rattle.aterm_text.specs.Printed.{print as print_of};
-ghost use Rattle.session_history.specs.Step.{place_of};
+ghost use Rattle.session_history.specs.Acts.{place_of};
 ghost use Rattle.term_core.specs.Tree.{Tree};
 ghost use Rattle.session_history.specs.Steps.{AreSteps};
 ghost use Rattle.script_text.specs.Script.{without_end};
 ghost use Rattle.script_text.specs.Handed.{text as text_handed};
 ghost use Rattle.script_text.specs.Form.{tree, put, annotate, show, module_text, HasBudget, takes_no_memory, is_without_memory, front_word, behind_word};
 ghost use Rattle.script_text.specs.FedRight.{handed_out};
-ghost use Rattle.script_text.specs.Machine.{ReadAs, Replies, ReplyToText, line, listed, counted, ok_with, told_of};
+ghost use Rattle.script_text.specs.Replies.{ReadAs, Replies, ReplyToText, line, listed, counted, ok_with, told_of};
 ghost use Rattle.script_text.specs.inside.Accepting.{Accepts, Refuses, reading_refusal};
 ghost use Rattle.script_text.specs.Answer.{Answered, ReplyInRun, TellsRefusal};
 ghost use Rattle.script_text.specs.CommandView.{form as form_seen};
@@ -22,9 +22,8 @@ use crate::watch::{Unwatched, Watch};
 use aterm_text::{ReadFault, read, read_annotations};
 use itoa::Buffer;
 use prim_core::Meaning;
-use script_text::Piece;
 use script_text::{
-    ANSWER_ROOM, Command, append_line, append_shown, behind_put, behind_tree, list_names,
+    ANSWER_ROOM, Command, Piece, append_line, append_shown, behind_put, behind_tree, list_names,
     read_name_and_text, read_put_parts, refuse,
 };
 use session_core::{Refusal, Session};

@@ -10,6 +10,8 @@ mod watch;
 
 pub use answer::answer_text;
 pub use running::{MAX_READS, PIECE, RunFault, Settings, Summary, run, run_watched};
-pub use script_text::{Fed, Framing, MAX_COMMAND, Piece, Splitter};
-pub use script_text::{ANSWER_ROOM, Bytes, Command, Counted, Failed, Held, Sink, Source};
+pub use script_text::{
+    ANSWER_ROOM, Bytes, Command, Counted, Failed, Fed, Framing, Held, MAX_COMMAND, Piece, Sink,
+    Source, Splitter,
+};
 pub use watch::{Unwatched, Watch};

@@ -5,7 +5,7 @@ ghost use Rattle.std.specs.List.{flat_map};
 ghost use Rattle.aterm_text.specs.inside.Printing.{Extends};
 ghost use Rattle.session_history.specs.Steps.{AreSteps};
 ghost use Rattle.script_text.specs.Form.{preview as preview_form};
-ghost use Rattle.script_text.specs.Machine.{Replies, preview_line};
+ghost use Rattle.script_text.specs.Replies.{Replies, preview_line};
 ghost use Rattle.script_text.specs.inside.Accepting.{Accepts, Refuses};
 ghost use Rattle.script_core.specs.inside.PreviewLines.{AreSubterms, entry_line};
 

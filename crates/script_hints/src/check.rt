@@ -10,7 +10,7 @@ use crate::uses::{Fault, Found, find_in_module, find_in_strategy};
 use prim_core::Meaning;
 use session_core::Session;
 use std::alloc::Global;
-use strategy_check::Kind;
+use strategy_check::FaultKind;
 use strategy_syntax::Module;
 use strategy_tokens::token_place;
 use term_core::{Label, NoMemory};
@@ -72,15 +72,15 @@ fn explain_fault(
         say_in_modules(alloc, hint, seen, parts, texts, fault)?;
     }
     match fault.kind {
-        Kind::Unknown | Kind::Undeclared => say_others(alloc, hint, seen, texts, fault)?,
-        Kind::Twice => say_other_module(alloc, hint, seen, parts, texts, fault)?,
-        Kind::Clash => say_clash(alloc, hint, texts, fault)?,
-        Kind::Wild => say_line(hint, "`_` and `x@p` only match; they build nothing"),
-        Kind::Parameter if fault.strategies == 0 && fault.terms == 0 => {
+        FaultKind::Unknown | FaultKind::Undeclared => say_others(alloc, hint, seen, texts, fault)?,
+        FaultKind::Twice => say_other_module(alloc, hint, seen, parts, texts, fault)?,
+        FaultKind::Clash => say_clash(alloc, hint, texts, fault)?,
+        FaultKind::Wild => say_line(hint, "`_` and `x@p` only match; they build nothing"),
+        FaultKind::Parameter if fault.strategies == 0 && fault.terms == 0 => {
             say_line(hint, "the name comes twice in one list")
         }
-        Kind::Parameter => say_line(hint, "a strategy parameter takes no arguments"),
-        Kind::Primitive => say_primitive(hint, fault),
+        FaultKind::Parameter => say_line(hint, "a strategy parameter takes no arguments"),
+        FaultKind::Primitive => say_primitive(hint, fault),
     }
     Ok(())
 }
@@ -137,7 +137,7 @@ fn say_in_modules(
     for text in texts {
         if let Some(found) = find_in_module(alloc, text.text, fault)? {
             last = Some((*text, found));
-            if fault.kind != Kind::Twice {
+            if fault.kind != FaultKind::Twice {
                 break;
             }
         }

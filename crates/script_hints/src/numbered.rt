@@ -6,7 +6,7 @@ use std::mem;
 
 // Where in a line the next byte is.
 #[derive(Clone, Copy, Debug, PartialEq, Eq)]
-enum Place {
+enum LinePlace {
     // At its start.
     Start,
     // At its start, after carriage returns.
@@ -26,7 +26,7 @@ struct Begun {
 #[derive(Drop)]
 pub struct Numbered {
     framing: Framing,
-    place: Place,
+    place: LinePlace,
     // The line of the next byte, and the blanks of that line before it.
     line: u64,
     blanks: u64,
@@ -41,7 +41,7 @@ impl Numbered {
     pub fn new(alloc: Global, framing: Framing) -> Numbered {
         Numbered {
             framing,
-            place: Place::Start,
+            place: LinePlace::Start,
             line: 1,
             blanks: 0,
             begun: None,
@@ -91,9 +91,9 @@ impl Numbered {
 
     fn take(&mut self, byte: u8) {
         match self.place {
-            Place::Start => self.take_first(byte, false),
-            Place::Returned => self.take_first(byte, true),
-            Place::Inside => {}
+            LinePlace::Start => self.take_first(byte, false),
+            LinePlace::Returned => self.take_first(byte, true),
+            LinePlace::Inside => {}
         }
         if byte == b'\n' {
             self.end_line();
@@ -104,7 +104,7 @@ impl Numbered {
         match byte {
             b'\n' => {}
             b'\r' => {
-                self.place = Place::Returned;
+                self.place = LinePlace::Returned;
                 self.blanks = self.blanks.saturating_add(1);
             }
             _ => self.take_kind(byte, returned),
@@ -115,7 +115,7 @@ impl Numbered {
     fn take_kind(&mut self, byte: u8, returned: bool) {
         match self.framing {
             Framing::Continued => {
-                self.place = Place::Inside;
+                self.place = LinePlace::Inside;
                 match byte {
                     b'#' if !returned => self.comment(),
                     b' ' | b'\t' if !returned => {}
@@ -124,9 +124,9 @@ impl Numbered {
             }
             Framing::Lines => match byte {
                 b' ' | b'\t' => self.blanks = self.blanks.saturating_add(1),
-                b'#' => self.place = Place::Inside,
+                b'#' => self.place = LinePlace::Inside,
                 _ => {
-                    self.place = Place::Inside;
+                    self.place = LinePlace::Inside;
                     self.begin();
                 }
             },
@@ -166,6 +166,6 @@ impl Numbered {
         }
         self.line = self.line.saturating_add(1);
         self.blanks = 0;
-        self.place = Place::Start;
+        self.place = LinePlace::Start;
     }
 }

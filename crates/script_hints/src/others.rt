@@ -8,7 +8,7 @@ use crate::names::nearness;
 use crate::seen::Seen;
 use crate::uses::Fault;
 use std::alloc::Global;
-use strategy_check::Kind;
+use strategy_check::FaultKind;
 use strategy_syntax::Module;
 use term_core::NoMemory;
 
@@ -77,7 +77,7 @@ fn say_nearest(hint: &mut Hint, fault: Fault<'_>, nearest: Near, name: &[u8]) {
 
 // Whether terms may be meant where the strategies are: `add (x,y)` for `<add> (x,y)`.
 fn is_applied(fault: Fault<'_>, nearest: Near) -> bool {
-    fault.kind == Kind::Unknown
+    fault.kind == FaultKind::Unknown
         && nearest.far == 0
         && nearest.strategies == 0
         && nearest.terms == 0
@@ -104,7 +104,7 @@ fn say_in_library(
 
 fn say_definition(hint: &mut Hint, library: &Module, fault: Fault<'_>) -> bool {
     for definition in library.definitions() {
-        if fault.kind == Kind::Unknown && definition.name().equals(fault.name) {
+        if fault.kind == FaultKind::Unknown && definition.name().equals(fault.name) {
             let defined = Near {
                 far: 0,
                 strategies: definition.strategy_parameters().len() as u64,
@@ -122,8 +122,8 @@ fn say_definition(hint: &mut Hint, library: &Module, fault: Fault<'_>) -> bool {
     false
 }
 
-fn say_arguments(hint: &mut Hint, kind: Kind, near: Near) {
-    if kind == Kind::Undeclared {
+fn say_arguments(hint: &mut Hint, kind: FaultKind, near: Near) {
+    if kind == FaultKind::Undeclared {
         hint.count(near.strategies, "term");
         return;
     }
@@ -158,7 +158,7 @@ fn nearer(
             name.extend_from_slice(found)?;
         }
     }
-    if fault.kind == Kind::Undeclared {
+    if fault.kind == FaultKind::Undeclared {
         return Ok(nearest);
     }
     for definition in module.definitions() {

@@ -2,7 +2,7 @@
 
 use session_history::Refusal;
 use std::alloc::Global;
-use strategy_check::Kind;
+use strategy_check::FaultKind;
 use strategy_parse::definition_tokens;
 use strategy_tokens::{Keyword, Sign, Token, TokensFault, read_tokens};
 use term_core::{Name, NoMemory};
@@ -11,7 +11,7 @@ use text_faults::{Role, roles_in_definition, roles_in_strategy};
 /// The fault of a refusal: its kind, the name, and numbers of strategies and of terms.
 #[derive(Clone, Copy)]
 pub struct Fault<'a> {
-    pub kind: Kind,
+    pub kind: FaultKind,
     pub name: &'a Name,
     pub strategies: u64,
     pub terms: u64,
@@ -113,15 +113,15 @@ fn is_at(
     listed: bool,
 ) -> bool {
     match fault.kind {
-        Kind::Unknown => role == Role::Strategy && is_used(fault, token, after),
-        Kind::Undeclared => is_pattern(role) && is_used(fault, token, after),
-        Kind::Twice | Kind::Clash => before.is_empty() && is_used(fault, token, after),
-        Kind::Wild => role == Role::Built && is_wild(fault, token, after),
-        Kind::Primitive => is_primitive(fault, token, before),
-        Kind::Parameter if fault.strategies == 0 && fault.terms == 0 => {
+        FaultKind::Unknown => role == Role::Strategy && is_used(fault, token, after),
+        FaultKind::Undeclared => is_pattern(role) && is_used(fault, token, after),
+        FaultKind::Twice | FaultKind::Clash => before.is_empty() && is_used(fault, token, after),
+        FaultKind::Wild => role == Role::Built && is_wild(fault, token, after),
+        FaultKind::Primitive => is_primitive(fault, token, before),
+        FaultKind::Parameter if fault.strategies == 0 && fault.terms == 0 => {
             listed && role == Role::Binding && is_name(token, fault.name)
         }
-        Kind::Parameter => role == Role::Strategy && is_used(fault, token, after),
+        FaultKind::Parameter => role == Role::Strategy && is_used(fault, token, after),
     }
 }
 

@@ -9,10 +9,10 @@ use Rattle.aterm_text.specs.declared.reader.ReadFault.TheVariants.{Deep as DeepT
 use Rattle.aterm_text.specs.Nesting.{nesting}
 use Rattle.session_history.specs.Applying.{Meaning}
 use Rattle.session_history.specs.History.{HistoryGroup, History, undone, redone}
-use Rattle.session_history.specs.Step.{Outcome, Passing, Holding, Given, Leaves, Place}
+use Rattle.session_history.specs.Acts.{ActResult, Passing, Holding, Given, Leaves, Located}
 use Rattle.session_history.specs.declared.refusal.Refusal.{Refusal}
 use Rattle.session_history.specs.declared.refusal.Refusal.TheVariants.{Memory, NoUndo, NoRedo, Group, NoGroup}
-use Rattle.script_text.specs.Machine.{Reply, ReadAs, Told, done, ok_with, Replies, ReplyTo, ReplyToText, refused, line}
+use Rattle.script_text.specs.Replies.{Reply, ReadAs, Told, done, ok_with, Replies, ReplyTo, ReplyToText, refused, line}
 use Rattle.script_text.specs.Handed.{Handed, text as handed_text, long}
 use Rattle.script_text.specs.Form.{Form, is_without_memory, undo, redo, begin, abandon, tree_form, put_form, command_of, checked, form_with, is_same, last_steps, has_word, front_word, behind_word, takes_no_memory, takes_no_memory_with}
 use Rattle.script_text.specs.declared.command.Command.{Command}
@@ -42,21 +42,21 @@ read_well Spelled text x not_deep spelled = (omega (arith, not_deep), spelled)
 -- ---- acts answered with `ok`
 
 -- the reply to an act, given its outcome
-pub told_ok : {T : Type 0} (Comes : Outcome → Type 0) (r : Result T Refusal) (new : History) → OnOk r (Comes (Ok new)) → OnOk r (Told Comes (Ok (ok_with new)))
+pub told_ok : {T : Type 0} (Comes : ActResult → Type 0) (r : Result T Refusal) (new : History) → OnOk r (Comes (Ok new)) → OnOk r (Told Comes (Ok (ok_with new)))
 told_ok Comes (Ok x) new p = (Ok new, p, refl)
 told_ok Comes (Err refusal) new p = tt
 
-pub told_refused : {T : Type 0} (Comes : Outcome → Type 0) (none : Bool) (r : Result T Refusal) → none ≡ false → IfErr r (λ refusal. (refusal ≡ Memory) ⊎ Comes (Err refusal)) → IfErr r (Refuses (Told Comes) none)
+pub told_refused : {T : Type 0} (Comes : ActResult → Type 0) (none : Bool) (r : Result T Refusal) → none ≡ false → IfErr r (λ refusal. (refusal ≡ Memory) ⊎ Comes (Err refusal)) → IfErr r (Refuses (Told Comes) none)
 told_refused Comes none (Ok x) may p = tt
 told_refused Comes none (Err refusal) may (inl memory) = inl (memory, may)
 told_refused Comes none (Err refusal) may (inr comes) = inr (Err refusal, comes, refl)
 
-pub told_surely_refused : {T : Type 0} (Comes : Outcome → Type 0) (none : Bool) (r : Result T Refusal) → IfErr r (λ refusal. Comes (Err refusal)) → IfErr r (Refuses (Told Comes) none)
+pub told_surely_refused : {T : Type 0} (Comes : ActResult → Type 0) (none : Bool) (r : Result T Refusal) → IfErr r (λ refusal. Comes (Err refusal)) → IfErr r (Refuses (Told Comes) none)
 told_surely_refused Comes none (Ok x) p = tt
 told_surely_refused Comes none (Err refusal) comes = inr (Err refusal, comes, refl)
 
 -- the same with the value of a text
-module _ {X : Type 0} (Gives : Result X Refusal → Type 0) (next : X → Outcome → Type 0) where
+module _ {X : Type 0} (Gives : Result X Refusal → Type 0) (next : X → ActResult → Type 0) where
   pub unread : (refusal : Refusal) → (refusal ≡ Memory) ⊎ Gives (Err refusal) → Refuses (Told (Given Gives next)) false refusal
   unread refusal (inl memory) = inl (memory, refl)
   unread refusal (inr gives) = inr (Err refusal, (Err refusal, gives, refl), refl)
@@ -71,19 +71,19 @@ module _ {X : Type 0} (Gives : Result X Refusal → Type 0) (next : X → Outcom
   read_then_refused (Err refusal) x gives (inr p) = inr (Err refusal, (Ok x, gives, p), refl)
 
 -- the same at a place and with the value of a text
-module _ {X : Type 0} (test : Result Place Refusal) (Gives : Result X Refusal → Type 0) (next : Place → X → Outcome → Type 0) where
-  abbrev AtPlace : Outcome → Type 0
+module _ {X : Type 0} (test : Result Located Refusal) (Gives : Result X Refusal → Type 0) (next : Located → X → ActResult → Type 0) where
+  abbrev AtPlace : ActResult → Type 0
   AtPlace = Passing test (λ place. Given Gives (next place))
 
   pub nowhere : (refusal : Refusal) → test ≡ Err refusal → Refuses (Told AtPlace) false refusal
-  nowhere refusal none = inr (Err refusal, subst (λ (t : Result Place Refusal). Passing t (λ place. Given Gives (next place)) (Err refusal)) (sym none) refl, refl)
+  nowhere refusal none = inr (Err refusal, subst (λ (t : Result Located Refusal). Passing t (λ place. Given Gives (next place)) (Err refusal)) (sym none) refl, refl)
 
-  module _ (place : Place) (there : test ≡ Ok place) where
-    at_place : (given : Result X Refusal) (outcome : Outcome) → Gives given → Passing given (next place) outcome → AtPlace outcome
-    at_place given outcome gives p = subst (λ (t : Result Place Refusal). Passing t (λ place. Given Gives (next place)) outcome) (sym there) (given, gives, p)
+  module _ (place : Located) (there : test ≡ Ok place) where
+    at_place : (given : Result X Refusal) (outcome : ActResult) → Gives given → Passing given (next place) outcome → AtPlace outcome
+    at_place given outcome gives p = subst (λ (t : Result Located Refusal). Passing t (λ place. Given Gives (next place)) outcome) (sym there) (given, gives, p)
 
-    found : (x : X) (outcome : Outcome) → Passing test (λ place. next place x) outcome → next place x outcome
-    found x outcome p = subst (λ (t : Result Place Refusal). Passing t (λ place. next place x) outcome) there p
+    found : (x : X) (outcome : ActResult) → Passing test (λ place. next place x) outcome → next place x outcome
+    found x outcome p = subst (λ (t : Result Located Refusal). Passing t (λ place. next place x) outcome) there p
 
     pub placed_ok : {T : Type 0} (r : Result T Refusal) (x : X) (new : History) → Gives (Ok x) → OnOk r (Passing test (λ place. next place x) (Ok new)) → OnOk r (Told AtPlace (Ok (ok_with new)))
     placed_ok (Ok y) x new gives p = (Ok new, at_place (Ok x) (Ok new) gives (found x (Ok new) p), refl)
@@ -197,19 +197,19 @@ abbrev tells_fault : Reply → Bool
 tells_fault (Ok accepted) = false
 tells_fault (Err refusal) = is_fault refusal
 
-same_told : (outcome known : Outcome) → outcome ≡ known → tells_fault (done known) ≡ false → tells_fault (done outcome) ≡ false
-same_told outcome known is e = ap (λ (o : Outcome). tells_fault (done o)) is ∙ e
+same_told : (outcome known : ActResult) → outcome ≡ known → tells_fault (done known) ≡ false → tells_fault (done outcome) ≡ false
+same_told outcome known is e = ap (λ (o : ActResult). tells_fault (done o)) is ∙ e
 
-going : (group : Option HistoryGroup) (o : Option History) (miss : Refusal) → is_fault miss ≡ false → (outcome : Outcome) → Holding (is_none group) Group (Passing (ok_or o miss) Leaves) outcome → tells_fault (done outcome) ≡ false
+going : (group : Option HistoryGroup) (o : Option History) (miss : Refusal) → is_fault miss ≡ false → (outcome : ActResult) → Holding (is_none group) Group (Passing (ok_or o miss) Leaves) outcome → tells_fault (done outcome) ≡ false
 going None None miss e outcome p = same_told outcome (Err miss) p e
 going None (Some g) miss e outcome p = same_told outcome (Ok g) p refl
 going (Some g) o miss e outcome p = same_told outcome (Err Group) p refl
 
-beginning : (group : Option HistoryGroup) (h : History) (outcome : Outcome) → Holding (is_none group) Group (Leaves h) outcome → tells_fault (done outcome) ≡ false
+beginning : (group : Option HistoryGroup) (h : History) (outcome : ActResult) → Holding (is_none group) Group (Leaves h) outcome → tells_fault (done outcome) ≡ false
 beginning None h outcome p = same_told outcome (Ok h) p refl
 beginning (Some g) h outcome p = same_told outcome (Err Group) p refl
 
-leaving : (group : Option HistoryGroup) (next : HistoryGroup → History) (outcome : Outcome) → Passing (ok_or group NoGroup) (λ g. Leaves (next g)) outcome → tells_fault (done outcome) ≡ false
+leaving : (group : Option HistoryGroup) (next : HistoryGroup → History) (outcome : ActResult) → Passing (ok_or group NoGroup) (λ g. Leaves (next g)) outcome → tells_fault (done outcome) ≡ false
 leaving None next outcome p = same_told outcome (Err NoGroup) p refl
 leaving (Some g) next outcome p = same_told outcome (Ok (next g)) p refl
 

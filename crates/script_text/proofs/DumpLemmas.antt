@@ -21,7 +21,7 @@ use Rattle.strategy_check.specs.Programs.{Program, program}
 use Rattle.term_changes.specs.Contents.{Contents, with_tree, with_module}
 use Rattle.session_history.specs.Modules.{Texts, Finds, GivesProgram, Checks}
 use Rattle.session_history.specs.History.{HistoryGroup, History, changed, stepped}
-use Rattle.session_history.specs.Step.{Passing, Holding, Given, Leaves, ChangesTo, ChangesModules, committed}
+use Rattle.session_history.specs.Acts.{Passing, Holding, Given, Leaves, ChangesTo, ChangesModules, committed}
 use Rattle.session_history.specs.Dump.{tree_line, module_line, dumped}
 use Rattle.session_history.specs.declared.refusal.Refusal.{Refusal}
 use Rattle.session_history.specs.declared.refusal.Refusal.TheVariants.{Big, Group, NoGroup}
@@ -30,7 +30,7 @@ use Rattle.script_text.specs.declared.framing.Framing.{Framing}
 use Rattle.script_text.specs.Script.{commands}
 use Rattle.script_text.specs.Form.{Form, tree, set_module, begin, commit, command_of}
 use Rattle.script_text.specs.Handed.{Handed, text, long, handed_as, handed}
-use Rattle.script_text.specs.Machine.{Reply, line, ok_with, Replies, ReplyTo, history_after}
+use Rattle.script_text.specs.Replies.{Reply, line, ok_with, Replies, ReplyTo, history_after}
 use Rattle.script_text.specs.Answer.{ReplyInRun}
 use Rattle.session_history.specs.Applying.{Meaning}
 use Rattle.script_text.specs.Run.{Replied, history_after_all, out}

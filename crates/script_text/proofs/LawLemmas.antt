@@ -32,14 +32,14 @@ use Rattle.strategy_meaning.specs.Applied.{applied}
 use Rattle.session_history.specs.Applying.{Meaning, ReadsAsStrategy, resolved_in, world_in, given_by}
 use Rattle.session_history.specs.Modules.{Texts, ReadsBy, ReadsAsModule, AreRead, Finds, GivesProgram, Checks, refusal_of}
 use Rattle.session_history.specs.History.{HistoryGroup, History, changed, undone, redone}
-use Rattle.session_history.specs.Step.{Act, set_tree as set_tree_act, copy_tree, drop_tree as drop_tree_act, put as put_act, annotate as annotate_act, set_module as set_module_act, unload as unload_act, apply as apply_act, undo as undo_act, redo as redo_act, begin as begin_act, commit as commit_act, abandon as abandon_act, Outcome, Passing, Holding, Given, Leaves, ChangesTo, ChangesModules, PutsAt, AnnotatesAt, AppliesAt, Place, Resolving, ComesTo, committed, tree_of, text_of, place_of}
+use Rattle.session_history.specs.Acts.{Act, set_tree as set_tree_act, copy_tree, drop_tree as drop_tree_act, put as put_act, annotate as annotate_act, set_module as set_module_act, unload as unload_act, apply as apply_act, undo as undo_act, redo as redo_act, begin as begin_act, commit as commit_act, abandon as abandon_act, ActResult, Passing, Holding, Given, Leaves, ChangesTo, ChangesModules, PutsAt, AnnotatesAt, AppliesAt, Located, Resolving, ComesTo, committed, tree_of, module_text_of, place_of}
 use Rattle.session_history.specs.Preview.{Preview, part_at, Foresees, ForeseesAt, Previews}
 use Rattle.session_history.proofs.OutermostLemmas.{outermost_paths, map_paths}
 use Rattle.session_history.specs.declared.refusal.Refusal.{Refusal}
 use Rattle.session_history.specs.declared.refusal.Refusal.TheVariants.{Deep, Term, Syntax, Big, NoUndo, NoRedo, Group, NoGroup}
 use Rattle.script_text.specs.Form.{Form, tree, copy, drop_tree, put, annotate, set_module, unload, apply, preview, undo, redo, begin, commit, abandon, show, trees, modules, module_text, history, dump, command_of}
 use Rattle.script_text.specs.Handed.{Handed, text, long}
-use Rattle.script_text.specs.Machine.{ReadAs, Told, done, previewed, Reply, Replies, history_after}
+use Rattle.script_text.specs.Replies.{ReadAs, Told, done, previewed, Reply, Replies, history_after}
 use Rattle.script_text.specs.Answer.{ReplyInRun}
 use Rattle.script_text.specs.Run.{Replied}
 
@@ -79,24 +79,24 @@ module _ {X Y : Type 0} where
       → (a b : Result Y Refusal) → Given Gives next a → Given Gives next b → a ≡ b
   Given-one Gives next gives one a b p q = Passing-one p.0 next one a b p.2 (subst (λ (r : Result X Refusal). Passing r next b) (sym (gives p.0 q.0 p.1 q.1)) q.2)
 
-Holding-one : (test : Bool) (refusal : Refusal) (Next : Outcome → Type 0) → ((a b : Outcome) → Next a → Next b → a ≡ b) → (a b : Outcome) → Holding test refusal Next a → Holding test refusal Next b → a ≡ b
+Holding-one : (test : Bool) (refusal : Refusal) (Next : ActResult → Type 0) → ((a b : ActResult) → Next a → Next b → a ≡ b) → (a b : ActResult) → Holding test refusal Next a → Holding test refusal Next b → a ≡ b
 Holding-one true refusal Next one a b p q = one a b p q
 Holding-one false refusal Next one a b p q = p ∙ sym q
 
-Leaves-one : (g : History) (a b : Outcome) → Leaves g a → Leaves g b → a ≡ b
+Leaves-one : (g : History) (a b : ActResult) → Leaves g a → Leaves g b → a ≡ b
 Leaves-one g a b p q = p ∙ sym q
 
-PutsAt-one : (name path : List ℕ) (t : Tree) (h : History) (place : Place) (a b : Outcome) → PutsAt name path t h place a → PutsAt name path t h place b → a ≡ b
+PutsAt-one : (name path : List ℕ) (t : Tree) (h : History) (place : Located) (a b : ActResult) → PutsAt name path t h place a → PutsAt name path t h place b → a ≡ b
 PutsAt-one name path t h place =
     let c : Contents = with_tree h.now name (set_at place.tree path t) in
     Holding-one (fits (length path) t) Big (ChangesTo c h) (Leaves-one (changed c h))
 
-AnnotatesAt-one : (name path : List ℕ) (ts : List Tree) (h : History) (place : Place) (a b : Outcome) → AnnotatesAt name path ts h place a → AnnotatesAt name path ts h place b → a ≡ b
+AnnotatesAt-one : (name path : List ℕ) (ts : List Tree) (h : History) (place : Located) (a b : ActResult) → AnnotatesAt name path ts h place a → AnnotatesAt name path ts h place b → a ≡ b
 AnnotatesAt-one name path ts h place =
     let c : Contents = with_tree h.now name (set_annotations_at place.tree path ts) in
     Holding-one (list_all (fits (length path + 1)) ts) Big (ChangesTo c h) (Leaves-one (changed c h))
 
-Told-one : (Comes : Outcome → Type 0) → ((a b : Outcome) → Comes a → Comes b → a ≡ b) → (r s : Reply) → Told Comes r → Told Comes s → r ≡ s
+Told-one : (Comes : ActResult → Type 0) → ((a b : ActResult) → Comes a → Comes b → a ≡ b) → (r s : Reply) → Told Comes r → Told Comes s → r ≡ s
 Told-one Comes one r s p q = p.2 ∙ ap done (one p.0 q.0 p.1 q.1) ∙ sym q.2
 
 -- ---- modules
@@ -114,7 +114,7 @@ module _ {X : Type 0} (Gives : List Token → X → Type 0) (one : (x : List ℕ
   ReadsBy-one x (Err r) (Ok n) p q = outcome-one (From x) (length (tokens x)) MAX_TOKENS Deep Syntax (one x) (Err r) (Ok n) p q
   ReadsBy-one x (Err r) (Err s) p q = outcome-one (From x) (length (tokens x)) MAX_TOKENS Deep Syntax (one x) (Err r) (Err s) p q
 
-AppliesAt-one : (meaning : Meaning) (name path : List ℕ) (n : ℕ) (h : History) (place : Place) (program : Program) (strategy : Resolved) (a b : Outcome) → AppliesAt meaning name path n h place program strategy a
+AppliesAt-one : (meaning : Meaning) (name path : List ℕ) (n : ℕ) (h : History) (place : Located) (program : Program) (strategy : Resolved) (a b : ActResult) → AppliesAt meaning name path n h place program strategy a
     → AppliesAt meaning name path n h place program strategy b → a ≡ b
 AppliesAt-one meaning name path n h place program strategy =
     Passing-one (given_by (applied (world_in meaning program h.primitives) path strategy n place.tree)) (λ t. ChangesTo (with_tree h.now name t) h) (λ t. Leaves-one (changed (with_tree h.now name t) h))
@@ -166,16 +166,16 @@ module _ (one : OneModule) where
       let same : a.0 ≡ b.0 = same_fault a.0 b.0 (Finds-one primitives texts (Some a.0) (Some b.0) a.1 b.1) in
       ap Err (a.2 ∙ ap refusal_of same ∙ sym b.2)
 
-  ChangesModules-one : (o : Option HistoryGroup) (c : Contents) (h : History) (a b : Outcome) → ChangesModules o c h a → ChangesModules o c h b → a ≡ b
+  ChangesModules-one : (o : Option HistoryGroup) (c : Contents) (h : History) (a b : ActResult) → ChangesModules o c h a → ChangesModules o c h b → a ≡ b
   ChangesModules-one None c h a b p q = Given-one (Checks h.primitives c.modules) (λ program. ChangesTo c h) (Checks-one h.primitives c.modules) (λ program. Leaves-one (changed c h)) a b p q
   ChangesModules-one (Some g) c h a b p q = p ∙ sym q
 
-  Resolving-one : OneResult → {Y : Type 0} (name path x : List ℕ) (h : History) (next : Place → Program → Resolved → Result Y Refusal → Type 0)
-      → ((place : Place) (program : Program) (whole : Resolved) (a b : Result Y Refusal) → next place program whole a → next place program whole b → a ≡ b)
+  Resolving-one : OneResult → {Y : Type 0} (name path x : List ℕ) (h : History) (next : Located → Program → Resolved → Result Y Refusal → Type 0)
+      → ((place : Located) (program : Program) (whole : Resolved) (a b : Result Y Refusal) → next place program whole a → next place program whole b → a ≡ b)
       → (a b : Result Y Refusal) → Resolving name path x h next a → Resolving name path x h next b → a ≡ b
   Resolving-one strategies {Y} name path x h next one =
-      let Resolves : Place → Strategy → Program → Result Y Refusal → Type 0 = λ place s program. Passing (resolved_in program h.primitives s) (next place program) in
-      let Checked : Place → Strategy → Result Y Refusal → Type 0 = λ place s. Given (Checks h.primitives h.now.modules) (Resolves place s) in
+      let Resolves : Located → Strategy → Program → Result Y Refusal → Type 0 = λ place s program. Passing (resolved_in program h.primitives s) (next place program) in
+      let Checked : Located → Strategy → Result Y Refusal → Type 0 = λ place s. Given (Checks h.primitives h.now.modules) (Resolves place s) in
       Passing-one (place_of h.now name path) (λ place. Given (ReadsAsStrategy x) (Checked place))
       (λ place. Given-one (ReadsAsStrategy x) (Checked place) (ReadsBy-one GivesStrategy strategies x)
       (λ s. Given-one (Checks h.primitives h.now.modules) (Resolves place s) (Checks-one h.primitives h.now.modules)
@@ -186,7 +186,7 @@ module _ (one : OneModule) where
   Previews-one strategies meaning name path n x h =
       Resolving-one strategies name path x h (ForeseesAt meaning path n h) (λ place program whole. Foresees-one path n place.part (run_whole (world_in meaning program h.primitives) (length path) whole n place.part))
 
-  pub ComesTo-one : OneResult → (act : Act) (h : History) (a b : Outcome) → ComesTo act h a → ComesTo act h b → a ≡ b
+  pub ComesTo-one : OneResult → (act : Act) (h : History) (a b : ActResult) → ComesTo act h a → ComesTo act h b → a ≡ b
   ComesTo-one strategies (set_tree_act name t) h = Holding-one (fits 0 t) Big (ChangesTo (with_tree h.now name t) h) (Leaves-one (changed (with_tree h.now name t) h))
   ComesTo-one strategies (copy_tree name other) h = Passing-one (tree_of h.now name) (λ t. ChangesTo (with_tree h.now other t) h) (λ t. Leaves-one (changed (with_tree h.now other t) h))
   ComesTo-one strategies (drop_tree_act name) h = Passing-one (tree_of h.now name) (λ t. ChangesTo (without_tree h.now name) h) (λ t. Leaves-one (changed (without_tree h.now name) h))
@@ -195,7 +195,7 @@ module _ (one : OneModule) where
   ComesTo-one strategies (set_module_act name x) h =
       Given-one (ReadsAsModule x) (λ m. ChangesModules h.group (with_module h.now name x) h) (ReadsAsModule-one x) (λ m. ChangesModules-one h.group (with_module h.now name x) h)
   ComesTo-one strategies (unload_act name) h =
-      Passing-one (text_of h.now name) (λ x. ChangesModules h.group (without_module h.now name) h) (λ x. ChangesModules-one h.group (without_module h.now name) h)
+      Passing-one (module_text_of h.now name) (λ x. ChangesModules h.group (without_module h.now name) h) (λ x. ChangesModules-one h.group (without_module h.now name) h)
   ComesTo-one strategies (apply_act meaning name path n x) h =
       Resolving-one strategies name path x h (AppliesAt meaning name path n h) (λ place program whole. AppliesAt-one meaning name path n h place program whole)
   ComesTo-one strategies (undo_act k) h = Holding-one (is_none h.group) Group (Passing (ok_or (undone k h) NoUndo) Leaves) (Passing-one (ok_or (undone k h) NoUndo) Leaves Leaves-one)
@@ -214,14 +214,14 @@ module _ (one : OneModule) where
 module _ (one : OneTerm) (one_module : OneModule) (one_strategy : OneResult) (meaning : Meaning) where
   Replies-one : (form : Form) (h : History) (r s : Reply) → Replies meaning form h r → Replies meaning form h s → r ≡ s
   Replies-one (tree name x) h =
-      let next : Tree → Outcome → Type 0 = λ t. ComesTo (set_tree_act name t) h in
+      let next : Tree → ActResult → Type 0 = λ t. ComesTo (set_tree_act name t) h in
       Told-one (Given (ReadAs Spells x) next) (Given-one (ReadAs Spells x) next (ReadAs-one Spells one.term x) (λ t. ComesTo-one one_module one_strategy (set_tree_act name t) h))
   Replies-one (put name path x) h =
-      let next : Place → Tree → Outcome → Type 0 = λ place t. PutsAt name path t h place in
+      let next : Located → Tree → ActResult → Type 0 = λ place t. PutsAt name path t h place in
       Told-one (Passing (place_of h.now name path) (λ place. Given (ReadAs Spells x) (next place))) (Passing-one (place_of h.now name path) (λ place. Given (ReadAs Spells x) (next place))
       (λ place. Given-one (ReadAs Spells x) (next place) (ReadAs-one Spells one.term x) (λ t. PutsAt-one name path t h place)))
   Replies-one (annotate name path x) h =
-      let next : Place → List Tree → Outcome → Type 0 = λ place ts. AnnotatesAt name path ts h place in
+      let next : Located → List Tree → ActResult → Type 0 = λ place ts. AnnotatesAt name path ts h place in
       Told-one (Passing (place_of h.now name path) (λ place. Given (ReadAs SpellsAnnotations x) (next place))) (Passing-one (place_of h.now name path) (λ place. Given (ReadAs SpellsAnnotations x) (next place))
       (λ place. Given-one (ReadAs SpellsAnnotations x) (next place) (ReadAs-one SpellsAnnotations one.annotations x) (λ ts. AnnotatesAt-one name path ts h place)))
   Replies-one (copy name other) h = Told-one (ComesTo (copy_tree name other) h) (ComesTo-one one_module one_strategy (copy_tree name other) h)

@@ -12,7 +12,7 @@ use Rattle.std.proofs.lemmas.List.Sums.{suffix_len-le-length}
 use Rattle.std.proofs.lemmas.List.Splits.{slice_split_none, slice_split_at, slice_split-cons_yes, slice_split-cons_no}
 use Rattle.script_text.specs.declared.framing.Framing.{Framing}
 use Rattle.script_text.specs.declared.framing.Framing.TheVariants.{Lines}
-use Rattle.script_text.specs.declared.splitter.Place.TheVariants.{Start, Kept, Comment}
+use Rattle.script_text.specs.declared.splitter.LineState.TheVariants.{Start, Kept, Comment}
 use Rattle.script_text.specs.declared.splitter.Unfinished.{Unfinished}
 use Rattle.script_text.specs.Script.{is_line_feed, is_carriage_return, without_end, pieces, is_blank, without_start, is_command, line_commands, commands, ended_lines}
 use Rattle.script_text.specs.Handed.{Handed, handed_as, handed}

@@ -9,9 +9,9 @@ use Rattle.std.proofs.lemmas.List.Sums.{sum_by-append, sum_by-cons}
 use Rattle.std.specs.Bool.{MatchBool}
 use Rattle.session_history.specs.History.{History}
 use Rattle.script_text.specs.Handed.{Handed}
-use Rattle.script_text.specs.Machine.{Reply, Replying, history_after, written}
+use Rattle.script_text.specs.Replies.{Reply, Replying, history_after, written}
 use Rattle.script_text.specs.Answer.{Answered}
-use Rattle.script_text.specs.Run.{Replied, history_after_all, out, last_answer, Leads, Completes, WritesFront, BreaksOff}
+use Rattle.script_text.specs.Run.{Replied, history_after_all, out, last_answer, RunLeads, Completes, WritesFront, BreaksOff}
 use Rattle.script_text.specs.inside.Counting.{one_if}
 use Rattle.script_text.proofs.WriteLemmas.{Appends-none}
 
@@ -81,8 +81,8 @@ append-empty : {A : Type 0} (xs ys : List A) → [] ≡ xs ++ ys → ys ≡ []
 append-empty [] ys e = sym e
 append-empty (x ∷ xs) ys e = absurd (cc)
 
-Leads-append : (stop : Bool) (Rule : Replying) (cs ds : List Handed) (h g k : History) (fs gs : List Bool) (rs ss : List Reply) → GoesBehind stop rs → Leads stop Rule cs h g fs rs → Leads stop Rule ds g k gs ss →
-    Leads stop Rule (cs ++ ds) h k (fs ++ gs) (rs ++ ss)
+Leads-append : (stop : Bool) (Rule : Replying) (cs ds : List Handed) (h g k : History) (fs gs : List Bool) (rs ss : List Reply) → GoesBehind stop rs → RunLeads stop Rule cs h g fs rs → RunLeads stop Rule ds g k gs ss →
+    RunLeads stop Rule (cs ++ ds) h k (fs ++ gs) (rs ++ ss)
 Leads-append stop Rule cs ds h g k fs gs rs ss goes p q = record {
   replied = Replied-append stop Rule cs ds fs gs h rs ss goes p.replied (subst (λ (x : History). Replied stop Rule ds gs x ss) p.history q.replied);
   history = q.history ∙ ap (λ (x : History). history_after_all x ss) p.history ∙ sym (history_after_all-append h rs ss);
@@ -105,7 +105,7 @@ Replied-one stop Rule command flag h r p = (p, at (stop && is_err r))
     at false = tt
 
 Leads-one : (stop : Bool) (Rule : Replying) (command : Handed) (h g : History) (before after : List ℕ) (verdict : Bool) (a : Answered Rule command h g before after verdict) →
-    Leads stop Rule (command ∷ []) h g (a.flag ∷ []) (a.reply ∷ [])
+    RunLeads stop Rule (command ∷ []) h g (a.flag ∷ []) (a.reply ∷ [])
 Leads-one stop Rule command h g before after verdict a = record { replied = Replied-one stop Rule command a.flag h a.reply a.replied; history = a.history }
 
 one_ok : (verdict : Bool) (reply : Reply) → verdict ≡ is_ok reply → (one_if verdict ≡ count_by is_ok (reply ∷ [])) × (one_if (not verdict) ≡ count_by is_err (reply ∷ []))

@@ -9,8 +9,8 @@ use Rattle.std.specs.Option.{option_to_list}
 use Rattle.script_text.specs.declared.TheConstants.{MAX_COMMAND}
 use Rattle.script_text.specs.declared.framing.Framing.{Framing}
 use Rattle.script_text.specs.declared.framing.Framing.TheVariants.{Continued, Lines}
-use Rattle.script_text.specs.declared.splitter.Place.{Place}
-use Rattle.script_text.specs.declared.splitter.Place.TheVariants.{Start, Kept, Comment, Skipped}
+use Rattle.script_text.specs.declared.splitter.LineState.{LineState}
+use Rattle.script_text.specs.declared.splitter.LineState.TheVariants.{Start, Kept, Comment, Skipped}
 use Rattle.script_text.specs.declared.splitter.Unfinished.{Unfinished}
 use Rattle.script_text.specs.Split.{Split}
 use Rattle.script_text.specs.Script.{Cut, cut, begins_command, lines, commands, but_last}
@@ -269,7 +269,7 @@ line_none false true c n b e = (e, refl)
 line_none false false None n b e = (refl, refl)
 line_none false false (Some d) n b e = absurd (cc)
 
-continued_none : (place : Place) (c : Option Handed) (n b : ℕ) → (continued_at place (record { framing = Continued; command = c; place = place; returns = n }) b).left.command ≡ None →
+continued_none : (place : LineState) (c : Option Handed) (n b : ℕ) → (continued_at place (record { framing = Continued; command = c; place = place; returns = n }) b).left.command ≡ None →
     (c ≡ None) × ((continued_at place (record { framing = Continued; command = c; place = place; returns = n }) b).out ≡ None)
 continued_none Start c n b e = start_none (b == 13) (b == 10) (n == 0 && b == 35) (n == 0 && (b == 32 || b == 9)) c n b e
 continued_none Kept c n b e = line_none (b == 13) (b == 10) c n b e
@@ -286,7 +286,7 @@ continued_none Skipped c n b e = at (b == 10) e
     at true e = (e, refl)
     at false e = (e, refl)
 
-none_before : (f : Framing) → f ≡ Continued → (place : Place) (c : Option Handed) (n b : ℕ) →
+none_before : (f : Framing) → f ≡ Continued → (place : LineState) (c : Option Handed) (n b : ℕ) →
     (taken (record { framing = f; command = c; place = place; returns = n }) b).left.command ≡ None →
     (c ≡ None) × ((taken (record { framing = f; command = c; place = place; returns = n }) b).out ≡ None)
 none_before Continued e place c n b none = continued_none place c n b none

@@ -10,8 +10,8 @@ use Rattle.std.proofs.lemmas.List.Sums.{position_or_len_is, prefix_len_passes}
 use Rattle.memchr.specs.Find.{Nowhere, NoneBefore, Passes}
 use Rattle.script_text.specs.declared.framing.Framing.{Framing}
 use Rattle.script_text.specs.declared.framing.Framing.TheVariants.{Continued, Lines}
-use Rattle.script_text.specs.declared.splitter.Place.{Place}
-use Rattle.script_text.specs.declared.splitter.Place.TheVariants.{Kept, Comment, Skipped}
+use Rattle.script_text.specs.declared.splitter.LineState.{LineState}
+use Rattle.script_text.specs.declared.splitter.LineState.TheVariants.{Kept, Comment, Skipped}
 use Rattle.script_text.specs.declared.splitter.Unfinished.{Unfinished}
 use Rattle.script_text.specs.Handed.{Handed}
 use Rattle.script_text.specs.Script.{is_line_feed}
@@ -106,7 +106,7 @@ kept_taken s x k after place returns e f =
     subst (λ (c : Option Handed). Runs s (take k x) (record s { command = c })) (sym f)
     (at s.command s.place s.returns place returns)
   where
-    at : (c : Option Handed) (p : Place) (n : ℕ) → p ≡ Kept → n ≡ 0 →
+    at : (c : Option Handed) (p : LineState) (n : ℕ) → p ≡ Kept → n ≡ 0 →
         (let now : Unfinished = record { framing = s.framing; command = c; place = p; returns = n } in Runs now (take k x) (record now { command = option_map (with_more (take k x)) c }))
     at c p n place returns =
         rw (place, returns) (kept_run s.framing (take k x) c (run_passes ends_run x k e))

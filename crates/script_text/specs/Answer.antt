@@ -5,7 +5,7 @@ use Rattle.session_history.specs.History.{History}
 use Rattle.session_history.specs.declared.refusal.Refusal.{Refusal}
 use Rattle.session_history.specs.declared.refusal.Refusal.TheVariants.{Memory, Line, Long, Name, NoTree, NoModule, Term, Deep, Path, Syntax, Check, Fails, Spent, Big, NoUndo, NoRedo, Group, NoGroup}
 use Rattle.script_text.specs.Form.{takes_no_memory}
-use Rattle.script_text.specs.Machine.{Reply, Replying, ReplyTo, history_after, written, line, refused}
+use Rattle.script_text.specs.Replies.{Reply, Replying, ReplyTo, history_after, written, line, refused}
 use Rattle.script_text.specs.Handed.{Handed, text, long}
 
 -- whether the command is of a form that takes no memory

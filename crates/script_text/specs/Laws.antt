@@ -13,9 +13,9 @@ use Rattle.script_text.specs.declared.framing.Framing.{Framing}
 use Rattle.script_text.specs.declared.framing.Framing.TheVariants.{Continued, Lines}
 use Rattle.script_text.specs.Script.{is_line_feed, is_carriage_return, begins_command, commands}
 use Rattle.script_text.specs.Handed.{Handed, handed}
-use Rattle.script_text.specs.Machine.{Reply, line}
+use Rattle.script_text.specs.Replies.{Reply, line}
 use Rattle.script_text.specs.Answer.{ReplyInRun}
-use Rattle.script_text.specs.Run.{Replied, Leads, out}
+use Rattle.script_text.specs.Run.{Replied, RunLeads, out}
 
 -- The commands, the flags and the history before them determine the replies, and so everything that
 -- is written and the history after them, given the meaning of primitives.
@@ -72,7 +72,7 @@ abbrev pub DumpReadsBack : Type 0
 DumpReadsBack =
     (meaning : Meaning) (framing : Framing) (stop : Bool) (steps : ℕ) (c : Contents) (h g : History) (flags : List Bool)
     (replies : List Reply) → CanBeGiven framing h.primitives c → IsBare h → AreClear flags
-    → Leads stop (ReplyInRun meaning steps) (handed framing (dumped c)) h g flags replies → GivesAgain framing c g replies
+    → RunLeads stop (ReplyInRun meaning steps) (handed framing (dumped c)) h g flags replies → GivesAgain framing c g replies
 
 -- Such a run exists on each such session: the dump is answered, and memory can grow in all its
 -- commands.

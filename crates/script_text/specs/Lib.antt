@@ -5,7 +5,7 @@ pub mod FedRight
 pub mod Splitting
 pub mod Form
 pub mod CommandView
-pub mod Machine
+pub mod Replies
 pub mod Answer
 pub mod Run
 pub mod Laws

@@ -7,7 +7,7 @@ use Rattle.std.specs.Io.KnownBytes.{Appends, Consumes, IsAtEnd}
 use Rattle.session_history.specs.History.{History}
 use Rattle.script_text.specs.declared.framing.Framing.{Framing}
 use Rattle.script_text.specs.Handed.{Handed, handed, completed}
-use Rattle.script_text.specs.Machine.{Reply, Replying, history_after, written}
+use Rattle.script_text.specs.Replies.{Reply, Replying, history_after, written}
 
 -- The replies to commands in order, each at the history that the one before leaves. The flag of
 -- each says whether memory couldn't grow. If a refusal stops the run, nothing after it is replied
@@ -39,7 +39,7 @@ last_answer (reply ∷ []) = written reply
 last_answer (reply ∷ (next ∷ replies)) = last_answer (next ∷ replies)
 
 -- These commands lead from the history h to g with these replies.
-pub record Leads (stop : Bool) (Rule : Replying) (commands : List Handed) (h g : History) (flags : List Bool)
+pub record RunLeads (stop : Bool) (Rule : Replying) (commands : List Handed) (h g : History) (flags : List Bool)
     (replies : List Reply) : Type 0 where
   pub replied : Replied stop Rule commands flags h replies
   pub history : g ≡ history_after_all h replies
@@ -50,7 +50,7 @@ pub record Completes (stop : Bool) (Rule : Replying) (commands : List Handed) (h
     (old new : Option (List ℕ)) (yes no : ℕ) : Type 0 where
   pub flags : List Bool
   pub replies : List Reply
-  pub leads : Leads stop Rule commands h g flags replies
+  pub leads : RunLeads stop Rule commands h g flags replies
   pub written : Appends old new (out replies)
   pub accepted : yes ≡ count_by is_ok replies
   pub refused : no ≡ count_by is_err replies
@@ -70,7 +70,7 @@ pub record BreaksOff (stop : Bool) (Rule : Replying) (commands : List Handed) (h
   pub split : commands ≡ first ++ others
   pub flags : List Bool
   pub replies : List Reply
-  pub leads : Leads stop Rule first h g flags replies
+  pub leads : RunLeads stop Rule first h g flags replies
   pub lost : List ℕ
   pub written : WritesFront old new (out replies) lost
   pub front : List ℕ

@@ -7,8 +7,8 @@ use Rattle.std.specs.Option.{option_to_list}
 use Rattle.script_text.specs.declared.TheConstants.{MAX_COMMAND}
 use Rattle.script_text.specs.declared.framing.Framing.{Framing}
 use Rattle.script_text.specs.declared.framing.Framing.TheVariants.{Continued, Lines}
-use Rattle.script_text.specs.declared.splitter.Place.{Place}
-use Rattle.script_text.specs.declared.splitter.Place.TheVariants.{Start, Kept, Comment, Skipped}
+use Rattle.script_text.specs.declared.splitter.LineState.{LineState}
+use Rattle.script_text.specs.declared.splitter.LineState.TheVariants.{Start, Kept, Comment, Skipped}
 use Rattle.script_text.specs.declared.splitter.Unfinished.{Unfinished}
 use Rattle.script_text.specs.Script.{is_blank}
 use Rattle.script_text.specs.Handed.{Handed, text, long, handed_as, handed, completed}
@@ -48,7 +48,7 @@ abbrev pub behind_returns : ℕ → ℕ → List ℕ
 behind_returns n b = repeat n (13 ∷ []) ++ b ∷ []
 
 -- at the start of a line, or in one of this kind, with no carriage returns held back
-abbrev pub in_place : Framing → Option Handed → Place → Unfinished
+abbrev pub in_place : Framing → Option Handed → LineState → Unfinished
 in_place framing command place = record { framing = framing; command = command; place = place; returns = 0 }
 
 -- a command that begins with these carriage returns and this byte
@@ -85,7 +85,7 @@ in_line s b =
 abbrev pub in_dropped : Unfinished → ℕ → Taken
 in_dropped s b = if b == 10 then going (in_place s.framing s.command Start) else going s
 
-abbrev pub continued_at : Place → Unfinished → ℕ → Taken
+abbrev pub continued_at : LineState → Unfinished → ℕ → Taken
 continued_at Start s b = at_start s b
 continued_at Kept s b = in_line s b
 continued_at Comment s b = in_dropped s b
@@ -109,7 +109,7 @@ in_own_line s b =
 abbrev pub in_own_comment : Unfinished → ℕ → Taken
 in_own_comment s b = if b == 10 then going (nothing s.framing) else going s
 
-abbrev pub own_line_at : Place → Unfinished → ℕ → Taken
+abbrev pub own_line_at : LineState → Unfinished → ℕ → Taken
 own_line_at Start s b = at_own_start s b
 own_line_at Kept s b = in_own_line s b
 own_line_at Comment s b = in_own_comment s b

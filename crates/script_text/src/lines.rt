@@ -4,7 +4,7 @@ ghost use Rattle.std.specs.Prelude.{◌≡◌, ◌≤◌, ◌+◌, ◌++◌, ◌
 ghost use Rattle.aterm_text.specs.Printed.{print as print_of};
 ghost use Rattle.aterm_text.specs.inside.Printing.{Extends};
 ghost use Rattle.script_text.specs.Form.{tree};
-ghost use Rattle.script_text.specs.Machine.{line, listed, path_text, preview_line, replacement_line};
+ghost use Rattle.script_text.specs.Replies.{line, listed, path_text, preview_line, replacement_line};
 
 use aterm_text::print;
 use itoa::Buffer;

@@ -46,7 +46,7 @@ pub enum Fed {
 
 /// Where in a line the next byte is.
 #[derive(Clone, Copy)]
-pub enum Place {
+pub enum LineState {
     /// At the start: only carriage returns came.
     Start,
     /// In a line of the command.
@@ -71,7 +71,7 @@ pub enum Next {
 pub struct Unfinished {
     framing: Framing,
     command: Pending,
-    place: Place,
+    place: LineState,
     // Carriage returns that are dropped if the line ends.
     returns: usize,
 }
@@ -105,7 +105,7 @@ impl Splitter {
             open: Unfinished {
                 framing,
                 command,
-                place: Place::Start,
+                place: LineState::Start,
                 returns: 0,
             },
             next: None,
@@ -171,7 +171,7 @@ impl Unfinished {
         ensures { self.new ≡ begun self.old.framing returns byte }
     {
         self.command.begin(returns, byte);
-        self.place = Place::Kept;
+        self.place = LineState::Kept;
         self.returns = 0;
     }
 
@@ -180,7 +180,7 @@ impl Unfinished {
         ensures { self.new ≡ nothing self.old.framing }
     {
         self.command.forget();
-        self.place = Place::Start;
+        self.place = LineState::Start;
         self.returns = 0;
     }
 
@@ -192,8 +192,8 @@ impl Unfinished {
         ensures left { self.new ≡ passed self.old (take result bytes.now) }
     {
         match self.place {
-            Place::Start => 0,
-            Place::Kept => {
+            LineState::Start => 0,
+            LineState::Kept => {
                 if self.returns > 0 {
                     return 0;
                 }
@@ -201,7 +201,7 @@ impl Unfinished {
                 self.command.add_all(&bytes[..len]);
                 len
             }
-            Place::Comment | Place::Skipped => dropped_len(bytes),
+            LineState::Comment | LineState::Skipped => dropped_len(bytes),
         }
     }
 
@@ -226,16 +226,16 @@ impl Unfinished {
         ensures there { IfSome result (λ next. is_some self.new.command ≡ true) }
     {
         match self.place {
-            Place::Start => return self.take_first(byte),
-            Place::Kept => self.take_kept(byte),
-            Place::Comment | Place::Skipped => self.take_dropped(byte),
+            LineState::Start => return self.take_first(byte),
+            LineState::Kept => self.take_kept(byte),
+            LineState::Comment | LineState::Skipped => self.take_dropped(byte),
         }
         None
     }
 
     // A byte at the start of a line.
     fn take_first(&mut self, byte: u8) -> Option<Next>
-        requires { self.old.place ≡ Place.Start }
+        requires { self.old.place ≡ LineState.Start }
         ensures goes { IfNone result (at_start self.old byte ≡ going self.new) }
         ensures completes { IfSome result (λ next. at_start self.old byte
             ≡ record { out = self.new.command; left = begins_with self.new.framing next }) }
@@ -247,7 +247,7 @@ impl Unfinished {
                 self.returns = 0;
                 self.command.add(b'\n');
             }
-            b'#' if self.returns == 0 => self.place = Place::Comment,
+            b'#' if self.returns == 0 => self.place = LineState::Comment,
             b' ' | b'\t' if self.returns == 0 => self.go_on(byte),
             _ => return self.begin_line(byte),
         }
@@ -259,7 +259,7 @@ impl Unfinished {
         ensures { in_dropped self.old byte ≡ going self.new }
     {
         if byte == b'\n' {
-            self.place = Place::Start;
+            self.place = LineState::Start;
             self.returns = 0;
         }
     }
@@ -278,10 +278,10 @@ impl Unfinished {
     {
         self.returns = 0;
         if !self.command.is_there() {
-            self.place = Place::Skipped;
+            self.place = LineState::Skipped;
             return;
         }
-        self.place = Place::Kept;
+        self.place = LineState::Kept;
         self.command.add(b'\n');
         self.command.add(byte);
     }
@@ -304,14 +304,14 @@ impl Unfinished {
 
     // A byte in a line of the command.
     fn take_kept(&mut self, byte: u8)
-        requires { self.old.place ≡ Place.Kept }
+        requires { self.old.place ≡ LineState.Kept }
         ensures { in_line self.old byte ≡ going self.new }
     {
         match byte {
             b'\r' => self.hold_return(),
             b'\n' => {
                 self.returns = 0;
-                self.place = Place::Start;
+                self.place = LineState::Start;
             }
             _ => self.take_more(byte),
         }
@@ -319,7 +319,7 @@ impl Unfinished {
 
     // A byte of the command, after the carriage returns that were held back.
     fn take_more(&mut self, byte: u8)
-        requires { self.old.place ≡ Place.Kept }
+        requires { self.old.place ≡ LineState.Kept }
         ensures { self.new ≡ longer self.old byte }
     {
         self.command.add_behind(self.returns, byte);
@@ -333,9 +333,9 @@ impl Unfinished {
         ensures there { IfSome result (λ next. is_some self.new.command ≡ true) }
     {
         match self.place {
-            Place::Start => self.take_own_first(byte),
-            Place::Kept => return self.take_own_kept(byte),
-            Place::Comment | Place::Skipped => {
+            LineState::Start => self.take_own_first(byte),
+            LineState::Kept => return self.take_own_kept(byte),
+            LineState::Comment | LineState::Skipped => {
                 if byte == b'\n' {
                     self.forget();
                 }
@@ -352,7 +352,7 @@ impl Unfinished {
             b'\n' | b' ' | b'\t' | b'\r' => self.forget(),
             b'#' => {
                 self.forget();
-                self.place = Place::Comment;
+                self.place = LineState::Comment;
             }
             _ => self.begin(0, byte),
         }
@@ -360,7 +360,7 @@ impl Unfinished {
 
     // A byte in a line that is a command. The line feed completes it.
     fn take_own_kept(&mut self, byte: u8) -> Option<Next>
-        requires { self.old.place ≡ Place.Kept }
+        requires { self.old.place ≡ LineState.Kept }
         ensures goes { IfNone result (in_own_line self.old byte ≡ going self.new) }
         ensures completes { IfSome result (λ next. in_own_line self.old byte
             ≡ record { out = self.new.command; left = begins_with self.new.framing next }) }

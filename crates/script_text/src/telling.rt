@@ -5,13 +5,13 @@ ghost use Rattle.aterm_text.specs.Printed.{print_name as name_printed};
 ghost use Rattle.aterm_text.specs.inside.Printing.{Extends};
 ghost use Rattle.strategy_check.specs.Words.{word_of as kind_word};
 ghost use Rattle.session_history.specs.Refusal.{number_of};
-ghost use Rattle.script_text.specs.Machine.{line, reason, refused as refused_text};
+ghost use Rattle.script_text.specs.Replies.{line, reason, refused as refused_text};
 ghost use Rattle.script_text.specs.Answer.{TellsRefusal, is_fault};
 
 use aterm_text::print_name;
 use itoa::Buffer;
 use session_history::Refusal;
-use strategy_check::Kind;
+use strategy_check::FaultKind;
 use term_core::{Name, NoMemory};
 
 /// The spare bytes of the answer's buffer, so that a refusal always has room.
@@ -87,7 +87,7 @@ fn append_head(answer: &mut Vec<u8>, refusal: &Refusal)
 // Appends the description of a fault and ends the line.
 fn append_fault(
     answer: &mut Vec<u8>,
-    kind: Kind,
+    kind: FaultKind,
     name: &Name,
     first: u64,
     second: u64,
@@ -104,7 +104,7 @@ fn append_fault(
     Ok(())
 }
 
-fn append_kind(answer: &mut Vec<u8>, kind: Kind, name: &Name) -> Result<(), NoMemory>
+fn append_kind(answer: &mut Vec<u8>, kind: FaultKind, name: &Name) -> Result<(), NoMemory>
     ensures ok { OnOk result (answer.new.items
         ≡ answer.old.items ++ (kind_word kind ++ 32 ∷ name_printed name.now)) }
     ensures err { Extends answer.old.items answer.new.items }

@@ -13,7 +13,7 @@ use Rattle.term_changes.proofs.ContentsLemmas.{tree_put}
 use Rattle.session_history.specs.Applying.{Meaning, world_in, given_by}
 use Rattle.session_history.specs.inside.Giving.{GivesIn}
 use Rattle.session_history.specs.History.{History, changed}
-use Rattle.session_history.specs.Step.{apply, Outcome, ChangesTo, AppliesAt, Place, ComesTo}
+use Rattle.session_history.specs.Acts.{apply, ActResult, ChangesTo, AppliesAt, Located, ComesTo}
 use Rattle.session_history.specs.Unfolded.{unfolded}
 use Rattle.session_history.specs.declared.timeline.Timeline.{Timeline}
 use Rattle.session_history.specs.declared.refusal.Refusal.{Refusal}
@@ -30,7 +30,7 @@ module _ (meaning : Meaning) (ps : List Signature) (t : Timeline) (name path tex
   abbrev now : History
   now = unfolded ps t
 
-  abbrev Comes : Outcome → Type 0
+  abbrev Comes : ActResult → Type 0
   Comes = ComesTo (apply meaning name path steps text) now
 
   pub apply_unresolved : (refusal : Refusal) → (refusal ≡ Memory) ⊎ IsUnresolved name path text now refusal → (refusal ≡ Memory) ⊎ Comes (Err refusal)
@@ -38,7 +38,7 @@ module _ (meaning : Meaning) (ps : List Signature) (t : Timeline) (name path tex
   apply_unresolved refusal (inr before) = inr (unresolved_before ps t name path text (AppliesAt meaning name path steps now) refusal before)
 
   module _ (cached : Option Program) (i : ℕ) (whole : Resolved) (r : ResolvesTo ps t name path text cached i whole) (lent : Program) (is : Some lent ≡ cached) where
-    abbrev here : Place
+    abbrev here : Located
     here = the_place t name path i r.there
 
     abbrev ending : Ending
@@ -54,7 +54,7 @@ module _ (meaning : Meaning) (ps : List Signature) (t : Timeline) (name path tex
         ap (λ (p : Program). applied_in (world_in meaning p ps) t.store.trees i path whole steps) same
         ∙ ap (λ (o : Option Tree). option_map_or (applied (world_in meaning r.program ps) path whole steps) o fails) r.there.3
 
-    ends : (outcome : Outcome) → AppliesAt meaning name path steps now here r.program whole outcome → Comes outcome
+    ends : (outcome : ActResult) → AppliesAt meaning name path steps now here r.program whole outcome → Comes outcome
     ends outcome p = resolved_then ps t name path text (AppliesAt meaning name path steps now) cached i whole r outcome p
 
     apply_fails : (refusal : Refusal) → given_by Ends ≡ Err refusal → Comes (Err refusal)

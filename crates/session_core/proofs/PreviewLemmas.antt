@@ -23,7 +23,7 @@ use Rattle.session_history.specs.Applying.{Meaning, world_in, stopped_as}
 use Rattle.session_history.specs.History.{History}
 use Rattle.session_history.specs.Preview.{Replacement, part_at, replacement, Foresees as Shows, ForeseesAt, Previews}
 use Rattle.session_history.specs.Preview as definition
-use Rattle.session_history.specs.Step.{Place, place_of}
+use Rattle.session_history.specs.Acts.{Located, place_of}
 use Rattle.session_history.specs.Unfolded.{unfolded, IsPlaceOf}
 use Rattle.session_history.specs.declared.timeline.Timeline.{Timeline}
 use Rattle.session_history.specs.declared.refusal.Refusal.{Refusal}
@@ -109,7 +109,7 @@ module _ (meaning : Meaning) (ps : List Signature) (t : Timeline) (name path tex
   preview_unresolved refusal (inr before) = inr (unresolved_before ps t name path text (ForeseesAt meaning path steps now) refusal before)
 
   module _ (cached : Option Program) (i : ℕ) (whole : Resolved) (r : ResolvesTo ps t name path text cached i whole) (lent : Program) (is : Some lent ≡ cached) where
-    abbrev here : Place
+    abbrev here : Located
     here = the_place t name path i r.there
 
     abbrev run_on : Tree → Answer
@@ -124,7 +124,7 @@ module _ (meaning : Meaning) (ps : List Signature) (t : Timeline) (name path tex
         let there = r.there in
         let again : place_of (contents t.store) name path ≡ Ok (record { tree = there.0; part = part }) =
         place_there (contents t.store) name path there.0 part (tree_held t.store name there.2 i there.0 (sym there.1) there.3) (found part found_it) in
-        let first : ◌≡◌ {A = Result Place Refusal} (Ok (record { tree = there.0; part = part })) (Ok here) = sym again ∙ (seen_place t name path i there).1 in
+        let first : ◌≡◌ {A = Result Located Refusal} (Ok (record { tree = there.0; part = part })) (Ok here) = sym again ∙ (seen_place t name path i there).1 in
         (cc)
 
     comes : (outcome : Result definition.Preview Refusal) → Shows path steps here.part (run_on here.part) outcome → Previews meaning name path steps text now outcome

@@ -17,7 +17,7 @@ use Rattle.session_history.proofs.CheckLemmas.{given_by, none_unread}
 use Rattle.session_history.specs.Modules.{Texts, AreReadable, GivesProgram, AreCurrent, IsCurrent, program_in, Checks, AreRefused}
 use Rattle.session_history.specs.Applying.{ReadsAsStrategy, resolved_in}
 use Rattle.session_history.specs.History.{History, AreFormed}
-use Rattle.session_history.specs.Step.{Passing, Given, Place, Resolving, place_of}
+use Rattle.session_history.specs.Acts.{Passing, Given, Located, Resolving, place_of}
 use Rattle.session_history.specs.Unfolded.{unfolded, IsPlaceOf}
 use Rattle.session_history.specs.declared.timeline.Timeline.{Timeline}
 use Rattle.session_history.specs.declared.refusal.Refusal.{Refusal}
@@ -61,13 +61,13 @@ module _ (ps : List Signature) (t : Timeline) (name path text : List ℕ) where
   abbrev Outcome : Type 0
   Outcome = Result (Unit {0}) Refusal
 
-  abbrev Resolves : Place → Strategy → Program → Outcome → Type 0
+  abbrev Resolves : Located → Strategy → Program → Outcome → Type 0
   Resolves place s program = Passing (resolved_in program ps s) (Never place program)
 
-  abbrev Checked : Place → Strategy → Outcome → Type 0
+  abbrev Checked : Located → Strategy → Outcome → Type 0
   Checked place s = Given (Checks ps (contents t.store).modules) (Resolves place s)
 
-  abbrev Read : Place → Outcome → Type 0
+  abbrev Read : Located → Outcome → Type 0
   Read place = Given (ReadsAsStrategy text) (Checked place)
 
   abbrev Unresolved : Refusal → Type 0
@@ -77,7 +77,7 @@ module _ (ps : List Signature) (t : Timeline) (name path text : List ℕ) where
   unresolved_nowhere refusal none = inr (stopped (place_of (contents t.store) name path) Read refusal none)
 
   module _ (i : ℕ) (there : IsPlaceOf t.store name path i) where
-    abbrev here : Place
+    abbrev here : Located
     here = the_place t name path i there
 
     placed : (refusal : Refusal) → Read here (Err refusal) → Unresolved refusal
@@ -104,7 +104,7 @@ module _ (ps : List Signature) (t : Timeline) (name path text : List ℕ) where
 
   -- ---- what comes after them
 
-  module _ {Y : Type 0} (next : Place → Program → Resolved → Result Y Refusal → Type 0) where
+  module _ {Y : Type 0} (next : Located → Program → Resolved → Result Y Refusal → Type 0) where
     refused_by : {X : Type 0} (test : Result X Refusal) (n : X → Outcome → Type 0) (m : X → Result Y Refusal → Type 0) (refusal : Refusal)
         → ((x : X) → n x (Err refusal) → m x (Err refusal)) → Passing test n (Err refusal) → Passing test m (Err refusal)
     refused_by (Ok x) n m refusal f p = f x p

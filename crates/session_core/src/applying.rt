@@ -9,7 +9,7 @@ ghost use Rattle.session_history.specs.Applying.{world_in, given_by};
 ghost use Rattle.session_history.specs.inside.Giving.{GivesIn};
 ghost use Rattle.session_history.specs.History.{AreFormed, changed};
 ghost use Rattle.session_history.specs.Modules.{IsKept};
-ghost use Rattle.session_history.specs.Step.{ComesTo, apply};
+ghost use Rattle.session_history.specs.Acts.{ComesTo, apply};
 ghost use Rattle.session_history.specs.Unfolded.{unfolded, IsPlaced};
 ghost use Rattle.session_core.specs.inside.Resolved.{replaced_of};
 

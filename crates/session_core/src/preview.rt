@@ -15,13 +15,13 @@ ghost use Rattle.session_core.specs.inside.Foreseen.{Foresees, ForeseesRefusal};
 use crate::applying::replaced;
 use crate::resolving::resolve_at;
 use change_log::Plan;
-use term_changes::{Kept, Replaced};
 use prim_core::{Meaning, Primitives};
 use session_history::{KeptModules, Refusal, Timeline};
 use std::marker::Model;
 use strategy_check::Program;
 use strategy_run::plan_entries;
 use strategy_syntax::Resolved;
+use term_changes::{Kept, Replaced};
 use term_core::{Label, MAX_HEIGHT, Term};
 use term_paths::{Path, at};
 

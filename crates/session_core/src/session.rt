@@ -3,7 +3,7 @@
 ghost use Rattle.std.specs.Prelude.{◌≡◌, ◌≢◌, ◌≤◌, ◌↔◌, ◌⊎◌, ◌++◌, Ok, Err, vec_capacity, OnOk, OnErr, IfOk, IfErr, None, length, option_copied};
 ghost use Rattle.std.specs.FinMap as finmap;
 ghost use Rattle.session_history.specs.History.{empty_history, HasSoundContents};
-ghost use Rattle.session_history.specs.Step.{ComesTo, set_tree, copy_tree, drop_tree, put, annotate, set_module, unload, apply, undo, redo, begin, commit, abandon};
+ghost use Rattle.session_history.specs.Acts.{ComesTo, set_tree, copy_tree, drop_tree, put, annotate, set_module, unload, apply, undo, redo, begin, commit, abandon};
 ghost use Rattle.session_history.specs.Steps.{AreSteps};
 ghost use Rattle.session_history.specs.Preview.{Previews};
 ghost use Rattle.session_core.specs.Previewing.{ShowsPreview};

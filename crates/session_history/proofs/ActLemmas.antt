@@ -9,12 +9,12 @@ use Rattle.term_core.specs.Size.{fits}
 use Rattle.session_history.specs.declared.kept.KeptModules.{KeptModules}
 use Rattle.term_paths.specs.Paths.{at, leads, set_at, set_annotations_at}
 use Rattle.term_changes.specs.Contents.{Contents, with_tree, without_tree}
-use Rattle.term_changes.specs.Slots.{Store, AreApart, contents, content, named, slot_of}
+use Rattle.term_changes.specs.Slots.{Store, HaveDistinctLabels, contents, content, named, slot_of}
 use Rattle.term_changes.specs.Entries.{Entry, slot_tree, subterm, subterm_annotations, subterm_in, before, put}
 use Rattle.term_changes.proofs.ContentsLemmas.{tree_put, tree_taken, tree_of_name, subterm_put, annotations_put}
 use Rattle.change_log.specs.Texts.{TextsChange}
 use Rattle.session_history.specs.History.{HistoryGroup, History, changed, HasSoundContents}
-use Rattle.session_history.specs.Step.{Act, set_tree, copy_tree, drop_tree, put as put_act, annotate, Outcome, Passing, Holding, Leaves, ChangesTo, PutsAt, AnnotatesAt, Place, ComesTo, committed, place_of, tree_of}
+use Rattle.session_history.specs.Acts.{Act, set_tree, copy_tree, drop_tree, put as put_act, annotate, ActResult, Passing, Holding, Leaves, ChangesTo, PutsAt, AnnotatesAt, Located, ComesTo, committed, place_of, tree_of}
 use Rattle.session_history.specs.Modules.{Texts, IsKept}
 use Rattle.session_history.specs.Unfolded.{unfolded, IsPlaceOf}
 use Rattle.session_history.specs.declared.timeline.Timeline.{Timeline}
@@ -38,7 +38,7 @@ tree_told t m n name tree i e ps here is same done =
 -- ---- a session over its timeline
 
 module _ {A : Type 0} (act : Act) (r : Result A Refusal) (ps : List Signature) (old new : Timeline) (h : History) (seen : unfolded ps old ≡ h) where
-  at_seen : (outcome : Outcome) → ((ps : List Signature) → ComesTo act (unfolded ps old) outcome) → ComesTo act h outcome
+  at_seen : (outcome : ActResult) → ((ps : List Signature) → ComesTo act (unfolded ps old) outcome) → ComesTo act h outcome
   at_seen outcome comes = subst (λ (x : History). ComesTo act x outcome) seen (comes ps)
 
   pub ok_seen : OnOk r ((ps : List Signature) → ComesTo act (unfolded ps old) (Ok (unfolded ps new))) → OnOk r (ComesTo act h (Ok (unfolded ps new)))
@@ -127,7 +127,7 @@ module _ {A : Type 0} (Says : History → Result History Refusal → Type 0) (r 
 
 -- ---- a name's tree
 
-module _ (s : Store) (name : List ℕ) (apart : AreApart s.trees) where
+module _ (s : Store) (name : List ℕ) (apart : HaveDistinctLabels s.trees) where
   -- a name without a slot, or with an empty one, has no tree
   tree_gone_of : (o : Option ℕ) → o ≡ slot_of s.trees name → option_and_then (content s.trees) o ≡ None → finmap.get (contents s).trees name ≡ None
   tree_gone_of o here none = tree_of_name s name apart ∙ ap (option_and_then (content s.trees)) (sym here) ∙ none
@@ -158,7 +158,7 @@ seen_some None c e h = absurd (cc)
 seen_some (Some x) c e h = (x.now, sym e)
 
 -- a tree that was taken out of the slot of its name
-pub tree_gone : (t n : Timeline) (name : List ℕ) (i : ℕ) (e : Entry) (ps : List Signature) → AreApart t.store.trees → slot_of t.store.trees name ≡ Some i → e ≡ slot_tree i None
+pub tree_gone : (t n : Timeline) (name : List ℕ) (i : ℕ) (e : Entry) (ps : List Signature) → HaveDistinctLabels t.store.trees → slot_of t.store.trees name ≡ Some i → e ≡ slot_tree i None
     → unfolded ps n ≡ changed (contents (put e t.store)) (unfolded ps t) → unfolded ps n ≡ changed (without_tree (contents t.store) name) (unfolded ps t)
 tree_gone t n name i e ps apart here is done = done ∙ ap (λ c. changed c (unfolded ps t)) (ap (λ e. contents (put e t.store)) is ∙ tree_taken t.store name i apart here)
 
@@ -176,7 +176,7 @@ module _ (t n : Timeline) (ps : List Signature) where
       passed (tree_of (contents t.store) name) (λ tree. ChangesTo (with_tree (contents t.store) copy tree) (unfolded ps t)) tree (Ok (unfolded ps n)) (ap (λ (o : Option Tree). ok_or o NoTree) there)
       (ap Ok (tree_told t m n copy twin i e ps here is same done ∙ ap (λ (tree : Tree). changed (with_tree (contents t.store) copy tree) (unfolded ps t)) is_twin))
 
-  pub dropped : (name : List ℕ) (i : ℕ) (tree : Tree) (e : Entry) → AreApart t.store.trees → Some i ≡ slot_of t.store.trees name → content t.store.trees i ≡ Some tree → e ≡ slot_tree i None
+  pub dropped : (name : List ℕ) (i : ℕ) (tree : Tree) (e : Entry) → HaveDistinctLabels t.store.trees → Some i ≡ slot_of t.store.trees name → content t.store.trees i ≡ Some tree → e ≡ slot_tree i None
       → unfolded ps n ≡ changed (contents (put e t.store)) (unfolded ps t) → ComesTo (drop_tree name) (unfolded ps t) (Ok (unfolded ps n))
   dropped name i tree e apart here there is done =
       passed (tree_of (contents t.store) name) (λ tree. ChangesTo (without_tree (contents t.store) name) (unfolded ps t)) tree (Ok (unfolded ps n)) (the_tree_of t.store name apart i tree here there)
@@ -223,18 +223,18 @@ module _ (t : Timeline) (name path : List ℕ) (i : ℕ) (there : IsPlaceOf t.st
       some_of None h = absurd (cc)
       some_of (Some u) h = refl
 
-  abbrev pub the_place : Place
+  abbrev pub the_place : Located
   the_place = record { tree = there.0; part = seen_place.0 }
 
   module _ (ps : List Signature) where
     -- what the tests of `put` and `annotate` find there
-    put_at : (part : Tree) (outcome : Outcome) → PutsAt name path part (unfolded ps t) the_place outcome → ComesTo (put_act name path part) (unfolded ps t) outcome
+    put_at : (part : Tree) (outcome : ActResult) → PutsAt name path part (unfolded ps t) the_place outcome → ComesTo (put_act name path part) (unfolded ps t) outcome
     put_at part outcome p = passed (place_of (contents t.store) name path) (PutsAt name path part (unfolded ps t)) the_place outcome seen_place.1 p
 
     pub put_big : (part : Tree) → fits (length path) part ≡ false → ComesTo (put_act name path part) (unfolded ps t) (Err Big)
     put_big part big = put_at part (Err Big) (missed (fits (length path) part) Big (ChangesTo (with_tree (contents t.store) name (set_at there.0 path part)) (unfolded ps t)) big)
 
-    annotate_at : (us : List Tree) (outcome : Outcome) → AnnotatesAt name path us (unfolded ps t) the_place outcome → ComesTo (annotate name path us) (unfolded ps t) outcome
+    annotate_at : (us : List Tree) (outcome : ActResult) → AnnotatesAt name path us (unfolded ps t) the_place outcome → ComesTo (annotate name path us) (unfolded ps t) outcome
     annotate_at us outcome p = passed (place_of (contents t.store) name path) (AnnotatesAt name path us (unfolded ps t)) the_place outcome seen_place.1 p
 
     pub annotations_big : (us : List Tree) → list_all (fits (length path + 1)) us ≡ false → ComesTo (annotate name path us) (unfolded ps t) (Err Big)
@@ -272,19 +272,19 @@ some_isnt_none None h = absurd (cc)
 some_isnt_none (Some x) h = refl
 
 -- an act that needs no open group, and one that needs a group
-module _ (h : History) (Next : Outcome → Type 0) where
-  pub outside : (outcome : Outcome) → h.group ≡ None → Next outcome → Holding (is_none h.group) Group Next outcome
+module _ (h : History) (Next : ActResult → Type 0) where
+  pub outside : (outcome : ActResult) → h.group ≡ None → Next outcome → Holding (is_none h.group) Group Next outcome
   outside outcome closed p = held (is_none h.group) Group Next outcome (ap is_none closed) p
 
   pub refused_inside : is_some h.group ≡ true → Holding (is_none h.group) Group Next (Err Group)
   refused_inside there = missed (is_none h.group) Group Next (some_isnt_none h.group there)
 
-pub refused_outside : (h : History) (next : HistoryGroup → Outcome → Type 0) → h.group ≡ None → Passing (ok_or h.group NoGroup) next (Err NoGroup)
+pub refused_outside : (h : History) (next : HistoryGroup → ActResult → Type 0) → h.group ≡ None → Passing (ok_or h.group NoGroup) next (Err NoGroup)
 refused_outside h next closed = stopped (ok_or h.group NoGroup) next NoGroup (ap (λ (o : Option HistoryGroup). ok_or o NoGroup) closed)
 
 -- going this many steps
 module _ (h : History) (o : Option History) (refusal : Refusal) where
-  abbrev Goes : Outcome → Type 0
+  abbrev Goes : ActResult → Type 0
   Goes = Holding (is_none h.group) Group (Passing (ok_or o refusal) Leaves)
 
   pub goes_to : (g : History) → h.group ≡ None → o ≡ Some g → Goes (Ok g)

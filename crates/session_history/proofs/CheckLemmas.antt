@@ -14,7 +14,7 @@ use Rattle.strategy_check.specs.Faults.{Primitives}
 use Rattle.strategy_check.specs.Programs.{Program}
 use Rattle.strategy_check.specs.Checking.{Checked}
 use Rattle.term_changes.specs.Contents.{Contents, with_module, without_module}
-use Rattle.term_changes.specs.Slots.{Store, AreApart, contents, content, slot_of}
+use Rattle.term_changes.specs.Slots.{Store, HaveDistinctLabels, contents, content, slot_of}
 use Rattle.term_changes.specs.Entries.{Entry, slot_text, put, before}
 use Rattle.term_changes.proofs.ContentsLemmas.{module_of_name, module_put, module_taken}
 use Rattle.prim_core.specs.Signature.{Signature}
@@ -22,7 +22,7 @@ use Rattle.session_history.specs.Unfolded.{unfolded}
 use Rattle.session_history.specs.declared.timeline.Timeline.{Timeline}
 use Rattle.session_history.specs.declared.timeline.OpenGroup.{OpenGroup}
 use Rattle.session_history.specs.History.{HistoryGroup, History, changed}
-use Rattle.session_history.specs.Step.{set_module, unload, commit, Outcome, Given, Leaves, ChangesModules, ComesTo, committed, text_of}
+use Rattle.session_history.specs.Acts.{set_module, unload, commit, ActResult, Given, Leaves, ChangesModules, ComesTo, committed, module_text_of}
 use Rattle.session_history.specs.Modules.{Texts, ReadsAsModule, SameBut, AreReadable, AreRead, AreModules, GivesProgram, AreCurrent, Checks, IsUnread, AreRefused}
 use Rattle.session_history.specs.declared.refusal.Refusal.{Refusal}
 use Rattle.session_history.specs.declared.refusal.Refusal.TheVariants.{Memory, NoModule, NoGroup}
@@ -87,14 +87,14 @@ get_new texts name text = get-insert nat_list_cmp_total texts name text name ∙
 
 -- ---- a store's modules
 
-named_text : (s : Store) (name : List ℕ) (o : Option ℕ) → AreApart s.modules → o ≡ slot_of s.modules name → finmap.get (contents s).modules name ≡ option_and_then (content s.modules) o
+named_text : (s : Store) (name : List ℕ) (o : Option ℕ) → HaveDistinctLabels s.modules → o ≡ slot_of s.modules name → finmap.get (contents s).modules name ≡ option_and_then (content s.modules) o
 named_text s name o apart here = module_of_name s name apart ∙ ap (option_and_then (content s.modules)) (sym here)
 
 not_some : (o : Option (List ℕ)) → IsSome o → o ≡ None → ⊥
 not_some None h e = absurd (cc)
 not_some (Some x) h e = absurd (cc)
 
-module _ (s : Store) (name : List ℕ) (apart : AreApart s.modules) where
+module _ (s : Store) (name : List ℕ) (apart : HaveDistinctLabels s.modules) where
   -- a name with a module has a slot with content
   pub unnamed : (o : Option ℕ) → IsSome (finmap.get (contents s).modules name) → o ≡ slot_of s.modules name → option_and_then (content s.modules) o ≡ None → ⊥
   unnamed o there here none = not_some (finmap.get (contents s).modules name) there (named_text s name o apart here ∙ none)
@@ -141,7 +141,7 @@ module _ (h : History) (name text : List ℕ) where
   pub set_unread : (refusal : Refusal) → ReadsAsModule text (Err refusal) → ComesTo (set_module name text) h (Err refusal)
   set_unread refusal unread = (Err refusal, unread, refl)
 
-  set_read : (m : Module) (outcome : Outcome) → ReadsAsModule text (Ok m) → ChangesModules h.group with_text h outcome → ComesTo (set_module name text) h outcome
+  set_read : (m : Module) (outcome : ActResult) → ReadsAsModule text (Ok m) → ChangesModules h.group with_text h outcome → ComesTo (set_module name text) h outcome
   set_read m outcome reads becomes = (Ok m, reads, becomes)
 
   -- the module of the text, if all texts are modules
@@ -162,9 +162,9 @@ module _ (h : History) (name text : List ℕ) where
   set_inside g group m inside reads is = set_read m (Ok g) reads (becomes_inside with_text h g group inside is)
 
   module _ (there : finmap.get h.now.modules name ≡ Some text) where
-    unloads_by : (outcome : Outcome) → ChangesModules h.group (without_module h.now name) h outcome → ComesTo (unload name) h outcome
+    unloads_by : (outcome : ActResult) → ChangesModules h.group (without_module h.now name) h outcome → ComesTo (unload name) h outcome
     unloads_by outcome becomes =
-        passed (text_of h.now name) (λ text. ChangesModules h.group (without_module h.now name) h) text outcome (ap (λ (o : Option (List ℕ)). ok_or o NoModule) there) becomes
+        passed (module_text_of h.now name) (λ text. ChangesModules h.group (without_module h.now name) h) text outcome (ap (λ (o : Option (List ℕ)). ok_or o NoModule) there) becomes
 
     pub unload_found : (g : History) (p : Program) → h.group ≡ None → GivesProgram h.primitives (without_module h.now name).modules p → g ≡ changed (without_module h.now name) h → ComesTo (unload name) h (Ok g)
     unload_found g p outside gives is = unloads_by (Ok g) (becomes_found (without_module h.now name) h g p outside gives is)
@@ -180,13 +180,13 @@ module _ (h : History) (name text : List ℕ) where
 
 pub unload_none : (h : History) (name : List ℕ) → finmap.get h.now.modules name ≡ None → ComesTo (unload name) h (Err NoModule)
 unload_none h name none =
-    stopped (text_of h.now name) (λ text. ChangesModules h.group (without_module h.now name) h) NoModule (ap (λ (o : Option (List ℕ)). ok_or o NoModule) none)
+    stopped (module_text_of h.now name) (λ text. ChangesModules h.group (without_module h.now name) h) NoModule (ap (λ (o : Option (List ℕ)). ok_or o NoModule) none)
 
 module _ (h : History) where
-  abbrev Closes : HistoryGroup → Outcome → Type 0
+  abbrev Closes : HistoryGroup → ActResult → Type 0
   Closes g = Given (Checks h.primitives h.now.modules) (λ p. Leaves (committed g h))
 
-  commits_by : (group : HistoryGroup) (outcome : Outcome) → h.group ≡ Some group → Closes group outcome → ComesTo commit h outcome
+  commits_by : (group : HistoryGroup) (outcome : ActResult) → h.group ≡ Some group → Closes group outcome → ComesTo commit h outcome
   commits_by group outcome inside closes = passed (ok_or h.group NoGroup) Closes group outcome (ap (λ (o : Option HistoryGroup). ok_or o NoGroup) inside) closes
 
   pub commit_found : (group : HistoryGroup) (g : History) (kept : Option Checked) → h.group ≡ Some group → IsSomeAnd kept (AreCurrent h.primitives h.now.modules) → IsSomeAnd h.group (λ k. g ≡ committed k h) → ComesTo commit h (Ok g)
@@ -250,7 +250,7 @@ text_told t m n name copy text i e ps here is copied same done =
     done ∙ (λ j. changed (there j) (same j))
 
 -- the contents without a text that was taken out of the slot of its name
-pub text_taken : (t : Timeline) (name : List ℕ) (i : ℕ) (e : Entry) → AreApart t.store.modules → slot_of t.store.modules name ≡ Some i → e ≡ slot_text i None → contents (put e t.store) ≡ without_module (contents t.store) name
+pub text_taken : (t : Timeline) (name : List ℕ) (i : ℕ) (e : Entry) → HaveDistinctLabels t.store.modules → slot_of t.store.modules name ≡ Some i → e ≡ slot_text i None → contents (put e t.store) ≡ without_module (contents t.store) name
 text_taken t name i e apart here is = ap (λ e. contents (put e t.store)) is ∙ module_taken t.store name i apart here
 
 -- ---- the text of one name changes

@@ -4,7 +4,7 @@ use Rattle.std.specs.Option.{option_map_or}
 use Rattle.term_changes.specs.Contents.{Contents}
 use Rattle.session_history.specs.Modules.{Checks}
 use Rattle.session_history.specs.History.{HistoryGroup, History, stepped, newest, older, back_to, forward_to, step_back, step_forward, undone, redone}
-use Rattle.session_history.specs.Step.{Outcome, Passing, Holding, Given, Leaves, ComesTo, committed, undo, redo}
+use Rattle.session_history.specs.Acts.{ActResult, Passing, Holding, Given, Leaves, ComesTo, committed, undo, redo}
 use Rattle.session_history.specs.Laws.{ChangeIsUndone, GroupIsUndone, RedoTakesUndoBack, UndoTakesRedoBack}
 use Rattle.session_history.specs.declared.refusal.Refusal.{Refusal}
 use Rattle.session_history.specs.declared.refusal.Refusal.TheVariants.{NoUndo, NoRedo, Group, NoGroup}
@@ -140,7 +140,7 @@ redone_group (suc k) h g e = by (step_forward h) refl (λ m. redone_group k m g)
 
 -- going this many steps, which exist, outside a group
 module _ (h g : History) (o : Option History) (refusal : Refusal) where
-  abbrev Goes : Outcome → Type 0
+  abbrev Goes : ActResult → Type 0
   Goes = Holding (is_none h.group) Group (Passing (ok_or o refusal) Leaves)
 
   pub goes : h.group ≡ None → o ≡ Some g → Goes (Ok g)

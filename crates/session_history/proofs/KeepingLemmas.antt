@@ -16,7 +16,7 @@ use Rattle.std.proofs.lemmas.Map.Lookups.{exact_bytes}
 use Rattle.strategy_syntax.specs.Modules.{Module}
 use Rattle.strategy_check.specs.Tables.{Modules}
 use Rattle.strategy_check.specs.Checking.{with_modules}
-use Rattle.term_changes.specs.Slots.{Slots, Store, AreApart, labels, with_content, slot_of, named, contents}
+use Rattle.term_changes.specs.Slots.{Slots, Store, HaveDistinctLabels, labels, with_content, slot_of, named, contents}
 use Rattle.term_changes.proofs.ContentsLemmas.{named_put, named_taken}
 use Rattle.session_history.specs.Modules.{Texts, ReadsAsModule, AreRead, AreModules, SameBut}
 use Rattle.session_history.specs.inside.Keeping.{with_module, AreGiven, AreNamed}
@@ -243,7 +243,7 @@ label_at P [] i s all at = absurd (cc)
 label_at P (r ∷ ss) zero s all at = let same : r ≡ s = cc in subst (λ (s : List ℕ × Option (List ℕ)). P s.0) same all.0
 label_at P (r ∷ ss) (suc i) s all at = label_at P ss i s all.1 at
 
-pub slot_of-at : (ss : Slots (List ℕ)) (i : ℕ) (s : List ℕ × Option (List ℕ)) → AreApart ss → slice_get ss i ≡ Some s → slot_of ss s.0 ≡ Some i
+pub slot_of-at : (ss : Slots (List ℕ)) (i : ℕ) (s : List ℕ × Option (List ℕ)) → HaveDistinctLabels ss → slice_get ss i ≡ Some s → slot_of ss s.0 ≡ Some i
 slot_of-at [] i s apart at = absurd (cc)
 slot_of-at (r ∷ ss) zero s apart at =
     let same : r ≡ s = cc in
@@ -253,11 +253,11 @@ slot_of-at (r ∷ ss) (suc i) s apart at =
     ∙ ap (option_map (λ i. i + 1)) (slot_of-at ss i s (IsDistinct-tail _ _ _ apart) at)
     ∙ ap Some {x = i + 1} {y = suc i} (omega arith)
 
-named_same_but : (ss : Slots (List ℕ)) (i : ℕ) (name : List ℕ) (text : Option (List ℕ)) → AreApart ss → slot_of ss name ≡ Some i → SameBut name (named (with_content ss i text)) (named ss)
+named_same_but : (ss : Slots (List ℕ)) (i : ℕ) (name : List ℕ) (text : Option (List ℕ)) → HaveDistinctLabels ss → slot_of ss name ≡ Some i → SameBut name (named (with_content ss i text)) (named ss)
 named_same_but ss i name None apart here = same_but_sym name (named ss) _ (subst (SameBut name (named ss)) (sym (named_taken ss i name apart here)) (taken_same_but (named ss) name))
 named_same_but ss i name (Some text) apart here = same_but_sym name (named ss) _ (subst (SameBut name (named ss)) (sym (named_put ss i text name here)) (put_same_but (named ss) name text))
 
-pub slot_same_but : (old now : Store) (i : ℕ) (name : List ℕ) (c text : Option (List ℕ)) → AreApart now.modules → slice_get now.modules i ≡ Some (name, c) → old.modules ≡ with_content now.modules i text
+pub slot_same_but : (old now : Store) (i : ℕ) (name : List ℕ) (c text : Option (List ℕ)) → HaveDistinctLabels now.modules → slice_get now.modules i ≡ Some (name, c) → old.modules ≡ with_content now.modules i text
     → SameBut name (contents old).modules (contents now).modules
 slot_same_but old now i name c text apart at is =
     subst (λ (ss : Slots (List ℕ)). SameBut name (named ss) (named now.modules)) (sym is) (named_same_but now.modules i name text apart (slot_of-at now.modules i (name, c) apart at))

@@ -14,7 +14,7 @@ use Rattle.term_changes.specs.Entries.{Entry, HasPlace, put, found, before, afte
 use Rattle.term_changes.proofs.EntryLemmas.{before-append, pushed_fits, pushed_leads_back}
 use Rattle.change_log.proofs.FlipLemmas.{flipped_back_is_compact, flipped_forward_is_compact}
 use Rattle.session_history.specs.History.{HistoryGroup, History, stepped, changed, back_to, forward_to, step_back, step_forward}
-use Rattle.session_history.specs.Step.{committed}
+use Rattle.session_history.specs.Acts.{committed}
 use Rattle.session_history.specs.Unfolded.{past_of, later_of, FitBack, FitForward, AllCompact, unfolded, IsCurrent, IsPlaced}
 use Rattle.session_history.specs.inside.Adding.{AddsEntries}
 use Rattle.session_history.specs.inside.Adding.{AddsStep}

@@ -22,7 +22,7 @@ use Rattle.strategy_meaning.specs.Applied.{Outcome as Ending, gives, fails, stop
 use Rattle.strategy_meaning.specs.Laws.{AppliedKeepsHeights}
 use Rattle.session_history.specs.Modules.{Texts, ReadsAsModule, AreReadable, AreRead, Finds, GivesProgram, Checks}
 use Rattle.session_history.specs.History.{HistoryGroup, History, stepped, changed, newest, older, back_to, forward_to, step_back, step_forward, undone, redone, AreLow, AreFormed, AreSound, IsSoundNow, HasSoundContents}
-use Rattle.session_history.specs.Step.{Act, set_tree, copy_tree, drop_tree, put, annotate, set_module, unload, apply, undo, redo, begin, commit, abandon, Passing, Leaves, ChangesTo, ChangesModules, Given, PutsAt, AnnotatesAt, AppliesAt, Place, Outcome, ComesTo, tree_of, text_of, place_of, committed}
+use Rattle.session_history.specs.Acts.{Act, set_tree, copy_tree, drop_tree, put, annotate, set_module, unload, apply, undo, redo, begin, commit, abandon, Passing, Leaves, ChangesTo, ChangesModules, Given, PutsAt, AnnotatesAt, AppliesAt, Located, ActResult, ComesTo, tree_of, module_text_of, place_of, committed}
 use Rattle.session_history.specs.Applying.{ReadsAsStrategy, resolved_in, world_in, given_by}
 use Rattle.session_history.specs.Laws.{ChangeIsToContents}
 use Rattle.session_history.specs.declared.refusal.Refusal.{Refusal}
@@ -318,9 +318,9 @@ trees_change (annotate name path us) h g only done =
 trees_change (set_module name text) h g only done = absurd only
 trees_change (unload name) h g only done = absurd only
 trees_change (apply meaning name path steps text) h g only done =
-    let Resolves : Place → Strategy → Program → Outcome → Type 0 = λ place s program. Passing (resolved_in program h.primitives s) (AppliesAt meaning name path steps h place program) in
-    let Checked : Place → Strategy → Outcome → Type 0 = λ place s. Given (Checks h.primitives h.now.modules) (Resolves place s) in
-    let Read : Place → Outcome → Type 0 = λ place. Given (ReadsAsStrategy text) (Checked place) in
+    let Resolves : Located → Strategy → Program → ActResult → Type 0 = λ place s program. Passing (resolved_in program h.primitives s) (AppliesAt meaning name path steps h place program) in
+    let Checked : Located → Strategy → ActResult → Type 0 = λ place s. Given (Checks h.primitives h.now.modules) (Resolves place s) in
+    let Read : Located → ActResult → Type 0 = λ place. Given (ReadsAsStrategy text) (Checked place) in
     let there = passing_Ok (place_of h.now name path) Read g done in
     let read = given_Ok (ReadsAsStrategy text) (Checked there.0) g there.2 in
     let checked = given_Ok (Checks h.primitives h.now.modules) (Resolves there.0 read.0) g read.2 in
@@ -383,7 +383,7 @@ step_sound (set_module name text) h g stands s done =
     let formed = formed_now h.primitives h.now h.group s.1 in
     modules_sound (with_module h.now name text) h g s (formed.0, readable_with h.now.modules name text read.0 formed.1 read.1) read.2
 step_sound (unload name) h g stands s done =
-    let there = passing_Ok (text_of h.now name) (λ text. ChangesModules h.group (without_module h.now name) h) g done in
+    let there = passing_Ok (module_text_of h.now name) (λ text. ChangesModules h.group (without_module h.now name) h) g done in
     let formed = formed_now h.primitives h.now h.group s.1 in
     modules_sound (without_module h.now name) h g s (formed.0, readable_without h.now.modules name formed.1) there.2
 step_sound (apply meaning name path steps text) h g stands s done = trees_sound (apply meaning name path steps text) h g tt stands s done
@@ -423,7 +423,7 @@ change_is_to_contents (set_module name text) h g change done =
     let read = given_Ok (ReadsAsModule text) (λ m. ChangesModules h.group (with_module h.now name text) h) g done in
     (with_module h.now name text, (modules_change h.group (with_module h.now name text) h g read.2).0)
 change_is_to_contents (unload name) h g change done =
-    let there = passing_Ok (text_of h.now name) (λ text. ChangesModules h.group (without_module h.now name) h) g done in
+    let there = passing_Ok (module_text_of h.now name) (λ text. ChangesModules h.group (without_module h.now name) h) g done in
     (without_module h.now name, (modules_change h.group (without_module h.now name) h g there.2).0)
 change_is_to_contents (apply meaning name path steps text) h g change done = let t = trees_change (apply meaning name path steps text) h g tt done in (record h.now { trees = t.trees }, t.is)
 change_is_to_contents (undo k) h g change done = absurd change

@@ -6,24 +6,24 @@ use Rattle.term_core.specs.Tree.{Tree}
 use Rattle.term_paths.specs.Paths.{at}
 use Rattle.term_changes.specs.Contents.{Contents}
 use Rattle.session_history.specs.History.{HistoryGroup, History}
-use Rattle.session_history.specs.Step.{Outcome, Passing, Holding, Given, Place, place_in, place_of}
+use Rattle.session_history.specs.Acts.{ActResult, Passing, Holding, Given, Located, place_in, place_of}
 use Rattle.session_history.specs.declared.refusal.Refusal.{Refusal}
 use Rattle.session_history.specs.declared.refusal.Refusal.TheVariants.{NoTree, Path}
 
 -- ---- what was accepted
 
-pub same_Ok : (g h : History) → ◌≡◌ {A = Outcome} (Ok h) (Ok g) → h ≡ g
+pub same_Ok : (g h : History) → ◌≡◌ {A = ActResult} (Ok h) (Ok g) → h ≡ g
 same_Ok g h e = cc
 
-pub passing_Ok : {X : Type 0} (test : Result X Refusal) (next : X → Outcome → Type 0) (g : History) → Passing test next (Ok g) → (x : X) × (test ≡ Ok x) × next x (Ok g)
+pub passing_Ok : {X : Type 0} (test : Result X Refusal) (next : X → ActResult → Type 0) (g : History) → Passing test next (Ok g) → (x : X) × (test ≡ Ok x) × next x (Ok g)
 passing_Ok (Ok x) next g p = (x, refl, p)
 passing_Ok (Err refusal) next g p = absurd (cc)
 
-pub holding_Ok : (test : Bool) (refusal : Refusal) (Next : Outcome → Type 0) (g : History) → Holding test refusal Next (Ok g) → (test ≡ true) × Next (Ok g)
+pub holding_Ok : (test : Bool) (refusal : Refusal) (Next : ActResult → Type 0) (g : History) → Holding test refusal Next (Ok g) → (test ≡ true) × Next (Ok g)
 holding_Ok true refusal Next g p = (refl, p)
 holding_Ok false refusal Next g p = absurd (cc)
 
-pub given_Ok : {X : Type 0} (Gives : Result X Refusal → Type 0) (next : X → Outcome → Type 0) (g : History) → Given Gives next (Ok g) → (x : X) × Gives (Ok x) × next x (Ok g)
+pub given_Ok : {X : Type 0} (Gives : Result X Refusal → Type 0) (next : X → ActResult → Type 0) (g : History) → Given Gives next (Ok g) → (x : X) × Gives (Ok x) × next x (Ok g)
 given_Ok Gives next g (Ok x, gives, p) = (x, gives, p)
 given_Ok Gives next g (Err refusal, gives, p) = absurd (cc)
 
@@ -40,8 +40,8 @@ module _ {X Y : Type 0} (test : Result X Refusal) (next : X → Result Y Refusal
   pub behind : (x : X) (outcome : Result Y Refusal) → test ≡ Ok x → Passing test next outcome → next x outcome
   behind x outcome is p = subst (λ (r : Result X Refusal). Passing r next outcome) is p
 
-module _ (test : Bool) (refusal : Refusal) (Next : Outcome → Type 0) where
-  pub held : (outcome : Outcome) → test ≡ true → Next outcome → Holding test refusal Next outcome
+module _ (test : Bool) (refusal : Refusal) (Next : ActResult → Type 0) where
+  pub held : (outcome : ActResult) → test ≡ true → Next outcome → Holding test refusal Next outcome
   held outcome is p = subst (λ (b : Bool). Holding b refusal Next outcome) (sym is) p
 
   pub missed : test ≡ false → Holding test refusal Next (Err refusal)
@@ -58,15 +58,15 @@ none_of None e = refl
 none_of (Some g) e = absurd (cc)
 
 module _ (path : List ℕ) (t : Tree) where
-  abbrev here : Option Tree → Result Place Refusal
+  abbrev here : Option Tree → Result Located Refusal
   here o = ok_or (option_map (λ part. record { tree = t; part = part }) o) Path
 
-  at_tree : (o : Option Tree) (place : Place) → here o ≡ Ok place → t ≡ place.tree
+  at_tree : (o : Option Tree) (place : Located) → here o ≡ Ok place → t ≡ place.tree
   at_tree None place e = absurd (cc)
-  at_tree (Some part) place e = let same : record { tree = t; part = part } ≡ place = cc in ap (λ (p : Place). p.tree) same
+  at_tree (Some part) place e = let same : record { tree = t; part = part } ≡ place = cc in ap (λ (p : Located). p.tree) same
 
 -- the tree of a place is that of the label
-pub place_tree : (c : Contents) (name path : List ℕ) (place : Place) → place_of c name path ≡ Ok place → finmap.get c.trees name ≡ Some place.tree
+pub place_tree : (c : Contents) (name path : List ℕ) (place : Located) → place_of c name path ≡ Ok place → finmap.get c.trees name ≡ Some place.tree
 place_tree c name path place = by (finmap.get c.trees name)
   where
     by : (o : Option Tree) → place_in path (ok_or o NoTree) ≡ Ok place → o ≡ Some place.tree

@@ -2,7 +2,7 @@
 use Rattle.std.specs.Prelude.{◌≡◌, ℕ, true, [], ◌∷◌, Some, None, Ok}
 use Rattle.term_changes.specs.Contents.{Contents}
 use Rattle.session_history.specs.History.{HistoryGroup, History, changed}
-use Rattle.session_history.specs.Step.{Act, undo, redo, commit, ComesTo, IsChange}
+use Rattle.session_history.specs.Acts.{Act, undo, redo, commit, ComesTo, IsChange}
 
 -- An accepted change leads to some contents by a change.
 abbrev pub ChangeIsToContents : Type 0

@@ -4,7 +4,7 @@ pub mod Modules
 pub mod Applying
 pub mod History
 pub mod Unfolded
-pub mod Step
+pub mod Acts
 pub mod Preview
 pub mod Dump
 pub mod Laws

@@ -11,7 +11,7 @@ use Rattle.strategy_meaning.specs.Meaning.{run_whole}
 use Rattle.strategy_meaning.specs.Outermost.{AreOutermost}
 use Rattle.session_history.specs.Applying.{Meaning, world_in, stopped_as}
 use Rattle.session_history.specs.History.{History}
-use Rattle.session_history.specs.Step.{Place, Resolving}
+use Rattle.session_history.specs.Acts.{Located, Resolving}
 use Rattle.session_history.specs.declared.refusal.Refusal.{Refusal}
 use Rattle.session_history.specs.declared.refusal.Refusal.TheVariants.{Fails}
 
@@ -44,7 +44,7 @@ Foresees path b before (done after bindings left edits) outcome =
 Foresees path b before (failed left) outcome = outcome ≡ Err Fails
 Foresees path b before (stopped why) outcome = outcome ≡ Err (stopped_as why)
 
-abbrev pub ForeseesAt : Meaning → List ℕ → ℕ → History → Place → Program → Resolved → Result Preview Refusal → Type 0
+abbrev pub ForeseesAt : Meaning → List ℕ → ℕ → History → Located → Program → Resolved → Result Preview Refusal → Type 0
 ForeseesAt meaning path b h place program strategy =
     Foresees path b place.part (run_whole (world_in meaning program h.primitives) (length path) strategy b place.part)
 

@@ -6,7 +6,7 @@ use Rattle.term_core.specs.Tree.{Tree}
 use Rattle.term_paths.specs.Paths.{leads}
 use Rattle.prim_core.specs.Signature.{Signature}
 use Rattle.term_changes.specs.Contents.{Contents}
-use Rattle.term_changes.specs.Slots.{Store, AreApart, contents, content, slot_of}
+use Rattle.term_changes.specs.Slots.{Store, HaveDistinctLabels, contents, content, slot_of}
 use Rattle.term_changes.specs.Entries.{Entry, before, after, Fits, FitsForward}
 use Rattle.term_changes.specs.Compact.{IsCompact}
 use Rattle.session_history.specs.History.{History}
@@ -78,5 +78,5 @@ pub record IsPlaced (t : Timeline) : Type 0 where
 -- the slot of a name's tree, which has a subterm at the path
 abbrev pub IsPlaceOf : Store → List ℕ → List ℕ → ℕ → Type 0
 IsPlaceOf s name path slot =
-    (t : Tree) × (slot_of s.trees name ≡ Some slot) × (AreApart s.trees)
+    (t : Tree) × (slot_of s.trees name ≡ Some slot) × (HaveDistinctLabels s.trees)
     × (content s.trees slot ≡ Some t) × (leads t path ≡ true)

@@ -7,7 +7,7 @@ ghost use Rattle.term_core.specs.Size.{fits};
 ghost use Rattle.prim_core.specs.Signature.{Signature};
 ghost use Rattle.term_changes.specs.Slots.{contents};
 ghost use Rattle.change_log.specs.Texts.{TextsChange};
-ghost use Rattle.session_history.specs.Step.{ComesTo, set_tree, copy_tree, drop_tree, put, annotate, undo, redo, begin, abandon, place_of};
+ghost use Rattle.session_history.specs.Acts.{ComesTo, set_tree, copy_tree, drop_tree, put, annotate, undo, redo, begin, abandon, place_of};
 ghost use Rattle.session_history.specs.Unfolded.{unfolded, IsPlaced, IsPlaceOf};
 
 use crate::{Refusal, Timeline};

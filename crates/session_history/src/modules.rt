@@ -3,7 +3,7 @@
 ghost use Rattle.std.specs.Prelude.{◌≡◌, ◌⊎◌, Ok, Err, None, IfOk, IfErr, OnOk, OnErr, IsSome, IsSomeAnd};
 ghost use Rattle.std.specs.FinMap as finmap;
 ghost use Rattle.term_changes.specs.Slots.{contents};
-ghost use Rattle.session_history.specs.Step.{ComesTo, set_module, unload, commit};
+ghost use Rattle.session_history.specs.Acts.{ComesTo, set_module, unload, commit};
 ghost use Rattle.session_history.specs.Modules.{ReadsAsModule, AreModules, AreReadable, AreRefused, AreCurrent, IsKept, IsUnread};
 ghost use Rattle.session_history.specs.Unfolded.{unfolded, IsPlaced};
 

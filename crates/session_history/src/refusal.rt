@@ -4,7 +4,7 @@ ghost use Rattle.std.specs.Prelude.{◌≡◌};
 ghost use Rattle.session_history.specs.Refusal.{number_of, word_of};
 
 use std::fmt;
-use strategy_check::Kind;
+use strategy_check::FaultKind;
 use term_core::{LabelFault, Name, NoMemory};
 use thiserror::Error;
 
@@ -44,7 +44,7 @@ pub enum Refusal {
     /// The checker found a fault: its kind, the name, and two numbers, usually of strategies and
     /// terms.
     #[error("check")]
-    Check(Kind, Name, u64, u64),
+    Check(FaultKind, Name, u64, u64),
     /// The strategy fails.
     #[error("fails")]
     Fails,

@@ -5,12 +5,12 @@ ghost use Rattle.std.specs.Option.{option_map_or};
 ghost use Rattle.std.specs.FinMap as finmap;
 ghost use Rattle.std.specs.declared.option.Option.{Option};
 ghost use Rattle.prim_core.specs.Signature.{Signature};
-ghost use Rattle.term_changes.specs.Slots.{Store, contents, slot_of, AreApart};
+ghost use Rattle.term_changes.specs.Slots.{Store, contents, slot_of, HaveDistinctLabels};
 ghost use Rattle.term_changes.specs.Entries.{Entry, HasPlace, put, after, FitsForward};
 ghost use Rattle.term_changes.specs.PatchLaws.{patch_entries};
 ghost use Rattle.change_log.specs.Texts.{TextsChange};
 ghost use Rattle.session_history.specs.History.{empty_history, changed, step_back, step_forward, undone, redone};
-ghost use Rattle.session_history.specs.Step.{ComesTo, begin, abandon, committed};
+ghost use Rattle.session_history.specs.Acts.{ComesTo, begin, abandon, committed};
 ghost use Rattle.session_history.specs.Modules.{AreRefused, SameBut, IsCurrent, IsKept};
 ghost use Rattle.session_history.specs.Unfolded.{unfolded, IsPlaced};
 ghost use Rattle.session_history.specs.inside.Adding.{AddsStep};
@@ -21,8 +21,8 @@ use change_log::{Entry, Log, Plan, Step, Store, Texts};
 use prim_core::{Meaning, Primitives};
 use std::alloc::Global;
 use std::mem;
-use term_core::{Label, NoMemory, Term};
 use term_changes::Patch;
+use term_core::{Label, NoMemory, Term};
 
 /// The current contents, and the steps that lead back and forward from them.
 #[derive(Drop)]
@@ -141,7 +141,7 @@ impl Timeline {
         ensures same { (ps : List Signature) → unfolded ps self.new ≡ unfolded ps self.old }
         ensures slot { IfOk result (λ i. slot_of self.new.store.modules name.now ≡ Some i) }
         ensures within { IfOk result (λ i. i < length self.new.store.modules) }
-        ensures apart { AreApart self.new.store.modules }
+        ensures apart { HaveDistinctLabels self.new.store.modules }
         ensures group { self.new.group ≡ self.old.group }
     {
         self.store.module_slot(name)

@@ -4,12 +4,12 @@ use Rattle.std.specs.Prelude.{count_by, is_ok, MatchResult}
 use Rattle.std.specs.Io.KnownBytes.{Consumes, IsAtEnd}
 use Rattle.session_history.specs.Applying.{Meaning}
 use Rattle.session_history.specs.History.{History}
-use Rattle.session_history.specs.Step.{ComesTo, Outcome, set_module}
+use Rattle.session_history.specs.Acts.{ComesTo, ActResult, set_module}
 use Rattle.session_history.specs.declared.TheConstants.{MAX_STEPS}
 use Rattle.script_text.specs.Form as form
 use Rattle.script_text.specs.declared.framing.Framing.TheVariants.{Continued}
 use Rattle.script_text.specs.Handed.{Handed, handed, completed, text}
-use Rattle.script_text.specs.Machine.{Reply, Replies, Told, done, history_after}
+use Rattle.script_text.specs.Replies.{Reply, Replies, Told, done, history_after}
 use Rattle.script_text.specs.Answer.{ReplyInRun}
 use Rattle.script_text.specs.Run.{Answers, AnswersPart, Completes, Replied, history_after_all}
 use Rattle.script_core.specs.declared.running.RunFault.{RunFault}
@@ -37,7 +37,7 @@ sets_module = refl
 abbrev LoadsOrStays : ℕ → History → History → Type 0
 LoadsOrStays accepted h g = ((accepted ≡ 1) × LoadsLibrary h g) ⊎ ((accepted ≡ 0) × (g ≡ h))
 
-of_reply : (h g : History) (reply : Reply) (outcome : Outcome) → ComesTo (set_module (codes "library") library_text) h outcome → reply ≡ done outcome → g ≡ history_after h reply →
+of_reply : (h g : History) (reply : Reply) (outcome : ActResult) → ComesTo (set_module (codes "library") library_text) h outcome → reply ≡ done outcome → g ≡ history_after h reply →
     LoadsOrStays (count_by is_ok (reply ∷ [])) h g
 of_reply h g reply (Ok k) comes is e =
     let left : g ≡ k = e ∙ ap (history_after h) is in inl (

@@ -4,9 +4,9 @@ use Rattle.std.specs.List.{flat_map}
 use Rattle.aterm_text.specs.Tokens.{is_blank, without_blanks}
 use Rattle.aterm_text.specs.Grammar.{Spells}
 use Rattle.session_history.specs.History.{History}
-use Rattle.session_history.specs.Step.{ComesTo, Given, Outcome, set_module, set_tree}
+use Rattle.session_history.specs.Acts.{ComesTo, Given, ActResult, set_module, set_tree}
 use Rattle.script_text.specs.Script.{begins_command, pieces, without_end}
-use Rattle.script_text.specs.Machine.{ReadAs}
+use Rattle.script_text.specs.Replies.{ReadAs}
 
 -- a text without the blanks at both ends
 abbrev pub trimmed : List ℕ → List ℕ
@@ -31,10 +31,10 @@ module_text_of text = one_command (pieces (trimmed text))
 
 -- The module of this name is set to the text of a file, by the step of the session that sets a
 -- module.
-abbrev pub LoadsModule : List ℕ → List ℕ → History → Outcome → Type 0
+abbrev pub LoadsModule : List ℕ → List ℕ → History → ActResult → Type 0
 LoadsModule name text h = ComesTo (set_module name (module_text_of text)) h
 
 -- The tree of this name is set to the one that the text of a file spells, by the step of the session
 -- that sets a tree.
-abbrev pub LoadsTree : List ℕ → List ℕ → History → Outcome → Type 0
+abbrev pub LoadsTree : List ℕ → List ℕ → History → ActResult → Type 0
 LoadsTree name text h = Given (ReadAs Spells text) (λ tree. ComesTo (set_tree name tree) h)

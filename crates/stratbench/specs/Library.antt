@@ -1,7 +1,7 @@
 -- What loading the library does to a session.
 use Rattle.std.specs.Prelude.{ℕ, ◌-◌, List, length, take, drop, codes, Ok}
 use Rattle.session_history.specs.History.{History}
-use Rattle.session_history.specs.Step.{ComesTo, set_module}
+use Rattle.session_history.specs.Acts.{ComesTo, set_module}
 use Rattle.stratbench.specs.declared.library.TheConstants.{LIBRARY}
 
 -- The text of the module: the command without its two words, the blanks after them and the line

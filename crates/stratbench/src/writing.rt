@@ -4,7 +4,7 @@ ghost use Rattle.std.specs.Prelude.{◌≡◌, ◌⊎◌, IfOk, IfErr, Some, Non
 ghost use Rattle.std.specs.FinMap as finmap;
 ghost use Rattle.term_core.specs.Tree.{Tree};
 ghost use Rattle.aterm_text.specs.Printed.{print};
-ghost use Rattle.script_text.specs.Machine.{line};
+ghost use Rattle.script_text.specs.Replies.{line};
 
 use crate::status::FileFault;
 use command_line::Named;

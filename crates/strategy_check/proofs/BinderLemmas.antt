@@ -6,29 +6,29 @@ use Rattle.std.specs.HashMap.{get}
 use Rattle.std.proofs.lemmas.List.{reverse-append}
 use Rattle.term_core.specs.Tree.{Symbol, same_name}
 use Rattle.term_core.proofs.SameName.{same_name-true}
-use Rattle.strategy_check.specs.declared.binders.Entry.{Entry}
-use Rattle.strategy_check.specs.Binders.{Binder, number_of, bound_from}
+use Rattle.strategy_check.specs.declared.binders.OpenBinder.{OpenBinder}
+use Rattle.strategy_check.specs.Binders.{Binder, binder_number, bound_from}
 use Rattle.strategy_check.specs.inside.BinderView.{Numbers, number_in, binder_of, binders_of, Hides, IsKept}
 
 -- the innermost comes first
-pub binders_of-last : (es : List Entry) (e : Entry) → binders_of (es ++ e ∷ []) ≡ binder_of e ∷ binders_of es
+pub binders_of-last : (es : List OpenBinder) (e : OpenBinder) → binders_of (es ++ e ∷ []) ≡ binder_of e ∷ binders_of es
 binders_of-last es e = ap (map binder_of) (reverse-append es (e ∷ []))
 
 flatten-cond : (b : Bool) (o : Option (Option ℕ)) (v : Option ℕ) → option_flatten (cond b (Some v) o) ≡ (if b then v else option_flatten o)
 flatten-cond true o v = refl
 flatten-cond false o v = refl
 
-module _ (m n : Numbers) (es : List Entry) (e : Entry) (k : Symbol) where
+module _ (m n : Numbers) (es : List OpenBinder) (e : OpenBinder) (k : Symbol) where
   pub opened : IsKept m es → ((q : Symbol) → get same_name n q ≡ cond (same_name k q) (Some (Some e.number)) (get same_name m q))
       → e.name ≡ k → e.hidden ≡ option_flatten (get same_name m k) → IsKept n (es ++ e ∷ [])
   opened kept updates named hides = record {
     numbers = λ f.
         ap option_flatten (updates f) ∙ flatten-cond (same_name k f) (get same_name m f) (Some e.number)
         ∙ ap (λ o. if same_name k f then Some e.number else o) (kept.numbers f)
-        ∙ ap (λ x. if same_name x f then Some e.number else number_of f (binders_of es)) (sym named)
-        ∙ ap (number_of f) (sym (binders_of-last es e));
+        ∙ ap (λ x. if same_name x f then Some e.number else binder_number f (binders_of es)) (sym named)
+        ∙ ap (binder_number f) (sym (binders_of-last es e));
     hidden = subst Hides (sym (reverse-append es (e ∷ []))) (
-      hides ∙ kept.numbers k ∙ ap (λ x. number_of x (binders_of es)) (sym named),
+      hides ∙ kept.numbers k ∙ ap (λ x. binder_number x (binders_of es)) (sym named),
       kept.hidden,
     );
   }
@@ -42,15 +42,15 @@ module _ (m n : Numbers) (es : List Entry) (e : Entry) (k : Symbol) where
         ∙ by f (same_name e.name f) refl;
     hidden = hides.1;
   } where
-    hides : (e.hidden ≡ number_of e.name (binders_of es)) × Hides (reverse es)
+    hides : (e.hidden ≡ binder_number e.name (binders_of es)) × Hides (reverse es)
     hides = subst Hides (reverse-append es (e ∷ [])) kept.hidden
 
-    inside : (f : Symbol) → number_in m f ≡ (if same_name e.name f then Some e.number else number_of f (binders_of es))
-    inside f = kept.numbers f ∙ ap (number_of f) (binders_of-last es e)
+    inside : (f : Symbol) → number_in m f ≡ (if same_name e.name f then Some e.number else binder_number f (binders_of es))
+    inside f = kept.numbers f ∙ ap (binder_number f) (binders_of-last es e)
 
-    by : (f : Symbol) (b : Bool) → same_name e.name f ≡ b → (if b then e.hidden else number_in m f) ≡ number_of f (binders_of es)
-    by f true t = hides.0 ∙ ap (λ x. number_of x (binders_of es)) (same_name-true e.name f t)
-    by f false t = inside f ∙ ap (λ b. if b then Some e.number else number_of f (binders_of es)) t
+    by : (f : Symbol) (b : Bool) → same_name e.name f ≡ b → (if b then e.hidden else number_in m f) ≡ binder_number f (binders_of es)
+    by f true t = hides.0 ∙ ap (λ x. binder_number x (binders_of es)) (same_name-true e.name f t)
+    by f false t = inside f ∙ ap (λ b. if b then Some e.number else binder_number f (binders_of es)) t
 
 -- the last element of a list that ends with it
 slice_get-last : {X : Type 0} (xs : List X) (x : X) → slice_get (xs ++ x ∷ []) (length xs) ≡ Some x
@@ -60,17 +60,17 @@ slice_get-last (y ∷ xs) x = slice_get-last xs x
 last_place : {X : Type 0} (xs : List X) (x : X) → length (xs ++ x ∷ []) - 1 ≡ length xs
 last_place xs x = rw (length-append xs (x ∷ [])) (omega arith)
 
-pub last_is : (es fs : List Entry) (o : Option Entry) (x : Entry) → es ≡ fs ++ option_to_list o → (IsSome o ↔ (0 < length es))
+pub last_is : (es fs : List OpenBinder) (o : Option OpenBinder) (x : OpenBinder) → es ≡ fs ++ option_to_list o → (IsSome o ↔ (0 < length es))
     → Some x ≡ slice_get es (length es - 1) → es ≡ fs ++ x ∷ []
 last_is es fs None x e some at = absurd (empty es some.1 at)
   where
-    nothing : Option Entry
+    nothing : Option OpenBinder
     nothing = None
 
-    none_there : {o : Option Entry} → o ≡ None → IsSome o → ⊥
+    none_there : {o : Option OpenBinder} → o ≡ None → IsSome o → ⊥
     none_there h k = let no : ◌≡◌ {A = Bool} false true = sym (ap is_some h) ∙ k in cc
 
-    empty : (es : List Entry) → (0 < length es → IsSome nothing) → Some x ≡ slice_get es (length es - 1) → ⊥
+    empty : (es : List OpenBinder) → (0 < length es → IsSome nothing) → Some x ≡ slice_get es (length es - 1) → ⊥
     empty [] h at = cc
     empty (y ∷ es) h at = none_there refl (h (omega arith))
 last_is es fs (Some y) x e some at =
@@ -78,7 +78,7 @@ last_is es fs (Some y) x e some at =
     ap (λ l. slice_get l (length l - 1)) e ∙ ap (slice_get (fs ++ y ∷ [])) (last_place fs y) ∙ slice_get-last fs y in
     e ∙ ap (λ z. fs ++ z ∷ []) (sym (same (at ∙ found)))
   where
-    same : {y x : Entry} → Some x ≡ Some y → x ≡ y
+    same : {y x : OpenBinder} → Some x ≡ Some y → x ≡ y
     same h = cc
 
 -- ---- several at once

@@ -12,7 +12,7 @@ use Rattle.strategy_syntax.proofs.ResolvedLemmas.{resolved_list-resolveds_of}
 use Rattle.strategy_syntax.proofs.StrategyLemmas.{depths-item}
 use Rattle.strategy_check.specs.Tables.{Table, definition_number}
 use Rattle.strategy_check.specs.Faults.{Primitives}
-use Rattle.strategy_check.specs.Binders.{Binder, number_of}
+use Rattle.strategy_check.specs.Binders.{Binder, binder_number}
 use Rattle.strategy_check.specs.Resolving.{Scope, with_variables, places, name_or_other, definition_or_constructor, resolved_strategy, resolved_strategies}
 use Rattle.strategy_check.specs.inside.Closing.{without_variables}
 use Rattle.strategy_check.proofs.BinderLemmas.{drop-bound_from}
@@ -65,7 +65,7 @@ resolved_count T P E (syntax.and_strategy s ss) = ap suc (resolved_count T P E s
 module _ (T : Table) (P : Primitives) (E F : Scope) (f : Symbol) (ss : List Strategy) (ps : List Pattern) (rs : List ResolvedStrategy) (qs : List Place) where
   pub used : {X : Type 0} (r : Result ResolvedForm X) (s : Strategy) → s ≡ uses f (strategies_of ss) (patterns_of ps) → F ≡ E
       → resolveds_of rs ≡ resolved_strategies T P E (strategies_of ss) → places_of qs ≡ places F.variables (patterns_of ps)
-      → IfOk r (λ form. resolved_of form ≡ name_or_other (number_of f F.names) (definition_or_constructor f (definition_number T f (length rs) (length qs)) (resolveds_of rs) (places_of qs)))
+      → IfOk r (λ form. resolved_of form ≡ name_or_other (binder_number f F.names) (definition_or_constructor f (definition_number T f (length rs) (length qs)) (resolveds_of rs) (places_of qs)))
       → IfOk r (λ form. resolved_of form ≡ resolved_strategy T P E s)
   used r s is same parts terms h =
       let scopes : places_of qs ≡ places E.variables (patterns_of ps) = terms ∙ ap (λ G. places G.variables (patterns_of ps)) same in
@@ -74,5 +74,5 @@ module _ (T : Table) (P : Primitives) (E F : Scope) (f : Symbol) (ss : List Stra
       let term_count : length qs ≡ length (pattern_list (patterns_of ps)) =
       ap length (sym (place_list-places_of qs)) ∙ ap (λ l. length (place_list l)) scopes ∙ place_count E.variables (patterns_of ps) in
       subst (λ t. IfOk r (λ form. resolved_of form ≡ t))
-      ((λ i. name_or_other (number_of f (same i).names) (definition_or_constructor f (definition_number T f (part_count i) (term_count i)) (parts i) (scopes i)))
+      ((λ i. name_or_other (binder_number f (same i).names) (definition_or_constructor f (definition_number T f (part_count i) (term_count i)) (parts i) (scopes i)))
       ∙ sym (ap (resolved_strategy T P E) is)) h

@@ -9,7 +9,7 @@ use Rattle.term_core.specs.Tree.{Symbol, same_name}
 use Rattle.strategy_syntax.specs.Syntax.{Pattern, pattern_list, patterns_of, Strategy, strategy_list, strategies_of}
 use Rattle.strategy_syntax.proofs.PatternLemmas.{pattern_list-patterns_of, patterns_depth-item}
 use Rattle.strategy_syntax.proofs.StrategyLemmas.{strategy_list-strategies_of, depths-item}
-use Rattle.strategy_check.specs.declared.fault.Kind.TheVariants.{Parameter}
+use Rattle.strategy_check.specs.declared.fault.FaultKind.TheVariants.{Parameter}
 use Rattle.strategy_check.specs.declared.fault.CheckFault.{CheckFault}
 use Rattle.strategy_check.specs.declared.fault.CheckFault.TheVariants.{Memory, Fault as Told}
 use Rattle.strategy_syntax.specs.Lists.{is_among}

@@ -5,10 +5,10 @@ use Rattle.std.specs.Option.{option_or}
 use Rattle.term_core.specs.Tree.{Symbol, Head, application, list, tuple, same_name}
 use Rattle.strategy_syntax.specs.Syntax.{Pattern, wildcard, variable, at, number, compound, with_tail, annotated, Patterns, no_patterns, and_pattern, pattern_list, Strategy, id, fail, matches, builds, seq, guard, test, scope, uses, congruence, tail_congruence, all, one, some, child, rec, prim, Strategies, no_strategies, and_strategy, strategy_list}
 use Rattle.strategy_syntax.specs.Modules.{Definition}
-use Rattle.strategy_check.specs.declared.fault.Kind.{Kind}
-use Rattle.strategy_check.specs.declared.fault.Kind.TheVariants.{Parameter, Twice, Clash, Unknown, Undeclared, Wild, Primitive}
+use Rattle.strategy_check.specs.declared.fault.FaultKind.{FaultKind}
+use Rattle.strategy_check.specs.declared.fault.FaultKind.TheVariants.{Parameter, Twice, Clash, Unknown, Undeclared, Wild, Primitive}
 use Rattle.strategy_syntax.specs.Lists.{is_among, repeated, with_new}
-use Rattle.strategy_check.specs.Binders.{Binder, number_of}
+use Rattle.strategy_check.specs.Binders.{Binder, binder_number}
 use Rattle.strategy_check.specs.Tables.{DefinitionKey, same_key, Table, is_defined, is_declared, Modules, key_of, keys_of}
 use Rattle.strategy_check.specs.Faults.{Fault, Primitives, is_primitive, fault_if, underscore, repeated_names, head_faults, pattern_faults, faults_of_patterns, name_faults, strategy_faults, faults_of_strategies, header_faults, parameter_names, definition_faults, module_faults, faults_from, first}
 use Rattle.strategy_check.specs.inside.FirstFault.{fault_when, first_repeated, first_in_head, first_in_pattern, first_in_patterns, first_in_name, first_in_strategy, first_in_strategies, first_in_header, first_in_definition, first_in_definitions, first_in_modules}
@@ -21,7 +21,7 @@ first-append (f ∷ fs) gs = refl
 both : (fs gs : List Fault) (o p : Option Fault) → first fs ≡ o → first gs ≡ p → first (fs ++ gs) ≡ option_or o p
 both fs gs o p e h = first-append fs gs ∙ (λ i. option_or (e i) (h i))
 
-first_if : (b : Bool) (kind : Kind) (f : Symbol) (n m : ℕ) → first (fault_if b kind f n m) ≡ fault_when b kind f n m
+first_if : (b : Bool) (kind : FaultKind) (f : Symbol) (n m : ℕ) → first (fault_if b kind f n m) ≡ fault_when b kind f n m
 first_if true kind f n m = refl
 first_if false kind f n m = refl
 
@@ -61,7 +61,7 @@ module _ (T : Table) where
           both (pattern_faults T building p) (faults_of_patterns T building ps) (first_in_pattern T building p) (first_in_patterns T building ps) (first-pattern p) (first-patterns ps)
 
   first-name : (names : List Binder) (f : Symbol) (n m : ℕ) → first (name_faults T names f n m) ≡ first_in_name T names f n m
-  first-name names f n m = by (is_some (number_of f names)) where
+  first-name names f n m = by (is_some (binder_number f names)) where
     by : (b : Bool) → first (if b then fault_if (not (n + m == 0)) Parameter f n m else fault_if (not (is_defined T f n m) && not ((m == 0) && is_declared T f n)) Unknown f n m)
         ≡ (if b then fault_when (not (n + m == 0)) Parameter f n m else fault_when (not (is_defined T f n m) && not ((m == 0) && is_declared T f n)) Unknown f n m)
     by true = first_if (not (n + m == 0)) Parameter f n m

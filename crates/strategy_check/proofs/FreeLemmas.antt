@@ -8,7 +8,7 @@ use Rattle.strategy_syntax.specs.Variables.{variables, variables_of_all}
 use Rattle.strategy_syntax.proofs.PatternLemmas.{patterns_depth-item}
 use Rattle.strategy_syntax.proofs.StrategyLemmas.{depths-item}
 use Rattle.strategy_syntax.specs.Lists.{is_among, first_ones, without}
-use Rattle.strategy_check.specs.Binders.{Binder, number_of, bound_from}
+use Rattle.strategy_check.specs.Binders.{Binder, binder_number, bound_from}
 use Rattle.strategy_check.specs.Free.{free, free_in_all, free_variables}
 use Rattle.strategy_check.specs.inside.Met.{met, met_in_pattern, met_in_patterns, met_in_strategy, met_in_strategies}
 use Rattle.strategy_check.proofs.BinderLemmas.{drop-bound_from, length-bound_from}
@@ -28,12 +28,12 @@ or_else false true o k = refl
 or_else false false o k = refl
 
 pub bound_number : (k : ℕ) (xs : List Symbol) (bs : List Binder) (x : Symbol)
-    → is_some (number_of x (bound_from k xs bs)) ≡ (is_among same_name x xs || is_some (number_of x bs))
+    → is_some (binder_number x (bound_from k xs bs)) ≡ (is_among same_name x xs || is_some (binder_number x bs))
 bound_number k [] bs x = refl
 bound_number k (y ∷ xs) bs x =
     bound_number (k + 1) xs (record { name = y; number = k } ∷ bs) x
-    ∙ ap (λ b. is_among same_name x xs || is_some (if b then Some k else number_of x bs)) (same_name-sym y x)
-    ∙ or_else (same_name x y) (is_among same_name x xs) (number_of x bs) k
+    ∙ ap (λ b. is_among same_name x xs || is_some (if b then Some k else binder_number x bs)) (same_name-sym y x)
+    ∙ or_else (same_name x y) (is_among same_name x xs) (binder_number x bs) k
 
 abbrev binder : Symbol → ℕ → Binder
 binder x k = record { name = x; number = k }
@@ -81,16 +81,16 @@ not_met : (hidden : List Binder) (k n : ℕ) (found : List Binder) (xs ys : List
     → met_names (bound_from k xs hidden) n found ys ≡ met_names hidden n found (without same_name xs ys)
 not_met hidden k n found xs [] = refl
 not_met hidden k n found xs (y ∷ ys) = by (is_among same_name y xs) refl (λ B. not_met hidden k n B xs ys) where
-  test : is_some (number_of y (bound_from k xs hidden)) ≡ (is_among same_name y xs || is_some (number_of y hidden))
+  test : is_some (binder_number y (bound_from k xs hidden)) ≡ (is_among same_name y xs || is_some (binder_number y hidden))
   test = bound_number k xs hidden y
 
   by : (b : Bool) → is_among same_name y xs ≡ b → ((B : List Binder) → met_names (bound_from k xs hidden) n B ys ≡ met_names hidden n B (without same_name xs ys))
       → met_names (bound_from k xs hidden) n (met (bound_from k xs hidden) n found y) ys ≡ met_names hidden n found (if b then without same_name xs ys else y ∷ without same_name xs ys)
   by true e rest =
-      ap (λ b. met_names (bound_from k xs hidden) n (if b || is_some (number_of y found) then found else record { name = y; number = n + length found } ∷ found) ys) (test ∙ ap (λ b. b || is_some (number_of y hidden)) e)
+      ap (λ b. met_names (bound_from k xs hidden) n (if b || is_some (binder_number y found) then found else record { name = y; number = n + length found } ∷ found) ys) (test ∙ ap (λ b. b || is_some (binder_number y hidden)) e)
       ∙ rest found
   by false e rest =
-      ap (λ b. met_names (bound_from k xs hidden) n (if b || is_some (number_of y found) then found else record { name = y; number = n + length found } ∷ found) ys) (test ∙ ap (λ b. b || is_some (number_of y hidden)) e)
+      ap (λ b. met_names (bound_from k xs hidden) n (if b || is_some (binder_number y found) then found else record { name = y; number = n + length found } ∷ found) ys) (test ∙ ap (λ b. b || is_some (binder_number y hidden)) e)
       ∙ rest (met hidden n found y)
 
 mutual
@@ -155,7 +155,7 @@ module _ (parameters : List Symbol) (n : ℕ) where
   first_met : (found ys : List Symbol) → met_names hidden_parameters n (bound_from n found []) ys ≡ bound_from n (found ++ first_ones same_name (parameters ++ found) ys) []
   first_met found [] = ap (λ l. bound_from n l []) (sym (append-nil found))
   first_met found (y ∷ ys) = by (is_among same_name y (parameters ++ found)) refl (λ found. first_met found ys) where
-    test : (is_some (number_of y hidden_parameters) || is_some (number_of y (bound_from n found []))) ≡ is_among same_name y (parameters ++ found)
+    test : (is_some (binder_number y hidden_parameters) || is_some (binder_number y (bound_from n found []))) ≡ is_among same_name y (parameters ++ found)
     test = (λ i. (bound_number 0 parameters [] y ∙ or-false (is_among same_name y parameters)) i || (bound_number n found [] y ∙ or-false (is_among same_name y found)) i)
         ∙ sym (among-append y parameters found)
 

@@ -12,8 +12,8 @@ use Rattle.strategy_syntax.specs.Modules.{Constructor, Definition}
 use Rattle.strategy_syntax.specs.Lists.{is_among}
 use Rattle.strategy_syntax.proofs.PatternLemmas.{patterns_depth-item}
 use Rattle.strategy_syntax.proofs.StrategyLemmas.{depths-item}
-use Rattle.strategy_check.specs.declared.fault.Kind.TheVariants.{Unknown, Undeclared, Wild, Parameter, Primitive}
-use Rattle.strategy_check.specs.Binders.{Binder, number_of}
+use Rattle.strategy_check.specs.declared.fault.FaultKind.TheVariants.{Unknown, Undeclared, Wild, Parameter, Primitive}
+use Rattle.strategy_check.specs.Binders.{Binder, binder_number}
 use Rattle.strategy_check.specs.Tables.{DefinitionKey, same_key, same_constructor, Table, is_defined, is_declared}
 use Rattle.strategy_check.specs.Faults.{Fault, Primitives, is_primitive, fault_if, repeated_names, head_faults, pattern_faults, faults_of_patterns, name_faults, strategy_faults, faults_of_strategies, parameter_names}
 use Rattle.strategy_check.specs.inside.Mentions.{HeadCovered, PatternCovered, PatternsCovered, NameCovered, Covered, AllCovered, BodiesCovered, Keeps}
@@ -140,7 +140,7 @@ module _ {M N : Table} (more : HasMore M N) where
     stays names (test s) h = stays names s h
     stays names (scope xs s) h = stays names s h
     stays names (uses f ss ps) h = (
-      name_stays (is_some (number_of f names)) f (length (strategy_list ss)) (length (pattern_list ps)) h.0,
+      name_stays (is_some (binder_number f names)) f (length (strategy_list ss)) (length (pattern_list ps)) h.0,
       (all_stay names ss h.1.0, patterns_stay ps h.1.1),
     )
     stays names (congruence g ss) h = all_stay names ss h
@@ -196,7 +196,7 @@ mutual
   more_strategy names M (test s) = more_strategy names M s
   more_strategy names M (scope xs s) = more_strategy names M s
   more_strategy names M (uses f ss ps) =
-      let b = is_some (number_of f names) in
+      let b = is_some (binder_number f names) in
       let n = length (strategy_list ss) in
       let m = length (pattern_list ps) in
       let N = mentioned_by_name M b f n m in
@@ -270,7 +270,7 @@ mutual
   strategy_covered names M (test s) = strategy_covered names M s
   strategy_covered names M (scope xs s) = strategy_covered names M s
   strategy_covered names M (uses f ss ps) =
-      let b = is_some (number_of f names) in
+      let b = is_some (binder_number f names) in
       let n = length (strategy_list ss) in
       let m = length (pattern_list ps) in
       let N = mentioned_by_name M b f n m in
@@ -349,9 +349,9 @@ module _ (M T T' : Table) (keeps : Keeps M T T') where
           both_none (pattern_faults T building p) (faults_of_patterns T building ps) (pattern_faults T' building p) (faults_of_patterns T' building ps)
           (kept-pattern p covered.0) (kept-patterns ps covered.1) e
 
-  kept-name : (names : List Binder) (f : Symbol) (n m : ℕ) → NameCovered M (is_some (number_of f names)) f n m
+  kept-name : (names : List Binder) (f : Symbol) (n m : ℕ) → NameCovered M (is_some (binder_number f names)) f n m
       → name_faults T names f n m ≡ [] → name_faults T' names f n m ≡ []
-  kept-name names f n m = by (is_some (number_of f names)) where
+  kept-name names f n m = by (is_some (binder_number f names)) where
     told : Bool → List Fault
     told b = fault_if b Unknown f n m
 

@@ -36,6 +36,7 @@ module _ (numbers : List ℕ) (stay : (k : ℕ) → new_number numbers k ≡ k) 
   pub same-definitions : (rs : List Resolved) → map (renumbered_definition numbers) rs ≡ rs
   same-definitions [] = refl
   same-definitions (r ∷ rs) = λ i. record r { strategy = same-strategy r.strategy i } ∷ same-definitions rs i
+
 -- a number at its own index stays, and so does one that no list has
 stays_at : (numbers : List ℕ) (k n : ℕ) → (k < length numbers → get_or numbers k 0 ≡ n) → unwrap_or (slice_get numbers k) n ≡ n
 stays_at [] k n h = refl

@@ -9,7 +9,7 @@ use Rattle.strategy_syntax.specs.Syntax.{Strategy}
 use Rattle.strategy_syntax.specs.Resolved.{ResolvedStrategy}
 use Rattle.strategy_syntax.specs.declared.resolved.Resolved.{Resolved}
 use Rattle.strategy_syntax.specs.Lists.{is_among, first_ones, with_new}
-use Rattle.strategy_check.specs.Binders.{Binder, number_of, bound_from}
+use Rattle.strategy_check.specs.Binders.{Binder, binder_number, bound_from}
 use Rattle.strategy_check.specs.Tables.{DefinitionKey, same_key, Table, definition_number, Modules, keys_of, definitions_of, table_of}
 use Rattle.strategy_check.specs.Faults.{Primitives, header_faults, definition_faults, parameter_names, module_faults, faults_from, faults, strategy_faults}
 use Rattle.strategy_check.specs.Free.{free, free_variables}
@@ -32,14 +32,14 @@ or_second true b c e = refl
 or_second false b c e = ap (λ b. b || c) e
 
 bound_ones : (bs : List Binder) (seen xs : List Symbol)
-    → ((x : Symbol) → (is_among same_name x seen || is_among same_name x (first_ones same_name seen xs)) ≡ true → is_some (number_of x bs) ≡ true)
+    → ((x : Symbol) → (is_among same_name x seen || is_among same_name x (first_ones same_name seen xs)) ≡ true → is_some (binder_number x bs) ≡ true)
     → AreBound bs xs
 bound_ones bs seen [] h = tt
 bound_ones bs seen (x ∷ xs) h = by (is_among same_name x seen) refl h (bound_ones bs seen xs) (bound_ones bs (seen ++ x ∷ []) xs) where
   by : (b : Bool) → is_among same_name x seen ≡ b
-      → ((y : Symbol) → (is_among same_name y seen || is_among same_name y (if b then first_ones same_name seen xs else x ∷ first_ones same_name (seen ++ x ∷ []) xs)) ≡ true → is_some (number_of y bs) ≡ true)
-      → (((y : Symbol) → (is_among same_name y seen || is_among same_name y (first_ones same_name seen xs)) ≡ true → is_some (number_of y bs) ≡ true) → AreBound bs xs)
-      → (((y : Symbol) → (is_among same_name y (seen ++ x ∷ []) || is_among same_name y (first_ones same_name (seen ++ x ∷ []) xs)) ≡ true → is_some (number_of y bs) ≡ true) → AreBound bs xs)
+      → ((y : Symbol) → (is_among same_name y seen || is_among same_name y (if b then first_ones same_name seen xs else x ∷ first_ones same_name (seen ++ x ∷ []) xs)) ≡ true → is_some (binder_number y bs) ≡ true)
+      → (((y : Symbol) → (is_among same_name y seen || is_among same_name y (first_ones same_name seen xs)) ≡ true → is_some (binder_number y bs) ≡ true) → AreBound bs xs)
+      → (((y : Symbol) → (is_among same_name y (seen ++ x ∷ []) || is_among same_name y (first_ones same_name (seen ++ x ∷ []) xs)) ≡ true → is_some (binder_number y bs) ≡ true) → AreBound bs xs)
       → AreBound bs (x ∷ xs)
   by true e h again further = (h x (ap (λ b. b || is_among same_name x (first_ones same_name seen xs)) e), again h)
   by false e h again further = (

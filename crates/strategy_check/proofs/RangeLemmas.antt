@@ -4,8 +4,8 @@ use Rattle.std.specs.Prelude.{if◌then◌else◌, IsSomeAnd, IfSome, ⊤}
 use Rattle.std.proofs.lemmas.List.Quantifiers.{position-Some}
 use Rattle.std.proofs.lemmas.Option.{slice_get_read}
 use Rattle.std.proofs.lemmas.Bool.Decides.{Decides-eqb}
-use Rattle.strategy_check.specs.declared.fault.Kind.{Kind}
-use Rattle.strategy_check.specs.declared.fault.Kind.TheVariants.{Primitive}
+use Rattle.strategy_check.specs.declared.fault.FaultKind.{FaultKind}
+use Rattle.strategy_check.specs.declared.fault.FaultKind.TheVariants.{Primitive}
 use Rattle.term_core.specs.Tree.{Symbol, same_name}
 use Rattle.prim_core.specs.Signature as primitive
 use Rattle.prim_core.proofs.SignatureLemmas.{index_of-there}
@@ -13,7 +13,7 @@ use Rattle.strategy_syntax.specs.Syntax.{Pattern, wildcard, variable, at, number
 use Rattle.strategy_syntax.specs.Resolved.{Places, ResolvedStrategies, resolved_list, place_list}
 use Rattle.strategy_syntax.specs.Variables.{variables, variables_of_all}
 use Rattle.strategy_syntax.specs.Lists.{is_among, without}
-use Rattle.strategy_check.specs.Binders.{Binder, number_of, bound_from}
+use Rattle.strategy_check.specs.Binders.{Binder, binder_number, bound_from}
 use Rattle.strategy_check.specs.Tables.{DefinitionKey, same_key, Table, definition_number}
 use Rattle.strategy_check.specs.Faults.{Fault, Primitives, is_primitive, fault_if, repeated_names, name_faults, faults_of_patterns, strategy_faults, faults_of_strategies}
 use Rattle.strategy_check.specs.Free.{free, free_in_all}
@@ -36,18 +36,18 @@ pub below-bound : (n k : ℕ) (xs : List Symbol) (bs : List Binder) → k + leng
 below-bound n k [] bs le below = below
 below-bound n k (x ∷ xs) bs le below = below-bound n (k + 1) xs (record { name = x; number = k } ∷ bs) (omega arith) (omega arith, below)
 
-number-below : (n : ℕ) (bs : List Binder) (x : Symbol) (o : Option ℕ) → number_of x bs ≡ o → AreBelow n bs → IfSome o (λ k. k < n)
+number-below : (n : ℕ) (bs : List Binder) (x : Symbol) (o : Option ℕ) → binder_number x bs ≡ o → AreBelow n bs → IfSome o (λ k. k < n)
 number-below n bs x None e below = tt
 number-below n [] x (Some k) e below = absurd (cc)
 number-below n (b ∷ bs) x (Some k) e below = by (same_name b.name x) e (λ e. number-below n bs x (Some k) e below.1) where
-  by : (t : Bool) → (if t then Some b.number else number_of x bs) ≡ Some k → (number_of x bs ≡ Some k → k < n) → k < n
+  by : (t : Bool) → (if t then Some b.number else binder_number x bs) ≡ Some k → (binder_number x bs ≡ Some k → k < n) → k < n
   by true e rest = let same : b.number ≡ k = cc in let h = below.0 in omega (arith, same, h)
   by false e rest = rest e
 
 -- each has a binder
 abbrev pub AreBound : List Binder → List Symbol → Type 0
 AreBound bs [] = ⊤
-AreBound bs (x ∷ xs) = (is_some (number_of x bs) ≡ true) × AreBound bs xs
+AreBound bs (x ∷ xs) = (is_some (binder_number x bs) ≡ true) × AreBound bs xs
 
 bound-left : (bs : List Binder) (xs ys : List Symbol) → AreBound bs (xs ++ ys) → AreBound bs xs
 bound-left bs [] ys h = tt
@@ -69,12 +69,12 @@ bound-inside k bs xs [] h = tt
 bound-inside k bs xs (y ∷ ys) h = by (is_among same_name y xs) refl h (bound-inside k bs xs ys) where
   by : (b : Bool) → is_among same_name y xs ≡ b → AreBound bs (if b then without same_name xs ys else y ∷ without same_name xs ys)
       → (AreBound bs (without same_name xs ys) → AreBound (bound_from k xs bs) ys) → AreBound (bound_from k xs bs) (y ∷ ys)
-  by true e h rest = (bound_number k xs bs y ∙ or-true (is_among same_name y xs) (is_some (number_of y bs)) e, rest h)
-  by false e h rest = (bound_number k xs bs y ∙ or-true-right (is_among same_name y xs) (is_some (number_of y bs)) h.0, rest h.1)
+  by true e h rest = (bound_number k xs bs y ∙ or-true (is_among same_name y xs) (is_some (binder_number y bs)) e, rest h)
+  by false e h rest = (bound_number k xs bs y ∙ or-true-right (is_among same_name y xs) (is_some (binder_number y bs)) h.0, rest h.1)
 
-variable-below : (n : ℕ) (bs : List Binder) (x : Symbol) → AreBelow n bs → is_some (number_of x bs) ≡ true → variable_number bs x < n
-variable-below n bs x below there = by (number_of x bs) refl there where
-  by : (o : Option ℕ) → number_of x bs ≡ o → is_some o ≡ true → unwrap_or o 0 < n
+variable-below : (n : ℕ) (bs : List Binder) (x : Symbol) → AreBelow n bs → is_some (binder_number x bs) ≡ true → variable_number bs x < n
+variable-below n bs x below there = by (binder_number x bs) refl there where
+  by : (o : Option ℕ) → binder_number x bs ≡ o → is_some o ≡ true → unwrap_or o 0 < n
   by None e t = absurd (cc)
   by (Some k) e t = number-below n bs x (Some k) e below
 
@@ -155,7 +155,7 @@ primitive_range P n m None e there = absurd (cc)
 primitive_range P n m (Some i) e there =
     subst (λ o. IsSomeAnd o (λ p. m ≡ p.arity)) (sym (index_of-there n.text m P (Some i) (sym e))) refl
 
-no_fault : (b : Bool) (kind : Kind) (f : Symbol) (n m : ℕ) → fault_if (not b) kind f n m ≡ [] → b ≡ true
+no_fault : (b : Bool) (kind : FaultKind) (f : Symbol) (n m : ℕ) → fault_if (not b) kind f n m ≡ [] → b ≡ true
 no_fault true kind f n m e = refl
 no_fault false kind f n m e = absurd (cc)
 
@@ -200,8 +200,8 @@ module _ (T : Table) (P : Primitives) where
         let n = length (strategy_list ss) in
         let m = length (pattern_list ps) in
         let later = right-none (name_faults T E.names f n m) (faults_of_strategies T P E.names ss ++ faults_of_patterns T true ps) e in
-        name_range E.count (length E.names) f (number_of f E.names) (definition_number T f n m) (resolved_strategies T P E ss) (places E.variables ps)
-        (number-below (length E.names) E.names f (number_of f E.names) refl named)
+        name_range E.count (length E.names) f (binder_number f E.names) (definition_number T f n m) (resolved_strategies T P E ss) (places E.variables ps)
+        (number-below (length E.names) E.names f (binder_number f E.names) refl named)
         (subst (λ a. IfSome (definition_number T f n m) (λ i. IsSomeAnd (slice_get T.definitions i) (λ k. (k.strategies ≡ a) × (k.terms ≡ length (place_list (places E.variables ps)))))) (sym (resolved_count T P E ss))
         (subst (λ b. IfSome (definition_number T f n m) (λ i. IsSomeAnd (slice_get T.definitions i) (λ k. (k.strategies ≡ n) × (k.terms ≡ b)))) (sym (place_count E.variables ps))
         (numbered T f n m (definition_number T f n m) refl)))

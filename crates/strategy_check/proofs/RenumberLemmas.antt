@@ -8,7 +8,7 @@ use Rattle.strategy_syntax.specs.Modules.{Definition}
 use Rattle.strategy_syntax.specs.Renumbering.{new_number, renumbered, all_renumbered}
 use Rattle.strategy_syntax.specs.Resolved as resolved
 use Rattle.strategy_syntax.specs.Resolved.{Places, ResolvedStrategy, ResolvedStrategies}
-use Rattle.strategy_check.specs.Binders.{number_of}
+use Rattle.strategy_check.specs.Binders.{binder_number}
 use Rattle.strategy_check.specs.Tables.{DefinitionKey, Table, definition_number}
 use Rattle.strategy_check.specs.Faults.{Primitives}
 use Rattle.strategy_check.specs.Resolving.{Scope, with_variables, with_name, places, name_or_other, definition_or_constructor, resolved_strategy, resolved_strategies}
@@ -62,8 +62,8 @@ module _ (M : Table) (numbers : List ℕ) (T : Table) (T' : Table) (P : Primitiv
     renumbered-strategy E (uses f ss ps) covered =
         let n = length (strategy_list ss) in
         let m = length (pattern_list ps) in
-        ap (λ rs. name_or_other (number_of f E.names) (definition_or_constructor f (definition_number T' f n m) rs (places E.variables ps))) (renumbered-strategies E ss covered.1.0)
-        ∙ renumbered-name f n m (number_of f E.names) (resolved_strategies T P E ss) (places E.variables ps) covered.0
+        ap (λ rs. name_or_other (binder_number f E.names) (definition_or_constructor f (definition_number T' f n m) rs (places E.variables ps))) (renumbered-strategies E ss covered.1.0)
+        ∙ renumbered-name f n m (binder_number f E.names) (resolved_strategies T P E ss) (places E.variables ps) covered.0
     renumbered-strategy E (congruence h ss) covered = ap (resolved.congruence h) (renumbered-strategies E ss covered)
     renumbered-strategy E (tail_congruence ss s) covered = λ i.
         resolved.tail_congruence (renumbered-strategies E ss covered.0 i) (renumbered-strategy E s covered.1 i)

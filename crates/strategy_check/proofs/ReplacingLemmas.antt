@@ -19,8 +19,8 @@ use Rattle.term_core.proofs.SameName.{same_name-true, same_name-self}
 use Rattle.strategy_syntax.specs.Modules.{Definition}
 use Rattle.strategy_syntax.specs.Lists.{is_among, first_ones, with_new}
 use Rattle.strategy_syntax.specs.declared.resolved.Resolved.{Resolved}
-use Rattle.strategy_check.specs.declared.fault.Kind.{Kind}
-use Rattle.strategy_check.specs.declared.fault.Kind.TheVariants.{Twice, Clash}
+use Rattle.strategy_check.specs.declared.fault.FaultKind.{FaultKind}
+use Rattle.strategy_check.specs.declared.fault.FaultKind.TheVariants.{Twice, Clash}
 use Rattle.strategy_check.specs.Tables.{DefinitionKey, same_key, Table, is_declared, Modules, key_of, keys_of, definitions_of, table_of}
 use Rattle.strategy_check.specs.Faults.{Primitives, fault_if, repeated_names, parameter_names, strategy_faults, header_faults, definition_faults, module_faults, faults_from, faults}
 use Rattle.strategy_check.specs.Programs.{joined_definition, is_number, of_number, groups_from, groups, program}
@@ -293,7 +293,7 @@ module _ (xs ys : Modules) (apart : Apart xs ys) where
 -- ---- without faults
 
 module _ (T : Table) (P : Primitives) where
-  pub no_fault : (b : Bool) (kind : Kind) (d : Definition) (n m : ℕ) → fault_if b kind d.name n m ≡ [] → b ≡ false
+  pub no_fault : (b : Bool) (kind : FaultKind) (d : Definition) (n m : ℕ) → fault_if b kind d.name n m ≡ [] → b ≡ false
   no_fault true kind d n m e = absurd (cc)
   no_fault false kind d n m e = refl
 

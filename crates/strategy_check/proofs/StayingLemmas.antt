@@ -12,7 +12,7 @@ use Rattle.term_core.specs.Tree.{Symbol}
 use Rattle.strategy_syntax.specs.Modules.{Constructor, Definition, Module}
 use Rattle.strategy_syntax.specs.Lists.{is_among, with_new}
 use Rattle.strategy_syntax.specs.Renumbering.{new_number}
-use Rattle.strategy_check.specs.declared.fault.Kind.TheVariants.{Twice, Clash}
+use Rattle.strategy_check.specs.declared.fault.FaultKind.TheVariants.{Twice, Clash}
 use Rattle.strategy_check.specs.Tables.{DefinitionKey, same_key, same_constructor, Table, definition_number, is_declared, Modules, key_of, keys_of, definitions_of, table_of}
 use Rattle.strategy_check.specs.Faults.{Primitives, fault_if, repeated_names, parameter_names, strategy_faults, header_faults, definition_faults, module_faults, faults_from, faults}
 use Rattle.strategy_check.specs.inside.Changing.{mentioned, own_table, defines_key, mentions_key, mentions_constructor, is_again, is_clash, is_missed, misses_definition, is_missed_constructor, misses_constructor, number_in, numbers_in}

@@ -10,9 +10,9 @@ pub record Binder : Type 0 where
 
 -- The number that a name stands for, if it has a binder. The innermost binder comes first, and
 -- counts.
-abbrev pub number_of : Symbol → List Binder → Option ℕ
-number_of x [] = None
-number_of x (b ∷ bs) = if same_name b.name x then Some b.number else number_of x bs
+abbrev pub binder_number : Symbol → List Binder → Option ℕ
+binder_number x [] = None
+binder_number x (b ∷ bs) = if same_name b.name x then Some b.number else binder_number x bs
 
 -- the binders with further ones inside, numbered from n on
 abbrev pub bound_from : ℕ → List Symbol → List Binder → List Binder

@@ -5,23 +5,23 @@ use Rattle.term_core.specs.Tree.{Symbol, Head, application, list, tuple, same_na
 use Rattle.prim_core.specs.Signature as primitive
 use Rattle.strategy_syntax.specs.Syntax.{Pattern, wildcard, variable, at, number, compound, with_tail, annotated, Patterns, no_patterns, and_pattern, pattern_list, Strategy, id, fail, matches, builds, seq, guard, test, scope, uses, congruence, tail_congruence, all, one, some, child, rec, prim, Strategies, no_strategies, and_strategy, strategy_list}
 use Rattle.strategy_syntax.specs.Modules.{Definition, Module}
-use Rattle.strategy_check.specs.declared.fault.Kind.{Kind}
-use Rattle.strategy_check.specs.declared.fault.Kind.TheVariants.{Parameter, Twice, Clash, Unknown, Undeclared, Wild, Primitive}
+use Rattle.strategy_check.specs.declared.fault.FaultKind.{FaultKind}
+use Rattle.strategy_check.specs.declared.fault.FaultKind.TheVariants.{Parameter, Twice, Clash, Unknown, Undeclared, Wild, Primitive}
 use Rattle.strategy_check.specs.declared.fault.CheckFault.{CheckFault}
 use Rattle.strategy_check.specs.declared.fault.CheckFault.TheVariants.{Memory, Fault as Told}
 use Rattle.strategy_syntax.specs.Lists.{is_among, with_new, repeated}
-use Rattle.strategy_check.specs.Binders.{Binder, number_of, bound_from}
+use Rattle.strategy_check.specs.Binders.{Binder, binder_number, bound_from}
 use Rattle.strategy_check.specs.Tables.{DefinitionKey, same_key, Table, is_defined, is_declared, Modules, key_of, keys_of, table_of}
 
 -- a kind, a name and two numbers, as they are printed
 pub record Fault : Type 0 where
-  pub kind : Kind
+  pub kind : FaultKind
   pub name : Symbol
   pub first : ℕ
   pub second : ℕ
 
 -- one fault, if the test holds
-abbrev pub fault_if : Bool → Kind → Symbol → ℕ → ℕ → List Fault
+abbrev pub fault_if : Bool → FaultKind → Symbol → ℕ → ℕ → List Fault
 fault_if b kind f n m = if b then record { kind = kind; name = f; first = n; second = m } ∷ [] else []
 
 -- the primitives of a host
@@ -74,7 +74,7 @@ abbrev mutual
 -- definition, else, without terms, a constructor of n arguments, else unknown.
 abbrev pub name_faults : Table → List Binder → Symbol → ℕ → ℕ → List Fault
 name_faults T names f n m =
-    if is_some (number_of f names) then fault_if (not (n + m == 0)) Parameter f n m
+    if is_some (binder_number f names) then fault_if (not (n + m == 0)) Parameter f n m
     else fault_if (not (is_defined T f n m) && not ((m == 0) && is_declared T f n)) Unknown f n m
 
 abbrev mutual

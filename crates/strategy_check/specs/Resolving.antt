@@ -7,7 +7,7 @@ use Rattle.strategy_syntax.specs.Syntax as syntax
 use Rattle.strategy_syntax.specs.Syntax.{Pattern, Patterns, no_patterns, and_pattern, pattern_list, Strategy, Strategies, no_strategies, and_strategy, strategy_list}
 use Rattle.strategy_syntax.specs.Resolved.{Place, wildcard, variable, at, number, compound, with_tail, annotated, Places, no_places, and_place, ResolvedStrategy, id, fail, matches, builds, seq, guard, test, scope, param, call, congruence, tail_congruence, all, one, some, child, rec, prim, ResolvedStrategies}
 use Rattle.strategy_syntax.specs.Resolved as resolved
-use Rattle.strategy_check.specs.Binders.{Binder, number_of, bound_from}
+use Rattle.strategy_check.specs.Binders.{Binder, binder_number, bound_from}
 use Rattle.strategy_check.specs.Tables.{Table, definition_number}
 use Rattle.strategy_check.specs.Faults.{Primitives}
 
@@ -34,7 +34,7 @@ with_name E f = record E {
 
 -- the number of a variable; each has a binder once the free ones are bound
 abbrev pub variable_number : List Binder → Symbol → ℕ
-variable_number bs x = unwrap_or (number_of x bs) 0
+variable_number bs x = unwrap_or (binder_number x bs) 0
 
 abbrev mutual
   pub place : List Binder → Pattern → Place
@@ -74,7 +74,7 @@ abbrev mutual
   resolved_strategy T P E (syntax.scope xs s) =
       scope (length xs) (resolved_strategy T P (with_variables E xs) s)
   resolved_strategy T P E (syntax.uses f ss ps) =
-      name_or_other (number_of f E.names)
+      name_or_other (binder_number f E.names)
       (definition_or_constructor f
       (definition_number T f (length (strategy_list ss)) (length (pattern_list ps)))
       (resolved_strategies T P E ss) (places E.variables ps))

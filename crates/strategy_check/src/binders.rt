@@ -2,7 +2,7 @@
 #![tactic(auto)]
 
 ghost use Rattle.std.specs.Prelude.{◌≡◌, ◌+◌, ◌∷◌, [], drop, length, IfOk, OnOk};
-ghost use Rattle.strategy_check.specs.Binders.{number_of, bound_from};
+ghost use Rattle.strategy_check.specs.Binders.{binder_number, bound_from};
 
 use std::alloc::Global;
 use std::collections::HashMap;
@@ -13,13 +13,13 @@ use term_core::{Name, NoMemory};
 /// is found through a map.
 #[derive(Drop)]
 pub struct Binders {
-    entries: Vec<Entry>,
+    entries: Vec<OpenBinder>,
     // what each name stands for, or `None` if its binders are closed
     numbers: HashMap<Name, Option<usize>>,
 }
 
 #[derive(Drop)]
-struct Entry {
+struct OpenBinder {
     name: Name,
     number: usize,
     // what the name stands for outside this binder
@@ -58,7 +58,7 @@ impl Binders {
 
     /// The number that the name stands for, or `None` if it has no binder.
     pub fn number(&self, name: &Name) -> Option<usize>
-        ensures { result ≡ number_of name.now self.now }
+        ensures { result ≡ binder_number name.now self.now }
     {
         self.numbers.get(name).copied().flatten()
     }
@@ -72,7 +72,7 @@ impl Binders {
         let name = name.try_clone()?;
         self.entries.reserve(1)?;
         let hidden = self.numbers.insert(key, Some(number))?.flatten();
-        let entry = Entry {
+        let entry = OpenBinder {
             name,
             number,
             hidden,

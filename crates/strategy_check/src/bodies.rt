@@ -9,7 +9,7 @@ ghost use Rattle.strategy_syntax.specs.Syntax as syntax;
 ghost use Rattle.strategy_syntax.specs.Syntax.{strategies_of, seq, guard, rec};
 ghost use Rattle.strategy_syntax.specs.Resolved.{resolveds_of, places_of};
 ghost use Rattle.strategy_syntax.specs.ResolvedView.{resolved_of};
-ghost use Rattle.strategy_check.specs.Binders.{number_of};
+ghost use Rattle.strategy_check.specs.Binders.{binder_number};
 ghost use Rattle.strategy_check.specs.Tables.{definition_number};
 ghost use Rattle.strategy_check.specs.Resolving.{resolved_strategy, resolved_strategies, name_or_other, definition_or_constructor};
 
@@ -259,7 +259,7 @@ fn resolve_use(
     terms: Vec<Place>,
 ) -> Result<ResolvedForm, NoMemory>
     ensures { IfOk result (λ form. resolved_of form
-        ≡ name_or_other (number_of name.now scope.now.names)
+        ≡ name_or_other (binder_number name.now scope.now.names)
         (definition_or_constructor name.now
         (definition_number table.now name.now (length parts.items) (length terms.items))
         (resolveds_of parts.items) (places_of terms.items))) }

@@ -11,7 +11,7 @@ use thiserror::Error;
 
 /// The kinds of faults.
 #[derive(Clone, Copy, Debug, PartialEq, Eq)]
-pub enum Kind {
+pub enum FaultKind {
     /// A name is repeated in a header or a scope, or a strategy parameter has arguments.
     Parameter,
     /// An earlier module defines the same name with as many parameters.
@@ -28,19 +28,19 @@ pub enum Kind {
     Primitive,
 }
 
-impl Kind {
+impl FaultKind {
     /// The word for the kind in a refusal.
     pub fn word(self) -> &'static str
         ensures { result.now ≡ word_of self }
     {
         match self {
-            Kind::Parameter => "parameter",
-            Kind::Twice => "twice",
-            Kind::Clash => "clash",
-            Kind::Unknown => "unknown",
-            Kind::Undeclared => "undeclared",
-            Kind::Wild => "wild",
-            Kind::Primitive => "primitive",
+            FaultKind::Parameter => "parameter",
+            FaultKind::Twice => "twice",
+            FaultKind::Clash => "clash",
+            FaultKind::Unknown => "unknown",
+            FaultKind::Undeclared => "undeclared",
+            FaultKind::Wild => "wild",
+            FaultKind::Primitive => "primitive",
         }
     }
 }
@@ -54,7 +54,7 @@ pub enum CheckFault {
     /// The first fault: its kind, the name, and two numbers, usually of strategies and of terms. If
     /// it comes from a text, the name is quoted for `Primitive`, else a word.
     #[error("{}", .0.word())]
-    Fault(Kind, Name, u64, u64),
+    Fault(FaultKind, Name, u64, u64),
 }
 
 impl fmt::Debug for CheckFault {
@@ -75,7 +75,7 @@ impl From<NoMemory> for CheckFault {
 }
 
 /// This fault, or `Memory` if memory couldn't grow.
-pub fn fault(kind: Kind, name: &Name, first: usize, second: usize) -> CheckFault
+pub fn fault(kind: FaultKind, name: &Name, first: usize, second: usize) -> CheckFault
     ensures { IsTold result (fault_when true kind name.now first second) }
 {
     match name.try_clone() {

@@ -9,7 +9,7 @@ ghost use Rattle.strategy_check.specs.inside.FirstFault.{Tells, first_repeated, 
 use crate::fault::fault;
 use crate::key::DefinitionKey;
 use crate::table::Table;
-use crate::{CheckFault, Kind};
+use crate::{CheckFault, FaultKind};
 use indexmap::IndexSet;
 use std::alloc::Global;
 use strategy_syntax::Definition;
@@ -40,7 +40,7 @@ fn check_new(seen: &mut IndexSet<Name>, name: &Name) -> Result<(), CheckFault>
     ensures seen { OnOk result (seen.new.keys ≡ seen.old.keys ++ name.now ∷ []) }
 {
     if seen.contains(name) {
-        return Err(fault(Kind::Parameter, name, 0, 0));
+        return Err(fault(FaultKind::Parameter, name, 0, 0));
     }
     add_name(seen, name.try_clone()?)?;
     Ok(())
@@ -71,10 +71,10 @@ pub fn check_header(
     let terms = definition.term_parameters().len();
     let name = definition.name();
     if earlier.contains(&DefinitionKey::new(name, strategies, terms)?) {
-        return Err(fault(Kind::Twice, name, strategies, terms));
+        return Err(fault(FaultKind::Twice, name, strategies, terms));
     }
     if terms == 0 && table.declares(name, strategies)? {
-        return Err(fault(Kind::Clash, name, strategies, 0));
+        return Err(fault(FaultKind::Clash, name, strategies, 0));
     }
     Ok(())
 }

@@ -21,6 +21,6 @@ mod strategies;
 mod table;
 
 pub use checked::Checked;
-pub use fault::{CheckFault, Kind};
+pub use fault::{CheckFault, FaultKind};
 pub use named::NamedModule;
 pub use program::{Program, check, resolve};

@@ -4,7 +4,7 @@
 ghost use Rattle.std.specs.Prelude.{◌≡◌, is_some, IfOk, OnOk};
 ghost use Rattle.strategy_syntax.specs.Syntax.{patterns_of, strategies_of};
 ghost use Rattle.strategy_syntax.specs.Heads.{head_of};
-ghost use Rattle.strategy_check.specs.Binders.{number_of};
+ghost use Rattle.strategy_check.specs.Binders.{binder_number};
 ghost use Rattle.strategy_check.specs.inside.Changing.{mentioned};
 ghost use Rattle.strategy_check.specs.inside.Mentioned.{with_key, with_constructor, mentioned_by_head, mentioned_in_pattern, mentioned_in_patterns, mentioned_by_name, mentioned_in_strategy, mentioned_in_strategies, mentioned_in_body, mentioned_in_bodies};
 
@@ -171,7 +171,7 @@ fn mention_name(
     terms: usize,
 ) -> Result<(), NoMemory>
     ensures { OnOk result (mentioned.new ≡ mentioned_by_name mentioned.old
-        (is_some (number_of name.now names.now)) name.now strategies terms) }
+        (is_some (binder_number name.now names.now)) name.now strategies terms) }
 {
     if names.number(name).is_some() {
         return Ok(());

@@ -8,7 +8,7 @@ ghost use Rattle.strategy_check.specs.inside.FirstFault.{Tells, fault_when, firs
 
 use crate::fault::fault;
 use crate::table::Table;
-use crate::{CheckFault, Kind};
+use crate::{CheckFault, FaultKind};
 use std::alloc::Global;
 use strategy_syntax::{Head, Pattern, PatternForm};
 use term_core::Name;
@@ -28,7 +28,7 @@ pub fn check_pattern(
         PatternForm::Wildcard => check_wildcard(alloc, building),
         PatternForm::At(name, inner) => {
             if building {
-                return Err(fault(Kind::Wild, name, 0, 0));
+                return Err(fault(FaultKind::Wild, name, 0, 0));
             }
             check_pattern(alloc, table, building, inner)
         }
@@ -64,13 +64,13 @@ pub fn check_patterns(
 }
 
 fn check_wildcard(alloc: Global, building: bool) -> Result<(), CheckFault>
-    ensures { Tells result (fault_when building Kind.Wild underscore 0 0) }
+    ensures { Tells result (fault_when building FaultKind.Wild underscore 0 0) }
 {
     if !building {
         return Ok(());
     }
     match Name::word(alloc, b"_") {
-        Ok(Some(name)) => Err(CheckFault::Fault(Kind::Wild, name, 0, 0)),
+        Ok(Some(name)) => Err(CheckFault::Fault(FaultKind::Wild, name, 0, 0)),
         _ => Err(CheckFault::Memory),
     }
 }
@@ -85,5 +85,5 @@ fn check_pattern_head(table: &Table, head: &Head, count: usize) -> Result<(), Ch
     if name.is_quoted() || table.declares(name, count)? {
         return Ok(());
     }
-    Err(fault(Kind::Undeclared, name, count, 0))
+    Err(fault(FaultKind::Undeclared, name, count, 0))
 }

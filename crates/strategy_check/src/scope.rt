@@ -2,7 +2,7 @@
 #![tactic(auto)]
 
 ghost use Rattle.std.specs.Prelude.{◌≡◌, OnOk};
-ghost use Rattle.strategy_check.specs.Binders.{number_of};
+ghost use Rattle.strategy_check.specs.Binders.{binder_number};
 ghost use Rattle.strategy_check.specs.Resolving.{variable_number, with_variables, with_name};
 ghost use Rattle.strategy_check.specs.inside.Closing.{without_variables, without_name};
 
@@ -48,7 +48,7 @@ impl Scope {
 
     /// The number of a strategy name, or `None` if it has no binder.
     pub fn strategy(&self, name: &Name) -> Option<usize>
-        ensures { result ≡ number_of name.now self.now.names }
+        ensures { result ≡ binder_number name.now self.now.names }
     {
         self.names.number(name)
     }

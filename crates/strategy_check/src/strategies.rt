@@ -10,7 +10,7 @@ use crate::fault::fault;
 use crate::headers::check_names;
 use crate::patterns::{check_pattern, check_patterns};
 use crate::table::Table;
-use crate::{CheckFault, Kind};
+use crate::{CheckFault, FaultKind};
 use prim_core::{Meaning, Primitives};
 use std::alloc::Global;
 use strategy_syntax::{Strategy, StrategyForm};
@@ -108,7 +108,7 @@ fn check_name(
 {
     if names.number(name).is_some() {
         if strategies > 0 || terms > 0 {
-            return Err(fault(Kind::Parameter, name, strategies, terms));
+            return Err(fault(FaultKind::Parameter, name, strategies, terms));
         }
         return Ok(());
     }
@@ -118,7 +118,7 @@ fn check_name(
     if terms == 0 && table.declares(name, strategies)? {
         return Ok(());
     }
-    Err(fault(Kind::Unknown, name, strategies, terms))
+    Err(fault(FaultKind::Unknown, name, strategies, terms))
 }
 
 fn check_primitive<M: Meaning>(
@@ -130,6 +130,6 @@ fn check_primitive<M: Meaning>(
 {
     match primitives.find(name.bytes(), terms) {
         Some(_) => Ok(()),
-        None => Err(fault(Kind::Primitive, name, terms, 0)),
+        None => Err(fault(FaultKind::Primitive, name, terms, 0)),
     }
 }

@@ -8,25 +8,25 @@ use Rattle.strategy_syntax.specs.Resolved.{Place, places_of}
 use Rattle.strategy_meaning.specs.Matching.{build_place}
 use Rattle.strategy_meaning.specs.Answer.{Answer, failed, stopped, big}
 use Rattle.strategy_meaning.specs.Meaning.{built, built_all}
-use Rattle.term_match.specs.Contents.{Contents}
+use Rattle.term_match.specs.CellContents.{CellContents}
 use Rattle.term_match.specs.Marks.{mark_of, Before, Stays}
 use Rattle.strategy_machine.proofs.TakeLemmas.{built_is, big_is, unbuilt_is}
 use Rattle.strategy_machine.proofs.OpenLemmas.{before_self, before_on, stays_self}
 
 -- ---- opened
 
-pub record Opened (old new : Contents) (us : List Tree) : Type 0 where
+pub record Opened (old new : CellContents) (us : List Tree) : Type 0 where
   pub cells : new.bindings ≡ old.bindings ++ map Some us
   pub later : Before (mark_of old) (mark_of new)
   pub stays : Stays (mark_of old) old new
 
-pub opened_none : (C : Contents) → Opened C C []
+pub opened_none : (C : CellContents) → Opened C C []
 opened_none C = record { cells = sym (append-nil C.bindings); later = before_self (mark_of C); stays = stays_self (mark_of C) C }
 
-pub later_on : (old mid new : Contents) → Before (mark_of old) (mark_of mid) → Before (mark_of mid) (mark_of new) → Before (mark_of old) (mark_of new)
+pub later_on : (old mid new : CellContents) → Before (mark_of old) (mark_of mid) → Before (mark_of mid) (mark_of new) → Before (mark_of old) (mark_of new)
 later_on old mid new a b = before_on (mark_of old) (mark_of mid) (mark_of new) a b
 
-pub stays_on : (old mid new : Contents) → Before (mark_of old) (mark_of mid) → Stays (mark_of old) old mid → Stays (mark_of mid) mid new → Stays (mark_of old) old new
+pub stays_on : (old mid new : CellContents) → Before (mark_of old) (mark_of mid) → Stays (mark_of old) old mid → Stays (mark_of mid) mid new → Stays (mark_of old) old new
 stays_on old mid new a s t m b = t m (before_on m (mark_of old) (mark_of mid) b a) ∙ s m b
 
 next : (i : ℕ) → i + 1 ≡ suc i
@@ -35,7 +35,7 @@ next i = omega arith
 taken : {A : Type 0} (us : List A) (i : ℕ) (u : A) → i < length us → u ≡ get_or us i u → take (i + 1) us ≡ take i us ++ u ∷ []
 taken us i u lt e = ap (λ k. take k us) (next i) ∙ take-suc us i u lt ∙ ap (λ x. take i us ++ x ∷ []) (sym e)
 
-pub opened_more : (old mid new : Contents) (us : List Tree) (i : ℕ) (u : Tree) → i < length us → u ≡ get_or us i u
+pub opened_more : (old mid new : CellContents) (us : List Tree) (i : ℕ) (u : Tree) → i < length us → u ≡ get_or us i u
     → new.bindings ≡ mid.bindings ++ Some u ∷ [] → Before (mark_of mid) (mark_of new) → Stays (mark_of mid) mid new
     → Opened old mid (take i us) → Opened old new (take (i + 1) us)
 opened_more old mid new us i u lt e c b s h = record {
@@ -45,16 +45,16 @@ opened_more old mid new us i u lt e c b s h = record {
   stays = stays_on old mid new h.later h.stays s;
 }
 
-pub opened_all : (old new : Contents) (us : List Tree) (i : ℕ) → length us ≤ i → Opened old new (take i us) → new.bindings ≡ old.bindings ++ map Some us
+pub opened_all : (old new : CellContents) (us : List Tree) (i : ℕ) → length us ≤ i → Opened old new (take i us) → new.bindings ≡ old.bindings ++ map Some us
 opened_all old new us i le h = h.cells ∙ ap (λ x. old.bindings ++ map Some x) (take_all i us le)
 
 -- ---- built
 
-pub record BuiltSoFar (old new : Contents) (ps : List Place) (E : List ℕ) (l i : ℕ) (us : List Tree) : Type 0 where
+pub record BuiltSoFar (old new : CellContents) (ps : List Place) (E : List ℕ) (l i : ℕ) (us : List Tree) : Type 0 where
   pub cells : new ≡ old
   pub built : (c : ℕ) (go : List Tree → Answer) → built_all (places_of ps) E old.bindings l c go ≡ built_all (places_of (drop i ps)) E old.bindings l c (λ vs. go (us ++ vs))
 
-pub built_none : (C : Contents) (ps : List Place) (E : List ℕ) (l : ℕ) (us : List Tree) → us ≡ [] → BuiltSoFar C C ps E l 0 us
+pub built_none : (C : CellContents) (ps : List Place) (E : List ℕ) (l : ℕ) (us : List Tree) → us ≡ [] → BuiltSoFar C C ps E l 0 us
 built_none C ps E l us e = rw e record { cells = refl; built = λ c go. refl }
 
 dropped_suc : (ps : List Place) (i : ℕ) (p : Place) → i < length ps → p ≡ get_or ps i p → drop i ps ≡ p ∷ drop (suc i) ps
@@ -66,36 +66,36 @@ dropped : (ps : List Place) (i : ℕ) (p : Place) → i < length ps → p ≡ ge
 dropped ps i p lt e = dropped_suc ps i p lt e ∙ ap (λ k. p ∷ drop k ps) (sym (next i))
 
 -- the next one
-here : (old new : Contents) (ps : List Place) (E : List ℕ) (l i : ℕ) (us : List Tree) (p : Place) → i < length ps → p ≡ get_or ps i p → BuiltSoFar old new ps E l i us
+here : (old new : CellContents) (ps : List Place) (E : List ℕ) (l i : ℕ) (us : List Tree) (p : Place) → i < length ps → p ≡ get_or ps i p → BuiltSoFar old new ps E l i us
     → (c : ℕ) (go : List Tree → Answer) → built_all (places_of ps) E old.bindings l c go
     ≡ built (build_place p E old.bindings) l c (λ u. built_all (places_of (drop (i + 1) ps)) E old.bindings l c (λ vs. go (us ++ u ∷ vs)))
 here old new ps E l i us p lt e h c go =
     h.built c go ∙ ap (λ (qs : List Place). built_all (places_of qs) E old.bindings l c (λ vs. go (us ++ vs))) (dropped ps i p lt e)
 
-pub built_more : (old new : Contents) (ps : List Place) (E : List ℕ) (l i : ℕ) (us vs : List Tree) (p : Place) (u : Tree) → i < length ps → p ≡ get_or ps i p
+pub built_more : (old new : CellContents) (ps : List Place) (E : List ℕ) (l i : ℕ) (us vs : List Tree) (p : Place) (u : Tree) → i < length ps → p ≡ get_or ps i p
     → build_place p E new.bindings ≡ Some u → fits l u ≡ true → vs ≡ us ++ u ∷ []
     → BuiltSoFar old new ps E l i us → BuiltSoFar old new ps E l (i + 1) vs
 built_more old new ps E l i us vs p u lt e b f is h = record {
   cells = h.cells;
   built = λ c go. here old new ps E l i us p lt e h c go
-      ∙ built_is l c u (build_place p E old.bindings) _ (ap (λ (C : Contents). build_place p E C.bindings) (sym h.cells) ∙ b) f
+      ∙ built_is l c u (build_place p E old.bindings) _ (ap (λ (C : CellContents). build_place p E C.bindings) (sym h.cells) ∙ b) f
       ∙ ap (λ (f : List Tree → List Tree). built_all (places_of (drop (i + 1) ps)) E old.bindings l c (λ ws. go (f ws)))
       ((λ j ws. sym (append_assoc us (u ∷ []) ws) j) ∙ (λ j ws. sym is j ++ ws));
 }
 
-pub built_nothing : (old new : Contents) (ps : List Place) (E : List ℕ) (l i : ℕ) (us : List Tree) (p : Place) → i < length ps → p ≡ get_or ps i p
+pub built_nothing : (old new : CellContents) (ps : List Place) (E : List ℕ) (l i : ℕ) (us : List Tree) (p : Place) → i < length ps → p ≡ get_or ps i p
     → build_place p E new.bindings ≡ None → BuiltSoFar old new ps E l i us
     → (c : ℕ) (go : List Tree → Answer) → built_all (places_of ps) E old.bindings l c go ≡ failed c
 built_nothing old new ps E l i us p lt e b h c go =
     here old new ps E l i us p lt e h c go
-    ∙ unbuilt_is l c (build_place p E old.bindings) _ (ap (λ (C : Contents). build_place p E C.bindings) (sym h.cells) ∙ b)
+    ∙ unbuilt_is l c (build_place p E old.bindings) _ (ap (λ (C : CellContents). build_place p E C.bindings) (sym h.cells) ∙ b)
 
-pub built_big : (old new : Contents) (ps : List Place) (E : List ℕ) (l i : ℕ) (us : List Tree) (p : Place) (u : Tree) → i < length ps → p ≡ get_or ps i p
+pub built_big : (old new : CellContents) (ps : List Place) (E : List ℕ) (l i : ℕ) (us : List Tree) (p : Place) (u : Tree) → i < length ps → p ≡ get_or ps i p
     → build_place p E new.bindings ≡ Some u → fits l u ≡ false → BuiltSoFar old new ps E l i us
     → (c : ℕ) (go : List Tree → Answer) → built_all (places_of ps) E old.bindings l c go ≡ stopped big
 built_big old new ps E l i us p u lt e b f h c go =
     here old new ps E l i us p lt e h c go
-    ∙ big_is l c u (build_place p E old.bindings) _ (ap (λ (C : Contents). build_place p E C.bindings) (sym h.cells) ∙ b) f
+    ∙ big_is l c u (build_place p E old.bindings) _ (ap (λ (C : CellContents). build_place p E C.bindings) (sym h.cells) ∙ b) f
 
 past : (ps : List Place) (i : ℕ) → length ps ≤ i → drop i ps ≡ []
 past [] zero le = refl
@@ -103,7 +103,7 @@ past [] (suc i) le = refl
 past (p ∷ ps) zero le = absurd (omega (arith, le))
 past (p ∷ ps) (suc i) le = past ps i (omega (arith, le))
 
-pub built_over : (old new : Contents) (ps : List Place) (E : List ℕ) (l i : ℕ) (us : List Tree) → length ps ≤ i → BuiltSoFar old new ps E l i us
+pub built_over : (old new : CellContents) (ps : List Place) (E : List ℕ) (l i : ℕ) (us : List Tree) → length ps ≤ i → BuiltSoFar old new ps E l i us
     → (c : ℕ) (go : List Tree → Answer) → built_all (places_of ps) E old.bindings l c go ≡ go us
 built_over old new ps E l i us le h c go =
     h.built c go ∙ ap (λ (qs : List Place). built_all (places_of qs) E old.bindings l c (λ vs. go (us ++ vs))) (past ps i le)

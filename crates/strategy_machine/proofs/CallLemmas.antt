@@ -11,7 +11,7 @@ use Rattle.strategy_meaning.specs.Scopes.{cells_in, inside, numbers_from, argume
 use Rattle.strategy_meaning.specs.Answer.{Answer, failed}
 use Rattle.strategy_meaning.specs.Meaning.{World, run, form, enter, opened}
 use Rattle.strategy_machine.specs.Table.{scopes, scope_at}
-use Rattle.term_match.specs.Contents.{Contents}
+use Rattle.term_match.specs.CellContents.{CellContents}
 use Rattle.strategy_machine.specs.inside.Arguments.{AreBuilt}
 use Rattle.strategy_machine.specs.Turns.{State, state_of, HoldsIn}
 use Rattle.strategy_machine.specs.inside.Taking.{FormIn}
@@ -21,8 +21,8 @@ use Rattle.strategy_machine.specs.declared.arguments.BuiltAll.TheVariants.{All}
 use Rattle.strategy_machine.specs.Hands.{Begin}
 use Rattle.strategy_machine.proofs.TakeLemmas.{celled, some_is, none_is, take_opened}
 
-pub form_cells : (W : World) (sub : Standing) (whole : Answer) (S : State) (r : ResolvedStrategy) (n : ℕ) (p : Standing) (D : Contents) → D ≡ S.cells → FormIn W sub whole S r n p → FormIn W sub whole (celled S D) r n p
-form_cells W sub whole S r n p D e h = subst (λ (x : Contents). FormIn W sub whole (celled S x) r n p) (sym e) h
+pub form_cells : (W : World) (sub : Standing) (whole : Answer) (S : State) (r : ResolvedStrategy) (n : ℕ) (p : Standing) (D : CellContents) → D ≡ S.cells → FormIn W sub whole S r n p → FormIn W sub whole (celled S D) r n p
+form_cells W sub whole S r n p D e h = subst (λ (x : CellContents). FormIn W sub whole (celled S x) r n p) (sym e) h
 
 pub undefined_is : (W : World) (S : State) (f : ℕ) (ss : ResolvedStrategies) (ps : Places) (n : ℕ) (p : Standing) (us : List Tree)
     → AreBuilt ps (cells_in (scope_at S.scopes n)) S.cells.bindings S.level us All → slice_get W.bodies f ≡ None

@@ -14,7 +14,7 @@ use Rattle.strategy_meaning.specs.Matching.{Bindings}
 use Rattle.strategy_meaning.specs.Answer.{Answer, done, failed, Act, either, if_done, with_edits, and_then}
 use Rattle.strategy_meaning.specs.Meaning.{World, run, with_some, on_child, each, leftmost, those_done}
 use Rattle.strategy_machine.specs.Table.{scope_at}
-use Rattle.term_match.specs.Contents.{Contents}
+use Rattle.term_match.specs.CellContents.{CellContents}
 use Rattle.term_match.specs.Marks.{kept, mark_of}
 use Rattle.term_match.specs.declared.cells.Mark.{Mark}
 use Rattle.strategy_machine.specs.Leading.{Leads, Has, node_now, parts_now, all_parts, node_with, PartsStand}
@@ -301,7 +301,7 @@ settled_here l w start q base d T trail path parts sh h k e t =
     (λ same. no_edits (path ++ w.index ∷ []) T base d t (sym sh.count ∙ unmoved trail.count w.edits same ∙ h.edits)) h k e t
 
 -- the node with its finished child continues
-pub goes_up : (W : World) (sub : Standing) (whole : Answer) (C : Contents) (top : Mark) (es : List Scope) (l : ℕ) (fs : List Frame) (w : Walk) (base d T : Edits) (q : Standing) (parts : List Standing) (B : Bindings) (c : ℕ) (K : Answer → Answer) (k : ℕ → Bindings → Tree → Answer)
+pub goes_up : (W : World) (sub : Standing) (whole : Answer) (C : CellContents) (top : Mark) (es : List Scope) (l : ℕ) (fs : List Frame) (w : Walk) (base d T : Edits) (q : Standing) (parts : List Standing) (B : Bindings) (c : ℕ) (K : Answer → Answer) (k : ℕ → Bindings → Tree → Answer)
     → ((t : Tree) (e : Edits) → K (done t B c e) ≡ with_edits e (k c B t))
     → Settled w T base (path_of fs) d q parts
     → Opens (Meets W sub whole C top es l fs) (path_of fs) (walked w) base (K (put_back w.index (standing_tree (walked w)) (with_edits d (done (standing_tree q) B c []))))

@@ -10,7 +10,7 @@ use Rattle.strategy_meaning.specs.Scopes.{Scope}
 use Rattle.strategy_meaning.specs.Answer.{Answer, done, failed, stopped, with_edits}
 use Rattle.strategy_meaning.specs.Meaning.{World, run, form, cut}
 use Rattle.strategy_machine.specs.Table.{nowhere, scope_at, Starts}
-use Rattle.term_match.specs.Contents.{Contents}
+use Rattle.term_match.specs.CellContents.{CellContents}
 use Rattle.term_match.specs.Marks.{mark_of, Before, Stays}
 use Rattle.strategy_machine.specs.Frames.{Meets}
 use Rattle.strategy_machine.specs.Turns.{State, HoldsIn}
@@ -147,7 +147,7 @@ leave_kept W sub whole S p a k m mid es f le e st h = record {
 
 -- ---- cells that end
 
-pub cut_pushed : (W : World) (sub : Standing) (whole : Answer) (S : State) (p : Standing) (a : Answer) (D : Contents) (es : List Scope)
+pub cut_pushed : (W : World) (sub : Standing) (whole : Answer) (S : State) (p : Standing) (a : Answer) (D : CellContents) (es : List Scope)
     → Starts S.scopes es → Before (mark_of S.cells) (mark_of D) → Stays (mark_of S.cells) S.cells D
     → AnswersIn W sub whole S p (cut (length S.cells.bindings) a)
     → AnswersIn W sub whole (with_those S D es (Cut (length S.cells.bindings) (length S.scopes) ∷ S.frames)) p a
@@ -163,7 +163,7 @@ cut_pushed W sub whole S p a D es st b sy h = record {
   )) h.opens;
 }
 
-pub cut_kept : (W : World) (sub : Standing) (whole : Answer) (S : State) (p : Standing) (a : Answer) (k m : ℕ) (mid es : List Scope) (D : Contents)
+pub cut_kept : (W : World) (sub : Standing) (whole : Answer) (S : State) (p : Standing) (a : Answer) (k m : ℕ) (mid es : List Scope) (D : CellContents)
     → LeavesCells S.frames k → k ≤ m → mid ≡ take m S.scopes → Starts mid es → Before (mark_of S.cells) (mark_of D) → Stays (mark_of S.cells) S.cells D
     → AnswersIn W sub whole S p (cut (length S.cells.bindings) a) → AnswersIn W sub whole (with_those S D es S.frames) p a
 cut_kept W sub whole S p a k m mid es D f le e st b sy h = record {

@@ -10,7 +10,7 @@ use Rattle.strategy_meaning.specs.Matching.{elements}
 use Rattle.strategy_meaning.specs.Answer.{Answer, done, and_then, at_root}
 use Rattle.strategy_meaning.specs.Meaning.{World, run, form, on_child, rest_of, with_rest, on_rest, is_list_from}
 use Rattle.strategy_machine.specs.Table.{scope_at}
-use Rattle.term_match.specs.Contents.{Contents}
+use Rattle.term_match.specs.CellContents.{CellContents}
 use Rattle.term_match.specs.Marks.{mark_of}
 use Rattle.strategy_machine.specs.Leading.{parts_now, all_parts, node_with, PartsStand}
 use Rattle.strategy_machine.specs.Trails.{Shows, path_of}
@@ -39,7 +39,7 @@ list_is (branch list kids notes) e = refl
 list_is (branch tuple kids notes) e = absurd (cc)
 
 -- the form over one strategy, by its line in the table
-headed : (W : World) (E : Scope) (l : ℕ) (s1 s : ResolvedStrategy) (c : ℕ) (C : Contents) (t : Tree) → is_list_from 1 (elements t) ≡ true
+headed : (W : World) (E : Scope) (l : ℕ) (s1 s : ResolvedStrategy) (c : ℕ) (C : CellContents) (t : Tree) → is_list_from 1 (elements t) ≡ true
     → form W (run W) E l (tail_congruence (and_strategy s1 no_strategies) s) c C.bindings t
     ≡ and_then (on_child (run W E (l + 1) s1) 0 c C.bindings t) (on_rest (run W E l s) 1)
 headed W E l s1 s c C t is =
@@ -107,7 +107,7 @@ first_short : (first : Option Standing) → length (first_part first) ≤ 1
 first_short None = omega arith
 first_short (Some p) = omega arith
 
-pub give_head : (W : World) (sub : Standing) (whole : Answer) (C : Contents) (es : List Scope) (t : Trail) (l c : ℕ) (fs : List Frame) (s : Bor ResolvedStrategy) (n : ℕ) (w : Walk) (first : Option Standing) (p q : Standing)
+pub give_head : (W : World) (sub : Standing) (whole : Answer) (C : CellContents) (es : List Scope) (t : Trail) (l c : ℕ) (fs : List Frame) (s : Bor ResolvedStrategy) (n : ℕ) (w : Walk) (first : Option Standing) (p q : Standing)
     → first ≡ cond (not (t.count == w.edits)) (Some p) None → q ≡ fresh (rest_of 1 (standing_tree w.node))
     → HoldsIn W sub whole (st C es t l c (frames.Head s n w ∷ fs)) (Done p)
     → HoldsIn W sub whole (st C es t w.level c (frames.Behind w.node first t.count ∷ fs)) (Begin s n q)
@@ -134,7 +134,7 @@ give_head W sub whole C es t l c fs s n w first p q fe qe h =
       );
     }
 
-pub fail_head : (W : World) (sub : Standing) (whole : Answer) (C : Contents) (es : List Scope) (t u : Trail) (l c : ℕ) (fs : List Frame) (s : Bor ResolvedStrategy) (n : ℕ) (w : Walk)
+pub fail_head : (W : World) (sub : Standing) (whole : Answer) (C : CellContents) (es : List Scope) (t u : Trail) (l c : ℕ) (fs : List Frame) (s : Bor ResolvedStrategy) (n : ℕ) (w : Walk)
     → Cuts w.edits t u
     → HoldsIn W sub whole (st C es t l c (frames.Head s n w ∷ fs)) Failed → HoldsIn W sub whole (st C es u w.level c fs) Failed
 fail_head W sub whole C es t u l c fs s n w cu h =
@@ -160,15 +160,15 @@ pub first_in_front : (node : Standing) (first : Option Standing) (p : Standing)
 first_in_front node first p e = first_alone (parts_now node (all_parts node (first_part first))) p e
 
 -- what holds of them in a run
-pub behind_list : (W : World) (sub : Standing) (whole : Answer) (C : Contents) (es : List Scope) (t : Trail) (l c : ℕ) (fs : List Frame) (node : Standing) (first : Option Standing) (k : ℕ) (p : Standing)
+pub behind_list : (W : World) (sub : Standing) (whole : Answer) (C : CellContents) (es : List Scope) (t : Trail) (l c : ℕ) (fs : List Frame) (node : Standing) (first : Option Standing) (k : ℕ) (p : Standing)
     → HoldsIn W sub whole (st C es t l c (frames.Behind node first k ∷ fs)) (Done p) → elements (standing_tree node) ≡ Some (children (standing_tree node))
 behind_list W sub whole C es t l c fs node first k p h = h.opens.is.0
 
-pub behind_stands : (W : World) (sub : Standing) (whole : Answer) (C : Contents) (es : List Scope) (t : Trail) (l c : ℕ) (fs : List Frame) (node : Standing) (first : Option Standing) (k : ℕ) (p : Standing)
+pub behind_stands : (W : World) (sub : Standing) (whole : Answer) (C : CellContents) (es : List Scope) (t : Trail) (l c : ℕ) (fs : List Frame) (node : Standing) (first : Option Standing) (k : ℕ) (p : Standing)
     → HoldsIn W sub whole (st C es t l c (frames.Behind node first k ∷ fs)) (Done p) → PartsStand node (all_parts node (first_part first))
 behind_stands W sub whole C es t l c fs node first k p h = h.opens.is.1
 
-pub give_behind : (W : World) (sub : Standing) (whole : Answer) (C : Contents) (es : List Scope) (t u v : Trail) (l c : ℕ) (fs : List Frame) (node : Standing) (first : Option Standing) (k : ℕ) (p q : Standing) (x : Tree)
+pub give_behind : (W : World) (sub : Standing) (whole : Answer) (C : CellContents) (es : List Scope) (t u v : Trail) (l c : ℕ) (fs : List Frame) (node : Standing) (first : Option Standing) (k : ℕ) (p q : Standing) (x : Tree)
     → Cuts k t u → ((T : Edits) → Shows u T → Shows v (T ++ record { path = path_of fs; new = x } ∷ []))
     → elements (standing_tree p) ≡ Some (children (standing_tree p)) → x ≡ with_rest 1 (standing_tree (node_with node (first_part first))) (children (standing_tree p)) → q ≡ fresh x
     → HoldsIn W sub whole (st C es t l c (frames.Behind node first k ∷ fs)) (Done p) → HoldsIn W sub whole (st C es v l c fs) (Done q)
@@ -179,7 +179,7 @@ give_behind W sub whole C es t u v l c fs node first k p q x cu sh e is qe h =
     (opens_along _ _ (some_is (elements (standing_tree p)) (children (standing_tree p)) c (λ us. done (with_rest 1 (standing_tree old) us) C.bindings c (at_root (with_rest 1 (standing_tree old) us))) e
     ∙ ap (λ y. done y C.bindings c (at_root y)) (sym is)) o.is.4)
 
-pub behind_fails : (W : World) (sub : Standing) (whole : Answer) (C : Contents) (es : List Scope) (t u : Trail) (l c : ℕ) (fs : List Frame) (node : Standing) (first : Option Standing) (k : ℕ) (p : Standing)
+pub behind_fails : (W : World) (sub : Standing) (whole : Answer) (C : CellContents) (es : List Scope) (t u : Trail) (l c : ℕ) (fs : List Frame) (node : Standing) (first : Option Standing) (k : ℕ) (p : Standing)
     → Cuts k t u → elements (standing_tree p) ≡ None
     → HoldsIn W sub whole (st C es t l c (frames.Behind node first k ∷ fs)) (Done p) → HoldsIn W sub whole (st C es u l c fs) Failed
 behind_fails W sub whole C es t u l c fs node first k p cu e h =
@@ -192,7 +192,7 @@ behind_fails W sub whole C es t u l c fs node first k p cu e h =
       opens = opens_along _ _ (none_is (elements (standing_tree p)) c (λ us. done (with_rest 1 (standing_tree old) us) C.bindings c (at_root (with_rest 1 (standing_tree old) us))) e) o.is.4;
     }
 
-pub fail_behind : (W : World) (sub : Standing) (whole : Answer) (C : Contents) (es : List Scope) (t u : Trail) (l c : ℕ) (fs : List Frame) (node : Standing) (first : Option Standing) (k : ℕ)
+pub fail_behind : (W : World) (sub : Standing) (whole : Answer) (C : CellContents) (es : List Scope) (t u : Trail) (l c : ℕ) (fs : List Frame) (node : Standing) (first : Option Standing) (k : ℕ)
     → Cuts k t u
     → HoldsIn W sub whole (st C es t l c (frames.Behind node first k ∷ fs)) Failed → HoldsIn W sub whole (st C es u l c fs) Failed
 fail_behind W sub whole C es t u l c fs node first k cu h =

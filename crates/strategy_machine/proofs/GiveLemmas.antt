@@ -11,7 +11,7 @@ use Rattle.strategy_meaning.specs.Matching.{Bindings, elements}
 use Rattle.strategy_meaning.specs.Answer.{Answer, done, failed, either, with_edits, and_then, at_root}
 use Rattle.strategy_meaning.specs.Meaning.{World, run, each, leftmost, those_done, rest_of, with_rest, on_rest}
 use Rattle.strategy_machine.specs.Table.{scope_at}
-use Rattle.term_match.specs.Contents.{Contents}
+use Rattle.term_match.specs.CellContents.{CellContents}
 use Rattle.term_match.specs.Marks.{kept, mark_of, Before, Stays}
 use Rattle.term_match.specs.declared.cells.Mark.{Mark}
 use Rattle.strategy_machine.specs.Leading.{Leads, Has, node_now, parts_now, all_parts, node_with, PartsStand}
@@ -30,7 +30,7 @@ use Rattle.strategy_machine.proofs.NodeLeads.{part_count}
 use Rattle.strategy_machine.proofs.ChildLemmas.{Settled, settled_here, goes_up, each_begins}
 use Rattle.strategy_machine.proofs.TakeLemmas.{puts, some_is, none_is}
 
-abbrev pub st : Contents → List Scope → Trail → ℕ → ℕ → List Frame → State
+abbrev pub st : CellContents → List Scope → Trail → ℕ → ℕ → List Frame → State
 st C es t l c fs = record { cells = C; scopes = es; trail = t; level = l; frames = fs; steps = c }
 
 -- the trail is cut to this many edits
@@ -46,7 +46,7 @@ cut_back {old = old} T base d c e is sh = c base d e (subst (Shows old) is sh)
 given : (e : Edits) (t : Tree) (B : Bindings) (c : ℕ) (act : ℕ → Bindings → Tree → Answer) → and_then (with_edits e (done t B c [])) act ≡ with_edits e (act c B t)
 given e t B c act = ap (λ (x : Edits). with_edits x (act c B t)) (append-nil e)
 
-pub give_then : (W : World) (sub : Standing) (whole : Answer) (C : Contents) (es : List Scope) (t : Trail) (l c : ℕ) (fs : List Frame) (s : Bor ResolvedStrategy) (n : ℕ) (p : Standing)
+pub give_then : (W : World) (sub : Standing) (whole : Answer) (C : CellContents) (es : List Scope) (t : Trail) (l c : ℕ) (fs : List Frame) (s : Bor ResolvedStrategy) (n : ℕ) (p : Standing)
     → HoldsIn W sub whole (st C es t l c (frames.Then s n ∷ fs)) (Done p) → HoldsIn W sub whole (st C es t l c fs) (Begin s n p)
 give_then W sub whole C es t l c fs s n p h = record {
   now = h.now;
@@ -56,7 +56,7 @@ give_then W sub whole C es t l c fs s n p h = record {
   opens = opens_through _ _ (λ start base e r. subst (Meets W sub whole C (mark_of C) es l fs start base) (given e (standing_tree p) C.bindings c (run W (scope_at es n) l s.now)) r.1) h.opens;
 }
 
-pub give_choice : (W : World) (sub : Standing) (whole : Answer) (C : Contents) (es : List Scope) (t : Trail) (l c : ℕ) (fs : List Frame) (s2 s3 : Bor ResolvedStrategy) (n : ℕ) (saved p : Standing) (k : ℕ) (m : Mark)
+pub give_choice : (W : World) (sub : Standing) (whole : Answer) (C : CellContents) (es : List Scope) (t : Trail) (l c : ℕ) (fs : List Frame) (s2 s3 : Bor ResolvedStrategy) (n : ℕ) (saved p : Standing) (k : ℕ) (m : Mark)
     → HoldsIn W sub whole (st C es t l c (frames.Choose s2 s3 n saved k m ∷ fs)) (Done p) → HoldsIn W sub whole (st C es t l c fs) (Begin s2 n p)
 give_choice W sub whole C es t l c fs s2 s3 n saved p k m h =
     let o = h.opens in
@@ -71,7 +71,7 @@ give_choice W sub whole C es t l c fs s2 s3 n saved p k m h =
           (opens_along _ _ (given o.before (standing_tree p) C.bindings c (run W (scope_at es n) l s2.now)) o.is.4));
     }
 
-pub give_test : (W : World) (sub : Standing) (whole : Answer) (C : Contents) (es : List Scope) (t u : Trail) (l c : ℕ) (fs : List Frame) (saved p : Standing) (k : ℕ)
+pub give_test : (W : World) (sub : Standing) (whole : Answer) (C : CellContents) (es : List Scope) (t u : Trail) (l c : ℕ) (fs : List Frame) (saved p : Standing) (k : ℕ)
     → Cuts k t u
     → HoldsIn W sub whole (st C es t l c (frames.Restore saved k ∷ fs)) (Done p) → HoldsIn W sub whole (st C es u l c fs) (Done saved)
 give_test W sub whole C es t u l c fs saved p k cu h =
@@ -83,7 +83,7 @@ give_test W sub whole C es t u l c fs saved p k cu h =
       opens = o.is.2;
     }
 
-pub settled : (W : World) (sub : Standing) (whole : Answer) (C : Contents) (es : List Scope) (t : Trail) (l c : ℕ) (fs gs : List Frame) (w : Walk) (p : Standing) (parts : List Standing)
+pub settled : (W : World) (sub : Standing) (whole : Answer) (C : CellContents) (es : List Scope) (t : Trail) (l c : ℕ) (fs gs : List Frame) (w : Walk) (p : Standing) (parts : List Standing)
     → path_of gs ≡ path_of fs ++ w.index ∷ []
     → parts ≡ cond (not (t.count == w.edits)) (slice_set (parts_now w.node (walk_parts w)) w.index p) (walk_parts w)
     → (h : HoldsIn W sub whole (st C es t l c gs) (Done p)) → Inside l w h.opens.start h.opens.base
@@ -93,7 +93,7 @@ settled W sub whole C es t l c fs gs w p parts pe e h k =
     (subst (λ x. Leads h.opens.start h.opens.before x) h.in_hand h.opens.leads) e
     (h.opens.trail ∙ ap (λ (x : List ℕ). h.opens.base ++ behind x h.opens.before) pe)
 
-pub give_each : (W : World) (sub : Standing) (whole : Answer) (C : Contents) (es : List Scope) (t : Trail) (l c : ℕ) (fs : List Frame) (acts : Acts) (n i : ℕ) (w : Walk) (p : Standing) (parts : Vec Standing Global)
+pub give_each : (W : World) (sub : Standing) (whole : Answer) (C : CellContents) (es : List Scope) (t : Trail) (l c : ℕ) (fs : List Frame) (acts : Acts) (n i : ℕ) (w : Walk) (p : Standing) (parts : Vec Standing Global)
     → i ≡ w.index + 1
     → all_parts w.node parts.items ≡ cond (not (t.count == w.edits)) (slice_set (parts_now w.node (walk_parts w)) w.index p) (walk_parts w)
     → HoldsIn W sub whole (st C es t l c (frames.Each acts n w ∷ fs)) (Done p) → HoldsIn W sub whole (st C es t w.level c fs) (Each acts n w.node i parts)
@@ -111,7 +111,7 @@ give_each W sub whole C es t l c fs acts n i w p parts ie e h =
     }
 
 -- the walk moves on in its frame
-pub steps_on : (W : World) (sub : Standing) (whole : Answer) (C : Contents) (es : List Scope) (t : Trail) (l c : ℕ) (fs : List Frame) (acts others : Acts) (n : ℕ) (w v : Walk) (s : Bor ResolvedStrategy) (p q : Standing)
+pub steps_on : (W : World) (sub : Standing) (whole : Answer) (C : CellContents) (es : List Scope) (t : Trail) (l c : ℕ) (fs : List Frame) (acts others : Acts) (n : ℕ) (w v : Walk) (s : Bor ResolvedStrategy) (p q : Standing)
     → ((k : ℕ) → acts_list acts (suc k) ≡ s.now ∷ acts_list others k)
     → StepsOn w p t.count v q
     → HoldsIn W sub whole (st C es t l c (frames.Each acts n w ∷ fs)) (Done p) → HoldsIn W sub whole (st C es t l c (frames.Each others n v ∷ fs)) (Begin s n q)
@@ -125,7 +125,7 @@ steps_on W sub whole C es t l c fs acts others n w v s p q a k h =
     (each_begins W sub whole (st C es t w.level c fs) acts others s n v.index many w.node q v.parts refl (ap (acts_list acts) left ∙ a (many - 1)) k.child up)
 
 -- so does the frame
-pub goes_on : (W : World) (sub : Standing) (whole : Answer) (C : Contents) (es : List Scope) (t : Trail) (l c : ℕ) (fs : List Frame) (f g : Frame) (s : Bor ResolvedStrategy) (n : ℕ) (p q : Standing)
+pub goes_on : (W : World) (sub : Standing) (whole : Answer) (C : CellContents) (es : List Scope) (t : Trail) (l c : ℕ) (fs : List Frame) (f g : Frame) (s : Bor ResolvedStrategy) (n : ℕ) (p q : Standing)
     → GoesOn f p t.count s n g q → HoldsIn W sub whole (st C es t l c (f ∷ fs)) (Done p) → HoldsIn W sub whole (st C es t l c (g ∷ fs)) (Begin s n q)
 goes_on W sub whole C es t l c fs (frames.Each acts m w) g s n p q (others, h, next, walks, is) x =
     subst (λ (k : ℕ). HoldsIn W sub whole (st C es t l c (g ∷ fs)) (Begin s k q)) (sym next.0)
@@ -143,7 +143,7 @@ goes_on W sub whole C es t l c fs (frames.Behind node first e) g s n p q k x = a
 goes_on W sub whole C es t l c fs (frames.Leave m) g s n p q k x = absurd k.2
 goes_on W sub whole C es t l c fs (frames.Cut m e) g s n p q k x = absurd k.2
 
-pub give_leftmost : (W : World) (sub : Standing) (whole : Answer) (C : Contents) (es : List Scope) (t : Trail) (l c : ℕ) (fs : List Frame) (s : Bor ResolvedStrategy) (n : ℕ) (w : Walk) (m : Mark) (p q : Standing) (parts : List Standing)
+pub give_leftmost : (W : World) (sub : Standing) (whole : Answer) (C : CellContents) (es : List Scope) (t : Trail) (l c : ℕ) (fs : List Frame) (s : Bor ResolvedStrategy) (n : ℕ) (w : Walk) (m : Mark) (p q : Standing) (parts : List Standing)
     → parts ≡ cond (not (t.count == w.edits)) (slice_set (parts_now w.node (walk_parts w)) w.index p) (walk_parts w)
     → q ≡ node_now w.node parts
     → HoldsIn W sub whole (st C es t l c (frames.Leftmost s n w m ∷ fs)) (Done p) → HoldsIn W sub whole (st C es t w.level c fs) (Done q)
@@ -163,13 +163,13 @@ give_leftmost W sub whole C es t l c fs s n w m p q parts e is h =
     }
 
 -- the part can be put into the node
-pub leftmost_stand : (W : World) (sub : Standing) (whole : Answer) (C : Contents) (es : List Scope) (t : Trail) (l c : ℕ) (fs : List Frame) (s : Bor ResolvedStrategy) (n : ℕ) (w : Walk) (m : Mark) (p : Standing) (parts : List Standing)
+pub leftmost_stand : (W : World) (sub : Standing) (whole : Answer) (C : CellContents) (es : List Scope) (t : Trail) (l c : ℕ) (fs : List Frame) (s : Bor ResolvedStrategy) (n : ℕ) (w : Walk) (m : Mark) (p : Standing) (parts : List Standing)
     → parts ≡ cond (not (t.count == w.edits)) (slice_set (parts_now w.node (walk_parts w)) w.index p) (walk_parts w)
     → HoldsIn W sub whole (st C es t l c (frames.Leftmost s n w m ∷ fs)) (Done p) → PartsStand w.node parts
 leftmost_stand W sub whole C es t l c fs s n w m p parts e h =
     (settled W sub whole C es t l c fs (frames.Leftmost s n w m ∷ fs) w p parts refl e h h.opens.is.1).stand
 
-pub give_those : (W : World) (sub : Standing) (whole : Answer) (C : Contents) (es : List Scope) (t : Trail) (l c : ℕ) (fs : List Frame) (s : Bor ResolvedStrategy) (n i : ℕ) (w : Walk) (m : Mark) (any : Bool) (p : Standing) (parts : Vec Standing Global)
+pub give_those : (W : World) (sub : Standing) (whole : Answer) (C : CellContents) (es : List Scope) (t : Trail) (l c : ℕ) (fs : List Frame) (s : Bor ResolvedStrategy) (n i : ℕ) (w : Walk) (m : Mark) (any : Bool) (p : Standing) (parts : Vec Standing Global)
     → i ≡ w.index + 1
     → all_parts w.node parts.items ≡ cond (not (t.count == w.edits)) (slice_set (parts_now w.node (walk_parts w)) w.index p) (walk_parts w)
     → HoldsIn W sub whole (st C es t l c (frames.Those s n w m any ∷ fs)) (Done p) → HoldsIn W sub whole (st C es t w.level c fs) (Those s n w.node i true parts)
@@ -189,7 +189,7 @@ give_those W sub whole C es t l c fs s n i w m any p parts ie e h =
           (those_done act (left_behind w) true (w.index + 1)) (λ u x. refl) k o.is.3);
     }
 
-pub give_tail : (W : World) (sub : Standing) (whole : Answer) (C : Contents) (es : List Scope) (t : Trail) (l c : ℕ) (fs : List Frame) (s : Bor ResolvedStrategy) (n k : ℕ) (node q : Standing) (ps : Vec Standing Global)
+pub give_tail : (W : World) (sub : Standing) (whole : Answer) (C : CellContents) (es : List Scope) (t : Trail) (l c : ℕ) (fs : List Frame) (s : Bor ResolvedStrategy) (n k : ℕ) (node q : Standing) (ps : Vec Standing Global)
     → PartsStand node (all_parts node ps.items) → q ≡ fresh (rest_of k (standing_tree (node_with node ps.items)))
     → HoldsIn W sub whole (st C es t l c (frames.Tail s n k ∷ fs)) (Done (node_with node ps.items)) → HoldsIn W sub whole (st C es t l c (frames.Rest node ps k t.count ∷ fs)) (Begin s n q)
 give_tail W sub whole C es t l c fs s n k node q ps stand e h =
@@ -209,7 +209,7 @@ give_tail W sub whole C es t l c fs s n k node q ps stand e h =
       );
     }
 
-pub give_rest : (W : World) (sub : Standing) (whole : Answer) (C : Contents) (es : List Scope) (t u v : Trail) (l c : ℕ) (fs : List Frame) (node : Standing) (ps : Vec Standing Global) (n k : ℕ) (p q : Standing) (x : Tree)
+pub give_rest : (W : World) (sub : Standing) (whole : Answer) (C : CellContents) (es : List Scope) (t u v : Trail) (l c : ℕ) (fs : List Frame) (node : Standing) (ps : Vec Standing Global) (n k : ℕ) (p q : Standing) (x : Tree)
     → Cuts k t u → ((T : Edits) → Shows u T → Shows v (T ++ record { path = path_of fs; new = x } ∷ []))
     → elements (standing_tree p) ≡ Some (children (standing_tree p)) → x ≡ with_rest n (standing_tree (node_with node ps.items)) (children (standing_tree p)) → q ≡ fresh x
     → HoldsIn W sub whole (st C es t l c (frames.Rest node ps n k ∷ fs)) (Done p) → HoldsIn W sub whole (st C es v l c fs) (Done q)
@@ -221,11 +221,11 @@ give_rest W sub whole C es t u v l c fs node ps n k p q x cu sh e is qe h =
     ∙ ap (λ y. done y C.bindings c (at_root y)) (sym is)) o.is.3)
 
 -- the part can be put into the node
-pub rest_stands : (W : World) (sub : Standing) (whole : Answer) (C : Contents) (es : List Scope) (t : Trail) (l c : ℕ) (fs : List Frame) (node : Standing) (ps : Vec Standing Global) (n k : ℕ) (p : Standing)
+pub rest_stands : (W : World) (sub : Standing) (whole : Answer) (C : CellContents) (es : List Scope) (t : Trail) (l c : ℕ) (fs : List Frame) (node : Standing) (ps : Vec Standing Global) (n k : ℕ) (p : Standing)
     → HoldsIn W sub whole (st C es t l c (frames.Rest node ps n k ∷ fs)) (Done p) → PartsStand node (all_parts node ps.items)
 rest_stands W sub whole C es t l c fs node ps n k p h = h.opens.is.0
 
-pub rest_fails : (W : World) (sub : Standing) (whole : Answer) (C : Contents) (es : List Scope) (t u : Trail) (l c : ℕ) (fs : List Frame) (node : Standing) (ps : Vec Standing Global) (n k : ℕ) (p : Standing)
+pub rest_fails : (W : World) (sub : Standing) (whole : Answer) (C : CellContents) (es : List Scope) (t u : Trail) (l c : ℕ) (fs : List Frame) (node : Standing) (ps : Vec Standing Global) (n k : ℕ) (p : Standing)
     → Cuts k t u → elements (standing_tree p) ≡ None
     → HoldsIn W sub whole (st C es t l c (frames.Rest node ps n k ∷ fs)) (Done p) → HoldsIn W sub whole (st C es u l c fs) Failed
 rest_fails W sub whole C es t u l c fs node ps n k p cu e h =
@@ -238,7 +238,7 @@ rest_fails W sub whole C es t u l c fs node ps n k p cu e h =
       opens = opens_along _ _ (none_is (elements (standing_tree p)) c (λ us. done (with_rest n (standing_tree old) us) C.bindings c (at_root (with_rest n (standing_tree old) us))) e) o.is.3;
     }
 
-pub give_leave : (W : World) (sub : Standing) (whole : Answer) (C : Contents) (es fewer : List Scope) (t : Trail) (l c : ℕ) (fs : List Frame) (n : ℕ) (p : Standing)
+pub give_leave : (W : World) (sub : Standing) (whole : Answer) (C : CellContents) (es fewer : List Scope) (t : Trail) (l c : ℕ) (fs : List Frame) (n : ℕ) (p : Standing)
     → fewer ≡ take n es
     → HoldsIn W sub whole (st C es t l c (frames.Leave n ∷ fs)) (Done p) → HoldsIn W sub whole (st C fewer t l c fs) (Done p)
 give_leave W sub whole C es fewer t l c fs n p e h = rw e record {
@@ -249,7 +249,7 @@ give_leave W sub whole C es fewer t l c fs n p e h = rw e record {
   opens = opens_through _ _ (λ start base x r. r.1) h.opens;
 }
 
-pub give_cut : (W : World) (sub : Standing) (whole : Answer) (C D : Contents) (es fewer : List Scope) (t : Trail) (l c : ℕ) (fs : List Frame) (n k : ℕ) (p : Standing)
+pub give_cut : (W : World) (sub : Standing) (whole : Answer) (C D : CellContents) (es fewer : List Scope) (t : Trail) (l c : ℕ) (fs : List Frame) (n k : ℕ) (p : Standing)
     → fewer ≡ take k es → D.bindings ≡ take n C.bindings
     → Before (record { count = n; filled = length C.filled }) (mark_of D) → Stays (record { count = n; filled = length C.filled }) C D
     → HoldsIn W sub whole (st C es t l c (frames.Cut n k ∷ fs)) (Done p) → HoldsIn W sub whole (st D fewer t l c fs) (Done p)
@@ -268,7 +268,7 @@ pub in_hand_has : (W : World) (sub : Standing) (whole : Answer) (S : State) (p :
 in_hand_has W sub whole S p h = subst Has h.in_hand h.opens.leads.has
 
 -- no frame is left
-pub done_whole : (W : World) (sub : Standing) (whole : Answer) (C : Contents) (es : List Scope) (t : Trail) (l c : ℕ) (p : Standing)
+pub done_whole : (W : World) (sub : Standing) (whole : Answer) (C : CellContents) (es : List Scope) (t : Trail) (l c : ℕ) (p : Standing)
     → HoldsIn W sub whole (st C es t l c []) (Done p) → IsDone sub whole (st C es t l c []) p
 done_whole W sub whole C es t l c p h =
     let o = h.opens in
@@ -281,6 +281,6 @@ done_whole W sub whole C es t l c p h =
       is = sym o.is.2 ∙ with_edits-done o.before (standing_tree p) C.bindings c;
     }
 
-pub failed_whole : (W : World) (sub : Standing) (whole : Answer) (C : Contents) (es : List Scope) (t : Trail) (l c : ℕ)
+pub failed_whole : (W : World) (sub : Standing) (whole : Answer) (C : CellContents) (es : List Scope) (t : Trail) (l c : ℕ)
     → HoldsIn W sub whole (st C es t l c []) Failed → whole ≡ failed c
 failed_whole W sub whole C es t l c h = sym h.opens.is.2

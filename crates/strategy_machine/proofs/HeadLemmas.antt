@@ -11,7 +11,7 @@ use Rattle.strategy_meaning.specs.Matching.{Bindings, elements}
 use Rattle.strategy_meaning.specs.Answer.{Answer, failed, either, if_done, with_edits, and_then, done}
 use Rattle.strategy_meaning.specs.Meaning.{World, run, form, with_some, cut, is_over, is_list_from, enter}
 use Rattle.strategy_machine.specs.Table.{scope_at, closure_of}
-use Rattle.strategy_machine.specs.declared.scopes.Known.{Known}
+use Rattle.strategy_machine.specs.declared.scopes.Closure.{Closure as TableClosure}
 use Rattle.strategy_machine.specs.inside.Missing.{Misses, HasNames, FailsAhead}
 use Rattle.strategy_machine.specs.Turns.{State, HoldsIn}
 use Rattle.strategy_machine.specs.inside.Taking.{FormIn}
@@ -69,12 +69,12 @@ module _ (ds : List Resolved) (known : List Scope) (n : Option ℕ) (t : Tree) w
       us : List Tree
       us = []
 
-pub fails_param : (ds : List Resolved) (known : List Scope) (n x : ℕ) (t : Tree) (k : Known) (b c d : ℕ) → b ≡ c + 1
+pub fails_param : (ds : List Resolved) (known : List Scope) (n x : ℕ) (t : Tree) (k : TableClosure) (b c d : ℕ) → b ≡ c + 1
     → stands_for (scope_at known n) x ≡ Some (closure_of known k)
-    → FailsAhead ds known (Some k.inside) k.strategy.now c t d → FailsAhead ds known (Some n) (param x) b t d
+    → FailsAhead ds known (Some k.written_in) k.strategy.now c t d → FailsAhead ds known (Some n) (param x) b t d
 fails_param ds known n x t k b c d e is h = ahead ds known (Some n) t (param x) b c d e (λ W i E names l B.
     ap (λ (o : Option Closure). with_some o c (λ z. run W z.written_in l z.strategy c B t)) (names x ∙ is)
-    ∙ h.fails W i (scope_at known k.inside) (λ y. refl) l B)
+    ∙ h.fails W i (scope_at known k.written_in) (λ y. refl) l B)
 
 -- ---- a choice whose first branch fails ahead
 

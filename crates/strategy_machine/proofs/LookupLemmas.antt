@@ -6,11 +6,11 @@ use Rattle.std.specs.List.{slice_get}
 use Rattle.std.proofs.lemmas.List.{append-nil, length-append}
 use Rattle.strategy_syntax.specs.Resolved.{ResolvedStrategy}
 use Rattle.strategy_meaning.specs.Scopes.{Scope, inside, Closures, no_closures, and_closure, Closure, cells_in, closure_at, stands_for, with_closure, with_variables, with_name, numbers_from}
-use Rattle.strategy_machine.specs.Table.{Addition, variables, name, scope_at, scope_from, with_addition, Stands}
-use Rattle.strategy_machine.specs.declared.scopes.Known.{Known}
+use Rattle.strategy_machine.specs.Table.{Addition, variables, name, scope_at, scope_from, with_addition, NameStands}
+use Rattle.strategy_machine.specs.declared.scopes.Closure.{Closure as TableClosure}
 use Rattle.strategy_machine.specs.declared.scopes.Adds.{Adds}
 use Rattle.strategy_machine.specs.declared.scopes.Adds.TheVariants.{Variables, Name}
-use Rattle.strategy_machine.specs.declared.scopes.Entry.{Entry}
+use Rattle.strategy_machine.specs.declared.scopes.ScopeEntry.{ScopeEntry}
 use Rattle.strategy_machine.specs.inside.Entries.{names_in, closure_count, addition_of, AddsFit, AddsRoom, added_cells, added_names}
 use Rattle.strategy_machine.proofs.TableLemmas.{IsAt}
 
@@ -41,7 +41,7 @@ cells-added : (known : List Scope) (a : Addition) (E : Scope) → cells_in (with
 cells-added known (variables first n) (inside cells names) = refl
 cells-added known (name s k) (inside cells names) = sym (append-nil cells)
 
-module _ (all : List Scope) (b : ℕ) (E : Scope) (e : Entry) (h : IsAt all b E e) (x : ℕ) where
+module _ (all : List Scope) (b : ℕ) (E : Scope) (e : ScopeEntry) (h : IsAt all b E e) (x : ℕ) where
   the_cells : cells_in E ≡ cells_in (scope_from all e.outer) ++ added_cells (addition_of e.adds)
   the_cells = ap cells_in h.scope ∙ cells-added all (addition_of e.adds) (scope_from all e.outer)
 
@@ -56,7 +56,7 @@ module _ (all : List Scope) (b : ℕ) (E : Scope) (e : Entry) (h : IsAt all b E 
       ap (λ cs. slice_get cs x) the_cells
       ∙ get-outer (cells_in (scope_from all e.outer)) (added_cells (addition_of e.adds)) x (omega (arith, lt, h.sound.variables))
 
-pub length-cells : (all : List Scope) (b : ℕ) (E : Scope) (e : Entry) → IsAt all b E e
+pub length-cells : (all : List Scope) (b : ℕ) (E : Scope) (e : ScopeEntry) → IsAt all b E e
     → length (cells_in E) ≡ e.variables + length (added_cells (addition_of e.adds))
 length-cells all b E e h =
     ap (λ E'. length (cells_in E')) h.scope ∙ ap length (cells-added all (addition_of e.adds) (scope_from all e.outer))
@@ -106,24 +106,24 @@ stands-closure (inside cells names) x = refl
 -- what the scope's own name is, if it is x
 abbrev own_closure : List Scope → Adds → ℕ → Option Closure
 own_closure all (Variables first n) i = None
-own_closure all (Name k) i = added_one k.strategy.now (scope_at all k.inside) i
+own_closure all (Name k) i = added_one k.strategy.now (scope_at all k.written_in) i
 
 own-is : (all : List Scope) (a : Adds) (E : Scope) (i y : ℕ) → y ≡ closure_count (names_in E) + i
     → closure_at (names_in (with_addition all (addition_of a) E)) y ≡ own_closure all a i
 own-is all (Variables first n) E i y h =
     ap (λ cs. closure_at cs y) (names-variables E first n) ∙ closure-past (names_in E) y (omega (arith, h))
 own-is all (Name k) E i y h =
-    ap (λ cs. closure_at cs y) (names-name E k.strategy.now (scope_at all k.inside))
-    ∙ closure-own (names_in E) k.strategy.now (scope_at all k.inside) i y h
+    ap (λ cs. closure_at cs y) (names-name E k.strategy.now (scope_at all k.written_in))
+    ∙ closure-own (names_in E) k.strategy.now (scope_at all k.written_in) i y h
 
 outer-is : (all : List Scope) (a : Adds) (E : Scope) (x : ℕ) → x < closure_count (names_in E)
     → closure_at (names_in (with_addition all (addition_of a) E)) x ≡ closure_at (names_in E) x
 outer-is all (Variables first n) E x h = ap (λ cs. closure_at cs x) (names-variables E first n)
 outer-is all (Name k) E x h =
-    ap (λ cs. closure_at cs x) (names-name E k.strategy.now (scope_at all k.inside))
-    ∙ closure-outer (names_in E) k.strategy.now (scope_at all k.inside) x h
+    ap (λ cs. closure_at cs x) (names-name E k.strategy.now (scope_at all k.written_in))
+    ∙ closure-outer (names_in E) k.strategy.now (scope_at all k.written_in) x h
 
-module _ (all : List Scope) (b : ℕ) (E : Scope) (e : Entry) (h : IsAt all b E e) (x : ℕ) where
+module _ (all : List Scope) (b : ℕ) (E : Scope) (e : ScopeEntry) (h : IsAt all b E e) (x : ℕ) where
   pub name-outer : x < e.names → stands_for E x ≡ stands_for (scope_from all e.outer) x
   name-outer lt =
       stands-closure E x ∙ ap (λ F. closure_at (names_in F) x) h.scope
@@ -142,28 +142,28 @@ module _ (all : List Scope) (b : ℕ) (E : Scope) (e : Entry) (h : IsAt all b E 
     where
       counted : (a : Adds) (F : Scope) → closure_count (names_in (with_addition all (addition_of a) F)) ≡ closure_count (names_in F) + length (added_names a)
       counted (Variables first n) F = ap closure_count (names-variables F first n) ∙ omega arith
-      counted (Name k) F = ap closure_count (names-name F k.strategy.now (scope_at all k.inside)) ∙ count-with (names_in F) k.strategy.now (scope_at all k.inside)
+      counted (Name k) F = ap closure_count (names-name F k.strategy.now (scope_at all k.written_in)) ∙ count-with (names_in F) k.strategy.now (scope_at all k.written_in)
 
 -- what is found is what the name stands for
-found : (all : List Scope) (a : Adds) (b i n x : ℕ) (o : Option Known) → o ≡ slice_get (added_names a) i → AddsFit b a → b ≤ length all
-    → stands_for (scope_at all n) x ≡ own_closure all a i → MatchOption o (stands_for (scope_at all n) x ≡ None) (λ k. Stands all n x k)
+found : (all : List Scope) (a : Adds) (b i n x : ℕ) (o : Option TableClosure) → o ≡ slice_get (added_names a) i → AddsFit b a → b ≤ length all
+    → stands_for (scope_at all n) x ≡ own_closure all a i → MatchOption o (stands_for (scope_at all n) x ≡ None) (λ k. NameStands all n x k)
 found all (Variables first m) b i n x o e f le h = rw e h
 found all (Name k) b zero n x o e f le h = rw e (omega (arith, f, le), h)
 found all (Name k) b (suc i) n x o e f le h = rw e h
 
-pub name-found : (all : List Scope) (b : ℕ) (e : Entry) (n x at : ℕ) (o : Option Known) → IsAt all b (scope_at all at) e → b ≤ length all
+pub name-found : (all : List Scope) (b : ℕ) (e : ScopeEntry) (n x at : ℕ) (o : Option TableClosure) → IsAt all b (scope_at all at) e → b ≤ length all
     → stands_for (scope_at all n) x ≡ stands_for (scope_at all at) x → e.names ≤ x → o ≡ slice_get (added_names e.adds) (x - e.names)
-    → MatchOption o (stands_for (scope_at all n) x ≡ None) (λ k. Stands all n x k)
+    → MatchOption o (stands_for (scope_at all n) x ≡ None) (λ k. NameStands all n x k)
 name-found all b e n x at o h le same past is =
     found all e.adds b (x - e.names) n x o is h.sound.adds le (same ∙ name-own all b (scope_at all at) e h x past)
 
 -- ---- the empty scope has none
 
-pub no_variable : (all : List Scope) (b : ℕ) (E : Scope) (e : Entry) → IsAt all b E e → (x : ℕ) → e.outer ≡ None → x < e.variables → ⊥
+pub no_variable : (all : List Scope) (b : ℕ) (E : Scope) (e : ScopeEntry) → IsAt all b E e → (x : ℕ) → e.outer ≡ None → x < e.variables → ⊥
 no_variable all b E e h x i lt =
     let n : e.variables ≡ 0 = h.sound.variables ∙ ap (λ o. length (cells_in (scope_from all o))) i in omega (arith, n, lt)
 
-pub no_name : (all : List Scope) (b : ℕ) (E : Scope) (e : Entry) → IsAt all b E e → (x : ℕ) → e.outer ≡ None → x < e.names → ⊥
+pub no_name : (all : List Scope) (b : ℕ) (E : Scope) (e : ScopeEntry) → IsAt all b E e → (x : ℕ) → e.outer ≡ None → x < e.names → ⊥
 no_name all b E e h x i lt =
     let n : e.names ≡ 0 = h.sound.names ∙ ap (λ o. closure_count (names_in (scope_from all o))) i in omega (arith, n, lt)
 
@@ -173,7 +173,7 @@ fits-room b (Name k) h = tt
 
 -- ---- the sizes of a scope
 
-module _ (all : List Scope) (b n : ℕ) (e : Entry) (o : Option ℕ) (h : IsAt all b (scope_at all n) e) (is : o ≡ Some n) where
+module _ (all : List Scope) (b n : ℕ) (e : ScopeEntry) (o : Option ℕ) (h : IsAt all b (scope_at all n) e) (is : o ≡ Some n) where
   cells-from : length (cells_in (scope_from all o)) ≡ e.variables + length (added_cells (addition_of e.adds))
   cells-from = ap (λ p. length (cells_in (scope_from all p))) is ∙ length-cells all b (scope_at all n) e h
 
@@ -184,11 +184,11 @@ module _ (all : List Scope) (b n : ℕ) (e : Entry) (o : Option ℕ) (h : IsAt a
   cells-variables first m a =
       cells-from ∙ ap (λ (x : Adds). e.variables + length (added_cells (addition_of x))) a ∙ ap (λ k. e.variables + k) (length-numbers_from first m)
 
-  pub cells-name : (k : Known) → e.adds ≡ Name k → length (cells_in (scope_from all o)) ≡ e.variables
+  pub cells-name : (k : TableClosure) → e.adds ≡ Name k → length (cells_in (scope_from all o)) ≡ e.variables
   cells-name k a = cells-from ∙ ap (λ (x : Adds). e.variables + length (added_cells (addition_of x))) a ∙ omega arith
 
   pub names-variables-from : (first m : ℕ) → e.adds ≡ Variables first m → closure_count (names_in (scope_from all o)) ≡ e.names
   names-variables-from first m a = names-from ∙ ap (λ (x : Adds). e.names + length (added_names x)) a ∙ omega arith
 
-  pub names-name-from : (k : Known) → e.adds ≡ Name k → closure_count (names_in (scope_from all o)) ≡ e.names + 1
+  pub names-name-from : (k : TableClosure) → e.adds ≡ Name k → closure_count (names_in (scope_from all o)) ≡ e.names + 1
   names-name-from k a = names-from ∙ ap (λ (x : Adds). e.names + length (added_names x)) a

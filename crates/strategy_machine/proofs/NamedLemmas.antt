@@ -7,8 +7,8 @@ use Rattle.strategy_meaning.specs.Scopes.{Scope, Closure, stands_for}
 use Rattle.strategy_meaning.specs.Matching.{Bindings}
 use Rattle.strategy_meaning.specs.Answer.{Answer, Act, done, failed, stopped, spent, and_then}
 use Rattle.strategy_meaning.specs.Meaning.{World, run, form}
-use Rattle.strategy_machine.specs.Table.{scope_at, Stands, closure_of}
-use Rattle.strategy_machine.specs.declared.scopes.Known.{Known}
+use Rattle.strategy_machine.specs.Table.{scope_at, NameStands, closure_of}
+use Rattle.strategy_machine.specs.declared.scopes.Closure.{Closure as TableClosure}
 use Rattle.term_match.specs.Marks.{mark_of}
 use Rattle.strategy_machine.specs.Frames.{Meets}
 use Rattle.strategy_machine.specs.Turns.{State, HoldsIn}
@@ -56,7 +56,7 @@ module _ (W : World) (sub : Standing) (whole : Answer) (S : State) (x : ℕ) (s 
     opens = opens_along _ _ (along (failed c) (unknown_fails W (scope_at S.scopes n) S.level x S.cells.bindings (standing_tree p) S.steps c e k)) h.opens;
   }
 
-  module _ (known : Known) (k : Stands S.scopes n x known) where
+  module _ (known : TableClosure) (k : NameStands S.scopes n x known) where
     pub named_id_spent : S.steps ≡ 1 → known.strategy.now ≡ id → FormIn W sub whole S both n p → whole ≡ stopped spent
     named_id_spent e is h =
         take_stops W sub whole S both n p spent
@@ -72,17 +72,17 @@ module _ (W : World) (sub : Standing) (whole : Answer) (S : State) (x : ℕ) (s 
           shows = h.shows;
           in_hand = (h.there, refl);
           opens = opens_along _ _ (along (done t B c []) (known_runs W (scope_at S.scopes n) S.level x B t (closure_of S.scopes known) S.steps (c + 1) (omega (arith, e)) k.1
-              ∙ id_runs W (scope_at S.scopes known.inside) S.level (c + 1) c known.strategy.now B t is refl)
+              ∙ id_runs W (scope_at S.scopes known.written_in) S.level (c + 1) c known.strategy.now B t is refl)
               ∙ with_edits-none (then c B t)) h.opens;
         }
 
     -- the strategy that the name stands for starts
     pub named_begins : (c : ℕ) → S.steps ≡ c + 1 → FormIn W sub whole S both n p
-        → HoldsIn W sub whole (framed (paid S c) (Then s n ∷ S.frames)) (Begin known.strategy known.inside p)
+        → HoldsIn W sub whole (framed (paid S c) (Then s n ∷ S.frames)) (Begin known.strategy known.written_in p)
     named_begins c e h =
         let B = S.cells.bindings in
         let t = standing_tree p in
-        let first = run W (scope_at S.scopes known.inside) S.level known.strategy.now c B t in
+        let first = run W (scope_at S.scopes known.written_in) S.level known.strategy.now c B t in
         record {
           now = p;
           edits = h.edits;

@@ -7,7 +7,7 @@ use Rattle.term_core.specs.Tree.{Tree, children, with_children, with_child}
 use Rattle.term_paths.specs.Edits.{Edits, behind, Replaces}
 use Rattle.term_paths.proofs.EditLemmas.{replaces-child}
 use Rattle.term_changes.specs.Change.{Change, same, inside, replaced, Changes, no_more, and_then}
-use Rattle.term_changes.specs.Edits.{nth_change}
+use Rattle.term_changes.specs.EditChanges.{nth_change}
 use Rattle.term_changes.specs.Standing.{Standing, unchanged, altered, fresh, SuitAll, stand, stand_all, standing_tree, standing_change, standing_changes, standing_children, CanHold, with_standing}
 use Rattle.term_changes.specs.Follows.{Follows, AllFollow}
 use Rattle.term_changes.specs.Putting.{HasPlaces, HaveAllPlaces}

@@ -9,7 +9,7 @@ use Rattle.strategy_meaning.specs.Matching.{Bindings}
 use Rattle.strategy_meaning.specs.Answer.{Stop, Answer, done, failed, stopped, Act, either, with_edits, and_then}
 use Rattle.strategy_meaning.specs.Meaning.{World, run, leftmost, those_done, cut}
 use Rattle.strategy_machine.specs.Table.{scope_at}
-use Rattle.term_match.specs.Contents.{Contents}
+use Rattle.term_match.specs.CellContents.{CellContents}
 use Rattle.term_match.specs.Marks.{Before, Stays}
 use Rattle.term_match.specs.declared.cells.Mark.{Mark}
 use Rattle.strategy_machine.specs.Leading.{Leads, Has}
@@ -127,11 +127,11 @@ before_self m = (omega arith, omega arith)
 pub before_on : (a b c : Mark) → Before a b → Before b c → Before a c
 before_on a b c h k = (omega (arith, h.0, k.0), omega (arith, h.1, k.1))
 
-pub stays_self : (m : Mark) (C : Contents) → Stays m C C
+pub stays_self : (m : Mark) (C : CellContents) → Stays m C C
 stays_self m C k b = refl
 
 -- The frames look at no more than what the cells hold for the marks that may be asked for.
-pub meets_kept : (W : World) (sub : Standing) (whole : Answer) (C D : Contents) (top up : Mark) (es : List Scope) (l : ℕ) (fs : List Frame) (start : Standing) (base : Edits) (a : Answer)
+pub meets_kept : (W : World) (sub : Standing) (whole : Answer) (C D : CellContents) (top up : Mark) (es : List Scope) (l : ℕ) (fs : List Frame) (start : Standing) (base : Edits) (a : Answer)
     → Before top up → Stays top C D → Meets W sub whole C top es l fs start base a → Meets W sub whole D up es l fs start base a
 meets_kept W sub whole C D top up es l [] start base a b st h = h
 meets_kept W sub whole C D top up es l (Then s n ∷ fs) start base a b st h =
@@ -183,14 +183,14 @@ meets_kept W sub whole C D top up es l (Cut n k ∷ fs) start base a b st h = (
       (omega arith, b.1) (λ j lt. st j (omega (arith, lt.0, h.1), lt.1)) h.2,
 )
 
-pub opens_kept : (W : World) (sub : Standing) (whole : Answer) (C D : Contents) (top up : Mark) (es : List Scope) (l : ℕ) (fs : List Frame) (path : List ℕ) (p : Standing) (T : Edits) (a : Answer)
+pub opens_kept : (W : World) (sub : Standing) (whole : Answer) (C D : CellContents) (top up : Mark) (es : List Scope) (l : ℕ) (fs : List Frame) (path : List ℕ) (p : Standing) (T : Edits) (a : Answer)
     → Before top up → Stays top C D → Opens (Meets W sub whole C top es l fs) path p T a → Opens (Meets W sub whole D up es l fs) path p T a
 opens_kept W sub whole C D top up es l fs path p T a b st h =
     opens_map (λ s e x g. meets_kept W sub whole C D top up es l fs s e x b st g) h
 
 -- ---- a part that stops makes the whole stop
 
-pub meets_stopped : (W : World) (sub : Standing) (whole : Answer) (C : Contents) (top : Mark) (es : List Scope) (l : ℕ) (fs : List Frame) (start : Standing) (base : Edits) (w : Stop)
+pub meets_stopped : (W : World) (sub : Standing) (whole : Answer) (C : CellContents) (top : Mark) (es : List Scope) (l : ℕ) (fs : List Frame) (start : Standing) (base : Edits) (w : Stop)
     → Meets W sub whole C top es l fs start base (stopped w) → whole ≡ stopped w
 meets_stopped W sub whole C top es l [] start base w h = sym h.2
 meets_stopped W sub whole C top es l (Then s n ∷ fs) start base w h = meets_stopped W sub whole C top es l fs start base w h.1

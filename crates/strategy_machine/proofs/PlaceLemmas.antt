@@ -4,7 +4,7 @@ use Rattle.term_core.specs.Tree.{Tree}
 use Rattle.term_paths.specs.Paths.{LiesWithin}
 use Rattle.term_paths.specs.Edits.{Edits, behind}
 use Rattle.term_changes.specs.Change.{Change, same, inside, replaced, Changes, no_more, and_then, below, places, places_from}
-use Rattle.term_changes.specs.Edits.{nth_change}
+use Rattle.term_changes.specs.EditChanges.{nth_change}
 use Rattle.term_changes.specs.Standing.{Standing, unchanged, standing_change}
 use Rattle.strategy_meaning.specs.Outermost.{IsOf, IsBefore, IsBeforeAll, AreInOrder, AreOutermost}
 use Rattle.strategy_machine.specs.Leading.{IsPlace, IsWithin, Leads}

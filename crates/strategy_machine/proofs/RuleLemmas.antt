@@ -10,7 +10,7 @@ use Rattle.strategy_meaning.specs.Matching.{Bindings, match_place, build_place}
 use Rattle.strategy_meaning.specs.Answer.{Answer, done, failed, stopped, spent, big, and_then, at_root}
 use Rattle.strategy_meaning.specs.Meaning.{World, run, form, built, cut}
 use Rattle.strategy_machine.specs.Table.{scope_at}
-use Rattle.term_match.specs.Contents.{Contents}
+use Rattle.term_match.specs.CellContents.{CellContents}
 use Rattle.term_match.specs.Marks.{mark_of, Before, Stays}
 use Rattle.strategy_machine.specs.Trails.{Shows, path_of}
 use Rattle.strategy_machine.specs.Turns.{State, HoldsIn}
@@ -70,7 +70,7 @@ module _ (W : World) (sub : Standing) (whole : Answer) (S : State) (k : ℕ) (q 
   pub rule_few : S.steps ≤ 1 → FormIn W sub whole S rule n p → whole ≡ stopped spent
   rule_few e h = take_stops W sub whole S rule n p spent (ap cuts (few W (widened S n k) S.level q r (more_cells S k) (standing_tree p) S.steps e)) h
 
-  fails : (D : Contents) (c : ℕ) → Before (mark_of S.cells) (mark_of D) → Stays (mark_of S.cells) S.cells D
+  fails : (D : CellContents) (c : ℕ) → Before (mark_of S.cells) (mark_of D) → Stays (mark_of S.cells) S.cells D
       → form W (run W) (scope_at S.scopes n) S.level rule S.steps S.cells.bindings (standing_tree p) ≡ failed c
       → FormIn W sub whole S rule n p → HoldsIn W sub whole (celled (paid S c) D) Failed
   fails D c b st e h = record {
@@ -81,7 +81,7 @@ module _ (W : World) (sub : Standing) (whole : Answer) (S : State) (k : ℕ) (q 
     opens = opens_along _ _ e (opens_kept W sub whole S.cells D (mark_of S.cells) (mark_of D) S.scopes S.level S.frames (path_of S.frames) p h.edits _ b st h.opens);
   }
 
-  pub rule_unmatched : (D : Contents) (c : ℕ) → Before (mark_of S.cells) (mark_of D) → Stays (mark_of S.cells) S.cells D → S.steps ≡ c + 2
+  pub rule_unmatched : (D : CellContents) (c : ℕ) → Before (mark_of S.cells) (mark_of D) → Stays (mark_of S.cells) S.cells D → S.steps ≡ c + 2
       → match_place q (standing_tree p) (cells_in (widened S n k)) (more_cells S k) ≡ None
       → FormIn W sub whole S rule n p → HoldsIn W sub whole (celled (paid S c) D) Failed
   rule_unmatched D c b st e m h = fails D c b st (ap cuts (unmatched W (widened S n k) S.level q r (more_cells S k) (standing_tree p) S.steps c e m)) h
@@ -95,7 +95,7 @@ module _ (W : World) (sub : Standing) (whole : Answer) (S : State) (k : ℕ) (q 
         ≡ cuts (built (build_place r (cells_in (widened S n k)) C) S.level c (λ u. done u C c (at_root u)))
     comes c e = ap cuts (builds_one W (widened S n k) S.level q r (more_cells S k) (standing_tree p) S.steps c C e m)
 
-    pub rule_unbuilt : (D : Contents) (c : ℕ) → Before (mark_of S.cells) (mark_of D) → Stays (mark_of S.cells) S.cells D → S.steps ≡ c + 3
+    pub rule_unbuilt : (D : CellContents) (c : ℕ) → Before (mark_of S.cells) (mark_of D) → Stays (mark_of S.cells) S.cells D → S.steps ≡ c + 3
         → build_place r (cells_in (widened S n k)) C ≡ None
         → FormIn W sub whole S rule n p → HoldsIn W sub whole (celled (paid S c) D) Failed
     rule_unbuilt D c b st e o h = fails D c b st (comes c e ∙ ap cuts (unbuilt_is S.level c _ (λ u. done u C c (at_root u)) o)) h
@@ -104,7 +104,7 @@ module _ (W : World) (sub : Standing) (whole : Answer) (S : State) (k : ℕ) (q 
         → FormIn W sub whole S rule n p → whole ≡ stopped big
     rule_big c u e o f h = take_stops W sub whole S rule n p big (comes c e ∙ ap cuts (big_is S.level c u _ (λ v. done v C c (at_root v)) o f)) h
 
-    pub rule_built : (D : Contents) (c : ℕ) (u : Tree) (v : Standing) (trail : Trail) → Before (mark_of S.cells) (mark_of D) → Stays (mark_of S.cells) S.cells D
+    pub rule_built : (D : CellContents) (c : ℕ) (u : Tree) (v : Standing) (trail : Trail) → Before (mark_of S.cells) (mark_of D) → Stays (mark_of S.cells) S.cells D
         → D.bindings ≡ take (length S.cells.bindings) C → S.steps ≡ c + 3
         → build_place r (cells_in (widened S n k)) C ≡ Some u → fits S.level u ≡ true → v ≡ fresh u
         → ((T : Edits) → Shows S.trail T → Shows trail (T ++ record { path = path_of S.frames; new = u } ∷ []))
@@ -117,7 +117,7 @@ module _ (W : World) (sub : Standing) (whole : Answer) (S : State) (k : ℕ) (q 
 
 -- ---- cells and scopes that end
 
-pub cells_end : (old wide mid new : Contents) (n : ℕ) → n ≡ length old.bindings
+pub cells_end : (old wide mid new : CellContents) (n : ℕ) → n ≡ length old.bindings
     → Before (mark_of old) (mark_of wide) → Stays (mark_of old) old wide → Before (mark_of wide) (mark_of mid) → Stays (mark_of wide) wide mid
     → Before (record { count = n; filled = length mid.filled }) (mark_of new) → Stays (record { count = n; filled = length mid.filled }) mid new
     → Before (mark_of old) (mark_of new) × Stays (mark_of old) old new

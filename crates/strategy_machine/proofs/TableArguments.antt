@@ -8,7 +8,7 @@ use Rattle.std.proofs.Math.Seq.{take-suc}
 use Rattle.strategy_syntax.specs.Resolved.{ResolvedStrategy, param, resolveds_of}
 use Rattle.strategy_meaning.specs.Scopes.{Scope, Closure, Closures, inside, no_closures, and_closure, closure_at, cells_in, stands_for, with_closure, with_name, argument, arguments}
 use Rattle.strategy_machine.specs.Table.{nowhere, scope_at, scope_from, IsThere, Starts, closure_of}
-use Rattle.strategy_machine.specs.declared.scopes.Known.{Known}
+use Rattle.strategy_machine.specs.declared.scopes.Closure.{Closure as TableClosure}
 use Rattle.strategy_machine.specs.inside.Entries.{AreNames, names_in, closure_count}
 
 shorter : {A : Type 0} (n : ℕ) (xs : List A) → length (take n xs) ≤ length xs
@@ -51,10 +51,10 @@ own_scope now E n i =
     let m : n ≡ length now + 0 = omega (arith, i) in
     ap (λ k. get_or (now ++ E ∷ []) k nowhere) m ∙ get_or-append-add now (E ∷ []) 0 nowhere
 
-pub added_one : (old now new : List Scope) (scope : ℕ) (ss : List ResolvedStrategy) (i n : ℕ) (names : Option ℕ) (s : ResolvedStrategy) (k : Known)
+pub added_one : (old now new : List Scope) (scope : ℕ) (ss : List ResolvedStrategy) (i n : ℕ) (names : Option ℕ) (s : ResolvedStrategy) (k : TableClosure)
     → Added old now scope ss i names → scope < length old → i < length ss → s ≡ get_or ss i s
     → argument (scope_at now scope) s ≡ closure_of now k → n ≡ length now
-    → new ≡ now ++ with_name (scope_from now names) k.strategy.now (scope_at now k.inside) ∷ []
+    → new ≡ now ++ with_name (scope_from now names) k.strategy.now (scope_at now k.written_in) ∷ []
     → Added old new scope ss (i + 1) (Some n)
 added_one old now new scope ss i n names s k a lt il is arg ni ne =
     let E : Scope = scope_at old scope in
@@ -65,7 +65,7 @@ added_one old now new scope ss i n names s k a lt il is arg ni ne =
       stay = rw ne (starts-more old now _ a.stay);
       there = omega (arith, ni, l);
       given = ap (λ x. scope_at x n) ne ∙ own_scope now _ n ni
-          ∙ ap (λ F. with_name F k.strategy.now (scope_at now k.inside)) a.given
+          ∙ ap (λ F. with_name F k.strategy.now (scope_at now k.written_in)) a.given
           ∙ ap (λ (c : Closure). inside [] (with_closure (arguments E (resolveds_of (take i ss))) c.strategy c.written_in)) (sym arg ∙ ap (λ F. argument F s) same)
           ∙ ap (inside []) (sym (arguments-more E (take i ss) s))
           ∙ ap (λ l. inside [] (arguments E (resolveds_of l))) (ap (λ x. take i ss ++ x ∷ []) is ∙ sym (take-suc ss i s il) ∙ ap (λ j. take j ss) (sym m));

@@ -6,7 +6,7 @@ use Rattle.strategy_meaning.specs.Scopes.{Scope, cells_in, with_name}
 use Rattle.strategy_machine.specs.Table.{Widening, nowhere, scope_at, scope_from, with_addition, widened, scopes_behind, scopes, IsThere}
 use Rattle.strategy_machine.specs.declared.scopes.Adds.{Adds}
 use Rattle.strategy_machine.specs.declared.scopes.Adds.TheVariants.{Variables, Name}
-use Rattle.strategy_machine.specs.declared.scopes.Entry.{Entry}
+use Rattle.strategy_machine.specs.declared.scopes.ScopeEntry.{ScopeEntry}
 use Rattle.strategy_machine.specs.inside.Entries.{names_in, closure_count, addition_of, widening_of, AddsFit, RestsOnOlder, RestOnOlder}
 
 pub length-scopes : (known : List Scope) (ws : List Widening) → length (scopes_behind known ws) ≡ length ws
@@ -46,12 +46,12 @@ addition-more : (known more : List Scope) (a : Adds) (E : Scope) → AddsFit (le
 addition-more known more (Variables first n) E h = refl
 addition-more known more (Name k) E h = ap (with_name E k.strategy.now) (get_or_append_left known more nowhere k.inside h)
 
-widened-more : (known more : List Scope) (e : Entry) → RestsOnOlder known (length known) e → widened (known ++ more) (widening_of e) ≡ widened known (widening_of e)
+widened-more : (known more : List Scope) (e : ScopeEntry) → RestsOnOlder known (length known) e → widened (known ++ more) (widening_of e) ≡ widened known (widening_of e)
 widened-more known more e s =
     ap (with_addition (known ++ more) (addition_of e.adds)) (scope_from-append known more e.outer s.outer)
     ∙ addition-more known more e.adds (scope_from known e.outer) s.adds
 
-sound-more : (known more : List Scope) (e : Entry) → RestsOnOlder known (length known) e → RestsOnOlder (known ++ more) (length known) e
+sound-more : (known more : List Scope) (e : ScopeEntry) → RestsOnOlder known (length known) e → RestsOnOlder (known ++ more) (length known) e
 sound-more known more e s =
     let same : scope_from (known ++ more) e.outer ≡ scope_from known e.outer = scope_from-append known more e.outer s.outer in
     record {
@@ -64,20 +64,20 @@ sound-more known more e s =
 -- ---- an entry of the table
 
 -- entry e is the n-th, and its invariant holds
-pub record IsAt (all : List Scope) (b : ℕ) (E : Scope) (e : Entry) : Type 0 where
+pub record IsAt (all : List Scope) (b : ℕ) (E : Scope) (e : ScopeEntry) : Type 0 where
   pub sound : RestsOnOlder all b e
   pub scope : E ≡ widened all (widening_of e)
 
-at_first : (known more : List Scope) (b : ℕ) (e : Entry) → b ≡ length known → RestsOnOlder known (length known) e
+at_first : (known more : List Scope) (b : ℕ) (e : ScopeEntry) → b ≡ length known → RestsOnOlder known (length known) e
     → IsAt (known ++ more) b (widened known (widening_of e)) e
 at_first known more b e i s = record { sound = rw i (sound-more known more e s); scope = sym (widened-more known more e s) }
 
-pub at : (known : List Scope) (es : List Entry) (n b : ℕ) (e : Entry) → RestOnOlder known es → n < length es → e ≡ get_or es n e → b ≡ length known + n
+pub at : (known : List Scope) (es : List ScopeEntry) (n b : ℕ) (e : ScopeEntry) → RestOnOlder known es → n < length es → e ≡ get_or es n e → b ≡ length known + n
     → IsAt (known ++ scopes_behind known (map widening_of es)) b (scope_at (scopes_behind known (map widening_of es)) n) e
 at known [] n b e o h is i = absurd (omega (arith, h))
 at known (f ∷ es) zero b e o h is i =
     let more : List Scope = scopes_behind known (map widening_of (f ∷ es)) in
-    subst (λ (x : Entry). IsAt (known ++ more) b (widened known (widening_of f)) x) (sym is) (at_first known more b f (omega (arith, i)) o.0)
+    subst (λ (x : ScopeEntry). IsAt (known ++ more) b (widened known (widening_of f)) x) (sym is) (at_first known more b f (omega (arith, i)) o.0)
 at known (f ∷ es) (suc n) b e o h is i =
     let more : List Scope = known ++ widened known (widening_of f) ∷ [] in
     let l : length more ≡ length known + 1 = length-append known (widened known (widening_of f) ∷ []) in
@@ -85,12 +85,12 @@ at known (f ∷ es) (suc n) b e o h is i =
     (append_assoc known (widened known (widening_of f) ∷ []) (scopes_behind more (map widening_of es)))
     (at more es n b e o.1 (omega (arith, h)) is (omega (arith, i, l)))
 
-pub sound-take : (known : List Scope) (n : ℕ) (es : List Entry) → RestOnOlder known es → RestOnOlder known (take n es)
+pub sound-take : (known : List Scope) (n : ℕ) (es : List ScopeEntry) → RestOnOlder known es → RestOnOlder known (take n es)
 sound-take known zero es o = tt
 sound-take known (suc n) [] o = tt
 sound-take known (suc n) (e ∷ es) o = (o.0, sound-take (known ++ widened known (widening_of e) ∷ []) n es o.1)
 
-pub sound-append : (known all : List Scope) (es : List Entry) (e : Entry) → RestOnOlder known es
+pub sound-append : (known all : List Scope) (es : List ScopeEntry) (e : ScopeEntry) → RestOnOlder known es
     → all ≡ known ++ scopes_behind known (map widening_of es) → RestsOnOlder all (length all) e → RestOnOlder known (es ++ e ∷ [])
 sound-append known all [] e o i s =
     let same : all ≡ known = i ∙ append-nil known in (subst (λ (l : List Scope). RestsOnOlder l (length l) e) same s, tt)
@@ -107,28 +107,28 @@ length-map : {A B : Type 0} (f : A → B) (xs : List A) → length (map f xs) �
 length-map f [] = refl
 length-map f (x ∷ xs) = ap suc (length-map f xs)
 
-pub length-table : (es : List Entry) (ws : List Widening) → map widening_of es ≡ ws → length (scopes ws) ≡ length es
+pub length-table : (es : List ScopeEntry) (ws : List Widening) → map widening_of es ≡ ws → length (scopes ws) ≡ length es
 length-table es ws v = ap (λ l. length (scopes l)) (sym v) ∙ length-scopes [] (map widening_of es) ∙ length-map widening_of es
 
-pub at_vector : (es : List Entry) (ws : List Widening) (n : ℕ) (e : Entry) → map widening_of es ≡ ws → RestOnOlder [] es
+pub at_vector : (es : List ScopeEntry) (ws : List Widening) (n : ℕ) (e : ScopeEntry) → map widening_of es ≡ ws → RestOnOlder [] es
     → n < length es → e ≡ get_or es n e → IsAt (scopes ws) n (scope_at (scopes ws) n) e
 at_vector es ws n e v o h is =
     subst (λ (l : List Widening). IsAt (scopes l) n (scope_at (scopes l) n) e) v (at [] es n n e o h is (omega arith))
 
-pub past_vector : (es : List Entry) (ws : List Widening) (n : ℕ) → map widening_of es ≡ ws → length es ≤ n → scope_at (scopes ws) n ≡ nowhere
+pub past_vector : (es : List ScopeEntry) (ws : List Widening) (n : ℕ) → map widening_of es ≡ ws → length es ≤ n → scope_at (scopes ws) n ≡ nowhere
 past_vector es ws n v h = get_or_past (scopes ws) n nowhere (omega (arith, h, length-table es ws v))
 
-pub sound_vector : (es : List Entry) (ws : List Widening) (e : Entry) → map widening_of es ≡ ws → RestOnOlder [] es
+pub sound_vector : (es : List ScopeEntry) (ws : List Widening) (e : ScopeEntry) → map widening_of es ≡ ws → RestOnOlder [] es
     → RestsOnOlder (scopes ws) (length (scopes ws)) e → RestOnOlder [] (es ++ e ∷ [])
 sound_vector es ws e v o s = sound-append [] (scopes ws) es e o (ap scopes (sym v)) s
 
-pub added : (es new : List Entry) (ws : List Widening) (e : Entry) → map widening_of es ≡ ws → new ≡ es ++ e ∷ []
+pub added : (es new : List ScopeEntry) (ws : List Widening) (e : ScopeEntry) → map widening_of es ≡ ws → new ≡ es ++ e ∷ []
     → scopes (map widening_of new) ≡ scopes ws ++ widened (scopes ws) (widening_of e) ∷ []
 added es new ws e v i =
     ap (λ l. scopes (map widening_of l)) i ∙ ap scopes (map-more widening_of es e ∙ ap (λ l. l ++ widening_of e ∷ []) v)
     ∙ scopes-append [] ws (widening_of e)
 
-pub cut : (es new : List Entry) (ws : List Widening) (n : ℕ) → map widening_of es ≡ ws → new ≡ take n es
+pub cut : (es new : List ScopeEntry) (ws : List Widening) (n : ℕ) → map widening_of es ≡ ws → new ≡ take n es
     → scopes (map widening_of new) ≡ take n (scopes ws)
 cut es new ws n v i =
     ap (λ l. scopes (map widening_of l)) i ∙ ap scopes (map-take widening_of n es) ∙ scopes-take [] n (map widening_of es)
@@ -139,7 +139,7 @@ cut es new ws n v i =
 below : (b : ℕ) (o : Option ℕ) (n : ℕ) → IsThere b o → o ≡ Some n → n < b
 below b o n h e = subst (IsThere b) e h
 
-pub outer_below : (all : List Scope) (b : ℕ) (E : Scope) (e : Entry) (n : ℕ) → IsAt all b E e → e.outer ≡ Some n → n < b
+pub outer_below : (all : List Scope) (b : ℕ) (E : Scope) (e : ScopeEntry) (n : ℕ) → IsAt all b E e → e.outer ≡ Some n → n < b
 outer_below all b E e n h i = below b e.outer n h.sound.outer i
 
 pub there_below : {k l : ℕ} (o : Option ℕ) (n : ℕ) → IsThere l o → o ≡ Some n → {m : ℕ} → k ≡ m → l ≡ m → n < k

@@ -13,9 +13,9 @@ use Rattle.strategy_meaning.specs.Matching.{Bindings, match_place, elements}
 use Rattle.strategy_meaning.specs.Answer.{Stop, Answer, Act, done, failed, stopped, spent, big, either, with_edits, and_then, at_root}
 use Rattle.strategy_meaning.specs.Meaning.{World, run, form, with_some, built, each, leftmost, those_done, on_rest, is_over, is_list_from, on_child, cut, opened}
 use Rattle.strategy_meaning.proofs.StepLemmas.{one_step_is_one_form}
-use Rattle.strategy_machine.specs.Table.{scopes, scope_at, Stands, closure_of}
-use Rattle.strategy_machine.specs.declared.scopes.Known.{Known}
-use Rattle.term_match.specs.Contents.{Contents}
+use Rattle.strategy_machine.specs.Table.{scopes, scope_at, NameStands, closure_of}
+use Rattle.strategy_machine.specs.declared.scopes.Closure.{Closure as TableClosure}
+use Rattle.term_match.specs.CellContents.{CellContents}
 use Rattle.term_match.specs.Marks.{kept, mark_of, Before, Stays}
 use Rattle.strategy_machine.specs.Leading.{Has, node_now, all_parts, PartsStand}
 use Rattle.strategy_machine.specs.Trails.{Shows, path_of}
@@ -93,7 +93,7 @@ take_stops W sub whole S r n p w e h =
     let o = opens_along _ _ e h.opens in
     meets_stopped W sub whole S.cells (mark_of S.cells) S.scopes S.level S.frames o.start o.base w o.is
 
-abbrev pub celled : State → Contents → State
+abbrev pub celled : State → CellContents → State
 celled S D = record { cells = D; scopes = S.scopes; trail = S.trail; level = S.level; frames = S.frames; steps = S.steps }
 
 pub some_is : {A : Type 0} (o : Option A) (x : A) (c : ℕ) (go : A → Answer) → o ≡ Some x → with_some o c go ≡ go x
@@ -102,11 +102,11 @@ some_is {A = A} o x c go e = ap (λ (y : Option A). with_some y c go) e
 pub none_is : {A : Type 0} (o : Option A) (c : ℕ) (go : A → Answer) → o ≡ None → with_some o c go ≡ failed c
 none_is {A = A} o c go e = ap (λ (y : Option A). with_some y c go) e
 
-pub with_cells : (W : World) (sub : Standing) (whole : Answer) (S : State) {hand : Hand} (D : Contents) → D ≡ S.cells → HoldsIn W sub whole S hand → HoldsIn W sub whole (celled S D) hand
-with_cells W sub whole S {hand = hand} D e h = subst (λ (x : Contents). HoldsIn W sub whole (celled S x) hand) (sym e) h
+pub with_cells : (W : World) (sub : Standing) (whole : Answer) (S : State) {hand : Hand} (D : CellContents) → D ≡ S.cells → HoldsIn W sub whole S hand → HoldsIn W sub whole (celled S D) hand
+with_cells W sub whole S {hand = hand} D e h = subst (λ (x : CellContents). HoldsIn W sub whole (celled S x) hand) (sym e) h
 
 -- the pattern matches, or it doesn't
-pub take_matched : (W : World) (sub : Standing) (whole : Answer) (S : State) (q : Place) (n : ℕ) (p : Standing) (D : Contents)
+pub take_matched : (W : World) (sub : Standing) (whole : Answer) (S : State) (q : Place) (n : ℕ) (p : Standing) (D : CellContents)
     → Before (mark_of S.cells) (mark_of D) → Stays (mark_of S.cells) S.cells D
     → match_place q (standing_tree p) (cells_in (scope_at S.scopes n)) S.cells.bindings ≡ Some D.bindings
     → FormIn W sub whole S (matches q) n p → HoldsIn W sub whole (celled S D) (Done p)
@@ -119,7 +119,7 @@ take_matched W sub whole S q n p D b st e h = record {
       (opens_kept W sub whole S.cells D (mark_of S.cells) (mark_of D) S.scopes S.level S.frames (path_of S.frames) p h.edits _ b st h.opens);
 }
 
-pub take_unmatched : (W : World) (sub : Standing) (whole : Answer) (S : State) (q : Place) (n : ℕ) (p : Standing) (D : Contents)
+pub take_unmatched : (W : World) (sub : Standing) (whole : Answer) (S : State) (q : Place) (n : ℕ) (p : Standing) (D : CellContents)
     → Before (mark_of S.cells) (mark_of D) → Stays (mark_of S.cells) S.cells D
     → match_place q (standing_tree p) (cells_in (scope_at S.scopes n)) S.cells.bindings ≡ None
     → FormIn W sub whole S (matches q) n p → HoldsIn W sub whole (celled S D) Failed
@@ -196,7 +196,7 @@ pub take_match_spent : (W : World) (sub : Standing) (whole : Answer) (S : State)
 take_match_spent W sub whole S q s n p e h =
     take_stops W sub whole S (seq (matches q) s) n p spent (match_spent W (scope_at S.scopes n) S.level q s S.steps S.cells.bindings (standing_tree p) e) h
 
-pub take_matched_first : (W : World) (sub : Standing) (whole : Answer) (S : State) (q : Place) (s : Bor ResolvedStrategy) (n : ℕ) (p : Standing) (D : Contents) (c : ℕ)
+pub take_matched_first : (W : World) (sub : Standing) (whole : Answer) (S : State) (q : Place) (s : Bor ResolvedStrategy) (n : ℕ) (p : Standing) (D : CellContents) (c : ℕ)
     → S.steps ≡ c + 1 → Before (mark_of S.cells) (mark_of D) → Stays (mark_of S.cells) S.cells D
     → match_place q (standing_tree p) (cells_in (scope_at S.scopes n)) S.cells.bindings ≡ Some D.bindings
     → FormIn W sub whole S (seq (matches q) s.now) n p → HoldsIn W sub whole (celled (paid S c) D) (Begin s n p)
@@ -213,7 +213,7 @@ take_matched_first W sub whole S q s n p D c e b st m h =
           (opens_kept W sub whole S.cells D (mark_of S.cells) (mark_of D) S.scopes S.level S.frames (path_of S.frames) p h.edits _ b st h.opens);
     }
 
-pub take_unmatched_first : (W : World) (sub : Standing) (whole : Answer) (S : State) (q : Place) (s : ResolvedStrategy) (n : ℕ) (p : Standing) (D : Contents) (c : ℕ)
+pub take_unmatched_first : (W : World) (sub : Standing) (whole : Answer) (S : State) (q : Place) (s : ResolvedStrategy) (n : ℕ) (p : Standing) (D : CellContents) (c : ℕ)
     → S.steps ≡ c + 1 → Before (mark_of S.cells) (mark_of D) → Stays (mark_of S.cells) S.cells D
     → match_place q (standing_tree p) (cells_in (scope_at S.scopes n)) S.cells.bindings ≡ None
     → FormIn W sub whole S (seq (matches q) s) n p → HoldsIn W sub whole (celled (paid S c) D) Failed
@@ -262,7 +262,7 @@ take_test W sub whole S s1 n p h = record {
 -- ---- scopes
 
 -- Room for more cells and a scope, which end after the strategy.
-pub take_opened : (W : World) (sub : Standing) (whole : Answer) (S : State) (r : ResolvedStrategy) (s : Bor ResolvedStrategy) (n inner : ℕ) (p : Standing) (E : Scope) (new : Bindings) (D : Contents) (es : List Scope) (fs : List Frame)
+pub take_opened : (W : World) (sub : Standing) (whole : Answer) (S : State) (r : ResolvedStrategy) (s : Bor ResolvedStrategy) (n inner : ℕ) (p : Standing) (E : Scope) (new : Bindings) (D : CellContents) (es : List Scope) (fs : List Frame)
     → answers W S r n p ≡ opened (run W) E new S.level s.now S.steps S.cells.bindings (standing_tree p)
     → inner < length es → scope_at es inner ≡ E → D.bindings ≡ S.cells.bindings ++ new
     → ((a : Answer) → HasCells (length D.bindings) a → AnswersIn W sub whole S p (cut (length S.cells.bindings) a) → AnswersIn W sub whole (with_those S D es fs) p a)
@@ -284,8 +284,8 @@ take_named W sub whole S s body n inner p mid es fs is at same e room h =
     ((λ i. with_name (sym same i) (sym is i) (sym same i)) ∙ sym (one_more_is mid es E at e))) (form_answers W sub whole S (rec body.now) n p h)))
 
 -- what a name stands for
-pub take_known : (W : World) (sub : Standing) (whole : Answer) (S : State) (x n : ℕ) (p : Standing) (known : Known)
-    → Stands S.scopes n x known → FormIn W sub whole S (param x) n p → HoldsIn W sub whole S (Begin known.strategy known.inside p)
+pub take_known : (W : World) (sub : Standing) (whole : Answer) (S : State) (x n : ℕ) (p : Standing) (known : TableClosure)
+    → NameStands S.scopes n x known → FormIn W sub whole S (param x) n p → HoldsIn W sub whole S (Begin known.strategy known.written_in p)
 take_known W sub whole S x n p known k h = record {
   now = p;
   edits = h.edits;

@@ -10,7 +10,7 @@ use Rattle.strategy_meaning.specs.Matching.{elements}
 use Rattle.strategy_meaning.specs.Answer.{Answer, done, either, if_done, with_edits, and_then, at_root}
 use Rattle.strategy_meaning.specs.Meaning.{World, run, with_some, each, leftmost, those_done, rest_of, with_rest, on_rest, cut}
 use Rattle.strategy_machine.specs.Table.{scope_at}
-use Rattle.term_match.specs.Contents.{Contents}
+use Rattle.term_match.specs.CellContents.{CellContents}
 use Rattle.term_match.specs.Marks.{kept, Before}
 use Rattle.term_match.specs.declared.cells.Mark.{Mark}
 use Rattle.strategy_machine.specs.Leading.{Leads, Has, parts_now, all_parts, node_with, PartsStand}
@@ -72,18 +72,18 @@ after_each W E acts w a =
     and_then (put_back w.index (standing_tree (walked w)) a)
     (each (run W E (w.level + 1)) (acts_list acts (left_behind w)) (w.index + 1))
 
-abbrev pub after_leftmost : World → Scope → ResolvedStrategy → Walk → Contents → Mark → Answer → Answer
+abbrev pub after_leftmost : World → Scope → ResolvedStrategy → Walk → CellContents → Mark → Answer → Answer
 after_leftmost W E s w C m a =
     either (put_back w.index (standing_tree (walked w)) a) done
     (λ b. leftmost (run W E (w.level + 1) s) (left_behind w) (w.index + 1) b (kept C m) (standing_tree (walked w)))
 
-abbrev pub after_those : World → Scope → ResolvedStrategy → Walk → Contents → Mark → Bool → Answer → Answer
+abbrev pub after_those : World → Scope → ResolvedStrategy → Walk → CellContents → Mark → Bool → Answer → Answer
 after_those W E s w C m any a =
     either (put_back w.index (standing_tree (walked w)) a)
     (λ t B b e. with_edits e (those_done (run W E (w.level + 1) s) (left_behind w) true (w.index + 1) b B t))
     (λ b. those_done (run W E (w.level + 1) s) (left_behind w) any (w.index + 1) b (kept C m) (standing_tree (walked w)))
 
-abbrev pub after_choice : World → Scope → ℕ → ResolvedStrategy → ResolvedStrategy → Standing → Contents → Mark → Answer → Answer
+abbrev pub after_choice : World → Scope → ℕ → ResolvedStrategy → ResolvedStrategy → Standing → CellContents → Mark → Answer → Answer
 after_choice W E l s2 s3 p C m a =
     either a (λ t B b e. with_edits e (run W E l s2 b B t)) (λ b. run W E l s3 b (kept C m) (standing_tree p))
 
@@ -113,7 +113,7 @@ after_head W E s w a = and_then (put_back w.index (standing_tree (walked w)) a) 
 -- the edits were `base`, becomes the whole answer of the run on `sub`. C is the content of the
 -- cells, of which marks up to `top` may be asked for; es are the scopes; l is the level of the
 -- focus.
-abbrev pub Meets : World → Standing → Answer → Contents → Mark → List Scope → ℕ → List Frame → Becomes
+abbrev pub Meets : World → Standing → Answer → CellContents → Mark → List Scope → ℕ → List Frame → Becomes
 Meets W sub whole C top es l [] start base a = (start ≡ sub) × (base ≡ []) × (a ≡ whole)
 Meets W sub whole C top es l (Then s n ∷ fs) start base a =
     (n < length es) × Meets W sub whole C top es l fs start base (and_then a (run W (scope_at es n) l s.now))

@@ -3,7 +3,7 @@ use Rattle.std.specs.Prelude.{◌⊎◌, ℕ, List, [], ◌∷◌, ◌++◌, len
 use Rattle.term_core.specs.Tree.{children}
 use Rattle.term_paths.specs.Edits.{Edits, Replaces}
 use Rattle.term_changes.specs.Change.{Change, same, inside, replaced}
-use Rattle.term_changes.specs.Edits.{nth_change}
+use Rattle.term_changes.specs.EditChanges.{nth_change}
 use Rattle.term_changes.specs.Standing.{Standing, unchanged, altered, fresh, standing_tree, standing_change, standing_children, with_standing}
 use Rattle.term_changes.specs.Follows.{Follows, AllFollow}
 use Rattle.term_changes.specs.Putting.{HaveAllPlaces}

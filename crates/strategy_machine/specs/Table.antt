@@ -3,7 +3,7 @@ use Rattle.std.specs.Prelude.{◌≡◌, ◌<◌, ℕ, List, [], ◌∷◌, ◌+
 use Rattle.std.specs.declared.option.Option.{Option}
 use Rattle.strategy_syntax.specs.Resolved.{ResolvedStrategy}
 use Rattle.strategy_meaning.specs.Scopes.{Scope, Closure, inside, no_closures, stands_for, with_variables, with_name}
-use Rattle.strategy_machine.specs.declared.scopes.Known.{Known}
+use Rattle.strategy_machine.specs.declared.scopes.Closure.{Closure as TableClosure}
 
 pub data Addition : Type 0 where
   variables : ℕ → ℕ → Addition  -- the cell of the first one, and their number
@@ -47,13 +47,13 @@ IsThere b None = ⊤
 IsThere b (Some n) = n < b
 
 -- what a name stands for, with the scope itself
-abbrev pub closure_of : List Scope → Known → Closure
-closure_of known k = record { strategy = k.strategy.now; written_in = scope_at known k.inside }
+abbrev pub closure_of : List Scope → TableClosure → Closure
+closure_of known k = record { strategy = k.strategy.now; written_in = scope_at known k.written_in }
 
 -- what name x stands for in scope n
-abbrev pub Stands : List Scope → ℕ → ℕ → Known → Type 0
-Stands known n x k =
-    (k.inside < length known)
+abbrev pub NameStands : List Scope → ℕ → ℕ → TableClosure → Type 0
+NameStands known n x k =
+    (k.written_in < length known)
     × (stands_for (scope_at known n) x ≡ Some (closure_of known k))
 
 -- the new list of scopes extends the old one

@@ -11,7 +11,7 @@ use Rattle.strategy_meaning.specs.Matching.{Bindings}
 use Rattle.strategy_meaning.specs.Answer.{Answer, done, failed, stopped, spent, big}
 use Rattle.strategy_meaning.specs.Meaning.{World, run, each, leftmost, those_done}
 use Rattle.strategy_machine.specs.Table.{scopes, scope_at}
-use Rattle.term_match.specs.Contents.{Contents}
+use Rattle.term_match.specs.CellContents.{CellContents}
 use Rattle.term_match.specs.Marks.{mark_of}
 use Rattle.strategy_machine.specs.Leading.{Leads, Has, all_parts, node_with, PartsStand}
 use Rattle.strategy_machine.specs.Trails.{Shows, path_of}
@@ -25,7 +25,7 @@ use Rattle.strategy_machine.specs.declared.machine.Machine.{Machine}
 
 -- The state that a turn works on, with the frames innermost first.
 pub record State : Type 0 where
-  pub cells : Contents
+  pub cells : CellContents
   pub scopes : List Scope
   pub trail : Trail
   pub level : ℕ

@@ -11,8 +11,8 @@ ghost use Rattle.term_match.specs.Marks.{mark_of, Before, Stays};
 ghost use Rattle.strategy_machine.specs.inside.Arguments.{AreBuilt};
 
 use crate::machine::InTable;
-use std::alloc::Global;
 use crate::scopes::Scopes;
+use std::alloc::Global;
 use strategy_syntax::Place;
 use term_core::{NoMemory, Term};
 use term_match::{Built, Cells};

@@ -14,10 +14,10 @@ use crate::forms::replace;
 use crate::frames::Turned;
 use crate::machine::{Host, Machine};
 use crate::rules::take_rule;
+use crate::scopes::Closure;
 use crate::tries::{take_try, tried};
 use prim_core::Meaning;
 use std::alloc::Global;
-use crate::scopes::Known;
 use strategy_syntax::{Place, Resolved, ResolvedForm as Form, ResolvedStrategy};
 use term_core::{NoMemory, Term};
 use term_values::Value;
@@ -64,9 +64,9 @@ pub(crate) fn take_rec<'t>(
     ensures less { IfOk result (λ next. TakeFalls m.old m.new next) }
 {
     end_scopes(m, scope)?;
-    let known = Known {
+    let known = Closure {
         strategy: whole,
-        inside: scope,
+        written_in: scope,
     };
     let inner = m.scopes.add_name(Some(scope), known)?;
     Ok(m.begins(body, inner))
@@ -80,7 +80,7 @@ pub(crate) fn take_param<'t>(m: &mut Machine<'t>, name: usize, scope: usize) -> 
 {
     match m.scopes.named(scope, name) {
         None => m.fails(),
-        Some(known) => m.begins(known.strategy, known.inside),
+        Some(known) => m.begins(known.strategy, known.written_in),
     }
 }
 

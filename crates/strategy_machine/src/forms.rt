@@ -147,7 +147,7 @@ fn named_first<'t>(
             scope,
         },
     )?;
-    Ok(m.begins(known.strategy, known.inside))
+    Ok(m.begins(known.strategy, known.written_in))
 }
 
 // A match, which costs a step of its own, followed by a strategy.

@@ -78,7 +78,7 @@ pub(crate) fn left_by_failure<'t>(
                     return None;
                 };
                 strategy = known.strategy;
-                scope = Some(known.inside);
+                scope = Some(known.written_in);
             }
             Form::Call(definition, _, patterns) => {
                 if patterns.len() != 0 {

@@ -24,6 +24,6 @@ mod turning;
 
 pub use frames::{Acts, Frame, Next, Turned, Walk};
 pub use machine::{Host, Machine};
-pub use scopes::{Known, Scopes};
+pub use scopes::{Closure, Scopes};
 pub use trail::{Made, Trail};
 pub use turning::turn;

@@ -16,11 +16,12 @@ use crate::forms::replace;
 use crate::frames::{Frame, Turned, Walk, drop_changed, drop_part, drop_parts, drop_value, wait};
 use crate::heads::is_list as is_list_part;
 use crate::machine::Machine;
-use crate::tails::{first_values, in_front, is_list, rest_behind, rest_of_part, with_rest_behind};
+use crate::tails::{first_values, in_front, rest_behind, rest_of_part, with_rest_behind};
 use std::alloc::Global;
 use std::mem;
 use strategy_syntax::ResolvedStrategy;
 use term_core::NoMemory;
+use term_match::is_list;
 use term_values::{Part, Value};
 
 // The first elements are done; the list with them becomes the focus.

@@ -11,10 +11,10 @@ ghost use Rattle.strategy_machine.specs.Turns.{Holds, After};
 ghost use Rattle.strategy_machine.specs.inside.Turning.{with_next};
 
 use crate::frames::{Frame, Next, Turned};
+use crate::scopes::Scopes;
 use crate::trail::Trail;
 use prim_core::{Meaning, Primitives};
 use std::alloc::Global;
-use crate::scopes::Scopes;
 use strategy_syntax::{Resolved, ResolvedStrategy};
 use term_core::Term;
 use term_match::{Cells, Places};

@@ -4,7 +4,7 @@ ghost use Rattle.std.specs.Prelude.{◌≡◌, ◌≤◌, ◌<◌, ◌+◌, ◌�
 ghost use Rattle.strategy_meaning.specs.Scopes.{inside, cells_in, stands_for, with_variables, with_name, numbers_from, argument, arguments};
 ghost use Rattle.std.specs.Bool.{OnTrue};
 ghost use Rattle.strategy_syntax.specs.Resolved.{param, resolveds_of};
-ghost use Rattle.strategy_machine.specs.Table.{nowhere, scopes, scope_at, scope_from, with_addition, IsThere, Stands, Starts, closure_of};
+ghost use Rattle.strategy_machine.specs.Table.{nowhere, scopes, scope_at, scope_from, with_addition, IsThere, NameStands, Starts, closure_of};
 ghost use Rattle.strategy_machine.specs.inside.Entries.{AreNames, names_in, closure_count, addition_of, AddsFit, AddsRoom, added_cells, added_names};
 
 use std::alloc::Global;
@@ -14,13 +14,13 @@ use term_core::NoMemory;
 
 /// What a strategy name stands for: a strategy, and the number of the scope that it belongs to.
 #[derive(Clone, Copy)]
-pub struct Known<'t> {
+pub struct Closure<'t> {
     pub strategy: &'t ResolvedStrategy,
-    pub inside: usize,
+    pub written_in: usize,
 }
 
 #[derive(Clone, Copy)]
-struct Entry<'t> {
+struct ScopeEntry<'t> {
     // the scope that is extended, unless it is the empty one
     outer: Option<usize>,
     // the numbers of variables and names of that scope
@@ -33,13 +33,13 @@ struct Entry<'t> {
 enum Adds<'t> {
     // variables: the cell of the first one, and their number
     Variables(usize, usize),
-    Name(Known<'t>),
+    Name(Closure<'t>),
 }
 
 /// The scopes of a run, the oldest first.
 #[derive(Drop)]
 pub struct Scopes<'t> {
-    entries: Vec<Entry<'t>>,
+    entries: Vec<ScopeEntry<'t>>,
 }
 
 impl<'t> Model for Scopes<'t> {
@@ -99,12 +99,12 @@ impl<'t> Scopes<'t> {
     }
 
     /// Adds a scope: this one with a name for a strategy that belongs to a scope of the table.
-    pub fn add_name(&mut self, outer: Option<usize>, known: Known<'t>) -> Result<usize, NoMemory>
+    pub fn add_name(&mut self, outer: Option<usize>, known: Closure<'t>) -> Result<usize, NoMemory>
         requires there { IsThere (length (scopes self.old)) outer }
-        requires written { known.inside < length (scopes self.old) }
+        requires written { known.written_in < length (scopes self.old) }
         ensures number { IfOk result (λ n. n ≡ length (scopes self.old)) }
         ensures ok { IfOk result (λ _. scopes self.new ≡ scopes self.old
-            ++ with_name (scope_from (scopes self.old) outer) known.entry.strategy.now (scope_at (scopes self.old) known.entry.inside) ∷ []) }
+            ++ with_name (scope_from (scopes self.old) outer) known.entry.strategy.now (scope_at (scopes self.old) known.entry.written_in) ∷ []) }
         ensures err { OnErr result (self.new ≡ self.old) }
     {
         self.add(outer, Adds::Name(known))
@@ -191,9 +191,9 @@ impl<'t> Scopes<'t> {
     }
 
     // What a strategy argument stands for.
-    fn argument(&self, scope: usize, strategy: &'t ResolvedStrategy) -> Known<'t>
+    fn argument(&self, scope: usize, strategy: &'t ResolvedStrategy) -> Closure<'t>
         requires { scope < length (scopes self.now) }
-        ensures there { result.inside < length (scopes self.now) }
+        ensures there { result.written_in < length (scopes self.now) }
         ensures known { argument (scope_at (scopes self.now) scope) strategy.entry.now ≡ closure_of (scopes self.now) result }
     {
         if let ResolvedForm::Param(x) = strategy.form() {
@@ -201,9 +201,9 @@ impl<'t> Scopes<'t> {
                 return known;
             }
         }
-        Known {
+        Closure {
             strategy,
-            inside: scope,
+            written_in: scope,
         }
     }
 
@@ -220,7 +220,7 @@ impl<'t> Scopes<'t> {
             return Err(NoMemory);
         };
         let new = self.entries.len();
-        self.entries.push(Entry {
+        self.entries.push(ScopeEntry {
             outer,
             variables: counts.variables,
             names: counts.names,
@@ -273,9 +273,9 @@ impl<'t> Scopes<'t> {
     }
 
     /// What a strategy name stands for in a scope.
-    pub fn named(&self, scope: usize, x: usize) -> Option<Known<'t>>
+    pub fn named(&self, scope: usize, x: usize) -> Option<Closure<'t>>
         ensures { MatchOption result (stands_for (scope_at (scopes self.now) scope) x ≡ None)
-            (λ known. Stands (scopes self.now) scope x known) }
+            (λ known. NameStands (scopes self.now) scope x known) }
     {
         let mut at = scope;
         'outwards: while at < self.entries.len() {
@@ -333,7 +333,7 @@ fn own_cell(adds: Adds<'_>, i: usize) -> Option<usize>
 }
 
 // What name i of the addition stands for.
-fn own_name<'t>(adds: Adds<'t>, i: usize) -> Option<Known<'t>>
+fn own_name<'t>(adds: Adds<'t>, i: usize) -> Option<Closure<'t>>
     ensures { result ≡ slice_get (added_names adds.entry) i }
 {
     match adds {

@@ -11,16 +11,8 @@ use crate::children::child_now;
 use crate::frames::drop_value;
 use std::alloc::Global;
 use term_core::{Kind, NoMemory};
+use term_match::is_list;
 use term_values::{Part, Value};
-
-pub(crate) fn is_list(value: &Value<'_>) -> bool
-    ensures { elements value.now ≡ cond result (Some (children value.now)) None }
-{
-    match value.kind() {
-        Kind::List => true,
-        _ => false,
-    }
-}
 
 /// The children after the first `count`, as a list without annotations.
 pub(crate) fn rest_behind<'t>(

@@ -7,9 +7,9 @@ ghost use Rattle.strategy_machine.specs.Trails.{Shows, path_of};
 ghost use Rattle.strategy_machine.specs.inside.Steps.{step_of};
 
 use crate::frames::Frame;
-use term_changes::{Entry, Plan};
 use std::alloc::Global;
 use std::marker::Model;
+use term_changes::{Entry, Plan};
 use term_core::NoMemory;
 use term_values::Value;
 

@@ -8,9 +8,9 @@ use Rattle.strategy_syntax.specs.Syntax.{Pattern, wildcard, variable, at, number
 use Rattle.strategy_tokens.specs.declared.token.Token.{Token}
 use Rattle.strategy_tokens.specs.declared.token.Token.TheVariants.{Reserved, Integer, Sign as ASign, Bad}
 use Rattle.strategy_tokens.specs.declared.token.Sign.TheVariants.{OpenRound, CloseRound, Comma, Semicolon, Colon, Bar, FatArrow, Less, LeftChoice}
-use Rattle.strategy_parse.specs.declared.parser.state.State.TheVariants.{Strategy as ToStrategy, FirstStrategy, Read, Used, PrimNamed, ScopeOpen, ScopeNamed, Pattern as ToPattern}
-use Rattle.strategy_parse.specs.declared.parser.state.Frame.{Frame}
-use Rattle.strategy_parse.specs.declared.parser.state.Frame.TheVariants.{Operand, At, Strategy as ForStrategy, Pattern as ForPattern}
+use Rattle.strategy_parse.specs.declared.parser.state.ParserState.TheVariants.{Strategy as ToStrategy, FirstStrategy, Read, Used, PrimNamed, ScopeOpen, ScopeNamed, Pattern as ToPattern}
+use Rattle.strategy_parse.specs.declared.parser.state.ParserFrame.{ParserFrame}
+use Rattle.strategy_parse.specs.declared.parser.state.ParserFrame.TheVariants.{Operand, At, Strategy as ForStrategy, Pattern as ForPattern}
 use Rattle.strategy_parse.specs.declared.parser.state.Infix.TheVariants.{Before, Guarded, Otherwise}
 use Rattle.strategy_parse.specs.declared.parser.state.StrategyFrame.TheVariants.{Operator as Operated, Rec, Child, Scope, Application, If, Then, Else, Where, List as Strategies, Tail as SquareTail}
 use Rattle.strategy_parse.specs.declared.parser.state.PatternFrame.TheVariants.{Match, Build, Applied, Matched, Left as ClosureLeft, Right as ClosureRight, List as Patterns}
@@ -20,7 +20,7 @@ use Rattle.strategy_parse.specs.declared.parser.state.StrategyGroup.{StrategyGro
 use Rattle.strategy_parse.specs.declared.parser.state.StrategyGroup.TheVariants.{Round, Square, Arguments}
 use Rattle.strategy_parse.specs.declared.parser.state.PatternGroup.TheVariants.{Terms, Prim}
 use Rattle.strategy_tokens.specs.Marks.{is_mark}
-use Rattle.strategy_parse.specs.inside.Machine.{Next, goes, stuck, begin, behind, behind_arrow, behind_seq, behind_choice, behind_element, closing, grouped, first_strategy, first_pattern, empty_bar, step}
+use Rattle.strategy_parse.specs.inside.Parser.{Next, goes, stuck, begin, behind, behind_arrow, behind_seq, behind_choice, behind_element, closing, grouped, first_strategy, first_pattern, empty_bar, step}
 use Rattle.strategy_parse.proofs.Runs.{resume, at_end, go_on, Accepts, Refuses, open_round, fat_arrow, semicolon, left_choice_sign, less, choice-stuck, arrow-stuck, behind-stuck, passes}
 use Rattle.strategy_parse.specs.Grammar.{ReadsMorePatterns, ReadsArrows, ReadsMoreNames, ReadsNames, word_of, ReadsChoice, ReadsSeq, ReadsArrow, ReadsPrefix, ReadsChoices, ReadsSomeChoices, ReadsMoreChoices}
 use Rattle.strategy_tokens.proofs.MarkLemmas.{mark_self}
@@ -34,13 +34,13 @@ strategies_of-list (syntax.and_strategy s ss) = ap (syntax.and_strategy s) (stra
 
 -- ---- the machine where a form could continue and doesn't
 
-pub arrow_in : (s : Strategy) (S : List Frame) (y : List Token) (r : Strategy) → Accepts (behind_arrow s S) y r → Accepts (behind s S) y r
+pub arrow_in : (s : Strategy) (S : List ParserFrame) (y : List Token) (r : Strategy) → Accepts (behind_arrow s S) y r → Accepts (behind s S) y r
 arrow_in s S y r k =
     passes FatArrow (goes ToPattern (ForPattern (Matched s) ∷ S)) (λ t. if (is_mark Semicolon t) then goes ToStrategy (Operand Before s ∷ S) else behind_arrow s S t) y r
     (λ K. arrow-stuck (ASign FatArrow) fat_arrow refl refl S s K)
     (passes Semicolon (goes ToStrategy (Operand Before s ∷ S)) (behind_arrow s S) y r (λ K. arrow-stuck (ASign Semicolon) semicolon refl refl S s K) k)
 
-pub used_in : (f : Symbol) (S : List Frame) (y : List Token) (r : Strategy) → Accepts (behind (syntax.uses f syntax.no_strategies syntax.no_patterns) S) y r → Accepts (step (Used f) S) y r
+pub used_in : (f : Symbol) (S : List ParserFrame) (y : List Token) (r : Strategy) → Accepts (behind (syntax.uses f syntax.no_strategies syntax.no_patterns) S) y r → Accepts (step (Used f) S) y r
 used_in f S y r k =
     passes OpenRound (goes (FirstStrategy (Arguments f)) S) (behind (syntax.uses f syntax.no_strategies syntax.no_patterns) S) y r
     (λ K. behind-stuck (ASign OpenRound) open_round refl refl refl refl S (syntax.uses f syntax.no_strategies syntax.no_patterns) K) k
@@ -51,10 +51,10 @@ stuck-accepts f [] r h k = let no : ◌≡◌ {A = Option Strategy} None (Some r
 stuck-accepts f (t ∷ ts) r h k = let no : ◌≡◌ {A = Option Strategy} None (Some r) = sym (ap (go_on (λ q S. resume (step q S) ts)) (h t)) ∙ k in cc
 
 -- if a whole choice may end before x, no sequence is open
-abbrev pub Bare : List Frame → Type 0
+abbrev pub Bare : List ParserFrame → Type 0
 Bare S = (s : Strategy) (t : Token) → behind_arrow s S t ≡ behind_seq s S t
 
-bare : (S : List Frame) (s : Strategy) (x : List Token) (r : Strategy) → Accepts (behind_choice s S) x r → Bare S
+bare : (S : List ParserFrame) (s : Strategy) (x : List Token) (r : Strategy) → Accepts (behind_choice s S) x r → Bare S
 bare [] s x r k a t = refl
 bare (Operand Before q ∷ S) s x r k a t = absurd (stuck-accepts (behind_choice s (Operand Before q ∷ S)) x r (λ u. refl) k)
 bare (Operand Guarded q ∷ S) s x r k a t = absurd (stuck-accepts (behind_choice s (Operand Guarded q ∷ S)) x r (λ u. refl) k)
@@ -63,7 +63,7 @@ bare (At f ∷ S) s x r k a t = refl
 bare (ForStrategy F ∷ S) s x r k a t = refl
 bare (ForPattern F ∷ S) s x r k a t = refl
 
-pub choice_in : (s : Strategy) (S : List Frame) (y : List Token) (r : Strategy) → Accepts (behind_choice s S) y r → Accepts (behind_seq s S) y r
+pub choice_in : (s : Strategy) (S : List ParserFrame) (y : List Token) (r : Strategy) → Accepts (behind_choice s S) y r → Accepts (behind_seq s S) y r
 choice_in s S y r k =
     passes LeftChoice (goes ToStrategy (Operand Otherwise syntax.id ∷ (Operand Guarded s ∷ S))) (λ t. if (is_mark Less t) then goes ToStrategy (Operand Guarded s ∷ S) else behind_choice s S t) y r
     (λ K. choice-stuck (ASign LeftChoice) left_choice_sign S s K)
@@ -74,12 +74,12 @@ same_accepts f g [] r h k = ap at_end (h Bad) ∙ k
 same_accepts f g (t ∷ ts) r h k = ap (go_on (λ q S. resume (step q S) ts)) (h t) ∙ k
 
 -- a list of strategies begins with no closing sign and no `|`
-closing-begins : (g : StrategyGroup) (S : List Frame) → Refuses (begin S (ASign (closing g)))
+closing-begins : (g : StrategyGroup) (S : List ParserFrame) → Refuses (begin S (ASign (closing g)))
 closing-begins Round S K = refl
 closing-begins Square S K = refl
 closing-begins (Arguments f) S K = refl
 
-first_in : (g : StrategyGroup) (S : List Frame) (x : List Token) (r : Strategy) → Accepts (begin (ForStrategy (Strategies g []) ∷ S)) x r → Accepts (first_strategy g S) x r
+first_in : (g : StrategyGroup) (S : List ParserFrame) (x : List Token) (r : Strategy) → Accepts (begin (ForStrategy (Strategies g []) ∷ S)) x r → Accepts (first_strategy g S) x r
 first_in g S x r k =
     passes (closing g) (goes (Read (grouped g [])) S) (λ t. if (is_mark Bar t) then empty_bar g S else begin (ForStrategy (Strategies g []) ∷ S) t) x r
     (bar-first g)
@@ -99,32 +99,32 @@ bar-closing Round = refl
 bar-closing Square = refl
 bar-closing (Arguments f) = refl
 
-pub closes_first : (g : StrategyGroup) (S : List Frame) (y : List Token) (r : Strategy) → Accepts (behind (grouped g []) S) y r → Accepts (first_strategy g S) (ASign (closing g) ∷ y) r
+pub closes_first : (g : StrategyGroup) (S : List ParserFrame) (y : List Token) (r : Strategy) → Accepts (behind (grouped g []) S) y r → Accepts (first_strategy g S) (ASign (closing g) ∷ y) r
 closes_first g S y r k = rw (mark_self (closing g)) k
 
-pub closes_more : (g : StrategyGroup) (done : List Strategy) (S : List Frame) (y : List Token) (r : Strategy) → Accepts (behind (grouped g done) S) y r → Accepts (behind_element g done S) (ASign (closing g) ∷ y) r
+pub closes_more : (g : StrategyGroup) (done : List Strategy) (S : List ParserFrame) (y : List Token) (r : Strategy) → Accepts (behind (grouped g done) S) y r → Accepts (behind_element g done S) (ASign (closing g) ∷ y) r
 closes_more g done S y r k = rw (comma-closing g, bar-closing g, mark_self (closing g)) k
 
 -- ---- names
 
-names_more : (fs done : List Symbol) (S : List Frame) (x y : List Token) (r : Strategy) → ReadsMoreNames fs Colon x y
+names_more : (fs done : List Symbol) (S : List ParserFrame) (x y : List Token) (r : Strategy) → ReadsMoreNames fs Colon x y
     → Accepts (begin (ForStrategy (Scope (done ++ fs)) ∷ S)) y r → Accepts (step (ScopeNamed done) S) x r
 names_more [] done S x y r h k = rw h (subst (λ l. Accepts (begin (ForStrategy (Scope l) ∷ S)) y r) (append-nil done) k)
 names_more (f ∷ fs) done S x y r h k =
     rw h.1 (rw h.2.1 (names_more fs (done ++ f ∷ []) S h.2.0 y r h.2.2 (subst (λ l. Accepts (begin (ForStrategy (Scope l) ∷ S)) y r) (sym (append_assoc done (f ∷ []) fs)) k)))
 
-names_in : (fs : List Symbol) (S : List Frame) (x y : List Token) (r : Strategy) → ReadsNames fs Colon x y
+names_in : (fs : List Symbol) (S : List ParserFrame) (x y : List Token) (r : Strategy) → ReadsNames fs Colon x y
     → Accepts (begin (ForStrategy (Scope fs) ∷ S)) y r → Accepts (step ScopeOpen S) x r
 names_in [] S x y r h k = rw h k
 names_in (f ∷ fs) S x y r h k = rw h.1 (names_more fs (f ∷ []) S h.0 y r h.2 k)
 
 -- the patterns after a prefix
-arrows_in : (ps : syntax.Patterns) (s : Strategy) (S : List Frame) (x y : List Token) (r : Strategy) → ReadsArrows ps x y → Accepts (behind (then_matched s ps) S) y r → Accepts (behind s S) x r
+arrows_in : (ps : syntax.Patterns) (s : Strategy) (S : List ParserFrame) (x y : List Token) (r : Strategy) → ReadsArrows ps x y → Accepts (behind (then_matched s ps) S) y r → Accepts (behind s S) x r
 arrows_in no_patterns s S x y r h k = subst (λ l. Accepts (behind s S) l r) h k
 arrows_in (and_pattern p ps) s S x y r h k =
     rw h.1 (pattern_in p (ForPattern (Matched s) ∷ S) h.0 h.2.0 r h.2.1 (arrows_in ps (syntax.seq s (syntax.matches p)) S h.2.0 y r h.2.2 k))
 
-operator-begins : (o : Operator) (S : List Frame) (x : List Token) (r : Strategy) → Accepts (begin (ForStrategy (Operated o) ∷ S)) x r
+operator-begins : (o : Operator) (S : List ParserFrame) (x : List Token) (r : Strategy) → Accepts (begin (ForStrategy (Operated o) ∷ S)) x r
     → Accepts (begin S) (Reserved (word_of o) ∷ (ASign OpenRound ∷ x)) r
 operator-begins All S x r k = k
 operator-begins One S x r k = k
@@ -133,12 +133,12 @@ operator-begins Not S x r k = k
 operator-begins WhereOf S x r k = k
 operator-begins Test S x r k = k
 
-child_reads : (i : ℕ) (S : List Frame) (x : List Token) (r : Strategy) → 1 ≤ i → Accepts (begin (ForStrategy (Child i) ∷ S)) x r
+child_reads : (i : ℕ) (S : List ParserFrame) (x : List Token) (r : Strategy) → 1 ≤ i → Accepts (begin (ForStrategy (Child i) ∷ S)) x r
     → Accepts (begin S) (Integer (pos i) ∷ (ASign OpenRound ∷ x)) r
 child_reads zero S x r h k = absurd (omega arith)
 child_reads (suc i) S x r h k = k
 
-prim_reads : (ps : syntax.Patterns) (n : Symbol) (S : List Frame) (x y : List Token) (r : Strategy) → ReadsMorePatterns ps CloseRound x y
+prim_reads : (ps : syntax.Patterns) (n : Symbol) (S : List ParserFrame) (x y : List Token) (r : Strategy) → ReadsMorePatterns ps CloseRound x y
     → Accepts (behind (syntax.prim n ps) S) y r → Accepts (step (PrimNamed n) S) x r
 prim_reads no_patterns n S x y r h k = rw h k
 prim_reads (and_pattern p ps) n S x y r h k =
@@ -148,7 +148,7 @@ prim_reads (and_pattern p ps) n S x y r h k =
 -- ---- the productions
 
 mutual
-  choice_reads : (a : Choice) (S : List Frame) (x y : List Token) (r : Strategy) → ReadsChoice a x y → Accepts (behind_choice (core a) S) y r → Accepts (begin S) x r
+  choice_reads : (a : Choice) (S : List ParserFrame) (x y : List Token) (r : Strategy) → ReadsChoice a x y → Accepts (behind_choice (core a) S) y r → Accepts (begin S) x r
   choice_reads (sequence a) S x y r h k =
       seq_reads a S x y r h (same_accepts (behind_arrow (core_seq a) S) (behind_seq (core_seq a) S) y r (bare S (core_seq a) y r k (core_seq a)) (choice_in (core_seq a) S y r k))
   choice_reads (left_choice a b) S x y r h k =
@@ -161,15 +161,15 @@ mutual
       (rw h.2.1 (seq_reads b (Operand Guarded (core_seq a) ∷ S) h.2.0 h.2.2.0 r h.2.2.1
       (rw h.2.2.2.1 (choice_reads c (Operand Otherwise (core_seq b) ∷ (Operand Guarded (core_seq a) ∷ S)) h.2.2.2.0 y r h.2.2.2.2 k)))))
 
-  seq_reads : (a : Seq) (S : List Frame) (x y : List Token) (r : Strategy) → ReadsSeq a x y → Accepts (behind_arrow (core_seq a) S) y r → Accepts (begin S) x r
+  seq_reads : (a : Seq) (S : List ParserFrame) (x y : List Token) (r : Strategy) → ReadsSeq a x y → Accepts (behind_arrow (core_seq a) S) y r → Accepts (begin S) x r
   seq_reads (last a) S x y r h k = arrow_reads a S x y r h (arrow_in (core_arrow a) S y r k)
   seq_reads (before a b) S x y r h k =
       arrow_reads a S x h.0 r h.1 (rw h.2.1 (seq_reads b (Operand Before (core_arrow a) ∷ S) h.2.0 y r h.2.2 k))
 
-  arrow_reads : (a : Arrow) (S : List Frame) (x y : List Token) (r : Strategy) → ReadsArrow a x y → Accepts (behind (core_arrow a) S) y r → Accepts (begin S) x r
+  arrow_reads : (a : Arrow) (S : List ParserFrame) (x y : List Token) (r : Strategy) → ReadsArrow a x y → Accepts (behind (core_arrow a) S) y r → Accepts (begin S) x r
   arrow_reads (arrow a ps) S x y r h k = prefix_reads a S x h.0 r h.1 (arrows_in ps (core_prefix a) S h.0 y r h.2 k)
 
-  prefix_reads : (a : Prefix) (S : List Frame) (x y : List Token) (r : Strategy) → ReadsPrefix a x y → Accepts (behind (core_prefix a) S) y r → Accepts (begin S) x r
+  prefix_reads : (a : Prefix) (S : List ParserFrame) (x y : List Token) (r : Strategy) → ReadsPrefix a x y → Accepts (behind (core_prefix a) S) y r → Accepts (begin S) x r
   prefix_reads (question p) S x y r h k = rw h.1 (pattern_in p (ForPattern Match ∷ S) h.0 y r h.2 k)
   prefix_reads (exclamation p) S x y r h k = rw h.1 (pattern_in p (ForPattern Build ∷ S) h.0 y r h.2 k)
   prefix_reads (application a p) S x y r h k =
@@ -217,25 +217,25 @@ mutual
   prefix_reads (child i a) S x y r h k =
       rw h.1.1 (rw h.1.2.1 (child_reads i S h.1.2.0 r h.0 (choice_reads a (ForStrategy (Child i) ∷ S) h.1.2.0 h.1.2.2.0 r h.1.2.2.1 (rw h.1.2.2.2 k))))
 
-  choices_read : (cs : Choices) (g : StrategyGroup) (S : List Frame) (x y : List Token) (r : Strategy) → ReadsChoices cs (closing g) x y
+  choices_read : (cs : Choices) (g : StrategyGroup) (S : List ParserFrame) (x y : List Token) (r : Strategy) → ReadsChoices cs (closing g) x y
       → Accepts (behind (grouped g (strategy_list (core_all cs))) S) y r → Accepts (first_strategy g S) x r
   choices_read no_choices g S x y r h k = subst (λ l. Accepts (first_strategy g S) l r) (sym h) (closes_first g S y r k)
   choices_read (and_choice a cs) g S x y r h k =
       first_in g S x r (choice_reads a (ForStrategy (Strategies g []) ∷ S) x h.0 r h.1 (more_choices_read cs g (core a ∷ []) S h.0 y r h.2 k))
 
-  some_choices_read : (cs : Choices) (S : List Frame) (x y : List Token) (r : Strategy) → ReadsSomeChoices cs Bar x y
+  some_choices_read : (cs : Choices) (S : List ParserFrame) (x y : List Token) (r : Strategy) → ReadsSomeChoices cs Bar x y
       → Accepts (begin (ForStrategy (SquareTail (strategy_list (core_all cs))) ∷ S)) y r → Accepts (first_strategy Square S) x r
   some_choices_read no_choices S x y r h k = absurd h
   some_choices_read (and_choice a cs) S x y r h k =
       first_in Square S x r (choice_reads a (ForStrategy (Strategies Square []) ∷ S) x h.0 r h.1 (square_bar_reads cs (core a ∷ []) S h.0 y r h.2 k))
 
-  arguments_read : (cs : Choices) (f : Symbol) (S : List Frame) (x y : List Token) (r : Strategy) → ReadsChoices cs Bar x y
+  arguments_read : (cs : Choices) (f : Symbol) (S : List ParserFrame) (x y : List Token) (r : Strategy) → ReadsChoices cs Bar x y
       → Accepts (first_pattern (Terms f (strategy_list (core_all cs))) S) y r → Accepts (first_strategy (Arguments f) S) x r
   arguments_read no_choices f S x y r h k = rw h k
   arguments_read (and_choice a cs) f S x y r h k =
       first_in (Arguments f) S x r (choice_reads a (ForStrategy (Strategies (Arguments f) []) ∷ S) x h.0 r h.1 (arguments_bar_read cs f (core a ∷ []) S h.0 y r h.2 k))
 
-  more_choices_read : (cs : Choices) (g : StrategyGroup) (done : List Strategy) (S : List Frame) (x y : List Token) (r : Strategy) → ReadsMoreChoices cs (closing g) x y
+  more_choices_read : (cs : Choices) (g : StrategyGroup) (done : List Strategy) (S : List ParserFrame) (x y : List Token) (r : Strategy) → ReadsMoreChoices cs (closing g) x y
       → Accepts (behind (grouped g (done ++ strategy_list (core_all cs))) S) y r → Accepts (behind_element g done S) x r
   more_choices_read no_choices g done S x y r h k =
       subst (λ l. Accepts (behind_element g done S) l r) (sym h) (closes_more g done S y r (subst (λ l. Accepts (behind (grouped g l) S) y r) (append-nil done) k))
@@ -243,14 +243,14 @@ mutual
       rw h.1 (choice_reads a (ForStrategy (Strategies g done) ∷ S) h.0 h.2.0 r h.2.1
       (more_choices_read cs g (done ++ core a ∷ []) S h.2.0 y r h.2.2 (subst (λ l. Accepts (behind (grouped g l) S) y r) (sym (append_assoc done (core a ∷ []) (strategy_list (core_all cs)))) k)))
 
-  square_bar_reads : (cs : Choices) (done : List Strategy) (S : List Frame) (x y : List Token) (r : Strategy) → ReadsMoreChoices cs Bar x y
+  square_bar_reads : (cs : Choices) (done : List Strategy) (S : List ParserFrame) (x y : List Token) (r : Strategy) → ReadsMoreChoices cs Bar x y
       → Accepts (begin (ForStrategy (SquareTail (done ++ strategy_list (core_all cs))) ∷ S)) y r → Accepts (behind_element Square done S) x r
   square_bar_reads no_choices done S x y r h k = rw h (subst (λ l. Accepts (begin (ForStrategy (SquareTail l) ∷ S)) y r) (append-nil done) k)
   square_bar_reads (and_choice a cs) done S x y r h k =
       rw h.1 (choice_reads a (ForStrategy (Strategies Square done) ∷ S) h.0 h.2.0 r h.2.1
       (square_bar_reads cs (done ++ core a ∷ []) S h.2.0 y r h.2.2 (subst (λ l. Accepts (begin (ForStrategy (SquareTail l) ∷ S)) y r) (sym (append_assoc done (core a ∷ []) (strategy_list (core_all cs)))) k)))
 
-  arguments_bar_read : (cs : Choices) (f : Symbol) (done : List Strategy) (S : List Frame) (x y : List Token) (r : Strategy) → ReadsMoreChoices cs Bar x y
+  arguments_bar_read : (cs : Choices) (f : Symbol) (done : List Strategy) (S : List ParserFrame) (x y : List Token) (r : Strategy) → ReadsMoreChoices cs Bar x y
       → Accepts (first_pattern (Terms f (done ++ strategy_list (core_all cs))) S) y r → Accepts (behind_element (Arguments f) done S) x r
   arguments_bar_read no_choices f done S x y r h k = rw h (subst (λ l. Accepts (first_pattern (Terms f l) S) y r) (append-nil done) k)
   arguments_bar_read (and_choice a cs) f done S x y r h k =

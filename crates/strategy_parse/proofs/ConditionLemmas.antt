@@ -8,11 +8,11 @@ use Rattle.strategy_syntax.specs.Syntax.{Strategy}
 use Rattle.strategy_tokens.specs.declared.token.Token.{Token}
 use Rattle.strategy_tokens.specs.declared.token.Token.TheVariants.{Bad}
 use Rattle.strategy_tokens.specs.declared.token.Sign.TheVariants.{OpenRound, OpenCurly, Semicolon, FatArrow, Less, LeftChoice, At}
-use Rattle.strategy_parse.specs.declared.parser.state.State.{State}
-use Rattle.strategy_parse.specs.declared.parser.state.State.TheVariants.{Strategy as ToStrategy, FirstStrategy, Read, Used, Opening, Rec as BehindRec, Prim as BehindPrim, PrimOpen, PrimNamed, ScopeOpen, ScopeComma, ScopeNamed, Pattern as ToPattern, FirstPattern, Named, Base, Whole}
-use Rattle.strategy_parse.specs.declared.parser.state.Frame.{Frame}
+use Rattle.strategy_parse.specs.declared.parser.state.ParserState.{ParserState}
+use Rattle.strategy_parse.specs.declared.parser.state.ParserState.TheVariants.{Strategy as ToStrategy, FirstStrategy, Read, Used, Opening, Rec as BehindRec, Prim as BehindPrim, PrimOpen, PrimNamed, ScopeOpen, ScopeComma, ScopeNamed, Pattern as ToPattern, FirstPattern, Named, Base, Whole}
+use Rattle.strategy_parse.specs.declared.parser.state.ParserFrame.{ParserFrame}
 use Rattle.strategy_tokens.specs.Marks.{is_mark}
-use Rattle.strategy_parse.specs.inside.Machine.{Next, goes, ends, stuck, step, begin, front, front_of}
+use Rattle.strategy_parse.specs.inside.Parser.{Next, goes, ends, stuck, step, begin, front, front_of}
 use Rattle.strategy_parse.specs.Grammar.{Reading, ReadsChoice}
 use Rattle.strategy_parse.specs.Core.{core, free_in_choice}
 use Rattle.strategy_parse.specs.Written.{Choice}
@@ -23,20 +23,20 @@ use Rattle.strategy_parse.proofs.FrontGives.{front-gives, choice-front}
 use Rattle.strategy_parse.proofs.SeenStrategies.{names_free, ChoiceEnds}
 
 -- what is seen after this much was read
-abbrev pub SeenFrom : State → List Frame → List Token → List Symbol
+abbrev pub SeenFrom : ParserState → List ParserFrame → List Token → List Symbol
 SeenFrom q S x = seen q S (next_token x) ++ names_seen (step q S) x
 
 -- only the tokens that are read show names
-record Cut (q : State) (S : List Frame) (x y : List Token) : Type 0 where
+record Cut (q : ParserState) (S : List ParserFrame) (x y : List Token) : Type 0 where
   pub taken : List Token
   pub splits : x ≡ taken ++ y
   pub same : SeenFrom q S x ≡ SeenFrom q S taken
 
-not_open : (b : Bool) (n m : Next) (s : Strategy) (q : State) (S : List Frame) → (if b then goes q S else m) ≡ ends s → b ≡ false
+not_open : (b : Bool) (n m : Next) (s : Strategy) (q : ParserState) (S : List ParserFrame) → (if b then goes q S else m) ≡ ends s → b ≡ false
 not_open true n m s q S e = absurd (cc)
 not_open false n m s q S e = refl
 
-seen-end : (q : State) (S : List Frame) (t : Token) (s : Strategy) → step q S t ≡ ends s → seen q S t ≡ seen q S Bad
+seen-end : (q : ParserState) (S : List ParserFrame) (t : Token) (s : Strategy) → step q S t ≡ ends s → seen q S t ≡ seen q S Bad
 seen-end (Named f) S t s e = rw (not_open (is_mark OpenRound t) stuck _ s _ S e) refl
 seen-end ToStrategy S t s e = refl
 seen-end (FirstStrategy g) S t s e = refl
@@ -61,14 +61,14 @@ some-left s r x y e = let pair : ◌≡◌ {A = Strategy × List Token} (s, x) (
 some-right : (s r : Strategy) (x y : List Token) → ◌≡◌ {A = Option (Strategy × List Token)} (Some (s, x)) (Some (r, y)) → x ≡ y
 some-right s r x y e = let pair : ◌≡◌ {A = Strategy × List Token} (s, x) (r, y) = cc in ap (λ (q : Strategy × List Token). q.1) pair
 
-abbrev Rest : (State → List Frame → Option (Strategy × List Token)) → List Token → Next → Strategy → List Token → Type 0
+abbrev Rest : (ParserState → List ParserFrame → Option (Strategy × List Token)) → List Token → Next → Strategy → List Token → Type 0
 Rest k x n s y = front_of k x n ≡ Some (s, y)
 
-module _ (q : State) (S : List Frame) (t : Token) (ts : List Token) (s : Strategy) (y : List Token) where
+module _ (q : ParserState) (S : List ParserFrame) (t : Token) (ts : List Token) (s : Strategy) (y : List Token) where
   abbrev Names : Next → List Symbol
   Names n = seen_behind (λ r R. SeenFrom r R ts) n
 
-  at_step : (n : Next) → step q S t ≡ n → ((r : State) (R : List Frame) → front (step r R) ts ≡ Some (s, y) → Cut r R ts y)
+  at_step : (n : Next) → step q S t ≡ n → ((r : ParserState) (R : List ParserFrame) → front (step r R) ts ≡ Some (s, y) → Cut r R ts y)
       → Rest (λ r R. front (step r R) ts) (t ∷ ts) n s y → Cut q S (t ∷ ts) y
   at_step (goes r R) e more h =
       let c : Cut r R ts y = more r R h in
@@ -84,12 +84,12 @@ module _ (q : State) (S : List Frame) (t : Token) (ts : List Token) (s : Strateg
   }
   at_step stuck e more h = absurd (cc)
 
-at_last : (q : State) (S : List Frame) (s : Strategy) (y : List Token) (n : Next) → front_of (λ r R. None) [] n ≡ Some (s, y) → Cut q S [] y
+at_last : (q : ParserState) (S : List ParserFrame) (s : Strategy) (y : List Token) (n : Next) → front_of (λ r R. None) [] n ≡ Some (s, y) → Cut q S [] y
 at_last q S s y (goes r R) h = absurd (cc)
 at_last q S s y (ends r) h = record { taken = []; splits = some-right r s [] y h; same = refl }
 at_last q S s y stuck h = absurd (cc)
 
-cut : (x : List Token) (q : State) (S : List Frame) (s : Strategy) (y : List Token) → front (step q S) x ≡ Some (s, y) → Cut q S x y
+cut : (x : List Token) (q : ParserState) (S : List ParserFrame) (s : Strategy) (y : List Token) → front (step q S) x ≡ Some (s, y) → Cut q S x y
 cut [] q S s y h = at_last q S s y (step q S Bad) h
 cut (t ∷ ts) q S s y h = at_step q S t ts s y (step q S t) refl (λ r R k. cut ts r R s y k) h
 
@@ -175,22 +175,22 @@ shorter R f x y h =
 
 -- ---- the loop over tokens
 
-pub front_goes : (q r : State) (S R : List Frame) (x : List Token) (t : Token) (ts : List Token) → x ≡ t ∷ ts → step q S t ≡ goes r R → front (step r R) ts ≡ front (step q S) x
+pub front_goes : (q r : ParserState) (S R : List ParserFrame) (x : List Token) (t : Token) (ts : List Token) → x ≡ t ∷ ts → step q S t ≡ goes r R → front (step r R) ts ≡ front (step q S) x
 front_goes q r S R x t ts h e = sym (ap (front (step q S)) h ∙ ap (front_of (λ p P. front (step p P) ts) (t ∷ ts)) e)
 
-pub front_ends : (q : State) (S : List Frame) (x : List Token) (t : Token) (ts : List Token) (s : Strategy) → x ≡ t ∷ ts → step q S t ≡ ends s → front (step q S) x ≡ Some (s, x)
+pub front_ends : (q : ParserState) (S : List ParserFrame) (x : List Token) (t : Token) (ts : List Token) (s : Strategy) → x ≡ t ∷ ts → step q S t ≡ ends s → front (step q S) x ≡ Some (s, x)
 front_ends q S x t ts s h e = ap (front (step q S)) h ∙ ap (front_of (λ p P. front (step p P) ts) (t ∷ ts)) e ∙ ap (λ l. Some (s, l)) (sym h)
 
-pub front_last : (q : State) (S : List Frame) (x : List Token) (s : Strategy) → x ≡ [] → step q S Bad ≡ ends s → front (step q S) x ≡ Some (s, x)
+pub front_last : (q : ParserState) (S : List ParserFrame) (x : List Token) (s : Strategy) → x ≡ [] → step q S Bad ≡ ends s → front (step q S) x ≡ Some (s, x)
 front_last q S x s h e = ap (front (step q S)) h ∙ ap (front_of (λ p P. None) []) e ∙ ap (λ l. Some (s, l)) (sym h)
 
-pub front_stuck : (q : State) (S : List Frame) (x : List Token) (t : Token) (ts : List Token) → x ≡ t ∷ ts → step q S t ≡ stuck → front (step q S) x ≡ None
+pub front_stuck : (q : ParserState) (S : List ParserFrame) (x : List Token) (t : Token) (ts : List Token) → x ≡ t ∷ ts → step q S t ≡ stuck → front (step q S) x ≡ None
 front_stuck q S x t ts h e = ap (front (step q S)) h ∙ ap (front_of (λ p P. front (step p P) ts) (t ∷ ts)) e
 
-pub front_over : (q r : State) (S R : List Frame) (x : List Token) → x ≡ [] → step q S Bad ≡ goes r R → front (step q S) x ≡ None
+pub front_over : (q r : ParserState) (S R : List ParserFrame) (x : List Token) → x ≡ [] → step q S Bad ≡ goes r R → front (step q S) x ≡ None
 front_over q r S R x h e = ap (front (step q S)) h ∙ ap (front_of (λ p P. None) []) e
 
-pub front_lost : (q : State) (S : List Frame) (x : List Token) → x ≡ [] → step q S Bad ≡ stuck → front (step q S) x ≡ None
+pub front_lost : (q : ParserState) (S : List ParserFrame) (x : List Token) → x ≡ [] → step q S Bad ≡ stuck → front (step q S) x ≡ None
 front_lost q S x h e = ap (front (step q S)) h ∙ ap (front_of (λ p P. None) []) e
 
 pub ruleset condition_rules = (front_goes, front_ends, front_last, front_stuck, front_over, front_lost)

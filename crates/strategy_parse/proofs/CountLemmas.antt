@@ -4,8 +4,8 @@ use Rattle.std.specs.Prelude.{cond, reverse}
 use Rattle.std.proofs.Math.Seq.{take-suc}
 use Rattle.term_core.specs.Tree.{Symbol, same_name}
 use Rattle.term_core.proofs.SameName.{same_name-sym}
-use Rattle.strategy_parse.specs.declared.parser.state.Frame.{Frame}
-use Rattle.strategy_parse.specs.declared.parser.state.Frame.TheVariants.{Operand, At, Strategy as ForStrategy, Pattern as ForPattern}
+use Rattle.strategy_parse.specs.declared.parser.state.ParserFrame.{ParserFrame}
+use Rattle.strategy_parse.specs.declared.parser.state.ParserFrame.TheVariants.{Operand, At, Strategy as ForStrategy, Pattern as ForPattern}
 use Rattle.strategy_parse.specs.declared.parser.state.StrategyFrame.TheVariants.{Operator as Operated, Rec, Child, Scope, Application, If, Then, Else, Where, List as Strategies, Tail as SquareTail}
 use Rattle.strategy_parse.specs.declared.parser.state.PatternFrame.TheVariants.{Match, Build, Applied, Matched, Left as ClosureLeft, Right as ClosureRight, List as Patterns, Tail as PatternTail}
 use Rattle.strategy_syntax.specs.Variables.{variables}
@@ -40,21 +40,21 @@ lowered-next k m n xs i x lt at before next = λ f.
 
 -- ---- open forms
 
-occurrences-push : (f : Symbol) (S : List Frame) (F : Frame) → occurrences_in f (S ++ F ∷ []) ≡ occurrences_in f S + occurrences f (named F)
+occurrences-push : (f : Symbol) (S : List ParserFrame) (F : ParserFrame) → occurrences_in f (S ++ F ∷ []) ≡ occurrences_in f S + occurrences f (named F)
 occurrences-push f [] F = omega arith
 occurrences-push f (G ∷ S) F = let more = occurrences-push f S F in omega arith
 
-lefts-push : (S : List Frame) (F : Frame) → lefts_in (S ++ F ∷ []) ≡ lefts_in S + lefts_of F
+lefts-push : (S : List ParserFrame) (F : ParserFrame) → lefts_in (S ++ F ∷ []) ≡ lefts_in S + lefts_of F
 lefts-push [] F = omega arith
 lefts-push (G ∷ S) F = let more = lefts-push S F in omega arith
 
-pub counted-push : (m n : Counts) (k : ℕ) (S : List Frame) (F : Frame) → IsCounted m k S → Raised m n (named F) → IsCounted n (k + lefts_of F) (S ++ F ∷ [])
+pub counted-push : (m n : Counts) (k : ℕ) (S : List ParserFrame) (F : ParserFrame) → IsCounted m k S → Raised m n (named F) → IsCounted n (k + lefts_of F) (S ++ F ∷ [])
 counted-push m n k S F before raised = (
   λ f. let o = occurrences-push f S F in let b = before.0 f in let r = raised f in omega arith,
   let o = lefts-push S F in let b = before.1 in omega arith,
 )
 
-pub counted-pop : (m n : Counts) (k : ℕ) (S : List Frame) (F : Frame) → IsCounted m k (S ++ F ∷ []) → Raised n m (named F) → (l : ℕ) → k ≡ l + lefts_of F → IsCounted n l S
+pub counted-pop : (m n : Counts) (k : ℕ) (S : List ParserFrame) (F : ParserFrame) → IsCounted m k (S ++ F ∷ []) → Raised n m (named F) → (l : ℕ) → k ≡ l + lefts_of F → IsCounted n l S
 counted-pop m n k S F before lowered l e = (
   λ f. let o = occurrences-push f S F in let b = before.0 f in let r = lowered f in omega arith,
   let o = lefts-push S F in let b = before.1 in omega arith,
@@ -84,7 +84,7 @@ among-counted f (x ∷ xs) =
 named-counted : (f : Symbol) (xs : List Symbol) → is_among same_name f xs ≡ positive (0 + occurrences f xs)
 named-counted f xs = let e : occurrences f xs ≡ 0 + occurrences f xs = omega arith in among-counted f xs ∙ ap (positive) e
 
-hides-counted : (f : Symbol) (F : Frame) → hides F f ≡ positive (lefts_of F + occurrences f (named F))
+hides-counted : (f : Symbol) (F : ParserFrame) → hides F f ≡ positive (lefts_of F + occurrences f (named F))
 hides-counted f (Operand o s) = refl
 hides-counted f (At g) = refl
 hides-counted f (ForStrategy (Operated o)) = refl
@@ -107,7 +107,7 @@ hides-counted f (ForPattern (ClosureRight l)) = named-counted f (variables l)
 hides-counted f (ForPattern (Patterns g done)) = refl
 hides-counted f (ForPattern (PatternTail done)) = refl
 
-hidden-counted : (f : Symbol) (S : List Frame) → is_hidden f S ≡ positive (lefts_in S + occurrences_in f S)
+hidden-counted : (f : Symbol) (S : List ParserFrame) → is_hidden f S ≡ positive (lefts_in S + occurrences_in f S)
 hidden-counted f [] = refl
 hidden-counted f (F ∷ S) =
     let e : (lefts_of F + occurrences f (named F)) + (lefts_in S + occurrences_in f S) ≡ (lefts_of F + lefts_in S) + (occurrences f (named F) + occurrences_in f S) = omega arith in
@@ -115,15 +115,15 @@ hidden-counted f (F ∷ S) =
     ∙ sym (positive-or (lefts_of F + occurrences f (named F)) (lefts_in S + occurrences_in f S))
     ∙ ap (positive) e
 
-hidden-is : (f : Symbol) (m : Counts) (n : ℕ) (S : List Frame) → IsCounted m n S → is_hidden f (reverse S) ≡ positive (n + count m f)
+hidden-is : (f : Symbol) (m : Counts) (n : ℕ) (S : List ParserFrame) → IsCounted m n S → is_hidden f (reverse S) ≡ positive (n + count m f)
 hidden-is f m n S h = sym (hidden-reverse f S) ∙ hidden-counted f S ∙ (λ i. positive (sym h.1 i + sym (h.0 f) i))
 
 positive-yes : (n : ℕ) → 0 < n → positive n ≡ true
 positive-yes zero h = absurd (omega arith)
 positive-yes (suc n) h = refl
 
-pub hidden-yes : (f : Symbol) (m : Counts) (n : ℕ) (S : List Frame) → IsCounted m n S → 0 < n + count m f → is_hidden f (reverse S) ≡ true
+pub hidden-yes : (f : Symbol) (m : Counts) (n : ℕ) (S : List ParserFrame) → IsCounted m n S → 0 < n + count m f → is_hidden f (reverse S) ≡ true
 hidden-yes f m n S h some = hidden-is f m n S h ∙ positive-yes (n + count m f) some
 
-pub hidden-no : (f : Symbol) (m : Counts) (n : ℕ) (S : List Frame) → IsCounted m n S → n ≡ 0 → count m f ≡ 0 → is_hidden f (reverse S) ≡ false
+pub hidden-no : (f : Symbol) (m : Counts) (n : ℕ) (S : List ParserFrame) → IsCounted m n S → n ≡ 0 → count m f ≡ 0 → is_hidden f (reverse S) ≡ false
 hidden-no f m n S h none never = let e : n + count m f ≡ 0 = omega arith in hidden-is f m n S h ∙ ap positive e

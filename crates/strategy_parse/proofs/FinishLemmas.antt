@@ -12,10 +12,10 @@ use Rattle.strategy_tokens.specs.declared.token.Token.{Token}
 use Rattle.strategy_tokens.specs.declared.token.Token.TheVariants.{Ident, Wildcard, Reserved, Text, Sign as ASign}
 use Rattle.strategy_tokens.specs.declared.token.Keyword.TheVariants.{Id as KId, Then as KThen, End as KEnd}
 use Rattle.strategy_tokens.specs.declared.token.Sign.TheVariants.{OpenRound, CloseRound, CloseSquare, CloseCurly, Colon, Arrow as RightArrow, Greater, Plus, Backslash}
-use Rattle.strategy_parse.specs.declared.parser.state.State.{State}
-use Rattle.strategy_parse.specs.declared.parser.state.State.TheVariants.{Strategy as ToStrategy, FirstStrategy, Read, Used, Opening, Rec as BehindRec, Prim as BehindPrim, PrimOpen, PrimNamed, ScopeOpen, ScopeComma, ScopeNamed, Pattern as ToPattern, FirstPattern, Named, Base, Whole}
-use Rattle.strategy_parse.specs.declared.parser.state.Frame.{Frame}
-use Rattle.strategy_parse.specs.declared.parser.state.Frame.TheVariants.{Operand, At, Strategy as ForStrategy, Pattern as ForPattern}
+use Rattle.strategy_parse.specs.declared.parser.state.ParserState.{ParserState}
+use Rattle.strategy_parse.specs.declared.parser.state.ParserState.TheVariants.{Strategy as ToStrategy, FirstStrategy, Read, Used, Opening, Rec as BehindRec, Prim as BehindPrim, PrimOpen, PrimNamed, ScopeOpen, ScopeComma, ScopeNamed, Pattern as ToPattern, FirstPattern, Named, Base, Whole}
+use Rattle.strategy_parse.specs.declared.parser.state.ParserFrame.{ParserFrame}
+use Rattle.strategy_parse.specs.declared.parser.state.ParserFrame.TheVariants.{Operand, At, Strategy as ForStrategy, Pattern as ForPattern}
 use Rattle.strategy_parse.specs.declared.parser.state.Infix.TheVariants.{Before, Guarded, Otherwise}
 use Rattle.strategy_parse.specs.declared.parser.state.StrategyFrame.{StrategyFrame}
 use Rattle.strategy_parse.specs.declared.parser.state.StrategyFrame.TheVariants.{Operator as Operated, Rec, Child, Scope, Application, If, Then, Else, Where, List as Strategies, Tail as SquareTail}
@@ -25,7 +25,7 @@ use Rattle.strategy_parse.specs.declared.parser.state.StrategyGroup.{StrategyGro
 use Rattle.strategy_parse.specs.declared.parser.state.PatternGroup.{PatternGroup}
 use Rattle.strategy_parse.specs.declared.parser.state.PatternGroup.TheVariants.{Application as PApplication, List as PList, Tuple as PTuple, Annotations, Terms, Prim}
 use Rattle.strategy_parse.specs.Core.{operated, rewrite, rewrite_where}
-use Rattle.strategy_parse.specs.inside.Machine.{Next, goes, ends, stuck, closing, grouped, behind_element, in_frame, behind_choice, behind_seq, behind_arrow, behind, closing_sign, close_patterns, behind_one, pattern_in_frame, behind_pattern, behind_base, step}
+use Rattle.strategy_parse.specs.inside.Parser.{Next, goes, ends, stuck, closing, grouped, behind_element, in_frame, behind_choice, behind_seq, behind_arrow, behind, closing_sign, close_patterns, behind_one, pattern_in_frame, behind_pattern, behind_base, step}
 use Rattle.strategy_parse.specs.Stuck.{Begin, StuckAt}
 use Rattle.strategy_parse.specs.inside.StuckPlaces.{or_later, stuck_at}
 use Rattle.strategy_parse.proofs.Runs.{Accepts, resume, go_on}
@@ -33,7 +33,7 @@ use Rattle.strategy_parse.proofs.CompletePatterns.{base_in, named_in, list_in, r
 use Rattle.strategy_parse.proofs.CompleteStrategies.{arrow_in, used_in, choice_in, closes_first, closes_more}
 use Rattle.strategy_parse.proofs.SoundStrategies.{read_all}
 use Rattle.strategy_parse.proofs.StuckLemmas.{one_less, there, begin-none}
-use Rattle.strategy_parse.proofs.FitLemmas.{Kind, sequences, choices, others, patterns, below_group, below, Fits, stands, FitsNext, step-fits}
+use Rattle.strategy_parse.proofs.FitLemmas.{Position, sequences, choices, others, patterns, below_group, below, Fits, stands, FitsNext, step-fits}
 
 -- some tokens are accepted, where f says where the first one leads to
 abbrev pub Ends : (Token → Next) → Type 0
@@ -43,11 +43,11 @@ Ends f = (c : List Token) × (r : Strategy) × Accepts f c r
 lifted : (f g : Token → Next) → ((y : List Token) (r : Strategy) → Accepts f y r → Accepts g y r) → Ends f → Ends g
 lifted f g h e = (e.0, e.1, h e.0 e.1 e.2)
 
-by_token : (t : Token) (f : Token → Next) (q : State) (S : List Frame) → f t ≡ goes q S → Ends (step q S) → Ends f
+by_token : (t : Token) (f : Token → Next) (q : ParserState) (S : List ParserFrame) → f t ≡ goes q S → Ends (step q S) → Ends f
 by_token t f q S e more = (t ∷ more.0, more.1, ap (go_on (λ p R. resume (step p R) more.0)) e ∙ more.2)
 
 -- what is to be shown of the open forms below
-abbrev Finish : Kind → List Frame → Type 0
+abbrev Finish : Position → List ParserFrame → Type 0
 Finish sequences S = (s : Strategy) → Ends (behind_arrow s S)
 Finish choices S = (s : Strategy) → Ends (behind_choice s S)
 Finish others S = (b s : Strategy) → Ends (behind_choice s (Operand Otherwise b ∷ S))
@@ -55,25 +55,25 @@ Finish patterns S = (p : Pattern) → Ends (behind_pattern p S)
 
 -- ---- after a strategy
 
-read_ends : (S : List Frame) → Finish sequences S → (s : Strategy) → Ends (behind s S)
+read_ends : (S : List ParserFrame) → Finish sequences S → (s : Strategy) → Ends (behind s S)
 read_ends S E s = lifted (behind_arrow s S) (behind s S) (λ y r k. arrow_in s S y r k) (E s)
 
-seq_ends : (S : List Frame) (s : Strategy) → Ends (behind_choice s S) → Ends (behind_seq s S)
+seq_ends : (S : List ParserFrame) (s : Strategy) → Ends (behind_choice s S) → Ends (behind_seq s S)
 seq_ends S s e = lifted (behind_choice s S) (behind_seq s S) (λ y r k. choice_in s S y r k) e
 
-base_ends : (S : List Frame) (p : Pattern) → Ends (behind_pattern p S) → Ends (behind_base p S)
+base_ends : (S : List ParserFrame) (p : Pattern) → Ends (behind_pattern p S) → Ends (behind_base p S)
 base_ends S p e = lifted (behind_pattern p S) (behind_base p S) (λ y r k. base_in p S y r k) e
 
-element_ends : (g : StrategyGroup) (done : List Strategy) (S : List Frame) → Finish sequences S → Ends (behind_element g done S)
+element_ends : (g : StrategyGroup) (done : List Strategy) (S : List ParserFrame) → Finish sequences S → Ends (behind_element g done S)
 element_ends g done S E =
     let e : Ends (behind (grouped g done) S) = read_ends S E (grouped g done) in
     (ASign (closing g) ∷ e.0, e.1, closes_more g done S e.0 e.1 e.2)
 
-then_ends : (a : Strategy) (S : List Frame) → Finish sequences S → (s : Strategy) → Ends (in_frame s (Then a) S)
+then_ends : (a : Strategy) (S : List ParserFrame) → Finish sequences S → (s : Strategy) → Ends (in_frame s (Then a) S)
 then_ends a S E s =
     by_token (Reserved KEnd) (in_frame s (Then a) S) (Read (syntax.guard (syntax.test a) s syntax.id)) S refl (read_ends S E (syntax.guard (syntax.test a) s syntax.id))
 
-frame_ends : (F : StrategyFrame) (S : List Frame) → Finish sequences S → (s : Strategy) → Ends (in_frame s F S)
+frame_ends : (F : StrategyFrame) (S : List ParserFrame) → Finish sequences S → (s : Strategy) → Ends (in_frame s F S)
 frame_ends (Operated o) S E s = by_token (ASign CloseRound) (in_frame s (Operated o) S) (Read (operated o s)) S refl (read_ends S E (operated o s))
 frame_ends (Rec x) S E s = by_token (ASign CloseRound) (in_frame s (Rec x) S) (Read (syntax.rec x s)) S refl (read_ends S E (syntax.rec x s))
 frame_ends (Child i) S E s = by_token (ASign CloseRound) (in_frame s (Child i) S) (Read (syntax.child i s)) S refl (read_ends S E (syntax.child i s))
@@ -99,7 +99,7 @@ frame_ends (SquareTail done) S E s =
 
 -- ---- after a pattern
 
-closed_ends : (g : PatternGroup) (ps : List Pattern) (S : List Frame) → Finish (below_group g) S → Ends (step (close_patterns g ps) S)
+closed_ends : (g : PatternGroup) (ps : List Pattern) (S : List ParserFrame) → Finish (below_group g) S → Ends (step (close_patterns g ps) S)
 closed_ends (PApplication f) ps S E = base_ends S _ (E _)
 closed_ends PList ps S E = base_ends S _ (E _)
 closed_ends PTuple ps S E = base_ends S _ (E _)
@@ -107,17 +107,17 @@ closed_ends (Annotations p) ps S E = E (annotated p (patterns_of ps))
 closed_ends (Terms f ss) ps S E = read_ends S E _
 closed_ends (Prim f) ps S E = read_ends S E _
 
-group_ends : (g : PatternGroup) (ps : List Pattern) (S : List Frame) → Finish (below_group g) S → Ends (behind_one g ps S)
+group_ends : (g : PatternGroup) (ps : List Pattern) (S : List ParserFrame) → Finish (below_group g) S → Ends (behind_one g ps S)
 group_ends g ps S E =
     let e = closed_ends g (ps ++ []) S E in
     (ASign (closing_sign g) ∷ e.0, e.1, rest_in no_patterns g ps S (ASign (closing_sign g) ∷ e.0) e.0 e.1 refl e.2)
 
-right_ends : (l p : Pattern) (S : List Frame) → Finish sequences S → Ends (pattern_in_frame p (ClosureRight l) S)
+right_ends : (l p : Pattern) (S : List ParserFrame) → Finish sequences S → Ends (pattern_in_frame p (ClosureRight l) S)
 right_ends l p S E =
     let made = syntax.scope (first_ones same_name [] (variables l)) (rewrite l p) in
     by_token (ASign Backslash) (pattern_in_frame p (ClosureRight l) S) (Read made) S refl (read_ends S E made)
 
-pattern_frame_ends : (F : PatternFrame) (S : List Frame) → Finish (below F) S → (p : Pattern) → Ends (pattern_in_frame p F S)
+pattern_frame_ends : (F : PatternFrame) (S : List ParserFrame) → Finish (below F) S → (p : Pattern) → Ends (pattern_in_frame p F S)
 pattern_frame_ends Match S E p = read_ends S E (syntax.matches p)
 pattern_frame_ends Build S E p = read_ends S E (syntax.builds p)
 pattern_frame_ends (Applied s) S E p = read_ends S E (syntax.seq (syntax.builds p) s)
@@ -134,7 +134,7 @@ pattern_frame_ends (PatternTail ps) S E p =
 
 -- ---- on all open forms
 
-pub finish : (S : List Frame) (k : Kind) → Fits k S → Finish k S
+pub finish : (S : List ParserFrame) (k : Position) → Fits k S → Finish k S
 finish [] sequences h = λ s. ([], s, refl)
 finish [] choices h = λ s. ([], s, refl)
 finish [] others h = absurd h
@@ -144,7 +144,7 @@ finish (Operand Before r ∷ S) choices h = absurd h
 finish (Operand Before r ∷ S) others h = absurd h
 finish (Operand Before r ∷ S) patterns h = absurd h
 finish (Operand Guarded a ∷ S) sequences h = λ s.
-    let R : List Frame = Operand Otherwise s ∷ (Operand Guarded a ∷ S) in
+    let R : List ParserFrame = Operand Otherwise s ∷ (Operand Guarded a ∷ S) in
     by_token (ASign Plus) (behind_arrow s (Operand Guarded a ∷ S)) ToStrategy R refl
     (by_token (Reserved KId) (step ToStrategy R) (Read syntax.id) R refl
     (lifted (behind_arrow syntax.id R) (behind syntax.id R) (λ y r k. arrow_in syntax.id R y r k)
@@ -174,7 +174,7 @@ finish (ForPattern F ∷ S) patterns h = λ p. pattern_frame_ends F S (finish S 
 some_name : Symbol
 some_name = record { text = codes "x"; is_quoted = false }
 
-module _ (S : List Frame) where
+module _ (S : List ParserFrame) where
   module _ (h : Fits sequences S) where
     read_at : (s : Strategy) → Ends (behind s S)
     read_at s = read_ends S (finish S sequences h) s
@@ -209,7 +209,7 @@ module _ (S : List Frame) where
   base_at : Fits patterns S → (p : Pattern) → Ends (step (Base p) S)
   base_at h p = base_ends S p (finish S patterns h p)
 
-  pub state_ends : (q : State) → Fits (stands q) S → Ends (step q S)
+  pub state_ends : (q : ParserState) → Fits (stands q) S → Ends (step q S)
   state_ends ToStrategy h = by_token (Reserved KId) (step ToStrategy S) (Read syntax.id) S refl (read_at h syntax.id)
   state_ends (FirstStrategy g) h = first_ends h g
   state_ends (Read s) h = read_at h s
@@ -237,14 +237,14 @@ module _ (S : List Frame) where
 abbrev From : (Token → Next) → List Token → Type 0
 From f ts = (c : List Token) × (r : Strategy) × Accepts f (ts ++ c) r
 
-from_next : (f : Token → Next) (t : Token) (ts : List Token) (q : State) (S : List Frame) → f t ≡ goes q S → From (step q S) ts → From f (t ∷ ts)
+from_next : (f : Token → Next) (t : Token) (ts : List Token) (q : ParserState) (S : List ParserFrame) → f t ≡ goes q S → From (step q S) ts → From f (t ∷ ts)
 from_next f t ts q S e more = (more.0, more.1, ap (go_on (λ p R. resume (step p R) (ts ++ more.0))) e ∙ more.2)
 
 abbrev UpTo : (Token → Next) → List Token → Type 0
 UpTo f ts = (k : ℕ) → stuck_at f ts ≡ Some k → From f (take k ts)
 
 up_to_in : (f : Token → Next) (t : Token) (ts : List Token) (n : Next) → f t ≡ n → FitsNext n → Ends f
-    → ((q : State) (S : List Frame) → Fits (stands q) S → UpTo (step q S) ts)
+    → ((q : ParserState) (S : List ParserFrame) → Fits (stands q) S → UpTo (step q S) ts)
     → (k : ℕ) → or_later (λ q S. stuck_at (step q S) ts) n ≡ Some k → From f (take k (t ∷ ts))
 up_to_in f t ts (goes q S) e fits here more k at =
     let less = one_less (stuck_at (step q S) ts) k at in
@@ -258,7 +258,7 @@ up_to_in f t ts stuck e fits here more k at =
     let is : 0 ≡ k = cc in
     subst (λ m. From f (take m (t ∷ ts))) is here
 
-up_to : (ts : List Token) (q : State) (S : List Frame) → Fits (stands q) S → UpTo (step q S) ts
+up_to : (ts : List Token) (q : ParserState) (S : List ParserFrame) → Fits (stands q) S → UpTo (step q S) ts
 up_to [] q S fits k at = let no : ◌≡◌ {A = Option ℕ} None (Some k) = at in cc
 up_to (t ∷ ts) q S fits k at = up_to_in (step q S) t ts (step q S t) refl (step-fits q S t fits) (state_ends S q fits) (up_to ts) k at
 
@@ -267,13 +267,13 @@ none_less None e = refl
 none_less (Some j) e = let no : ◌≡◌ {A = Option ℕ} (Some (suc j)) None = e in cc
 
 all_in : (f : Token → Next) (t : Token) (ts : List Token) (n : Next) → f t ≡ n → FitsNext n
-    → ((q : State) (S : List Frame) → Fits (stands q) S → stuck_at (step q S) ts ≡ None → From (step q S) ts)
+    → ((q : ParserState) (S : List ParserFrame) → Fits (stands q) S → stuck_at (step q S) ts ≡ None → From (step q S) ts)
     → or_later (λ q S. stuck_at (step q S) ts) n ≡ None → From f (t ∷ ts)
 all_in f t ts (goes q S) e fits more at = from_next f t ts q S e (more q S fits (none_less (stuck_at (step q S) ts) at))
 all_in f t ts (ends s) e fits more at = let no : ◌≡◌ {A = Option ℕ} (Some 0) None = at in cc
 all_in f t ts stuck e fits more at = let no : ◌≡◌ {A = Option ℕ} (Some 0) None = at in cc
 
-all : (ts : List Token) (q : State) (S : List Frame) → Fits (stands q) S → stuck_at (step q S) ts ≡ None → From (step q S) ts
+all : (ts : List Token) (q : ParserState) (S : List ParserFrame) → Fits (stands q) S → stuck_at (step q S) ts ≡ None → From (step q S) ts
 all [] q S fits at = state_ends S q fits
 all (t ∷ ts) q S fits at = all_in (step q S) t ts (step q S t) refl (step-fits q S t fits) (all ts) at
 

@@ -10,10 +10,10 @@ use Rattle.strategy_tokens.specs.declared.token.Keyword.{Keyword}
 use Rattle.strategy_tokens.specs.declared.token.Keyword.TheVariants.{Id as KId, Fail as KFail, All as KAll, One as KOne, Some as KSome, Not as KNot, Where as KWhere, Test as KTest, If as KIf, Then as KThen, Else as KElse, End as KEnd, Rec as KRec, Prim as KPrim}
 use Rattle.strategy_tokens.specs.declared.token.Sign.{Sign}
 use Rattle.strategy_tokens.specs.declared.token.Sign.TheVariants.{OpenRound, CloseRound, OpenSquare, CloseSquare, OpenCurly, CloseCurly, Comma, Semicolon, Colon, Bar, FatArrow, Arrow as RightArrow, Less, Greater, LeftChoice, Plus, Question, Exclamation, At as AtSign, Backslash}
-use Rattle.strategy_parse.specs.declared.parser.state.State.{State}
-use Rattle.strategy_parse.specs.declared.parser.state.State.TheVariants.{Strategy as ToStrategy, FirstStrategy, Read, Used, Opening, Rec as BehindRec, Prim as BehindPrim, PrimOpen, PrimNamed, ScopeOpen, ScopeComma, ScopeNamed, Pattern as ToPattern, FirstPattern, Named, Base, Whole}
-use Rattle.strategy_parse.specs.declared.parser.state.Frame.{Frame}
-use Rattle.strategy_parse.specs.declared.parser.state.Frame.TheVariants.{Operand, At, Strategy as ForStrategy, Pattern as ForPattern}
+use Rattle.strategy_parse.specs.declared.parser.state.ParserState.{ParserState}
+use Rattle.strategy_parse.specs.declared.parser.state.ParserState.TheVariants.{Strategy as ToStrategy, FirstStrategy, Read, Used, Opening, Rec as BehindRec, Prim as BehindPrim, PrimOpen, PrimNamed, ScopeOpen, ScopeComma, ScopeNamed, Pattern as ToPattern, FirstPattern, Named, Base, Whole}
+use Rattle.strategy_parse.specs.declared.parser.state.ParserFrame.{ParserFrame}
+use Rattle.strategy_parse.specs.declared.parser.state.ParserFrame.TheVariants.{Operand, At, Strategy as ForStrategy, Pattern as ForPattern}
 use Rattle.strategy_parse.specs.declared.parser.state.Infix.TheVariants.{Before, Guarded, Otherwise}
 use Rattle.strategy_parse.specs.declared.parser.state.StrategyFrame.{StrategyFrame}
 use Rattle.strategy_parse.specs.declared.parser.state.StrategyFrame.TheVariants.{Operator as Operated, Rec, Child, Scope, Application, If, Then, Else, Where, List as Strategies, Tail as SquareTail}
@@ -24,18 +24,18 @@ use Rattle.strategy_parse.specs.declared.parser.state.StrategyGroup.TheVariants.
 use Rattle.strategy_parse.specs.declared.parser.state.PatternGroup.{PatternGroup}
 use Rattle.strategy_parse.specs.declared.parser.state.PatternGroup.TheVariants.{Application as PApplication, List as PList, Tuple as PTuple, Annotations, Terms, Prim}
 use Rattle.strategy_tokens.specs.Marks.{is_mark, is_word}
-use Rattle.strategy_parse.specs.inside.Machine.{Next, goes, ends, stuck, begin, begin_sign, begin_word, begin_child, begin_pattern, open_pattern, closing, behind_bar, behind_element, in_frame, behind_choice, behind_seq, behind_arrow, behind, closing_sign, close_patterns, pattern_bar, behind_one, pattern_in_frame, behind_pattern, behind_base, empty_bar, rec_name, prim_name, scope_name, step}
+use Rattle.strategy_parse.specs.inside.Parser.{Next, goes, ends, stuck, begin, begin_sign, begin_word, begin_child, begin_pattern, open_pattern, closing, behind_bar, behind_element, in_frame, behind_choice, behind_seq, behind_arrow, behind, closing_sign, close_patterns, pattern_bar, behind_one, pattern_in_frame, behind_pattern, behind_base, empty_bar, rec_name, prim_name, scope_name, step}
 
 -- What is on top of the open forms: a strategy, which may be part of a sequence; a whole choice; the second part
 -- of a guarded choice; a pattern.
-pub data Kind : Type 0 where
-  sequences : Kind
-  choices : Kind
-  others : Kind
-  patterns : Kind
+pub data Position : Type 0 where
+  sequences : Position
+  choices : Position
+  others : Position
+  patterns : Position
 
 -- what is below an open list of patterns
-abbrev pub below_group : PatternGroup → Kind
+abbrev pub below_group : PatternGroup → Position
 below_group (PApplication f) = patterns
 below_group PList = patterns
 below_group PTuple = patterns
@@ -43,7 +43,7 @@ below_group (Annotations p) = patterns
 below_group (Terms f ss) = sequences
 below_group (Prim f) = sequences
 
-abbrev pub below : PatternFrame → Kind
+abbrev pub below : PatternFrame → Position
 below Match = sequences
 below Build = sequences
 below (Applied s) = sequences
@@ -53,7 +53,7 @@ below (ClosureRight p) = sequences
 below (Patterns g ps) = below_group g
 below (PatternTail ps) = patterns
 
-abbrev pub Fits : Kind → List Frame → Type 0
+abbrev pub Fits : Position → List ParserFrame → Type 0
 Fits sequences [] = Unit {0}
 Fits sequences (Operand Before s ∷ S) = Fits sequences S
 Fits sequences (Operand Guarded s ∷ S) = Fits choices S
@@ -82,7 +82,7 @@ Fits patterns (At x ∷ S) = Fits patterns S
 Fits patterns (ForPattern F ∷ S) = Fits (below F) S
 
 -- what was read last, on the forms that are open
-abbrev pub stands : State → Kind
+abbrev pub stands : ParserState → Position
 stands ToStrategy = sequences
 stands (FirstStrategy g) = sequences
 stands (Read s) = sequences
@@ -112,7 +112,7 @@ either false m n h k = k
 
 -- ---- what begins
 
-sign-fits : (s : Sign) (S : List Frame) → Fits sequences S → FitsNext (begin_sign S s)
+sign-fits : (s : Sign) (S : List ParserFrame) → Fits sequences S → FitsNext (begin_sign S s)
 sign-fits Question S h = h
 sign-fits Exclamation S h = h
 sign-fits Less S h = h
@@ -122,7 +122,7 @@ sign-fits OpenRound S h = h
 sign-fits OpenSquare S h = h
 sign-fits s S h = tt
 
-word-fits : (k : Keyword) (S : List Frame) → Fits sequences S → FitsNext (begin_word S k)
+word-fits : (k : Keyword) (S : List ParserFrame) → Fits sequences S → FitsNext (begin_word S k)
 word-fits KId S h = h
 word-fits KFail S h = h
 word-fits KAll S h = h
@@ -136,12 +136,12 @@ word-fits KRec S h = h
 word-fits KPrim S h = h
 word-fits k S h = tt
 
-child-fits : (z : ℤ) (S : List Frame) → Fits sequences S → FitsNext (begin_child S z)
+child-fits : (z : ℤ) (S : List ParserFrame) → Fits sequences S → FitsNext (begin_child S z)
 child-fits (pos (suc n)) S h = h
 child-fits (pos zero) S h = tt
 child-fits (negsuc n) S h = tt
 
-begin-fits : (t : Token) (S : List Frame) → Fits sequences S → FitsNext (begin S t)
+begin-fits : (t : Token) (S : List ParserFrame) → Fits sequences S → FitsNext (begin S t)
 begin-fits (ASign s) S h = sign-fits s S h
 begin-fits (Reserved k) S h = word-fits k S h
 begin-fits (Ident f) S h = h
@@ -150,12 +150,12 @@ begin-fits Wildcard S h = tt
 begin-fits (Text f) S h = tt
 begin-fits Bad S h = tt
 
-open_pattern-fits : (s : Sign) (S : List Frame) → Fits patterns S → FitsNext (open_pattern S s)
+open_pattern-fits : (s : Sign) (S : List ParserFrame) → Fits patterns S → FitsNext (open_pattern S s)
 open_pattern-fits OpenSquare S h = h
 open_pattern-fits OpenRound S h = h
 open_pattern-fits s S h = tt
 
-pattern-fits : (t : Token) (S : List Frame) → Fits patterns S → FitsNext (begin_pattern S t)
+pattern-fits : (t : Token) (S : List ParserFrame) → Fits patterns S → FitsNext (begin_pattern S t)
 pattern-fits Wildcard S h = h
 pattern-fits (Ident f) S h = h
 pattern-fits (Integer z) S h = h
@@ -166,16 +166,16 @@ pattern-fits Bad S h = tt
 
 -- ---- after a strategy
 
-bar-fits : (g : StrategyGroup) (done : List Strategy) (S : List Frame) → Fits sequences S → FitsNext (behind_bar g done S)
+bar-fits : (g : StrategyGroup) (done : List Strategy) (S : List ParserFrame) → Fits sequences S → FitsNext (behind_bar g done S)
 bar-fits Round done S h = tt
 bar-fits Square done S h = h
 bar-fits (Arguments f) done S h = h
 
-element-fits : (g : StrategyGroup) (done : List Strategy) (S : List Frame) (t : Token) → Fits sequences S → FitsNext (behind_element g done S t)
+element-fits : (g : StrategyGroup) (done : List Strategy) (S : List ParserFrame) (t : Token) → Fits sequences S → FitsNext (behind_element g done S t)
 element-fits g done S t h =
     either (is_mark Comma t) _ _ h (either (is_mark Bar t) _ _ (bar-fits g done S h) (either (is_mark (closing g) t) _ _ h tt))
 
-frame-fits : (F : StrategyFrame) (s : Strategy) (S : List Frame) (t : Token) → Fits sequences S → FitsNext (in_frame s F S t)
+frame-fits : (F : StrategyFrame) (s : Strategy) (S : List ParserFrame) (t : Token) → Fits sequences S → FitsNext (in_frame s F S t)
 frame-fits (Operated o) s S t h = either (is_mark CloseRound t) _ _ h tt
 frame-fits (Rec x) s S t h = either (is_mark CloseRound t) _ _ h tt
 frame-fits (Child i) s S t h = either (is_mark CloseRound t) _ _ h tt
@@ -188,7 +188,7 @@ frame-fits (Where p q) s S t h = either (is_mark Backslash t) _ _ h tt
 frame-fits (Strategies g done) s S t h = element-fits g (done ++ s ∷ []) S t h
 frame-fits (SquareTail done) s S t h = either (is_mark CloseSquare t) _ _ h tt
 
-choice-fits : (S : List Frame) (s : Strategy) (t : Token) → Fits choices S → FitsNext (behind_choice s S t)
+choice-fits : (S : List ParserFrame) (s : Strategy) (t : Token) → Fits choices S → FitsNext (behind_choice s S t)
 choice-fits [] s t h = tt
 choice-fits (Operand Otherwise b ∷ []) s t h = absurd h
 choice-fits (Operand Otherwise b ∷ (Operand Guarded a ∷ S)) s t h = choice-fits S (syntax.guard a b s) t h
@@ -203,10 +203,10 @@ choice-fits (Operand Guarded a ∷ S) s t h = absurd h
 choice-fits (At x ∷ S) s t h = absurd h
 choice-fits (ForPattern F ∷ S) s t h = absurd h
 
-seq-fits : (S : List Frame) (s : Strategy) (t : Token) → Fits choices S → FitsNext (behind_seq s S t)
+seq-fits : (S : List ParserFrame) (s : Strategy) (t : Token) → Fits choices S → FitsNext (behind_seq s S t)
 seq-fits S s t h = either (is_mark LeftChoice t) _ _ h (either (is_mark Less t) _ _ h (choice-fits S s t h))
 
-arrow-fits : (S : List Frame) (s : Strategy) (t : Token) → Fits sequences S → FitsNext (behind_arrow s S t)
+arrow-fits : (S : List ParserFrame) (s : Strategy) (t : Token) → Fits sequences S → FitsNext (behind_arrow s S t)
 arrow-fits [] s t h = seq-fits [] s t h
 arrow-fits (Operand Before r ∷ S) s t h = arrow-fits S (syntax.seq r s) t h
 arrow-fits (Operand Guarded a ∷ S) s t h = either (is_mark Plus t) _ _ h tt
@@ -215,12 +215,12 @@ arrow-fits (ForStrategy F ∷ S) s t h = seq-fits (ForStrategy F ∷ S) s t h
 arrow-fits (At x ∷ S) s t h = absurd h
 arrow-fits (ForPattern F ∷ S) s t h = absurd h
 
-behind-fits : (S : List Frame) (s : Strategy) (t : Token) → Fits sequences S → FitsNext (behind s S t)
+behind-fits : (S : List ParserFrame) (s : Strategy) (t : Token) → Fits sequences S → FitsNext (behind s S t)
 behind-fits S s t h = either (is_mark FatArrow t) _ _ h (either (is_mark Semicolon t) _ _ h (arrow-fits S s t h))
 
 -- ---- after a pattern
 
-closed-fits : (g : PatternGroup) (ps : List Pattern) (S : List Frame) → Fits (below_group g) S → Fits (stands (close_patterns g ps)) S
+closed-fits : (g : PatternGroup) (ps : List Pattern) (S : List ParserFrame) → Fits (below_group g) S → Fits (stands (close_patterns g ps)) S
 closed-fits (PApplication f) ps S h = h
 closed-fits PList ps S h = h
 closed-fits PTuple ps S h = h
@@ -228,7 +228,7 @@ closed-fits (Annotations p) ps S h = h
 closed-fits (Terms f ss) ps S h = h
 closed-fits (Prim f) ps S h = h
 
-pattern_bar-fits : (g : PatternGroup) (ps : List Pattern) (S : List Frame) → Fits (below_group g) S → FitsNext (pattern_bar g ps S)
+pattern_bar-fits : (g : PatternGroup) (ps : List Pattern) (S : List ParserFrame) → Fits (below_group g) S → FitsNext (pattern_bar g ps S)
 pattern_bar-fits PList ps S h = h
 pattern_bar-fits (PApplication f) ps S h = tt
 pattern_bar-fits PTuple ps S h = tt
@@ -236,12 +236,12 @@ pattern_bar-fits (Annotations p) ps S h = tt
 pattern_bar-fits (Terms f ss) ps S h = tt
 pattern_bar-fits (Prim f) ps S h = tt
 
-one-fits : (g : PatternGroup) (ps : List Pattern) (S : List Frame) (t : Token) → Fits (below_group g) S → FitsNext (behind_one g ps S t)
+one-fits : (g : PatternGroup) (ps : List Pattern) (S : List ParserFrame) (t : Token) → Fits (below_group g) S → FitsNext (behind_one g ps S t)
 one-fits g ps S t h =
     either (is_mark Comma t) _ _ h (either (is_mark (closing_sign g) t) _ _ (closed-fits g ps S h)
     (either (is_mark Bar t) _ _ (pattern_bar-fits g ps S h) tt))
 
-pattern_frame-fits : (F : PatternFrame) (p : Pattern) (S : List Frame) (t : Token) → Fits (below F) S → FitsNext (pattern_in_frame p F S t)
+pattern_frame-fits : (F : PatternFrame) (p : Pattern) (S : List ParserFrame) (t : Token) → Fits (below F) S → FitsNext (pattern_in_frame p F S t)
 pattern_frame-fits Match p S t h = behind-fits S (syntax.matches p) t h
 pattern_frame-fits Build p S t h = behind-fits S (syntax.builds p) t h
 pattern_frame-fits (Applied s) p S t h = behind-fits S (syntax.seq (syntax.builds p) s) t h
@@ -251,36 +251,36 @@ pattern_frame-fits (ClosureRight l) p S t h = either (is_mark Backslash t) _ _ h
 pattern_frame-fits (Patterns g ps) p S t h = one-fits g (ps ++ p ∷ []) S t h
 pattern_frame-fits (PatternTail ps) p S t h = either (is_mark CloseSquare t) _ _ h tt
 
-behind_pattern-fits : (S : List Frame) (p : Pattern) (t : Token) → Fits patterns S → FitsNext (behind_pattern p S t)
+behind_pattern-fits : (S : List ParserFrame) (p : Pattern) (t : Token) → Fits patterns S → FitsNext (behind_pattern p S t)
 behind_pattern-fits [] p t h = absurd h
 behind_pattern-fits (At x ∷ S) p t h = behind_pattern-fits S (syntax.at x p) t h
 behind_pattern-fits (ForPattern F ∷ S) p t h = pattern_frame-fits F p S t h
 behind_pattern-fits (Operand i s ∷ S) p t h = absurd h
 behind_pattern-fits (ForStrategy F ∷ S) p t h = absurd h
 
-base-fits : (S : List Frame) (p : Pattern) (t : Token) → Fits patterns S → FitsNext (behind_base p S t)
+base-fits : (S : List ParserFrame) (p : Pattern) (t : Token) → Fits patterns S → FitsNext (behind_base p S t)
 base-fits S p t h = either (is_mark OpenCurly t) _ _ h (behind_pattern-fits S p t h)
 
 -- ---- one token
 
-empty_bar-fits : (g : StrategyGroup) (S : List Frame) → Fits sequences S → FitsNext (empty_bar g S)
+empty_bar-fits : (g : StrategyGroup) (S : List ParserFrame) → Fits sequences S → FitsNext (empty_bar g S)
 empty_bar-fits (Arguments f) S h = h
 empty_bar-fits Round S h = tt
 empty_bar-fits Square S h = tt
 
-rec-fits : (t : Token) (S : List Frame) → Fits sequences S → FitsNext (rec_name S t)
+rec-fits : (t : Token) (S : List ParserFrame) → Fits sequences S → FitsNext (rec_name S t)
 rec-fits (Ident f) S h = h
 rec-fits t S h = tt
 
-prim-fits : (t : Token) (S : List Frame) → Fits sequences S → FitsNext (prim_name S t)
+prim-fits : (t : Token) (S : List ParserFrame) → Fits sequences S → FitsNext (prim_name S t)
 prim-fits (Text f) S h = h
 prim-fits t S h = tt
 
-scope-fits : (t : Token) (xs : List Symbol) (S : List Frame) → Fits sequences S → FitsNext (scope_name xs S t)
+scope-fits : (t : Token) (xs : List Symbol) (S : List ParserFrame) → Fits sequences S → FitsNext (scope_name xs S t)
 scope-fits (Ident f) xs S h = h
 scope-fits t xs S h = tt
 
-pub step-fits : (q : State) (S : List Frame) (t : Token) → Fits (stands q) S → FitsNext (step q S t)
+pub step-fits : (q : ParserState) (S : List ParserFrame) (t : Token) → Fits (stands q) S → FitsNext (step q S t)
 step-fits ToStrategy S t h = begin-fits t S h
 step-fits (FirstStrategy g) S t h =
     either (is_mark (closing g) t) _ _ h (either (is_mark Bar t) _ _ (empty_bar-fits g S h) (begin-fits t (ForStrategy (Strategies g []) ∷ S) h))

@@ -9,14 +9,14 @@ use Rattle.strategy_syntax.specs.declared.strategy.StrategyForm.TheVariants as f
 use Rattle.strategy_tokens.specs.declared.token.Token.{Token}
 use Rattle.strategy_tokens.specs.declared.token.Token.TheVariants.{Sign as ASign}
 use Rattle.strategy_tokens.specs.declared.token.Sign.TheVariants.{Question}
-use Rattle.strategy_parse.specs.declared.parser.state.State.TheVariants.{Strategy as ToStrategy, Pattern as ToPattern}
-use Rattle.strategy_parse.specs.declared.parser.state.Frame.{Frame}
-use Rattle.strategy_parse.specs.declared.parser.state.Frame.TheVariants.{Pattern as ForPattern}
+use Rattle.strategy_parse.specs.declared.parser.state.ParserState.TheVariants.{Strategy as ToStrategy, Pattern as ToPattern}
+use Rattle.strategy_parse.specs.declared.parser.state.ParserFrame.{ParserFrame}
+use Rattle.strategy_parse.specs.declared.parser.state.ParserFrame.TheVariants.{Pattern as ForPattern}
 use Rattle.strategy_parse.specs.declared.parser.state.PatternFrame.TheVariants.{Match}
 use Rattle.strategy_parse.specs.Written.{Choice, sequence, left_choice, guarded_choice, last, before, Arrow, arrow, Prefix, question, exclamation, application, identity, failure, operator, if_then, if_then_else, recursion, primitive, local, closure, closure_where, round, square, square_with_tail, name, call, call_with_terms, child}
 use Rattle.strategy_parse.specs.Grammar.{ReadsPattern, ReadsChoice, ReadsArrow, ReadsPrefix, Reading}
 use Rattle.strategy_parse.specs.Core.{core, core_prefix, then_matched}
-use Rattle.strategy_parse.specs.inside.Machine.{step, front}
+use Rattle.strategy_parse.specs.inside.Parser.{step, front}
 use Rattle.strategy_parse.specs.inside.Fronts.{Stops, FrontGives}
 use Rattle.strategy_parse.proofs.CompletePatterns.{pattern_in}
 use Rattle.strategy_parse.proofs.CompleteStrategies.{reads_all}
@@ -111,7 +111,7 @@ same_front s r x y e =
 no_front : (o : Option (Strategy × List Token)) (p : Strategy × List Token) → o ≡ None → o ≡ Some p → ⊥
 no_front o p h k = let no : ◌≡◌ {A = Option (Strategy × List Token)} None (Some p) = sym h ∙ k in cc
 
-module _ (x : List Token) (S : List Frame) (bottom : S ≡ []) where
+module _ (x : List Token) (S : List ParserFrame) (bottom : S ≡ []) where
   pub strategy-given : (s : Strategy) (y : List Token) → front (step ToStrategy S) x ≡ Some (s, y) → FrontGives x s y
   strategy-given s y e = front-gives x s y (subst (λ l. front (step ToStrategy l) x ≡ Some (s, y)) bottom e)
 
@@ -124,7 +124,7 @@ module _ (x : List Token) (S : List Frame) (bottom : S ≡ []) where
   pub strategy-none : front (step ToStrategy S) x ≡ None → (a : Choice) (y : List Token) → ReadsChoice a x y → Stops y → ⊥
   strategy-none e a y h stops = no_front (front (step ToStrategy S) x) (core a, y) e (reached a y h stops)
 
-module _ (x : List Token) (S : List Frame) (bottom : S ≡ ForPattern Match ∷ []) where
+module _ (x : List Token) (S : List ParserFrame) (bottom : S ≡ ForPattern Match ∷ []) where
   pub pattern-given : (s : Strategy) (p : Pattern) (y : List Token) → front (step ToPattern S) x ≡ Some (s, y) → s ≡ syntax.matches p → ReadsPattern p x y
   pattern-given s p y e same =
       front-pattern x p y (subst (λ l. front (step ToPattern l) x ≡ Some (syntax.matches p, y)) bottom (subst (λ r. front (step ToPattern S) x ≡ Some (r, y)) same e))

@@ -11,10 +11,10 @@ use Rattle.strategy_tokens.specs.declared.token.Keyword.{Keyword}
 use Rattle.strategy_tokens.specs.declared.token.Keyword.TheVariants.{Id as KId, Fail as KFail, All as KAll, One as KOne, Some as KSome, Not as KNot, Where as KWhere, Test as KTest, If as KIf, Then as KThen, Else as KElse, End as KEnd, Rec as KRec, Prim as KPrim}
 use Rattle.strategy_tokens.specs.declared.token.Sign.{Sign}
 use Rattle.strategy_tokens.specs.declared.token.Sign.TheVariants.{OpenRound, CloseRound, OpenSquare, CloseSquare, OpenCurly, CloseCurly, Comma, Semicolon, Colon, Bar, FatArrow, Arrow as RightArrow, Less, Greater, LeftChoice, Plus, Question, Exclamation, At as AtSign, Backslash}
-use Rattle.strategy_parse.specs.declared.parser.state.State.{State}
-use Rattle.strategy_parse.specs.declared.parser.state.State.TheVariants.{Strategy as ToStrategy, FirstStrategy, Read, Used, Opening, Rec as BehindRec, Prim as BehindPrim, PrimOpen, PrimNamed, ScopeOpen, ScopeComma, ScopeNamed, Pattern as ToPattern, FirstPattern, Named, Base, Whole}
-use Rattle.strategy_parse.specs.declared.parser.state.Frame.{Frame}
-use Rattle.strategy_parse.specs.declared.parser.state.Frame.TheVariants.{Operand, At, Strategy as ForStrategy, Pattern as ForPattern}
+use Rattle.strategy_parse.specs.declared.parser.state.ParserState.{ParserState}
+use Rattle.strategy_parse.specs.declared.parser.state.ParserState.TheVariants.{Strategy as ToStrategy, FirstStrategy, Read, Used, Opening, Rec as BehindRec, Prim as BehindPrim, PrimOpen, PrimNamed, ScopeOpen, ScopeComma, ScopeNamed, Pattern as ToPattern, FirstPattern, Named, Base, Whole}
+use Rattle.strategy_parse.specs.declared.parser.state.ParserFrame.{ParserFrame}
+use Rattle.strategy_parse.specs.declared.parser.state.ParserFrame.TheVariants.{Operand, At, Strategy as ForStrategy, Pattern as ForPattern}
 use Rattle.strategy_parse.specs.declared.parser.state.Infix.TheVariants.{Before, Guarded, Otherwise}
 use Rattle.strategy_parse.specs.declared.parser.state.StrategyFrame.{StrategyFrame}
 use Rattle.strategy_parse.specs.declared.parser.state.StrategyFrame.TheVariants.{Operator as Operated, Rec, Child, Scope, Application, If, Then, Else, Where, List as Strategies, Tail as SquareTail}
@@ -25,7 +25,7 @@ use Rattle.strategy_parse.specs.declared.parser.state.StrategyGroup.TheVariants.
 use Rattle.strategy_parse.specs.declared.parser.state.PatternGroup.{PatternGroup}
 use Rattle.strategy_parse.specs.declared.parser.state.PatternGroup.TheVariants.{Application as PApplication, List as PList, Tuple as PTuple, Annotations, Terms, Prim}
 use Rattle.strategy_tokens.specs.Marks.{is_mark, is_word}
-use Rattle.strategy_parse.specs.inside.Machine.{Next, goes, ends, stuck, begin, begin_sign, begin_word, begin_child, begin_pattern, open_pattern, behind, behind_arrow, behind_seq, behind_choice, in_frame, behind_element, behind_bar, close_strategies, closing, grouped, behind_pattern, behind_base, pattern_in_frame, behind_one, pattern_bar, closing_sign, close_patterns, first_strategy, empty_bar, rec_name, prim_name, scope_name, begin_scope, step, front, front_of}
+use Rattle.strategy_parse.specs.inside.Parser.{Next, goes, ends, stuck, begin, begin_sign, begin_word, begin_child, begin_pattern, open_pattern, behind, behind_arrow, behind_seq, behind_choice, in_frame, behind_element, behind_bar, close_strategies, closing, grouped, behind_pattern, behind_base, pattern_in_frame, behind_one, pattern_bar, closing_sign, close_patterns, first_strategy, empty_bar, rec_name, prim_name, scope_name, begin_scope, step, front, front_of}
 use Rattle.strategy_parse.proofs.Runs.{resume, at_end, go_on}
 use Rattle.strategy_parse.specs.inside.Fronts.{goes_on, Stops}
 
@@ -34,7 +34,7 @@ use Rattle.strategy_parse.specs.inside.Fronts.{goes_on, Stops}
 abbrev NoEnd : Next → Type 0
 NoEnd n = (s : Strategy) → n ≡ ends s → ⊥
 
-goes-no : (q : State) (S : List Frame) → NoEnd (goes q S)
+goes-no : (q : ParserState) (S : List ParserFrame) → NoEnd (goes q S)
 goes-no q S s e = cc
 
 stuck-no : NoEnd stuck
@@ -44,7 +44,7 @@ if-no : (b : Bool) (X Y : Next) → NoEnd X → NoEnd Y → NoEnd (if b then X e
 if-no true X Y x y = x
 if-no false X Y x y = y
 
-only-no : (b : Bool) (q : State) (S : List Frame) → NoEnd (if b then goes q S else stuck)
+only-no : (b : Bool) (q : ParserState) (S : List ParserFrame) → NoEnd (if b then goes q S else stuck)
 only-no b q S = if-no b (goes q S) stuck (goes-no q S) stuck-no
 
 -- what is read in one case ends in the other
@@ -82,7 +82,7 @@ or-right true b e = absurd (cc)
 or-right false b e = e
 
 module _ (t u : Token) (k : Quiet u) where
-  element-no : (g : StrategyGroup) (done : List Strategy) (S : List Frame) → NoEnd (behind_element g done S t)
+  element-no : (g : StrategyGroup) (done : List Strategy) (S : List ParserFrame) → NoEnd (behind_element g done S t)
   element-no g done S =
       if-no (is_mark Comma t) (goes ToStrategy (ForStrategy (Strategies g done) ∷ S)) _ (goes-no ToStrategy (ForStrategy (Strategies g done) ∷ S))
       (if-no (is_mark Bar t) (behind_bar g done S) (close_strategies g done S t) (bar-no g) (only-no (is_mark (closing g) t) (Read (grouped g done)) S)) where
@@ -91,7 +91,7 @@ module _ (t u : Token) (k : Quiet u) where
         bar-no Square = goes-no ToStrategy (ForStrategy (SquareTail done) ∷ S)
         bar-no (Arguments f) = goes-no (FirstPattern (Terms f done)) S
 
-  frame-no : (F : StrategyFrame) (s : Strategy) (S : List Frame) → NoEnd (in_frame s F S t)
+  frame-no : (F : StrategyFrame) (s : Strategy) (S : List ParserFrame) → NoEnd (in_frame s F S t)
   frame-no (Operated o) s S = only-no (is_mark CloseRound t) _ S
   frame-no (Rec x) s S = only-no (is_mark CloseRound t) _ S
   frame-no (Child i) s S = only-no (is_mark CloseRound t) _ S
@@ -104,7 +104,7 @@ module _ (t u : Token) (k : Quiet u) where
   frame-no (Strategies g done) s S = element-no g (done ++ s ∷ []) S
   frame-no (SquareTail done) s S = only-no (is_mark CloseSquare t) _ S
 
-  choice-ends : (S : List Frame) (s r : Strategy) → behind_choice s S t ≡ ends r → behind_choice s S u ≡ ends r
+  choice-ends : (S : List ParserFrame) (s r : Strategy) → behind_choice s S t ≡ ends r → behind_choice s S u ≡ ends r
   choice-ends [] s r e = e
   choice-ends (Operand Otherwise b ∷ []) s r e = absurd (cc)
   choice-ends (Operand Otherwise b ∷ (Operand Guarded a ∷ S)) s r e = choice-ends S (syntax.guard a b s) r e
@@ -119,13 +119,13 @@ module _ (t u : Token) (k : Quiet u) where
   choice-ends (At x ∷ S) s r e = absurd (cc)
   choice-ends (ForPattern F ∷ S) s r e = absurd (cc)
 
-  seq-ends : (S : List Frame) (s r : Strategy) → behind_seq s S t ≡ ends r → behind_seq s S u ≡ ends r
+  seq-ends : (S : List ParserFrame) (s r : Strategy) → behind_seq s S t ≡ ends r → behind_seq s S u ≡ ends r
   seq-ends S s r e =
       rw (k.choice, k.less) (choice-ends S s r
       (past (is_mark Less t) (goes ToStrategy (Operand Guarded s ∷ S)) (behind_choice s S t) r (goes-no ToStrategy (Operand Guarded s ∷ S))
       (past (is_mark LeftChoice t) (goes ToStrategy (Operand Otherwise syntax.id ∷ (Operand Guarded s ∷ S))) _ r (goes-no ToStrategy (Operand Otherwise syntax.id ∷ (Operand Guarded s ∷ S))) e)))
 
-  arrow-ends : (S : List Frame) (s r : Strategy) → behind_arrow s S t ≡ ends r → behind_arrow s S u ≡ ends r
+  arrow-ends : (S : List ParserFrame) (s r : Strategy) → behind_arrow s S t ≡ ends r → behind_arrow s S u ≡ ends r
   arrow-ends [] s r e = seq-ends [] s r e
   arrow-ends (Operand Before a ∷ S) s r e = arrow-ends S (syntax.seq a s) r e
   arrow-ends (Operand Guarded a ∷ S) s r e = absurd (only-no (is_mark Plus t) _ _ r e)
@@ -134,13 +134,13 @@ module _ (t u : Token) (k : Quiet u) where
   arrow-ends (At x ∷ S) s r e = seq-ends (At x ∷ S) s r e
   arrow-ends (ForPattern F ∷ S) s r e = seq-ends (ForPattern F ∷ S) s r e
 
-  behind-ends : (S : List Frame) (s r : Strategy) → behind s S t ≡ ends r → behind s S u ≡ ends r
+  behind-ends : (S : List ParserFrame) (s r : Strategy) → behind s S t ≡ ends r → behind s S u ≡ ends r
   behind-ends S s r e =
       rw (k.fat, k.semicolon) (arrow-ends S s r
       (past (is_mark Semicolon t) (goes ToStrategy (Operand Before s ∷ S)) (behind_arrow s S t) r (goes-no ToStrategy (Operand Before s ∷ S))
       (past (is_mark FatArrow t) (goes ToPattern (ForPattern (Matched s) ∷ S)) _ r (goes-no ToPattern (ForPattern (Matched s) ∷ S)) e)))
 
-  one-no : (g : PatternGroup) (ps : List Pattern) (S : List Frame) → NoEnd (behind_one g ps S t)
+  one-no : (g : PatternGroup) (ps : List Pattern) (S : List ParserFrame) → NoEnd (behind_one g ps S t)
   one-no g ps S =
       if-no (is_mark Comma t) (goes ToPattern (ForPattern (Patterns g ps) ∷ S)) _ (goes-no ToPattern (ForPattern (Patterns g ps) ∷ S))
       (if-no (is_mark (closing_sign g) t) (goes (close_patterns g ps) S) _ (goes-no (close_patterns g ps) S)
@@ -153,7 +153,7 @@ module _ (t u : Token) (k : Quiet u) where
         bar-no (Terms f ss) = stuck-no
         bar-no (Prim f) = stuck-no
 
-  pattern_frame-ends : (F : PatternFrame) (p : Pattern) (S : List Frame) (r : Strategy) → pattern_in_frame p F S t ≡ ends r → pattern_in_frame p F S u ≡ ends r
+  pattern_frame-ends : (F : PatternFrame) (p : Pattern) (S : List ParserFrame) (r : Strategy) → pattern_in_frame p F S t ≡ ends r → pattern_in_frame p F S u ≡ ends r
   pattern_frame-ends Match p S r e = behind-ends S (syntax.matches p) r e
   pattern_frame-ends Build p S r e = behind-ends S (syntax.builds p) r e
   pattern_frame-ends (Applied s) p S r e = behind-ends S (syntax.seq (syntax.builds p) s) r e
@@ -163,7 +163,7 @@ module _ (t u : Token) (k : Quiet u) where
   pattern_frame-ends (Patterns g ps) p S r e = absurd (one-no g (ps ++ p ∷ []) S r e)
   pattern_frame-ends (PatternTail ps) p S r e = absurd (only-no (is_mark CloseSquare t) _ _ r e)
 
-  pattern-ends : (S : List Frame) (p : Pattern) (r : Strategy) → behind_pattern p S t ≡ ends r → behind_pattern p S u ≡ ends r
+  pattern-ends : (S : List ParserFrame) (p : Pattern) (r : Strategy) → behind_pattern p S t ≡ ends r → behind_pattern p S u ≡ ends r
   pattern-ends [] p r e = absurd (cc)
   pattern-ends (At x ∷ S) p r e = pattern-ends S (syntax.at x p) r e
   pattern-ends (ForPattern F ∷ S) p r e = pattern_frame-ends F p S r e
@@ -172,21 +172,21 @@ module _ (t u : Token) (k : Quiet u) where
   pattern-ends (Operand Otherwise b ∷ S) p r e = absurd (cc)
   pattern-ends (ForStrategy F ∷ S) p r e = absurd (cc)
 
-  base-ends : (S : List Frame) (p : Pattern) (r : Strategy) → behind_base p S t ≡ ends r → behind_base p S u ≡ ends r
+  base-ends : (S : List ParserFrame) (p : Pattern) (r : Strategy) → behind_base p S t ≡ ends r → behind_base p S u ≡ ends r
   base-ends S p r e = rw k.curly (pattern-ends S p r (past (is_mark OpenCurly t) (goes (FirstPattern (Annotations p)) S) (behind_pattern p S t) r (goes-no (FirstPattern (Annotations p)) S) e))
 
 -- ---- a beginning never ends
 
-open_pattern-no : (s : Sign) (S : List Frame) → NoEnd (open_pattern S s)
+open_pattern-no : (s : Sign) (S : List ParserFrame) → NoEnd (open_pattern S s)
 open_pattern-no OpenSquare S r e = cc
 open_pattern-no OpenRound S r e = cc
 open_pattern-no s S r e = cc
 
-begin_pattern-no : (t : Token) (S : List Frame) → NoEnd (begin_pattern S t)
+begin_pattern-no : (t : Token) (S : List ParserFrame) → NoEnd (begin_pattern S t)
 begin_pattern-no (ASign s) S = open_pattern-no s S
 begin_pattern-no t S = λ r e. cc
 
-begin_sign-no : (s : Sign) (S : List Frame) → NoEnd (begin_sign S s)
+begin_sign-no : (s : Sign) (S : List ParserFrame) → NoEnd (begin_sign S s)
 begin_sign-no Question S r e = cc
 begin_sign-no Exclamation S r e = cc
 begin_sign-no Less S r e = cc
@@ -196,7 +196,7 @@ begin_sign-no OpenRound S r e = cc
 begin_sign-no OpenSquare S r e = cc
 begin_sign-no s S r e = cc
 
-begin_word-no : (w : Keyword) (S : List Frame) → NoEnd (begin_word S w)
+begin_word-no : (w : Keyword) (S : List ParserFrame) → NoEnd (begin_word S w)
 begin_word-no KId S r e = cc
 begin_word-no KFail S r e = cc
 begin_word-no KAll S r e = cc
@@ -210,31 +210,31 @@ begin_word-no KRec S r e = cc
 begin_word-no KPrim S r e = cc
 begin_word-no w S r e = cc
 
-begin_child-no : (z : ℤ) (S : List Frame) → NoEnd (begin_child S z)
+begin_child-no : (z : ℤ) (S : List ParserFrame) → NoEnd (begin_child S z)
 begin_child-no (pos (suc n)) S r e = cc
 begin_child-no (pos zero) S r e = cc
 begin_child-no (negsuc n) S r e = cc
 
-begin-no : (t : Token) (S : List Frame) → NoEnd (begin S t)
+begin-no : (t : Token) (S : List ParserFrame) → NoEnd (begin S t)
 begin-no (ASign s) S = begin_sign-no s S
 begin-no (Reserved w) S = begin_word-no w S
 begin-no (Integer z) S = begin_child-no z S
 begin-no t S = λ r e. cc
 
-rec-no : (t : Token) (S : List Frame) → NoEnd (rec_name S t)
+rec-no : (t : Token) (S : List ParserFrame) → NoEnd (rec_name S t)
 rec-no (Ident f) S r e = cc
 rec-no t S r e = cc
 
-prim-no : (t : Token) (S : List Frame) → NoEnd (prim_name S t)
+prim-no : (t : Token) (S : List ParserFrame) → NoEnd (prim_name S t)
 prim-no (Text f) S r e = cc
 prim-no t S r e = cc
 
-scope-no : (t : Token) (xs : List Symbol) (S : List Frame) → NoEnd (scope_name xs S t)
+scope-no : (t : Token) (xs : List Symbol) (S : List ParserFrame) → NoEnd (scope_name xs S t)
 scope-no (Ident f) xs S r e = cc
 scope-no t xs S r e = cc
 
 module _ (t u : Token) (k : Quiet u) where
-  step-ends : (q : State) (S : List Frame) (r : Strategy) → step q S t ≡ ends r → step q S u ≡ ends r
+  step-ends : (q : ParserState) (S : List ParserFrame) (r : Strategy) → step q S t ≡ ends r → step q S u ≡ ends r
   step-ends ToStrategy S r e = absurd (begin-no t S r e)
   step-ends (FirstStrategy g) S r e = absurd (first-no r e) where
     bar-no : (h : StrategyGroup) → NoEnd (empty_bar h S)
@@ -281,7 +281,7 @@ stops_quiet t e =
 
 -- ---- a run over the start
 
-abbrev Fronts : State → List Frame → List Token → Strategy → List Token → Type 0
+abbrev Fronts : ParserState → List ParserFrame → List Token → Strategy → List Token → Type 0
 Fronts q S x s y = front (step q S) x ≡ Some (s, y)
 
 end-is : (n : Next) (s : Strategy) → at_end n ≡ Some s → n ≡ ends s
@@ -289,22 +289,22 @@ end-is (goes q S) s e = absurd (cc)
 end-is (ends r) s e = cc
 end-is stuck s e = absurd (cc)
 
-stop_front : (q : State) (S : List Frame) (y : List Token) (s : Strategy) → Stops y → step q S Bad ≡ ends s → Fronts q S y s y
+stop_front : (q : ParserState) (S : List ParserFrame) (y : List Token) (s : Strategy) → Stops y → step q S Bad ≡ ends s → Fronts q S y s y
 stop_front q S [] s h e = ap (front_of (λ p T. None) []) e
 stop_front q S (t ∷ ts) s h e =
     ap (front_of (λ p T. front (step p T) ts) (t ∷ ts)) (step-ends Bad t (stops_quiet t h) q S s e)
 
-next_front : (w : List Token) (t : Token) (y : List Token) (s : Strategy) → ((p : State) (T : List Frame) → resume (step p T) w ≡ Some s → Fronts p T (w ++ y) s y) → (n : Next) → go_on (λ p T. resume (step p T) w) n ≡ Some s → front_of (λ p T. front (step p T) (w ++ y)) (t ∷ (w ++ y)) n ≡ Some (s, y)
+next_front : (w : List Token) (t : Token) (y : List Token) (s : Strategy) → ((p : ParserState) (T : List ParserFrame) → resume (step p T) w ≡ Some s → Fronts p T (w ++ y) s y) → (n : Next) → go_on (λ p T. resume (step p T) w) n ≡ Some s → front_of (λ p T. front (step p T) (w ++ y)) (t ∷ (w ++ y)) n ≡ Some (s, y)
 next_front w t y s more (goes p T) e = more p T e
 next_front w t y s more (ends r) e = absurd (cc)
 next_front w t y s more stuck e = absurd (cc)
 
-pub resumed_front : (w : List Token) (q : State) (S : List Frame) (y : List Token) (s : Strategy) → Stops y → resume (step q S) w ≡ Some s → Fronts q S (w ++ y) s y
+pub resumed_front : (w : List Token) (q : ParserState) (S : List ParserFrame) (y : List Token) (s : Strategy) → Stops y → resume (step q S) w ≡ Some s → Fronts q S (w ++ y) s y
 resumed_front [] q S y s h e = stop_front q S y s h (end-is (step q S Bad) s e)
 resumed_front (t ∷ w) q S y s h e = next_front w t y s (λ p T k. resumed_front w p T y s h k) (step q S t) e
 
 -- what was read, if x begins with s and y is the rest
-pub record Taken (q : State) (S : List Frame) (x : List Token) (s : Strategy) (y : List Token) : Type 0 where
+pub record Taken (q : ParserState) (S : List ParserFrame) (x : List Token) (s : Strategy) (y : List Token) : Type 0 where
   pub taken : List Token
   pub splits : x ≡ taken ++ y
   pub gives : resume (step q S) taken ≡ Some s
@@ -314,17 +314,17 @@ same_pair r s x y e =
     let same : ◌≡◌ {A = Strategy × List Token} (r, x) (s, y) = cc in
     (ap (λ (p : Strategy × List Token). p.0) same, ap (λ (p : Strategy × List Token). p.1) same)
 
-ended : (q : State) (S : List Frame) (x y : List Token) (r s : Strategy) → step q S Bad ≡ ends r → ◌≡◌ {A = Option (Strategy × List Token)} (Some (r, x)) (Some (s, y)) → Taken q S x s y
+ended : (q : ParserState) (S : List ParserFrame) (x y : List Token) (r s : Strategy) → step q S Bad ≡ ends r → ◌≡◌ {A = Option (Strategy × List Token)} (Some (r, x)) (Some (s, y)) → Taken q S x s y
 ended q S x y r s e h =
     let same = same_pair r s x y h in
     record { taken = []; splits = same.1; gives = ap at_end e ∙ ap Some same.0 }
 
-last_taken : (n : Next) (q : State) (S : List Frame) (s : Strategy) (y : List Token) → step q S Bad ≡ n → front_of (λ p T. None) [] n ≡ Some (s, y) → Taken q S [] s y
+last_taken : (n : Next) (q : ParserState) (S : List ParserFrame) (s : Strategy) (y : List Token) → step q S Bad ≡ n → front_of (λ p T. None) [] n ≡ Some (s, y) → Taken q S [] s y
 last_taken (goes p T) q S s y h e = absurd (cc)
 last_taken (ends r) q S s y h e = ended q S [] y r s h e
 last_taken stuck q S s y h e = absurd (cc)
 
-next_taken : (x : List Token) (s : Strategy) (y : List Token) → ((p : State) (T : List Frame) → Fronts p T x s y → Taken p T x s y) → (n : Next) (t : Token) (q : State) (S : List Frame) → step q S t ≡ n → front_of (λ p T. front (step p T) x) (t ∷ x) n ≡ Some (s, y) → Taken q S (t ∷ x) s y
+next_taken : (x : List Token) (s : Strategy) (y : List Token) → ((p : ParserState) (T : List ParserFrame) → Fronts p T x s y → Taken p T x s y) → (n : Next) (t : Token) (q : ParserState) (S : List ParserFrame) → step q S t ≡ n → front_of (λ p T. front (step p T) x) (t ∷ x) n ≡ Some (s, y) → Taken q S (t ∷ x) s y
 next_taken x s y more (goes p T) t q S h e =
     let rest = more p T e in
     record {
@@ -335,6 +335,6 @@ next_taken x s y more (goes p T) t q S h e =
 next_taken x s y more (ends r) t q S h e = ended q S (t ∷ x) y r s (step-ends t Bad bad_quiet q S r h) e
 next_taken x s y more stuck t q S h e = absurd (cc)
 
-pub front_taken : (x : List Token) (q : State) (S : List Frame) (s : Strategy) (y : List Token) → Fronts q S x s y → Taken q S x s y
+pub front_taken : (x : List Token) (q : ParserState) (S : List ParserFrame) (s : Strategy) (y : List Token) → Fronts q S x s y → Taken q S x s y
 front_taken [] q S s y e = last_taken (step q S Bad) q S s y refl e
 front_taken (t ∷ x) q S s y e = next_taken x s y (λ p T k. front_taken x p T s y k) (step q S t) t q S refl e

@@ -4,7 +4,7 @@ use Rattle.std.specs.declared.option.Option.{Option}
 use Rattle.strategy_syntax.specs.Syntax.{Strategy}
 use Rattle.strategy_tokens.specs.declared.token.Token.{Token}
 use Rattle.strategy_parse.specs.Gives.{GivesStrategy}
-use Rattle.strategy_parse.specs.inside.Machine.{begin}
+use Rattle.strategy_parse.specs.inside.Parser.{begin}
 use Rattle.strategy_parse.proofs.Runs.{resume}
 use Rattle.strategy_parse.proofs.CompleteStrategies.{reads_all}
 

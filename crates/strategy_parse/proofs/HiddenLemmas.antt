@@ -3,7 +3,7 @@ use Rattle.std.proofs.Common.{◌≡◌, ◌||◌, Bool, true, false, List, [], 
 use Rattle.std.specs.Prelude.{reverse}
 use Rattle.std.proofs.lemmas.List.{reverse-append}
 use Rattle.term_core.specs.Tree.{Symbol}
-use Rattle.strategy_parse.specs.declared.parser.state.Frame.{Frame}
+use Rattle.strategy_parse.specs.declared.parser.state.ParserFrame.{ParserFrame}
 use Rattle.strategy_parse.specs.inside.FreeNames.{hides, is_hidden}
 
 or-none : (b : Bool) → (b || false) ≡ b
@@ -22,12 +22,12 @@ or-assoc false b c = refl
 
 -- ---- open forms
 
-hidden-append : (f : Symbol) (S R : List Frame) → is_hidden f (S ++ R) ≡ (is_hidden f S || is_hidden f R)
+hidden-append : (f : Symbol) (S R : List ParserFrame) → is_hidden f (S ++ R) ≡ (is_hidden f S || is_hidden f R)
 hidden-append f [] R = refl
 hidden-append f (F ∷ S) R = ap (λ b. hides F f || b) (hidden-append f S R) ∙ or-assoc (hides F f) (is_hidden f S) (is_hidden f R)
 
 -- in any order
-pub hidden-reverse : (f : Symbol) (S : List Frame) → is_hidden f S ≡ is_hidden f (reverse S)
+pub hidden-reverse : (f : Symbol) (S : List ParserFrame) → is_hidden f S ≡ is_hidden f (reverse S)
 hidden-reverse f [] = refl
 hidden-reverse f (F ∷ S) =
     ap (λ b. hides F f || b) (hidden-reverse f S)

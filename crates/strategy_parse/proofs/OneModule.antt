@@ -20,7 +20,7 @@ use Rattle.strategy_syntax.specs.Lists.{first_ones}
 use Rattle.strategy_parse.specs.Core.{core, core_definition, defined, declared, rewrite, rewrite_where}
 use Rattle.strategy_parse.specs.inside.Fronts.{Stops}
 use Rattle.strategy_parse.specs.inside.FreeNames.{names_seen}
-use Rattle.strategy_parse.specs.inside.Machine.{begin}
+use Rattle.strategy_parse.specs.inside.Parser.{begin}
 use Rattle.strategy_parse.specs.inside.ModuleFronts.{behind_mark, header_at, DeclaredLeft}
 use Rattle.strategy_parse.specs.inside.Definitions.{DefinitionEnds}
 use Rattle.strategy_parse.specs.Gives.{GivesModule}

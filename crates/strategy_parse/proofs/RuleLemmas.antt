@@ -18,7 +18,7 @@ use Rattle.strategy_syntax.specs.Lists.{first_ones}
 use Rattle.strategy_parse.specs.Core.{core, core_definition, defined, rewrite, rewrite_where, free_in_choice}
 use Rattle.strategy_parse.specs.inside.Fronts.{FrontGives, Stops}
 use Rattle.strategy_parse.specs.inside.FreeNames.{next_token, names_seen}
-use Rattle.strategy_parse.specs.inside.Machine.{begin, front}
+use Rattle.strategy_parse.specs.inside.Parser.{begin, front}
 use Rattle.strategy_parse.specs.inside.ModuleFronts.{behind_mark, header_at, HeaderLeft}
 use Rattle.strategy_parse.specs.inside.Definitions.{DefinitionEnds, DefinitionGives, header_of, ReadsRule, RuleGives}
 use Rattle.strategy_parse.proofs.SeenPatterns.{NoMark}

@@ -10,9 +10,9 @@ use Rattle.strategy_tokens.specs.declared.token.Keyword.{Keyword}
 use Rattle.strategy_tokens.specs.declared.token.Keyword.TheVariants.{Where as KWhere, Then as KThen, Else as KElse, End as KEnd}
 use Rattle.strategy_tokens.specs.declared.token.Sign.{Sign}
 use Rattle.strategy_tokens.specs.declared.token.Sign.TheVariants.{OpenRound, CloseRound, CloseSquare, OpenCurly, CloseCurly, Comma, Semicolon, Bar, FatArrow, Arrow as RightArrow, Less, Greater, LeftChoice, Plus, At as AtSign, Backslash}
-use Rattle.strategy_parse.specs.declared.parser.state.State.{State}
-use Rattle.strategy_parse.specs.declared.parser.state.Frame.{Frame}
-use Rattle.strategy_parse.specs.declared.parser.state.Frame.TheVariants.{Operand, At, Strategy as ForStrategy, Pattern as ForPattern}
+use Rattle.strategy_parse.specs.declared.parser.state.ParserState.{ParserState}
+use Rattle.strategy_parse.specs.declared.parser.state.ParserFrame.{ParserFrame}
+use Rattle.strategy_parse.specs.declared.parser.state.ParserFrame.TheVariants.{Operand, At, Strategy as ForStrategy, Pattern as ForPattern}
 use Rattle.strategy_parse.specs.declared.parser.state.Infix.TheVariants.{Before, Guarded, Otherwise}
 use Rattle.strategy_parse.specs.declared.parser.state.StrategyFrame.{StrategyFrame}
 use Rattle.strategy_parse.specs.declared.parser.state.StrategyFrame.TheVariants.{Operator as Operated, Rec, Child, Scope, Application, If, Then, Else, Where, List as Strategies, Tail as SquareTail}
@@ -23,7 +23,7 @@ use Rattle.strategy_parse.specs.declared.parser.state.StrategyGroup.TheVariants.
 use Rattle.strategy_parse.specs.declared.parser.state.PatternGroup.{PatternGroup}
 use Rattle.strategy_parse.specs.declared.parser.state.PatternGroup.TheVariants.{Application as PApplication, List as PList, Tuple as PTuple, Annotations, Terms, Prim}
 use Rattle.strategy_tokens.specs.Marks.{is_mark, is_word}
-use Rattle.strategy_parse.specs.inside.Machine.{Next, stuck, behind, behind_arrow, behind_choice, in_frame, behind_element, behind_pattern, pattern_in_frame, behind_one, step, goes, ends}
+use Rattle.strategy_parse.specs.inside.Parser.{Next, stuck, behind, behind_arrow, behind_choice, in_frame, behind_element, behind_pattern, pattern_in_frame, behind_one, step, goes, ends}
 use Rattle.strategy_tokens.proofs.MarkLemmas.{mark_is, word_is}
 
 abbrev pub at_end : Next → Option Strategy
@@ -31,7 +31,7 @@ at_end (goes q S) = None
 at_end (ends s) = Some s
 at_end stuck = None
 
-abbrev pub go_on : (State → List Frame → Option Strategy) → Next → Option Strategy
+abbrev pub go_on : (ParserState → List ParserFrame → Option Strategy) → Next → Option Strategy
 go_on k (goes q S) = k q S
 go_on k (ends s) = None
 go_on k stuck = None
@@ -186,15 +186,15 @@ less = record {
 }
 
 abbrev pub Refuses : Next → Type 0
-Refuses n = (K : State → List Frame → Option Strategy) → go_on K n ≡ None
+Refuses n = (K : ParserState → List ParserFrame → Option Strategy) → go_on K n ≡ None
 
 module _ (t : Token) (h : NoEnd t) where
-  group-stuck : (g : StrategyGroup) (done : List Strategy) (S : List Frame) → Refuses (behind_element g done S t)
+  group-stuck : (g : StrategyGroup) (done : List Strategy) (S : List ParserFrame) → Refuses (behind_element g done S t)
   group-stuck Round done S K = rw (h.comma, h.bar, h.round) refl
   group-stuck Square done S K = rw (h.comma, h.bar, h.square) refl
   group-stuck (Arguments f) done S K = rw (h.comma, h.bar, h.round) refl
 
-  frame-stuck : (F : StrategyFrame) (s : Strategy) (S : List Frame) → Refuses (in_frame s F S t)
+  frame-stuck : (F : StrategyFrame) (s : Strategy) (S : List ParserFrame) → Refuses (in_frame s F S t)
   frame-stuck (Operated o) s S K = rw h.round refl
   frame-stuck (Rec x) s S K = rw h.round refl
   frame-stuck (Child i) s S K = rw h.round refl
@@ -207,7 +207,7 @@ module _ (t : Token) (h : NoEnd t) where
   frame-stuck (Strategies g done) s S K = group-stuck g (done ++ s ∷ []) S K
   frame-stuck (SquareTail done) s S K = rw h.square refl
 
-  pub choice-stuck : (S : List Frame) (s : Strategy) → Refuses (behind_choice s S t)
+  pub choice-stuck : (S : List ParserFrame) (s : Strategy) → Refuses (behind_choice s S t)
   choice-stuck [] s K = refl
   choice-stuck (Operand Otherwise b ∷ []) s K = refl
   choice-stuck (Operand Otherwise b ∷ (Operand Guarded a ∷ S)) s K = choice-stuck S (syntax.guard a b s) K
@@ -223,7 +223,7 @@ module _ (t : Token) (h : NoEnd t) where
   choice-stuck (ForPattern F ∷ S) s K = refl
 
   module _ (choice : is_mark LeftChoice t ≡ false) (lesser : is_mark Less t ≡ false) where
-    pub arrow-stuck : (S : List Frame) (s : Strategy) → Refuses (behind_arrow s S t)
+    pub arrow-stuck : (S : List ParserFrame) (s : Strategy) → Refuses (behind_arrow s S t)
     arrow-stuck [] s K = rw (choice, lesser) refl
     arrow-stuck (Operand Before a ∷ S) s K = arrow-stuck S (syntax.seq a s) K
     arrow-stuck (Operand Guarded a ∷ S) s K = rw h.plus refl
@@ -233,10 +233,10 @@ module _ (t : Token) (h : NoEnd t) where
     arrow-stuck (ForPattern F ∷ S) s K = rw (choice, lesser) refl
 
     module _ (fat : is_mark FatArrow t ≡ false) (semi : is_mark Semicolon t ≡ false) where
-      pub behind-stuck : (S : List Frame) (s : Strategy) → Refuses (behind s S t)
+      pub behind-stuck : (S : List ParserFrame) (s : Strategy) → Refuses (behind s S t)
       behind-stuck S s K = rw (fat, semi) (arrow-stuck S s K)
 
-      one-stuck : (g : PatternGroup) (ps : List Pattern) (S : List Frame) → Refuses (behind_one g ps S t)
+      one-stuck : (g : PatternGroup) (ps : List Pattern) (S : List ParserFrame) → Refuses (behind_one g ps S t)
       one-stuck (PApplication f) ps S K = rw (h.comma, h.round, h.bar) refl
       one-stuck PList ps S K = rw (h.comma, h.square, h.bar) refl
       one-stuck PTuple ps S K = rw (h.comma, h.round, h.bar) refl
@@ -244,7 +244,7 @@ module _ (t : Token) (h : NoEnd t) where
       one-stuck (Terms f ss) ps S K = rw (h.comma, h.round, h.bar) refl
       one-stuck (Prim f) ps S K = rw (h.comma, h.round, h.bar) refl
 
-      pattern_frame-stuck : (F : PatternFrame) (p : Pattern) (S : List Frame) → Refuses (pattern_in_frame p F S t)
+      pattern_frame-stuck : (F : PatternFrame) (p : Pattern) (S : List ParserFrame) → Refuses (pattern_in_frame p F S t)
       pattern_frame-stuck Match p S K = behind-stuck S (syntax.matches p) K
       pattern_frame-stuck Build p S K = behind-stuck S (syntax.builds p) K
       pattern_frame-stuck (Applied s) p S K = behind-stuck S (syntax.seq (syntax.builds p) s) K
@@ -254,7 +254,7 @@ module _ (t : Token) (h : NoEnd t) where
       pattern_frame-stuck (Patterns g ps) p S K = one-stuck g (ps ++ p ∷ []) S K
       pattern_frame-stuck (PatternTail ps) p S K = rw h.square refl
 
-      pub pattern-stuck : (S : List Frame) (p : Pattern) → Refuses (behind_pattern p S t)
+      pub pattern-stuck : (S : List ParserFrame) (p : Pattern) → Refuses (behind_pattern p S t)
       pattern-stuck [] p K = refl
       pattern-stuck (At x ∷ S) p K = pattern-stuck S (at x p) K
       pattern-stuck (ForPattern F ∷ S) p K = pattern_frame-stuck F p S K

@@ -14,7 +14,7 @@ use Rattle.strategy_parse.specs.GrammarModules.{ReadsDefined}
 use Rattle.strategy_parse.specs.Core.{declared, core_definition}
 use Rattle.strategy_parse.specs.inside.Definitions.{DefinitionEnds, DefinitionGives}
 use Rattle.strategy_parse.specs.inside.ModuleFronts.{sort_at, declaration_at, DeclaredLeft, listed}
-use Rattle.strategy_parse.specs.inside.Sections.{next_part, IsItem, joined, SortsLeft, DeclarationsLeft, DefinitionsLeft, Left, Stands}
+use Rattle.strategy_parse.specs.inside.Sections.{next_part, IsItem, joined, SortsLeft, DeclarationsLeft, DefinitionsLeft, Left, SectionStands}
 use Rattle.strategy_parse.proofs.SortLemmas.{sort_alone, sort_found}
 use Rattle.strategy_parse.proofs.DeclarationLemmas.{declaration_named, DeclarationFound, declaration_found}
 unfoldable use Rattle.strategy_parse.proofs.SectionWords.{nothing}
@@ -24,27 +24,27 @@ use Rattle.strategy_parse.proofs.SectionItems.{outside_item, signature_item, Def
 -- ---- a word is read, or the text ends
 
 module _ (p : Part) (cs : List Constructor) (ds : List Definition) (m : Module) where
-  pub word_forth : (w : Keyword) (q : Part) (x : List Token) → next_part p w ≡ Some q → Stands p cs ds (Reserved w ∷ x) m → Stands q cs ds x m
+  pub word_forth : (w : Keyword) (q : Part) (x : List Token) → next_part p w ≡ Some q → SectionStands p cs ds (Reserved w ∷ x) m → SectionStands q cs ds x m
   word_forth w q x e s =
       let t : WordStep p w x s.behind = word_step p w x s.behind s.left in
       record { behind = s.behind; left = subst (λ r. Left r x s.behind) (some-is t.part q (sym t.is ∙ e)) t.left; gives = s.gives }
 
-  pub word_behind : (w : Keyword) (q : Part) (x : List Token) → next_part p w ≡ Some q → Stands q cs ds x m → Stands p cs ds (Reserved w ∷ x) m
+  pub word_behind : (w : Keyword) (q : Part) (x : List Token) → next_part p w ≡ Some q → SectionStands q cs ds x m → SectionStands p cs ds (Reserved w ∷ x) m
   word_behind w q x e s = record { behind = s.behind; left = word_back p w q x s.behind e s.left; gives = s.gives }
 
-  pub word_none : (w : Keyword) (x : List Token) → next_part p w ≡ None → Stands p cs ds (Reserved w ∷ x) m → ⊥
+  pub word_none : (w : Keyword) (x : List Token) → next_part p w ≡ None → SectionStands p cs ds (Reserved w ∷ x) m → ⊥
   word_none w x e s =
       let t : WordStep p w x s.behind = word_step p w x s.behind s.left in
       let no : ◌≡◌ {A = Option Part} None (Some t.part) = sym e ∙ t.is in
       cc
 
-  pub end_forth : Stands p cs ds [] m → m ≡ record { constructors = cs; definitions = ds }
+  pub end_forth : SectionStands p cs ds [] m → m ≡ record { constructors = cs; definitions = ds }
   unfolding nothing
   end_forth s =
       sym s.gives ∙ ap (joined cs ds) (sym (left_end p s.behind s.left))
       ∙ (λ i. record { constructors = append-nil cs i; definitions = append-nil ds i })
 
-  pub end_behind : m ≡ record { constructors = cs; definitions = ds } → Stands p cs ds [] m
+  pub end_behind : m ≡ record { constructors = cs; definitions = ds } → SectionStands p cs ds [] m
   unfolding nothing
   end_behind e = record {
     behind = nothing;
@@ -55,14 +55,14 @@ module _ (p : Part) (cs : List Constructor) (ds : List Definition) (m : Module) 
 -- ---- an item is read
 
 module _ (cs : List Constructor) (ds : List Definition) (x : List Token) (m : Module) (item : IsItem x) where
-  pub sort_forth : (y : List Token) → sort_at x ≡ Some y → Stands Sorts cs ds x m → Stands Sorts cs ds y m
+  pub sort_forth : (y : List Token) → sort_at x ≡ Some y → SectionStands Sorts cs ds x m → SectionStands Sorts cs ds y m
   sort_forth y h s =
       let t : SortStep x s.behind = sort_step x s.behind s.left item in
       let same : ◌≡◌ {A = Option (List Token)} (Some t.rest) (Some y) = sym (sort_alone t.sort x t.rest t.reads t.ends.round t.ends.star) ∙ h in
       let rest : t.rest ≡ y = cc in
       record { behind = s.behind; left = subst (λ l. SortsLeft l s.behind) rest t.left; gives = s.gives }
 
-  pub sort_none : sort_at x ≡ None → Stands Sorts cs ds x m → ⊥
+  pub sort_none : sort_at x ≡ None → SectionStands Sorts cs ds x m → ⊥
   sort_none h s =
       let t : SortStep x s.behind = sort_step x s.behind s.left item in
       let no : ◌≡◌ {A = Option (List Token)} None (Some t.rest) = sym h ∙ sort_alone t.sort x t.rest t.reads t.ends.round t.ends.star in
@@ -71,7 +71,7 @@ module _ (cs : List Constructor) (ds : List Definition) (x : List Token) (m : Mo
   declared-same : (d : Declaration) (es : List Constructor) (y z : List Token) → ◌≡◌ {A = DeclaredLeft} (Some (declared d, z)) (Some (es, y)) → ◌≡◌ {A = List Constructor × List Token} (declared d, z) (es, y)
   declared-same d es y z e = cc
 
-  pub declaration_forth : (es : List Constructor) (y : List Token) → declaration_at x ≡ Some (es, y) → Stands Constructors cs ds x m → Stands Constructors (cs ++ es) ds y m
+  pub declaration_forth : (es : List Constructor) (y : List Token) → declaration_at x ≡ Some (es, y) → SectionStands Constructors cs ds x m → SectionStands Constructors (cs ++ es) ds y m
   declaration_forth es y h s =
       let t : DeclarationStep x s.behind = declaration_step x s.behind s.left item in
       let pair : ◌≡◌ {A = List Constructor × List Token} (declared t.declaration, t.rest) (es, y) = declared-same t.declaration es y t.rest (sym (declaration_named t.declaration x t.rest t.reads t.ends) ∙ h) in
@@ -85,14 +85,14 @@ module _ (cs : List Constructor) (ds : List Definition) (x : List Token) (m : Mo
             ∙ ap (joined cs ds) t.gives ∙ s.gives;
       }
 
-  pub declaration_none : declaration_at x ≡ None → Stands Constructors cs ds x m → ⊥
+  pub declaration_none : declaration_at x ≡ None → SectionStands Constructors cs ds x m → ⊥
   declaration_none h s =
       let t : DeclarationStep x s.behind = declaration_step x s.behind s.left item in
       let no : ◌≡◌ {A = DeclaredLeft} None (Some (declared t.declaration, t.rest)) = sym h ∙ declaration_named t.declaration x t.rest t.reads t.ends in
       cc
 
   pub definition_forth : (d : Definition) (y : List Token) → ((w : Defined) (z : List Token) → ReadsDefined w x z → DefinitionEnds z → (core_definition w ≡ d) × (z ≡ y))
-      → Stands Definitions cs ds x m → Stands Definitions cs (ds ++ d ∷ []) y m
+      → SectionStands Definitions cs ds x m → SectionStands Definitions cs (ds ++ d ∷ []) y m
   definition_forth d y only s =
       let t : DefinitionStep x s.behind = definition_step x s.behind s.left item in
       let same = only t.definition t.rest t.reads t.ends in
@@ -106,24 +106,24 @@ module _ (cs : List Constructor) (ds : List Definition) (x : List Token) (m : Mo
             ∙ ap (joined cs ds) t.gives ∙ s.gives;
       }
 
-  pub definition_none : ((w : Defined) (z : List Token) → ReadsDefined w x z → DefinitionEnds z → ⊥) → Stands Definitions cs ds x m → ⊥
+  pub definition_none : ((w : Defined) (z : List Token) → ReadsDefined w x z → DefinitionEnds z → ⊥) → SectionStands Definitions cs ds x m → ⊥
   definition_none none s =
       let t : DefinitionStep x s.behind = definition_step x s.behind s.left item in
       none t.definition t.rest t.reads t.ends
 
-  pub no_outside : Stands Outside cs ds x m → ⊥
+  pub no_outside : SectionStands Outside cs ds x m → ⊥
   no_outside s = outside_item x s.behind s.left item
 
-  pub no_signature : Stands InSignature cs ds x m → ⊥
+  pub no_signature : SectionStands InSignature cs ds x m → ⊥
   no_signature s = signature_item x s.behind s.left item
 
 module _ (cs : List Constructor) (ds : List Definition) (x y : List Token) (m : Module) where
-  pub sort_behind : sort_at x ≡ Some y → Stands Sorts cs ds y m → Stands Sorts cs ds x m
+  pub sort_behind : sort_at x ≡ Some y → SectionStands Sorts cs ds y m → SectionStands Sorts cs ds x m
   sort_behind h s =
       let found = sort_found x y h in
       record { behind = s.behind; left = sort_back found.0 x y s.behind found.1 s.left; gives = s.gives }
 
-  pub declaration_behind : (es : List Constructor) → declaration_at x ≡ Some (es, y) → Stands Constructors (cs ++ es) ds y m → Stands Constructors cs ds x m
+  pub declaration_behind : (es : List Constructor) → declaration_at x ≡ Some (es, y) → SectionStands Constructors (cs ++ es) ds y m → SectionStands Constructors cs ds x m
   declaration_behind es h s =
       let found : DeclarationFound x es y = declaration_found x es y h in
       record {
@@ -135,7 +135,7 @@ module _ (cs : List Constructor) (ds : List Definition) (x y : List Token) (m : 
             ∙ ap (λ l. joined (cs ++ l) ds s.behind) found.is ∙ s.gives;
       }
 
-  pub definition_behind : (d : Definition) → DefinitionGives x d y → Stands Definitions cs (ds ++ d ∷ []) y m → Stands Definitions cs ds x m
+  pub definition_behind : (d : Definition) → DefinitionGives x d y → SectionStands Definitions cs (ds ++ d ∷ []) y m → SectionStands Definitions cs ds x m
   definition_behind d g s = record {
     behind = joined [] (core_definition g.written ∷ []) s.behind;
     left = definition_back g.written x y s.behind g.reads s.left;
@@ -151,11 +151,11 @@ pub err_is : {T : Type 0} (a b : SyntaxFault) → ◌≡◌ {A = Result T Syntax
 err_is a b e = cc
 
 module _ (cs ks : List Constructor) (ds : List Definition) (x : List Token) (m : Module) (found : Option Constructor) (y : List Token) (all : ks ≡ cs ++ listed found) (h : declaration_at x ≡ Some (listed found, y)) where
-  pub declaration_taken : IsItem x → Stands Constructors cs ds x m → Stands Constructors ks ds y m
-  declaration_taken i s = subst (λ l. Stands Constructors l ds y m) (sym all) (declaration_forth cs ds x m i (listed found) y h s)
+  pub declaration_taken : IsItem x → SectionStands Constructors cs ds x m → SectionStands Constructors ks ds y m
+  declaration_taken i s = subst (λ l. SectionStands Constructors l ds y m) (sym all) (declaration_forth cs ds x m i (listed found) y h s)
 
-  pub declaration_given : Stands Constructors ks ds y m → Stands Constructors cs ds x m
-  declaration_given s = declaration_behind cs ds x y m (listed found) h (subst (λ l. Stands Constructors l ds y m) all s)
+  pub declaration_given : SectionStands Constructors ks ds y m → SectionStands Constructors cs ds x m
+  declaration_given s = declaration_behind cs ds x y m (listed found) h (subst (λ l. SectionStands Constructors l ds y m) all s)
 
 pub none_listed : (cs : List Constructor) (found : Option Constructor) → found ≡ None → cs ≡ cs ++ listed found
 none_listed cs found e = sym (ap (λ o. cs ++ listed o) e ∙ append-nil cs)
@@ -163,20 +163,20 @@ none_listed cs found e = sym (ap (λ o. cs ++ listed o) e ∙ append-nil cs)
 pub one_listed : (cs ks : List Constructor) (found : Option Constructor) (c : Constructor) → found ≡ Some c → ks ≡ cs ++ c ∷ [] → ks ≡ cs ++ listed found
 one_listed cs ks found c e h = h ∙ ap (λ o. cs ++ listed o) (sym e)
 
-pub word_comes : (p : Part) (cs : List Constructor) (ds : List Definition) (m : Module) (x rest : List Token) (t : Token) (w : Keyword) → x ≡ t ∷ rest → t ≡ Reserved w → Stands p cs ds x m → Stands p cs ds (Reserved w ∷ rest) m
-word_comes p cs ds m x rest t w e h s = subst (λ l. Stands p cs ds l m) (e ∙ ap (λ u. u ∷ rest) h) s
+pub word_comes : (p : Part) (cs : List Constructor) (ds : List Definition) (m : Module) (x rest : List Token) (t : Token) (w : Keyword) → x ≡ t ∷ rest → t ≡ Reserved w → SectionStands p cs ds x m → SectionStands p cs ds (Reserved w ∷ rest) m
+word_comes p cs ds m x rest t w e h s = subst (λ l. SectionStands p cs ds l m) (e ∙ ap (λ u. u ∷ rest) h) s
 
-pub word_goes : (p : Part) (cs : List Constructor) (ds : List Definition) (m : Module) (x rest : List Token) (t : Token) (w : Keyword) → x ≡ t ∷ rest → t ≡ Reserved w → Stands p cs ds (Reserved w ∷ rest) m → Stands p cs ds x m
-word_goes p cs ds m x rest t w e h s = subst (λ l. Stands p cs ds l m) (sym (e ∙ ap (λ u. u ∷ rest) h)) s
+pub word_goes : (p : Part) (cs : List Constructor) (ds : List Definition) (m : Module) (x rest : List Token) (t : Token) (w : Keyword) → x ≡ t ∷ rest → t ≡ Reserved w → SectionStands p cs ds (Reserved w ∷ rest) m → SectionStands p cs ds x m
+word_goes p cs ds m x rest t w e h s = subst (λ l. SectionStands p cs ds l m) (sym (e ∙ ap (λ u. u ∷ rest) h)) s
 
-pub all_read : (p : Part) (cs : List Constructor) (ds : List Definition) (m : Module) (x : List Token) → x ≡ [] → m ≡ record { constructors = cs; definitions = ds } → Stands p cs ds x m
-all_read p cs ds m x e h = subst (λ l. Stands p cs ds l m) (sym e) (end_behind p cs ds m h)
+pub all_read : (p : Part) (cs : List Constructor) (ds : List Definition) (m : Module) (x : List Token) → x ≡ [] → m ≡ record { constructors = cs; definitions = ds } → SectionStands p cs ds x m
+all_read p cs ds m x e h = subst (λ l. SectionStands p cs ds l m) (sym e) (end_behind p cs ds m h)
 
-pub read_all : (p : Part) (cs : List Constructor) (ds : List Definition) (m r : Module) (x : List Token) → x ≡ [] → m ≡ record { constructors = cs; definitions = ds } → Stands p cs ds x r → r ≡ m
-read_all p cs ds m r x e h s = end_forth p cs ds r (subst (λ l. Stands p cs ds l r) e s) ∙ sym h
+pub read_all : (p : Part) (cs : List Constructor) (ds : List Definition) (m r : Module) (x : List Token) → x ≡ [] → m ≡ record { constructors = cs; definitions = ds } → SectionStands p cs ds x r → r ≡ m
+read_all p cs ds m r x e h s = end_forth p cs ds r (subst (λ l. SectionStands p cs ds l r) e s) ∙ sym h
 
 -- no item comes where a part has to begin
-pub no_item : (p : Part) → (p ≡ Sorts → ⊥) → (p ≡ Constructors → ⊥) → (p ≡ Definitions → ⊥) → (cs : List Constructor) (ds : List Definition) (x : List Token) (m : Module) → IsItem x → Stands p cs ds x m → ⊥
+pub no_item : (p : Part) → (p ≡ Sorts → ⊥) → (p ≡ Constructors → ⊥) → (p ≡ Definitions → ⊥) → (cs : List Constructor) (ds : List Definition) (x : List Token) (m : Module) → IsItem x → SectionStands p cs ds x m → ⊥
 no_item Outside a b e cs ds x m i s = no_outside cs ds x m i s
 no_item InSignature a b e cs ds x m i s = no_signature cs ds x m i s
 no_item Sorts a b e cs ds x m i s = a refl

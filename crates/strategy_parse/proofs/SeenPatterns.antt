@@ -9,14 +9,14 @@ use Rattle.strategy_tokens.specs.declared.token.Token.TheVariants.{Ident, Wildca
 use Rattle.strategy_tokens.specs.declared.token.Keyword.{Keyword}
 use Rattle.strategy_tokens.specs.declared.token.Sign.{Sign}
 use Rattle.strategy_tokens.specs.declared.token.Sign.TheVariants.{OpenRound, CloseRound, OpenSquare, CloseSquare, OpenCurly, CloseCurly, Comma, Bar, At as AtSign}
-use Rattle.strategy_parse.specs.declared.parser.state.State.TheVariants.{Pattern as ToPattern, FirstPattern, Named}
-use Rattle.strategy_parse.specs.declared.parser.state.Frame.{Frame}
-use Rattle.strategy_parse.specs.declared.parser.state.Frame.TheVariants.{At, Pattern as ForPattern}
+use Rattle.strategy_parse.specs.declared.parser.state.ParserState.TheVariants.{Pattern as ToPattern, FirstPattern, Named}
+use Rattle.strategy_parse.specs.declared.parser.state.ParserFrame.{ParserFrame}
+use Rattle.strategy_parse.specs.declared.parser.state.ParserFrame.TheVariants.{At, Pattern as ForPattern}
 use Rattle.strategy_parse.specs.declared.parser.state.PatternFrame.TheVariants.{List as Patterns, Tail as PatternTail}
 use Rattle.strategy_parse.specs.declared.parser.state.PatternGroup.{PatternGroup}
 use Rattle.strategy_parse.specs.declared.parser.state.PatternGroup.TheVariants.{Application as PApplication, List as PList, Tuple as PTuple, Annotations, Terms, Prim}
 use Rattle.strategy_tokens.specs.Marks.{is_mark}
-use Rattle.strategy_parse.specs.inside.Machine.{Next, goes, begin_pattern, behind_pattern, behind_base, behind_one, closing_sign, close_patterns, first_pattern, step}
+use Rattle.strategy_parse.specs.inside.Parser.{Next, goes, begin_pattern, behind_pattern, behind_base, behind_one, closing_sign, close_patterns, first_pattern, step}
 use Rattle.strategy_parse.specs.Grammar.{IsBase, ReadsPattern, ReadsPatterns, ReadsSomePatterns, ReadsMorePatterns}
 use Rattle.strategy_tokens.proofs.MarkLemmas.{mark_self}
 use Rattle.strategy_parse.specs.inside.FreeNames.{is_hidden, shown, seen, next_token, names_seen}
@@ -32,7 +32,7 @@ abbrev pub keep : (Symbol → Bool) → List Symbol → List Symbol
 keep h [] = []
 keep h (f ∷ fs) = (if h f then [] else f ∷ []) ++ keep h fs
 
-abbrev pub free : List Frame → List Symbol → List Symbol
+abbrev pub free : List ParserFrame → List Symbol → List Symbol
 free S fs = keep (λ f. is_hidden f S) fs
 
 pub keep-append : (h : Symbol → Bool) (xs ys : List Symbol) → keep h (xs ++ ys) ≡ keep h xs ++ keep h ys
@@ -59,7 +59,7 @@ keep-without xs h [] = refl
 keep-without xs h (f ∷ fs) = keep_one (is_among same_name f xs) h f (without same_name xs fs) (keep (λ g. is_among same_name g xs || h g) fs) (keep-without xs h fs)
 
 -- what is seen first, and what is seen afterwards
-pub chain : (S : List Frame) (a b l m n : List Symbol) → l ≡ free S a ++ m → m ≡ free S b ++ n → l ≡ free S (a ++ b) ++ n
+pub chain : (S : List ParserFrame) (a b l m n : List Symbol) → l ≡ free S a ++ m → m ≡ free S b ++ n → l ≡ free S (a ++ b) ++ n
 chain S a b l m n first then_more =
     first ∙ ap (λ k. free S a ++ k) then_more
     ∙ sym (append_assoc (free S a) (free S b) n)
@@ -132,16 +132,16 @@ no_closing (Prim f) x b = b.round
 
 -- ---- what is seen
 
-named_seen : (f : Symbol) (S : List Frame) (y : List Token) → NameEnds y → names_seen (step (Named f) S) y ≡ names_seen (behind_base (variable f) S) y
+named_seen : (f : Symbol) (S : List ParserFrame) (y : List Token) → NameEnds y → names_seen (step (Named f) S) y ≡ names_seen (behind_base (variable f) S) y
 named_seen f S y e =
     names_pass OpenRound (goes (FirstPattern (PApplication f)) S)
     (λ t. if (is_mark AtSign t) then goes ToPattern (At f ∷ S) else behind_base (variable f) S t) y e.round
     ∙ names_pass AtSign (goes ToPattern (At f ∷ S)) (behind_base (variable f) S) y e.at_sign
 
-base_seen : (p : Pattern) (S : List Frame) (y : List Token) → NoMark OpenCurly y → names_seen (behind_base p S) y ≡ names_seen (behind_pattern p S) y
+base_seen : (p : Pattern) (S : List ParserFrame) (y : List Token) → NoMark OpenCurly y → names_seen (behind_base p S) y ≡ names_seen (behind_pattern p S) y
 base_seen p S y e = names_pass OpenCurly (goes (FirstPattern (Annotations p)) S) (behind_pattern p S) y e
 
-whole_seen : (p : Pattern) (S : List Frame) (y : List Token) → NoMark OpenCurly y → names_seen (behind_read p S) y ≡ names_seen (behind_pattern p S) y
+whole_seen : (p : Pattern) (S : List ParserFrame) (y : List Token) → NoMark OpenCurly y → names_seen (behind_read p S) y ≡ names_seen (behind_pattern p S) y
 unfolding behind_read
 whole_seen (at x p) S y e = refl
 whole_seen (annotated p ps) S y e = refl
@@ -151,7 +151,7 @@ whole_seen (number z) S y e = base_seen (number z) S y e
 whole_seen (compound h ps) S y e = base_seen (compound h ps) S y e
 whole_seen (with_tail ps p) S y e = base_seen (with_tail ps p) S y e
 
-read_base : (p : Pattern) (S : List Frame) (y : List Token) → IsBase p → names_seen (behind_read p S) y ≡ names_seen (behind_base p S) y
+read_base : (p : Pattern) (S : List ParserFrame) (y : List Token) → IsBase p → names_seen (behind_read p S) y ≡ names_seen (behind_base p S) y
 unfolding behind_read
 read_base (at x p) S y b = absurd b
 read_base (annotated p ps) S y b = absurd b
@@ -165,7 +165,7 @@ read_base (with_tail ps p) S y b = refl
 abbrev CurlyOrEnds : Pattern → List Token → Type 0
 CurlyOrEnds p y = IsBase p ⊎ NoMark OpenCurly y
 
-first_seen : (g : PatternGroup) (S : List Frame) (x : List Token) → Begins x → names_seen (first_pattern g S) x ≡ names_seen (begin_pattern (ForPattern (Patterns g []) ∷ S)) x
+first_seen : (g : PatternGroup) (S : List ParserFrame) (x : List Token) → Begins x → names_seen (first_pattern g S) x ≡ names_seen (begin_pattern (ForPattern (Patterns g []) ∷ S)) x
 first_seen g S x b = names_pass (closing_sign g) (goes (close_patterns g []) S) (begin_pattern (ForPattern (Patterns g []) ∷ S)) x (no_closing g x b)
 
 comma-closing : (g : PatternGroup) → is_mark Comma (ASign (closing_sign g)) ≡ false
@@ -176,7 +176,7 @@ comma-closing (Annotations p) = refl
 comma-closing (Terms f ss) = refl
 comma-closing (Prim f) = refl
 
-seen_closed : (g : PatternGroup) (ps : List Pattern) (S : List Frame) (t : Token) → seen (close_patterns g ps) S t ≡ []
+seen_closed : (g : PatternGroup) (ps : List Pattern) (S : List ParserFrame) (t : Token) → seen (close_patterns g ps) S t ≡ []
 seen_closed (PApplication f) ps S t = refl
 seen_closed PList ps S t = refl
 seen_closed PTuple ps S t = refl
@@ -184,10 +184,10 @@ seen_closed (Annotations p) ps S t = refl
 seen_closed (Terms f ss) ps S t = refl
 seen_closed (Prim f) ps S t = refl
 
-closes_first : (g : PatternGroup) (S : List Frame) (x y : List Token) → x ≡ ASign (closing_sign g) ∷ y → names_seen (first_pattern g S) x ≡ names_seen (step (close_patterns g []) S) y
+closes_first : (g : PatternGroup) (S : List ParserFrame) (x y : List Token) → x ≡ ASign (closing_sign g) ∷ y → names_seen (first_pattern g S) x ≡ names_seen (step (close_patterns g []) S) y
 closes_first g S x y h = rw h (rw (mark_self (closing_sign g)) (ap (λ l. l ++ names_seen (step (close_patterns g []) S) y) (seen_closed g [] S (next_token y))))
 
-closes_more : (g : PatternGroup) (done : List Pattern) (S : List Frame) (x y : List Token) → x ≡ ASign (closing_sign g) ∷ y → names_seen (behind_one g done S) x ≡ names_seen (step (close_patterns g done) S) y
+closes_more : (g : PatternGroup) (done : List Pattern) (S : List ParserFrame) (x y : List Token) → x ≡ ASign (closing_sign g) ∷ y → names_seen (behind_one g done S) x ≡ names_seen (step (close_patterns g done) S) y
 closes_more g done S x y h = rw h (rw (comma-closing g, mark_self (closing_sign g)) (ap (λ l. l ++ names_seen (step (close_patterns g done) S) y) (seen_closed g done S (next_token y))))
 
 more_end : (ps : syntax.Patterns) (g : PatternGroup) (x y : List Token) → ReadsMorePatterns ps (closing_sign g) x y → NameEnds x × NoMark OpenCurly x
@@ -205,14 +205,14 @@ bar_end : (ps : syntax.Patterns) (x y : List Token) → ReadsMorePatterns ps Bar
 bar_end no_patterns x y h = (name_ends Bar x y h refl refl, no_mark OpenCurly Bar x y h refl)
 bar_end (and_pattern p ps) x y h = (name_ends Comma x h.0 h.1 refl refl, no_mark OpenCurly Comma x h.0 h.1 refl)
 
-variable_seen : (f : Symbol) (S : List Frame) (y : List Token) → NameEnds y → shown f S ++ names_seen (step (Named f) S) y ≡ (shown f S ++ []) ++ names_seen (behind_base (variable f) S) y
+variable_seen : (f : Symbol) (S : List ParserFrame) (y : List Token) → NameEnds y → shown f S ++ names_seen (step (Named f) S) y ≡ (shown f S ++ []) ++ names_seen (behind_base (variable f) S) y
 variable_seen f S y n =
     ap (λ l. shown f S ++ l) (named_seen f S y n) ∙ ap (λ l. l ++ names_seen (behind_base (variable f) S) y) (sym (append-nil (shown f S)))
 
 mutual
   unfolding behind_read
 
-  front_seen : (p : Pattern) (S : List Frame) (x y : List Token) → ReadsPattern p x y → NameEnds y → CurlyOrEnds p y → names_seen (begin_pattern S) x ≡ free S (variables p) ++ names_seen (behind_read p S) y
+  front_seen : (p : Pattern) (S : List ParserFrame) (x y : List Token) → ReadsPattern p x y → NameEnds y → CurlyOrEnds p y → names_seen (begin_pattern S) x ≡ free S (variables p) ++ names_seen (behind_read p S) y
   front_seen wildcard S x y h n c = rw h refl
   front_seen (variable f) S x y h n c = rw h (rw n.round (variable_seen f S y n))
   front_seen (at f p) S x y h n (inl c) = absurd c
@@ -247,7 +247,7 @@ mutual
       (rw h.1.2.1 (patterns_seen ps (Annotations p) S h.1.2.0 y h.1.2.2
       ∙ ap (λ l. free S (variables_of_all ps) ++ names_seen (behind_pattern (annotated p l) S) y) (patterns_of-list ps)))
 
-  patterns_seen : (ps : syntax.Patterns) (g : PatternGroup) (S : List Frame) (x y : List Token) → ReadsPatterns ps (closing_sign g) x y
+  patterns_seen : (ps : syntax.Patterns) (g : PatternGroup) (S : List ParserFrame) (x y : List Token) → ReadsPatterns ps (closing_sign g) x y
       → names_seen (first_pattern g S) x ≡ free S (variables_of_all ps) ++ names_seen (step (close_patterns g (pattern_list ps)) S) y
   patterns_seen no_patterns g S x y h = closes_first g S x y h
   patterns_seen (and_pattern p ps) g S x y h =
@@ -258,7 +258,7 @@ mutual
       ∙ ap (λ l. free S (variables p) ++ l) (whole_seen p (ForPattern (Patterns g []) ∷ S) h.0 (more_end ps g h.0 y h.2).1))
       (more_seen ps g (p ∷ []) S h.0 y h.2)
 
-  some_seen : (ps : syntax.Patterns) (S : List Frame) (x y : List Token) → ReadsSomePatterns ps Bar x y
+  some_seen : (ps : syntax.Patterns) (S : List ParserFrame) (x y : List Token) → ReadsSomePatterns ps Bar x y
       → names_seen (first_pattern PList S) x ≡ free S (variables_of_all ps) ++ names_seen (begin_pattern (ForPattern (PatternTail (pattern_list ps)) ∷ S)) y
   some_seen no_patterns S x y h = absurd h
   some_seen (and_pattern p ps) S x y h =
@@ -269,7 +269,7 @@ mutual
       ∙ ap (λ l. free S (variables p) ++ l) (whole_seen p (ForPattern (Patterns PList []) ∷ S) h.0 (bar_end ps h.0 y h.2).1))
       (bar_seen ps (p ∷ []) S h.0 y h.2)
 
-  more_seen : (ps : syntax.Patterns) (g : PatternGroup) (done : List Pattern) (S : List Frame) (x y : List Token) → ReadsMorePatterns ps (closing_sign g) x y
+  more_seen : (ps : syntax.Patterns) (g : PatternGroup) (done : List Pattern) (S : List ParserFrame) (x y : List Token) → ReadsMorePatterns ps (closing_sign g) x y
       → names_seen (behind_one g done S) x ≡ free S (variables_of_all ps) ++ names_seen (step (close_patterns g (done ++ pattern_list ps)) S) y
   more_seen no_patterns g done S x y h =
       closes_more g done S x y h ∙ ap (λ l. names_seen (step (close_patterns g l) S) y) (sym (append-nil done))
@@ -281,7 +281,7 @@ mutual
       (more_seen ps g (done ++ p ∷ []) S h.2.0 y h.2.2
       ∙ ap (λ l. free S (variables_of_all ps) ++ names_seen (step (close_patterns g l) S) y) (append_assoc done (p ∷ []) (pattern_list ps))))
 
-  bar_seen : (ps : syntax.Patterns) (done : List Pattern) (S : List Frame) (x y : List Token) → ReadsMorePatterns ps Bar x y
+  bar_seen : (ps : syntax.Patterns) (done : List Pattern) (S : List ParserFrame) (x y : List Token) → ReadsMorePatterns ps Bar x y
       → names_seen (behind_one PList done S) x ≡ free S (variables_of_all ps) ++ names_seen (begin_pattern (ForPattern (PatternTail (done ++ pattern_list ps)) ∷ S)) y
   bar_seen no_patterns done S x y h =
       rw h (ap (λ l. names_seen (begin_pattern (ForPattern (PatternTail l) ∷ S)) y) (sym (append-nil done)))
@@ -294,15 +294,15 @@ mutual
       ∙ ap (λ l. free S (variables_of_all ps) ++ names_seen (begin_pattern (ForPattern (PatternTail l) ∷ S)) y) (append_assoc done (p ∷ []) (pattern_list ps))))
 
 -- the names that are seen up to the end of a pattern
-pub pattern_seen : (p : Pattern) (S : List Frame) (x y : List Token) → ReadsPattern p x y → NameEnds y → NoMark OpenCurly y
+pub pattern_seen : (p : Pattern) (S : List ParserFrame) (x y : List Token) → ReadsPattern p x y → NameEnds y → NoMark OpenCurly y
     → names_seen (begin_pattern S) x ≡ free S (variables p) ++ names_seen (behind_pattern p S) y
 pattern_seen p S x y h n c = front_seen p S x y h n (inr c) ∙ ap (λ l. free S (variables p) ++ l) (whole_seen p S y c)
 
 -- ... of a list of patterns, after its first sign, and after one of them
-pub list_seen : (ps : syntax.Patterns) (g : PatternGroup) (S : List Frame) (x y : List Token) → ReadsPatterns ps (closing_sign g) x y
+pub list_seen : (ps : syntax.Patterns) (g : PatternGroup) (S : List ParserFrame) (x y : List Token) → ReadsPatterns ps (closing_sign g) x y
     → names_seen (first_pattern g S) x ≡ free S (variables_of_all ps) ++ names_seen (step (close_patterns g (pattern_list ps)) S) y
 list_seen ps g S x y h = patterns_seen ps g S x y h
 
-pub rest_seen : (ps : syntax.Patterns) (g : PatternGroup) (done : List Pattern) (S : List Frame) (x y : List Token) → ReadsMorePatterns ps (closing_sign g) x y
+pub rest_seen : (ps : syntax.Patterns) (g : PatternGroup) (done : List Pattern) (S : List ParserFrame) (x y : List Token) → ReadsMorePatterns ps (closing_sign g) x y
     → names_seen (behind_one g done S) x ≡ free S (variables_of_all ps) ++ names_seen (step (close_patterns g (done ++ pattern_list ps)) S) y
 rest_seen ps g done S x y h = more_seen ps g done S x y h

@@ -10,9 +10,9 @@ use Rattle.strategy_tokens.specs.declared.token.Keyword.{Keyword}
 use Rattle.strategy_tokens.specs.declared.token.Keyword.TheVariants.{Id as KId, Fail as KFail, Where as KWhere, If as KIf, Then as KThen, Else as KElse, End as KEnd, Rec as KRec, Prim as KPrim}
 use Rattle.strategy_tokens.specs.declared.token.Sign.{Sign}
 use Rattle.strategy_tokens.specs.declared.token.Sign.TheVariants.{OpenRound, CloseRound, OpenSquare, CloseSquare, OpenCurly, CloseCurly, Comma, Semicolon, Colon, Bar, FatArrow, Arrow as RightArrow, Less, Greater, LeftChoice, Plus, Question, Exclamation, At as AtSign, Backslash}
-use Rattle.strategy_parse.specs.declared.parser.state.State.TheVariants.{Strategy as ToStrategy, FirstStrategy, Read, Used, PrimNamed, ScopeOpen, ScopeNamed, Pattern as ToPattern}
-use Rattle.strategy_parse.specs.declared.parser.state.Frame.{Frame}
-use Rattle.strategy_parse.specs.declared.parser.state.Frame.TheVariants.{Operand, Strategy as ForStrategy, Pattern as ForPattern}
+use Rattle.strategy_parse.specs.declared.parser.state.ParserState.TheVariants.{Strategy as ToStrategy, FirstStrategy, Read, Used, PrimNamed, ScopeOpen, ScopeNamed, Pattern as ToPattern}
+use Rattle.strategy_parse.specs.declared.parser.state.ParserFrame.{ParserFrame}
+use Rattle.strategy_parse.specs.declared.parser.state.ParserFrame.TheVariants.{Operand, Strategy as ForStrategy, Pattern as ForPattern}
 use Rattle.strategy_parse.specs.declared.parser.state.Infix.TheVariants.{Before, Guarded, Otherwise}
 use Rattle.strategy_parse.specs.declared.parser.state.StrategyFrame.TheVariants.{Operator as Operated, Rec, Child, Scope, Application, If, Then, Else, Where, List as Strategies, Tail as SquareTail}
 use Rattle.strategy_parse.specs.declared.parser.state.PatternFrame.TheVariants.{Match, Build, Applied, Matched, Left as ClosureLeft, Right as ClosureRight, List as Patterns}
@@ -22,7 +22,7 @@ use Rattle.strategy_parse.specs.declared.parser.state.StrategyGroup.{StrategyGro
 use Rattle.strategy_parse.specs.declared.parser.state.StrategyGroup.TheVariants.{Round, Square, Arguments}
 use Rattle.strategy_parse.specs.declared.parser.state.PatternGroup.TheVariants.{Terms, Prim}
 use Rattle.strategy_tokens.specs.Marks.{is_mark}
-use Rattle.strategy_parse.specs.inside.Machine.{Next, goes, begin, begin_pattern, behind, behind_arrow, behind_seq, behind_choice, in_frame, behind_element, closing, grouped, pattern_in_frame, behind_one, first_strategy, first_pattern, empty_bar, step}
+use Rattle.strategy_parse.specs.inside.Parser.{Next, goes, begin, begin_pattern, behind, behind_arrow, behind_seq, behind_choice, in_frame, behind_element, closing, grouped, pattern_in_frame, behind_one, first_strategy, first_pattern, empty_bar, step}
 use Rattle.strategy_parse.specs.Grammar.{ReadsPattern, ReadsMorePatterns, ReadsArrows, ReadsMoreNames, ReadsNames, word_of, ReadsChoice, ReadsSeq, ReadsArrow, ReadsPrefix, ReadsChoices, ReadsSomeChoices, ReadsMoreChoices}
 use Rattle.strategy_tokens.proofs.MarkLemmas.{mark_self}
 use Rattle.strategy_parse.specs.inside.FreeNames.{is_hidden, seen, next_token, seen_behind, names_seen}
@@ -158,21 +158,21 @@ same_names : (f g : Token → Next) (x : List Token) → ((t : Token) → f t �
 same_names f g [] h = refl
 same_names f g (t ∷ ts) h = ap (λ n. seen_behind (λ q S. seen q S (next_token ts) ++ names_seen (step q S) ts) n) (h t)
 
-arrow_in : (s : Strategy) (S : List Frame) (y : List Token) → NoMark FatArrow y → NoMark Semicolon y → names_seen (behind s S) y ≡ names_seen (behind_arrow s S) y
+arrow_in : (s : Strategy) (S : List ParserFrame) (y : List Token) → NoMark FatArrow y → NoMark Semicolon y → names_seen (behind s S) y ≡ names_seen (behind_arrow s S) y
 arrow_in s S y a b =
     names_pass FatArrow (goes ToPattern (ForPattern (Matched s) ∷ S)) (λ t. if (is_mark Semicolon t) then goes ToStrategy (Operand Before s ∷ S) else behind_arrow s S t) y a
     ∙ names_pass Semicolon (goes ToStrategy (Operand Before s ∷ S)) (behind_arrow s S) y b
 
-choice_in : (s : Strategy) (S : List Frame) (y : List Token) → Bare S → NoMark LeftChoice y → NoMark Less y → names_seen (behind_arrow s S) y ≡ names_seen (behind_choice s S) y
+choice_in : (s : Strategy) (S : List ParserFrame) (y : List Token) → Bare S → NoMark LeftChoice y → NoMark Less y → names_seen (behind_arrow s S) y ≡ names_seen (behind_choice s S) y
 choice_in s S y bare a b =
     same_names (behind_arrow s S) (behind_seq s S) y (bare s)
     ∙ names_pass LeftChoice (goes ToStrategy (Operand Otherwise syntax.id ∷ (Operand Guarded s ∷ S))) (λ t. if (is_mark Less t) then goes ToStrategy (Operand Guarded s ∷ S) else behind_choice s S t) y a
     ∙ names_pass Less (goes ToStrategy (Operand Guarded s ∷ S)) (behind_choice s S) y b
 
-used_in : (f : Symbol) (S : List Frame) (y : List Token) → NoMark OpenRound y → names_seen (step (Used f) S) y ≡ names_seen (behind (syntax.uses f syntax.no_strategies syntax.no_patterns) S) y
+used_in : (f : Symbol) (S : List ParserFrame) (y : List Token) → NoMark OpenRound y → names_seen (step (Used f) S) y ≡ names_seen (behind (syntax.uses f syntax.no_strategies syntax.no_patterns) S) y
 used_in f S y e = names_pass OpenRound (goes (FirstStrategy (Arguments f)) S) (behind (syntax.uses f syntax.no_strategies syntax.no_patterns) S) y e
 
-first_in : (g : StrategyGroup) (S : List Frame) (x : List Token) → Begins x → names_seen (first_strategy g S) x ≡ names_seen (begin (ForStrategy (Strategies g []) ∷ S)) x
+first_in : (g : StrategyGroup) (S : List ParserFrame) (x : List Token) → Begins x → names_seen (first_strategy g S) x ≡ names_seen (begin (ForStrategy (Strategies g []) ∷ S)) x
 first_in g S x b =
     names_pass (closing g) (goes (Read (grouped g [])) S) (λ t. if (is_mark Bar t) then empty_bar g S else begin (ForStrategy (Strategies g []) ∷ S) t) x (no_closing g x b)
     ∙ names_pass Bar (empty_bar g S) (begin (ForStrategy (Strategies g []) ∷ S)) x b.bar
@@ -187,25 +187,25 @@ bar-closing Round = refl
 bar-closing Square = refl
 bar-closing (Arguments f) = refl
 
-closes_first : (g : StrategyGroup) (S : List Frame) (x y : List Token) → x ≡ ASign (closing g) ∷ y → names_seen (first_strategy g S) x ≡ names_seen (behind (grouped g []) S) y
+closes_first : (g : StrategyGroup) (S : List ParserFrame) (x y : List Token) → x ≡ ASign (closing g) ∷ y → names_seen (first_strategy g S) x ≡ names_seen (behind (grouped g []) S) y
 closes_first g S x y h = rw h (rw (mark_self (closing g)) refl)
 
-closes_more : (g : StrategyGroup) (done : List Strategy) (S : List Frame) (x y : List Token) → x ≡ ASign (closing g) ∷ y → names_seen (behind_element g done S) x ≡ names_seen (behind (grouped g done) S) y
+closes_more : (g : StrategyGroup) (done : List Strategy) (S : List ParserFrame) (x y : List Token) → x ≡ ASign (closing g) ∷ y → names_seen (behind_element g done S) x ≡ names_seen (behind (grouped g done) S) y
 closes_more g done S x y h = rw h (rw (comma-closing g, bar-closing g, mark_self (closing g)) refl)
 
 -- ---- names
 
-names_more : (fs done : List Symbol) (S : List Frame) (x y : List Token) → ReadsMoreNames fs Colon x y
+names_more : (fs done : List Symbol) (S : List ParserFrame) (x y : List Token) → ReadsMoreNames fs Colon x y
     → names_seen (step (ScopeNamed done) S) x ≡ names_seen (begin (ForStrategy (Scope (done ++ fs)) ∷ S)) y
 names_more [] done S x y h = rw h (ap (λ l. names_seen (begin (ForStrategy (Scope l) ∷ S)) y) (sym (append-nil done)))
 names_more (f ∷ fs) done S x y h =
     rw h.1 (rw h.2.1 (names_more fs (done ++ f ∷ []) S h.2.0 y h.2.2 ∙ ap (λ l. names_seen (begin (ForStrategy (Scope l) ∷ S)) y) (append_assoc done (f ∷ []) fs)))
 
-names_in : (fs : List Symbol) (S : List Frame) (x y : List Token) → ReadsNames fs Colon x y → names_seen (step ScopeOpen S) x ≡ names_seen (begin (ForStrategy (Scope fs) ∷ S)) y
+names_in : (fs : List Symbol) (S : List ParserFrame) (x y : List Token) → ReadsNames fs Colon x y → names_seen (step ScopeOpen S) x ≡ names_seen (begin (ForStrategy (Scope fs) ∷ S)) y
 names_in [] S x y h = rw h refl
 names_in (f ∷ fs) S x y h = rw h.1 (names_more fs (f ∷ []) S h.0 y h.2)
 
-arrows_seen : (ps : syntax.Patterns) (s : Strategy) (S : List Frame) (x y : List Token) → ReadsArrows ps x y → ArrowEnds y
+arrows_seen : (ps : syntax.Patterns) (s : Strategy) (S : List ParserFrame) (x y : List Token) → ReadsArrows ps x y → ArrowEnds y
     → names_seen (behind s S) x ≡ free S (variables_of_all ps) ++ names_seen (behind (then_matched s ps) S) y
 arrows_seen no_patterns s S x y h e = rw h refl
 arrows_seen (and_pattern p ps) s S x y h e =
@@ -215,7 +215,7 @@ arrows_seen (and_pattern p ps) s S x y h e =
     (pattern_seen p (ForPattern (Matched s) ∷ S) h.0 h.2.0 h.2.1 end.name end.curly)
     (arrows_seen ps (syntax.seq s (syntax.matches p)) S h.2.0 y h.2.2 e))
 
-operator-begins : (o : Operator) (S : List Frame) (x : List Token) → names_seen (begin S) (Reserved (word_of o) ∷ (ASign OpenRound ∷ x)) ≡ names_seen (begin (ForStrategy (Operated o) ∷ S)) x
+operator-begins : (o : Operator) (S : List ParserFrame) (x : List Token) → names_seen (begin S) (Reserved (word_of o) ∷ (ASign OpenRound ∷ x)) ≡ names_seen (begin (ForStrategy (Operated o) ∷ S)) x
 operator-begins All S x = refl
 operator-begins One S x = refl
 operator-begins SomeChild S x = refl
@@ -223,7 +223,7 @@ operator-begins Not S x = refl
 operator-begins WhereOf S x = refl
 operator-begins Test S x = refl
 
-child_begins : (i : ℕ) (S : List Frame) (x : List Token) → 1 ≤ i → names_seen (begin S) (Integer (pos i) ∷ (ASign OpenRound ∷ x)) ≡ names_seen (begin (ForStrategy (Child i) ∷ S)) x
+child_begins : (i : ℕ) (S : List ParserFrame) (x : List Token) → 1 ≤ i → names_seen (begin S) (Integer (pos i) ∷ (ASign OpenRound ∷ x)) ≡ names_seen (begin (ForStrategy (Child i) ∷ S)) x
 child_begins zero S x h = absurd (omega arith)
 child_begins (suc i) S x h = refl
 
@@ -231,7 +231,7 @@ patterns_end : (ps : syntax.Patterns) (x y : List Token) → ReadsMorePatterns p
 patterns_end no_patterns x y h = prefix_ends CloseRound x y h refl refl refl
 patterns_end (and_pattern p ps) x y h = prefix_ends Comma x h.0 h.1 refl refl refl
 
-prim_seen : (ps : syntax.Patterns) (n : Symbol) (S : List Frame) (x y : List Token) → ReadsMorePatterns ps CloseRound x y
+prim_seen : (ps : syntax.Patterns) (n : Symbol) (S : List ParserFrame) (x y : List Token) → ReadsMorePatterns ps CloseRound x y
     → names_seen (step (PrimNamed n) S) x ≡ free S (variables_of_all ps) ++ names_seen (behind (syntax.prim n ps) S) y
 prim_seen no_patterns n S x y h = rw h refl
 prim_seen (and_pattern p ps) n S x y h =
@@ -244,21 +244,21 @@ prim_seen (and_pattern p ps) n S x y h =
 
 -- in the left side of a closure nothing is seen, and in its right side nothing that the left side
 -- binds
-left_sees : (p : Pattern) (S : List Frame) (x y z : List Token) → ReadsPattern p x y → y ≡ ASign RightArrow ∷ z
+left_sees : (p : Pattern) (S : List ParserFrame) (x y z : List Token) → ReadsPattern p x y → y ≡ ASign RightArrow ∷ z
     → names_seen (begin_pattern (ForPattern ClosureLeft ∷ S)) x ≡ names_seen (begin_pattern (ForPattern (ClosureRight p) ∷ S)) z
 left_sees p S x y z h e =
     pattern_seen p (ForPattern ClosureLeft ∷ S) x y h (name_ends RightArrow y z e refl refl) (no_mark OpenCurly RightArrow y z e refl)
     ∙ ap (λ l. l ++ names_seen (pattern_in_frame p ClosureLeft S) y) (keep-none (variables p))
     ∙ ap (λ l. names_seen (pattern_in_frame p ClosureLeft S) l) e
 
-right_sees : (p q : Pattern) (S : List Frame) (x y : List Token) → ReadsPattern q x y → PrefixEnds y
+right_sees : (p q : Pattern) (S : List ParserFrame) (x y : List Token) → ReadsPattern q x y → PrefixEnds y
     → names_seen (begin_pattern (ForPattern (ClosureRight p) ∷ S)) x ≡ free (ForPattern (ClosureRight p) ∷ S) (variables q) ++ names_seen (pattern_in_frame q (ClosureRight p) S) y
 right_sees p q S x y h e = pattern_seen q (ForPattern (ClosureRight p) ∷ S) x y h e.name e.curly
 
 -- ---- the productions
 
 mutual
-  choice_sees : (a : Choice) (S : List Frame) (x y : List Token) → ReadsChoice a x y → Bare S → ChoiceEnds y → names_seen (begin S) x ≡ free S (free_in_choice a) ++ names_seen (behind_choice (core a) S) y
+  choice_sees : (a : Choice) (S : List ParserFrame) (x y : List Token) → ReadsChoice a x y → Bare S → ChoiceEnds y → names_seen (begin S) x ≡ free S (free_in_choice a) ++ names_seen (behind_choice (core a) S) y
   choice_sees (sequence a) S x y h bare e =
       seq_sees a S x y h e.seq ∙ ap (λ l. free S (free_in_seq a) ++ l) (choice_in (core_seq a) S y bare e.choice e.less)
   choice_sees (left_choice a b) S x y h bare e =
@@ -275,7 +275,7 @@ mutual
       (seq_sees b (Operand Guarded (core_seq a) ∷ S) h.2.0 h.2.2.0 h.2.2.1 (seq_ends Plus h.2.2.0 h.2.2.2.0 h.2.2.2.1 refl refl refl refl refl))
       (rw h.2.2.2.1 (choice_sees c (Operand Otherwise (core_seq b) ∷ (Operand Guarded (core_seq a) ∷ S)) h.2.2.2.0 y h.2.2.2.2 (λ s t. refl) e))))
 
-  seq_sees : (a : Seq) (S : List Frame) (x y : List Token) → ReadsSeq a x y → SeqEnds y → names_seen (begin S) x ≡ free S (free_in_seq a) ++ names_seen (behind_arrow (core_seq a) S) y
+  seq_sees : (a : Seq) (S : List ParserFrame) (x y : List Token) → ReadsSeq a x y → SeqEnds y → names_seen (begin S) x ≡ free S (free_in_seq a) ++ names_seen (behind_arrow (core_seq a) S) y
   seq_sees (last a) S x y h e =
       arrow_sees a S x y h e.arrow ∙ ap (λ l. free S (free_in_arrow a) ++ l) (arrow_in (core_arrow a) S y e.arrow.arrow e.semicolon)
   seq_sees (before a b) S x y h e =
@@ -283,13 +283,13 @@ mutual
       (arrow_sees a S x h.0 h.1 (semicolon_ends h.0 h.2.0 h.2.1))
       (rw h.2.1 (seq_sees b (Operand Before (core_arrow a) ∷ S) h.2.0 y h.2.2 e))
 
-  arrow_sees : (a : Arrow) (S : List Frame) (x y : List Token) → ReadsArrow a x y → ArrowEnds y → names_seen (begin S) x ≡ free S (free_in_arrow a) ++ names_seen (behind (core_arrow a) S) y
+  arrow_sees : (a : Arrow) (S : List ParserFrame) (x y : List Token) → ReadsArrow a x y → ArrowEnds y → names_seen (begin S) x ≡ free S (free_in_arrow a) ++ names_seen (behind (core_arrow a) S) y
   arrow_sees (arrow a ps) S x y h e =
       chain S (free_in_prefix a) (variables_of_all ps) (names_seen (begin S) x) (names_seen (behind (core_prefix a) S) h.0) (names_seen (behind (then_matched (core_prefix a) ps) S) y)
       (prefix_sees a S x h.0 h.1 (arrows_end ps h.0 y h.2 e))
       (arrows_seen ps (core_prefix a) S h.0 y h.2 e)
 
-  prefix_sees : (a : Prefix) (S : List Frame) (x y : List Token) → ReadsPrefix a x y → PrefixEnds y → names_seen (begin S) x ≡ free S (free_in_prefix a) ++ names_seen (behind (core_prefix a) S) y
+  prefix_sees : (a : Prefix) (S : List ParserFrame) (x y : List Token) → ReadsPrefix a x y → PrefixEnds y → names_seen (begin S) x ≡ free S (free_in_prefix a) ++ names_seen (behind (core_prefix a) S) y
   prefix_sees (question p) S x y h e = rw h.1 (pattern_seen p (ForPattern Match ∷ S) h.0 y h.2 e.name e.curly)
   prefix_sees (exclamation p) S x y h e = rw h.1 (pattern_seen p (ForPattern Build ∷ S) h.0 y h.2 e.name e.curly)
   prefix_sees (application a p) S x y h e =
@@ -359,7 +359,7 @@ mutual
       ∙ choice_sees a (ForStrategy (Child i) ∷ S) h.1.2.0 h.1.2.2.0 h.1.2.2.1 (λ s t. refl) (round_ends h.1.2.2.0 y h.1.2.2.2)
       ∙ ap (λ l. free S (free_in_choice a) ++ names_seen (in_frame (core a) (Child i) S) l) h.1.2.2.2))
 
-  choices_see : (cs : Choices) (g : StrategyGroup) (S : List Frame) (x y : List Token) → ReadsChoices cs (closing g) x y
+  choices_see : (cs : Choices) (g : StrategyGroup) (S : List ParserFrame) (x y : List Token) → ReadsChoices cs (closing g) x y
       → names_seen (first_strategy g S) x ≡ free S (free_in_choices cs) ++ names_seen (behind (grouped g (strategy_list (core_all cs))) S) y
   choices_see no_choices g S x y h = closes_first g S x y h
   choices_see (and_choice a cs) g S x y h =
@@ -368,7 +368,7 @@ mutual
       (choice_sees a (ForStrategy (Strategies g []) ∷ S) x h.0 h.1 (λ s t. refl) (more_ends cs g h.0 y h.2))
       (more_choices_see cs g (core a ∷ []) S h.0 y h.2)
 
-  some_choices_see : (cs : Choices) (S : List Frame) (x y : List Token) → ReadsSomeChoices cs Bar x y
+  some_choices_see : (cs : Choices) (S : List ParserFrame) (x y : List Token) → ReadsSomeChoices cs Bar x y
       → names_seen (first_strategy Square S) x ≡ free S (free_in_choices cs) ++ names_seen (begin (ForStrategy (SquareTail (strategy_list (core_all cs))) ∷ S)) y
   some_choices_see no_choices S x y h = absurd h
   some_choices_see (and_choice a cs) S x y h =
@@ -377,7 +377,7 @@ mutual
       (choice_sees a (ForStrategy (Strategies Square []) ∷ S) x h.0 h.1 (λ s t. refl) (bar_ends cs h.0 y h.2))
       (square_bar_sees cs (core a ∷ []) S h.0 y h.2)
 
-  arguments_see : (cs : Choices) (f : Symbol) (S : List Frame) (x y : List Token) → ReadsChoices cs Bar x y
+  arguments_see : (cs : Choices) (f : Symbol) (S : List ParserFrame) (x y : List Token) → ReadsChoices cs Bar x y
       → names_seen (first_strategy (Arguments f) S) x ≡ free S (free_in_choices cs) ++ names_seen (first_pattern (Terms f (strategy_list (core_all cs))) S) y
   arguments_see no_choices f S x y h = rw h refl
   arguments_see (and_choice a cs) f S x y h =
@@ -386,7 +386,7 @@ mutual
       (choice_sees a (ForStrategy (Strategies (Arguments f) []) ∷ S) x h.0 h.1 (λ s t. refl) (bar_ends cs h.0 y h.2))
       (arguments_bar_see cs f (core a ∷ []) S h.0 y h.2)
 
-  more_choices_see : (cs : Choices) (g : StrategyGroup) (done : List Strategy) (S : List Frame) (x y : List Token) → ReadsMoreChoices cs (closing g) x y
+  more_choices_see : (cs : Choices) (g : StrategyGroup) (done : List Strategy) (S : List ParserFrame) (x y : List Token) → ReadsMoreChoices cs (closing g) x y
       → names_seen (behind_element g done S) x ≡ free S (free_in_choices cs) ++ names_seen (behind (grouped g (done ++ strategy_list (core_all cs))) S) y
   more_choices_see no_choices g done S x y h =
       closes_more g done S x y h ∙ ap (λ l. names_seen (behind (grouped g l) S) y) (sym (append-nil done))
@@ -396,7 +396,7 @@ mutual
       (more_choices_see cs g (done ++ core a ∷ []) S h.2.0 y h.2.2
       ∙ ap (λ l. free S (free_in_choices cs) ++ names_seen (behind (grouped g l) S) y) (append_assoc done (core a ∷ []) (strategy_list (core_all cs)))))
 
-  square_bar_sees : (cs : Choices) (done : List Strategy) (S : List Frame) (x y : List Token) → ReadsMoreChoices cs Bar x y
+  square_bar_sees : (cs : Choices) (done : List Strategy) (S : List ParserFrame) (x y : List Token) → ReadsMoreChoices cs Bar x y
       → names_seen (behind_element Square done S) x ≡ free S (free_in_choices cs) ++ names_seen (begin (ForStrategy (SquareTail (done ++ strategy_list (core_all cs))) ∷ S)) y
   square_bar_sees no_choices done S x y h = rw h (ap (λ l. names_seen (begin (ForStrategy (SquareTail l) ∷ S)) y) (sym (append-nil done)))
   square_bar_sees (and_choice a cs) done S x y h =
@@ -405,7 +405,7 @@ mutual
       (square_bar_sees cs (done ++ core a ∷ []) S h.2.0 y h.2.2
       ∙ ap (λ l. free S (free_in_choices cs) ++ names_seen (begin (ForStrategy (SquareTail l) ∷ S)) y) (append_assoc done (core a ∷ []) (strategy_list (core_all cs)))))
 
-  arguments_bar_see : (cs : Choices) (f : Symbol) (done : List Strategy) (S : List Frame) (x y : List Token) → ReadsMoreChoices cs Bar x y
+  arguments_bar_see : (cs : Choices) (f : Symbol) (done : List Strategy) (S : List ParserFrame) (x y : List Token) → ReadsMoreChoices cs Bar x y
       → names_seen (behind_element (Arguments f) done S) x ≡ free S (free_in_choices cs) ++ names_seen (first_pattern (Terms f (done ++ strategy_list (core_all cs))) S) y
   arguments_bar_see no_choices f done S x y h = rw h (ap (λ l. names_seen (first_pattern (Terms f l) S) y) (sym (append-nil done)))
   arguments_bar_see (and_choice a cs) f done S x y h =

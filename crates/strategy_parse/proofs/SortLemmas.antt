@@ -5,8 +5,8 @@ use Rattle.term_core.specs.Tree.{Symbol}
 use Rattle.strategy_tokens.specs.declared.token.Token.{Token}
 use Rattle.strategy_tokens.specs.declared.token.Token.TheVariants.{Ident, Wildcard, Reserved, Integer, Text, Sign as ASign, Bad}
 use Rattle.strategy_tokens.specs.declared.token.Sign.TheVariants.{OpenRound, CloseRound, Comma, Arrow as RightArrow, Star}
-use Rattle.strategy_parse.specs.declared.modules.sorts.Place.{Place}
-use Rattle.strategy_parse.specs.declared.modules.sorts.Place.TheVariants.{Begins, Named, Closed}
+use Rattle.strategy_parse.specs.declared.modules.sorts.SortState.{SortState}
+use Rattle.strategy_parse.specs.declared.modules.sorts.SortState.TheVariants.{Begins, Named, Closed}
 use Rattle.strategy_parse.specs.declared.modules.sorts.Turn.{Turn}
 use Rattle.strategy_parse.specs.declared.modules.sorts.Turn.TheVariants.{Reads, Ends, Stuck}
 use Rattle.strategy_tokens.specs.Marks.{is_mark}
@@ -254,16 +254,16 @@ sort_found x y h =
 
 -- ---- the loop over sorts
 
-pub sorts_reads : (p : Place) (d n : ℕ) (x : List Token) (t : Token) (ts : List Token) (q : Place) (e : ℕ) → x ≡ t ∷ ts → Reads q e ≡ sort_step p d t → sorts_from q e n ts ≡ sorts_from p d n x
+pub sorts_reads : (p : SortState) (d n : ℕ) (x : List Token) (t : Token) (ts : List Token) (q : SortState) (e : ℕ) → x ≡ t ∷ ts → Reads q e ≡ sort_step p d t → sorts_from q e n ts ≡ sorts_from p d n x
 sorts_reads p d n x t ts q e h k = sym (ap (sorts_from p d n) h ∙ ap (sort_goes (λ r f. sorts_from r f n ts) (if (is_mark Star t) then sorts_from Begins 0 (suc n) ts else Some (n, t ∷ ts))) (sym k))
 
-pub sorts_end : (p : Place) (d n : ℕ) (x : List Token) (t : Token) (ts : List Token) → x ≡ t ∷ ts → Ends ≡ sort_step p d t → is_mark Star t ≡ false → sorts_from p d n x ≡ Some (n, x)
+pub sorts_end : (p : SortState) (d n : ℕ) (x : List Token) (t : Token) (ts : List Token) → x ≡ t ∷ ts → Ends ≡ sort_step p d t → is_mark Star t ≡ false → sorts_from p d n x ≡ Some (n, x)
 sorts_end p d n x t ts h k m =
     ap (sorts_from p d n) h
     ∙ ap (sort_goes (λ r f. sorts_from r f n ts) (if (is_mark Star t) then sorts_from Begins 0 (suc n) ts else Some (n, t ∷ ts))) (sym k)
     ∙ rw m (ap (λ l. Some (n, l)) (sym h))
 
-pub sorts_stuck : (p : Place) (d n : ℕ) (x : List Token) (t : Token) (ts : List Token) → x ≡ t ∷ ts → Stuck ≡ sort_step p d t → sorts_from p d n x ≡ None
+pub sorts_stuck : (p : SortState) (d n : ℕ) (x : List Token) (t : Token) (ts : List Token) → x ≡ t ∷ ts → Stuck ≡ sort_step p d t → sorts_from p d n x ≡ None
 sorts_stuck p d n x t ts h k =
     ap (sorts_from p d n) h
     ∙ ap (sort_goes (λ r f. sorts_from r f n ts) (if (is_mark Star t) then sorts_from Begins 0 (suc n) ts else Some (n, t ∷ ts))) (sym k)
@@ -285,7 +285,7 @@ begin-ends d (Text f) e = cc
 begin-ends d (ASign s) e = cc
 begin-ends d Bad e = cc
 
-ends-at : (p : Place) (d : ℕ) (t : Token) → Ends ≡ sort_step p d t → d ≡ 0
+ends-at : (p : SortState) (d : ℕ) (t : Token) → Ends ≡ sort_step p d t → d ≡ 0
 ends-at Begins d t e = absurd (begin-ends d t e)
 ends-at Closed d t e = ends_behind d t e
 ends-at Named d t e = at_open (is_mark OpenRound t) e where
@@ -293,28 +293,28 @@ ends-at Named d t e = at_open (is_mark OpenRound t) e where
   at_open true e = absurd (cc)
   at_open false e = ends_behind d t e
 
-pub sorts_star : (p : Place) (d n k : ℕ) (x : List Token) (t : Token) (ts : List Token) → x ≡ t ∷ ts → Ends ≡ sort_step p d t → is_mark Star t ≡ true → k ≡ n + 1 → sorts_from Begins d k ts ≡ sorts_from p d n x
+pub sorts_star : (p : SortState) (d n k : ℕ) (x : List Token) (t : Token) (ts : List Token) → x ≡ t ∷ ts → Ends ≡ sort_step p d t → is_mark Star t ≡ true → k ≡ n + 1 → sorts_from Begins d k ts ≡ sorts_from p d n x
 sorts_star p d n k x t ts h e m s =
     let up : k ≡ suc n = omega arith in
     sym (ap (sorts_from p d n) h
     ∙ ap (sort_goes (λ r f. sorts_from r f n ts) (if (is_mark Star t) then sorts_from Begins 0 (suc n) ts else Some (n, t ∷ ts))) (sym e)
     ∙ rw m (ap (λ c. sorts_from Begins c (suc n) ts) (sym (ends-at p d t e)) ∙ ap (λ c. sorts_from Begins d c ts) (sym up)))
 
-pub sorts_last : (p : Place) (d n : ℕ) (x : List Token) → x ≡ [] → Ends ≡ sort_step p d Bad → sorts_from p d n x ≡ Some (n, x)
+pub sorts_last : (p : SortState) (d n : ℕ) (x : List Token) → x ≡ [] → Ends ≡ sort_step p d Bad → sorts_from p d n x ≡ Some (n, x)
 sorts_last p d n x h k =
     ap (sorts_from p d n) h ∙ ap (sort_goes (λ r f. None) (Some (n, []))) (sym k) ∙ ap (λ l. Some (n, l)) (sym h)
 
-pub sorts_over : (p : Place) (d n : ℕ) (x : List Token) → x ≡ [] → (sort_step p d Bad ≡ Ends → ⊥) → sorts_from p d n x ≡ None
+pub sorts_over : (p : SortState) (d n : ℕ) (x : List Token) → x ≡ [] → (sort_step p d Bad ≡ Ends → ⊥) → sorts_from p d n x ≡ None
 sorts_over p d n x h k = ap (sorts_from p d n) h ∙ over (sort_step p d Bad) k where
   over : (u : Turn) → (u ≡ Ends → ⊥) → sort_goes (λ r f. None) (Some (n, [])) u ≡ None
   over (Reads q e) k = refl
   over Ends k = absurd (k refl)
   over Stuck k = refl
 
-depth_behind : (d e : ℕ) (q : Place) (t : Token) → Reads q e ≡ behind_sort d t → e ≤ d
+depth_behind : (d e : ℕ) (q : SortState) (t : Token) → Reads q e ≡ behind_sort d t → e ≤ d
 depth_behind zero e q t h = absurd (cc)
 depth_behind (suc d) e q t h = at_comma (is_mark Comma t) (is_mark CloseRound t) h where
-  depth-of : (p r : Place) (a b : ℕ) → Reads p a ≡ Reads r b → a ≡ b
+  depth-of : (p r : SortState) (a b : ℕ) → Reads p a ≡ Reads r b → a ≡ b
   depth-of p r a b h = cc
 
   at_comma : (b c : Bool) → Reads q e ≡ (if b then Reads Begins (suc d) else (if c then Reads Closed d else Stuck)) → e ≤ suc d
@@ -322,7 +322,7 @@ depth_behind (suc d) e q t h = at_comma (is_mark Comma t) (is_mark CloseRound t)
   at_comma false true h = let same : e ≡ d = depth-of q Closed e d h in omega arith
   at_comma false false h = absurd (cc)
 
-pub sorts_depth : (p q : Place) (d e : ℕ) (t : Token) → Reads q e ≡ sort_step p d t → e ≤ d + 1
+pub sorts_depth : (p q : SortState) (d e : ℕ) (t : Token) → Reads q e ≡ sort_step p d t → e ≤ d + 1
 sorts_depth Closed q d e t h = let less : e ≤ d = depth_behind d e q t h in omega arith
 sorts_depth Begins q d e (Ident f) h = let same : e ≡ d = cc in omega arith
 sorts_depth Begins q d e Wildcard h = absurd (cc)

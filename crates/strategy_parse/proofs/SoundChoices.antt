@@ -6,16 +6,16 @@ use Rattle.strategy_syntax.specs.Syntax.{Pattern, wildcard, variable, at, number
 use Rattle.strategy_tokens.specs.declared.token.Token.{Token}
 use Rattle.strategy_tokens.specs.declared.token.Token.TheVariants.{Sign as ASign}
 use Rattle.strategy_tokens.specs.declared.token.Sign.TheVariants.{Comma, Semicolon, Bar, Less, LeftChoice, Plus}
-use Rattle.strategy_parse.specs.declared.parser.state.State.TheVariants.{Strategy as ToStrategy, Read}
-use Rattle.strategy_parse.specs.declared.parser.state.Frame.{Frame}
-use Rattle.strategy_parse.specs.declared.parser.state.Frame.TheVariants.{Operand, Strategy as ForStrategy}
+use Rattle.strategy_parse.specs.declared.parser.state.ParserState.TheVariants.{Strategy as ToStrategy, Read}
+use Rattle.strategy_parse.specs.declared.parser.state.ParserFrame.{ParserFrame}
+use Rattle.strategy_parse.specs.declared.parser.state.ParserFrame.TheVariants.{Operand, Strategy as ForStrategy}
 use Rattle.strategy_parse.specs.declared.parser.state.Infix.TheVariants.{Before, Guarded, Otherwise}
 use Rattle.strategy_parse.specs.declared.parser.state.StrategyFrame.{StrategyFrame}
 use Rattle.strategy_parse.specs.declared.parser.state.StrategyFrame.TheVariants.{List as Strategies}
 use Rattle.strategy_parse.specs.declared.parser.state.StrategyGroup.{StrategyGroup}
 use Rattle.strategy_parse.specs.declared.parser.state.PatternGroup.TheVariants.{Prim}
 use Rattle.strategy_tokens.specs.Marks.{is_mark}
-use Rattle.strategy_parse.specs.inside.Machine.{goes, begin, behind, behind_arrow, behind_seq, behind_choice, behind_element, behind_bar, close_strategies, closing, grouped, first_strategy, empty_bar}
+use Rattle.strategy_parse.specs.inside.Parser.{goes, begin, behind, behind_arrow, behind_seq, behind_choice, behind_element, behind_bar, close_strategies, closing, grouped, first_strategy, empty_bar}
 use Rattle.strategy_parse.specs.Written.{sequence, left_choice, guarded_choice, last, before, arrow, no_choices, and_choice}
 use Rattle.strategy_parse.specs.Core.{then_matched, core, core_seq, core_prefix, core_all}
 use Rattle.strategy_parse.proofs.Runs.{Accepts, Goes, at_mark, only_mark}
@@ -23,7 +23,7 @@ use Rattle.strategy_parse.proofs.CompleteStrategies.{Bare, same_accepts}
 use Rattle.strategy_parse.proofs.SoundParts.{FoundPrefix, FoundArrows, FoundSeq, FoundChoice, MoreOf, ListOf, PrefixesTo, arrows_found}
 
 module _ (n : ℕ) (P : PrefixesTo n) where
-  seq_found : (m : ℕ) → m ≤ n → (S : List Frame) (x : List Token) (r : Strategy) → length x ≤ m → Accepts (begin S) x r → FoundSeq S x r
+  seq_found : (m : ℕ) → m ≤ n → (S : List ParserFrame) (x : List Token) (r : Strategy) → length x ≤ m → Accepts (begin S) x r → FoundSeq S x r
   seq_found zero le S x r lx k = let found : FoundPrefix S x r = P S x r (omega arith) k in let lt : length found.rest < length x = found.shorter in absurd (omega arith)
   seq_found (suc m) le S x r lx k =
       let found : FoundPrefix S x r = P S x r (omega arith) k in
@@ -51,7 +51,7 @@ module _ (n : ℕ) (P : PrefixesTo n) where
         }
       ]
 
-  pub choice_found : (m : ℕ) → m ≤ n → (S : List Frame) (x : List Token) (r : Strategy) → Bare S → length x ≤ m → Accepts (begin S) x r → FoundChoice S x r
+  pub choice_found : (m : ℕ) → m ≤ n → (S : List ParserFrame) (x : List Token) (r : Strategy) → Bare S → length x ≤ m → Accepts (begin S) x r → FoundChoice S x r
   choice_found zero le S x r bare lx k = let found : FoundSeq S x r = seq_found zero le S x r lx k in let lt : length found.rest < length x = found.shorter in absurd (omega arith)
   choice_found (suc m) le S x r bare lx k =
       let a : FoundSeq S x r = seq_found (suc m) le S x r lx k in
@@ -90,12 +90,12 @@ module _ (n : ℕ) (P : PrefixesTo n) where
       ]
 
   -- a strategy in an open form
-  pub framed : (F : StrategyFrame) (S : List Frame) (x : List Token) (r : Strategy) → length x ≤ n → Accepts (begin (ForStrategy F ∷ S)) x r → FoundChoice (ForStrategy F ∷ S) x r
+  pub framed : (F : StrategyFrame) (S : List ParserFrame) (x : List Token) (r : Strategy) → length x ≤ n → Accepts (begin (ForStrategy F ∷ S)) x r → FoundChoice (ForStrategy F ∷ S) x r
   framed F S x r le k = choice_found n (omega arith) (ForStrategy F ∷ S) x r (λ s t. refl) le k
 
   -- ---- lists
 
-  and_more : (g : StrategyGroup) (done : List Strategy) (S : List Frame) (x z : List Token) (r : Strategy) → x ≡ ASign Comma ∷ z → (a : FoundChoice (ForStrategy (Strategies g done) ∷ S) z r)
+  and_more : (g : StrategyGroup) (done : List Strategy) (S : List ParserFrame) (x z : List Token) (r : Strategy) → x ≡ ASign Comma ∷ z → (a : FoundChoice (ForStrategy (Strategies g done) ∷ S) z r)
       → MoreOf g (done ++ core a.choice ∷ []) S a.rest r → MoreOf g done S x r
   and_more g done S x z r e a (inl more) =
       let l : length x ≡ suc (length z) = ap length e in
@@ -120,7 +120,7 @@ module _ (n : ℕ) (P : PrefixesTo n) where
         shorter = omega arith;
       })
 
-  more_ends : (g : StrategyGroup) (done : List Strategy) (S : List Frame) (x : List Token) (r : Strategy) → Accepts (λ t. if (is_mark Bar t) then behind_bar g done S else close_strategies g done S t) x r → MoreOf g done S x r
+  more_ends : (g : StrategyGroup) (done : List Strategy) (S : List ParserFrame) (x : List Token) (r : Strategy) → Accepts (λ t. if (is_mark Bar t) then behind_bar g done S else close_strategies g done S t) x r → MoreOf g done S x r
   more_ends g done S x r k = elim (at_mark Bar (behind_bar g done S) (close_strategies g done S) x r k) [
     | inl bar ↦
         let l : length x ≡ suc (length bar.0) = ap length bar.1 in
@@ -143,7 +143,7 @@ module _ (n : ℕ) (P : PrefixesTo n) where
         })
   ]
 
-  more_found_in : (m : ℕ) → m ≤ n → (g : StrategyGroup) (done : List Strategy) (S : List Frame) (x : List Token) (r : Strategy) → length x ≤ m → Accepts (behind_element g done S) x r → MoreOf g done S x r
+  more_found_in : (m : ℕ) → m ≤ n → (g : StrategyGroup) (done : List Strategy) (S : List ParserFrame) (x : List Token) (r : Strategy) → length x ≤ m → Accepts (behind_element g done S) x r → MoreOf g done S x r
   more_found_in zero le g done S x r lx k = elim (at_mark Comma (goes ToStrategy (ForStrategy (Strategies g done) ∷ S)) (λ t. if (is_mark Bar t) then behind_bar g done S else close_strategies g done S t) x r k) [
     | inl next ↦ let l : length x ≡ suc (length next.0) = ap length next.1 in absurd (omega arith)
     | inr other ↦ more_ends g done S x r other
@@ -157,7 +157,7 @@ module _ (n : ℕ) (P : PrefixesTo n) where
     | inr other ↦ more_ends g done S x r other
   ]
 
-  first_more : (g : StrategyGroup) (S : List Frame) (x : List Token) (r : Strategy) → (a : FoundChoice (ForStrategy (Strategies g []) ∷ S) x r) → MoreOf g (core a.choice ∷ []) S a.rest r → ListOf g S x r
+  first_more : (g : StrategyGroup) (S : List ParserFrame) (x : List Token) (r : Strategy) → (a : FoundChoice (ForStrategy (Strategies g []) ∷ S) x r) → MoreOf g (core a.choice ∷ []) S a.rest r → ListOf g S x r
   first_more g S x r a (inl more) =
       let la : length a.rest < length x = a.shorter in
       let lm : length more.rest < length a.rest = more.shorter in
@@ -167,7 +167,7 @@ module _ (n : ℕ) (P : PrefixesTo n) where
       let lm : length more.rest < length a.rest = more.shorter in
       inr (inl (record { first = a.choice; choices = more.choices; rest = more.rest; reads = (a.rest, a.reads, more.reads); goes_on = more.goes_on; shorter = omega arith }))
 
-  pub list_of : (g : StrategyGroup) (S : List Frame) (x : List Token) (r : Strategy) → length x ≤ n → Accepts (first_strategy g S) x r → ListOf g S x r
+  pub list_of : (g : StrategyGroup) (S : List ParserFrame) (x : List Token) (r : Strategy) → length x ≤ n → Accepts (first_strategy g S) x r → ListOf g S x r
   list_of g S x r le k = elim (at_mark (closing g) (goes (Read (grouped g [])) S) (λ t. if (is_mark Bar t) then empty_bar g S else begin (ForStrategy (Strategies g []) ∷ S) t) x r k) [
     | inl end ↦
         let l : length x ≡ suc (length end.0) = ap length end.1 in

@@ -7,9 +7,9 @@ use Rattle.strategy_syntax.specs.Syntax.{Pattern, wildcard, variable, at, number
 use Rattle.strategy_tokens.specs.declared.token.Token.{Token}
 use Rattle.strategy_tokens.specs.declared.token.Token.TheVariants.{Ident, Wildcard, Reserved, Integer, Text, Sign as ASign, Bad}
 use Rattle.strategy_tokens.specs.declared.token.Sign.TheVariants.{OpenRound, Comma, Semicolon, Colon, Bar, FatArrow}
-use Rattle.strategy_parse.specs.declared.parser.state.State.TheVariants.{Strategy as ToStrategy, ScopeOpen, ScopeComma, ScopeNamed, Pattern as ToPattern}
-use Rattle.strategy_parse.specs.declared.parser.state.Frame.{Frame}
-use Rattle.strategy_parse.specs.declared.parser.state.Frame.TheVariants.{Operand, Strategy as ForStrategy, Pattern as ForPattern}
+use Rattle.strategy_parse.specs.declared.parser.state.ParserState.TheVariants.{Strategy as ToStrategy, ScopeOpen, ScopeComma, ScopeNamed, Pattern as ToPattern}
+use Rattle.strategy_parse.specs.declared.parser.state.ParserFrame.{ParserFrame}
+use Rattle.strategy_parse.specs.declared.parser.state.ParserFrame.TheVariants.{Operand, Strategy as ForStrategy, Pattern as ForPattern}
 use Rattle.strategy_parse.specs.declared.parser.state.Infix.TheVariants.{Before}
 use Rattle.strategy_parse.specs.declared.parser.state.StrategyFrame.{StrategyFrame}
 use Rattle.strategy_parse.specs.declared.parser.state.StrategyFrame.TheVariants.{Scope}
@@ -17,7 +17,7 @@ use Rattle.strategy_parse.specs.declared.parser.state.PatternFrame.TheVariants.{
 use Rattle.strategy_parse.specs.declared.parser.state.StrategyGroup.{StrategyGroup}
 use Rattle.strategy_parse.specs.declared.parser.state.PatternGroup.TheVariants.{Prim}
 use Rattle.strategy_tokens.specs.Marks.{is_mark}
-use Rattle.strategy_parse.specs.inside.Machine.{Next, goes, stuck, begin, begin_pattern, behind, behind_arrow, behind_choice, in_frame, behind_bar, closing, grouped, empty_bar, scope_name, step}
+use Rattle.strategy_parse.specs.inside.Parser.{Next, goes, stuck, begin, begin_pattern, behind, behind_arrow, behind_choice, in_frame, behind_bar, closing, grouped, empty_bar, scope_name, step}
 use Rattle.strategy_parse.specs.Grammar.{ReadsArrows, ReadsMoreNames, ReadsNames, ReadsChoice, ReadsSeq, ReadsPrefix, ReadsChoices, ReadsSomeChoices, ReadsMoreChoices}
 use Rattle.strategy_parse.specs.Written.{Choice, Seq, Prefix, Choices, and_choice}
 use Rattle.strategy_parse.specs.Core.{then_matched, core, core_seq, core_prefix, core_all}
@@ -26,31 +26,31 @@ use Rattle.strategy_parse.proofs.SoundPatterns.{FoundPattern, pattern_found}
 
 -- ---- a prefix at the start of x, if the rest is accepted after it
 
-pub record FoundPrefix (S : List Frame) (x : List Token) (r : Strategy) : Type 0 where
+pub record FoundPrefix (S : List ParserFrame) (x : List Token) (r : Strategy) : Type 0 where
   pub prefix : Prefix
   pub rest : List Token
   pub reads : ReadsPrefix prefix x rest
   pub accepts : Accepts (behind (core_prefix prefix) S) rest r
   pub shorter : length rest < length x
 
-abbrev pub after_arrows : Strategy → List Frame → Token → Next
+abbrev pub after_arrows : Strategy → List ParserFrame → Token → Next
 after_arrows s S t = if (is_mark Semicolon t) then goes ToStrategy (Operand Before s ∷ S) else behind_arrow s S t
 
-pub record FoundArrows (s : Strategy) (S : List Frame) (x : List Token) (r : Strategy) : Type 0 where
+pub record FoundArrows (s : Strategy) (S : List ParserFrame) (x : List Token) (r : Strategy) : Type 0 where
   pub patterns : syntax.Patterns
   pub rest : List Token
   pub reads : ReadsArrows patterns x rest
   pub accepts : Accepts (after_arrows (then_matched s patterns) S) rest r
   pub shorter : length rest ≤ length x
 
-pub record FoundSeq (S : List Frame) (x : List Token) (r : Strategy) : Type 0 where
+pub record FoundSeq (S : List ParserFrame) (x : List Token) (r : Strategy) : Type 0 where
   pub seq : Seq
   pub rest : List Token
   pub reads : ReadsSeq seq x rest
   pub accepts : Accepts (behind_arrow (core_seq seq) S) rest r
   pub shorter : length rest < length x
 
-pub record FoundChoice (S : List Frame) (x : List Token) (r : Strategy) : Type 0 where
+pub record FoundChoice (S : List ParserFrame) (x : List Token) (r : Strategy) : Type 0 where
   pub choice : Choice
   pub rest : List Token
   pub reads : ReadsChoice choice x rest
@@ -58,7 +58,7 @@ pub record FoundChoice (S : List Frame) (x : List Token) (r : Strategy) : Type 0
   pub shorter : length rest < length x
 
 -- the further strategies of a list, up to the sign that closes it
-pub record MoreClosed (g : StrategyGroup) (done : List Strategy) (S : List Frame) (x : List Token) (r : Strategy) : Type 0 where
+pub record MoreClosed (g : StrategyGroup) (done : List Strategy) (S : List ParserFrame) (x : List Token) (r : Strategy) : Type 0 where
   pub choices : Choices
   pub rest : List Token
   pub reads : ReadsMoreChoices choices (closing g) x rest
@@ -66,25 +66,25 @@ pub record MoreClosed (g : StrategyGroup) (done : List Strategy) (S : List Frame
   pub shorter : length rest < length x
 
 -- ... or up to a `|`
-pub record MoreBar (g : StrategyGroup) (done : List Strategy) (S : List Frame) (x : List Token) (r : Strategy) : Type 0 where
+pub record MoreBar (g : StrategyGroup) (done : List Strategy) (S : List ParserFrame) (x : List Token) (r : Strategy) : Type 0 where
   pub choices : Choices
   pub rest : List Token
   pub reads : ReadsMoreChoices choices Bar x rest
   pub goes_on : Goes (behind_bar g (done ++ strategy_list (core_all choices)) S) rest r
   pub shorter : length rest < length x
 
-abbrev pub MoreOf : StrategyGroup → List Strategy → List Frame → List Token → Strategy → Type 0
+abbrev pub MoreOf : StrategyGroup → List Strategy → List ParserFrame → List Token → Strategy → Type 0
 MoreOf g done S x r = MoreClosed g done S x r ⊎ MoreBar g done S x r
 
 -- after the sign that opens a list
-pub record ListClosed (g : StrategyGroup) (S : List Frame) (x : List Token) (r : Strategy) : Type 0 where
+pub record ListClosed (g : StrategyGroup) (S : List ParserFrame) (x : List Token) (r : Strategy) : Type 0 where
   pub choices : Choices
   pub rest : List Token
   pub reads : ReadsChoices choices (closing g) x rest
   pub accepts : Accepts (behind (grouped g (strategy_list (core_all choices))) S) rest r
   pub shorter : length rest < length x
 
-pub record ListBar (g : StrategyGroup) (S : List Frame) (x : List Token) (r : Strategy) : Type 0 where
+pub record ListBar (g : StrategyGroup) (S : List ParserFrame) (x : List Token) (r : Strategy) : Type 0 where
   pub first : Choice
   pub choices : Choices
   pub rest : List Token
@@ -92,17 +92,17 @@ pub record ListBar (g : StrategyGroup) (S : List Frame) (x : List Token) (r : St
   pub goes_on : Goes (behind_bar g (core first ∷ strategy_list (core_all choices)) S) rest r
   pub shorter : length rest < length x
 
-pub record EmptyBar (g : StrategyGroup) (S : List Frame) (x : List Token) (r : Strategy) : Type 0 where
+pub record EmptyBar (g : StrategyGroup) (S : List ParserFrame) (x : List Token) (r : Strategy) : Type 0 where
   pub rest : List Token
   pub reads : x ≡ ASign Bar ∷ rest
   pub goes_on : Goes (empty_bar g S) rest r
   pub shorter : length rest < length x
 
-abbrev pub ListOf : StrategyGroup → List Frame → List Token → Strategy → Type 0
+abbrev pub ListOf : StrategyGroup → List ParserFrame → List Token → Strategy → Type 0
 ListOf g S x r = ListClosed g S x r ⊎ (ListBar g S x r ⊎ EmptyBar g S x r)
 
 -- a strategy in round brackets
-pub record Opened (F : StrategyFrame) (S : List Frame) (x : List Token) (r : Strategy) : Type 0 where
+pub record Opened (F : StrategyFrame) (S : List ParserFrame) (x : List Token) (r : Strategy) : Type 0 where
   pub inner : List Token
   pub choice : Choice
   pub ends_at : List Token
@@ -111,14 +111,14 @@ pub record Opened (F : StrategyFrame) (S : List Frame) (x : List Token) (r : Str
   pub accepts : Accepts (in_frame (core choice) F S) ends_at r
   pub shorter : length ends_at < length x
 
-pub record FoundNames (S : List Frame) (x : List Token) (r : Strategy) : Type 0 where
+pub record FoundNames (S : List ParserFrame) (x : List Token) (r : Strategy) : Type 0 where
   pub names : List Symbol
   pub rest : List Token
   pub reads : ReadsNames names Colon x rest
   pub accepts : Accepts (begin (ForStrategy (Scope names) ∷ S)) rest r
   pub shorter : length rest < length x
 
-pub record FoundMoreNames (done : List Symbol) (S : List Frame) (x : List Token) (r : Strategy) : Type 0 where
+pub record FoundMoreNames (done : List Symbol) (S : List ParserFrame) (x : List Token) (r : Strategy) : Type 0 where
   pub names : List Symbol
   pub rest : List Token
   pub reads : ReadsMoreNames names Colon x rest
@@ -126,14 +126,14 @@ pub record FoundMoreNames (done : List Symbol) (S : List Frame) (x : List Token)
   pub shorter : length rest < length x
 
 abbrev pub PrefixesTo : ℕ → Type 0
-PrefixesTo n = (S : List Frame) (x : List Token) (r : Strategy) → length x ≤ n → Accepts (begin S) x r → FoundPrefix S x r
+PrefixesTo n = (S : List ParserFrame) (x : List Token) (r : Strategy) → length x ≤ n → Accepts (begin S) x r → FoundPrefix S x r
 
 -- ---- parts without strategies
 
-pub pattern_at : (S : List Frame) (x : List Token) (r : Strategy) → Accepts (begin_pattern S) x r → FoundPattern S x r
+pub pattern_at : (S : List ParserFrame) (x : List Token) (r : Strategy) → Accepts (begin_pattern S) x r → FoundPattern S x r
 pattern_at S x r k = pattern_found (length x) S x r (omega arith) k
 
-pub arrows_found : (m : ℕ) (s : Strategy) (S : List Frame) (x : List Token) (r : Strategy) → length x ≤ m → Accepts (behind s S) x r → FoundArrows s S x r
+pub arrows_found : (m : ℕ) (s : Strategy) (S : List ParserFrame) (x : List Token) (r : Strategy) → length x ≤ m → Accepts (behind s S) x r → FoundArrows s S x r
 arrows_found zero s S x r le k = elim (at_mark FatArrow (goes ToPattern (ForPattern (Matched s) ∷ S)) (after_arrows s S) x r k) [
   | inl next ↦ let l : length x ≡ suc (length next.0) = ap length next.1 in absurd (omega arith)
   | inr other ↦ record { patterns = no_patterns; rest = x; reads = refl; accepts = other; shorter = omega arith }
@@ -156,13 +156,13 @@ arrows_found (suc m) s S x r le k = elim (at_mark FatArrow (goes ToPattern (ForP
 ]
 
 -- a name has to come
-pub record FoundName (xs : List Symbol) (S : List Frame) (x : List Token) (r : Strategy) : Type 0 where
+pub record FoundName (xs : List Symbol) (S : List ParserFrame) (x : List Token) (r : Strategy) : Type 0 where
   pub name : Symbol
   pub rest : List Token
   pub reads : x ≡ Ident name ∷ rest
   pub accepts : Accepts (step (ScopeNamed (xs ++ name ∷ [])) S) rest r
 
-pub name_found : (xs : List Symbol) (S : List Frame) (x : List Token) (r : Strategy) → Accepts (scope_name xs S) x r → FoundName xs S x r
+pub name_found : (xs : List Symbol) (S : List ParserFrame) (x : List Token) (r : Strategy) → Accepts (scope_name xs S) x r → FoundName xs S x r
 name_found xs S [] r k = absurd (cc)
 name_found xs S (Ident f ∷ ts) r k = record { name = f; rest = ts; reads = refl; accepts = k }
 name_found xs S (Wildcard ∷ ts) r k = absurd (cc)
@@ -172,7 +172,7 @@ name_found xs S (Text f ∷ ts) r k = absurd (cc)
 name_found xs S (ASign s ∷ ts) r k = absurd (cc)
 name_found xs S (Bad ∷ ts) r k = absurd (cc)
 
-pub more_names_found : (m : ℕ) (done : List Symbol) (S : List Frame) (x : List Token) (r : Strategy) → length x ≤ m → Accepts (step (ScopeNamed done) S) x r → FoundMoreNames done S x r
+pub more_names_found : (m : ℕ) (done : List Symbol) (S : List ParserFrame) (x : List Token) (r : Strategy) → length x ≤ m → Accepts (step (ScopeNamed done) S) x r → FoundMoreNames done S x r
 more_names_found zero done S x r le k = elim (at_mark Colon (goes ToStrategy (ForStrategy (Scope done) ∷ S)) (λ t. if (is_mark Comma t) then goes (ScopeComma done) S else stuck) x r k) [
   | inl end ↦ let l : length x ≡ suc (length end.0) = ap length end.1 in absurd (omega arith)
   | inr other ↦
@@ -206,7 +206,7 @@ more_names_found (suc m) done S x r le k = elim (at_mark Colon (goes ToStrategy 
       }
 ]
 
-pub names_found : (S : List Frame) (x : List Token) (r : Strategy) → Accepts (step ScopeOpen S) x r → FoundNames S x r
+pub names_found : (S : List ParserFrame) (x : List Token) (r : Strategy) → Accepts (step ScopeOpen S) x r → FoundNames S x r
 names_found S x r k = elim (at_mark Colon (goes ToStrategy (ForStrategy (Scope []) ∷ S)) (scope_name [] S) x r k) [
   | inl end ↦ let l : length x ≡ suc (length end.0) = ap length end.1 in record { names = []; rest = end.0; reads = end.1; accepts = end.2; shorter = omega arith }
   | inr other ↦

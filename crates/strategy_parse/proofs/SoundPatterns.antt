@@ -8,20 +8,20 @@ use Rattle.strategy_tokens.specs.declared.token.Token.{Token}
 use Rattle.strategy_tokens.specs.declared.token.Token.TheVariants.{Ident, Wildcard, Reserved, Integer, Text, Sign as ASign, Bad}
 use Rattle.strategy_tokens.specs.declared.token.Sign.{Sign}
 use Rattle.strategy_tokens.specs.declared.token.Sign.TheVariants.{OpenRound, OpenSquare, CloseSquare, OpenCurly, Comma, Bar, At as AtSign}
-use Rattle.strategy_parse.specs.declared.parser.state.State.TheVariants.{Pattern as ToPattern, FirstPattern, Named, Base}
-use Rattle.strategy_parse.specs.declared.parser.state.Frame.{Frame}
-use Rattle.strategy_parse.specs.declared.parser.state.Frame.TheVariants.{At, Pattern as ForPattern}
+use Rattle.strategy_parse.specs.declared.parser.state.ParserState.TheVariants.{Pattern as ToPattern, FirstPattern, Named, Base}
+use Rattle.strategy_parse.specs.declared.parser.state.ParserFrame.{ParserFrame}
+use Rattle.strategy_parse.specs.declared.parser.state.ParserFrame.TheVariants.{At, Pattern as ForPattern}
 use Rattle.strategy_parse.specs.declared.parser.state.PatternFrame.TheVariants.{List as Patterns, Tail as PatternTail}
 use Rattle.strategy_parse.specs.declared.parser.state.PatternGroup.{PatternGroup}
 use Rattle.strategy_parse.specs.declared.parser.state.PatternGroup.TheVariants.{Application as PApplication, List as PList, Tuple as PTuple, Annotations, Terms, Prim}
 use Rattle.strategy_tokens.specs.Marks.{is_mark}
-use Rattle.strategy_parse.specs.inside.Machine.{Next, goes, stuck, begin_pattern, open_pattern, behind_pattern, behind_base, behind_one, pattern_bar, closing_sign, close_patterns, first_pattern, step}
+use Rattle.strategy_parse.specs.inside.Parser.{Next, goes, stuck, begin_pattern, open_pattern, behind_pattern, behind_base, behind_one, pattern_bar, closing_sign, close_patterns, first_pattern, step}
 use Rattle.strategy_parse.specs.Grammar.{IsBase, ReadsPattern, ReadsPatterns, ReadsSomePatterns, ReadsMorePatterns}
 use Rattle.strategy_parse.proofs.Runs.{Accepts, Goes, at_mark, only_mark}
 use Rattle.strategy_parse.proofs.CompletePatterns.{patterns_of-list}
 
 -- a pattern at the start of x, if the rest is accepted after it
-pub record FoundPattern (S : List Frame) (x : List Token) (r : Strategy) : Type 0 where
+pub record FoundPattern (S : List ParserFrame) (x : List Token) (r : Strategy) : Type 0 where
   pub pattern : Pattern
   pub rest : List Token
   pub reads : ReadsPattern pattern x rest
@@ -29,7 +29,7 @@ pub record FoundPattern (S : List Frame) (x : List Token) (r : Strategy) : Type 
   pub shorter : length rest < length x
 
 -- patterns at the start of x, up to the sign that closes their list
-pub record FoundList (g : PatternGroup) (S : List Frame) (x : List Token) (r : Strategy) : Type 0 where
+pub record FoundList (g : PatternGroup) (S : List ParserFrame) (x : List Token) (r : Strategy) : Type 0 where
   pub patterns : syntax.Patterns
   pub rest : List Token
   pub reads : ReadsPatterns patterns (closing_sign g) x rest
@@ -37,7 +37,7 @@ pub record FoundList (g : PatternGroup) (S : List Frame) (x : List Token) (r : S
   pub shorter : length rest < length x
 
 -- the further patterns
-pub record FoundMore (g : PatternGroup) (done : List Pattern) (S : List Frame) (x : List Token) (r : Strategy) : Type 0 where
+pub record FoundMore (g : PatternGroup) (done : List Pattern) (S : List ParserFrame) (x : List Token) (r : Strategy) : Type 0 where
   pub patterns : syntax.Patterns
   pub rest : List Token
   pub reads : ReadsMorePatterns patterns (closing_sign g) x rest
@@ -45,7 +45,7 @@ pub record FoundMore (g : PatternGroup) (done : List Pattern) (S : List Frame) (
   pub shorter : length rest < length x
 
 -- the patterns of a list up to a `|`, and the pattern after it
-pub record FoundTail (S : List Frame) (x : List Token) (r : Strategy) : Type 0 where
+pub record FoundTail (S : List ParserFrame) (x : List Token) (r : Strategy) : Type 0 where
   pub patterns : syntax.Patterns
   pub last : Pattern
   pub bar : List Token
@@ -57,7 +57,7 @@ pub record FoundTail (S : List Frame) (x : List Token) (r : Strategy) : Type 0 w
   pub accepts : Accepts (behind_base (with_tail patterns last) S) rest r
   pub shorter : length rest < length x
 
-pub record FoundBar (done : List Pattern) (S : List Frame) (x : List Token) (r : Strategy) : Type 0 where
+pub record FoundBar (done : List Pattern) (S : List ParserFrame) (x : List Token) (r : Strategy) : Type 0 where
   pub patterns : syntax.Patterns
   pub last : Pattern
   pub bar : List Token
@@ -71,20 +71,20 @@ pub record FoundBar (done : List Pattern) (S : List Frame) (x : List Token) (r :
 
 -- patterns are found in up to n tokens
 abbrev pub PatternsTo : ℕ → Type 0
-PatternsTo n = (S : List Frame) (x : List Token) (r : Strategy) → length x ≤ n → Accepts (begin_pattern S) x r → FoundPattern S x r
+PatternsTo n = (S : List ParserFrame) (x : List Token) (r : Strategy) → length x ≤ n → Accepts (begin_pattern S) x r → FoundPattern S x r
 
-abbrev Closing : PatternGroup → List Pattern → List Frame → Token → Next
+abbrev Closing : PatternGroup → List Pattern → List ParserFrame → Token → Next
 Closing g done S t = if (is_mark (closing_sign g) t) then goes (close_patterns g done) S else if (is_mark Bar t) then pattern_bar g done S else stuck
 
-abbrev pub More : PatternGroup → List Pattern → List Frame → List Token → Strategy → Type 0
+abbrev pub More : PatternGroup → List Pattern → List ParserFrame → List Token → Strategy → Type 0
 More g done S x r = FoundMore g done S x r ⊎ ((g ≡ PList) × FoundBar done S x r)
 
-abbrev pub Listed : PatternGroup → List Frame → List Token → Strategy → Type 0
+abbrev pub Listed : PatternGroup → List ParserFrame → List Token → Strategy → Type 0
 Listed g S x r = FoundList g S x r ⊎ ((g ≡ PList) × FoundTail S x r)
 
 module _ (n : ℕ) (P : PatternsTo n) where
   -- a `|` after the patterns of a list
-  bar_found : (g : PatternGroup) (done : List Pattern) (S : List Frame) (x z : List Token) (r : Strategy) → x ≡ ASign Bar ∷ z → length x ≤ n → Goes (pattern_bar g done S) z r → (g ≡ PList) × FoundBar done S x r
+  bar_found : (g : PatternGroup) (done : List Pattern) (S : List ParserFrame) (x z : List Token) (r : Strategy) → x ≡ ASign Bar ∷ z → length x ≤ n → Goes (pattern_bar g done S) z r → (g ≡ PList) × FoundBar done S x r
   bar_found PList done S x z r e le k =
       let l : length x ≡ suc (length z) = ap length e in
       let found : FoundPattern (ForPattern (PatternTail done) ∷ S) z r = P (ForPattern (PatternTail done) ∷ S) z r (omega arith) k in
@@ -111,7 +111,7 @@ module _ (n : ℕ) (P : PatternsTo n) where
   bar_found (Terms f ss) done S x z r e le k = absurd (cc)
   bar_found (Prim f) done S x z r e le k = absurd (cc)
 
-  and_more : (g : PatternGroup) (done : List Pattern) (S : List Frame) (x z : List Token) (r : Strategy) → x ≡ ASign Comma ∷ z → (found : FoundPattern (ForPattern (Patterns g done) ∷ S) z r)
+  and_more : (g : PatternGroup) (done : List Pattern) (S : List ParserFrame) (x z : List Token) (r : Strategy) → x ≡ ASign Comma ∷ z → (found : FoundPattern (ForPattern (Patterns g done) ∷ S) z r)
       → More g (done ++ found.pattern ∷ []) S found.rest r → More g done S x r
   and_more g done S x z r e found (inl more) =
       let l : length x ≡ suc (length z) = ap length e in
@@ -144,7 +144,7 @@ module _ (n : ℕ) (P : PatternsTo n) where
         },
       )
 
-  more_ends : (g : PatternGroup) (done : List Pattern) (S : List Frame) (x : List Token) (r : Strategy) → length x ≤ n → Accepts (Closing g done S) x r → More g done S x r
+  more_ends : (g : PatternGroup) (done : List Pattern) (S : List ParserFrame) (x : List Token) (r : Strategy) → length x ≤ n → Accepts (Closing g done S) x r → More g done S x r
   more_ends g done S x r le k = elim (at_mark (closing_sign g) (goes (close_patterns g done) S) (λ t. if (is_mark Bar t) then pattern_bar g done S else stuck) x r k) [
     | inl end ↦
         let l : length x ≡ suc (length end.0) = ap length end.1 in
@@ -159,7 +159,7 @@ module _ (n : ℕ) (P : PatternsTo n) where
   ]
 
   -- after one pattern of a list
-  pub more_found : (m : ℕ) → m ≤ n → (g : PatternGroup) (done : List Pattern) (S : List Frame) (x : List Token) (r : Strategy) → length x ≤ m → Accepts (behind_one g done S) x r → More g done S x r
+  pub more_found : (m : ℕ) → m ≤ n → (g : PatternGroup) (done : List Pattern) (S : List ParserFrame) (x : List Token) (r : Strategy) → length x ≤ m → Accepts (behind_one g done S) x r → More g done S x r
   more_found zero le g done S x r lx k = elim (at_mark Comma (goes ToPattern (ForPattern (Patterns g done) ∷ S)) (Closing g done S) x r k) [
     | inl next ↦ let l : length x ≡ suc (length next.0) = ap length next.1 in absurd (omega arith)
     | inr other ↦ more_ends g done S x r (omega arith) other
@@ -173,7 +173,7 @@ module _ (n : ℕ) (P : PatternsTo n) where
     | inr other ↦ more_ends g done S x r (omega arith) other
   ]
 
-  first_more : (g : PatternGroup) (S : List Frame) (x : List Token) (r : Strategy) → (found : FoundPattern (ForPattern (Patterns g []) ∷ S) x r) → More g (found.pattern ∷ []) S found.rest r → Listed g S x r
+  first_more : (g : PatternGroup) (S : List ParserFrame) (x : List Token) (r : Strategy) → (found : FoundPattern (ForPattern (Patterns g []) ∷ S) x r) → More g (found.pattern ∷ []) S found.rest r → Listed g S x r
   first_more g S x r found (inl more) =
       let s : length found.rest < length x = found.shorter in
       let s' : length more.rest < length found.rest = more.shorter in
@@ -204,7 +204,7 @@ module _ (n : ℕ) (P : PatternsTo n) where
       )
 
   -- after the sign that opens a list
-  pub list_found : (g : PatternGroup) (S : List Frame) (x : List Token) (r : Strategy) → length x ≤ n → Accepts (first_pattern g S) x r → Listed g S x r
+  pub list_found : (g : PatternGroup) (S : List ParserFrame) (x : List Token) (r : Strategy) → length x ≤ n → Accepts (first_pattern g S) x r → Listed g S x r
   list_found g S x r le k = elim (at_mark (closing_sign g) (goes (close_patterns g []) S) (begin_pattern (ForPattern (Patterns g []) ∷ S)) x r k) [
     | inl end ↦
         let l : length x ≡ suc (length end.0) = ap length end.1 in
@@ -217,7 +217,7 @@ module _ (n : ℕ) (P : PatternsTo n) where
 
   -- ---- a base, and its annotations
 
-  annotated_found : (p : Pattern) (S : List Frame) (x y z : List Token) (r : Strategy) → IsBase p → ReadsPattern p x y → y ≡ ASign OpenCurly ∷ z → length y < length x → Listed (Annotations p) S z r → FoundPattern S x r
+  annotated_found : (p : Pattern) (S : List ParserFrame) (x y z : List Token) (r : Strategy) → IsBase p → ReadsPattern p x y → y ≡ ASign OpenCurly ∷ z → length y < length x → Listed (Annotations p) S z r → FoundPattern S x r
   annotated_found p S x y z r base reads e le (inl found) =
       let l : length y ≡ suc (length z) = ap length e in
       let s : length found.rest < length z = found.shorter in
@@ -230,7 +230,7 @@ module _ (n : ℕ) (P : PatternsTo n) where
       }
   annotated_found p S x y z r base reads e le (inr (same, found)) = absurd (cc)
 
-  pub based : (p : Pattern) (S : List Frame) (x y : List Token) (r : Strategy) → IsBase p → ReadsPattern p x y → length y ≤ n → length y < length x → Accepts (behind_base p S) y r → FoundPattern S x r
+  pub based : (p : Pattern) (S : List ParserFrame) (x y : List Token) (r : Strategy) → IsBase p → ReadsPattern p x y → length y ≤ n → length y < length x → Accepts (behind_base p S) y r → FoundPattern S x r
   based p S x y r base reads ly lt k = elim (at_mark OpenCurly (goes (FirstPattern (Annotations p)) S) (behind_pattern p S) y r k) [
     | inl opened ↦
         let l : length y ≡ suc (length opened.0) = ap length opened.1 in
@@ -240,7 +240,7 @@ module _ (n : ℕ) (P : PatternsTo n) where
 
   -- ---- what a token begins
 
-  application_found : (f : Symbol) (S : List Frame) (ts z : List Token) (r : Strategy) → ts ≡ ASign OpenRound ∷ z → length ts ≤ n → Listed (PApplication f) S z r → FoundPattern S (Ident f ∷ ts) r
+  application_found : (f : Symbol) (S : List ParserFrame) (ts z : List Token) (r : Strategy) → ts ≡ ASign OpenRound ∷ z → length ts ≤ n → Listed (PApplication f) S z r → FoundPattern S (Ident f ∷ ts) r
   application_found f S ts z r e le (inl found) =
       let l : length ts ≡ suc (length z) = ap length e in
       let s : length found.rest < length z = found.shorter in
@@ -248,7 +248,7 @@ module _ (n : ℕ) (P : PatternsTo n) where
       (subst (λ l. Accepts (behind_base (compound (applied f) l) S) found.rest r) (patterns_of-list found.patterns) found.accepts)
   application_found f S ts z r e le (inr (same, found)) = absurd (cc)
 
-  named_found : (f : Symbol) (S : List Frame) (ts : List Token) (r : Strategy) → length ts ≤ n → Accepts (step (Named f) S) ts r → FoundPattern S (Ident f ∷ ts) r
+  named_found : (f : Symbol) (S : List ParserFrame) (ts : List Token) (r : Strategy) → length ts ≤ n → Accepts (step (Named f) S) ts r → FoundPattern S (Ident f ∷ ts) r
   named_found f S ts r le k = elim (at_mark OpenRound (goes (FirstPattern (PApplication f)) S) (λ t. if (is_mark AtSign t) then goes ToPattern (At f ∷ S) else behind_base (variable f) S t) ts r k) [
     | inl opened ↦
         let l : length ts ≡ suc (length opened.0) = ap length opened.1 in
@@ -269,7 +269,7 @@ module _ (n : ℕ) (P : PatternsTo n) where
     ]
   ]
 
-  square_found : (S : List Frame) (ts : List Token) (r : Strategy) → length ts ≤ n → Listed PList S ts r → FoundPattern S (ASign OpenSquare ∷ ts) r
+  square_found : (S : List ParserFrame) (ts : List Token) (r : Strategy) → length ts ≤ n → Listed PList S ts r → FoundPattern S (ASign OpenSquare ∷ ts) r
   square_found S ts r le (inl found) =
       let s : length found.rest < length ts = found.shorter in
       based (compound list found.patterns) S (ASign OpenSquare ∷ ts) found.rest r tt (ts, refl, found.reads) (omega arith) (omega arith)
@@ -279,19 +279,19 @@ module _ (n : ℕ) (P : PatternsTo n) where
       based (with_tail found.patterns found.last) S (ASign OpenSquare ∷ ts) found.rest r tt
       (ts, refl, (found.bar, found.reads, (found.square, found.reads_last, found.closes))) (omega arith) (omega arith) found.accepts
 
-  round_found : (S : List Frame) (ts : List Token) (r : Strategy) → length ts ≤ n → Listed PTuple S ts r → FoundPattern S (ASign OpenRound ∷ ts) r
+  round_found : (S : List ParserFrame) (ts : List Token) (r : Strategy) → length ts ≤ n → Listed PTuple S ts r → FoundPattern S (ASign OpenRound ∷ ts) r
   round_found S ts r le (inl found) =
       let s : length found.rest < length ts = found.shorter in
       based (compound tuple found.patterns) S (ASign OpenRound ∷ ts) found.rest r tt (ts, refl, found.reads) (omega arith) (omega arith)
       (subst (λ l. Accepts (behind_base (compound tuple l) S) found.rest r) (patterns_of-list found.patterns) found.accepts)
   round_found S ts r le (inr (same, found)) = absurd (cc)
 
-  sign_found : (s : Sign) (S : List Frame) (ts : List Token) (r : Strategy) → length ts ≤ n → Goes (open_pattern S s) ts r → FoundPattern S (ASign s ∷ ts) r
+  sign_found : (s : Sign) (S : List ParserFrame) (ts : List Token) (r : Strategy) → length ts ≤ n → Goes (open_pattern S s) ts r → FoundPattern S (ASign s ∷ ts) r
   sign_found OpenSquare S ts r le k = square_found S ts r le (list_found PList S ts r le k)
   sign_found OpenRound S ts r le k = round_found S ts r le (list_found PTuple S ts r le k)
   sign_found s S ts r le k = absurd (cc)
 
-  begun : (t : Token) (S : List Frame) (ts : List Token) (r : Strategy) → length ts ≤ n → Goes (begin_pattern S t) ts r → FoundPattern S (t ∷ ts) r
+  begun : (t : Token) (S : List ParserFrame) (ts : List Token) (r : Strategy) → length ts ≤ n → Goes (begin_pattern S t) ts r → FoundPattern S (t ∷ ts) r
   begun Wildcard S ts r le k = based wildcard S (Wildcard ∷ ts) ts r tt refl le (omega arith) k
   begun (Ident f) S ts r le k = named_found f S ts r le k
   begun (Integer z) S ts r le k = based (number z) S (Integer z ∷ ts) ts r tt refl le (omega arith) k

@@ -10,9 +10,9 @@ use Rattle.strategy_tokens.specs.declared.token.Keyword.{Keyword}
 use Rattle.strategy_tokens.specs.declared.token.Keyword.TheVariants.{Id as KId, Fail as KFail, All as KAll, One as KOne, Some as KSome, Not as KNot, Where as KWhere, Test as KTest, If as KIf, Then as KThen, Else as KElse, End as KEnd, Rec as KRec, Prim as KPrim}
 use Rattle.strategy_tokens.specs.declared.token.Sign.{Sign}
 use Rattle.strategy_tokens.specs.declared.token.Sign.TheVariants.{OpenRound, CloseRound, OpenSquare, CloseSquare, OpenCurly, CloseCurly, Comma, Bar, Arrow as RightArrow, Less, Greater, Question, Exclamation, Backslash}
-use Rattle.strategy_parse.specs.declared.parser.state.State.TheVariants.{Strategy as ToStrategy, FirstStrategy, Read, Used, Opening, Prim as BehindPrim, PrimOpen, PrimNamed, ScopeOpen, Pattern as ToPattern}
-use Rattle.strategy_parse.specs.declared.parser.state.Frame.{Frame}
-use Rattle.strategy_parse.specs.declared.parser.state.Frame.TheVariants.{Strategy as ForStrategy, Pattern as ForPattern}
+use Rattle.strategy_parse.specs.declared.parser.state.ParserState.TheVariants.{Strategy as ToStrategy, FirstStrategy, Read, Used, Opening, Prim as BehindPrim, PrimOpen, PrimNamed, ScopeOpen, Pattern as ToPattern}
+use Rattle.strategy_parse.specs.declared.parser.state.ParserFrame.{ParserFrame}
+use Rattle.strategy_parse.specs.declared.parser.state.ParserFrame.TheVariants.{Strategy as ForStrategy, Pattern as ForPattern}
 use Rattle.strategy_parse.specs.declared.parser.state.StrategyFrame.{StrategyFrame}
 use Rattle.strategy_parse.specs.declared.parser.state.StrategyFrame.TheVariants.{Operator as Operated, Rec, Child, Scope, Application, If, Then, Else, Where, Tail as SquareTail}
 use Rattle.strategy_parse.specs.declared.parser.state.PatternFrame.TheVariants.{Match, Build, Applied, Left as ClosureLeft, Right as ClosureRight, List as Patterns}
@@ -22,7 +22,7 @@ use Rattle.strategy_parse.specs.declared.parser.state.StrategyGroup.TheVariants.
 use Rattle.strategy_parse.specs.declared.parser.state.PatternGroup.{PatternGroup}
 use Rattle.strategy_parse.specs.declared.parser.state.PatternGroup.TheVariants.{Terms, Prim}
 use Rattle.strategy_tokens.specs.Marks.{is_mark, is_word}
-use Rattle.strategy_parse.specs.inside.Machine.{goes, stuck, begin, begin_sign, begin_word, begin_child, begin_pattern, behind, behind_choice, first_pattern, rec_name, prim_name, step}
+use Rattle.strategy_parse.specs.inside.Parser.{goes, stuck, begin, begin_sign, begin_word, begin_child, begin_pattern, behind, behind_choice, first_pattern, rec_name, prim_name, step}
 use Rattle.strategy_parse.specs.Grammar.{word_of, ReadsChoice, ReadsChoices}
 use Rattle.strategy_parse.specs.Written.{Choice, question, exclamation, application, identity, failure, operator, if_then, if_then_else, recursion, primitive, local, closure, closure_where, round, square, square_with_tail, name, call, call_with_terms, child, Choices, no_choices, and_choice}
 use Rattle.strategy_syntax.specs.Variables.{variables}
@@ -38,7 +38,7 @@ use Rattle.strategy_parse.proofs.SoundChoices.{choice_found, framed, list_of}
 module _ (n : ℕ) (P : PrefixesTo n) where
   -- ---- a strategy in round brackets
 
-  opened : (F : StrategyFrame) (S : List Frame) (x : List Token) (r : Strategy) → length x ≤ n → Accepts (step (Opening F) S) x r → Opened F S x r
+  opened : (F : StrategyFrame) (S : List ParserFrame) (x : List Token) (r : Strategy) → length x ≤ n → Accepts (step (Opening F) S) x r → Opened F S x r
   opened F S x r le k =
       let open_at = only_mark OpenRound (goes ToStrategy (ForStrategy F ∷ S)) x r k in
       let l : length x ≡ suc (length open_at.0) = ap length open_at.1 in
@@ -46,7 +46,7 @@ module _ (n : ℕ) (P : PrefixesTo n) where
       let la : length a.rest < length open_at.0 = a.shorter in
       record { inner = open_at.0; choice = a.choice; ends_at = a.rest; opens = open_at.1; reads = a.reads; accepts = a.accepts; shorter = omega arith }
 
-  operated_found : (o : Operator) (S : List Frame) (ts : List Token) (r : Strategy) → length ts ≤ n → Accepts (step (Opening (Operated o)) S) ts r → FoundPrefix S (Reserved (word_of o) ∷ ts) r
+  operated_found : (o : Operator) (S : List ParserFrame) (ts : List Token) (r : Strategy) → length ts ≤ n → Accepts (step (Opening (Operated o)) S) ts r → FoundPrefix S (Reserved (word_of o) ∷ ts) r
   operated_found o S ts r le k =
       let a : Opened (Operated o) S ts r = opened (Operated o) S ts r le k in
       let la : length a.ends_at < length ts = a.shorter in
@@ -54,7 +54,7 @@ module _ (n : ℕ) (P : PrefixesTo n) where
       let l : length a.ends_at ≡ suc (length end.0) = ap length end.1 in
       record { prefix = operator o a.choice; rest = end.0; reads = (ts, refl, (a.inner, a.opens, (a.ends_at, a.reads, end.1))); accepts = end.2; shorter = omega arith }
 
-  child_found : (i : ℕ) (S : List Frame) (ts : List Token) (r : Strategy) → length ts ≤ n → Accepts (step (Opening (Child (suc i))) S) ts r → FoundPrefix S (Integer (pos (suc i)) ∷ ts) r
+  child_found : (i : ℕ) (S : List ParserFrame) (ts : List Token) (r : Strategy) → length ts ≤ n → Accepts (step (Opening (Child (suc i))) S) ts r → FoundPrefix S (Integer (pos (suc i)) ∷ ts) r
   child_found i S ts r le k =
       let a : Opened (Child (suc i)) S ts r = opened (Child (suc i)) S ts r le k in
       let la : length a.ends_at < length ts = a.shorter in
@@ -62,7 +62,7 @@ module _ (n : ℕ) (P : PrefixesTo n) where
       let l : length a.ends_at ≡ suc (length end.0) = ap length end.1 in
       record { prefix = child (suc i) a.choice; rest = end.0; reads = (omega arith, (ts, refl, (a.inner, a.opens, (a.ends_at, a.reads, end.1)))); accepts = end.2; shorter = omega arith }
 
-  rec_found : (S : List Frame) (ts : List Token) (r : Strategy) → length ts ≤ n → Accepts (rec_name S) ts r → FoundPrefix S (Reserved KRec ∷ ts) r
+  rec_found : (S : List ParserFrame) (ts : List Token) (r : Strategy) → length ts ≤ n → Accepts (rec_name S) ts r → FoundPrefix S (Reserved KRec ∷ ts) r
   rec_found S [] r le k = absurd (cc)
   rec_found S (Ident f ∷ ts) r le k =
       let a : Opened (Rec f) S ts r = opened (Rec f) S ts r (omega arith) k in
@@ -79,7 +79,7 @@ module _ (n : ℕ) (P : PrefixesTo n) where
 
   -- ---- primitives
 
-  prim_more : (f : Symbol) (S : List Frame) (x y z : List Token) (w : List Token) (r : Strategy) → x ≡ ASign OpenRound ∷ y → y ≡ Text f ∷ z → z ≡ ASign Comma ∷ w → (p : FoundPattern (ForPattern (Patterns (Prim f) []) ∷ S) w r)
+  prim_more : (f : Symbol) (S : List ParserFrame) (x y z : List Token) (w : List Token) (r : Strategy) → x ≡ ASign OpenRound ∷ y → y ≡ Text f ∷ z → z ≡ ASign Comma ∷ w → (p : FoundPattern (ForPattern (Patterns (Prim f) []) ∷ S) w r)
       → More (Prim f) (p.pattern ∷ []) S p.rest r → FoundPrefix S (Reserved KPrim ∷ x) r
   prim_more f S x y z w r ex ey ez p (inl more) =
       let lx : length x ≡ suc (length y) = ap length ex in
@@ -96,7 +96,7 @@ module _ (n : ℕ) (P : PrefixesTo n) where
       }
   prim_more f S x y z w r ex ey ez p (inr (same, more)) = absurd (cc)
 
-  prim_named : (f : Symbol) (S : List Frame) (x y z : List Token) (r : Strategy) → x ≡ ASign OpenRound ∷ y → y ≡ Text f ∷ z → Accepts (step (PrimNamed f) S) z r → FoundPrefix S (Reserved KPrim ∷ x) r
+  prim_named : (f : Symbol) (S : List ParserFrame) (x y z : List Token) (r : Strategy) → x ≡ ASign OpenRound ∷ y → y ≡ Text f ∷ z → Accepts (step (PrimNamed f) S) z r → FoundPrefix S (Reserved KPrim ∷ x) r
   prim_named f S x y z r ex ey k = elim (at_mark Comma (goes ToPattern (ForPattern (Patterns (Prim f) []) ∷ S)) (λ t. if (is_mark CloseRound t) then goes (Read (syntax.prim f no_patterns)) S else stuck) z r k) [
     | inl next ↦
         let p : FoundPattern (ForPattern (Patterns (Prim f) []) ∷ S) next.0 r = pattern_at (ForPattern (Patterns (Prim f) []) ∷ S) next.0 r next.2 in
@@ -109,7 +109,7 @@ module _ (n : ℕ) (P : PrefixesTo n) where
         record { prefix = primitive f no_patterns; rest = end.0; reads = (x, refl, (y, ex, (z, ey, end.1))); accepts = end.2; shorter = omega arith }
   ]
 
-  prim_opened : (S : List Frame) (x y : List Token) (r : Strategy) → x ≡ ASign OpenRound ∷ y → Accepts (prim_name S) y r → FoundPrefix S (Reserved KPrim ∷ x) r
+  prim_opened : (S : List ParserFrame) (x y : List Token) (r : Strategy) → x ≡ ASign OpenRound ∷ y → Accepts (prim_name S) y r → FoundPrefix S (Reserved KPrim ∷ x) r
   prim_opened S x [] r e k = absurd (cc)
   prim_opened S x (Text f ∷ z) r e k = prim_named f S x (Text f ∷ z) z r e refl k
   prim_opened S x (Ident f ∷ z) r e k = absurd (cc)
@@ -119,12 +119,12 @@ module _ (n : ℕ) (P : PrefixesTo n) where
   prim_opened S x (ASign s ∷ z) r e k = absurd (cc)
   prim_opened S x (Bad ∷ z) r e k = absurd (cc)
 
-  prim_found : (S : List Frame) (ts : List Token) (r : Strategy) → Accepts (step BehindPrim S) ts r → FoundPrefix S (Reserved KPrim ∷ ts) r
+  prim_found : (S : List ParserFrame) (ts : List Token) (r : Strategy) → Accepts (step BehindPrim S) ts r → FoundPrefix S (Reserved KPrim ∷ ts) r
   prim_found S ts r k = let open_at = only_mark OpenRound (goes PrimOpen S) ts r k in prim_opened S ts open_at.0 r open_at.1 open_at.2
 
   -- ---- conditions
 
-  if_found : (S : List Frame) (ts : List Token) (r : Strategy) → length ts ≤ n → Accepts (begin (ForStrategy If ∷ S)) ts r → FoundPrefix S (Reserved KIf ∷ ts) r
+  if_found : (S : List ParserFrame) (ts : List Token) (r : Strategy) → length ts ≤ n → Accepts (begin (ForStrategy If ∷ S)) ts r → FoundPrefix S (Reserved KIf ∷ ts) r
   if_found S ts r le k =
       let a : FoundChoice (ForStrategy If ∷ S) ts r = framed n P If S ts r le k in
       let la : length a.rest < length ts = a.shorter in
@@ -160,19 +160,19 @@ module _ (n : ℕ) (P : PrefixesTo n) where
 
   -- ---- signs
 
-  question_found : (S : List Frame) (ts : List Token) (r : Strategy) → Accepts (begin_pattern (ForPattern Match ∷ S)) ts r → FoundPrefix S (ASign Question ∷ ts) r
+  question_found : (S : List ParserFrame) (ts : List Token) (r : Strategy) → Accepts (begin_pattern (ForPattern Match ∷ S)) ts r → FoundPrefix S (ASign Question ∷ ts) r
   question_found S ts r k =
       let p : FoundPattern (ForPattern Match ∷ S) ts r = pattern_at (ForPattern Match ∷ S) ts r k in
       let lp : length p.rest < length ts = p.shorter in
       record { prefix = question p.pattern; rest = p.rest; reads = (ts, refl, p.reads); accepts = p.accepts; shorter = omega arith }
 
-  exclamation_found : (S : List Frame) (ts : List Token) (r : Strategy) → Accepts (begin_pattern (ForPattern Build ∷ S)) ts r → FoundPrefix S (ASign Exclamation ∷ ts) r
+  exclamation_found : (S : List ParserFrame) (ts : List Token) (r : Strategy) → Accepts (begin_pattern (ForPattern Build ∷ S)) ts r → FoundPrefix S (ASign Exclamation ∷ ts) r
   exclamation_found S ts r k =
       let p : FoundPattern (ForPattern Build ∷ S) ts r = pattern_at (ForPattern Build ∷ S) ts r k in
       let lp : length p.rest < length ts = p.shorter in
       record { prefix = exclamation p.pattern; rest = p.rest; reads = (ts, refl, p.reads); accepts = p.accepts; shorter = omega arith }
 
-  application_found : (S : List Frame) (ts : List Token) (r : Strategy) → length ts ≤ n → Accepts (begin (ForStrategy Application ∷ S)) ts r → FoundPrefix S (ASign Less ∷ ts) r
+  application_found : (S : List ParserFrame) (ts : List Token) (r : Strategy) → length ts ≤ n → Accepts (begin (ForStrategy Application ∷ S)) ts r → FoundPrefix S (ASign Less ∷ ts) r
   application_found S ts r le k =
       let a : FoundChoice (ForStrategy Application ∷ S) ts r = framed n P Application S ts r le k in
       let la : length a.rest < length ts = a.shorter in
@@ -182,7 +182,7 @@ module _ (n : ℕ) (P : PrefixesTo n) where
       let lp : length p.rest < length greater.0 = p.shorter in
       record { prefix = application a.choice p.pattern; rest = p.rest; reads = (ts, refl, (a.rest, a.reads, (greater.0, greater.1, p.reads))); accepts = p.accepts; shorter = omega arith }
 
-  scope_found : (S : List Frame) (ts : List Token) (r : Strategy) → length ts ≤ n → Accepts (step ScopeOpen S) ts r → FoundPrefix S (ASign OpenCurly ∷ ts) r
+  scope_found : (S : List ParserFrame) (ts : List Token) (r : Strategy) → length ts ≤ n → Accepts (step ScopeOpen S) ts r → FoundPrefix S (ASign OpenCurly ∷ ts) r
   scope_found S ts r le k =
       let xs : FoundNames S ts r = names_found S ts r k in
       let lx : length xs.rest < length ts = xs.shorter in
@@ -192,7 +192,7 @@ module _ (n : ℕ) (P : PrefixesTo n) where
       let l : length a.rest ≡ suc (length end.0) = ap length end.1 in
       record { prefix = local xs.names a.choice; rest = end.0; reads = (ts, refl, (xs.rest, xs.reads, (a.rest, a.reads, end.1))); accepts = end.2; shorter = omega arith }
 
-  closure_found : (S : List Frame) (ts : List Token) (r : Strategy) → length ts ≤ n → Accepts (begin_pattern (ForPattern ClosureLeft ∷ S)) ts r → FoundPrefix S (ASign Backslash ∷ ts) r
+  closure_found : (S : List ParserFrame) (ts : List Token) (r : Strategy) → length ts ≤ n → Accepts (begin_pattern (ForPattern ClosureLeft ∷ S)) ts r → FoundPrefix S (ASign Backslash ∷ ts) r
   closure_found S ts r le k =
       let p : FoundPattern (ForPattern ClosureLeft ∷ S) ts r = pattern_at (ForPattern ClosureLeft ∷ S) ts r k in
       let lp : length p.rest < length ts = p.shorter in
@@ -220,7 +220,7 @@ module _ (n : ℕ) (P : PrefixesTo n) where
             }
       ]
 
-  round_found : (S : List Frame) (ts : List Token) (r : Strategy) → ListOf Round S ts r → FoundPrefix S (ASign OpenRound ∷ ts) r
+  round_found : (S : List ParserFrame) (ts : List Token) (r : Strategy) → ListOf Round S ts r → FoundPrefix S (ASign OpenRound ∷ ts) r
   round_found S ts r (inl found) =
       let l : length found.rest < length ts = found.shorter in
       record {
@@ -233,7 +233,7 @@ module _ (n : ℕ) (P : PrefixesTo n) where
   round_found S ts r (inr (inl found)) = let refused = found.goes_on in absurd (cc)
   round_found S ts r (inr (inr found)) = let refused = found.goes_on in absurd (cc)
 
-  square_found : (S : List Frame) (ts : List Token) (r : Strategy) → length ts ≤ n → ListOf Square S ts r → FoundPrefix S (ASign OpenSquare ∷ ts) r
+  square_found : (S : List ParserFrame) (ts : List Token) (r : Strategy) → length ts ≤ n → ListOf Square S ts r → FoundPrefix S (ASign OpenSquare ∷ ts) r
   square_found S ts r le (inl found) =
       let l : length found.rest < length ts = found.shorter in
       record {
@@ -259,7 +259,7 @@ module _ (n : ℕ) (P : PrefixesTo n) where
       }
   square_found S ts r le (inr (inr found)) = let refused = found.goes_on in absurd (cc)
 
-  terms_found : (f : Symbol) (cs : Choices) (S : List Frame) (ts z y : List Token) (r : Strategy) → ts ≡ ASign OpenRound ∷ z → ReadsChoices cs Bar z y → length y < length z → Listed (Terms f (strategy_list (core_all cs))) S y r → FoundPrefix S (Ident f ∷ ts) r
+  terms_found : (f : Symbol) (cs : Choices) (S : List ParserFrame) (ts z y : List Token) (r : Strategy) → ts ≡ ASign OpenRound ∷ z → ReadsChoices cs Bar z y → length y < length z → Listed (Terms f (strategy_list (core_all cs))) S y r → FoundPrefix S (Ident f ∷ ts) r
   terms_found f cs S ts z y r e reads ly (inl found) =
       let l : length ts ≡ suc (length z) = ap length e in
       let lf : length found.rest < length y = found.shorter in
@@ -273,10 +273,10 @@ module _ (n : ℕ) (P : PrefixesTo n) where
       }
   terms_found f cs S ts z y r e reads ly (inr (same, found)) = absurd (cc)
 
-  patterns_at : (g : PatternGroup) (S : List Frame) (x : List Token) (r : Strategy) → Accepts (first_pattern g S) x r → Listed g S x r
+  patterns_at : (g : PatternGroup) (S : List ParserFrame) (x : List Token) (r : Strategy) → Accepts (first_pattern g S) x r → Listed g S x r
   patterns_at g S x r k = list_found (length x) (pattern_found (length x)) g S x r (omega arith) k
 
-  call_found : (f : Symbol) (S : List Frame) (ts z : List Token) (r : Strategy) → ts ≡ ASign OpenRound ∷ z → ListOf (Arguments f) S z r → FoundPrefix S (Ident f ∷ ts) r
+  call_found : (f : Symbol) (S : List ParserFrame) (ts z : List Token) (r : Strategy) → ts ≡ ASign OpenRound ∷ z → ListOf (Arguments f) S z r → FoundPrefix S (Ident f ∷ ts) r
   call_found f S ts z r e (inl found) =
       let l : length ts ≡ suc (length z) = ap length e in
       let lf : length found.rest < length z = found.shorter in
@@ -292,7 +292,7 @@ module _ (n : ℕ) (P : PrefixesTo n) where
   call_found f S ts z r e (inr (inr found)) =
       terms_found f no_choices S ts z found.rest r e found.reads found.shorter (patterns_at (Terms f []) S found.rest r found.goes_on)
 
-  used_found : (f : Symbol) (S : List Frame) (ts : List Token) (r : Strategy) → length ts ≤ n → Accepts (step (Used f) S) ts r → FoundPrefix S (Ident f ∷ ts) r
+  used_found : (f : Symbol) (S : List ParserFrame) (ts : List Token) (r : Strategy) → length ts ≤ n → Accepts (step (Used f) S) ts r → FoundPrefix S (Ident f ∷ ts) r
   used_found f S ts r le k = elim (at_mark OpenRound (goes (FirstStrategy (Arguments f)) S) (behind (syntax.uses f syntax.no_strategies no_patterns) S) ts r k) [
     | inl open_at ↦
         let l : length ts ≡ suc (length open_at.0) = ap length open_at.1 in
@@ -302,7 +302,7 @@ module _ (n : ℕ) (P : PrefixesTo n) where
 
   -- ---- what a token begins
 
-  sign_found : (s : Sign) (S : List Frame) (ts : List Token) (r : Strategy) → length ts ≤ n → Goes (begin_sign S s) ts r → FoundPrefix S (ASign s ∷ ts) r
+  sign_found : (s : Sign) (S : List ParserFrame) (ts : List Token) (r : Strategy) → length ts ≤ n → Goes (begin_sign S s) ts r → FoundPrefix S (ASign s ∷ ts) r
   sign_found Question S ts r le k = question_found S ts r k
   sign_found Exclamation S ts r le k = exclamation_found S ts r k
   sign_found Less S ts r le k = application_found S ts r le k
@@ -312,7 +312,7 @@ module _ (n : ℕ) (P : PrefixesTo n) where
   sign_found OpenSquare S ts r le k = square_found S ts r le (list_of n P Square S ts r le k)
   sign_found s S ts r le k = absurd (cc)
 
-  word_found : (w : Keyword) (S : List Frame) (ts : List Token) (r : Strategy) → length ts ≤ n → Goes (begin_word S w) ts r → FoundPrefix S (Reserved w ∷ ts) r
+  word_found : (w : Keyword) (S : List ParserFrame) (ts : List Token) (r : Strategy) → length ts ≤ n → Goes (begin_word S w) ts r → FoundPrefix S (Reserved w ∷ ts) r
   word_found KId S ts r le k = record { prefix = identity; rest = ts; reads = refl; accepts = k; shorter = omega arith }
   word_found KFail S ts r le k = record { prefix = failure; rest = ts; reads = refl; accepts = k; shorter = omega arith }
   word_found KAll S ts r le k = operated_found All S ts r le k
@@ -326,12 +326,12 @@ module _ (n : ℕ) (P : PrefixesTo n) where
   word_found KPrim S ts r le k = prim_found S ts r k
   word_found w S ts r le k = absurd (cc)
 
-  number_found : (z : ℤ) (S : List Frame) (ts : List Token) (r : Strategy) → length ts ≤ n → Goes (begin_child S z) ts r → FoundPrefix S (Integer z ∷ ts) r
+  number_found : (z : ℤ) (S : List ParserFrame) (ts : List Token) (r : Strategy) → length ts ≤ n → Goes (begin_child S z) ts r → FoundPrefix S (Integer z ∷ ts) r
   number_found (pos (suc i)) S ts r le k = child_found i S ts r le k
   number_found (pos zero) S ts r le k = absurd (cc)
   number_found (negsuc i) S ts r le k = absurd (cc)
 
-  begun : (t : Token) (S : List Frame) (ts : List Token) (r : Strategy) → length ts ≤ n → Goes (begin S t) ts r → FoundPrefix S (t ∷ ts) r
+  begun : (t : Token) (S : List ParserFrame) (ts : List Token) (r : Strategy) → length ts ≤ n → Goes (begin S t) ts r → FoundPrefix S (t ∷ ts) r
   begun (ASign s) S ts r le k = sign_found s S ts r le k
   begun (Reserved w) S ts r le k = word_found w S ts r le k
   begun (Ident f) S ts r le k = used_found f S ts r le k
@@ -346,7 +346,7 @@ prefix_found zero S (t ∷ ts) r le k = absurd (omega arith)
 prefix_found (suc n) S (t ∷ ts) r le k = begun n (prefix_found n) t S ts r (omega arith) k
 
 -- a choice before what the open forms accept
-pub choice_at : (S : List Frame) (x : List Token) (r : Strategy) → Bare S → Accepts (begin S) x r → FoundChoice S x r
+pub choice_at : (S : List ParserFrame) (x : List Token) (r : Strategy) → Bare S → Accepts (begin S) x r → FoundChoice S x r
 choice_at S x r bare k = choice_found (length x) (prefix_found (length x)) (length x) (omega arith) S x r bare (omega arith) k
 
 ended : (s : Strategy) (y : List Token) (r : Strategy) → Accepts (behind_choice s []) y r → (y ≡ []) × (s ≡ r)

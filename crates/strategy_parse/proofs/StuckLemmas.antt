@@ -3,10 +3,10 @@ use Rattle.std.proofs.Common.{◌≡◌, ℕ, suc, ◌+◌, ◌<◌, refl, sym, 
 use Rattle.std.specs.declared.option.Option.{Option}
 use Rattle.std.specs.Option.{option_map}
 use Rattle.strategy_tokens.specs.declared.token.Token.{Token}
-use Rattle.strategy_parse.specs.declared.parser.state.State.{State}
-use Rattle.strategy_parse.specs.declared.parser.state.State.TheVariants.{Strategy as ToStrategy}
-use Rattle.strategy_parse.specs.declared.parser.state.Frame.{Frame}
-use Rattle.strategy_parse.specs.inside.Machine.{Next, goes, ends, stuck, step, begin}
+use Rattle.strategy_parse.specs.declared.parser.state.ParserState.{ParserState}
+use Rattle.strategy_parse.specs.declared.parser.state.ParserState.TheVariants.{Strategy as ToStrategy}
+use Rattle.strategy_parse.specs.declared.parser.state.ParserFrame.{ParserFrame}
+use Rattle.strategy_parse.specs.inside.Parser.{Next, goes, ends, stuck, step, begin}
 use Rattle.strategy_parse.specs.Stuck.{BeginNone}
 use Rattle.strategy_parse.specs.inside.StuckPlaces.{or_later, stuck_at}
 use Rattle.strategy_parse.proofs.Runs.{none_some, resume, go_on}
@@ -26,7 +26,7 @@ one_less (Some j) k e = let same : ◌≡◌ {A = Option ℕ} (Some (suc j)) (So
 abbrev NoneFrom : (Token → Next) → List Token → Type 0
 NoneFrom f ts = (k : ℕ) → stuck_at f ts ≡ Some k → (rest : List Token) → resume f (take (suc k) ts ++ rest) ≡ None
 
-none_in : (n : Next) (ts : List Token) → ((q : State) (S : List Frame) → NoneFrom (step q S) ts) → (k : ℕ) → or_later (λ q S. stuck_at (step q S) ts) n ≡ Some k → (rest : List Token) → go_on (λ q S. resume (step q S) (take k ts ++ rest)) n ≡ None
+none_in : (n : Next) (ts : List Token) → ((q : ParserState) (S : List ParserFrame) → NoneFrom (step q S) ts) → (k : ℕ) → or_later (λ q S. stuck_at (step q S) ts) n ≡ Some k → (rest : List Token) → go_on (λ q S. resume (step q S) (take k ts ++ rest)) n ≡ None
 none_in (goes q S) ts more k e rest =
     let less = one_less (stuck_at (step q S) ts) k e in
     subst (λ m. resume (step q S) (take m ts ++ rest) ≡ None) (sym less.2) (more q S less.0 less.1 rest)
@@ -37,7 +37,7 @@ pub none_from : (ts : List Token) (f : Token → Next) → NoneFrom f ts
 none_from [] f k e rest = let no : ◌≡◌ {A = Option ℕ} None (Some k) = e in cc
 none_from (t ∷ ts) f k e rest = none_in (f t) ts (λ q S. none_from ts (step q S)) k e rest
 
-there_in : (n : Next) (ts : List Token) → ((q : State) (S : List Frame) (j : ℕ) → stuck_at (step q S) ts ≡ Some j → j < length ts) → (k : ℕ) → or_later (λ q S. stuck_at (step q S) ts) n ≡ Some k → k < suc (length ts)
+there_in : (n : Next) (ts : List Token) → ((q : ParserState) (S : List ParserFrame) (j : ℕ) → stuck_at (step q S) ts ≡ Some j → j < length ts) → (k : ℕ) → or_later (λ q S. stuck_at (step q S) ts) n ≡ Some k → k < suc (length ts)
 there_in (goes q S) ts more k e =
     let less = one_less (stuck_at (step q S) ts) k e in
     let below : less.0 < length ts = more q S less.0 less.1 in

@@ -3,7 +3,7 @@ pub mod Definitions
 pub mod Forms
 pub mod FreeNames
 pub mod Fronts
-pub mod Machine
+pub mod Parser
 pub mod ModuleFronts
 pub mod Sections
 pub mod StuckPlaces

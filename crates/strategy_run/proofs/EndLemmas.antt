@@ -8,7 +8,7 @@ use Rattle.strategy_meaning.specs.Scopes.{Scope, inside, no_closures, numbers_fr
 use Rattle.strategy_meaning.specs.Answer.{Answer, with_edits}
 use Rattle.strategy_meaning.specs.Meaning.{World, run, run_whole}
 use Rattle.strategy_machine.specs.Table.{nowhere, scope_at}
-use Rattle.term_match.specs.Contents.{Contents}
+use Rattle.term_match.specs.CellContents.{Contents}
 use Rattle.strategy_run.specs.inside.Runs.{IsEmpty}
 use Rattle.strategy_machine.specs.Turns.{HoldsIn, After}
 use Rattle.strategy_machine.specs.declared.machine.Machine.{Machine}

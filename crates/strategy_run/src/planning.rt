@@ -19,8 +19,8 @@ use std::mem;
 use strategy_check::Program;
 use strategy_machine::{Host, Machine, Trail};
 use strategy_syntax::Resolved;
-use term_core::{MAX_HEIGHT, NoMemory, Term};
 use term_changes::Patch;
+use term_core::{MAX_HEIGHT, NoMemory, Term};
 use term_paths::Path;
 use term_values::Part;
 

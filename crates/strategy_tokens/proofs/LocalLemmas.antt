@@ -11,7 +11,7 @@ use Rattle.aterm_text.specs.Tokens.{is_blank}
 use Rattle.strategy_tokens.specs.declared.token.Token.{Token}
 use Rattle.strategy_tokens.specs.declared.token.Token.TheVariants.{Sign as ASign, Bad}
 use Rattle.strategy_tokens.specs.declared.token.Sign.TheVariants.{Arrow}
-use Rattle.strategy_tokens.specs.Tokens.{Piece, white, token_of, is_no_line_feed, begins_with, comment_len, closed_comment, comment_piece, begins_ident, continues_ident, ident_len, ident_token, integer_token, minus_piece, quote_at, quote_behind, unescaped, text_or_bad, closed_string, sign_piece, piece_at, and_token, tokens_behind, tokens}
+use Rattle.strategy_tokens.specs.Tokens.{Lexeme, white, token_of, is_no_line_feed, begins_with, comment_len, closed_comment, comment_piece, begins_ident, continues_ident, ident_len, ident_token, integer_token, minus_piece, quote_at, quote_behind, unescaped, text_or_bad, closed_string, sign_piece, piece_at, and_token, tokens_behind, tokens}
 use Rattle.strategy_tokens.specs.declared.place.TokenPlace.{TokenPlace}
 use Rattle.strategy_tokens.specs.Places.{and_place, place_at, places_behind, places}
 
@@ -96,10 +96,10 @@ mutual
 -- ---- pieces
 
 -- the piece is the same whatever comes after it and so many bytes
-abbrev Local : ℕ → (List ℕ → Piece) → Type 0
+abbrev Local : ℕ → (List ℕ → Lexeme) → Type 0
 Local d f = (u v w : List ℕ) → (f (u ++ v)).more + d ≤ length u → f (u ++ w) ≡ f (u ++ v)
 
-local_if : (d : ℕ) (c : Bool) (f g : List ℕ → Piece) → Local d f → Local d g → Local d (λ bs. if c then f bs else g bs)
+local_if : (d : ℕ) (c : Bool) (f g : List ℕ → Lexeme) → Local d f → Local d g → Local d (λ bs. if c then f bs else g bs)
 local_if d true f g h k u v w le = h u v w le
 local_if d false f g h k u v w le = k u v w le
 
@@ -112,14 +112,14 @@ fronts : (T : List ℕ → Token) (k : ℕ → ℕ) (u v w : List ℕ) (n m : �
 fronts T k u v w n m same le =
     ap (λ l. token_of (T (take l (u ++ w))) (k l)) same ∙ ap (λ l. token_of (T l) (k n)) (same_take n u v w le)
 
-abbrev words : ℕ → List ℕ → Piece
+abbrev words : ℕ → List ℕ → Lexeme
 words b bs = token_of (ident_token (b ∷ take (ident_len bs) bs)) (ident_len bs)
 
 words-local : (b : ℕ) → Local 2 (words b)
 words-local b u v w le =
     fronts (λ l. ident_token (b ∷ l)) (λ n. n) u v w (ident_len (u ++ v)) (ident_len (u ++ w)) (ident-local u v w le) (omega arith)
 
-abbrev numbers : ℕ → List ℕ → Piece
+abbrev numbers : ℕ → List ℕ → Lexeme
 numbers b bs = token_of (integer_token (b ∷ take (prefix_len is_ascii_digit bs) bs)) (prefix_len is_ascii_digit bs)
 
 numbers-local : (b : ℕ) → Local 2 (numbers b)
@@ -127,7 +127,7 @@ numbers-local b u v w le =
     fronts (λ l. integer_token (b ∷ l)) (λ n. n) u v w (prefix_len is_ascii_digit (u ++ v)) (prefix_len is_ascii_digit (u ++ w))
     (prefix-local is_ascii_digit u v w (omega arith)) (omega arith)
 
-abbrev negatives : ℕ → List ℕ → Piece
+abbrev negatives : ℕ → List ℕ → Lexeme
 negatives b bs =
     token_of (integer_token (minus ∷ (b ∷ take (prefix_len is_ascii_digit bs) bs))) (suc (prefix_len is_ascii_digit bs))
 
@@ -137,7 +137,7 @@ negatives-local b u v w le =
     (prefix-local is_ascii_digit u v w (omega arith)) (omega arith)
 
 -- after a `-`
-abbrev behind_minus : ℕ → List ℕ → Piece
+abbrev behind_minus : ℕ → List ℕ → Lexeme
 behind_minus b bs = if (is_ascii_digit b) then negatives b bs else token_of Bad 0
 
 minus-local : Local 2 minus_piece
@@ -147,7 +147,7 @@ minus-local (b ∷ u) v w le =
     (local_if 1 (is_ascii_digit b) (negatives b) (λ bs. token_of Bad 0) (negatives-local b) (λ x y z h. refl)) u v w (omega arith)
 
 -- comments
-abbrev line_comment : List ℕ → Piece
+abbrev line_comment : List ℕ → Lexeme
 line_comment bs = white (suc (prefix_len is_no_line_feed bs))
 
 line_comment-local : Local 1 line_comment
@@ -158,7 +158,7 @@ closed_comment-step : (o p : Option ℕ) (l k m : ℕ) → ((n : ℕ) → o ≡ 
 closed_comment-step None p l k m h long le = absurd (omega arith)
 closed_comment-step (Some n) p l k m h long le = ap (λ q. closed_comment q k) (h n refl (omega arith))
 
-abbrev long_comment : List ℕ → Piece
+abbrev long_comment : List ℕ → Lexeme
 long_comment bs = closed_comment (comment_len bs) (length bs)
 
 long_comment-local : Local 1 long_comment
@@ -167,7 +167,7 @@ long_comment-local u v w le =
     closed_comment-step (comment_len (u ++ v)) (comment_len (u ++ w)) (length (u ++ v)) (length (u ++ w)) (length u)
     (λ n e below. comment-local u v w n e below) (omega arith) le
 
-abbrev behind_slash : ℕ → List ℕ → Piece
+abbrev behind_slash : ℕ → List ℕ → Lexeme
 behind_slash b bs = if (b == 42) then long_comment bs else token_of Bad 0
 
 comment_piece-local : Local 2 comment_piece
@@ -183,7 +183,7 @@ closed_string-step None p x y m h long front le = absurd (omega arith)
 closed_string-step (Some n) p x y m h long front le =
     ap (λ q. closed_string q y) (h n refl (omega arith)) ∙ ap (λ l. token_of (text_or_bad (unescaped l)) (suc n)) (front n (omega arith))
 
-abbrev strings : List ℕ → Piece
+abbrev strings : List ℕ → Lexeme
 strings bs = closed_string (quote_at bs) bs
 
 strings-local : Local 2 strings
@@ -197,19 +197,19 @@ signs-local b [] v w le = absurd (omega arith)
 signs-local b (c ∷ u) v w le = refl
 
 -- all of them, in the order of the tests
-abbrev from_quote : ℕ → List ℕ → Piece
+abbrev from_quote : ℕ → List ℕ → Lexeme
 from_quote b bs = if (b == quote) then strings bs else sign_piece b bs
 
-abbrev from_minus : ℕ → List ℕ → Piece
+abbrev from_minus : ℕ → List ℕ → Lexeme
 from_minus b bs = if (b == minus) then minus_piece bs else from_quote b bs
 
-abbrev from_digit : ℕ → List ℕ → Piece
+abbrev from_digit : ℕ → List ℕ → Lexeme
 from_digit b bs = if (is_ascii_digit b) then numbers b bs else from_minus b bs
 
-abbrev from_word : ℕ → List ℕ → Piece
+abbrev from_word : ℕ → List ℕ → Lexeme
 from_word b bs = if (begins_ident b) then words b bs else from_digit b bs
 
-abbrev from_slash : ℕ → List ℕ → Piece
+abbrev from_slash : ℕ → List ℕ → Lexeme
 from_slash b bs = if (b == 47) then comment_piece bs else from_word b bs
 
 pub piece-local : (b : ℕ) → Local 2 (piece_at b)

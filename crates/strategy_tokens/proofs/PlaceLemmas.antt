@@ -7,8 +7,8 @@ use Rattle.strategy_tokens.specs.declared.place.TokenPlace.{TokenPlace}
 use Rattle.strategy_tokens.specs.Tokens.{tokens_behind, tokens, and_token, piece_at}
 use Rattle.strategy_tokens.specs.Places.{and_place, place_at, places_behind, places}
 use Rattle.strategy_tokens.specs.inside.Pieces.{piece_token}
-use Rattle.strategy_tokens.specs.declared.scan.Piece.{Piece}
-use Rattle.strategy_tokens.specs.declared.scan.Piece.TheVariants.{White, Word, Integer as PInteger, Text as PText, Sign as PSign, Bad as PBad}
+use Rattle.strategy_tokens.specs.declared.scan.Scanned.{Scanned}
+use Rattle.strategy_tokens.specs.declared.scan.Scanned.TheVariants.{White, Word, Integer as PInteger, Text as PText, Sign as PSign, Bad as PBad}
 use Rattle.strategy_tokens.proofs.ScanLemmas.{drop-rest}
 
 places_behind-drop : (n at : ℕ) (x : List ℕ) → places_behind at n x ≡ places_behind (at + n) 0 (drop n x)
@@ -56,14 +56,14 @@ place-past x k e = let same = lengths x 0 0 in let below = past (places x) k e i
 
 -- ---- what is looked for after a piece
 
-pub white-same : (p : Piece) (at : TokenPlace) (n m : ℕ) (xs : List TokenPlace) → p ≡ White → m ≡ n → slice_get (and_place (piece_token p) at xs) n ≡ slice_get xs m
+pub white-same : (p : Scanned) (at : TokenPlace) (n m : ℕ) (xs : List TokenPlace) → p ≡ White → m ≡ n → slice_get (and_place (piece_token p) at xs) n ≡ slice_get xs m
 white-same p at n m xs white same = ap (λ q. slice_get (and_place (piece_token q) at xs) n) white ∙ ap (slice_get xs) (sym same)
 
 less : (at : TokenPlace) (n m : ℕ) (xs : List TokenPlace) → (n ≡ 0 → ⊥) → m ≡ n - 1 → slice_get (at ∷ xs) n ≡ slice_get xs m
 less at zero m xs some same = absurd (some refl)
 less at (suc n) m xs some same = let is : n ≡ m = omega arith in ap (slice_get xs) is
 
-pub token-less : (p : Piece) (at : TokenPlace) (n m : ℕ) (xs : List TokenPlace) → (p ≡ White → ⊥) → (n ≡ 0 → ⊥) → m ≡ n - 1 → slice_get (and_place (piece_token p) at xs) n ≡ slice_get xs m
+pub token-less : (p : Scanned) (at : TokenPlace) (n m : ℕ) (xs : List TokenPlace) → (p ≡ White → ⊥) → (n ≡ 0 → ⊥) → m ≡ n - 1 → slice_get (and_place (piece_token p) at xs) n ≡ slice_get xs m
 token-less White at n m xs token some same = absurd (token refl)
 token-less (Word x) at n m xs token some same = less at n m xs some same
 token-less (PInteger z) at n m xs token some same = less at n m xs some same
@@ -71,7 +71,7 @@ token-less (PText x) at n m xs token some same = less at n m xs some same
 token-less (PSign s) at n m xs token some same = less at n m xs some same
 token-less PBad at n m xs token some same = less at n m xs some same
 
-pub token-here : (p : Piece) (at : TokenPlace) (n : ℕ) (xs : List TokenPlace) → (p ≡ White → ⊥) → n ≡ 0 → slice_get (and_place (piece_token p) at xs) n ≡ Some at
+pub token-here : (p : Scanned) (at : TokenPlace) (n : ℕ) (xs : List TokenPlace) → (p ≡ White → ⊥) → n ≡ 0 → slice_get (and_place (piece_token p) at xs) n ≡ Some at
 token-here White at n xs token is = absurd (token refl)
 token-here (Word x) at n xs token is = ap (slice_get (at ∷ xs)) is
 token-here (PInteger z) at n xs token is = ap (slice_get (at ∷ xs)) is

@@ -18,14 +18,14 @@ use Rattle.strategy_tokens.specs.declared.token.Sign.TheVariants.{OpenRound, Clo
 
 -- What begins at a place, a token or white space without one, and the number of its bytes after the
 -- first.
-pub record Piece : Type 0 where
+pub record Lexeme : Type 0 where
   pub token : Option Token
   pub more : ℕ
 
-abbrev pub white : ℕ → Piece
+abbrev pub white : ℕ → Lexeme
 white n = record { token = None; more = n }
 
-abbrev pub token_of : Token → ℕ → Piece
+abbrev pub token_of : Token → ℕ → Lexeme
 token_of t n = record { token = Some t; more = n }
 
 -- ---- white space, which is that of term texts, and comments
@@ -45,12 +45,12 @@ comment_len (b ∷ bs) =
     if ((b == 42) && begins_with 47 bs) then Some 2 else option_map suc (comment_len bs)
 
 -- a comment that isn't closed extends to the end of the text
-abbrev pub closed_comment : Option ℕ → ℕ → Piece
+abbrev pub closed_comment : Option ℕ → ℕ → Lexeme
 closed_comment (Some n) rest = white (suc n)
 closed_comment None rest = token_of Bad (suc rest)
 
 -- after a `/`: `//` extends to the end of the line, `/*` to the next `*/`
-abbrev pub comment_piece : List ℕ → Piece
+abbrev pub comment_piece : List ℕ → Lexeme
 comment_piece [] = token_of Bad 0
 comment_piece (b ∷ bs) =
     if (b == 47) then white (suc (prefix_len is_no_line_feed bs)) else
@@ -119,7 +119,7 @@ integer_token x =
     let z = signed_digits_value 10 x in if (is_in_range z) then Integer z else Bad
 
 -- after a `-`: `->`, or an integer if a digit follows
-abbrev pub minus_piece : List ℕ → Piece
+abbrev pub minus_piece : List ℕ → Lexeme
 minus_piece [] = token_of Bad 0
 minus_piece (b ∷ bs) =
     if (b == 62) then token_of (ASign Arrow) 1 else
@@ -177,7 +177,7 @@ text_or_bad None = Bad
 text_or_bad (Some bytes) = Text (record { text = bytes; is_quoted = true })
 
 -- a string that isn't closed extends to the end of the text
-abbrev pub closed_string : Option ℕ → List ℕ → Piece
+abbrev pub closed_string : Option ℕ → List ℕ → Lexeme
 closed_string None bs = token_of Bad (length bs)
 closed_string (Some n) bs = token_of (text_or_bad (unescaped (take n bs))) (suc n)
 
@@ -200,7 +200,7 @@ sign_or_bad (Some s) = ASign s
 sign_or_bad None = Bad
 
 -- `=>`, `<+` or a sign of one byte
-abbrev pub sign_piece : ℕ → List ℕ → Piece
+abbrev pub sign_piece : ℕ → List ℕ → Lexeme
 sign_piece b bs =
     if ((b == 61) && begins_with 62 bs) then token_of (ASign FatArrow) 1 else
     if ((b == 60) && begins_with 43 bs) then token_of (ASign LeftChoice) 1 else
@@ -209,7 +209,7 @@ sign_piece b bs =
 -- ---- the tokens of a text
 
 -- what begins with this byte, followed by these
-abbrev pub piece_at : ℕ → List ℕ → Piece
+abbrev pub piece_at : ℕ → List ℕ → Lexeme
 piece_at b bs =
     if (is_blank b) then white 0 else
     if (b == 47) then comment_piece bs else

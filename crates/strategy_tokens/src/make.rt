@@ -7,23 +7,23 @@ ghost use Rattle.strategy_tokens.specs.inside.Pieces.{piece_token, HoldsWord};
 
 use crate::Token;
 use crate::keyword::keyword;
-use crate::scan::Piece;
+use crate::scan::Scanned;
 use crate::string::{run_length, unescape};
 use std::alloc::Global;
 use term_core::{Name, NoMemory};
 
 /// The token of a piece, or `None` for white space.
-pub fn make_token(alloc: Global, piece: Piece<'_>) -> Result<Option<Token>, NoMemory>
+pub fn make_token(alloc: Global, piece: Scanned<'_>) -> Result<Option<Token>, NoMemory>
     requires { HoldsWord piece }
     ensures { IfOk result (λ made. made ≡ piece_token piece.entry) }
 {
     match piece {
-        Piece::White => Ok(None),
-        Piece::Word(bytes) => Ok(Some(make_ident(alloc, bytes)?)),
-        Piece::Integer(value) => Ok(Some(Token::Integer(value))),
-        Piece::Text(items) => Ok(Some(make_text(alloc, items)?)),
-        Piece::Sign(sign) => Ok(Some(Token::Sign(sign))),
-        Piece::Bad => Ok(Some(Token::Bad)),
+        Scanned::White => Ok(None),
+        Scanned::Word(bytes) => Ok(Some(make_ident(alloc, bytes)?)),
+        Scanned::Integer(value) => Ok(Some(Token::Integer(value))),
+        Scanned::Text(items) => Ok(Some(make_text(alloc, items)?)),
+        Scanned::Sign(sign) => Ok(Some(Token::Sign(sign))),
+        Scanned::Bad => Ok(Some(Token::Bad)),
     }
 }
 

@@ -4,7 +4,7 @@ ghost use Rattle.std.specs.Prelude.{◌≡◌, ◌≤◌, length, slice_get, IfN
 ghost use Rattle.strategy_tokens.specs.Places.{places};
 ghost use Rattle.strategy_tokens.specs.Tokens.{tokens};
 
-use crate::scan::{Piece, first_piece};
+use crate::scan::{Scanned, first_piece};
 
 /// The place of a token in a text.
 #[derive(Clone, Copy, Debug, PartialEq, Eq)]
@@ -26,7 +26,7 @@ pub fn token_place(text: &[u8], number: usize) -> Option<TokenPlace>
     while let Some((first, rest)) = left.split_first() {
         let (piece, more) = first_piece(left, *first, rest);
         let end = start + 1 + more;
-        if !matches!(piece, Piece::White) {
+        if !matches!(piece, Scanned::White) {
             if before == 0 {
                 return Some(TokenPlace { start, end });
             }

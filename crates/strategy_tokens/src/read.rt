@@ -5,7 +5,7 @@ ghost use Rattle.strategy_tokens.specs.Tokens.{tokens, and_token};
 ghost use Rattle.strategy_tokens.specs.inside.Pieces.{piece_token, HoldsWord};
 
 use crate::make::make_token;
-use crate::scan::{Piece, first_piece};
+use crate::scan::{Scanned, first_piece};
 use crate::{MAX_TOKENS, Token, TokensFault, token_count};
 use std::alloc::Global;
 use term_core::NoMemory;
@@ -35,7 +35,7 @@ pub fn read_tokens(alloc: Global, text: &[u8]) -> Result<Vec<Token>, TokensFault
 }
 
 // Appends the token of the piece, unless it is white space.
-fn add_token(alloc: Global, found: &mut Vec<Token>, piece: Piece<'_>) -> Result<(), NoMemory>
+fn add_token(alloc: Global, found: &mut Vec<Token>, piece: Scanned<'_>) -> Result<(), NoMemory>
     requires { HoldsWord piece }
     ensures { IfOk result (λ _. found.new.items
         ≡ found.old.items ++ and_token (piece_token piece.entry) []) }

@@ -15,7 +15,7 @@ use std::str;
 
 /// What begins at a place of a text. Names are still slices of it.
 #[derive(Clone, Copy)]
-pub enum Piece<'a> {
+pub enum Scanned<'a> {
     /// White space, or a comment.
     White,
     /// An identifier, a reserved word or `_`.
@@ -124,94 +124,94 @@ fn quote_position(text: &[u8]) -> Option<usize>
 }
 
 // The integer that these bytes spell, with an optional `-`, or a bad token if it is out of range.
-fn integer(text: &[u8]) -> Piece<'static>
+fn integer(text: &[u8]) -> Scanned<'static>
     requires { IsNumeral 10 (without_leading_sign text.now) }
     ensures token { piece_token result ≡ Some (integer_token text.now) }
     ensures word { HoldsWord result }
 {
     let Ok(text) = str::from_utf8(text) else {
-        return Piece::Bad;
+        return Scanned::Bad;
     };
     match text.parse::<i64>() {
-        Ok(value) => Piece::Integer(value),
-        Err(_) => Piece::Bad,
+        Ok(value) => Scanned::Integer(value),
+        Err(_) => Scanned::Bad,
     }
 }
 
 // What begins with a `/`, and the number of bytes after it.
-fn comment(rest: &[u8]) -> (Piece<'static>, usize)
+fn comment(rest: &[u8]) -> (Scanned<'static>, usize)
     ensures token { piece_token result.0 ≡ (comment_piece rest.now).token }
     ensures more { result.1 ≡ (comment_piece rest.now).more }
     ensures bound { result.1 ≤ length rest.now }
     ensures word { HoldsWord result.0 }
 {
     match rest.split_first() {
-        Some((b'/', line)) => (Piece::White, 1 + line_length(line)),
+        Some((b'/', line)) => (Scanned::White, 1 + line_length(line)),
         Some((b'*', inside)) => match comment_length(inside) {
-            Some(count) => (Piece::White, 1 + count),
-            None => (Piece::Bad, rest.len()),
+            Some(count) => (Scanned::White, 1 + count),
+            None => (Scanned::Bad, rest.len()),
         },
-        _ => (Piece::Bad, 0),
+        _ => (Scanned::Bad, 0),
     }
 }
 
 // What begins with a `"`, and the number of bytes after it.
-fn string(rest: &[u8]) -> (Piece<'_>, usize)
+fn string(rest: &[u8]) -> (Scanned<'_>, usize)
     ensures token { piece_token result.0 ≡ (closed_string (quote_at rest.now) rest.now).token }
     ensures more { result.1 ≡ (closed_string (quote_at rest.now) rest.now).more }
     ensures bound { result.1 ≤ length rest.now }
     ensures word { HoldsWord result.0 }
 {
     match quote_position(rest) {
-        Some(count) => (Piece::Text(&rest[..count]), count + 1),
-        None => (Piece::Bad, rest.len()),
+        Some(count) => (Scanned::Text(&rest[..count]), count + 1),
+        None => (Scanned::Bad, rest.len()),
     }
 }
 
 // A sign of one byte, or of two.
-fn sign(first: u8, rest: &[u8]) -> (Piece<'static>, usize)
+fn sign(first: u8, rest: &[u8]) -> (Scanned<'static>, usize)
     ensures token { piece_token result.0 ≡ (sign_piece first rest.now).token }
     ensures more { result.1 ≡ (sign_piece first rest.now).more }
     ensures bound { result.1 ≤ length rest.now }
     ensures word { HoldsWord result.0 }
 {
     match first {
-        b'=' if begins_with(b'>', rest) => (Piece::Sign(Sign::FatArrow), 1),
-        b'<' if begins_with(b'+', rest) => (Piece::Sign(Sign::LeftChoice), 1),
+        b'=' if begins_with(b'>', rest) => (Scanned::Sign(Sign::FatArrow), 1),
+        b'<' if begins_with(b'+', rest) => (Scanned::Sign(Sign::LeftChoice), 1),
         _ => (short_sign(first), 0),
     }
 }
 
-fn short_sign(byte: u8) -> Piece<'static>
+fn short_sign(byte: u8) -> Scanned<'static>
     ensures token { piece_token result ≡ Some (sign_or_bad (sign_in short_signs byte)) }
     ensures word { HoldsWord result }
 {
     match byte {
-        b'(' => Piece::Sign(Sign::OpenRound),
-        b')' => Piece::Sign(Sign::CloseRound),
-        b'[' => Piece::Sign(Sign::OpenSquare),
-        b']' => Piece::Sign(Sign::CloseSquare),
-        b'{' => Piece::Sign(Sign::OpenCurly),
-        b'}' => Piece::Sign(Sign::CloseCurly),
-        b',' => Piece::Sign(Sign::Comma),
-        b';' => Piece::Sign(Sign::Semicolon),
-        b':' => Piece::Sign(Sign::Colon),
-        b'|' => Piece::Sign(Sign::Bar),
-        b'=' => Piece::Sign(Sign::Equals),
-        b'<' => Piece::Sign(Sign::Less),
-        b'>' => Piece::Sign(Sign::Greater),
-        b'+' => Piece::Sign(Sign::Plus),
-        b'*' => Piece::Sign(Sign::Star),
-        b'?' => Piece::Sign(Sign::Question),
-        b'!' => Piece::Sign(Sign::Exclamation),
-        b'@' => Piece::Sign(Sign::At),
-        b'\\' => Piece::Sign(Sign::Backslash),
-        _ => Piece::Bad,
+        b'(' => Scanned::Sign(Sign::OpenRound),
+        b')' => Scanned::Sign(Sign::CloseRound),
+        b'[' => Scanned::Sign(Sign::OpenSquare),
+        b']' => Scanned::Sign(Sign::CloseSquare),
+        b'{' => Scanned::Sign(Sign::OpenCurly),
+        b'}' => Scanned::Sign(Sign::CloseCurly),
+        b',' => Scanned::Sign(Sign::Comma),
+        b';' => Scanned::Sign(Sign::Semicolon),
+        b':' => Scanned::Sign(Sign::Colon),
+        b'|' => Scanned::Sign(Sign::Bar),
+        b'=' => Scanned::Sign(Sign::Equals),
+        b'<' => Scanned::Sign(Sign::Less),
+        b'>' => Scanned::Sign(Sign::Greater),
+        b'+' => Scanned::Sign(Sign::Plus),
+        b'*' => Scanned::Sign(Sign::Star),
+        b'?' => Scanned::Sign(Sign::Question),
+        b'!' => Scanned::Sign(Sign::Exclamation),
+        b'@' => Scanned::Sign(Sign::At),
+        b'\\' => Scanned::Sign(Sign::Backslash),
+        _ => Scanned::Bad,
     }
 }
 
 // What begins with a byte that may begin an identifier.
-fn word<'a>(text: &'a [u8], first: u8, rest: &'a [u8]) -> (Piece<'a>, usize)
+fn word<'a>(text: &'a [u8], first: u8, rest: &'a [u8]) -> (Scanned<'a>, usize)
     requires front { text.now ≡ first ∷ rest.now }
     requires begins { begins_ident first ≡ true }
     ensures token { piece_token result.0
@@ -221,11 +221,11 @@ fn word<'a>(text: &'a [u8], first: u8, rest: &'a [u8]) -> (Piece<'a>, usize)
     ensures word { HoldsWord result.0 }
 {
     let count = ident_length(rest);
-    (Piece::Word(&text[..count + 1]), count)
+    (Scanned::Word(&text[..count + 1]), count)
 }
 
 // What begins with a digit.
-fn number<'a>(text: &'a [u8], first: u8, rest: &'a [u8]) -> (Piece<'a>, usize)
+fn number<'a>(text: &'a [u8], first: u8, rest: &'a [u8]) -> (Scanned<'a>, usize)
     requires front { text.now ≡ first ∷ rest.now }
     requires digit { is_ascii_digit first ≡ true }
     ensures token { piece_token result.0
@@ -239,7 +239,7 @@ fn number<'a>(text: &'a [u8], first: u8, rest: &'a [u8]) -> (Piece<'a>, usize)
 }
 
 // The integer that begins with a `-` followed by a digit.
-fn negative<'a>(text: &'a [u8], digit: u8, behind: &'a [u8]) -> (Piece<'a>, usize)
+fn negative<'a>(text: &'a [u8], digit: u8, behind: &'a [u8]) -> (Scanned<'a>, usize)
     requires front { text.now ≡ minus ∷ (digit ∷ behind.now) }
     requires digit { is_ascii_digit digit ≡ true }
     ensures token { piece_token result.0 ≡ Some
@@ -253,7 +253,7 @@ fn negative<'a>(text: &'a [u8], digit: u8, behind: &'a [u8]) -> (Piece<'a>, usiz
 }
 
 // What begins with a `-`: an arrow, an integer or a bad token.
-fn minus<'a>(text: &'a [u8], rest: &'a [u8]) -> (Piece<'a>, usize)
+fn minus<'a>(text: &'a [u8], rest: &'a [u8]) -> (Scanned<'a>, usize)
     requires { text.now ≡ minus ∷ rest.now }
     ensures token { piece_token result.0 ≡ (minus_piece rest.now).token }
     ensures more { result.1 ≡ (minus_piece rest.now).more }
@@ -261,14 +261,14 @@ fn minus<'a>(text: &'a [u8], rest: &'a [u8]) -> (Piece<'a>, usize)
     ensures word { HoldsWord result.0 }
 {
     match rest.split_first() {
-        Some((b'>', _)) => (Piece::Sign(Sign::Arrow), 1),
+        Some((b'>', _)) => (Scanned::Sign(Sign::Arrow), 1),
         Some((digit, behind)) if digit.is_ascii_digit() => negative(text, *digit, behind),
-        _ => (Piece::Bad, 0),
+        _ => (Scanned::Bad, 0),
     }
 }
 
 /// What begins the text, and the number of its bytes after the first.
-pub fn first_piece<'a>(text: &'a [u8], first: u8, rest: &'a [u8]) -> (Piece<'a>, usize)
+pub fn first_piece<'a>(text: &'a [u8], first: u8, rest: &'a [u8]) -> (Scanned<'a>, usize)
     requires { text.now ≡ first ∷ rest.now }
     ensures token { piece_token result.0 ≡ (piece_at first rest.now).token }
     ensures more { result.1 ≡ (piece_at first rest.now).more }
@@ -276,7 +276,7 @@ pub fn first_piece<'a>(text: &'a [u8], first: u8, rest: &'a [u8]) -> (Piece<'a>,
     ensures word { HoldsWord result.0 }
 {
     if is_blank(first) {
-        return (Piece::White, 0);
+        return (Scanned::White, 0);
     }
     if first == b'/' {
         return comment(rest);

@@ -12,7 +12,7 @@ use Rattle.std.proofs.lemmas.Map.Lookups.{exact_bytes}
 use Rattle.std.proofs.lemmas.Map.Keys.{IsDistinct-head, IsDistinct-tail}
 use Rattle.term_core.specs.Tree.{Tree}
 use Rattle.term_paths.specs.Paths.{at, set_at, set_annotations_at}
-use Rattle.term_changes.specs.Slots.{Slots, Store, AreApart, labels, content, with_content, slot_of, with_slot, filled, named, with_tree_slot, with_module_slot}
+use Rattle.term_changes.specs.Slots.{Slots, Store, HaveDistinctLabels, labels, content, with_content, slot_of, with_slot, filled, named, with_tree_slot, with_module_slot}
 use Rattle.term_changes.specs.Entries.{Entry, slot_tree, subterm, subterm_annotations, slot_text, HasPlace, put, before, after, Fits, FitsForward, changed_tree, subterm_in}
 use Rattle.term_changes.specs.Laws.{NewSlotsAreEmpty, TreePut, TreeTaken, ModulePut, ModuleTaken, SubtermPut, AnnotationsPut, TreeOfName, ModuleOfName, FitsWithMore, FitsForwardWithMore, FitsWithMoreModules, FitsForwardWithMoreModules}
 
@@ -75,7 +75,7 @@ module _ {X : Type 0} where
       look-cons s ss q ∙ ap (λ b. over s.1 b (look ss q)) other ∙ over-false s.1 (look ss q) ∙ absent k q ss h.1 e
 
   -- the content put in the slot of a name
-  put_look : (ss : Slots X) (i : ℕ) (d : Option X) (name q : List ℕ) → (d ≡ None → AreApart ss) → slot_of ss name ≡ Some i
+  put_look : (ss : Slots X) (i : ℕ) (d : Option X) (name q : List ℕ) → (d ≡ None → HaveDistinctLabels ss) → slot_of ss name ≡ Some i
       → look (with_content ss i d) q ≡ cond (same q name) d (look ss q)
   unfolding same
   put_look [] i d name q a h = absurd (cc)
@@ -104,7 +104,7 @@ module _ {X : Type 0} where
       named-look (with_content ss i (Some x)) q ∙ put_look ss i (Some x) name q (λ n. absurd (cc)) h
       ∙ (λ j. cond (sym (is_eq-slice_cmp q name) j) (Some x) (sym (named-look ss q) j)) ∙ sym (get-insert nat_list_cmp_total (named ss) name x q))
 
-  pub named_taken : (ss : Slots X) (i : ℕ) (name : List ℕ) → AreApart ss → slot_of ss name ≡ Some i → named (with_content ss i None) ≡ finmap.remove (named ss) name
+  pub named_taken : (ss : Slots X) (i : ℕ) (name : List ℕ) → HaveDistinctLabels ss → slot_of ss name ≡ Some i → named (with_content ss i None) ≡ finmap.remove (named ss) name
   unfolding same
   named_taken ss i name a h = same_map nat_list_cmp_total exact_bytes _ _ (λ q.
       named-look (with_content ss i None) q ∙ put_look ss i None name q (λ n. a) h
@@ -119,7 +119,7 @@ module _ {X : Type 0} where
   first None o h = h
   first (Some x) o h = refl
 
-  look_under : (ss : Slots X) (name : List ℕ) → AreApart ss → look ss name ≡ option_and_then (content ss) (slot_of ss name)
+  look_under : (ss : Slots X) (name : List ℕ) → HaveDistinctLabels ss → look ss name ≡ option_and_then (content ss) (slot_of ss name)
   unfolding look same
   look_under [] name a = refl
   look_under (s ∷ ss) name a =
@@ -132,7 +132,7 @@ module _ {X : Type 0} where
             ∙ look_under ss name (IsDistinct-tail _ _ _ a) ∙ next_content s ss (slot_of ss name)
       ] refl
 
-  pub named_under : (ss : Slots X) (name : List ℕ) → AreApart ss → get (named ss) name ≡ option_and_then (content ss) (slot_of ss name)
+  pub named_under : (ss : Slots X) (name : List ℕ) → HaveDistinctLabels ss → get (named ss) name ≡ option_and_then (content ss) (slot_of ss name)
   named_under ss name a = named-look ss name ∙ look_under ss name a
 
   -- ---- one more slot

@@ -3,7 +3,7 @@ use Rattle.term_core.specs.Tree.{Tree, children, with_children}
 use Rattle.term_paths.specs.Paths.{set_at}
 use Rattle.term_paths.proofs.PathLemmas.{set_at-child}
 use Rattle.term_changes.specs.Change.{Change, same, inside, replaced, Changes, no_more, and_then, changed, changed_all}
-use Rattle.term_changes.specs.Edits.{nth_change, with_nth, and_edit, EditsComeTo}
+use Rattle.term_changes.specs.EditChanges.{nth_change, with_nth, and_edit, EditsComeTo}
 use Rattle.term_changes.proofs.NodeLemmas.{children-with_children, with_children-with_children, same_children}
 use Rattle.term_changes.proofs.PlacesMade.{put_all}
 use Rattle.term_changes.proofs.FollowLemmas.{length-changed}

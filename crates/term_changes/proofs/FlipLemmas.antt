@@ -215,17 +215,17 @@ fits_both_ways c u slot p s h g =
 
 -- ---- compact
 
-entries_apart : (slot : ℕ) (x y : Edit) → AreApart x.path y.path → entry.AreApart (entry_at slot x) (entry_at slot y)
+entries_apart : (slot : ℕ) (x y : Edit) → AreApart x.path y.path → entry.EntriesAreApart (entry_at slot x) (entry_at slot y)
 entries_apart slot x y h = (λ w. h.0 w.1, λ w. h.1 w.1)
 
-all_entries_apart : (slot : ℕ) (x : Edit) (e : Edits) → ApartFromAll x.path e → All (entry.AreApart (entry_at slot x)) (entries_at slot e)
+all_entries_apart : (slot : ℕ) (x : Edit) (e : Edits) → ApartFromAll x.path e → All (entry.EntriesAreApart (entry_at slot x)) (entries_at slot e)
 all_entries_apart slot x [] h k d l = absurd (omega (arith, l))
 all_entries_apart slot x (y ∷ e) h zero d l = entries_apart slot x y h.0
 all_entries_apart slot x (y ∷ e) h (suc k) d l = all_entries_apart slot x e h.1 k d (omega (arith, l))
 
 compact : (slot : ℕ) (e : Edits) → AllApart e → IsCompact (entries_at slot e)
 compact slot [] h = λ i j d l k. absurd (omega (arith, k))
-compact slot (x ∷ e) h = AllPairs-cons entry.AreApart (entry_at slot x) (entries_at slot e) (all_entries_apart slot x e h.0) (compact slot e h.1)
+compact slot (x ∷ e) h = AllPairs-cons entry.EntriesAreApart (entry_at slot x) (entries_at slot e) (all_entries_apart slot x e h.0) (compact slot e h.1)
 
 pub patches_are_compact : PatchesAreCompact
 patches_are_compact slot p c = compact slot (behind p (places c)) (places_lie_apart c p)

@@ -18,9 +18,9 @@ LiesWithin (slot_text i x) (slot_text j y) = i ≡ j
 LiesWithin d e = ⊥
 
 -- Neither place lies within the other.
-abbrev pub AreApart : Entry → Entry → Type 0
-AreApart d e = (¬ (LiesWithin d e)) × (¬ (LiesWithin e d))
+abbrev pub EntriesAreApart : Entry → Entry → Type 0
+EntriesAreApart d e = (¬ (LiesWithin d e)) × (¬ (LiesWithin e d))
 
 -- No entry's place lies within another's.
 abbrev pub IsCompact : List Entry → Type 0
-IsCompact log = AllPairs AreApart log
+IsCompact log = AllPairs EntriesAreApart log

@@ -49,16 +49,16 @@ found (subterm_annotations i p kept) s =
 found (slot_text i kept) s = slot_text i (unwrap_or (slot_at s.modules i) kept)
 
 -- 1 for the entry of a module text
-abbrev pub text_of : Entry → ℕ
-text_of (slot_tree i kept) = 0
-text_of (subterm i p kept) = 0
-text_of (subterm_annotations i p kept) = 0
-text_of (slot_text i kept) = 1
+abbrev pub text_count : Entry → ℕ
+text_count (slot_tree i kept) = 0
+text_count (subterm i p kept) = 0
+text_count (subterm_annotations i p kept) = 0
+text_count (slot_text i kept) = 1
 
 -- how many entries hold module texts
 abbrev pub texts : List Entry → ℕ
 texts [] = 0
-texts (e ∷ es) = text_of e + texts es
+texts (e ∷ es) = text_count e + texts es
 
 -- whether any does
 abbrev pub has_text : List Entry → Bool

@@ -4,7 +4,7 @@ use Rattle.std.specs.FinMap as finmap
 use Rattle.term_core.specs.Tree.{Tree}
 use Rattle.term_paths.specs.Paths.{set_at, set_annotations_at}
 use Rattle.term_changes.specs.Contents.{with_tree, without_tree, with_module, without_module}
-use Rattle.term_changes.specs.Slots.{Store, AreApart, content, contents, slot_of, with_tree_slot, with_module_slot}
+use Rattle.term_changes.specs.Slots.{Store, HaveDistinctLabels, content, contents, slot_of, with_tree_slot, with_module_slot}
 use Rattle.term_changes.specs.Entries.{Entry, slot_tree, subterm, subterm_annotations, slot_text, HasPlace, put, found, before, after, flipped_back, flipped_forward, Fits, FitsForward, has_text}
 use Rattle.term_changes.specs.Compact.{IsCompact}
 
@@ -81,7 +81,7 @@ TreePut = (s : Store) (name : List ℕ) (i : ℕ) (t : Tree) → slot_of s.trees
     → contents (put (slot_tree i (Some t)) s) ≡ with_tree (contents s) name t
 
 abbrev pub TreeTaken : Type 0
-TreeTaken = (s : Store) (name : List ℕ) (i : ℕ) → AreApart s.trees → slot_of s.trees name ≡ Some i
+TreeTaken = (s : Store) (name : List ℕ) (i : ℕ) → HaveDistinctLabels s.trees → slot_of s.trees name ≡ Some i
     → contents (put (slot_tree i None) s) ≡ without_tree (contents s) name
 
 abbrev pub ModulePut : Type 0
@@ -89,7 +89,7 @@ ModulePut = (s : Store) (name : List ℕ) (i : ℕ) (text : List ℕ) → slot_o
     → contents (put (slot_text i (Some text)) s) ≡ with_module (contents s) name text
 
 abbrev pub ModuleTaken : Type 0
-ModuleTaken = (s : Store) (name : List ℕ) (i : ℕ) → AreApart s.modules → slot_of s.modules name ≡ Some i
+ModuleTaken = (s : Store) (name : List ℕ) (i : ℕ) → HaveDistinctLabels s.modules → slot_of s.modules name ≡ Some i
     → contents (put (slot_text i None) s) ≡ without_module (contents s) name
 
 -- Putting a subterm at a path changes the tree there.
@@ -103,11 +103,11 @@ AnnotationsPut = (s : Store) (i : ℕ) (p : List ℕ) (t : Tree) (us : List Tree
 
 -- The contents have under a name the content of its slot, and nothing if it has no slot.
 abbrev pub TreeOfName : Type 0
-TreeOfName = (s : Store) (name : List ℕ) → AreApart s.trees
+TreeOfName = (s : Store) (name : List ℕ) → HaveDistinctLabels s.trees
     → finmap.get (contents s).trees name ≡ option_and_then (content s.trees) (slot_of s.trees name)
 
 abbrev pub ModuleOfName : Type 0
-ModuleOfName = (s : Store) (name : List ℕ) → AreApart s.modules
+ModuleOfName = (s : Store) (name : List ℕ) → HaveDistinctLabels s.modules
     → finmap.get (contents s).modules name ≡ option_and_then (content s.modules) (slot_of s.modules name)
 
 -- ---- stores with more slots

@@ -10,7 +10,7 @@ pub mod Change
 pub mod Standing
 pub mod Follows
 pub mod Putting
-pub mod Edits
+pub mod EditChanges
 pub mod Exchange
 pub mod Items
 pub mod PatchLaws

@@ -18,8 +18,8 @@ module _ {X : Type 0} where
   labels slots = map (λ s. s.0) slots
 
   -- no two slots have the same label
-  abbrev pub AreApart : Slots X → Type 0
-  AreApart slots = IsDistinct (pointwise nat_eq) (labels slots)
+  abbrev pub HaveDistinctLabels : Slots X → Type 0
+  HaveDistinctLabels slots = IsDistinct (pointwise nat_eq) (labels slots)
 
   -- the content of slot i, which may be empty, if there is such a slot
   abbrev pub slot_at : Slots X → ℕ → Option (Option X)

@@ -1,7 +1,7 @@
 //! Entries: changes of one place of a store.
 
 ghost use Rattle.std.specs.Prelude.{◌≡◌, ◌≤◌, ℕ, List, option_map};
-ghost use Rattle.term_changes.specs.Entries.{slot_tree, subterm, subterm_annotations, slot_text, text_of};
+ghost use Rattle.term_changes.specs.Entries.{slot_tree, subterm, subterm_annotations, slot_text, text_count};
 ghost use Rattle.term_changes.specs.LogView.{entry_of};
 
 use crate::text::Text;
@@ -33,7 +33,7 @@ pub enum Kept {
 impl Kept {
     /// 1 for a module text, else 0.
     pub fn texts(&self) -> usize
-        ensures value { (i : ℕ) (p : List ℕ) → result ≡ text_of (entry_of i p self.now) }
+        ensures value { (i : ℕ) (p : List ℕ) → result ≡ text_count (entry_of i p self.now) }
         ensures one { result ≤ 1 }
     {
         match self {

@@ -1,6 +1,6 @@
 //! Laws of changes and of patches. Each is the contract of a function that does nothing.
 
-ghost use Rattle.term_changes.specs.Edits.{EditsComeTo};
+ghost use Rattle.term_changes.specs.EditChanges.{EditsComeTo};
 ghost use Rattle.term_changes.specs.Follows.{FollowsItself, FollowsOn, FollowersCanStand, SameRootFollows, TreesOfChildren, FollowersAreTheChange, TreeOverChildren};
 ghost use Rattle.term_changes.specs.Putting.{PlacesLieApart, PlacesMakeTheChange, PlacesPutTheChange, PlacesAreThere, AllLeadBack, AllFit};
 ghost use Rattle.term_changes.specs.PatchLaws.{TwiceIsNothing, TakenIsThere, EitherOrder, PlacesStay, LeadsBothWays, KeepsBothWays, FitsBothWays, PatchesAreCompact};

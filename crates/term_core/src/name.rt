@@ -3,7 +3,7 @@
 ghost use Rattle.std.specs.Prelude.{◌≡◌, ◌↔◌, ◌≤◌, ◌⊎◌, IsTrue, IfOk, IfSome, Ok, Some, None, true, false, length};
 ghost use Rattle.std.specs.List.{list_all, prefix_len};
 ghost use Rattle.term_core.specs.Word.{begins_word, continues_word, is_word, first_word};
-ghost use Rattle.term_core.specs.inside.NameView.{text_of, IsText};
+ghost use Rattle.term_core.specs.inside.NameView.{spelling_of, IsText};
 
 use crate::NoMemory;
 use std::alloc::Global;
@@ -127,7 +127,7 @@ fn word_length(rest: &[u8]) -> usize
 impl Text {
     // A copy of these bytes.
     fn new(alloc: Global, quoted: bool, text: &[u8]) -> Result<Text, NoMemory>
-        ensures value { IfOk result (λ made. text_of made
+        ensures value { IfOk result (λ made. spelling_of made
             ≡ record { text = text.now; is_quoted = quoted }) }
         ensures short { IfOk result (λ made. IsText made) }
     {
@@ -141,7 +141,7 @@ impl Text {
 
     fn short(quoted: bool, text: &[u8]) -> Text
         requires { length text.now ≤ SHORT }
-        ensures value { text_of result ≡ record { text = text.now; is_quoted = quoted } }
+        ensures value { spelling_of result ≡ record { text = text.now; is_quoted = quoted } }
         ensures short { IsText result }
     {
         let mut bytes = [0; SHORT];

@@ -6,7 +6,7 @@ use Rattle.std.proofs.lemmas.List.{append-nil, append_assoc, length-append, leng
 use Rattle.std.proofs.lemmas.Option.{get_or_from_slice_get}
 use Rattle.term_core.specs.Tree.{Tree}
 use Rattle.strategy_meaning.specs.Matching.{Bindings}
-use Rattle.term_match.specs.Contents.{Contents}
+use Rattle.term_match.specs.CellContents.{CellContents}
 use Rattle.term_match.specs.Marks.{emptied, kept, mark_of, Before, Stays}
 use Rattle.term_match.specs.inside.Growing.{Grows}
 use Rattle.term_match.specs.declared.cells.Mark.{Mark}
@@ -56,24 +56,24 @@ drop_split (suc m) (suc n) (x ∷ l) h = drop_split m n l (omega (arith, h))
 
 -- ---- marks
 
-pub kept_now : (c : Contents) → kept c (mark_of c) ≡ c.bindings
+pub kept_now : (c : CellContents) → kept c (mark_of c) ≡ c.bindings
 kept_now c =
     ap (λ l. emptied l (take (length c.bindings) c.bindings)) (drop_all (length c.filled) c.filled (omega arith))
     ∙ take_all (length c.bindings) c.bindings (omega arith)
 
-pub more_stays : (old new : Contents) (more : Bindings) → new.bindings ≡ old.bindings ++ more
+pub more_stays : (old new : CellContents) (more : Bindings) → new.bindings ≡ old.bindings ++ more
     → new.filled ≡ old.filled → Stays (mark_of old) old new
 more_stays old new more b f = λ m le.
     (λ i. emptied (drop m.filled (f i)) (take m.count (b i)))
     ∙ ap (emptied (drop m.filled old.filled)) (take-append-le m.count old.bindings more le.0)
 
-pub fewer_stays : (old new : Contents) (count : ℕ) → new.bindings ≡ take count old.bindings
+pub fewer_stays : (old new : CellContents) (count : ℕ) → new.bindings ≡ take count old.bindings
     → new.filled ≡ old.filled → Stays (record { count = count; filled = length old.filled }) old new
 fewer_stays old new count b f = λ m le.
     (λ i. emptied (drop m.filled (f i)) (take m.count (b i)))
     ∙ ap (emptied (drop m.filled old.filled)) (take-take m.count count old.bindings le.0)
 
-pub back_stays : (old new : Contents) (mark : Mark) → new.bindings ≡ kept old mark
+pub back_stays : (old new : CellContents) (mark : Mark) → new.bindings ≡ kept old mark
     → new.filled ≡ take mark.filled old.filled → Stays mark old new
 back_stays old new mark b f = λ m le.
     let late : List ℕ = drop mark.filled old.filled in
@@ -86,7 +86,7 @@ back_stays old new mark b f = λ m le.
     ∙ sym (emptied-append early late cells)
     ∙ sym (ap (λ l. emptied l cells) (drop_split m.filled mark.filled old.filled le.1))
 
-pub back_mark : (old new : Contents) (mark : Mark) → Before mark (mark_of old) → new.bindings ≡ kept old mark
+pub back_mark : (old new : CellContents) (mark : Mark) → Before mark (mark_of old) → new.bindings ≡ kept old mark
     → new.filled ≡ take mark.filled old.filled → mark_of new ≡ mark
 back_mark old new mark le b f =
     let p : length new.bindings ≡ mark.count =
@@ -103,7 +103,7 @@ since_emptied B D F d k e g =
 
 -- ---- cells filled
 
-pub fill_grows : (old new : Contents) (i : ℕ) (o : Option Tree) → slice_get old.bindings i ≡ Some None
+pub fill_grows : (old new : CellContents) (i : ℕ) (o : Option Tree) → slice_get old.bindings i ≡ Some None
     → new.bindings ≡ set old.bindings i o → new.filled ≡ old.filled ++ i ∷ [] → Grows old new
 fill_grows old new i o empty b f =
     let undone : set (set old.bindings i o) i None ≡ old.bindings =
@@ -123,11 +123,11 @@ fill_grows old new i o empty b f =
           ∙ ap (emptied before) (sym (take_of_set m.count (set old.bindings i o) i None) ∙ ap (take m.count) undone);
     }
 
-pub grows_none : (c : Contents) → Grows c c
+pub grows_none : (c : CellContents) → Grows c c
 grows_none c =
     record { count = refl; more = []; filled = sym (append-nil c.filled); stays = λ m le. refl }
 
-pub grows_then : (a b c : Contents) → Grows a b → Grows b c → Grows a c
+pub grows_then : (a b c : CellContents) → Grows a b → Grows b c → Grows a c
 grows_then a b c g h = record {
   count = h.count ∙ g.count;
   more = g.more ++ h.more;
@@ -137,12 +137,12 @@ grows_then a b c g h = record {
       ∙ g.stays m le;
 }
 
-pub grows_later : (a b : Contents) → Grows a b → Before (mark_of a) (mark_of b)
+pub grows_later : (a b : CellContents) → Grows a b → Before (mark_of a) (mark_of b)
 grows_later a b g =
     (omega (arith, g.count), omega (arith, ap length g.filled, length-append a.filled g.more))
 
 -- filled cells are emptied again
-pub grows_back : (a b c : Contents) → Grows a b → c.bindings ≡ kept b (mark_of a)
+pub grows_back : (a b c : CellContents) → Grows a b → c.bindings ≡ kept b (mark_of a)
     → c.filled ≡ take (length a.filled) b.filled → c ≡ a
 grows_back a b c g k f =
     let p : c.bindings ≡ a.bindings =

@@ -1,4 +1,4 @@
-pub mod Contents
+pub mod CellContents
 pub mod Marks
 pub mod Building
 pub use Rattle.strategy_meaning.specs.Matching

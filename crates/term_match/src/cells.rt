@@ -28,10 +28,10 @@ pub struct Cells<'t> {
 }
 
 impl<'t> Model for Cells<'t> {
-    ghost use Rattle.term_match.specs.Contents.{Contents};
+    ghost use Rattle.term_match.specs.CellContents.{CellContents};
     ghost use Rattle.term_match.specs.inside.ContentsCode.{contents_code};
 
-    ghost Value = { Contents };
+    ghost Value = { CellContents };
 
     ghost coded = { contents_code };
 

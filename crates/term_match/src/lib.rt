@@ -13,5 +13,6 @@ mod variables;
 
 pub use building::Built;
 pub use cells::{Cells, Mark};
+pub use matching::is_list;
 pub use terms::BuiltTerm;
 pub use variables::{InSlice, Places};

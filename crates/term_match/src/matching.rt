@@ -296,7 +296,7 @@ fn is_integer(number: i64, value: &Value<'_>) -> bool
 }
 
 /// Whether the value is a list, whatever its annotations.
-pub(crate) fn is_list(value: &Value<'_>) -> bool
+pub fn is_list(value: &Value<'_>) -> bool
     ensures { elements value.now ≡ cond result (Some (children value.now)) None }
 {
     match value.kind() {

@@ -2,8 +2,8 @@
 
 use std::alloc::Global;
 use std::test::Fail;
-use term_core::{NoMemory, Term};
 use term_changes::Draft;
+use term_core::{NoMemory, Term};
 
 fn list(alloc: Global, numbers: &[i64]) -> Result<Term, NoMemory> {
     let mut terms = Vec::new(alloc);

@@ -5,13 +5,13 @@ ghost use Rattle.std.specs.Prelude.{◌≡◌, IfOk};
 ghost use Rattle.term_core.specs.Tree.{annotations, with_annotations, bare as bare_of};
 ghost use Rattle.term_changes.specs.Standing.{after};
 ghost use Rattle.term_values.specs.inside.Bounded.{AllBounded};
-ghost use Rattle.term_values.specs.inside.Shape.{NotedShape};
+ghost use Rattle.term_values.specs.inside.Shape.{AnnotatedShape};
 ghost use Rattle.term_values.specs.inside.ValueView.{notes_list};
 
 use crate::bounds::Bounds;
 use crate::build::all_bounds;
 use crate::part::Changed;
-use crate::value::{Form, Noted, Notes, Value};
+use crate::value::{Annotated, Annotations, Form, Value};
 use std::alloc::Global;
 use std::rc::Rc;
 use term_core::{NoMemory, Term};
@@ -33,7 +33,7 @@ impl<'t> Value<'t> {
                 form: Form::BareKept(changed.clone()?),
                 bounds: self.bounds.less(1, 0),
             }),
-            Form::Noted(noted) => noted.node.try_clone(),
+            Form::Annotated(noted) => noted.node.try_clone(),
             _ => self.try_clone(),
         }
     }
@@ -51,7 +51,7 @@ impl<'t> Value<'t> {
             return Ok(node);
         }
         let within = all_bounds(&all);
-        noted(alloc, node, Notes::Own(all), within)
+        noted(alloc, node, Annotations::Own(all), within)
     }
 
     /// The same value with the annotations of another in place of its own. If that is part of the
@@ -63,18 +63,18 @@ impl<'t> Value<'t> {
         if of.annotation_count() == 0 {
             return Ok(node);
         }
-        let notes = of.share_notes(alloc)?;
+        let notes = of.share_own_annotations(alloc)?;
         noted(alloc, node, notes, of.notes_bounds())
     }
 
     // Another holder of the annotations.
-    fn share_notes(&self, alloc: Global) -> Result<Notes<'t>, NoMemory>
+    fn share_own_annotations(&self, alloc: Global) -> Result<Annotations<'t>, NoMemory>
         ensures { IfOk result (λ notes. notes_list notes ≡ annotations self.now) }
     {
         match &self.form {
-            Form::Original(term) => Ok(Notes::Of(*term)),
-            Form::Kept(changed) => Ok(Notes::Of(changed.subterm())),
-            _ => Ok(Notes::Own(self.share_annotations(alloc)?)),
+            Form::Original(term) => Ok(Annotations::Of(*term)),
+            Form::Kept(changed) => Ok(Annotations::Of(changed.subterm())),
+            _ => Ok(Annotations::Own(self.share_annotations(alloc)?)),
         }
     }
 
@@ -99,17 +99,17 @@ impl<'t> Changed<'t> {
 fn noted<'t>(
     alloc: Global,
     node: Value<'t>,
-    notes: Notes<'t>,
+    notes: Annotations<'t>,
     within: Bounds,
 ) -> Result<Value<'t>, NoMemory>
-    requires shape { NotedShape node (notes_list notes) }
+    requires shape { AnnotatedShape node (notes_list notes) }
     requires bounds { AllBounded (notes_list notes) within }
     ensures { IfOk result (λ value. value ≡ with_annotations node.entry (notes_list notes.entry)) }
 {
     let bounds = within.before(node.bounds);
-    let noted = Rc::new(alloc, Noted { node, notes })?;
+    let noted = Rc::new(alloc, Annotated { node, notes })?;
     Ok(Value {
-        form: Form::Noted(noted),
+        form: Form::Annotated(noted),
         bounds,
     })
 }

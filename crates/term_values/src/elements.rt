@@ -11,7 +11,7 @@ ghost use Rattle.term_values.specs.inside.Walk.{seen_tree, run_list};
 
 use crate::bounds::Bounds;
 use crate::part::{Changed, Part, PartForm};
-use crate::value::{Form, Items, Joined, Notes, Value};
+use crate::value::{Annotations, Form, Items, Joined, Value};
 use std::marker::Model;
 use term_core::{Kind, NoMemory, Term};
 
@@ -296,16 +296,16 @@ impl<'t> Items<'t> {
     }
 }
 
-impl<'t> Notes<'t> {
+impl<'t> Annotations<'t> {
     fn run(&self) -> Run<'_, 't>
         ensures { run_list result ≡ notes_list self.now }
     {
         match self {
-            Notes::Of(term) => {
+            Annotations::Of(term) => {
                 let term: &'t Term = *term;
                 Run::Terms(term.annotations())
             }
-            Notes::Own(all) => Run::Values(all),
+            Annotations::Own(all) => Run::Values(all),
         }
     }
 }
@@ -340,7 +340,7 @@ impl<'t> Value<'t> {
             Form::Kept(changed) => changed.run(),
             Form::BareKept(changed) => changed.run(),
             Form::Joined(joined) => return joined_elements(joined),
-            Form::Noted(noted) => return noted.node.elements(),
+            Form::Annotated(noted) => return noted.node.elements(),
         };
         Elements::alone(run)
     }
@@ -355,7 +355,7 @@ impl<'t> Value<'t> {
                 Run::Terms(term.annotations())
             }
             Form::Kept(changed) => Run::Terms(changed.annotations()),
-            Form::Noted(noted) => noted.notes.run(),
+            Form::Annotated(noted) => noted.notes.run(),
             _ => Run::Empty,
         }
     }

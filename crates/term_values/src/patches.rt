@@ -10,8 +10,8 @@ ghost use Rattle.term_changes.specs.inside.Trimmed.{item_of, items_of};
 
 use crate::part::{Changed, Part, PartForm};
 use std::alloc::Global;
-use term_core::NoMemory;
 use term_changes::{Draft, Patch};
+use term_core::NoMemory;
 
 impl<'t> Part<'t> {
     /// The outermost places that were replaced, each with an owned term. The places exist in each

@@ -11,8 +11,8 @@ ghost use Rattle.term_changes.specs.Standing.{Suits, SuitAll, standing_change, s
 use crate::owned::node;
 use crate::part::{Changed, Part, PartForm};
 use crate::value::Form;
-use term_changes::{Entry, Plan};
 use std::alloc::Global;
+use term_changes::{Entry, Plan};
 use term_core::NoMemory;
 
 impl<'t> Part<'t> {

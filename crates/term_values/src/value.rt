@@ -43,7 +43,7 @@ pub(crate) enum Form<'t> {
     // a list without annotations: elements in front of those of another list
     Joined(Rc<Joined<'t>>),
     // a node without annotations, given some
-    Noted(Rc<Noted<'t>>),
+    Annotated(Rc<Annotated<'t>>),
 }
 
 #[derive(Drop)]
@@ -63,14 +63,14 @@ pub(crate) enum Top<'t> {
 
 #[derive(Drop)]
 #[cycle(value)]
-pub(crate) struct Noted<'t> {
+pub(crate) struct Annotated<'t> {
     pub(crate) node: Value<'t>,
-    pub(crate) notes: Notes<'t>,
+    pub(crate) notes: Annotations<'t>,
 }
 
 #[derive(Drop)]
 #[cycle(value)]
-pub(crate) enum Notes<'t> {
+pub(crate) enum Annotations<'t> {
     // that of a term
     Of(&'t Term),
     Own(Vec<Value<'t>>),
@@ -210,7 +210,7 @@ impl<'t> Value<'t> {
             Form::Kept(changed) => changed.kind(),
             Form::BareKept(changed) => changed.kind(),
             Form::Joined(_) => Kind::List,
-            Form::Noted(noted) => noted.node.kind(),
+            Form::Annotated(noted) => noted.node.kind(),
         }
     }
 
@@ -227,7 +227,7 @@ impl<'t> Value<'t> {
             Form::Kept(changed) => changed.child_count(),
             Form::BareKept(changed) => changed.child_count(),
             Form::Joined(joined) => joined.count,
-            Form::Noted(noted) => noted.node.child_count(),
+            Form::Annotated(noted) => noted.node.child_count(),
         }
     }
 }
@@ -282,7 +282,7 @@ impl<'t> Form<'t> {
             Form::Kept(changed) => Ok(Form::Kept(changed.clone()?)),
             Form::BareKept(changed) => Ok(Form::BareKept(changed.clone()?)),
             Form::Joined(joined) => Ok(Form::Joined(joined.clone()?)),
-            Form::Noted(noted) => Ok(Form::Noted(noted.clone()?)),
+            Form::Annotated(noted) => Ok(Form::Annotated(noted.clone()?)),
         }
     }
 }

@@ -48,7 +48,7 @@ pub struct StuckTerm {
 pub fn stuck_term(alloc: Global, text: &[u8]) -> Result<Option<StuckTerm>, NoMemory>
     ensures place { IfOk result (λ found. IfSome found (λ s. IsPlaceOf s.fault text.now s.at)) }
 {
-    stuck_after(alloc, text, State::Expected)
+    stuck_after(alloc, text, TermState::Expected)
 }
 
 /// Where the text stops being an annotation part; `None` if it is one.
@@ -57,12 +57,12 @@ pub fn stuck_term(alloc: Global, text: &[u8]) -> Result<Option<StuckTerm>, NoMem
 pub fn stuck_annotations(alloc: Global, text: &[u8]) -> Result<Option<StuckTerm>, NoMemory>
     ensures place { IfOk result (λ found. IfSome found (λ s. IsPlaceOf s.fault text.now s.at)) }
 {
-    stuck_after(alloc, text, State::Annotations)
+    stuck_after(alloc, text, TermState::Annotations)
 }
 
 // What was read last.
 #[derive(Clone, Copy)]
-enum State {
+enum TermState {
     // Nothing: an annotation part has to begin.
     Annotations,
     // Nothing, or a comma: a term has to begin.
@@ -94,16 +94,16 @@ struct Bracket {
 // What a byte leads to.
 #[derive(Clone, Copy)]
 enum Next {
-    Goes(State),
+    Goes(TermState),
     Opens(u8),
-    Closes(State),
+    Closes(TermState),
     // The token ended before the byte, and leads to this state.
-    Ended(State),
+    Ended(TermState),
     // It ends here, at this place.
     Stuck(usize, TermFault),
 }
 
-fn stuck_after(alloc: Global, text: &[u8], first: State) -> Result<Option<StuckTerm>, NoMemory>
+fn stuck_after(alloc: Global, text: &[u8], first: TermState) -> Result<Option<StuckTerm>, NoMemory>
     requires { KeepsPlaces first text.now }
     ensures place { IfOk result (λ found. IfSome found (λ s. IsPlaceOf s.fault text.now s.at)) }
 {
@@ -119,7 +119,7 @@ fn stuck_after(alloc: Global, text: &[u8], first: State) -> Result<Option<StuckT
             Next::Ended(ended) => state = ended,
             Next::Opens(closing) => {
                 open.push(Bracket { at, closing })?;
-                state = State::Entered;
+                state = TermState::Entered;
             }
             Next::Closes(closed) => {
                 drop(open.pop());
@@ -143,19 +143,19 @@ fn stuck(at: usize, fault: TermFault, open: &[Bracket]) -> StuckTerm
 }
 
 // Why the text may not end, if it may not.
-fn stuck_at_end(text: &[u8], state: State, open: &[Bracket]) -> Option<StuckTerm>
+fn stuck_at_end(text: &[u8], state: TermState, open: &[Bracket]) -> Option<StuckTerm>
     requires { KeepsPlaces state text.now }
     ensures place { IfSome result (λ s. IsPlaceOf s.fault text.now s.at) }
 {
     match state {
-        State::Quoted(start) | State::Escape(start, _, _) => {
+        TermState::Quoted(start) | TermState::Escape(start, _, _) => {
             Some(stuck(start, TermFault::OpenString, open))
         }
-        State::Minus(start) => Some(stuck(start, TermFault::Byte, open)),
-        State::Digits(start) if !is_in_range(text.get(start..)) => {
+        TermState::Minus(start) => Some(stuck(start, TermFault::Byte, open)),
+        TermState::Digits(start) if !is_in_range(text.get(start..)) => {
             Some(stuck(start, TermFault::Range, open))
         }
-        State::Annotations | State::Expected | State::Entered => {
+        TermState::Annotations | TermState::Expected | TermState::Entered => {
             Some(stuck(text.len(), TermFault::End, open))
         }
         _ if open.is_empty() => None,
@@ -165,21 +165,21 @@ fn stuck_at_end(text: &[u8], state: State, open: &[Bracket]) -> Option<StuckTerm
 
 // ---- inside a token
 
-fn next_in_token(text: &[u8], state: State, at: usize, byte: u8) -> Next
+fn next_in_token(text: &[u8], state: TermState, at: usize, byte: u8) -> Next
     requires byte { HasByte text.now at byte }
     requires state { KeepsPlaces state text.now }
     ensures { LeadsOn result text.now }
 {
     match state {
-        State::Word if continues_word(byte) => Next::Goes(State::Word),
-        State::Word => Next::Ended(State::Named),
-        State::Minus(start) if byte.is_ascii_digit() => Next::Goes(State::Digits(start)),
-        State::Minus(start) => Next::Stuck(start, TermFault::Byte),
-        State::Digits(start) => next_in_integer(text, start, at, byte),
-        State::Quoted(start) => Next::Goes(next_in_quotes(start, at, byte)),
-        State::Escape(start, backslash, read) => match read_escape(read, byte) {
-            Escaped::More(read) => Next::Goes(State::Escape(start, backslash, read)),
-            Escaped::Whole => Next::Goes(State::Quoted(start)),
+        TermState::Word if continues_word(byte) => Next::Goes(TermState::Word),
+        TermState::Word => Next::Ended(TermState::Named),
+        TermState::Minus(start) if byte.is_ascii_digit() => Next::Goes(TermState::Digits(start)),
+        TermState::Minus(start) => Next::Stuck(start, TermFault::Byte),
+        TermState::Digits(start) => next_in_integer(text, start, at, byte),
+        TermState::Quoted(start) => Next::Goes(next_in_quotes(start, at, byte)),
+        TermState::Escape(start, backslash, read) => match read_escape(read, byte) {
+            Escaped::More(read) => Next::Goes(TermState::Escape(start, backslash, read)),
+            Escaped::Whole => Next::Goes(TermState::Quoted(start)),
             Escaped::Wrong => Next::Stuck(backslash, TermFault::Escape),
         },
         _ => Next::Ended(state),
@@ -192,7 +192,7 @@ fn next_in_integer(text: &[u8], start: usize, at: usize, byte: u8) -> Next
     ensures { LeadsOn result text.now }
 {
     if byte.is_ascii_digit() {
-        return Next::Goes(State::Digits(start));
+        return Next::Goes(TermState::Digits(start));
     }
     if byte == b'.' {
         return Next::Stuck(at, TermFault::Real);
@@ -200,7 +200,7 @@ fn next_in_integer(text: &[u8], start: usize, at: usize, byte: u8) -> Next
     if !is_in_range(text.get(start..at)) {
         return Next::Stuck(start, TermFault::Range);
     }
-    Next::Ended(State::Base)
+    Next::Ended(TermState::Base)
 }
 
 fn is_in_range(digits: Option<&[u8]>) -> bool {
@@ -213,20 +213,20 @@ fn is_in_range(digits: Option<&[u8]>) -> bool {
     }
 }
 
-fn next_in_quotes(start: usize, at: usize, byte: u8) -> State
+fn next_in_quotes(start: usize, at: usize, byte: u8) -> TermState
     ensures { (text : List ℕ) → HasByte text at byte → HasByte text start 34
         → KeepsPlaces result text }
 {
     match byte {
-        b'"' => State::Named,
-        b'\\' => State::Escape(start, at, Escape::Begun),
-        _ => State::Quoted(start),
+        b'"' => TermState::Named,
+        b'\\' => TermState::Escape(start, at, Escape::Begun),
+        _ => TermState::Quoted(start),
     }
 }
 
 // ---- between two tokens
 
-fn next_token(state: State, innermost: Option<Bracket>, at: usize, byte: u8) -> Next
+fn next_token(state: TermState, innermost: Option<Bracket>, at: usize, byte: u8) -> Next
     ensures { (text : List ℕ) → HasByte text at byte → KeepsPlaces state text
         → LeadsOn result text }
 {
@@ -234,27 +234,27 @@ fn next_token(state: State, innermost: Option<Bracket>, at: usize, byte: u8) -> 
         return Next::Goes(state);
     }
     match state {
-        State::Annotations if byte == b'{' => Next::Opens(b'}'),
-        State::Annotations => Next::Stuck(at, TermFault::Byte),
-        State::Entered => match innermost {
+        TermState::Annotations if byte == b'{' => Next::Opens(b'}'),
+        TermState::Annotations => Next::Stuck(at, TermFault::Byte),
+        TermState::Entered => match innermost {
             Some(bracket) if bracket.closing == byte => Next::Closes(closed(byte)),
             _ => begin(at, byte),
         },
-        State::Named if byte == b'(' => Next::Opens(b')'),
-        State::Named | State::Base if byte == b'{' => Next::Opens(b'}'),
-        State::Named | State::Base | State::Whole => after_whole(innermost, at, byte),
+        TermState::Named if byte == b'(' => Next::Opens(b')'),
+        TermState::Named | TermState::Base if byte == b'{' => Next::Opens(b'}'),
+        TermState::Named | TermState::Base | TermState::Whole => after_whole(innermost, at, byte),
         _ => begin(at, byte),
     }
 }
 
 // What was read after this closing bracket.
-fn closed(byte: u8) -> State
+fn closed(byte: u8) -> TermState
     ensures { (text : List ℕ) → KeepsPlaces result text }
 {
     if byte == b'}' {
-        State::Whole
+        TermState::Whole
     } else {
-        State::Base
+        TermState::Base
     }
 }
 
@@ -265,11 +265,11 @@ fn begin(at: usize, byte: u8) -> Next
     match byte {
         b'[' => Next::Opens(b']'),
         b'(' => Next::Opens(b')'),
-        b'"' => Next::Goes(State::Quoted(at)),
-        b'-' => Next::Goes(State::Minus(at)),
+        b'"' => Next::Goes(TermState::Quoted(at)),
+        b'-' => Next::Goes(TermState::Minus(at)),
         b'<' => Next::Stuck(at, TermFault::Placeholder),
-        _ if byte.is_ascii_digit() => Next::Goes(State::Digits(at)),
-        _ if begins_word(byte) => Next::Goes(State::Word),
+        _ if byte.is_ascii_digit() => Next::Goes(TermState::Digits(at)),
+        _ if begins_word(byte) => Next::Goes(TermState::Word),
         _ => Next::Stuck(at, TermFault::Byte),
     }
 }
@@ -281,7 +281,7 @@ fn after_whole(innermost: Option<Bracket>, at: usize, byte: u8) -> Next
         return Next::Stuck(at, TermFault::After);
     };
     if byte == b',' {
-        return Next::Goes(State::Expected);
+        return Next::Goes(TermState::Expected);
     }
     if byte == bracket.closing {
         return Next::Closes(closed(byte));

@@ -36,7 +36,7 @@ pub fn bad_token(token: &[u8]) -> BadToken
 
 // What is read between the quotes.
 #[derive(Clone, Copy)]
-enum Place {
+enum StringState {
     // The opening quote has to come.
     Before,
     // An item has to begin.
@@ -49,7 +49,7 @@ enum Place {
 fn bad_string(token: &[u8]) -> BadToken
     ensures { (n : ℕ) → result ≡ BadToken.Escape n → HasByte token.now n 92 }
 {
-    let mut place = Place::Before;
+    let mut place = StringState::Before;
     let mut wrong = None;
     for (at, byte) in token.iter().enumerate() {
         if wrong.is_none() {
@@ -64,10 +64,10 @@ fn bad_string(token: &[u8]) -> BadToken
 }
 
 // Where the escape begins that this byte makes a wrong one.
-fn wrong_escape(place: Place, byte: u8) -> Option<usize>
+fn wrong_escape(place: StringState, byte: u8) -> Option<usize>
     ensures { (token : List ℕ) → KeepsEscape place token → IfSome result (λ n. HasByte token n 92) }
 {
-    let Place::Escape(start, read) = place else {
+    let StringState::Escape(start, read) = place else {
         return None;
     };
     match read_escape(read, byte) {
@@ -87,31 +87,31 @@ fn closed_string(wrong: Option<usize>) -> BadToken
 
 // What is read after this byte, or `None` after the closing quote. A backslash takes the next byte
 // with it, whatever that is.
-fn next_place(place: Place, at: usize, byte: u8) -> Option<Place>
+fn next_place(place: StringState, at: usize, byte: u8) -> Option<StringState>
     ensures { (token : List ℕ) → HasByte token at byte → KeepsEscape place token
         → IfSome result (λ p. KeepsEscape p token) }
 {
     match place {
-        Place::Before => Some(Place::Items),
-        Place::Escape(start, Escape::Begun) => match read_escape(Escape::Begun, byte) {
-            Escaped::More(read) => Some(Place::Escape(start, read)),
-            _ => Some(Place::Items),
+        StringState::Before => Some(StringState::Items),
+        StringState::Escape(start, Escape::Begun) => match read_escape(Escape::Begun, byte) {
+            Escaped::More(read) => Some(StringState::Escape(start, read)),
+            _ => Some(StringState::Items),
         },
-        Place::Escape(start, read) => match read_escape(read, byte) {
-            Escaped::More(read) => Some(Place::Escape(start, read)),
-            Escaped::Whole => Some(Place::Items),
+        StringState::Escape(start, read) => match read_escape(read, byte) {
+            Escaped::More(read) => Some(StringState::Escape(start, read)),
+            Escaped::Whole => Some(StringState::Items),
             Escaped::Wrong => next_item(at, byte),
         },
-        Place::Items => next_item(at, byte),
+        StringState::Items => next_item(at, byte),
     }
 }
 
-fn next_item(at: usize, byte: u8) -> Option<Place>
+fn next_item(at: usize, byte: u8) -> Option<StringState>
     ensures { (token : List ℕ) → HasByte token at byte → IfSome result (λ p. KeepsEscape p token) }
 {
     match byte {
         b'"' => None,
-        b'\\' => Some(Place::Escape(at, Escape::Begun)),
-        _ => Some(Place::Items),
+        b'\\' => Some(StringState::Escape(at, Escape::Begun)),
+        _ => Some(StringState::Items),
     }
 }

@@ -5,13 +5,13 @@ use Rattle.term_core.specs.Tree.{Tree, Trees, to_list, application_term, list_te
 use Rattle.aterm_text.specs.Tokens.{IsBlank}
 use Rattle.aterm_text.specs.Grammar.{Reads, ReadsUntil, ReadsMore, Optional}
 use Rattle.aterm_text.specs.inside.Level.{Bracket, arguments, elements, components, annotating, Level, closing_of}
-use Rattle.aterm_text.specs.inside.Stack.{Stack, no_terms, with_top, inside}
+use Rattle.aterm_text.specs.inside.TermStack.{TermStack, no_terms, with_top, inside}
 use Rattle.aterm_text.specs.declared.reader.stack.Opening.{Opening}
 use Rattle.aterm_text.specs.declared.reader.stack.Opening.TheVariants.{Round, Square, Curly}
-use Rattle.aterm_text.specs.declared.reader.machine.State.{State}
-use Rattle.aterm_text.specs.declared.reader.machine.State.TheVariants.{Expected, Entered, Base, Whole}
-use Rattle.aterm_text.specs.declared.reader.machine.Step.{Step}
-use Rattle.aterm_text.specs.declared.reader.machine.Step.TheVariants.{More, Done}
+use Rattle.aterm_text.specs.declared.reader.machine.ReaderState.{ReaderState}
+use Rattle.aterm_text.specs.declared.reader.machine.ReaderState.TheVariants.{Expected, Entered, Base, Whole}
+use Rattle.aterm_text.specs.declared.reader.machine.Progress.{Progress}
+use Rattle.aterm_text.specs.declared.reader.machine.Progress.TheVariants.{More, Done}
 use Rattle.aterm_text.specs.Signs.{open_curly, close_curly}
 
 -- What was read last: the start of the text or a comma, an opening bracket, a term that may still
@@ -105,51 +105,51 @@ bearer components = tuple_term []
 bearer (annotating t) = t
 
 -- the stack holds these levels and the terms that their brackets belong to, and no other term
-abbrev pub Holds : List Level → Stack → Type 0
+abbrev pub Holds : List Level → TermStack → Type 0
 Holds [] s = s ≡ no_terms
 Holds (level ∷ levels) s =
-    (below : Stack) × Holds levels below
+    (below : TermStack) × Holds levels below
     × (s ≡ inside (opening_of level.opened) level.done (with_top (bearer level.opened) below))
 
 -- The state and the stack represent this reading within these levels. The term that was read last
 -- is on top of the stack.
-abbrev pub Stands : Reading → List Level → State → Stack → Type 0
-Stands expected levels state s = (state ≡ Expected) × Holds levels s
-Stands entered levels state s = (state ≡ Entered) × Holds levels s
-Stands (base t) levels state s =
-    (below : Stack) × (state ≡ Base) × (s ≡ with_top t below) × Holds levels below
+abbrev pub ReaderStands : Reading → List Level → ReaderState → TermStack → Type 0
+ReaderStands expected levels state s = (state ≡ Expected) × Holds levels s
+ReaderStands entered levels state s = (state ≡ Entered) × Holds levels s
+ReaderStands (base t) levels state s =
+    (below : TermStack) × (state ≡ Base) × (s ≡ with_top t below) × Holds levels below
     × (with_annotations t [] ≡ t)
-Stands (whole t) levels state s =
-    (below : Stack) × (state ≡ Whole) × (s ≡ with_top t below) × Holds levels below
+ReaderStands (whole t) levels state s =
+    (below : TermStack) × (state ≡ Whole) × (s ≡ with_top t below) × Holds levels below
 
 -- ---- the steps of the machine
 
 -- a step that goes on consumes at least one byte and loses nothing
-pub record GoesOn (r : Reading) (levels : List Level) (x : List ℕ) (state' : State) (s' : Stack)
+pub record GoesOn (r : Reading) (levels : List Level) (x : List ℕ) (state' : ReaderState) (s' : TermStack)
     (x' : List ℕ) : Type 0 where
   pub reading : Reading
   pub levels' : List Level
-  pub stands : Stands reading levels' state' s'
+  pub stands : ReaderStands reading levels' state' s'
   pub continues : Continues r levels x reading levels' x'
   pub shorter : length x' < length x
 
 -- where a step leads from one reading
-abbrev pub Goes : Reading → List Level → List ℕ → Step → Stack → Type 0
+abbrev pub Goes : Reading → List Level → List ℕ → Progress → TermStack → Type 0
 Goes r levels x (More state' rest) s' = GoesOn r levels x state' s' rest.now
 Goes r levels x Done s' = (t : Tree) × (s' ≡ with_top t no_terms) × IsEnd r levels x t
 
 -- where a step leads, for all readings that the state and the stack may represent
-abbrev pub Leads : State → Stack → List ℕ → Step → Stack → Type 0
-Leads state s x step s' =
-    (r : Reading) (levels : List Level) → Stands r levels state s → Goes r levels x step s'
+abbrev pub ReaderLeads : ReaderState → TermStack → List ℕ → Progress → TermStack → Type 0
+ReaderLeads state s x step s' =
+    (r : Reading) (levels : List Level) → ReaderStands r levels state s → Goes r levels x step s'
 
 -- the text spells no term, whatever the state and the stack represent
-abbrev pub IsLost : State → Stack → List ℕ → Type 0
+abbrev pub IsLost : ReaderState → TermStack → List ℕ → Type 0
 IsLost state s x =
-    (r : Reading) (levels : List Level) → Stands r levels state s → IsStuck r levels x
+    (r : Reading) (levels : List Level) → ReaderStands r levels state s → IsStuck r levels x
 
 -- the state and the stack after the innermost bracket is closed
-abbrev pub IsClosed : Stack → State → Stack → Type 0
+abbrev pub IsClosed : TermStack → ReaderState → TermStack → Type 0
 IsClosed s state s' =
     (level : Level) (levels : List Level) → Holds (level ∷ levels) s
-    → Stands (closed level.opened level.done) levels state s'
+    → ReaderStands (closed level.opened level.done) levels state s'

@@ -4,22 +4,22 @@
 ghost use Rattle.std.specs.Prelude.{◌≡◌, ◌<◌, ◌≤◌, ◌-◌, ℕ, List, [], IfOk, OnOk, Err, length};
 ghost use Rattle.term_core.specs.Tree.{Tree, Symbol};
 ghost use Rattle.aterm_text.specs.Tokens.{NextName, without_blanks};
-ghost use Rattle.aterm_text.specs.inside.Stack.{with_top, inside};
+ghost use Rattle.aterm_text.specs.inside.TermStack.{with_top, inside};
 ghost use Rattle.aterm_text.specs.inside.Beginnings.{NoLexeme};
 ghost use Rattle.aterm_text.specs.inside.Depth.{depth, IsTooDeep, KeepsDepth};
-ghost use Rattle.aterm_text.specs.inside.Unread.{Reading, Unread, Stands, Leads, IsLost, IsClosed};
+ghost use Rattle.aterm_text.specs.inside.Unread.{Reading, Unread, ReaderStands, ReaderLeads, IsLost, IsClosed};
 
 use crate::MAX_NESTING;
 use crate::reader::ReadFault;
 use crate::reader::lexeme::{Lexeme, first_lexeme};
 use crate::reader::scan::{after_blanks, after_byte};
-use crate::reader::stack::{Opening, Stack};
+use crate::reader::stack::{Opening, TermStack};
 use std::alloc::Global;
 use term_core::{Name, NoMemory, Term};
 
 /// What was read last.
 #[derive(Clone, Copy)]
-pub enum State {
+pub enum ReaderState {
     /// The start of the text, or a comma: a term has to begin.
     Expected,
     /// An opening bracket: a term may begin, or the bracket is closed.
@@ -32,15 +32,15 @@ pub enum State {
 
 /// The outcome of a step of the machine.
 #[derive(Clone, Copy)]
-pub enum Step<'a> {
+pub enum Progress<'a> {
     /// The next state, and the rest of the text.
-    More(State, &'a [u8]),
+    More(ReaderState, &'a [u8]),
     /// The end of the text: it spells the one term on the stack.
     Done,
 }
 
 // Opens a bracket, unless too many are open.
-fn enter(stack: &mut Stack, opening: Opening) -> Result<(), ReadFault>
+fn enter(stack: &mut TermStack, opening: Opening) -> Result<(), ReadFault>
     ensures ok { OnOk result (stack.new ≡ inside opening [] stack.old) }
     ensures few { OnOk result (depth stack.old < MAX_NESTING) }
     ensures term { result ≡ Err ReadFault.Term → ⊥ }
@@ -56,7 +56,7 @@ fn enter(stack: &mut Stack, opening: Opening) -> Result<(), ReadFault>
 // Pushes a term, and opens the bracket of its children. It is inlined, as `expect_term` is: an
 // opening bracket takes less work than a call.
 #[inline(always)]
-fn open(stack: &mut Stack, term: Term, opening: Opening) -> Result<(), ReadFault>
+fn open(stack: &mut TermStack, term: Term, opening: Opening) -> Result<(), ReadFault>
     ensures ok { OnOk result (stack.new ≡ inside opening [] (with_top term stack.old)) }
     ensures few { OnOk result (depth stack.old < MAX_NESTING) }
     ensures term { result ≡ Err ReadFault.Term → ⊥ }
@@ -68,22 +68,26 @@ fn open(stack: &mut Stack, term: Term, opening: Opening) -> Result<(), ReadFault
 
 // A term has to begin here.
 #[inline(always)]
-fn expect_term<'a>(alloc: Global, stack: &mut Stack, text: &'a [u8]) -> Result<Step<'a>, ReadFault>
+fn expect_term<'a>(
+    alloc: Global,
+    stack: &mut TermStack,
+    text: &'a [u8],
+) -> Result<Progress<'a>, ReadFault>
     requires { without_blanks text.now ≡ text.now }
-    ensures leads { IfOk result (λ step. Leads State.Expected stack.old text.now step stack.new) }
-    ensures none { result ≡ Err ReadFault.Term → IsLost State.Expected stack.old text.now }
+    ensures leads { IfOk result (λ step. ReaderLeads ReaderState.Expected stack.old text.now step stack.new) }
+    ensures none { result ≡ Err ReadFault.Term → IsLost ReaderState.Expected stack.old text.now }
     ensures nesting { IfOk result (λ step. KeepsDepth stack.old text.now step stack.new) }
     ensures deep { result ≡ Err ReadFault.Deep → IsTooDeep (depth stack.old) text.now }
 {
     if let Some(rest) = after_byte(b'[', text) {
         return match open(stack, Term::list(alloc, Vec::new(alloc)), Opening::Square) {
-            Ok(()) => Ok(Step::More(State::Entered, rest)),
+            Ok(()) => Ok(Progress::More(ReaderState::Entered, rest)),
             Err(fault) => Err(fault),
         };
     }
     if let Some(rest) = after_byte(b'(', text) {
         return match open(stack, Term::tuple(alloc, Vec::new(alloc)), Opening::Round) {
-            Ok(()) => Ok(Step::More(State::Entered, rest)),
+            Ok(()) => Ok(Progress::More(ReaderState::Entered, rest)),
             Err(fault) => Err(fault),
         };
     }
@@ -93,11 +97,11 @@ fn expect_term<'a>(alloc: Global, stack: &mut Stack, text: &'a [u8]) -> Result<S
 // A term that doesn't begin with a bracket has to begin here.
 fn expect_lexeme<'a>(
     alloc: Global,
-    stack: &mut Stack,
+    stack: &mut TermStack,
     text: &'a [u8],
-) -> Result<Step<'a>, ReadFault>
+) -> Result<Progress<'a>, ReadFault>
     requires { without_blanks text.now ≡ text.now }
-    ensures leads { IfOk result (λ step. Leads State.Expected stack.old text.now step stack.new) }
+    ensures leads { IfOk result (λ step. ReaderLeads ReaderState.Expected stack.old text.now step stack.new) }
     ensures none { result ≡ Err ReadFault.Term → NoLexeme text.now }
     ensures nesting { IfOk result (λ step. KeepsDepth stack.old text.now step stack.new) }
     ensures deep { result ≡ Err ReadFault.Deep → IsTooDeep (depth stack.old) text.now }
@@ -109,7 +113,7 @@ fn expect_lexeme<'a>(
     match lexeme {
         Lexeme::Integer(value) => {
             stack.push(Term::integer(alloc, value))?;
-            Ok(Step::More(State::Base, rest))
+            Ok(Progress::More(ReaderState::Base, rest))
         }
         Lexeme::Named(name) => behind_name(alloc, stack, name, rest),
     }
@@ -118,13 +122,13 @@ fn expect_lexeme<'a>(
 // After a name: a bracket that comes next holds its arguments.
 fn behind_name<'a>(
     alloc: Global,
-    stack: &mut Stack,
+    stack: &mut TermStack,
     name: Name,
     text: &'a [u8],
-) -> Result<Step<'a>, ReadFault>
+) -> Result<Progress<'a>, ReadFault>
     ensures leads { IfOk result (λ step. (x : List ℕ) →
         NextName name x text.now → length text.now < length x →
-        Leads State.Expected stack.old x step stack.new) }
+        ReaderLeads ReaderState.Expected stack.old x step stack.new) }
     ensures fault { result ≡ Err ReadFault.Term → ⊥ }
     ensures nesting { IfOk result (λ step. KeepsDepth stack.old text.now step stack.new) }
     ensures deep { result ≡ Err ReadFault.Deep → IsTooDeep (depth stack.old) text.now }
@@ -133,32 +137,32 @@ fn behind_name<'a>(
     let text = after_blanks(text);
     match after_byte(b'(', text) {
         Some(rest) => match open(stack, term, Opening::Round) {
-            Ok(()) => Ok(Step::More(State::Entered, rest)),
+            Ok(()) => Ok(Progress::More(ReaderState::Entered, rest)),
             Err(fault) => Err(fault),
         },
         None => {
             stack.push(term)?;
-            Ok(Step::More(State::Base, text))
+            Ok(Progress::More(ReaderState::Base, text))
         }
     }
 }
 
 // Closes the innermost bracket: its terms become parts of the term before it.
-fn close(stack: &mut Stack) -> Result<State, NoMemory>
+fn close(stack: &mut TermStack) -> Result<ReaderState, NoMemory>
     ensures closed { IfOk result (λ state. IsClosed stack.old state stack.new) }
     ensures depth { IfOk result (λ _. depth stack.new ≡ depth stack.old - 1) }
 {
     let Some((opening, terms)) = stack.leave()? else {
-        return Ok(State::Base);
+        return Ok(ReaderState::Base);
     };
     match opening {
         Opening::Curly => {
             stack.annotate(terms);
-            Ok(State::Whole)
+            Ok(ReaderState::Whole)
         }
         _ => {
             stack.give_children(terms);
-            Ok(State::Base)
+            Ok(ReaderState::Base)
         }
     }
 }
@@ -166,12 +170,12 @@ fn close(stack: &mut Stack) -> Result<State, NoMemory>
 // After an opening bracket.
 fn behind_opening<'a>(
     alloc: Global,
-    stack: &mut Stack,
+    stack: &mut TermStack,
     text: &'a [u8],
-) -> Result<Step<'a>, ReadFault>
+) -> Result<Progress<'a>, ReadFault>
     requires { without_blanks text.now ≡ text.now }
-    ensures leads { IfOk result (λ step. Leads State.Entered stack.old text.now step stack.new) }
-    ensures none { result ≡ Err ReadFault.Term → IsLost State.Entered stack.old text.now }
+    ensures leads { IfOk result (λ step. ReaderLeads ReaderState.Entered stack.old text.now step stack.new) }
+    ensures none { result ≡ Err ReadFault.Term → IsLost ReaderState.Entered stack.old text.now }
     ensures nesting { IfOk result (λ step. KeepsDepth stack.old text.now step stack.new) }
     ensures deep { result ≡ Err ReadFault.Deep → IsTooDeep (depth stack.old) text.now }
 {
@@ -179,23 +183,23 @@ fn behind_opening<'a>(
         return Err(ReadFault::Term);
     };
     match after_byte(closing, text) {
-        Some(rest) => Ok(Step::More(close(stack)?, rest)),
+        Some(rest) => Ok(Progress::More(close(stack)?, rest)),
         None => expect_term(alloc, stack, text),
     }
 }
 
 // After a base: a bracket that comes next holds its annotations.
-fn behind_base<'a>(stack: &mut Stack, text: &'a [u8]) -> Result<Step<'a>, ReadFault>
+fn behind_base<'a>(stack: &mut TermStack, text: &'a [u8]) -> Result<Progress<'a>, ReadFault>
     requires { without_blanks text.now ≡ text.now }
-    ensures leads { IfOk result (λ step. Leads State.Base stack.old text.now step stack.new) }
-    ensures none { result ≡ Err ReadFault.Term → IsLost State.Base stack.old text.now }
+    ensures leads { IfOk result (λ step. ReaderLeads ReaderState.Base stack.old text.now step stack.new) }
+    ensures none { result ≡ Err ReadFault.Term → IsLost ReaderState.Base stack.old text.now }
     ensures nesting { IfOk result (λ step. KeepsDepth stack.old text.now step stack.new) }
     ensures deep { result ≡ Err ReadFault.Deep → IsTooDeep (depth stack.old) text.now }
 {
     match after_byte(b'{', text) {
         Some(rest) => {
             match enter(stack, Opening::Curly) {
-                Ok(()) => Ok(Step::More(State::Entered, rest)),
+                Ok(()) => Ok(Progress::More(ReaderState::Entered, rest)),
                 Err(fault) => Err(fault),
             }
         }
@@ -204,24 +208,24 @@ fn behind_base<'a>(stack: &mut Stack, text: &'a [u8]) -> Result<Step<'a>, ReadFa
 }
 
 // After a whole term: a comma, the closing bracket or the end of the text comes next.
-fn behind_whole<'a>(stack: &mut Stack, text: &'a [u8]) -> Result<Step<'a>, ReadFault>
+fn behind_whole<'a>(stack: &mut TermStack, text: &'a [u8]) -> Result<Progress<'a>, ReadFault>
     requires { without_blanks text.now ≡ text.now }
-    ensures leads { IfOk result (λ step. Leads State.Whole stack.old text.now step stack.new) }
-    ensures none { result ≡ Err ReadFault.Term → IsLost State.Whole stack.old text.now }
+    ensures leads { IfOk result (λ step. ReaderLeads ReaderState.Whole stack.old text.now step stack.new) }
+    ensures none { result ≡ Err ReadFault.Term → IsLost ReaderState.Whole stack.old text.now }
     ensures nesting { IfOk result (λ step. KeepsDepth stack.old text.now step stack.new) }
     ensures deep { result ≡ Err ReadFault.Deep → IsTooDeep (depth stack.old) text.now }
 {
     let Some(closing) = stack.closing() else {
         if text.is_empty() {
-            return Ok(Step::Done);
+            return Ok(Progress::Done);
         }
         return Err(ReadFault::Term);
     };
     if let Some(rest) = after_byte(b',', text) {
-        return Ok(Step::More(State::Expected, rest));
+        return Ok(Progress::More(ReaderState::Expected, rest));
     }
     match after_byte(closing, text) {
-        Some(rest) => Ok(Step::More(close(stack)?, rest)),
+        Some(rest) => Ok(Progress::More(close(stack)?, rest)),
         None => Err(ReadFault::Term),
     }
 }
@@ -229,33 +233,38 @@ fn behind_whole<'a>(stack: &mut Stack, text: &'a [u8]) -> Result<Step<'a>, ReadF
 // One step of the machine.
 fn make_step<'a>(
     alloc: Global,
-    stack: &mut Stack,
-    state: State,
+    stack: &mut TermStack,
+    state: ReaderState,
     text: &'a [u8],
-) -> Result<Step<'a>, ReadFault>
-    ensures leads { IfOk result (λ step. Leads state stack.old text.now step stack.new) }
+) -> Result<Progress<'a>, ReadFault>
+    ensures leads { IfOk result (λ step. ReaderLeads state stack.old text.now step stack.new) }
     ensures none { result ≡ Err ReadFault.Term → IsLost state stack.old text.now }
     ensures nesting { IfOk result (λ step. KeepsDepth stack.old text.now step stack.new) }
     ensures deep { result ≡ Err ReadFault.Deep → IsTooDeep (depth stack.old) text.now }
 {
     let text = after_blanks(text);
     match state {
-        State::Expected => expect_term(alloc, stack, text),
-        State::Entered => behind_opening(alloc, stack, text),
-        State::Base => behind_base(stack, text),
-        State::Whole => behind_whole(stack, text),
+        ReaderState::Expected => expect_term(alloc, stack, text),
+        ReaderState::Entered => behind_opening(alloc, stack, text),
+        ReaderState::Base => behind_base(stack, text),
+        ReaderState::Whole => behind_whole(stack, text),
     }
 }
 
 /// Runs the machine to its end, from a state and a stack without open brackets.
-pub fn read_from(alloc: Global, stack: Stack, start: State, text: &[u8]) -> Result<Term, ReadFault>
-    requires stands { (r : Reading) × Stands r [] start stack }
+pub fn read_from(
+    alloc: Global,
+    stack: TermStack,
+    start: ReaderState,
+    text: &[u8],
+) -> Result<Term, ReadFault>
+    requires stands { (r : Reading) × ReaderStands r [] start stack }
     requires closed { depth stack ≡ 0 }
-    ensures found { IfOk result (λ t. (r : Reading) → Stands r [] start stack
+    ensures found { IfOk result (λ t. (r : Reading) → ReaderStands r [] start stack
         → Unread r [] text.now t) }
-    ensures only { IfOk result (λ t. (r : Reading) → Stands r [] start stack
+    ensures only { IfOk result (λ t. (r : Reading) → ReaderStands r [] start stack
         → (u : Tree) → Unread r [] text.now u → u ≡ t) }
-    ensures none { result ≡ Err ReadFault.Term → (r : Reading) → Stands r [] start stack
+    ensures none { result ≡ Err ReadFault.Term → (r : Reading) → ReaderStands r [] start stack
         → (u : Tree) → Unread r [] text.now u → ⊥ }
     ensures shallow { IfOk result (λ _. IsTooDeep 0 text.now → ⊥) }
     ensures deep { result ≡ Err ReadFault.Deep → IsTooDeep 0 text.now }
@@ -265,11 +274,11 @@ pub fn read_from(alloc: Global, stack: Stack, start: State, text: &[u8]) -> Resu
     let mut rest = text;
     loop {
         match make_step(alloc, &mut stack, state, rest)? {
-            Step::More(next, left) => {
+            Progress::More(next, left) => {
                 state = next;
                 rest = left;
             }
-            Step::Done => break,
+            Progress::Done => break,
         }
     }
     match stack.into_term() {

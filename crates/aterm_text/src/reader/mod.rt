@@ -12,9 +12,9 @@ mod scan;
 mod stack;
 
 use crate::{MAX_NESTING, nesting};
-use machine::{State, read_from};
+use machine::{ReaderState, read_from};
 pub use scan::{after_blanks, after_byte, is_blank};
-use stack::Stack;
+use stack::TermStack;
 use std::alloc::{AllocError, AllocFailed, Global};
 use term_core::{NoMemory, Term};
 use thiserror::Error;
@@ -43,7 +43,7 @@ pub fn read(alloc: Global, text: &[u8]) -> Result<Term, ReadFault>
     ensures only { IfOk result (λ t. (u : Tree) → Spells text.now u → u ≡ t) }
     ensures no_term { result ≡ Err ReadFault.Term → (u : Tree) → Spells text.now u → ⊥ }
 {
-    match read_from(alloc, Stack::new(alloc), State::Expected, text) {
+    match read_from(alloc, TermStack::new(alloc), ReaderState::Expected, text) {
         Ok(term) => Ok(term),
         Err(fault) => Err(first_fault(text, fault)),
     }
@@ -80,9 +80,9 @@ fn read_alone(alloc: Global, text: &[u8]) -> Result<Vec<Term>, ReadFault>
         return Err(ReadFault::Term);
     };
     // What follows the empty list is read as its annotations.
-    let mut stack = Stack::new(alloc);
+    let mut stack = TermStack::new(alloc);
     stack.push(Term::list(alloc, Vec::new(alloc)))?;
-    match read_from(alloc, stack, State::Base, text) {
+    match read_from(alloc, stack, ReaderState::Base, text) {
         Ok(mut term) => {
             let mut annotations = Vec::new(alloc);
             term.swap_annotations(&mut annotations);

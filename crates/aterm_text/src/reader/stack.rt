@@ -3,7 +3,7 @@
 
 ghost use Rattle.std.specs.Prelude.{◌≡◌, [], ◌≤◌, length, take, drop, IfOk, IfSome, IfNone, OnOk, OnErr, Some, None};
 ghost use Rattle.term_core.specs.Tree.{Tree, with_annotations, with_children};
-ghost use Rattle.aterm_text.specs.inside.Stack.{Stack as Terms, no_terms, with_top, inside, first_closing};
+ghost use Rattle.aterm_text.specs.inside.TermStack.{TermStack as Terms, no_terms, with_top, inside, first_closing};
 ghost use Rattle.aterm_text.specs.inside.Depth.{depth};
 
 use crate::reader::open_brackets::{Bracket, OpenBrackets};
@@ -27,13 +27,13 @@ pub enum Opening {
 /// after its opening one. A name, a list or a tuple is pushed without children before its bracket
 /// is opened.
 #[derive(Drop)]
-pub struct Stack {
+pub struct TermStack {
     brackets: OpenBrackets,
     terms: Vec<Term>,
 }
 
-impl Model for Stack {
-    ghost use Rattle.aterm_text.specs.inside.Stack.{Stack as Terms, stack_code};
+impl Model for TermStack {
+    ghost use Rattle.aterm_text.specs.inside.TermStack.{TermStack as Terms, stack_code};
 
     ghost Value = { Terms };
 
@@ -46,12 +46,12 @@ impl Model for Stack {
     ghost invariant = { IsStack };
 }
 
-impl Stack {
+impl TermStack {
     /// An empty stack without open brackets.
-    pub fn new(alloc: Global) -> Stack
+    pub fn new(alloc: Global) -> TermStack
         ensures { result ≡ no_terms }
     {
-        Stack {
+        TermStack {
             brackets: OpenBrackets::new(alloc),
             terms: Vec::new(alloc),
         }
@@ -133,7 +133,7 @@ impl Stack {
     pub fn into_term(self) -> Option<Term>
         ensures { (t : Tree) → self ≡ with_top t no_terms → result ≡ Some t }
     {
-        let Stack { mut terms, .. } = self;
+        let TermStack { mut terms, .. } = self;
         terms.pop()
     }
 }

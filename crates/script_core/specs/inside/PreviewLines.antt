@@ -3,7 +3,7 @@ use Rattle.std.specs.Prelude.{ℕ, List, [], ◌∷◌}
 use Rattle.term_core.specs.Tree.{Tree}
 use Rattle.term_changes.specs.Entries.{Entry, slot_tree, subterm, subterm_annotations, slot_text}
 use Rattle.session_history.specs.Preview.{part_at}
-use Rattle.script_text.specs.Machine.{replacement_line}
+use Rattle.script_text.specs.Replies.{replacement_line}
 
 -- each is for a subterm
 abbrev pub AreSubterms : List Entry → Type 0

@@ -10,7 +10,7 @@ use Rattle.script_core.specs.declared.running.RunFault.{RunFault}
 use Rattle.script_core.specs.declared.running.RunFault.TheVariants.{Read, Write, Turns, Memory}
 use Rattle.script_text.specs.declared.framing.Framing.{Framing}
 use Rattle.script_text.specs.Handed.{Handed, handed, completed}
-use Rattle.script_text.specs.Machine.{Replying}
+use Rattle.script_text.specs.Replies.{Replying}
 use Rattle.script_text.specs.Splitting.{StandsBehind}
 use Rattle.script_text.specs.Split.{Split}
 use Rattle.script_text.specs.FedRight.{GoesBehind}

@@ -8,7 +8,7 @@ use session_history::Refusal;
 use std::alloc::Global;
 use std::str;
 use std::test::Fail;
-use strategy_check::Kind;
+use strategy_check::FaultKind;
 use term_core::Name;
 
 // The answer of a command, in a session whose budget is 1,000 steps.
@@ -20,15 +20,15 @@ fn answer(alloc: Global, session: &mut Session<NoPrimitives>, command: Piece<'_>
     answer
 }
 
-fn kind_of(word: &str) -> Option<Kind> {
+fn kind_of(word: &str) -> Option<FaultKind> {
     match word {
-        "parameter" => Some(Kind::Parameter),
-        "twice" => Some(Kind::Twice),
-        "clash" => Some(Kind::Clash),
-        "unknown" => Some(Kind::Unknown),
-        "undeclared" => Some(Kind::Undeclared),
-        "wild" => Some(Kind::Wild),
-        "primitive" => Some(Kind::Primitive),
+        "parameter" => Some(FaultKind::Parameter),
+        "twice" => Some(FaultKind::Twice),
+        "clash" => Some(FaultKind::Clash),
+        "unknown" => Some(FaultKind::Unknown),
+        "undeclared" => Some(FaultKind::Undeclared),
+        "wild" => Some(FaultKind::Wild),
+        "primitive" => Some(FaultKind::Primitive),
         _ => None,
     }
 }

@@ -5,7 +5,7 @@ use Rattle.session_history.specs.declared.refusal.Refusal.{Refusal}
 use Rattle.session_history.specs.declared.refusal.Refusal.TheVariants.{Memory, Term, Deep}
 use Rattle.aterm_text.specs.declared.reader.ReadFault.{ReadFault}
 use Rattle.aterm_text.specs.declared.reader.ReadFault.TheVariants.{Deep as DeepText, Term as NoTerm, Memory as NoMemory}
-use Rattle.script_text.specs.Machine.{Reply}
+use Rattle.script_text.specs.Replies.{Reply}
 use Rattle.script_text.specs.Handed.{text}
 use Rattle.script_text.specs.Answer.{takes_none}
 

@@ -4,8 +4,8 @@ use Rattle.std.specs.declared.option.Option.{Option}
 use Rattle.std.specs.Coded.{Coded, code_by, coded×, coded_option, coded_bool, coded_ℕ}
 use Rattle.script_text.specs.declared.framing.Framing.{Framing}
 use Rattle.script_text.specs.declared.framing.Framing.TheVariants.{Continued, Lines}
-use Rattle.script_text.specs.declared.splitter.Place.{Place}
-use Rattle.script_text.specs.declared.splitter.Place.TheVariants.{Start, Kept, Comment, Skipped}
+use Rattle.script_text.specs.declared.splitter.LineState.{LineState}
+use Rattle.script_text.specs.declared.splitter.LineState.TheVariants.{Start, Kept, Comment, Skipped}
 use Rattle.script_text.specs.declared.splitter.Unfinished.{Unfinished}
 use Rattle.script_text.specs.declared.splitter.Next.{Next}
 use Rattle.script_text.specs.declared.splitter.Next.TheVariants.{Begun, Nothing}
@@ -26,25 +26,25 @@ left_behind s (Some next) = begins_with s.framing next
 abbrev pub split_of : Unfinished → Option Next → Split
 split_of s next = record { to_hand_out = s.command; left = left_behind s next }
 
-abbrev to_bits : Place → Bool × Bool
+abbrev to_bits : LineState → Bool × Bool
 to_bits Start = (false, false)
 to_bits Kept = (false, true)
 to_bits Comment = (true, false)
 to_bits Skipped = (true, true)
 
-abbrev from_bits : Bool × Bool → Place
+abbrev from_bits : Bool × Bool → LineState
 from_bits (false, false) = Start
 from_bits (false, true) = Kept
 from_bits (true, false) = Comment
 from_bits (true, true) = Skipped
 
-pub from_to_bits : (p : Place) → from_bits (to_bits p) ≡ p
+pub from_to_bits : (p : LineState) → from_bits (to_bits p) ≡ p
 from_to_bits Start = refl
 from_to_bits Kept = refl
 from_to_bits Comment = refl
 from_to_bits Skipped = refl
 
-abbrev place_code : Coded Place
+abbrev place_code : Coded LineState
 place_code = code_by (Bool × Bool) (coded× coded_bool coded_bool) to_bits from_bits from_to_bits
 
 abbrev is_lines : Framing → Bool
@@ -64,7 +64,7 @@ framing_code = code_by Bool coded_bool is_lines from_is_lines from_to_lines
 
 abbrev unfinished_code : Coded Unfinished
 unfinished_code =
-    code_by ((Option Handed × Place) × (ℕ × Framing))
+    code_by ((Option Handed × LineState) × (ℕ × Framing))
     (coded× (coded× (coded_option handed_code) place_code) (coded× coded_ℕ framing_code))
     (λ s. ((s.command, s.place), (s.returns, s.framing)))
     (λ p. record { command = p.0.0; place = p.0.1; returns = p.1.0; framing = p.1.1 }) (λ _. refl)

@@ -11,7 +11,7 @@ use Rattle.strategy_check.specs.Programs.{Program}
 use Rattle.session_history.specs.Modules.{GivesProgram}
 use Rattle.session_history.specs.Applying.{ReadsAsStrategy, resolved_in}
 use Rattle.session_history.specs.History.{History}
-use Rattle.session_history.specs.Step.{Place, Resolving}
+use Rattle.session_history.specs.Acts.{Located, Resolving}
 use Rattle.session_history.specs.Unfolded.{IsPlaceOf}
 use Rattle.session_history.specs.declared.timeline.Timeline.{Timeline}
 use Rattle.session_history.specs.declared.refusal.Refusal.{Refusal}
@@ -31,7 +31,7 @@ pub record ResolvesTo (ps : List Signature) (t : Timeline) (name path text : Lis
   pub is : resolved_in program ps strategy ≡ Ok whole
 
 -- nothing is run
-abbrev pub Never : Place → Program → Resolved → Result (Unit {0}) Refusal → Type 0
+abbrev pub Never : Located → Program → Resolved → Result (Unit {0}) Refusal → Type 0
 Never place program whole outcome = ⊥
 
 -- This refusal comes before anything is run.

@@ -6,11 +6,11 @@ use Rattle.std.specs.Option.{option_or}
 use Rattle.term_core.specs.Tree.{Symbol, Head, application, list, tuple, same_name}
 use Rattle.strategy_syntax.specs.Syntax.{Pattern, wildcard, variable, at, number, compound, with_tail, annotated, Patterns, no_patterns, and_pattern, pattern_list, Strategy, id, fail, matches, builds, seq, guard, test, scope, uses, congruence, tail_congruence, all, one, some, child, rec, prim, Strategies, no_strategies, and_strategy, strategy_list}
 use Rattle.strategy_syntax.specs.Modules.{Definition}
-use Rattle.strategy_check.specs.declared.fault.Kind.{Kind}
-use Rattle.strategy_check.specs.declared.fault.Kind.TheVariants.{Parameter, Twice, Clash, Unknown, Undeclared, Wild, Primitive}
+use Rattle.strategy_check.specs.declared.fault.FaultKind.{FaultKind}
+use Rattle.strategy_check.specs.declared.fault.FaultKind.TheVariants.{Parameter, Twice, Clash, Unknown, Undeclared, Wild, Primitive}
 use Rattle.strategy_check.specs.declared.fault.CheckFault.{CheckFault}
 use Rattle.strategy_syntax.specs.Lists.{is_among, with_new}
-use Rattle.strategy_check.specs.Binders.{Binder, number_of}
+use Rattle.strategy_check.specs.Binders.{Binder, binder_number}
 use Rattle.strategy_check.specs.Tables.{DefinitionKey, same_key, Table, is_defined, is_declared, Modules, key_of, keys_of}
 use Rattle.strategy_check.specs.Faults.{Fault, IsTold, Primitives, is_primitive, underscore, parameter_names}
 
@@ -19,7 +19,7 @@ abbrev pub Tells : {X : Type 0} → Result X CheckFault → Option Fault → Typ
 Tells (Ok x) o = o ≡ None
 Tells (Err e) o = IsTold e o
 
-abbrev pub fault_when : Bool → Kind → Symbol → ℕ → ℕ → Option Fault
+abbrev pub fault_when : Bool → FaultKind → Symbol → ℕ → ℕ → Option Fault
 fault_when b kind f n m = if b then Some (record { kind = kind; name = f; first = n; second = m }) else None
 
 -- ---- names
@@ -61,7 +61,7 @@ abbrev mutual
 
 abbrev pub first_in_name : Table → List Binder → Symbol → ℕ → ℕ → Option Fault
 first_in_name T names f n m =
-    if is_some (number_of f names) then fault_when (not (n + m == 0)) Parameter f n m
+    if is_some (binder_number f names) then fault_when (not (n + m == 0)) Parameter f n m
     else fault_when (not (is_defined T f n m) && not ((m == 0) && is_declared T f n)) Unknown f n m
 
 abbrev pub first_in_primitive : Primitives → Symbol → ℕ → Option Fault

@@ -4,7 +4,7 @@ use Rattle.indexmap.specs.IndexSet.{insert_key}
 use Rattle.term_core.specs.Tree.{Symbol, Head, application, list, tuple}
 use Rattle.strategy_syntax.specs.Syntax.{Pattern, wildcard, variable, at, number, compound, with_tail, annotated, Patterns, no_patterns, and_pattern, pattern_list, Strategy, id, fail, matches, builds, seq, guard, test, scope, uses, congruence, tail_congruence, all, one, some, child, rec, prim, Strategies, no_strategies, and_strategy, strategy_list}
 use Rattle.strategy_syntax.specs.Modules.{Definition}
-use Rattle.strategy_check.specs.Binders.{Binder, number_of}
+use Rattle.strategy_check.specs.Binders.{Binder, binder_number}
 use Rattle.strategy_check.specs.Faults.{parameter_names}
 use Rattle.strategy_check.specs.Tables.{Table, same_key, same_constructor}
 
@@ -63,7 +63,7 @@ abbrev mutual
   mentioned_in_strategy names M (scope xs s) = mentioned_in_strategy names M s
   mentioned_in_strategy names M (uses f ss ps) =
       mentioned_in_patterns (mentioned_in_strategies names
-      (mentioned_by_name M (is_some (number_of f names)) f (length (strategy_list ss)) (length (pattern_list ps))) ss) ps
+      (mentioned_by_name M (is_some (binder_number f names)) f (length (strategy_list ss)) (length (pattern_list ps))) ss) ps
   mentioned_in_strategy names M (congruence h ss) = mentioned_in_strategies names M ss
   mentioned_in_strategy names M (tail_congruence ss s) =
       mentioned_in_strategy names (mentioned_in_strategies names M ss) s

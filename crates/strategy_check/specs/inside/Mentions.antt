@@ -5,7 +5,7 @@ use Rattle.term_core.specs.Tree.{Symbol, Head, application, list, tuple}
 use Rattle.strategy_syntax.specs.Syntax.{Pattern, wildcard, variable, at, number, compound, with_tail, annotated, Patterns, no_patterns, and_pattern, pattern_list, Strategy, id, fail, matches, builds, seq, guard, test, scope, uses, congruence, tail_congruence, all, one, some, child, rec, prim, Strategies, no_strategies, and_strategy, strategy_list}
 use Rattle.strategy_syntax.specs.Modules.{Definition}
 use Rattle.strategy_syntax.specs.Renumbering.{new_number}
-use Rattle.strategy_check.specs.Binders.{Binder, number_of}
+use Rattle.strategy_check.specs.Binders.{Binder, binder_number}
 use Rattle.strategy_check.specs.Faults.{parameter_names}
 use Rattle.strategy_check.specs.Tables.{Table, definition_number, is_defined, is_declared}
 
@@ -48,7 +48,7 @@ abbrev mutual
   Covered M names (test s) = Covered M names s
   Covered M names (scope xs s) = Covered M names s
   Covered M names (uses f ss ps) =
-      NameCovered M (is_some (number_of f names)) f (length (strategy_list ss)) (length (pattern_list ps))
+      NameCovered M (is_some (binder_number f names)) f (length (strategy_list ss)) (length (pattern_list ps))
       × (AllCovered M names ss × PatternsCovered M ps)
   Covered M names (congruence h ss) = AllCovered M names ss
   Covered M names (tail_congruence ss s) = AllCovered M names ss × Covered M names s

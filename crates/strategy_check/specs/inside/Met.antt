@@ -3,11 +3,11 @@
 use Rattle.std.specs.Prelude.{ℕ, ◌+◌, ◌||◌, List, ◌∷◌, length, if◌then◌else◌, is_some}
 use Rattle.term_core.specs.Tree.{Symbol}
 use Rattle.strategy_syntax.specs.Syntax.{Pattern, wildcard, variable, at, number, compound, with_tail, annotated, Patterns, no_patterns, and_pattern, Strategy, id, fail, matches, builds, seq, guard, test, scope, uses, congruence, tail_congruence, all, one, some, child, rec, prim, Strategies, no_strategies, and_strategy}
-use Rattle.strategy_check.specs.Binders.{Binder, number_of, bound_from}
+use Rattle.strategy_check.specs.Binders.{Binder, binder_number, bound_from}
 
 abbrev pub met : List Binder → ℕ → List Binder → Symbol → List Binder
 met hidden n found x =
-    if is_some (number_of x hidden) || is_some (number_of x found) then found
+    if is_some (binder_number x hidden) || is_some (binder_number x found) then found
     else record { name = x; number = n + length found } ∷ found
 
 abbrev mutual

@@ -8,7 +8,7 @@ use Rattle.strategy_meaning.specs.Scopes.{Scope, inside, numbers_from, arguments
 use Rattle.strategy_meaning.specs.Answer.{Answer, IfDone}
 use Rattle.strategy_meaning.specs.Meaning.{World, cut}
 use Rattle.strategy_machine.specs.Table.{scopes, scope_at, Starts}
-use Rattle.term_match.specs.Contents.{Contents}
+use Rattle.term_match.specs.CellContents.{CellContents}
 use Rattle.term_match.specs.Marks.{mark_of, Before, Stays}
 use Rattle.strategy_machine.specs.Trails.{Shows, path_of}
 use Rattle.strategy_machine.specs.Frames.{Meets, Opens}
@@ -41,7 +41,7 @@ abbrev pub HasCells : ℕ → Answer → Type 0
 HasCells n a = IfDone a (λ t B b e. length B ≡ n)
 
 -- the same with other cells, scopes and frames
-abbrev pub with_those : State → Contents → List Scope → List Frame → State
+abbrev pub with_those : State → CellContents → List Scope → List Frame → State
 with_those S C es fs = record { cells = C; scopes = es; trail = S.trail; level = S.level; frames = fs; steps = S.steps }
 
 abbrev pub frames_of : Machine → List Frame
@@ -62,7 +62,7 @@ pub record CellsEnd (m : Machine) (n : ℕ) (new : Machine) : Type 0 where
   pub there : n < length (scopes new.scopes)
   pub same : scope_at (scopes new.scopes) n ≡ scope_at (scopes m.scopes) n
   pub room : (W : World) (sub : Standing) (whole : Answer) (p : Standing) (a : Answer) → AnswersIn W sub whole (state_of m) p (cut (length m.cells.bindings) a)
-      → (D : Contents) (es : List Scope) → Starts (scopes new.scopes) es → Before (mark_of m.cells) (mark_of D) → Stays (mark_of m.cells) m.cells D
+      → (D : CellContents) (es : List Scope) → Starts (scopes new.scopes) es → Before (mark_of m.cells) (mark_of D) → Stays (mark_of m.cells) m.cells D
       → AnswersIn W sub whole (with_those (state_of m) D es (frames_of new)) p a
   pub part : new.part ≡ m.part
   pub rest : (new.cells ≡ m.cells) × (new.trail ≡ m.trail) × (new.arguments ≡ m.arguments) × (new.level ≡ m.level) × (new.steps ≡ m.steps)

@@ -1,8 +1,8 @@
 -- The open forms that a stack holds.
 use Rattle.std.specs.Prelude.{List, reverse}
-use Rattle.strategy_parse.specs.declared.parser.state.Frame.{Frame}
-use Rattle.strategy_parse.specs.declared.parser.stack.Stack.{Stack}
+use Rattle.strategy_parse.specs.declared.parser.state.ParserFrame.{ParserFrame}
+use Rattle.strategy_parse.specs.declared.parser.stack.ParserStack.{ParserStack}
 
 -- the innermost first
-unfoldable pub forms : Stack → List Frame
+unfoldable pub forms : ParserStack → List ParserFrame
 forms s = reverse s.frames.items

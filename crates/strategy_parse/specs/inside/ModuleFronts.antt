@@ -8,8 +8,8 @@ use Rattle.strategy_tokens.specs.declared.token.Token.{Token}
 use Rattle.strategy_tokens.specs.declared.token.Token.TheVariants.{Ident, Bad}
 use Rattle.strategy_tokens.specs.declared.token.Sign.{Sign}
 use Rattle.strategy_tokens.specs.declared.token.Sign.TheVariants.{OpenRound, CloseRound, Comma, Colon, Bar, Arrow as RightArrow, Star}
-use Rattle.strategy_parse.specs.declared.modules.sorts.Place.{Place}
-use Rattle.strategy_parse.specs.declared.modules.sorts.Place.TheVariants.{Begins, Named, Closed}
+use Rattle.strategy_parse.specs.declared.modules.sorts.SortState.{SortState}
+use Rattle.strategy_parse.specs.declared.modules.sorts.SortState.TheVariants.{Begins, Named, Closed}
 use Rattle.strategy_parse.specs.declared.modules.sorts.Turn.{Turn}
 use Rattle.strategy_parse.specs.declared.modules.sorts.Turn.TheVariants.{Reads, Ends, Stuck}
 use Rattle.strategy_tokens.specs.Marks.{is_mark}
@@ -94,7 +94,7 @@ abbrev pub begin_sort : ℕ → Token → Turn
 begin_sort n (Ident f) = Reads Named n
 begin_sort n t = Stuck
 
-abbrev pub sort_step : Place → ℕ → Token → Turn
+abbrev pub sort_step : SortState → ℕ → Token → Turn
 sort_step Begins n t = begin_sort n t
 sort_step Named n t = if (is_mark OpenRound t) then Reads Begins (suc n) else behind_sort n t
 sort_step Closed n t = behind_sort n t
@@ -102,13 +102,13 @@ sort_step Closed n t = behind_sort n t
 abbrev pub SortsLeft : Type 0
 SortsLeft = Option (ℕ × List Token)
 
-abbrev pub sort_goes : (Place → ℕ → SortsLeft) → SortsLeft → Turn → SortsLeft
+abbrev pub sort_goes : (SortState → ℕ → SortsLeft) → SortsLeft → Turn → SortsLeft
 sort_goes k end (Reads p d) = k p d
 sort_goes k end Ends = end
 sort_goes k end Stuck = None
 
 -- the number of sorts at the start, if n have begun, and the rest
-abbrev pub sorts_from : Place → ℕ → ℕ → List Token → SortsLeft
+abbrev pub sorts_from : SortState → ℕ → ℕ → List Token → SortsLeft
 sorts_from p d n [] = sort_goes (λ q e. None) (Some (n, [])) (sort_step p d Bad)
 sorts_from p d n (t ∷ ts) =
     sort_goes (λ q e. sorts_from q e n ts)

@@ -90,7 +90,7 @@ Left Constructors x m = DeclarationsLeft x m
 Left Definitions x m = DefinitionsLeft x m
 
 -- the module is what was read, followed by what the rest gives
-pub record Stands (p : Part) (cs : List Constructor) (ds : List Definition) (x : List Token)
+pub record SectionStands (p : Part) (cs : List Constructor) (ds : List Definition) (x : List Token)
     (m : Module) : Type 0 where
   pub behind : Module
   pub left : Left p x behind

@@ -3,11 +3,11 @@ use Rattle.std.specs.Prelude.{ℕ, suc, List, [], ◌∷◌, Some, None}
 use Rattle.std.specs.declared.option.Option.{Option}
 use Rattle.std.specs.Option.{option_map}
 use Rattle.strategy_tokens.specs.declared.token.Token.{Token}
-use Rattle.strategy_parse.specs.declared.parser.state.State.{State}
-use Rattle.strategy_parse.specs.declared.parser.state.Frame.{Frame}
-use Rattle.strategy_parse.specs.inside.Machine.{Next, goes, ends, stuck, step}
+use Rattle.strategy_parse.specs.declared.parser.state.ParserState.{ParserState}
+use Rattle.strategy_parse.specs.declared.parser.state.ParserFrame.{ParserFrame}
+use Rattle.strategy_parse.specs.inside.Parser.{Next, goes, ends, stuck, step}
 
-abbrev pub or_later : (State → List Frame → Option ℕ) → Next → Option ℕ
+abbrev pub or_later : (ParserState → List ParserFrame → Option ℕ) → Next → Option ℕ
 or_later k (goes q S) = option_map suc (k q S)
 or_later k (ends s) = Some 0
 or_later k stuck = Some 0

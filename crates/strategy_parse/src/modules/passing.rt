@@ -2,7 +2,7 @@
 //! passes over what the reader of its name reads, and takes nothing in.
 
 use crate::modules::sections::Part;
-use crate::modules::sorts::{Place, Turn, sort_step};
+use crate::modules::sorts::{SortState, Turn, sort_step};
 use crate::modules::tokens::{behind_ident, behind_mark, behind_word};
 use crate::parser::{Stop, pass_pattern, pass_strategy};
 use std::alloc::Global;
@@ -63,7 +63,7 @@ fn pass_sort<'a>(tokens: &'a [Token]) -> Result<&'a [Token], Stop<'a>> {
 #[tactic(auto, using(crate::proofs::SortLemmas::sorts_depth))]
 fn pass_sorts<'a>(tokens: &'a [Token], most: usize) -> Result<(usize, &'a [Token]), Stop<'a>> {
     let mut count = 1usize;
-    let mut place = Place::Begins;
+    let mut place = SortState::Begins;
     let mut depth = 0usize;
     let mut left = tokens;
     while let Some((token, rest)) = left.split_first() {
@@ -77,7 +77,7 @@ fn pass_sorts<'a>(tokens: &'a [Token], most: usize) -> Result<(usize, &'a [Token
                     return Ok((count, left));
                 }
                 count += 1;
-                place = Place::Begins;
+                place = SortState::Begins;
             }
             Turn::Stuck => return Err(Stop::At(left)),
         }

@@ -2,7 +2,7 @@
 
 ghost use Rattle.std.specs.Prelude.{◌≡◌, ◌<◌, ◌∷◌, length, IfOk, Err};
 ghost use Rattle.strategy_syntax.specs.Modules as syntax;
-ghost use Rattle.strategy_parse.specs.inside.Sections.{IsItem, Left, Stands, in_signature, next_part};
+ghost use Rattle.strategy_parse.specs.inside.Sections.{IsItem, Left, SectionStands, in_signature, next_part};
 
 use crate::modules::declarations::read_declaration;
 use crate::modules::definitions::read_definition;
@@ -71,13 +71,13 @@ pub fn read_next<'a>(
 ) -> Result<(Part, &'a [Token]), SyntaxFault>
     requires { tokens.now ≡ token.now ∷ rest.now }
     ensures forth { IfOk result (λ r. (m : syntax.Module)
-        → Stands part built.old.constructors.items built.old.definitions.items tokens.now m
-        → Stands r.0 built.new.constructors.items built.new.definitions.items r.1.now m) }
+        → SectionStands part built.old.constructors.items built.old.definitions.items tokens.now m
+        → SectionStands r.0 built.new.constructors.items built.new.definitions.items r.1.now m) }
     ensures back { IfOk result (λ r. (m : syntax.Module)
-        → Stands r.0 built.new.constructors.items built.new.definitions.items r.1.now m
-        → Stands part built.old.constructors.items built.old.definitions.items tokens.now m) }
+        → SectionStands r.0 built.new.constructors.items built.new.definitions.items r.1.now m
+        → SectionStands part built.old.constructors.items built.old.definitions.items tokens.now m) }
     ensures none { result ≡ Err SyntaxFault.Syntax → (m : syntax.Module)
-        → Stands part built.old.constructors.items built.old.definitions.items tokens.now m → ⊥ }
+        → SectionStands part built.old.constructors.items built.old.definitions.items tokens.now m → ⊥ }
     ensures shorter { IfOk result (λ r. length r.1.now < length tokens.now) }
 {
     if let Token::Reserved(word) = token {
@@ -127,13 +127,13 @@ fn read_item<'a>(
 ) -> Result<&'a [Token], SyntaxFault>
     requires { IsItem tokens.now }
     ensures forth { IfOk result (λ rest. (m : syntax.Module)
-        → Stands part built.old.constructors.items built.old.definitions.items tokens.now m
-        → Stands part built.new.constructors.items built.new.definitions.items rest.now m) }
+        → SectionStands part built.old.constructors.items built.old.definitions.items tokens.now m
+        → SectionStands part built.new.constructors.items built.new.definitions.items rest.now m) }
     ensures back { IfOk result (λ rest. (m : syntax.Module)
-        → Stands part built.new.constructors.items built.new.definitions.items rest.now m
-        → Stands part built.old.constructors.items built.old.definitions.items tokens.now m) }
+        → SectionStands part built.new.constructors.items built.new.definitions.items rest.now m
+        → SectionStands part built.old.constructors.items built.old.definitions.items tokens.now m) }
     ensures none { result ≡ Err SyntaxFault.Syntax → (m : syntax.Module)
-        → Stands part built.old.constructors.items built.old.definitions.items tokens.now m → ⊥ }
+        → SectionStands part built.old.constructors.items built.old.definitions.items tokens.now m → ⊥ }
     ensures shorter { IfOk result (λ rest. length rest.now < length tokens.now) }
 {
     match part {
@@ -157,17 +157,17 @@ fn read_item<'a>(
 fn add_declaration<'a>(tokens: &'a [Token], built: &mut Built) -> Result<&'a [Token], SyntaxFault>
     requires { IsItem tokens.now }
     ensures forth { IfOk result (λ rest. (m : syntax.Module)
-        → Stands Part.Constructors built.old.constructors.items built.old.definitions.items
+        → SectionStands Part.Constructors built.old.constructors.items built.old.definitions.items
         tokens.now m
-        → Stands Part.Constructors built.new.constructors.items built.new.definitions.items
+        → SectionStands Part.Constructors built.new.constructors.items built.new.definitions.items
         rest.now m) }
     ensures back { IfOk result (λ rest. (m : syntax.Module)
-        → Stands Part.Constructors built.new.constructors.items built.new.definitions.items
+        → SectionStands Part.Constructors built.new.constructors.items built.new.definitions.items
         rest.now m
-        → Stands Part.Constructors built.old.constructors.items built.old.definitions.items
+        → SectionStands Part.Constructors built.old.constructors.items built.old.definitions.items
         tokens.now m) }
     ensures none { result ≡ Err SyntaxFault.Syntax → (m : syntax.Module)
-        → Stands Part.Constructors built.old.constructors.items built.old.definitions.items
+        → SectionStands Part.Constructors built.old.constructors.items built.old.definitions.items
         tokens.now m → ⊥ }
     ensures shorter { IfOk result (λ rest. length rest.now < length tokens.now) }
 {
@@ -192,17 +192,17 @@ fn add_definition<'a>(
 ) -> Result<&'a [Token], SyntaxFault>
     requires { IsItem tokens.now }
     ensures forth { IfOk result (λ rest. (m : syntax.Module)
-        → Stands Part.Definitions built.old.constructors.items built.old.definitions.items
+        → SectionStands Part.Definitions built.old.constructors.items built.old.definitions.items
         tokens.now m
-        → Stands Part.Definitions built.new.constructors.items built.new.definitions.items
+        → SectionStands Part.Definitions built.new.constructors.items built.new.definitions.items
         rest.now m) }
     ensures back { IfOk result (λ rest. (m : syntax.Module)
-        → Stands Part.Definitions built.new.constructors.items built.new.definitions.items
+        → SectionStands Part.Definitions built.new.constructors.items built.new.definitions.items
         rest.now m
-        → Stands Part.Definitions built.old.constructors.items built.old.definitions.items
+        → SectionStands Part.Definitions built.old.constructors.items built.old.definitions.items
         tokens.now m) }
     ensures none { result ≡ Err SyntaxFault.Syntax → (m : syntax.Module)
-        → Stands Part.Definitions built.old.constructors.items built.old.definitions.items
+        → SectionStands Part.Definitions built.old.constructors.items built.old.definitions.items
         tokens.now m → ⊥ }
     ensures shorter { IfOk result (λ rest. length rest.now < length tokens.now) }
 {

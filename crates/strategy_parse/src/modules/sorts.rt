@@ -9,7 +9,7 @@ use strategy_tokens::{Sign, Token, is_mark};
 
 /// What was read last of a sort.
 #[derive(Clone, Copy)]
-pub enum Place {
+pub enum SortState {
     /// Nothing: an identifier has to come.
     Begins,
     /// An identifier, after which sorts in brackets may come.
@@ -22,7 +22,7 @@ pub enum Place {
 #[derive(Clone, Copy)]
 pub enum Turn {
     /// It was read, and this many brackets are open after it.
-    Reads(Place, usize),
+    Reads(SortState, usize),
     /// A whole sort ended before it.
     Ends,
     /// No sort continues with it.
@@ -30,22 +30,22 @@ pub enum Turn {
 }
 
 /// Reads one token, if `depth` brackets are open.
-pub fn sort_step(place: Place, depth: usize, token: &Token) -> Turn
+pub fn sort_step(place: SortState, depth: usize, token: &Token) -> Turn
     requires { depth < 2 ^ 63 }
     ensures { result ≡ sort_step place depth token.now }
 {
     match place {
-        Place::Begins => match token {
-            Token::Ident(_) => Turn::Reads(Place::Named, depth),
+        SortState::Begins => match token {
+            Token::Ident(_) => Turn::Reads(SortState::Named, depth),
             _ => Turn::Stuck,
         },
-        Place::Named => {
+        SortState::Named => {
             if is_mark(token, Sign::OpenRound) {
-                return Turn::Reads(Place::Begins, depth + 1);
+                return Turn::Reads(SortState::Begins, depth + 1);
             }
             behind_sort(depth, token)
         }
-        Place::Closed => behind_sort(depth, token),
+        SortState::Closed => behind_sort(depth, token),
     }
 }
 
@@ -57,10 +57,10 @@ fn behind_sort(depth: usize, token: &Token) -> Turn
         return Turn::Ends;
     }
     if is_mark(token, Sign::Comma) {
-        return Turn::Reads(Place::Begins, depth);
+        return Turn::Reads(SortState::Begins, depth);
     }
     if is_mark(token, Sign::CloseRound) {
-        return Turn::Reads(Place::Closed, depth - 1);
+        return Turn::Reads(SortState::Closed, depth - 1);
     }
     Turn::Stuck
 }
@@ -72,7 +72,7 @@ pub fn skip_sorts<'a>(tokens: &'a [Token]) -> Result<(usize, &'a [Token]), Synta
     ensures memory { result ≡ Err SyntaxFault.Memory → ⊥ }
 {
     let mut count = 1usize;
-    let mut place = Place::Begins;
+    let mut place = SortState::Begins;
     let mut depth = 0usize;
     let mut left = tokens;
     while let Some((token, rest)) = left.split_first() {
@@ -86,7 +86,7 @@ pub fn skip_sorts<'a>(tokens: &'a [Token]) -> Result<(usize, &'a [Token]), Synta
                     return Ok((count, left));
                 }
                 count += 1;
-                place = Place::Begins;
+                place = SortState::Begins;
             }
             Turn::Stuck => return Err(SyntaxFault::Syntax),
         }

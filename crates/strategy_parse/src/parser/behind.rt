@@ -3,8 +3,8 @@
 ghost use Rattle.std.specs.Prelude.{◌≡◌, IfOk, Err};
 ghost use Rattle.strategy_syntax.specs.Syntax as syntax;
 ghost use Rattle.strategy_parse.specs.inside.Forms.{forms};
-ghost use Rattle.strategy_parse.specs.inside.Machine as machine;
-ghost use Rattle.strategy_parse.specs.inside.Machine.{no_operand};
+ghost use Rattle.strategy_parse.specs.inside.Parser as machine;
+ghost use Rattle.strategy_parse.specs.inside.Parser.{no_operand};
 
 use crate::parser::expect::{expect, expect_word};
 use crate::parser::fault::SyntaxFault;
@@ -14,9 +14,10 @@ use crate::parser::make::{
     make_child, make_closure_where, make_guard, make_id, make_if, make_operated, make_rec,
     make_scope, make_seq, make_square_tail,
 };
-use crate::parser::stack::Stack;
+use crate::parser::stack::ParserStack;
 use crate::parser::state::{
-    Frame, Infix, Outcome, PatternFrame, PatternGroup, State, StrategyFrame, StrategyGroup,
+    Effect, Infix, ParserFrame, ParserState, PatternFrame, PatternGroup, StrategyFrame,
+    StrategyGroup,
 };
 use std::alloc::Global;
 use strategy_syntax::Strategy;
@@ -26,21 +27,21 @@ use strategy_tokens::{Keyword, Sign, Token, is_mark, is_word};
 pub fn behind(
     alloc: Global,
     strategy: Strategy,
-    stack: &mut Stack,
+    stack: &mut ParserStack,
     token: &Token,
-) -> Result<Outcome, SyntaxFault>
+) -> Result<Effect, SyntaxFault>
     ensures ok { IfOk result (λ o.
         machine.behind strategy (forms stack.old) token.now ≡ machine.leads o (forms stack.new)) }
     ensures none { result ≡ Err SyntaxFault.Syntax →
         machine.behind strategy (forms stack.old) token.now ≡ machine.stuck }
 {
     if is_mark(token, Sign::FatArrow) {
-        stack.push(Frame::Pattern(PatternFrame::Matched(strategy)))?;
-        return Ok(Outcome::Goes(State::Pattern));
+        stack.push(ParserFrame::Pattern(PatternFrame::Matched(strategy)))?;
+        return Ok(Effect::Goes(ParserState::Pattern));
     }
     if is_mark(token, Sign::Semicolon) {
-        stack.push(Frame::Operand(Infix::Before, strategy))?;
-        return Ok(Outcome::Goes(State::Strategy));
+        stack.push(ParserFrame::Operand(Infix::Before, strategy))?;
+        return Ok(Effect::Goes(ParserState::Strategy));
     }
     behind_arrow(alloc, strategy, stack, token)
 }
@@ -51,9 +52,9 @@ pub fn behind(
 fn behind_arrow(
     alloc: Global,
     last: Strategy,
-    stack: &mut Stack,
+    stack: &mut ParserStack,
     token: &Token,
-) -> Result<Outcome, SyntaxFault>
+) -> Result<Effect, SyntaxFault>
     ensures ok { IfOk result (λ o.
         machine.behind_arrow last (forms stack.old) token.now ≡ machine.leads o (forms stack.new)) }
     ensures none { result ≡ Err SyntaxFault.Syntax →
@@ -68,8 +69,8 @@ fn behind_arrow(
             drop(strategy);
             return Err(SyntaxFault::Syntax);
         }
-        stack.push(Frame::Operand(Infix::Otherwise, strategy))?;
-        return Ok(Outcome::Goes(State::Strategy));
+        stack.push(ParserFrame::Operand(Infix::Otherwise, strategy))?;
+        return Ok(Effect::Goes(ParserState::Strategy));
     }
     behind_seq(alloc, strategy, stack, token)
 }
@@ -78,9 +79,9 @@ fn behind_arrow(
 fn behind_seq(
     alloc: Global,
     strategy: Strategy,
-    stack: &mut Stack,
+    stack: &mut ParserStack,
     token: &Token,
-) -> Result<Outcome, SyntaxFault>
+) -> Result<Effect, SyntaxFault>
     ensures ok { IfOk result (λ o.
         machine.behind_seq strategy (forms stack.old) token.now
         ≡ machine.leads o (forms stack.new)) }
@@ -88,13 +89,13 @@ fn behind_seq(
         machine.behind_seq strategy (forms stack.old) token.now ≡ machine.stuck }
 {
     if is_mark(token, Sign::LeftChoice) {
-        stack.push(Frame::Operand(Infix::Guarded, strategy))?;
-        stack.push(Frame::Operand(Infix::Otherwise, make_id()))?;
-        return Ok(Outcome::Goes(State::Strategy));
+        stack.push(ParserFrame::Operand(Infix::Guarded, strategy))?;
+        stack.push(ParserFrame::Operand(Infix::Otherwise, make_id()))?;
+        return Ok(Effect::Goes(ParserState::Strategy));
     }
     if is_mark(token, Sign::Less) {
-        stack.push(Frame::Operand(Infix::Guarded, strategy))?;
-        return Ok(Outcome::Goes(State::Strategy));
+        stack.push(ParserFrame::Operand(Infix::Guarded, strategy))?;
+        return Ok(Effect::Goes(ParserState::Strategy));
     }
     behind_choice(alloc, strategy, stack, token)
 }
@@ -104,9 +105,9 @@ fn behind_seq(
 fn behind_choice(
     alloc: Global,
     last: Strategy,
-    stack: &mut Stack,
+    stack: &mut ParserStack,
     token: &Token,
-) -> Result<Outcome, SyntaxFault>
+) -> Result<Effect, SyntaxFault>
     ensures ok { IfOk result (λ o.
         machine.behind_choice last (forms stack.old) token.now
         ≡ machine.leads o (forms stack.new)) }
@@ -129,9 +130,9 @@ fn behind_choice(
 fn leave_choice(
     alloc: Global,
     strategy: Strategy,
-    stack: &mut Stack,
+    stack: &mut ParserStack,
     token: &Token,
-) -> Result<Outcome, SyntaxFault>
+) -> Result<Effect, SyntaxFault>
     requires { no_operand Infix.Otherwise (forms stack.old) }
     ensures ok { IfOk result (λ o.
         machine.behind_choice strategy (forms stack.old) token.now
@@ -140,13 +141,13 @@ fn leave_choice(
         machine.behind_choice strategy (forms stack.old) token.now ≡ machine.stuck }
 {
     match stack.pop() {
-        Some(Frame::Strategy(frame)) => in_frame(alloc, strategy, frame, stack, token),
+        Some(ParserFrame::Strategy(frame)) => in_frame(alloc, strategy, frame, stack, token),
         Some(other) => {
             drop(other);
             drop(strategy);
             Err(SyntaxFault::Syntax)
         }
-        None => Ok(Outcome::Ends(strategy)),
+        None => Ok(Effect::Ends(strategy)),
     }
 }
 
@@ -155,9 +156,9 @@ fn in_frame(
     alloc: Global,
     strategy: Strategy,
     frame: StrategyFrame,
-    stack: &mut Stack,
+    stack: &mut ParserStack,
     token: &Token,
-) -> Result<Outcome, SyntaxFault>
+) -> Result<Effect, SyntaxFault>
     ensures ok { IfOk result (λ o.
         machine.in_frame strategy frame (forms stack.old) token.now
         ≡ machine.leads o (forms stack.new)) }
@@ -167,45 +168,45 @@ fn in_frame(
     match frame {
         StrategyFrame::Operator(operator) => {
             expect(token, Sign::CloseRound)?;
-            Ok(Outcome::Goes(State::Read(make_operated(alloc, operator, strategy)?)))
+            Ok(Effect::Goes(ParserState::Read(make_operated(alloc, operator, strategy)?)))
         }
         StrategyFrame::Rec(name) => {
             expect(token, Sign::CloseRound)?;
-            Ok(Outcome::Goes(State::Read(make_rec(alloc, name, strategy)?)))
+            Ok(Effect::Goes(ParserState::Read(make_rec(alloc, name, strategy)?)))
         }
         StrategyFrame::Child(index) => {
             expect(token, Sign::CloseRound)?;
-            Ok(Outcome::Goes(State::Read(make_child(alloc, index, strategy)?)))
+            Ok(Effect::Goes(ParserState::Read(make_child(alloc, index, strategy)?)))
         }
         StrategyFrame::Scope(names) => {
             expect(token, Sign::CloseCurly)?;
-            Ok(Outcome::Goes(State::Read(make_scope(alloc, names, strategy)?)))
+            Ok(Effect::Goes(ParserState::Read(make_scope(alloc, names, strategy)?)))
         }
         StrategyFrame::Application => {
             expect(token, Sign::Greater)?;
-            stack.push(Frame::Pattern(PatternFrame::Applied(strategy)))?;
-            Ok(Outcome::Goes(State::Pattern))
+            stack.push(ParserFrame::Pattern(PatternFrame::Applied(strategy)))?;
+            Ok(Effect::Goes(ParserState::Pattern))
         }
         StrategyFrame::If => {
             expect_word(token, Keyword::Then)?;
-            stack.push(Frame::Strategy(StrategyFrame::Then(strategy)))?;
-            Ok(Outcome::Goes(State::Strategy))
+            stack.push(ParserFrame::Strategy(StrategyFrame::Then(strategy)))?;
+            Ok(Effect::Goes(ParserState::Strategy))
         }
         StrategyFrame::Then(tested) => behind_then(alloc, tested, strategy, stack, token),
         StrategyFrame::Else(tested, then) => {
             expect_word(token, Keyword::End)?;
-            Ok(Outcome::Goes(State::Read(make_if(alloc, tested, then, strategy)?)))
+            Ok(Effect::Goes(ParserState::Read(make_if(alloc, tested, then, strategy)?)))
         }
         StrategyFrame::Where(left, right) => {
             expect(token, Sign::Backslash)?;
-            Ok(Outcome::Goes(State::Read(make_closure_where(alloc, left, right, strategy)?)))
+            Ok(Effect::Goes(ParserState::Read(make_closure_where(alloc, left, right, strategy)?)))
         }
         StrategyFrame::List(group, done) => {
             behind_element(alloc, group, done.with(strategy)?, stack, token)
         }
         StrategyFrame::Tail(done) => {
             expect(token, Sign::CloseSquare)?;
-            Ok(Outcome::Goes(State::Read(make_square_tail(alloc, done, strategy)?)))
+            Ok(Effect::Goes(ParserState::Read(make_square_tail(alloc, done, strategy)?)))
         }
     }
 }
@@ -214,9 +215,9 @@ fn behind_then(
     alloc: Global,
     tested: Strategy,
     strategy: Strategy,
-    stack: &mut Stack,
+    stack: &mut ParserStack,
     token: &Token,
-) -> Result<Outcome, SyntaxFault>
+) -> Result<Effect, SyntaxFault>
     ensures ok { IfOk result (λ o.
         machine.in_frame strategy (StrategyFrame.Then tested) (forms stack.old) token.now
         ≡ machine.leads o (forms stack.new)) }
@@ -225,11 +226,11 @@ fn behind_then(
         ≡ machine.stuck }
 {
     if is_word(token, Keyword::Else) {
-        stack.push(Frame::Strategy(StrategyFrame::Else(tested, strategy)))?;
-        return Ok(Outcome::Goes(State::Strategy));
+        stack.push(ParserFrame::Strategy(StrategyFrame::Else(tested, strategy)))?;
+        return Ok(Effect::Goes(ParserState::Strategy));
     }
     if is_word(token, Keyword::End) {
-        return Ok(Outcome::Goes(State::Read(make_if(alloc, tested, strategy, make_id())?)));
+        return Ok(Effect::Goes(ParserState::Read(make_if(alloc, tested, strategy, make_id())?)));
     }
     drop(strategy);
     drop(tested);
@@ -241,9 +242,9 @@ fn behind_element(
     alloc: Global,
     group: StrategyGroup,
     done: StrategyList,
-    stack: &mut Stack,
+    stack: &mut ParserStack,
     token: &Token,
-) -> Result<Outcome, SyntaxFault>
+) -> Result<Effect, SyntaxFault>
     ensures ok { IfOk result (λ o.
         machine.behind_element group done (forms stack.old) token.now
         ≡ machine.leads o (forms stack.new)) }
@@ -251,14 +252,14 @@ fn behind_element(
         machine.behind_element group done (forms stack.old) token.now ≡ machine.stuck }
 {
     if is_mark(token, Sign::Comma) {
-        stack.push(Frame::Strategy(StrategyFrame::List(group, done)))?;
-        return Ok(Outcome::Goes(State::Strategy));
+        stack.push(ParserFrame::Strategy(StrategyFrame::List(group, done)))?;
+        return Ok(Effect::Goes(ParserState::Strategy));
     }
     if is_mark(token, Sign::Bar) {
         return behind_bar(group, done, stack);
     }
     if is_mark(token, closing_of(&group)) {
-        return Ok(Outcome::Goes(State::Read(make_group(alloc, group, done))));
+        return Ok(Effect::Goes(ParserState::Read(make_group(alloc, group, done))));
     }
     drop(done);
     drop(group);
@@ -269,8 +270,8 @@ fn behind_element(
 fn behind_bar(
     group: StrategyGroup,
     done: StrategyList,
-    stack: &mut Stack,
-) -> Result<Outcome, SyntaxFault>
+    stack: &mut ParserStack,
+) -> Result<Effect, SyntaxFault>
     ensures ok { IfOk result (λ o.
         machine.behind_bar group done (forms stack.old) ≡ machine.leads o (forms stack.new)) }
     ensures none { result ≡ Err SyntaxFault.Syntax →
@@ -279,11 +280,11 @@ fn behind_bar(
     match group {
         StrategyGroup::Round => Err(SyntaxFault::Syntax),
         StrategyGroup::Square => {
-            stack.push(Frame::Strategy(StrategyFrame::Tail(done)))?;
-            Ok(Outcome::Goes(State::Strategy))
+            stack.push(ParserFrame::Strategy(StrategyFrame::Tail(done)))?;
+            Ok(Effect::Goes(ParserState::Strategy))
         }
         StrategyGroup::Arguments(name) => {
-            Ok(Outcome::Goes(State::FirstPattern(PatternGroup::Terms(name, done))))
+            Ok(Effect::Goes(ParserState::FirstPattern(PatternGroup::Terms(name, done))))
         }
     }
 }

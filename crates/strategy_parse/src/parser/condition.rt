@@ -4,12 +4,12 @@
 ghost use Rattle.std.specs.Prelude.{◌≡◌, ◌++◌, [], IfOk, Err, Some, None};
 ghost use Rattle.strategy_parse.specs.inside.Forms.{forms};
 ghost use Rattle.strategy_parse.specs.inside.FreeNames.{seen, names_seen};
-ghost use Rattle.strategy_parse.specs.inside.Machine.{front, begin};
+ghost use Rattle.strategy_parse.specs.inside.Parser.{front, begin};
 
 use crate::parser::fault::SyntaxFault;
 use crate::parser::lists::NameList;
-use crate::parser::stack::Stack;
-use crate::parser::state::{Outcome, State};
+use crate::parser::stack::ParserStack;
+use crate::parser::state::{Effect, ParserState};
 use crate::parser::step::step;
 use std::alloc::Global;
 use strategy_syntax::Strategy;
@@ -39,21 +39,21 @@ pub fn read_condition<'a>(
     ensures none { result ≡ Err SyntaxFault.Syntax → front (begin []) tokens.now ≡ None }
 {
     let mut names = before;
-    let mut state = State::Strategy;
-    let mut stack = Stack::counting(alloc);
+    let mut state = ParserState::Strategy;
+    let mut stack = ParserStack::counting(alloc);
     let mut left = tokens;
     while let Some((token, rest)) = left.split_first() {
         names = with_seen(names, &state, &stack, token)?;
         match step(alloc, state, &mut stack, token)? {
-            Outcome::Goes(next) => state = next,
-            Outcome::Ends(strategy) => return Ok((Condition { strategy, names }, left)),
+            Effect::Goes(next) => state = next,
+            Effect::Ends(strategy) => return Ok((Condition { strategy, names }, left)),
         }
         left = rest;
     }
     names = with_seen(names, &state, &stack, &Token::Bad)?;
     match step(alloc, state, &mut stack, &Token::Bad)? {
-        Outcome::Ends(strategy) => Ok((Condition { strategy, names }, left)),
-        Outcome::Goes(next) => {
+        Effect::Ends(strategy) => Ok((Condition { strategy, names }, left)),
+        Effect::Goes(next) => {
             drop(next);
             Err(SyntaxFault::Syntax)
         }
@@ -64,13 +64,13 @@ pub fn read_condition<'a>(
 // form binds it.
 fn with_seen(
     names: NameList,
-    state: &State,
-    stack: &Stack,
+    state: &ParserState,
+    stack: &ParserStack,
     token: &Token,
 ) -> Result<NameList, NoMemory>
     ensures { IfOk result (λ more. more ≡ names ++ seen state.now (forms stack.now) token.now) }
 {
-    let State::Named(name) = state else {
+    let ParserState::Named(name) = state else {
         return Ok(names);
     };
     if is_mark(token, Sign::OpenRound) {

@@ -7,7 +7,7 @@ ghost use Rattle.strategy_syntax.specs.Syntax.{patterns_of};
 
 use crate::parser::closure::add_variables;
 use crate::parser::lists::NameList;
-use crate::parser::state::{Frame, PatternFrame, StrategyFrame};
+use crate::parser::state::{ParserFrame, PatternFrame, StrategyFrame};
 use std::alloc::Global;
 use std::collections::HashMap;
 use term_core::{Name, NoMemory};
@@ -63,14 +63,14 @@ fn lower_one(counts: &mut HashMap<Name, usize>, name: &Name) -> Result<(), NoMem
 pub fn raise_named(
     alloc: Global,
     counts: &mut HashMap<Name, usize>,
-    frame: &Frame,
+    frame: &ParserFrame,
 ) -> Result<(), NoMemory>
     ensures { OnOk result (Raised counts.old counts.new (named frame.now)) }
 {
     match frame {
-        Frame::Strategy(StrategyFrame::Scope(names)) => raise(counts, names.as_slice()),
-        Frame::Strategy(StrategyFrame::Where(left, _))
-        | Frame::Pattern(PatternFrame::Right(left)) => {
+        ParserFrame::Strategy(StrategyFrame::Scope(names)) => raise(counts, names.as_slice()),
+        ParserFrame::Strategy(StrategyFrame::Where(left, _))
+        | ParserFrame::Pattern(PatternFrame::Right(left)) => {
             let names = add_variables(left, NameList::new(alloc))?;
             raise(counts, names.as_slice())
         }
@@ -82,14 +82,14 @@ pub fn raise_named(
 pub fn lower_named(
     alloc: Global,
     counts: &mut HashMap<Name, usize>,
-    frame: &Frame,
+    frame: &ParserFrame,
 ) -> Result<(), NoMemory>
     ensures { OnOk result (Raised counts.new counts.old (named frame.now)) }
 {
     match frame {
-        Frame::Strategy(StrategyFrame::Scope(names)) => lower(counts, names.as_slice()),
-        Frame::Strategy(StrategyFrame::Where(left, _))
-        | Frame::Pattern(PatternFrame::Right(left)) => {
+        ParserFrame::Strategy(StrategyFrame::Scope(names)) => lower(counts, names.as_slice()),
+        ParserFrame::Strategy(StrategyFrame::Where(left, _))
+        | ParserFrame::Pattern(PatternFrame::Right(left)) => {
             let names = add_variables(left, NameList::new(alloc))?;
             lower(counts, names.as_slice())
         }
@@ -98,11 +98,11 @@ pub fn lower_named(
 }
 
 /// 1 for the left side of a closure, which hides every name.
-pub fn lefts_of(frame: &Frame) -> usize
+pub fn lefts_of(frame: &ParserFrame) -> usize
     ensures { result ≡ lefts_of frame.now }
 {
     match frame {
-        Frame::Pattern(PatternFrame::Left) => 1,
+        ParserFrame::Pattern(PatternFrame::Left) => 1,
         _ => 0,
     }
 }
@@ -114,7 +114,7 @@ pub fn raise_form(
     alloc: Global,
     counts: &mut HashMap<Name, usize>,
     lefts: usize,
-    frame: &Frame,
+    frame: &ParserFrame,
 ) -> Option<usize>
     ensures counting { IfSome result (λ _. counting ≡ true) }
     ensures names { OnSome result (Raised counts.old counts.new (named frame.now)) }
@@ -135,7 +135,7 @@ pub fn lower_form(
     alloc: Global,
     counts: &mut HashMap<Name, usize>,
     lefts: usize,
-    frame: &Frame,
+    frame: &ParserFrame,
 ) -> Result<usize, NoMemory>
     ensures names { OnOk result (Raised counts.new counts.old (named frame.now)) }
     ensures lefts { IfOk result (λ less. lefts ≡ less + lefts_of frame.now) }

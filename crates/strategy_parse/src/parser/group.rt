@@ -4,10 +4,10 @@
 ghost use Rattle.std.specs.Prelude.{◌≡◌, IfOk};
 ghost use Rattle.strategy_syntax.specs.Syntax as syntax;
 ghost use Rattle.strategy_parse.specs.Core.{in_brackets};
-ghost use Rattle.strategy_parse.specs.inside.Machine as machine;
+ghost use Rattle.strategy_parse.specs.inside.Parser as machine;
 
 use crate::parser::lists::{PatternList, StrategyList};
-use crate::parser::state::{PatternGroup, State, StrategyGroup};
+use crate::parser::state::{ParserState, PatternGroup, StrategyGroup};
 use std::alloc::Global;
 use strategy_syntax::{Head, Pattern, PatternForm, Strategy, StrategyForm};
 use strategy_tokens::Sign;
@@ -73,31 +73,31 @@ pub fn close_patterns(
     alloc: Global,
     group: PatternGroup,
     done: PatternList,
-) -> Result<State, NoMemory>
+) -> Result<ParserState, NoMemory>
     ensures { IfOk result (λ state. state ≡ machine.close_patterns group done) }
 {
     let patterns = done.into_vec();
     match group {
         PatternGroup::Application(name) => {
             let head = Head::Application(name);
-            Ok(State::Base(Pattern::new(PatternForm::Compound(head, patterns))))
+            Ok(ParserState::Base(Pattern::new(PatternForm::Compound(head, patterns))))
         }
         PatternGroup::List => {
-            Ok(State::Base(Pattern::new(PatternForm::Compound(Head::List, patterns))))
+            Ok(ParserState::Base(Pattern::new(PatternForm::Compound(Head::List, patterns))))
         }
         PatternGroup::Tuple => {
-            Ok(State::Base(Pattern::new(PatternForm::Compound(Head::Tuple, patterns))))
+            Ok(ParserState::Base(Pattern::new(PatternForm::Compound(Head::Tuple, patterns))))
         }
         PatternGroup::Annotations(pattern) => {
             let pattern = Box::new(alloc, pattern)?;
-            Ok(State::Whole(Pattern::new(PatternForm::Annotated(pattern, patterns))))
+            Ok(ParserState::Whole(Pattern::new(PatternForm::Annotated(pattern, patterns))))
         }
         PatternGroup::Terms(name, strategies) => {
             let strategies = strategies.into_vec();
-            Ok(State::Read(Strategy::new(StrategyForm::Use(name, strategies, patterns))))
+            Ok(ParserState::Read(Strategy::new(StrategyForm::Use(name, strategies, patterns))))
         }
         PatternGroup::Prim(name) => {
-            Ok(State::Read(Strategy::new(StrategyForm::Prim(name, patterns))))
+            Ok(ParserState::Read(Strategy::new(StrategyForm::Prim(name, patterns))))
         }
     }
 }

@@ -3,39 +3,41 @@
 ghost use Rattle.std.specs.Prelude.{◌≡◌, ◌∷◌, [], IfOk, Err, List};
 ghost use Rattle.strategy_syntax.specs.Syntax as syntax;
 ghost use Rattle.strategy_parse.specs.inside.Forms.{forms};
-ghost use Rattle.strategy_parse.specs.inside.Machine as machine;
-ghost use Rattle.strategy_parse.specs.inside.Machine.{no_at};
-ghost use Rattle.strategy_parse.specs.declared.parser.state.Frame.{Frame};
+ghost use Rattle.strategy_parse.specs.inside.Parser as machine;
+ghost use Rattle.strategy_parse.specs.inside.Parser.{no_at};
+ghost use Rattle.strategy_parse.specs.declared.parser.state.ParserFrame.{ParserFrame};
 
 use crate::parser::behind::behind;
 use crate::parser::fault::SyntaxFault;
 use crate::parser::group::{close_patterns, closing_sign_of};
 use crate::parser::lists::PatternList;
 use crate::parser::make::{make_build, make_closure, make_match, make_seq};
-use crate::parser::stack::Stack;
-use crate::parser::state::{Frame, Outcome, PatternFrame, PatternGroup, State, StrategyFrame};
+use crate::parser::stack::ParserStack;
+use crate::parser::state::{
+    Effect, ParserFrame, ParserState, PatternFrame, PatternGroup, StrategyFrame,
+};
 use std::alloc::Global;
 use strategy_syntax::{Head, Pattern, PatternForm};
 use strategy_tokens::{Keyword, Sign, Token, is_mark, is_word};
 use term_core::{Name, NoMemory};
 
 /// A pattern has to begin here.
-pub fn begin_pattern(alloc: Global, token: &Token) -> Result<Outcome, SyntaxFault>
-    ensures ok { IfOk result (λ o. (S : List Frame) →
+pub fn begin_pattern(alloc: Global, token: &Token) -> Result<Effect, SyntaxFault>
+    ensures ok { IfOk result (λ o. (S : List ParserFrame) →
         machine.begin_pattern S token.now ≡ machine.leads o S) }
-    ensures none { result ≡ Err SyntaxFault.Syntax → (S : List Frame) →
+    ensures none { result ≡ Err SyntaxFault.Syntax → (S : List ParserFrame) →
         machine.begin_pattern S token.now ≡ machine.stuck }
 {
     match token {
-        Token::Wildcard => Ok(Outcome::Goes(State::Base(Pattern::new(PatternForm::Wildcard)))),
-        Token::Ident(name) => Ok(Outcome::Goes(State::Named(name.try_clone()?))),
+        Token::Wildcard => Ok(Effect::Goes(ParserState::Base(Pattern::new(PatternForm::Wildcard)))),
+        Token::Ident(name) => Ok(Effect::Goes(ParserState::Named(name.try_clone()?))),
         Token::Integer(value) => {
-            Ok(Outcome::Goes(State::Base(Pattern::new(PatternForm::Integer(*value)))))
+            Ok(Effect::Goes(ParserState::Base(Pattern::new(PatternForm::Integer(*value)))))
         }
         Token::Text(name) => {
             let head = Head::Application(name.try_clone()?);
             let pattern = Pattern::new(PatternForm::Compound(head, Vec::new(alloc)));
-            Ok(Outcome::Goes(State::Base(pattern)))
+            Ok(Effect::Goes(ParserState::Base(pattern)))
         }
         Token::Sign(sign) => open_pattern(*sign),
         _ => Err(SyntaxFault::Syntax),
@@ -43,15 +45,15 @@ pub fn begin_pattern(alloc: Global, token: &Token) -> Result<Outcome, SyntaxFaul
 }
 
 // A list or a tuple of patterns has to be opened here.
-fn open_pattern(sign: Sign) -> Result<Outcome, SyntaxFault>
-    ensures ok { IfOk result (λ o. (S : List Frame) →
+fn open_pattern(sign: Sign) -> Result<Effect, SyntaxFault>
+    ensures ok { IfOk result (λ o. (S : List ParserFrame) →
         machine.open_pattern S sign ≡ machine.leads o S) }
-    ensures none { result ≡ Err SyntaxFault.Syntax → (S : List Frame) →
+    ensures none { result ≡ Err SyntaxFault.Syntax → (S : List ParserFrame) →
         machine.open_pattern S sign ≡ machine.stuck }
 {
     match sign {
-        Sign::OpenSquare => Ok(Outcome::Goes(State::FirstPattern(PatternGroup::List))),
-        Sign::OpenRound => Ok(Outcome::Goes(State::FirstPattern(PatternGroup::Tuple))),
+        Sign::OpenSquare => Ok(Effect::Goes(ParserState::FirstPattern(PatternGroup::List))),
+        Sign::OpenRound => Ok(Effect::Goes(ParserState::FirstPattern(PatternGroup::Tuple))),
         _ => Err(SyntaxFault::Syntax),
     }
 }
@@ -60,9 +62,9 @@ fn open_pattern(sign: Sign) -> Result<Outcome, SyntaxFault>
 pub fn first_pattern(
     alloc: Global,
     group: PatternGroup,
-    stack: &mut Stack,
+    stack: &mut ParserStack,
     token: &Token,
-) -> Result<Outcome, SyntaxFault>
+) -> Result<Effect, SyntaxFault>
     ensures ok { IfOk result (λ o.
         machine.first_pattern group (forms stack.old) token.now
         ≡ machine.leads o (forms stack.new)) }
@@ -70,9 +72,9 @@ pub fn first_pattern(
         machine.first_pattern group (forms stack.old) token.now ≡ machine.stuck }
 {
     if is_mark(token, closing_sign_of(&group)) {
-        return Ok(Outcome::Goes(close_patterns(alloc, group, PatternList::new(alloc))?));
+        return Ok(Effect::Goes(close_patterns(alloc, group, PatternList::new(alloc))?));
     }
-    stack.push(Frame::Pattern(PatternFrame::List(group, PatternList::new(alloc))))?;
+    stack.push(ParserFrame::Pattern(PatternFrame::List(group, PatternList::new(alloc))))?;
     begin_pattern(alloc, token)
 }
 
@@ -80,9 +82,9 @@ pub fn first_pattern(
 pub fn behind_base(
     alloc: Global,
     pattern: Pattern,
-    stack: &mut Stack,
+    stack: &mut ParserStack,
     token: &Token,
-) -> Result<Outcome, SyntaxFault>
+) -> Result<Effect, SyntaxFault>
     ensures ok { IfOk result (λ o.
         machine.behind_base pattern (forms stack.old) token.now
         ≡ machine.leads o (forms stack.new)) }
@@ -91,7 +93,7 @@ pub fn behind_base(
 {
     if is_mark(token, Sign::OpenCurly) {
         let group = PatternGroup::Annotations(pattern);
-        return Ok(Outcome::Goes(State::FirstPattern(group)));
+        return Ok(Effect::Goes(ParserState::FirstPattern(group)));
     }
     behind_pattern(alloc, pattern, stack, token)
 }
@@ -101,9 +103,9 @@ pub fn behind_base(
 pub fn behind_pattern(
     alloc: Global,
     last: Pattern,
-    stack: &mut Stack,
+    stack: &mut ParserStack,
     token: &Token,
-) -> Result<Outcome, SyntaxFault>
+) -> Result<Effect, SyntaxFault>
     ensures ok { IfOk result (λ o.
         machine.behind_pattern last (forms stack.old) token.now
         ≡ machine.leads o (forms stack.new)) }
@@ -128,9 +130,9 @@ fn make_at(alloc: Global, name: Name, pattern: Pattern) -> Result<Pattern, NoMem
 fn leave_pattern(
     alloc: Global,
     pattern: Pattern,
-    stack: &mut Stack,
+    stack: &mut ParserStack,
     token: &Token,
-) -> Result<Outcome, SyntaxFault>
+) -> Result<Effect, SyntaxFault>
     requires { no_at (forms stack.old) }
     ensures ok { IfOk result (λ o.
         machine.behind_pattern pattern (forms stack.old) token.now
@@ -139,7 +141,7 @@ fn leave_pattern(
         machine.behind_pattern pattern (forms stack.old) token.now ≡ machine.stuck }
 {
     match stack.pop() {
-        Some(Frame::Pattern(frame)) => pattern_in_frame(alloc, pattern, frame, stack, token),
+        Some(ParserFrame::Pattern(frame)) => pattern_in_frame(alloc, pattern, frame, stack, token),
         Some(other) => {
             drop(other);
             Err(SyntaxFault::Syntax)
@@ -153,9 +155,9 @@ fn pattern_in_frame(
     alloc: Global,
     pattern: Pattern,
     frame: PatternFrame,
-    stack: &mut Stack,
+    stack: &mut ParserStack,
     token: &Token,
-) -> Result<Outcome, SyntaxFault>
+) -> Result<Effect, SyntaxFault>
     ensures ok { IfOk result (λ o.
         machine.pattern_in_frame pattern frame (forms stack.old) token.now
         ≡ machine.leads o (forms stack.new)) }
@@ -183,7 +185,7 @@ fn pattern_in_frame(
 }
 
 // After the left side of a closure.
-fn behind_left(left: Pattern, stack: &mut Stack, token: &Token) -> Result<Outcome, SyntaxFault>
+fn behind_left(left: Pattern, stack: &mut ParserStack, token: &Token) -> Result<Effect, SyntaxFault>
     ensures ok { IfOk result (λ o.
         machine.pattern_in_frame left PatternFrame.Left (forms stack.old) token.now
         ≡ machine.leads o (forms stack.new)) }
@@ -192,8 +194,8 @@ fn behind_left(left: Pattern, stack: &mut Stack, token: &Token) -> Result<Outcom
         ≡ machine.stuck }
 {
     if is_mark(token, Sign::Arrow) {
-        stack.push(Frame::Pattern(PatternFrame::Right(left)))?;
-        return Ok(Outcome::Goes(State::Pattern));
+        stack.push(ParserFrame::Pattern(PatternFrame::Right(left)))?;
+        return Ok(Effect::Goes(ParserState::Pattern));
     }
     drop(left);
     Err(SyntaxFault::Syntax)
@@ -205,15 +207,15 @@ fn behind_tail(
     done: PatternList,
     tail: Pattern,
     token: &Token,
-) -> Result<Outcome, SyntaxFault>
-    ensures ok { IfOk result (λ o. (S : List Frame) →
+) -> Result<Effect, SyntaxFault>
+    ensures ok { IfOk result (λ o. (S : List ParserFrame) →
         machine.pattern_in_frame tail (PatternFrame.Tail done) S token.now ≡ machine.leads o S) }
-    ensures none { result ≡ Err SyntaxFault.Syntax → (S : List Frame) →
+    ensures none { result ≡ Err SyntaxFault.Syntax → (S : List ParserFrame) →
         machine.pattern_in_frame tail (PatternFrame.Tail done) S token.now ≡ machine.stuck }
 {
     if is_mark(token, Sign::CloseSquare) {
         let whole = make_with_tail(alloc, done, tail)?;
-        return Ok(Outcome::Goes(State::Base(whole)));
+        return Ok(Effect::Goes(ParserState::Base(whole)));
     }
     drop(tail);
     drop(done);
@@ -232,9 +234,9 @@ fn behind_closure(
     alloc: Global,
     left: Pattern,
     right: Pattern,
-    stack: &mut Stack,
+    stack: &mut ParserStack,
     token: &Token,
-) -> Result<Outcome, SyntaxFault>
+) -> Result<Effect, SyntaxFault>
     ensures ok { IfOk result (λ o.
         machine.pattern_in_frame right (PatternFrame.Right left) (forms stack.old) token.now
         ≡ machine.leads o (forms stack.new)) }
@@ -243,11 +245,11 @@ fn behind_closure(
         ≡ machine.stuck }
 {
     if is_mark(token, Sign::Backslash) {
-        return Ok(Outcome::Goes(State::Read(make_closure(alloc, left, right)?)));
+        return Ok(Effect::Goes(ParserState::Read(make_closure(alloc, left, right)?)));
     }
     if is_word(token, Keyword::Where) {
-        stack.push(Frame::Strategy(StrategyFrame::Where(left, right)))?;
-        return Ok(Outcome::Goes(State::Strategy));
+        stack.push(ParserFrame::Strategy(StrategyFrame::Where(left, right)))?;
+        return Ok(Effect::Goes(ParserState::Strategy));
     }
     drop(right);
     drop(left);
@@ -259,9 +261,9 @@ fn behind_one(
     alloc: Global,
     group: PatternGroup,
     done: PatternList,
-    stack: &mut Stack,
+    stack: &mut ParserStack,
     token: &Token,
-) -> Result<Outcome, SyntaxFault>
+) -> Result<Effect, SyntaxFault>
     ensures ok { IfOk result (λ o.
         machine.behind_one group done (forms stack.old) token.now
         ≡ machine.leads o (forms stack.new)) }
@@ -269,11 +271,11 @@ fn behind_one(
         machine.behind_one group done (forms stack.old) token.now ≡ machine.stuck }
 {
     if is_mark(token, Sign::Comma) {
-        stack.push(Frame::Pattern(PatternFrame::List(group, done)))?;
-        return Ok(Outcome::Goes(State::Pattern));
+        stack.push(ParserFrame::Pattern(PatternFrame::List(group, done)))?;
+        return Ok(Effect::Goes(ParserState::Pattern));
     }
     if is_mark(token, closing_sign_of(&group)) {
-        return Ok(Outcome::Goes(close_patterns(alloc, group, done)?));
+        return Ok(Effect::Goes(close_patterns(alloc, group, done)?));
     }
     if is_mark(token, Sign::Bar) {
         return pattern_bar(group, done, stack);
@@ -287,8 +289,8 @@ fn behind_one(
 fn pattern_bar(
     group: PatternGroup,
     done: PatternList,
-    stack: &mut Stack,
-) -> Result<Outcome, SyntaxFault>
+    stack: &mut ParserStack,
+) -> Result<Effect, SyntaxFault>
     ensures ok { IfOk result (λ o.
         machine.pattern_bar group done (forms stack.old) ≡ machine.leads o (forms stack.new)) }
     ensures none { result ≡ Err SyntaxFault.Syntax →
@@ -296,8 +298,8 @@ fn pattern_bar(
 {
     match group {
         PatternGroup::List => {
-            stack.push(Frame::Pattern(PatternFrame::Tail(done)))?;
-            Ok(Outcome::Goes(State::Pattern))
+            stack.push(ParserFrame::Pattern(PatternFrame::Tail(done)))?;
+            Ok(Effect::Goes(ParserState::Pattern))
         }
         other => {
             drop(done);

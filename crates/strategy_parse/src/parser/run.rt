@@ -6,13 +6,13 @@ ghost use Rattle.strategy_parse.specs.Core.{core};
 ghost use Rattle.strategy_parse.specs.inside.Forms.{forms};
 ghost use Rattle.strategy_parse.specs.inside.Fronts.{FrontGives, Stops};
 ghost use Rattle.strategy_parse.specs.Grammar.{ReadsChoice, ReadsPattern};
-ghost use Rattle.strategy_parse.specs.inside.Machine.{front, step as step_of};
+ghost use Rattle.strategy_parse.specs.inside.Parser.{front, step as step_of};
 ghost use Rattle.strategy_parse.specs.Written.{Choice};
 ghost use Rattle.strategy_tokens.specs.declared.token.Token.{Token};
 
 use crate::parser::fault::SyntaxFault;
-use crate::parser::stack::Stack;
-use crate::parser::state::{Frame, Outcome, PatternFrame, State};
+use crate::parser::stack::ParserStack;
+use crate::parser::state::{Effect, ParserFrame, ParserState, PatternFrame};
 use crate::parser::step::step;
 use std::alloc::Global;
 use strategy_syntax::{Pattern, Strategy, StrategyForm};
@@ -29,7 +29,12 @@ pub fn read_strategy<'a>(
     ensures none { result ≡ Err SyntaxFault.Syntax → (a : Choice) (y : List Token)
         → ReadsChoice a tokens.now y → Stops y → ⊥ }
 {
-    match run(alloc, State::Strategy, Stack::new(alloc), tokens) {
+    match run(
+        alloc,
+        ParserState::Strategy,
+        ParserStack::new(alloc),
+        tokens,
+    ) {
         Ok(read) => Ok(read),
         Err(fault) => Err(fault),
     }
@@ -46,9 +51,9 @@ pub fn read_pattern<'a>(
     ensures none { result ≡ Err SyntaxFault.Syntax → (p : syntax.Pattern) (y : List Token)
         → ReadsPattern p tokens.now y → Stops y → ⊥ }
 {
-    let mut stack = Stack::new(alloc);
-    stack.push(Frame::Pattern(PatternFrame::Match))?;
-    let (strategy, left) = match run(alloc, State::Pattern, stack, tokens) {
+    let mut stack = ParserStack::new(alloc);
+    stack.push(ParserFrame::Pattern(PatternFrame::Match))?;
+    let (strategy, left) = match run(alloc, ParserState::Pattern, stack, tokens) {
         Ok(read) => read,
         Err(fault) => return Err(fault),
     };
@@ -64,8 +69,8 @@ pub fn read_pattern<'a>(
 // What the machine returns from there on, and the tokens that it leaves.
 fn run<'a>(
     alloc: Global,
-    first: State,
-    bottom: Stack,
+    first: ParserState,
+    bottom: ParserStack,
     tokens: &'a [Token],
 ) -> Result<(Strategy, &'a [Token]), SyntaxFault>
     ensures ok { IfOk result (λ r.
@@ -78,14 +83,14 @@ fn run<'a>(
     let mut left = tokens;
     while let Some((token, rest)) = left.split_first() {
         match step(alloc, state, &mut stack, token)? {
-            Outcome::Goes(next) => state = next,
-            Outcome::Ends(strategy) => return Ok((strategy, left)),
+            Effect::Goes(next) => state = next,
+            Effect::Ends(strategy) => return Ok((strategy, left)),
         }
         left = rest;
     }
     match step(alloc, state, &mut stack, &Token::Bad)? {
-        Outcome::Ends(strategy) => Ok((strategy, left)),
-        Outcome::Goes(next) => {
+        Effect::Ends(strategy) => Ok((strategy, left)),
+        Effect::Goes(next) => {
             drop(next);
             Err(SyntaxFault::Syntax)
         }

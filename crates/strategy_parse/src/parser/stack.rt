@@ -5,7 +5,7 @@ ghost use Rattle.std.specs.Prelude.{◌≡◌, true};
 ghost use Rattle.strategy_parse.specs.inside.Counts.{IsCounted};
 
 use crate::parser::counts::{count, lower_form, raise_form};
-use crate::parser::state::{Frame, Infix, PatternFrame};
+use crate::parser::state::{Infix, ParserFrame, PatternFrame};
 use std::alloc::Global;
 use std::collections::HashMap;
 use strategy_syntax::Strategy;
@@ -13,8 +13,8 @@ use term_core::{Name, NoMemory};
 
 /// The open forms.
 #[derive(Drop)]
-pub struct Stack {
-    frames: Vec<Frame>,
+pub struct ParserStack {
+    frames: Vec<ParserFrame>,
     // Whether the next two fields say what the open forms hide.
     counting: bool,
     counts: HashMap<Name, usize>,
@@ -22,18 +22,18 @@ pub struct Stack {
     ghost counted: { counting ≡ true → IsCounted counts lefts frames.items },
 }
 
-impl Stack {
+impl ParserStack {
     ghost use Rattle.std.specs.Prelude.{◌≡◌, ◌∷◌, [], IfOk, IfSome, IfNone, OnOk, true, false, Some, None, reverse};
-    ghost use Rattle.strategy_parse.specs.inside.Machine.{no_operand, no_at, HasOperand};
+    ghost use Rattle.strategy_parse.specs.inside.Parser.{no_operand, no_at, HasOperand};
     ghost use Rattle.strategy_parse.specs.inside.Forms.{forms};
     ghost use Rattle.strategy_parse.specs.inside.FreeNames.{is_hidden};
-    ghost use Rattle.strategy_parse.specs.declared.parser.state.Frame.{Frame};
+    ghost use Rattle.strategy_parse.specs.declared.parser.state.ParserFrame.{ParserFrame};
 
     /// An empty stack.
-    pub fn new(alloc: Global) -> Stack
+    pub fn new(alloc: Global) -> ParserStack
         ensures { forms result ≡ [] }
     {
-        Stack {
+        ParserStack {
             frames: Vec::new(alloc),
             counting: false,
             counts: HashMap::new(alloc),
@@ -42,10 +42,10 @@ impl Stack {
     }
 
     /// An empty stack that counts what the forms hide, which `hides` needs.
-    pub fn counting(alloc: Global) -> Stack
+    pub fn counting(alloc: Global) -> ParserStack
         ensures { forms result ≡ [] }
     {
-        Stack {
+        ParserStack {
             frames: Vec::new(alloc),
             counting: true,
             counts: HashMap::new(alloc),
@@ -53,7 +53,7 @@ impl Stack {
         }
     }
 
-    pub fn push(&mut self, frame: Frame) -> Result<(), NoMemory>
+    pub fn push(&mut self, frame: ParserFrame) -> Result<(), NoMemory>
         ensures { OnOk result (forms self.new ≡ frame ∷ forms self.old) }
     {
         let counting = self.counting;
@@ -69,7 +69,7 @@ impl Stack {
     }
 
     /// Closes the innermost form, if one is open.
-    pub fn pop(&mut self) -> Option<Frame>
+    pub fn pop(&mut self) -> Option<ParserFrame>
         ensures some { IfSome result (λ frame. forms self.old ≡ frame ∷ forms self.new) }
         ensures none { IfNone result ((forms self.old ≡ []) × (forms self.new ≡ [])) }
     {
@@ -112,7 +112,7 @@ impl Stack {
         ensures none { result ≡ false → no_operand operator (forms self.now) }
     {
         match self.frames.last() {
-            Some(Frame::Operand(found, _)) => *found == operator,
+            Some(ParserFrame::Operand(found, _)) => *found == operator,
             _ => false,
         }
     }
@@ -121,14 +121,14 @@ impl Stack {
     pub fn begins_with_match(&self) -> bool {
         matches!(
             self.frames.first(),
-            Some(Frame::Pattern(PatternFrame::Match))
+            Some(ParserFrame::Pattern(PatternFrame::Match))
         )
     }
 
     /// Closes the innermost form if it is a strategy with this operator.
     pub fn pop_operand(&mut self, operator: Infix) -> Option<Strategy>
         ensures some { IfSome result (λ s. forms self.old
-            ≡ Frame.Operand operator s ∷ forms self.new) }
+            ≡ ParserFrame.Operand operator s ∷ forms self.new) }
         ensures none { IfNone result (no_operand operator (forms self.old) × (self.new
             ≡ self.old)) }
     {
@@ -136,7 +136,7 @@ impl Stack {
             return None;
         }
         match self.pop() {
-            Some(Frame::Operand(_, strategy)) => Some(strategy),
+            Some(ParserFrame::Operand(_, strategy)) => Some(strategy),
             other => {
                 drop(other);
                 None
@@ -146,14 +146,14 @@ impl Stack {
 
     /// Closes the innermost form if it is an `x @`.
     pub fn pop_at(&mut self) -> Option<Name>
-        ensures some { IfSome result (λ name. forms self.old ≡ Frame.At name ∷ forms self.new) }
+        ensures some { IfSome result (λ name. forms self.old ≡ ParserFrame.At name ∷ forms self.new) }
         ensures none { IfNone result (no_at (forms self.old) × (self.new ≡ self.old)) }
     {
-        if !matches!(self.frames.last(), Some(Frame::At(_))) {
+        if !matches!(self.frames.last(), Some(ParserFrame::At(_))) {
             return None;
         }
         match self.pop() {
-            Some(Frame::At(name)) => Some(name),
+            Some(ParserFrame::At(name)) => Some(name),
             other => {
                 drop(other);
                 None

@@ -6,7 +6,7 @@ use term_core::Name;
 
 /// What was read last.
 #[derive(Drop)]
-pub enum State {
+pub enum ParserState {
     /// A strategy has to begin.
     Strategy,
     /// After the opening bracket of a list of strategies: one may begin, or the list may end.
@@ -45,7 +45,7 @@ pub enum State {
 
 /// An open form, with what was read of it.
 #[derive(Drop)]
-pub enum Frame {
+pub enum ParserFrame {
     /// A strategy and the operator after it
     Operand(Infix, Strategy),
     /// `x @`
@@ -162,9 +162,9 @@ pub enum PatternGroup {
 
 /// The effect of a token.
 #[derive(Drop)]
-pub enum Outcome {
+pub enum Effect {
     /// It was read, and this was read last.
-    Goes(State),
+    Goes(ParserState),
     /// It belongs to no open form: a whole strategy ended before it.
     Ends(Strategy),
 }

@@ -1,13 +1,13 @@
 //! Where the machine doesn't go on.
 
 ghost use Rattle.std.specs.Prelude.{◌≡◌, IfOk, []};
-ghost use Rattle.strategy_parse.specs.inside.Machine.{step as step_of};
+ghost use Rattle.strategy_parse.specs.inside.Parser.{step as step_of};
 ghost use Rattle.strategy_parse.specs.inside.StuckPlaces.{stuck_at};
-ghost use Rattle.strategy_parse.specs.declared.parser.state.State.{State};
+ghost use Rattle.strategy_parse.specs.declared.parser.state.ParserState.{ParserState};
 
 use crate::parser::fault::SyntaxFault;
-use crate::parser::stack::Stack;
-use crate::parser::state::{Frame, Outcome, PatternFrame, State};
+use crate::parser::stack::ParserStack;
+use crate::parser::state::{Effect, ParserFrame, ParserState, PatternFrame};
 use crate::parser::step::step;
 use std::alloc::Global;
 use strategy_tokens::Token;
@@ -15,16 +15,16 @@ use term_core::NoMemory;
 
 /// The number of the first token that the machine doesn't take.
 pub fn first_stuck(alloc: Global, tokens: &[Token]) -> Result<Option<usize>, NoMemory>
-    ensures { IfOk result (λ k. k ≡ stuck_at (step_of State.Strategy []) tokens.now) }
+    ensures { IfOk result (λ k. k ≡ stuck_at (step_of ParserState.Strategy []) tokens.now) }
 {
-    let mut state = State::Strategy;
-    let mut stack = Stack::new(alloc);
+    let mut state = ParserState::Strategy;
+    let mut stack = ParserStack::new(alloc);
     let mut left = tokens;
     let mut taken = 0usize;
     while let Some((token, rest)) = left.split_first() {
         match step(alloc, state, &mut stack, token) {
-            Ok(Outcome::Goes(next)) => state = next,
-            Ok(Outcome::Ends(strategy)) => {
+            Ok(Effect::Goes(next)) => state = next,
+            Ok(Effect::Ends(strategy)) => {
                 drop(strategy);
                 return Ok(Some(taken));
             }
@@ -48,24 +48,33 @@ pub enum Stop<'a> {
 
 /// The tokens after the strategy at the start, which is as long as possible.
 pub fn pass_strategy<'a>(alloc: Global, tokens: &'a [Token]) -> Result<&'a [Token], Stop<'a>> {
-    pass(alloc, State::Strategy, Stack::new(alloc), false, tokens)
+    pass(
+        alloc,
+        ParserState::Strategy,
+        ParserStack::new(alloc),
+        false,
+        tokens,
+    )
 }
 
 /// The tokens after the pattern at the start, which is as long as possible.
 pub fn pass_pattern<'a>(alloc: Global, tokens: &'a [Token]) -> Result<&'a [Token], Stop<'a>> {
-    let mut stack = Stack::new(alloc);
-    if stack.push(Frame::Pattern(PatternFrame::Match)).is_err() {
+    let mut stack = ParserStack::new(alloc);
+    if stack
+        .push(ParserFrame::Pattern(PatternFrame::Match))
+        .is_err()
+    {
         return Err(Stop::Memory);
     }
-    pass(alloc, State::Pattern, stack, true, tokens)
+    pass(alloc, ParserState::Pattern, stack, true, tokens)
 }
 
 // The tokens that the machine leaves, from there on; if `within_match`, when it leaves the match on
 // which it began.
 fn pass<'a>(
     alloc: Global,
-    first: State,
-    bottom: Stack,
+    first: ParserState,
+    bottom: ParserStack,
     within_match: bool,
     tokens: &'a [Token],
 ) -> Result<&'a [Token], Stop<'a>> {
@@ -97,16 +106,16 @@ fn pass<'a>(
 // The effect of a token.
 #[derive(Drop)]
 enum Passed {
-    Goes(State),
+    Goes(ParserState),
     Ends,
     Stuck,
     Memory,
 }
 
-fn pass_token(alloc: Global, state: State, stack: &mut Stack, token: &Token) -> Passed {
+fn pass_token(alloc: Global, state: ParserState, stack: &mut ParserStack, token: &Token) -> Passed {
     match step(alloc, state, stack, token) {
-        Ok(Outcome::Goes(next)) => Passed::Goes(next),
-        Ok(Outcome::Ends(strategy)) => {
+        Ok(Effect::Goes(next)) => Passed::Goes(next),
+        Ok(Effect::Ends(strategy)) => {
             drop(strategy);
             Passed::Ends
         }

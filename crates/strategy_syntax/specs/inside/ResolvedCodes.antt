@@ -15,12 +15,12 @@ abbrev first_or_zero : List ℕ → ℕ
 first_or_zero [] = 0
 first_or_zero (n ∷ ns) = n
 
-abbrev number_of : Symbol → ℕ
-number_of f = first_or_zero f.text
+abbrev symbol_number : Symbol → ℕ
+symbol_number f = first_or_zero f.text
 
 abbrev number_of_first : List Symbol → ℕ
 number_of_first [] = 0
-number_of_first (f ∷ fs) = number_of f
+number_of_first (f ∷ fs) = symbol_number f
 
 -- ---- patterns
 
@@ -41,8 +41,8 @@ abbrev mutual
 abbrev mutual
   pub of_pattern : named.Pattern → Place
   of_pattern named.wildcard = wildcard
-  of_pattern (named.variable x) = variable (number_of x)
-  of_pattern (named.at x p) = at (number_of x) (of_pattern p)
+  of_pattern (named.variable x) = variable (symbol_number x)
+  of_pattern (named.at x p) = at (symbol_number x) (of_pattern p)
   of_pattern (named.number z) = number z
   of_pattern (named.compound h ps) = compound h (of_patterns ps)
   of_pattern (named.with_tail ps p) = with_tail (of_patterns ps) (of_pattern p)
@@ -108,7 +108,7 @@ abbrev mutual
   of_strategy (named.test a) = test (of_strategy a)
   of_strategy (named.scope xs a) = scope (number_of_first xs) (of_strategy a)
   of_strategy (named.uses f ss ps) =
-      cond f.is_quoted (param (number_of f)) (call (number_of f) (of_strategies ss) (of_patterns ps))
+      cond f.is_quoted (param (symbol_number f)) (call (symbol_number f) (of_strategies ss) (of_patterns ps))
   of_strategy (named.congruence h ss) = congruence h (of_strategies ss)
   of_strategy (named.tail_congruence ss a) = tail_congruence (of_strategies ss) (of_strategy a)
   of_strategy (named.all a) = all (of_strategy a)
@@ -116,7 +116,7 @@ abbrev mutual
   of_strategy (named.some a) = some (of_strategy a)
   of_strategy (named.child i a) = child i (of_strategy a)
   of_strategy (named.rec x a) = rec (of_strategy a)
-  of_strategy (named.prim n ps) = prim (number_of n) (of_patterns ps)
+  of_strategy (named.prim n ps) = prim (symbol_number n) (of_patterns ps)
 
   pub of_strategies : named.Strategies → ResolvedStrategies
   of_strategies named.no_strategies = no_strategies

@@ -3,7 +3,7 @@
 use prim_core::{NoPrimitives, Primitives};
 use std::alloc::Global;
 use std::test::Fail;
-use strategy_check::{CheckFault, Kind, NamedModule, Program, check, resolve};
+use strategy_check::{CheckFault, FaultKind, NamedModule, Program, check, resolve};
 use strategy_syntax::{Definition, Module, Resolved, ResolvedForm, Strategy, StrategyForm};
 use term_core::{Label, Name};
 
@@ -32,14 +32,14 @@ fn is_first_call(whole: &Resolved) -> bool {
     whole.variables == 0 && matches!(whole.strategy.form(), ResolvedForm::Call(0, _, _))
 }
 
-fn is_told(told: &CheckFault, kind: Kind, name: &[u8]) -> bool {
+fn is_told(told: &CheckFault, kind: FaultKind, name: &[u8]) -> bool {
     match told {
         CheckFault::Fault(found, at, 0, 0) => *found == kind && at.bytes() == name,
         _ => false,
     }
 }
 
-fn is_wanted(told: &CheckFault, expected: Option<(Kind, &[u8])>) -> bool {
+fn is_wanted(told: &CheckFault, expected: Option<(FaultKind, &[u8])>) -> bool {
     expected.is_some_and(|(kind, name)| is_told(told, kind, name))
 }
 
@@ -51,7 +51,7 @@ fn resolves(
     program: &Program,
     strategy: &Strategy,
     primitives: &Primitives<NoPrimitives>,
-    expected: Option<(Kind, &[u8])>,
+    expected: Option<(FaultKind, &[u8])>,
 ) -> bool {
     match resolve(alloc, program, primitives, strategy) {
         Ok(whole) => {
@@ -73,7 +73,7 @@ fn answers(
     modules: &[NamedModule],
     strategy: &Strategy,
     primitives: &Primitives<NoPrimitives>,
-    expected: Option<(Kind, &[u8])>,
+    expected: Option<(FaultKind, &[u8])>,
 ) -> bool {
     match check(alloc, modules, primitives) {
         Ok(program) => {
@@ -101,7 +101,7 @@ fn answers_in(
     modules: &mut Vec<NamedModule>,
     count: u32,
     strategy: &Strategy,
-    expected: Option<(Kind, &[u8])>,
+    expected: Option<(FaultKind, &[u8])>,
 ) -> Result<bool, Fail> {
     add_modules(alloc, modules, count)?;
     let primitives = Primitives::new(Vec::new(alloc));
@@ -112,7 +112,7 @@ fn answers_beside(
     alloc: Global,
     count: u32,
     strategy: &Strategy,
-    expected: Option<(Kind, &[u8])>,
+    expected: Option<(FaultKind, &[u8])>,
 ) -> Result<bool, Fail> {
     let mut modules = Vec::new(alloc);
     let so = answers_in(alloc, &mut modules, count, strategy, expected);
@@ -124,7 +124,7 @@ fn row(
     alloc: Global,
     count: u32,
     name: &[u8],
-    expected: Option<(Kind, &[u8])>,
+    expected: Option<(FaultKind, &[u8])>,
 ) -> Result<bool, Fail> {
     let strategy = name_alone(alloc, name)?;
     let so = answers_beside(alloc, count, &strategy, expected);
@@ -135,8 +135,22 @@ fn row(
 #[test]
 fn rows(rt: HostRuntime) -> Result<(), Fail> {
     assert!(rt; row(rt.alloc(), 1, b"f", None)?);
-    assert!(rt; row(rt.alloc(), 1, b"g", Some((Kind::Unknown, b"g".as_slice())))?);
-    assert!(rt; row(rt.alloc(), 2, b"f", Some((Kind::Twice, b"f".as_slice())))?);
-    assert!(rt; Kind::Undeclared.word() == "undeclared");
+    assert!(rt;
+        row(
+            rt.alloc(),
+            1,
+            b"g",
+            Some((FaultKind::Unknown, b"g".as_slice()))
+        )?
+    );
+    assert!(rt;
+        row(
+            rt.alloc(),
+            2,
+            b"f",
+            Some((FaultKind::Twice, b"f".as_slice()))
+        )?
+    );
+    assert!(rt; FaultKind::Undeclared.word() == "undeclared");
     Ok(())
 }

@@ -7,12 +7,12 @@ use super::marks::{marks_of, marks_of_definitions};
 use prim_core::{NoPrimitives, Primitives};
 use std::alloc::Global;
 use std::test::Fail;
-use strategy_check::{CheckFault, Checked, Kind, NamedModule, Program, resolve};
+use strategy_check::{CheckFault, Checked, FaultKind, NamedModule, Program, resolve};
 use strategy_parse::{parse_module, parse_strategy};
 use term_core::Label;
 
 // The kind of a fault and its name. Its numbers are 0.
-type Wanted<'a> = Option<(Kind, &'a str)>;
+type Wanted<'a> = Option<(FaultKind, &'a str)>;
 
 // The texts of modules, some of which are replaced, and the fault if there is one.
 type Row<'a> = (&'a [&'a str], usize, usize, &'a [&'a str], Wanted<'a>);
@@ -74,18 +74,24 @@ const ROWS: [Row<'_>; 41] = [
     (&[PARAMETER], 0, 0, &[F], None),
     (&[PARAMETER], 1, 0, &[H], None),
     (&[F], 1, 0, &[F_OF_ONE], None),
-    (&[H], 1, 0, &[G], Some((Kind::Unknown, "f"))),
-    (&[F], 0, 0, &[A_BUILT], Some((Kind::Undeclared, "A"))),
-    (&[F], 1, 0, &[REPEATED], Some((Kind::Parameter, "x"))),
+    (&[H], 1, 0, &[G], Some((FaultKind::Unknown, "f"))),
+    (&[F], 0, 0, &[A_BUILT], Some((FaultKind::Undeclared, "A"))),
+    (&[F], 1, 0, &[REPEATED], Some((FaultKind::Parameter, "x"))),
     // modules that go
     (&[F, G, H], 2, 1, &[], None),
     (&[H, F, G], 0, 1, &[], None),
     (&[F, G, H], 0, 2, &[], None),
-    (&[F, G], 0, 1, &[], Some((Kind::Unknown, "f"))),
-    (&[G, H, F], 2, 1, &[], Some((Kind::Unknown, "f"))),
-    (&[A, A_BUILT], 0, 1, &[], Some((Kind::Undeclared, "A"))),
-    (&[A_MATCHED, A], 1, 1, &[], Some((Kind::Undeclared, "A"))),
-    (&[A, A_MET], 0, 1, &[], Some((Kind::Unknown, "A"))),
+    (&[F, G], 0, 1, &[], Some((FaultKind::Unknown, "f"))),
+    (&[G, H, F], 2, 1, &[], Some((FaultKind::Unknown, "f"))),
+    (&[A, A_BUILT], 0, 1, &[], Some((FaultKind::Undeclared, "A"))),
+    (
+        &[A_MATCHED, A],
+        1,
+        1,
+        &[],
+        Some((FaultKind::Undeclared, "A")),
+    ),
+    (&[A, A_MET], 0, 1, &[], Some((FaultKind::Unknown, "A"))),
     (&[A, A_BUILT, B_BEFORE_A], 0, 1, &[], None),
     // others in their places
     (&[F, G], 0, 1, &[F], None),
@@ -96,10 +102,10 @@ const ROWS: [Row<'_>; 41] = [
     (&[G, F_AND_H], 1, 1, &[H_AND_F], None),
     (&[F, G, H], 0, 2, &[A, OTHER_F, A_MET], None),
     (&[F, G, H], 1, 0, &[], None),
-    (&[F, G], 0, 1, &[H], Some((Kind::Unknown, "f"))),
-    (&[F, G], 0, 1, &[F_OF_ONE], Some((Kind::Unknown, "f"))),
-    (&[F, H], 0, 1, &[G], Some((Kind::Unknown, "f"))),
-    (&[A], 0, 1, &[A_BUILT], Some((Kind::Undeclared, "A"))),
+    (&[F, G], 0, 1, &[H], Some((FaultKind::Unknown, "f"))),
+    (&[F, G], 0, 1, &[F_OF_ONE], Some((FaultKind::Unknown, "f"))),
+    (&[F, H], 0, 1, &[G], Some((FaultKind::Unknown, "f"))),
+    (&[A], 0, 1, &[A_BUILT], Some((FaultKind::Undeclared, "A"))),
     // a name with another meaning
     (&[A, A_MET], 0, 1, &[A_DEFINED], None),
     (&[A_MET, A_DEFINED], 1, 1, &[A], None),
@@ -108,14 +114,14 @@ const ROWS: [Row<'_>; 41] = [
         0,
         1,
         &[A_DEFINED],
-        Some((Kind::Undeclared, "A")),
+        Some((FaultKind::Undeclared, "A")),
     ),
     // a name that two modules have
-    (&[F, H], 1, 1, &[OTHER_F], Some((Kind::Twice, "f"))),
-    (&[F, G], 0, 0, &[H_AND_F], Some((Kind::Twice, "f"))),
-    (&[H, F], 0, 1, &[OTHER_F, H], Some((Kind::Twice, "f"))),
-    (&[A_DEFINED], 1, 0, &[A], Some((Kind::Clash, "A"))),
-    (&[A, F], 1, 1, &[A_DEFINED], Some((Kind::Clash, "A"))),
+    (&[F, H], 1, 1, &[OTHER_F], Some((FaultKind::Twice, "f"))),
+    (&[F, G], 0, 0, &[H_AND_F], Some((FaultKind::Twice, "f"))),
+    (&[H, F], 0, 1, &[OTHER_F, H], Some((FaultKind::Twice, "f"))),
+    (&[A_DEFINED], 1, 0, &[A], Some((FaultKind::Clash, "A"))),
+    (&[A, F], 1, 1, &[A_DEFINED], Some((FaultKind::Clash, "A"))),
     (&[A], 1, 0, &[A_WITH_TERM], None),
 ];
 
@@ -374,7 +380,7 @@ fn go_in_turn<'a>(
                 0,
                 1,
                 &[H],
-                Some((Kind::Unknown, "f")),
+                Some((FaultKind::Unknown, "f")),
             )?
             && replaces(alloc, p, checked, texts, 1, 0, &[A, A_MET], None)?
             && replaces(
@@ -385,7 +391,7 @@ fn go_in_turn<'a>(
                 0,
                 0,
                 &[A_DEFINED],
-                Some((Kind::Clash, "A")),
+                Some((FaultKind::Clash, "A")),
             )?
             && replaces(alloc, p, checked, texts, 1, 1, &[A_DEFINED], None)?
             && replaces(alloc, p, checked, texts, 0, 1, &[F_TWICE], None)?

@@ -2,7 +2,7 @@
 
 use std::alloc::Global;
 use std::test::Fail;
-use strategy_machine::{Known, Scopes};
+use strategy_machine::{Closure, Scopes};
 use strategy_syntax::{ResolvedForm, ResolvedStrategy};
 use term_core::NoMemory;
 
@@ -14,9 +14,9 @@ fn are_found<'t>(
     arguments: &'t [ResolvedStrategy],
 ) -> Result<bool, NoMemory> {
     let whole = scopes.add_variables(None, 3, 2)?;
-    let known = Known {
+    let known = Closure {
         strategy: param,
-        inside: whole,
+        written_in: whole,
     };
     let recursion = scopes.add_name(Some(whole), known)?;
     let inner = scopes.add_variables(Some(recursion), 9, 1)?;
@@ -39,7 +39,7 @@ fn are_found<'t>(
 }
 
 fn written_in(scopes: &Scopes<'_>, scope: usize, name: usize) -> Option<usize> {
-    scopes.named(scope, name).map(|known| known.inside)
+    scopes.named(scope, name).map(|known| known.written_in)
 }
 
 // Whether a call that passes all names on has the scope of its caller, and others have their own.

@@ -7,9 +7,9 @@ use Rattle.term_core.specs.declared.name.Text.{Text}
 use Rattle.term_core.specs.declared.name.Text.TheVariants.{Short, Long}
 use Rattle.term_core.specs.declared.name.Name.TheInside.{Inside}
 
-abbrev pub text_of : Text → Symbol
-text_of (Short quoted n bytes) = record { text = take n bytes; is_quoted = quoted }
-text_of (Long quoted bytes) = record { text = bytes.value.items; is_quoted = quoted }
+abbrev pub spelling_of : Text → Symbol
+spelling_of (Short quoted n bytes) = record { text = take n bytes; is_quoted = quoted }
+spelling_of (Long quoted bytes) = record { text = bytes.value.items; is_quoted = quoted }
 
 -- a short name fits in its array
 abbrev pub IsText : Text → Type 0
@@ -17,7 +17,7 @@ IsText (Short quoted n bytes) = n ≤ SHORT
 IsText (Long quoted bytes) = Unit {0}
 
 abbrev pub name_of : Inside → Symbol
-name_of a = text_of a.text
+name_of a = spelling_of a.text
 
 -- a name that isn't quoted is a word
 abbrev pub IsName : Inside → Type 0

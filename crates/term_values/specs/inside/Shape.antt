@@ -18,6 +18,6 @@ pub record JoinedShape (front : List Tree) (behind : Tree) (count : ℕ) : Type 
   pub counted : count ≡ length (front ++ children behind)
 
 -- A node without annotations, given some.
-pub record NotedShape (node : Tree) (notes : List Tree) : Type 0 where
+pub record AnnotatedShape (node : Tree) (notes : List Tree) : Type 0 where
   pub bare : annotations node ≡ []
   pub some : 0 < length notes

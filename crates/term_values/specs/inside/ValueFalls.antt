@@ -12,17 +12,17 @@ use Rattle.term_values.specs.inside.Shape.{kind_shape}
 use Rattle.term_changes.specs.Change.{inside, changed, changed_all}
 use Rattle.term_changes.specs.Standing.{after, Standing, unchanged, altered, fresh, Suits, SuitAll, standing_change, standing_changes}
 use Rattle.term_values.specs.declared.value.Form.{Form}
-use Rattle.term_values.specs.declared.value.Form.TheVariants.{Leaf, Original, Bare, Rest, Built, Kept, BareKept, Joined, Noted}
+use Rattle.term_values.specs.declared.value.Form.TheVariants.{Leaf, Original, Bare, Rest, Built, Kept, BareKept, Joined, Annotated}
 use Rattle.term_values.specs.declared.value.Top.{Top}
 use Rattle.term_values.specs.declared.value.Top.TheVariants.{Borrowed, Owned}
-use Rattle.term_values.specs.declared.value.Notes.{Notes}
-use Rattle.term_values.specs.declared.value.Notes.TheVariants as notes
+use Rattle.term_values.specs.declared.value.Annotations.{Annotations}
+use Rattle.term_values.specs.declared.value.Annotations.TheVariants as notes
 use Rattle.term_values.specs.declared.value.Items.{Items}
 use Rattle.term_values.specs.declared.value.Items.TheVariants.{One, Two, Many}
 use Rattle.term_values.specs.declared.part.PartForm.{PartForm}
 use Rattle.term_values.specs.declared.part.PartForm.TheVariants.{Same, Inside, New}
 use Rattle.term_values.specs.declared.part.Changed.TheInside.{Inside as ChangedFields}
-use Rattle.term_values.specs.declared.part.Changed.TheDeep.{deep-Form, deep-Items, deep-Notes, deep-PartForm}
+use Rattle.term_values.specs.declared.part.Changed.TheDeep.{deep-Form, deep-Items, deep-Annotations, deep-PartForm}
 use Rattle.term_values.specs.inside.ValueView.{items_list, top_tree, top_shape, notes_list, form_tree, form_shape, value_size, altered_size, standing_size, altered_of, part_standing, PartsSuit}
 
 most_le : (ts : List Tree) → most (λ t. value_size t + 1) ts ≤ 4 * sizes (of_list ts) + 2
@@ -56,7 +56,7 @@ above_items (One us) = omega (arith, most_le us.items)
 above_items (Two us) = omega (arith, most_le us.items)
 above_items (Many us) = omega (arith, most_le us.items)
 
-above_notes : (ns : Notes) → deep-Notes ns ≤ 4 * sizes (of_list (notes_list ns)) + 2
+above_notes : (ns : Annotations) → deep-Annotations ns ≤ 4 * sizes (of_list (notes_list ns)) + 2
 above_notes (notes.Of t) = omega arith
 above_notes (notes.Own us) = omega (arith, most_le us.items)
 
@@ -87,7 +87,7 @@ above_form (Joined j) h =
       some_size us h.some,
       bare_size j.value.behind (ap annotations h.list),
     )
-above_form (Noted n) h =
+above_form (Annotated n) h =
     let ns = notes_list n.value.notes in
     omega (
       arith,

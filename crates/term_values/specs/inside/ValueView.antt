@@ -4,14 +4,14 @@ use Rattle.term_core.specs.Tree.{Tree, branch, application, children, annotation
 use Rattle.term_core.specs.Size.{size, sizes}
 use Rattle.term_core.specs.Kind.{made_of}
 use Rattle.term_changes.specs.Standing.{Altered, after, Standing, unchanged, altered, fresh, SuitAll, standing_changes, standing_tree}
-use Rattle.term_values.specs.inside.Shape.{kind_shape, JoinedShape, NotedShape}
+use Rattle.term_values.specs.inside.Shape.{kind_shape, JoinedShape, AnnotatedShape}
 use Rattle.term_values.specs.inside.Bounded.{Bounded}
 use Rattle.term_values.specs.declared.value.Form.{Form}
-use Rattle.term_values.specs.declared.value.Form.TheVariants.{Leaf, Original, Bare, Rest, Built, Kept, BareKept, Joined, Noted}
+use Rattle.term_values.specs.declared.value.Form.TheVariants.{Leaf, Original, Bare, Rest, Built, Kept, BareKept, Joined, Annotated}
 use Rattle.term_values.specs.declared.value.Top.{Top}
 use Rattle.term_values.specs.declared.value.Top.TheVariants.{Borrowed, Owned}
-use Rattle.term_values.specs.declared.value.Notes.{Notes}
-use Rattle.term_values.specs.declared.value.Notes.TheVariants as notes
+use Rattle.term_values.specs.declared.value.Annotations.{Annotations}
+use Rattle.term_values.specs.declared.value.Annotations.TheVariants as notes
 use Rattle.term_values.specs.declared.value.Items.{Items}
 use Rattle.term_values.specs.declared.value.Items.TheVariants.{One, Two, Many}
 use Rattle.term_values.specs.declared.part.PartForm.{PartForm}
@@ -36,7 +36,7 @@ abbrev pub top_shape : Top → List Tree → Type 0
 top_shape (Borrowed k) us = kind_shape k us
 top_shape (Owned name) us = Unit {0}
 
-abbrev pub notes_list : Notes → List Tree
+abbrev pub notes_list : Annotations → List Tree
 notes_list (notes.Of t) = annotations t.now
 notes_list (notes.Own us) = us.items
 
@@ -49,7 +49,7 @@ form_tree (Built m) = top_tree m.value.top (items_list m.value.items) []
 form_tree (Kept c) = after c.value
 form_tree (BareKept c) = bare (after c.value)
 form_tree (Joined j) = list_term (items_list j.value.front ++ children j.value.behind)
-form_tree (Noted n) = with_annotations n.value.node (notes_list n.value.notes)
+form_tree (Annotated n) = with_annotations n.value.node (notes_list n.value.notes)
 
 abbrev pub form_shape : Form → Type 0
 form_shape (Leaf k) = Unit {0}
@@ -60,7 +60,7 @@ form_shape (Built m) = top_shape m.value.top (items_list m.value.items)
 form_shape (Kept c) = Unit {0}
 form_shape (BareKept c) = Unit {0}
 form_shape (Joined j) = JoinedShape (items_list j.value.front) j.value.behind j.value.count
-form_shape (Noted n) = NotedShape n.value.node (notes_list n.value.notes)
+form_shape (Annotated n) = AnnotatedShape n.value.node (notes_list n.value.notes)
 
 abbrev pub view_of : ValueFields → Tree
 view_of a = form_tree a.form

@@ -1,13 +1,13 @@
 -- What stands at the places that are kept while a term is read.
 use Rattle.std.specs.Prelude.{◌<◌, ℕ, List, length, ⊤}
 use Rattle.text_faults.specs.Places.{HasByte, IsPlaceOf}
-use Rattle.text_faults.specs.declared.terms.State.{State}
-use Rattle.text_faults.specs.declared.terms.State.TheVariants.{Annotations, Expected, Entered, Named, Base, Whole, Word, Minus, Digits, Quoted, Escape}
+use Rattle.text_faults.specs.declared.terms.TermState.{TermState}
+use Rattle.text_faults.specs.declared.terms.TermState.TheVariants.{Annotations, Expected, Entered, Named, Base, Whole, Word, Minus, Digits, Quoted, Escape}
 use Rattle.text_faults.specs.declared.terms.Next.{Next}
 use Rattle.text_faults.specs.declared.terms.Next.TheVariants.{Goes, Opens, Closes, Ended, Stuck}
 
 -- a token that was begun began at its place
-abbrev pub KeepsPlaces : State → List ℕ → Type 0
+abbrev pub KeepsPlaces : TermState → List ℕ → Type 0
 KeepsPlaces Annotations text = ⊤
 KeepsPlaces Expected text = ⊤
 KeepsPlaces Entered text = ⊤

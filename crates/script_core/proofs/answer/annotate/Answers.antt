@@ -1,6 +1,6 @@
 use Rattle.aterm_text.specs.Grammar.{SpellsAnnotations}
-use Rattle.session_history.specs.Step.{AnnotatesAt, place_of}
-use Rattle.script_text.specs.Machine.{ReadAs}
+use Rattle.session_history.specs.Acts.{AnnotatesAt, place_of}
+use Rattle.script_text.specs.Replies.{ReadAs}
 use Rattle.script_text.proofs.AnswerLemmas.{nowhere, placed_ok, placed_unread, placed_refused}
 use Rattle.script_core.proofs.answer.annotate.Goals as goal
 

@@ -1,5 +1,5 @@
 use Rattle.std.proofs.Common.{refl, true, false}
-use Rattle.session_history.specs.Step.{ComesTo, copy_tree, drop_tree, set_module, unload, apply, undo, redo, begin, commit, abandon}
+use Rattle.session_history.specs.Acts.{ComesTo, copy_tree, drop_tree, set_module, unload, apply, undo, redo, begin, commit, abandon}
 use Rattle.script_text.proofs.AnswerLemmas.{told_ok, told_refused, told_surely_refused, performed_ok, performed_refused}
 use Rattle.script_core.proofs.answer.perform.Goals as goal
 

@@ -1,6 +1,6 @@
 use Rattle.aterm_text.specs.Grammar.{Spells}
-use Rattle.session_history.specs.Step.{PutsAt, place_of}
-use Rattle.script_text.specs.Machine.{ReadAs}
+use Rattle.session_history.specs.Acts.{PutsAt, place_of}
+use Rattle.script_text.specs.Replies.{ReadAs}
 use Rattle.script_text.proofs.AnswerLemmas.{nowhere, placed_ok, placed_unread, placed_refused}
 use Rattle.script_core.proofs.answer.put.Goals as goal
 

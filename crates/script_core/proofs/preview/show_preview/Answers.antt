@@ -3,7 +3,7 @@ use Rattle.std.specs.List.{flat_map}
 use Rattle.std.specs.FinMap as finmap
 use Rattle.session_history.specs.History.{History}
 use Rattle.session_core.specs.Previewing.{AreThere}
-use Rattle.script_text.specs.Machine.{preview_line, preview_text, told_of}
+use Rattle.script_text.specs.Replies.{preview_line, preview_text, told_of}
 use Rattle.script_core.specs.inside.PreviewLines.{entry_line}
 use Rattle.script_core.proofs.PreviewLemmas.{are_subterms, same_tree, text_of_plan}
 use Rattle.script_core.proofs.preview.show_preview.Goals as goal

@@ -5,7 +5,7 @@ use Rattle.strategy_machine.proofs.EndingLemmas.{along}
 use Rattle.strategy_machine.proofs.LengthLemmas.{cut_none}
 use Rattle.strategy_machine.specs.Turns.{state_of}
 use Rattle.strategy_meaning.specs.Scopes.{inside, numbers_from, arguments}
-use Rattle.term_match.specs.Contents.{Contents}
+use Rattle.term_match.specs.CellContents.{CellContents}
 use Rattle.term_match.specs.Marks.{mark_of, Before, Stays}
 use Rattle.strategy_machine.specs.Table.{scopes, scope_at}
 use Rattle.strategy_syntax.specs.Resolved.{resolveds_of}
@@ -28,7 +28,7 @@ returns c =
           (c.in_ok-open_arguments.ensures.cells ∙ ap (λ us. mid.cells.bindings ++ map Some us) c.deref.ensures.value
           ∙ (λ i. (r.rest.0 i).bindings ++ map Some (r.rest.2 i).items));
       room = λ W sub whole p a k x. r.room W sub whole p a x c.open_cells.new.self (scopes c.add_call.new.self) c.in_ok-add_call.ensures.stay
-          (subst (λ (C : Contents). Before (mark_of C) (mark_of c.open_cells.new.self)) r.rest.0 later) (subst (λ (C : Contents). Stays (mark_of C) C c.open_cells.new.self) r.rest.0 stays);
+          (subst (λ (C : CellContents). Before (mark_of C) (mark_of c.open_cells.new.self)) r.rest.0 later) (subst (λ (C : CellContents). Stays (mark_of C) C c.open_cells.new.self) r.rest.0 stays);
       part = r.part;
       rest = (r.rest.1, r.rest.3, r.rest.4);
       frames = r.frames;

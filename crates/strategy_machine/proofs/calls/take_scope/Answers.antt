@@ -1,7 +1,7 @@
 use Rattle.std.proofs.Common.{refl, sym, ap, ◌∙◌, ◌++◌, subst, None, length, replicate, reverse}
 use Rattle.strategy_machine.specs.Table.{scopes, scope_at}
 use Rattle.strategy_meaning.specs.Scopes.{with_variables}
-use Rattle.term_match.specs.Contents.{Contents}
+use Rattle.term_match.specs.CellContents.{CellContents}
 use Rattle.term_match.specs.Marks.{mark_of, Before, Stays}
 use Rattle.strategy_machine.specs.Turns.{State, HoldsIn, state_of}
 use Rattle.strategy_machine.specs.inside.Endings.{frames_of}
@@ -29,7 +29,7 @@ returns-clause-ok c = λ W. record {
       D es (frames_of mid) refl
       (one_more_there _ _ _ c.in_ok-inner.ensures.number c.in_ok-inner.ensures.ok)
       (one_more_is _ _ _ c.in_ok-inner.ensures.number c.in_ok-inner.ensures.ok ∙ (λ i. with_variables (r.same i) (c.count-first.ensures i) c.args.count))
-      (c.in_ok-open_cells.ensures.ok ∙ ap (λ (C : Contents). C.bindings ++ replicate c.args.count None) r.rest.0)
+      (c.in_ok-open_cells.ensures.ok ∙ ap (λ (C : CellContents). C.bindings ++ replicate c.args.count None) r.rest.0)
       (λ a k x. r.room W sub whole c.args.m.now.part a x D es (one_more_starts _ _ _ c.in_ok-inner.ensures.ok)
-      (subst (λ (C : Contents). Before (mark_of C) (mark_of D)) r.rest.0 c.open_cells.ensures.later) (subst (λ (C : Contents). Stays (mark_of C) C D) r.rest.0 c.open_cells.ensures.stays)) h)));
+      (subst (λ (C : CellContents). Before (mark_of C) (mark_of D)) r.rest.0 c.open_cells.ensures.later) (subst (λ (C : CellContents). Stays (mark_of C) C D) r.rest.0 c.open_cells.ensures.stays)) h)));
 }

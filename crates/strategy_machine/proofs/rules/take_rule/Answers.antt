@@ -1,6 +1,6 @@
 use Rattle.std.proofs.Common.{sym, ap, ◌∙◌, ◌-◌, List, arith, subst, Bool, cond, reverse, take, Some, None}
 use Rattle.term_match.specs.Building.{Builds}
-use Rattle.term_match.specs.Contents.{Contents}
+use Rattle.term_match.specs.CellContents.{CellContents}
 use Rattle.term_match.specs.Marks.{mark_of, Before, Stays}
 use Rattle.term_match.specs.declared.building.Built.{Built}
 use Rattle.strategy_meaning.specs.Matching.{match_place, build_place}
@@ -41,7 +41,7 @@ returns-in-Nothing-clause-ok c =
     let is = subst (λ (o : Built). Builds (build_place c.args.right.now (cells_in (scope_at (scopes c.add_variables.new.self) c.in_ok-inner.inner)) c.matches-found.new.self.bindings) c.args.m.now.level o) c.in-Nothing.is c.in_ok-built.ensures.ok in
     let other = ap (λ (E : Scope). build_place c.args.right.now (cells_in E) c.matches-found.new.self.bindings) (sym there) in
     let ended = cells_end c.args.m.now.cells c.open_cells.new.self c.build.new.self c.close_to-2.new.self c.count-first.result c.count-first.ensures c.open_cells.ensures.later c.open_cells.ensures.stays
-    (subst (λ (C : Contents). Before (mark_of c.open_cells.new.self) (mark_of C)) (sym same) c.matches-found.ensures.later) (subst (λ (C : Contents). Stays (mark_of c.open_cells.new.self) c.open_cells.new.self C) (sym same) c.matches-found.ensures.stays) c.close_to-2.ensures.later c.close_to-2.ensures.stays in
+    (subst (λ (C : CellContents). Before (mark_of c.open_cells.new.self) (mark_of C)) (sym same) c.matches-found.ensures.later) (subst (λ (C : CellContents). Stays (mark_of c.open_cells.new.self) c.open_cells.new.self C) (sym same) c.matches-found.ensures.stays) c.close_to-2.ensures.later c.close_to-2.ensures.stays in
     let cut = scopes_end (scopes c.args.m.now.scopes) (scopes c.add_variables.new.self) (scopes c.cut-2.new.self) _ c.count-scopes.result c.in_ok-inner.ensures.ok c.count-scopes.ensures c.cut-2.ensures in
     λ W. record {
       keeps = λ sub whole h. c.fails-in-Nothing.ensures.keeps W sub whole (subst (λ (es : List Scope). HoldsIn W sub whole (record { cells = c.close_to-2.new.self; scopes = es; trail = c.args.m.now.trail; level = c.args.m.now.level; frames = reverse c.args.m.now.frames.items; steps = c.args.m.now.steps - 2 - 1 }) Failed) (sym cut)
@@ -65,7 +65,7 @@ returns-in_ok-replace-in-Value-clause-ok c =
     let is = subst (λ (o : Built). Builds (build_place c.args.right.now (cells_in (scope_at (scopes c.add_variables.new.self) c.in_ok-inner.inner)) c.matches-found.new.self.bindings) c.args.m.now.level o) c.in-Value.is c.in_ok-built.ensures.ok in
     let other = ap (λ (E : Scope). build_place c.args.right.now (cells_in E) c.matches-found.new.self.bindings) (sym there) in
     let ended = cells_end c.args.m.now.cells c.open_cells.new.self c.build.new.self c.close_to-2.new.self c.count-first.result c.count-first.ensures c.open_cells.ensures.later c.open_cells.ensures.stays
-    (subst (λ (C : Contents). Before (mark_of c.open_cells.new.self) (mark_of C)) (sym same) c.matches-found.ensures.later) (subst (λ (C : Contents). Stays (mark_of c.open_cells.new.self) c.open_cells.new.self C) (sym same) c.matches-found.ensures.stays) c.close_to-2.ensures.later c.close_to-2.ensures.stays in
+    (subst (λ (C : CellContents). Before (mark_of c.open_cells.new.self) (mark_of C)) (sym same) c.matches-found.ensures.later) (subst (λ (C : CellContents). Stays (mark_of c.open_cells.new.self) c.open_cells.new.self C) (sym same) c.matches-found.ensures.stays) c.close_to-2.ensures.later c.close_to-2.ensures.stays in
     let cut = scopes_end (scopes c.args.m.now.scopes) (scopes c.add_variables.new.self) (scopes c.cut-2.new.self) _ c.count-scopes.result c.in_ok-inner.ensures.ok c.count-scopes.ensures c.cut-2.ensures in
     let k = c.in_ok-replace-in-Value.ensures in
     λ W. record {

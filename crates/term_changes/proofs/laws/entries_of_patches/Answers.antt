@@ -1,5 +1,5 @@
 use Rattle.term_changes.proofs.FlipLemmas.{leads_both_ways, keeps_both_ways, fits_both_ways, patches_are_compact}
-use Rattle.term_changes.proofs.laws.entries.Goals as goal
+use Rattle.term_changes.proofs.laws.entries_of_patches.Goals as goal
 
 pub returns-clause-leads : goal.returns-clause-leads
 returns-clause-leads c = leads_both_ways

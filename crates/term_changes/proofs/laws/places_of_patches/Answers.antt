@@ -1,6 +1,6 @@
 use Rattle.term_changes.proofs.TwiceLemmas.{places_stay}
 use Rattle.term_changes.proofs.OrderLemmas.{taken_is_there, either_order}
-use Rattle.term_changes.proofs.laws.places.Goals as goal
+use Rattle.term_changes.proofs.laws.places_of_patches.Goals as goal
 
 pub returns-clause-taken : goal.returns-clause-taken
 returns-clause-taken c = taken_is_there

@@ -1,9 +1,9 @@
 use Rattle.std.proofs.Common.{sym, subst}
 use Rattle.term_core.specs.Tree.{of_list, with_annotations}
 use Rattle.term_core.specs.Size.{height, heights, size, sizes}
-use Rattle.term_values.specs.declared.value.Noted.{Noted}
+use Rattle.term_values.specs.declared.value.Annotated.{Annotated}
 use Rattle.term_values.specs.inside.Bounded.{Bounded}
-use Rattle.term_values.specs.inside.Shape.{NotedShape}
+use Rattle.term_values.specs.inside.Shape.{AnnotatedShape}
 use Rattle.term_values.specs.inside.ValueView.{notes_list}
 use Rattle.term_values.proofs.SizeLemmas.{noted_bounded, bounded_along}
 use Rattle.term_values.proofs.annotate.noted.Goals as goal
@@ -16,6 +16,6 @@ invariant_of-result c =
     let mine = bounded_along _ t c.node.inside.bounds c.node.view_is c.node.invariant.bounded in
     let both = c.before-bounds.ensures (sizes (of_list ns)) (heights (of_list ns)) (size t) (height t) c.requires.bounds mine in
     record {
-      shape = subst (λ (x : Noted). NotedShape x.node (notes_list x.notes)) (sym c.in_ok-noted.ensures.ok) c.requires.shape;
-      bounded = subst (λ (x : Noted). Bounded (with_annotations x.node (notes_list x.notes)) b) (sym c.in_ok-noted.ensures.ok) (noted_bounded t ns b c.requires.shape.bare both);
+      shape = subst (λ (x : Annotated). AnnotatedShape x.node (notes_list x.notes)) (sym c.in_ok-noted.ensures.ok) c.requires.shape;
+      bounded = subst (λ (x : Annotated). Bounded (with_annotations x.node (notes_list x.notes)) b) (sym c.in_ok-noted.ensures.ok) (noted_bounded t ns b c.requires.shape.bare both);
     }

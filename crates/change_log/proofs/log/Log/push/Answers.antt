@@ -1,6 +1,6 @@
 use Rattle.std.proofs.Common.{refl, sym, ap, ◌∙◌, ◌++◌, ◌∷◌, [], length, arith}
 use Rattle.std.proofs.lemmas.List.{length_push}
-use Rattle.term_changes.specs.Entries.{found, text_of, texts}
+use Rattle.term_changes.specs.Entries.{found, text_count, texts}
 use Rattle.term_changes.specs.LogView.{entry_of}
 use Rattle.term_changes.specs.inside.LogView.{entries, depths}
 use Rattle.term_changes.proofs.LogLemmas.{length-entries, pushed_depths, pushed_entries}
@@ -34,7 +34,7 @@ invariant_of-self-2 c = (
       (pushed_entries c.reserve_one.new.replaced.items c.push_reserved.new.self.items _ c.self.inside.paths.items c.change.inside.path.now c.extend_from_slice.new.self.items
       (ap depths c.in_ok-reserve_one.ensures.items ∙ c.self.invariant.0) refl c.push_reserved.ensures.items c.in_ok-extend_from_slice.ensures.items
       ∙ (λ i. ap (λ rs. entries rs c.self.inside.paths.items) c.in_ok-reserve_one.ensures.items i ++ c.exchange.ensures.kept i ∷ []))
-      (c.texts.ensures.value c.change.inside.slot c.change.inside.path.now ∙ ap text_of c.exchange.ensures.kept
+      (c.texts.ensures.value c.change.inside.slot c.change.inside.path.now ∙ ap text_count c.exchange.ensures.kept
       ∙ text_found (entry_of c.change.inside.slot c.change.inside.path.now c.change.inside.kept) c.args.store.now),
 )
 

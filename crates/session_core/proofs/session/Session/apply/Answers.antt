@@ -1,4 +1,4 @@
-use Rattle.session_history.specs.Step.{apply, ComesTo}
+use Rattle.session_history.specs.Acts.{apply, ComesTo}
 use Rattle.session_history.proofs.SoundLemmas.{step_sound}
 use Rattle.session_history.proofs.ActLemmas.{said_sound}
 use Rattle.session_core.proofs.session.Session.apply.Goals as goal

@@ -1,4 +1,4 @@
-use Rattle.session_history.specs.Step.{begin}
+use Rattle.session_history.specs.Acts.{begin}
 use Rattle.session_history.proofs.ActLemmas.{ok_seen, surely_refused_seen, err_seen, sound_seen, kept_seen}
 use Rattle.session_core.proofs.session.Session.begin.Goals as goal
 

@@ -1,4 +1,4 @@
-use Rattle.session_history.specs.Step.{commit, ComesTo}
+use Rattle.session_history.specs.Acts.{commit, ComesTo}
 use Rattle.session_history.specs.Unfolded.{unfolded}
 use Rattle.session_history.proofs.SoundLemmas.{step_sound}
 use Rattle.session_history.proofs.ActLemmas.{said_ok, said_refused, said_err, said_sound}

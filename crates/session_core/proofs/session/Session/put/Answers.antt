@@ -1,4 +1,4 @@
-use Rattle.session_history.specs.Step.{put}
+use Rattle.session_history.specs.Acts.{put}
 use Rattle.session_history.proofs.ActLemmas.{ok_seen, refused_seen, err_seen, sound_seen, kept_seen}
 use Rattle.session_core.proofs.session.Session.put.Goals as goal
 

@@ -1,4 +1,4 @@
-use Rattle.session_history.specs.Step.{set_tree}
+use Rattle.session_history.specs.Acts.{set_tree}
 use Rattle.session_history.proofs.ActLemmas.{ok_seen, refused_seen, err_seen, sound_seen, kept_seen}
 use Rattle.session_core.proofs.session.Session.set_tree.Goals as goal
 

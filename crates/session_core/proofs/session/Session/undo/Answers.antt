@@ -1,6 +1,6 @@
 use Rattle.std.proofs.Common.{sym, subst, ◌∙◌}
 use Rattle.session_history.specs.History.{HasSoundContents}
-use Rattle.session_history.specs.Step.{undo}
+use Rattle.session_history.specs.Acts.{undo}
 use Rattle.session_history.proofs.ActLemmas.{on_err, stepped_sound, kept_same}
 use Rattle.session_core.proofs.session.Session.undo.Goals as goal
 

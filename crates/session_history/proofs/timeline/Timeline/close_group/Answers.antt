@@ -1,6 +1,6 @@
 use Rattle.std.proofs.Common.{◌≡◌, refl, sym, subst, ◌∙◌, ◌+◌, take, None}
 use Rattle.std.specs.Prelude.{IsSomeAnd}
-use Rattle.session_history.specs.Step.{committed}
+use Rattle.session_history.specs.Acts.{committed}
 use Rattle.session_history.specs.declared.timeline.Timeline.{Timeline}
 use Rattle.session_history.specs.Unfolded.{unfolded, IsPlaced}
 use Rattle.session_history.specs.inside.Adding.{AddsStep}

@@ -1,7 +1,7 @@
 use Rattle.std.proofs.Common.{◌≡◌, ◌++◌, [], length}
 use Rattle.strategy_parse.specs.inside.Forms.{forms}
 use Rattle.strategy_parse.specs.inside.FreeNames.{names_seen}
-use Rattle.strategy_parse.specs.inside.Machine.{begin, front, step}
+use Rattle.strategy_parse.specs.inside.Parser.{begin, front, step}
 use Rattle.strategy_parse.proofs.ConditionLemmas.{SeenFrom}
 use Rattle.strategy_parse.proofs.parser.condition.read_condition.Given as goal
 

@@ -1,6 +1,6 @@
 use Rattle.std.proofs.Common.{◌≡◌, length}
 use Rattle.strategy_parse.specs.inside.Forms.{forms}
-use Rattle.strategy_parse.specs.inside.Machine as machine
+use Rattle.strategy_parse.specs.inside.Parser as machine
 use Rattle.strategy_parse.proofs.parser.patterns.behind_pattern.Given as goal
 
 abbrev pub invariant-loop-name : goal.invariant-loop-name

@@ -1,6 +1,6 @@
 use Rattle.std.proofs.Common.{◌≡◌, length}
 use Rattle.strategy_parse.specs.inside.Forms.{forms}
-use Rattle.strategy_parse.specs.inside.Machine.{front, step as step_of}
+use Rattle.strategy_parse.specs.inside.Parser.{front, step as step_of}
 use Rattle.strategy_parse.proofs.parser.run.run.Given as goal
 
 -- the rest gives what the whole gave

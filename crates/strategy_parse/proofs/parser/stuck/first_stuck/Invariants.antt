@@ -1,7 +1,7 @@
 use Rattle.std.proofs.Common.{◌≡◌, ◌+◌, length, []}
-use Rattle.strategy_parse.specs.declared.parser.state.State.TheVariants.{Strategy as ToStrategy}
+use Rattle.strategy_parse.specs.declared.parser.state.ParserState.TheVariants.{Strategy as ToStrategy}
 use Rattle.strategy_parse.specs.inside.Forms.{forms}
-use Rattle.strategy_parse.specs.inside.Machine.{step}
+use Rattle.strategy_parse.specs.inside.Parser.{step}
 use Rattle.strategy_parse.specs.inside.StuckPlaces.{stuck_at}
 use Rattle.strategy_tokens.proofs.ScanLemmas.{later}
 use Rattle.strategy_parse.proofs.parser.stuck.first_stuck.Given as goal

@@ -1,5 +1,5 @@
 use Rattle.std.proofs.Common.{length, ap, sym, arith}
-use Rattle.term_match.specs.Contents.{Contents}
+use Rattle.term_match.specs.CellContents.{CellContents}
 use Rattle.term_match.proofs.MatchLemmas.{bind_bound, bind_empty, empty_there}
 use Rattle.term_match.proofs.cells.Cells.look.Goals as goal
 
@@ -11,6 +11,6 @@ returns-in-Some-get g c =
 pub returns-in-None : goal.returns-in-None
 returns-in-None g c =
     let empty = empty_there c.args.self.now.bindings c.in-Some.i
-    (omega (arith, c.if-i-len.false, c.len.ensures, ap (λ (x : Contents). length x.bindings) c.self.view_is))
+    (omega (arith, c.if-i-len.false, c.len.ensures, ap (λ (x : CellContents). length x.bindings) c.self.view_is))
     (sym c.in-None.ensures) in
     (empty, bind_empty _ c.args.variable c.args.value.now c.args.self.now.bindings c.in-Some.i (sym c.in-Some.ensures) empty)

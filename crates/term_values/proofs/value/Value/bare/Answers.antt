@@ -3,7 +3,7 @@ use Rattle.term_core.specs.Tree.{Tree, bare, annotations}
 use Rattle.term_core.specs.Size.{height, size}
 use Rattle.term_changes.specs.Standing.{after}
 use Rattle.term_values.specs.declared.value.Form.{Form}
-use Rattle.term_values.specs.declared.value.Noted.{Noted}
+use Rattle.term_values.specs.declared.value.Annotated.{Annotated}
 use Rattle.term_values.specs.inside.ValueView.{form_tree, form_shape, notes_list}
 use Rattle.term_values.proofs.SizeLemmas.{bare_less, bare_height, bounded_along}
 use Rattle.term_values.proofs.ListLemmas.{bare_same, noted_bare}
@@ -38,10 +38,10 @@ invariant_of-result-in-Kept c =
       bounded = bounded_along (bare t) (bare (after c.in_ok-clone-in-Kept.field-0.value)) c.less-in-Kept.result (ap bare (sym whole)) less;
     }
 
-pub returns-in-Noted : goal.returns-in-Noted
-returns-in-Noted c =
-    let n = c.in-Noted.noted.value in
-    let whole = ap form_tree (sym c.in-Noted.is) ∙ c.self.view_is in
-    let shape = subst (λ (f : Form). form_shape f) c.in-Noted.is c.self.invariant.shape in
-    let e = ap (λ (x : Noted). x.node) c.deref.ensures ∙ noted_bare n.node c.args.self.now (notes_list n.notes) whole shape.bare in
-    subst (λ (x : Tree). IfOk c.try_clone-in-Noted.result (λ value. value ≡ x)) e c.try_clone-in-Noted.ensures
+pub returns-in-Annotated : goal.returns-in-Annotated
+returns-in-Annotated c =
+    let n = c.in-Annotated.noted.value in
+    let whole = ap form_tree (sym c.in-Annotated.is) ∙ c.self.view_is in
+    let shape = subst (λ (f : Form). form_shape f) c.in-Annotated.is c.self.invariant.shape in
+    let e = ap (λ (x : Annotated). x.node) c.deref.ensures ∙ noted_bare n.node c.args.self.now (notes_list n.notes) whole shape.bare in
+    subst (λ (x : Tree). IfOk c.try_clone-in-Annotated.result (λ value. value ≡ x)) e c.try_clone-in-Annotated.ensures

@@ -2,7 +2,7 @@ use Rattle.std.proofs.Common.{◌+◌, sym, subst}
 use Rattle.strategy_parse.specs.inside.Counts.{IsCounted}
 use Rattle.strategy_parse.proofs.CountLemmas.{counted-push}
 use Rattle.strategy_parse.specs.inside.Counts.{lefts_of}
-use Rattle.strategy_parse.proofs.parser.stack.Stack.push.Goals as goal
+use Rattle.strategy_parse.proofs.parser.stack.ParserStack.push.Goals as goal
 
 pub invariant_of-self-in-Some : goal.invariant_of-self-in-Some
 invariant_of-self-in-Some c = record {

@@ -2,10 +2,10 @@ use Rattle.std.proofs.Common.{rules, ◌≡◌, ◌∷◌, sym, ◌∙◌, ap}
 use Rattle.std.specs.Prelude.{reverse}
 use denote.Enum.Bare.{same_true}
 use Rattle.strategy_parse.specs.contracts.parser.state.Infix.{the_type}
-use Rattle.strategy_parse.specs.declared.parser.state.Frame.TheVariants.{Operand}
+use Rattle.strategy_parse.specs.declared.parser.state.ParserFrame.TheVariants.{Operand}
 use Rattle.strategy_parse.specs.inside.Forms.{forms}
 use Rattle.strategy_parse.proofs.StackLemmas.{top-is}
-use Rattle.strategy_parse.proofs.parser.stack.Stack.has_operand.Goals as goal
+use Rattle.strategy_parse.proofs.parser.stack.ParserStack.has_operand.Goals as goal
 
 pub returns-in-Some-Operand-clause-yes : goal.returns-in-Some-Operand-clause-yes
 unfolding forms

@@ -1,7 +1,7 @@
 use Rattle.strategy_parse.specs.inside.Counts.{IsCounted}
 use Rattle.strategy_parse.proofs.CountLemmas.{counted-pop}
 use Rattle.std.proofs.Common.{subst}
-use Rattle.strategy_parse.proofs.parser.stack.Stack.pop.Goals as goal
+use Rattle.strategy_parse.proofs.parser.stack.ParserStack.pop.Goals as goal
 
 pub invariant_of-self-in-Ok : goal.invariant_of-self-in-Ok
 invariant_of-self-in-Ok c = record {

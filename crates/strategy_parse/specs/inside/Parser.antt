@@ -11,10 +11,10 @@ use Rattle.strategy_tokens.specs.declared.token.Keyword.{Keyword}
 use Rattle.strategy_tokens.specs.declared.token.Keyword.TheVariants.{Id as KId, Fail as KFail, All as KAll, One as KOne, Some as KSome, Not as KNot, Where as KWhere, Test as KTest, If as KIf, Then as KThen, Else as KElse, End as KEnd, Rec as KRec, Prim as KPrim}
 use Rattle.strategy_tokens.specs.declared.token.Sign.{Sign}
 use Rattle.strategy_tokens.specs.declared.token.Sign.TheVariants.{OpenRound, CloseRound, OpenSquare, CloseSquare, OpenCurly, CloseCurly, Comma, Semicolon, Colon, Bar, FatArrow, Arrow as RightArrow, Less, Greater, LeftChoice, Plus, Question, Exclamation, At as AtSign, Backslash}
-use Rattle.strategy_parse.specs.declared.parser.state.State.{State}
-use Rattle.strategy_parse.specs.declared.parser.state.State.TheVariants.{Strategy as ToStrategy, FirstStrategy, Read, Used, Opening, Rec as BehindRec, Prim as BehindPrim, PrimOpen, PrimNamed, ScopeOpen, ScopeComma, ScopeNamed, Pattern as ToPattern, FirstPattern, Named, Base, Whole}
-use Rattle.strategy_parse.specs.declared.parser.state.Frame.{Frame}
-use Rattle.strategy_parse.specs.declared.parser.state.Frame.TheVariants.{Operand, At, Strategy as ForStrategy, Pattern as ForPattern}
+use Rattle.strategy_parse.specs.declared.parser.state.ParserState.{ParserState}
+use Rattle.strategy_parse.specs.declared.parser.state.ParserState.TheVariants.{Strategy as ToStrategy, FirstStrategy, Read, Used, Opening, Rec as BehindRec, Prim as BehindPrim, PrimOpen, PrimNamed, ScopeOpen, ScopeComma, ScopeNamed, Pattern as ToPattern, FirstPattern, Named, Base, Whole}
+use Rattle.strategy_parse.specs.declared.parser.state.ParserFrame.{ParserFrame}
+use Rattle.strategy_parse.specs.declared.parser.state.ParserFrame.TheVariants.{Operand, At, Strategy as ForStrategy, Pattern as ForPattern}
 use Rattle.strategy_parse.specs.declared.parser.state.Infix.{Infix}
 use Rattle.strategy_parse.specs.declared.parser.state.Infix.TheVariants.{Before, Guarded, Otherwise}
 use Rattle.strategy_parse.specs.declared.parser.state.StrategyFrame.{StrategyFrame}
@@ -27,8 +27,8 @@ use Rattle.strategy_parse.specs.declared.parser.state.StrategyGroup.{StrategyGro
 use Rattle.strategy_parse.specs.declared.parser.state.StrategyGroup.TheVariants.{Round, Square, Arguments}
 use Rattle.strategy_parse.specs.declared.parser.state.PatternGroup.{PatternGroup}
 use Rattle.strategy_parse.specs.declared.parser.state.PatternGroup.TheVariants.{Application as PApplication, List as PList, Tuple as PTuple, Annotations, Terms, Prim}
-use Rattle.strategy_parse.specs.declared.parser.state.Outcome.{Outcome}
-use Rattle.strategy_parse.specs.declared.parser.state.Outcome.TheVariants.{Goes, Ends}
+use Rattle.strategy_parse.specs.declared.parser.state.Effect.{Effect}
+use Rattle.strategy_parse.specs.declared.parser.state.Effect.TheVariants.{Goes, Ends}
 use Rattle.strategy_tokens.specs.Marks.{is_mark, is_word}
 use Rattle.strategy_syntax.specs.Variables.{variables}
 use Rattle.strategy_syntax.specs.Lists.{first_ones}
@@ -37,28 +37,28 @@ use Rattle.strategy_parse.specs.Core.{operated, in_brackets, rewrite, rewrite_wh
 -- The effect of a token: it is read, or a whole strategy ended before it, or nothing continues with
 -- it.
 pub data Next : Type 0 where
-  goes : State → List Frame → Next
+  goes : ParserState → List ParserFrame → Next
   ends : Strategy → Next
   stuck : Next
 
-abbrev pub leads : Outcome → List Frame → Next
+abbrev pub leads : Effect → List ParserFrame → Next
 leads (Goes q) S = goes q S
 leads (Ends s) S = ends s
 
 -- ---- beginnings
 
-abbrev pub open_patterns : PatternGroup → List Frame → Next
+abbrev pub open_patterns : PatternGroup → List ParserFrame → Next
 open_patterns g S = goes (FirstPattern g) S
 
-abbrev pub open_strategies : StrategyGroup → List Frame → Next
+abbrev pub open_strategies : StrategyGroup → List ParserFrame → Next
 open_strategies g S = goes (FirstStrategy g) S
 
-abbrev pub open_pattern : List Frame → Sign → Next
+abbrev pub open_pattern : List ParserFrame → Sign → Next
 open_pattern S OpenSquare = open_patterns PList S
 open_pattern S OpenRound = open_patterns PTuple S
 open_pattern S s = stuck
 
-abbrev pub begin_pattern : List Frame → Token → Next
+abbrev pub begin_pattern : List ParserFrame → Token → Next
 begin_pattern S Wildcard = goes (Base syntax.wildcard) S
 begin_pattern S (Ident f) = goes (Named f) S
 begin_pattern S (Integer z) = goes (Base (syntax.number z)) S
@@ -67,7 +67,7 @@ begin_pattern S (ASign s) = open_pattern S s
 begin_pattern S (Reserved k) = stuck
 begin_pattern S Bad = stuck
 
-abbrev pub begin_sign : List Frame → Sign → Next
+abbrev pub begin_sign : List ParserFrame → Sign → Next
 begin_sign S Question = goes ToPattern (ForPattern Match ∷ S)
 begin_sign S Exclamation = goes ToPattern (ForPattern Build ∷ S)
 begin_sign S Less = goes ToStrategy (ForStrategy Application ∷ S)
@@ -77,10 +77,10 @@ begin_sign S OpenRound = open_strategies Round S
 begin_sign S OpenSquare = open_strategies Square S
 begin_sign S s = stuck
 
-abbrev pub operate : Operator → List Frame → Next
+abbrev pub operate : Operator → List ParserFrame → Next
 operate o S = goes (Opening (Operated o)) S
 
-abbrev pub begin_word : List Frame → Keyword → Next
+abbrev pub begin_word : List ParserFrame → Keyword → Next
 begin_word S KId = goes (Read syntax.id) S
 begin_word S KFail = goes (Read syntax.fail) S
 begin_word S KAll = operate All S
@@ -95,11 +95,11 @@ begin_word S KPrim = goes BehindPrim S
 begin_word S k = stuck
 
 -- children are counted from 1
-abbrev pub begin_child : List Frame → ℤ → Next
+abbrev pub begin_child : List ParserFrame → ℤ → Next
 begin_child S (pos (suc n)) = goes (Opening (Child (suc n))) S
 begin_child S z = stuck
 
-abbrev pub begin : List Frame → Token → Next
+abbrev pub begin : List ParserFrame → Token → Next
 begin S (ASign s) = begin_sign S s
 begin S (Reserved k) = begin_word S k
 begin S (Ident f) = goes (Used f) S
@@ -122,24 +122,24 @@ grouped Round done = in_brackets (strategies_of done)
 grouped Square done = syntax.congruence list (strategies_of done)
 grouped (Arguments f) done = syntax.uses f (strategies_of done) syntax.no_patterns
 
-abbrev pub close_strategies : StrategyGroup → List Strategy → List Frame → Token → Next
+abbrev pub close_strategies : StrategyGroup → List Strategy → List ParserFrame → Token → Next
 close_strategies g done S t =
     if (is_mark (closing g) t) then goes (Read (grouped g done)) S else stuck
 
 -- a `|` after the strategies of a list
-abbrev pub behind_bar : StrategyGroup → List Strategy → List Frame → Next
+abbrev pub behind_bar : StrategyGroup → List Strategy → List ParserFrame → Next
 behind_bar Round done S = stuck
 behind_bar Square done S = goes ToStrategy (ForStrategy (SquareTail done) ∷ S)
 behind_bar (Arguments f) done S = open_patterns (Terms f done) S
 
 -- after a strategy of a list, which was added to the list
-abbrev pub behind_element : StrategyGroup → List Strategy → List Frame → Token → Next
+abbrev pub behind_element : StrategyGroup → List Strategy → List ParserFrame → Token → Next
 behind_element g done S t =
     if (is_mark Comma t) then goes ToStrategy (ForStrategy (Strategies g done) ∷ S) else
     if (is_mark Bar t) then behind_bar g done S else close_strategies g done S t
 
 -- a whole strategy in an open form
-abbrev pub in_frame : Strategy → StrategyFrame → List Frame → Token → Next
+abbrev pub in_frame : Strategy → StrategyFrame → List ParserFrame → Token → Next
 in_frame s (Operated o) S t =
     if (is_mark CloseRound t) then goes (Read (operated o s)) S else stuck
 in_frame s (Rec x) S t =
@@ -165,7 +165,7 @@ in_frame s (SquareTail done) S t =
     then goes (Read (syntax.tail_congruence (strategies_of done) s)) S else stuck
 
 -- after the last part of a choice
-abbrev pub behind_choice : Strategy → List Frame → Token → Next
+abbrev pub behind_choice : Strategy → List ParserFrame → Token → Next
 behind_choice s (Operand Otherwise b ∷ (Operand Guarded a ∷ S)) t =
     behind_choice (syntax.guard a b s) S t
 behind_choice s [] t = ends s
@@ -173,14 +173,14 @@ behind_choice s (ForStrategy F ∷ S) t = in_frame s F S t
 behind_choice s (F ∷ S) t = stuck
 
 -- after a sequence that isn't the second branch of a guarded choice
-abbrev pub behind_seq : Strategy → List Frame → Token → Next
+abbrev pub behind_seq : Strategy → List ParserFrame → Token → Next
 behind_seq s S t =
     if (is_mark LeftChoice t)
     then goes ToStrategy (Operand Otherwise syntax.id ∷ (Operand Guarded s ∷ S)) else
     if (is_mark Less t) then goes ToStrategy (Operand Guarded s ∷ S) else behind_choice s S t
 
 -- after an arrow form without a `;`; after `s < r` a `+` has to come
-abbrev pub behind_arrow : Strategy → List Frame → Token → Next
+abbrev pub behind_arrow : Strategy → List ParserFrame → Token → Next
 behind_arrow s (Operand Before r ∷ S) t = behind_arrow (syntax.seq r s) S t
 behind_arrow s (Operand Guarded a ∷ S) t =
     if (is_mark Plus t)
@@ -188,7 +188,7 @@ behind_arrow s (Operand Guarded a ∷ S) t =
 behind_arrow s S t = behind_seq s S t
 
 -- after a strategy, which may continue
-abbrev pub behind : Strategy → List Frame → Token → Next
+abbrev pub behind : Strategy → List ParserFrame → Token → Next
 behind s S t =
     if (is_mark FatArrow t) then goes ToPattern (ForPattern (Matched s) ∷ S) else
     if (is_mark Semicolon t) then goes ToStrategy (Operand Before s ∷ S) else behind_arrow s S t
@@ -204,7 +204,7 @@ closing_sign (Terms f ss) = CloseRound
 closing_sign (Prim f) = CloseRound
 
 -- what a list of patterns makes
-abbrev pub close_patterns : PatternGroup → List Pattern → State
+abbrev pub close_patterns : PatternGroup → List Pattern → ParserState
 close_patterns (PApplication f) ps = Base (syntax.compound (applied f) (patterns_of ps))
 close_patterns PList ps = Base (syntax.compound list (patterns_of ps))
 close_patterns PTuple ps = Base (syntax.compound tuple (patterns_of ps))
@@ -213,19 +213,19 @@ close_patterns (Terms f ss) ps = Read (syntax.uses f (strategies_of ss) (pattern
 close_patterns (Prim f) ps = Read (syntax.prim f (patterns_of ps))
 
 -- a `|` after the patterns of a list
-abbrev pub pattern_bar : PatternGroup → List Pattern → List Frame → Next
+abbrev pub pattern_bar : PatternGroup → List Pattern → List ParserFrame → Next
 pattern_bar PList ps S = goes ToPattern (ForPattern (PatternTail ps) ∷ S)
 pattern_bar g ps S = stuck
 
 -- after a pattern of a list, which was added to the list
-abbrev pub behind_one : PatternGroup → List Pattern → List Frame → Token → Next
+abbrev pub behind_one : PatternGroup → List Pattern → List ParserFrame → Token → Next
 behind_one g ps S t =
     if (is_mark Comma t) then goes ToPattern (ForPattern (Patterns g ps) ∷ S) else
     if (is_mark (closing_sign g) t) then goes (close_patterns g ps) S else
     if (is_mark Bar t) then pattern_bar g ps S else stuck
 
 -- a whole pattern in an open form
-abbrev pub pattern_in_frame : Pattern → PatternFrame → List Frame → Token → Next
+abbrev pub pattern_in_frame : Pattern → PatternFrame → List ParserFrame → Token → Next
 pattern_in_frame p Match S t = behind (syntax.matches p) S t
 pattern_in_frame p Build S t = behind (syntax.builds p) S t
 pattern_in_frame p (Applied s) S t = behind (syntax.seq (syntax.builds p) s) S t
@@ -240,50 +240,50 @@ pattern_in_frame p (Patterns g ps) S t = behind_one g (ps ++ p ∷ []) S t
 pattern_in_frame p (PatternTail ps) S t =
     if (is_mark CloseSquare t) then goes (Base (syntax.with_tail (patterns_of ps) p)) S else stuck
 
-abbrev pub behind_pattern : Pattern → List Frame → Token → Next
+abbrev pub behind_pattern : Pattern → List ParserFrame → Token → Next
 behind_pattern p (At x ∷ S) t = behind_pattern (syntax.at x p) S t
 behind_pattern p [] t = stuck
 behind_pattern p (ForPattern F ∷ S) t = pattern_in_frame p F S t
 behind_pattern p (F ∷ S) t = stuck
 
-abbrev pub behind_base : Pattern → List Frame → Token → Next
+abbrev pub behind_base : Pattern → List ParserFrame → Token → Next
 behind_base p S t =
     if (is_mark OpenCurly t) then open_patterns (Annotations p) S else behind_pattern p S t
 
 -- ---- one token
 
 -- a list of strategies may be empty; before a `|` only if it holds arguments
-abbrev pub empty_bar : StrategyGroup → List Frame → Next
+abbrev pub empty_bar : StrategyGroup → List ParserFrame → Next
 empty_bar (Arguments f) S = open_patterns (Terms f []) S
 empty_bar Round S = stuck
 empty_bar Square S = stuck
 
-abbrev pub first_strategy : StrategyGroup → List Frame → Token → Next
+abbrev pub first_strategy : StrategyGroup → List ParserFrame → Token → Next
 first_strategy g S t =
     if (is_mark (closing g) t) then goes (Read (grouped g [])) S else
     if (is_mark Bar t) then empty_bar g S else begin (ForStrategy (Strategies g []) ∷ S) t
 
-abbrev pub first_pattern : PatternGroup → List Frame → Token → Next
+abbrev pub first_pattern : PatternGroup → List ParserFrame → Token → Next
 first_pattern g S t =
     if (is_mark (closing_sign g) t) then goes (close_patterns g []) S
     else begin_pattern (ForPattern (Patterns g []) ∷ S) t
 
-abbrev pub rec_name : List Frame → Token → Next
+abbrev pub rec_name : List ParserFrame → Token → Next
 rec_name S (Ident f) = goes (Opening (Rec f)) S
 rec_name S t = stuck
 
-abbrev pub prim_name : List Frame → Token → Next
+abbrev pub prim_name : List ParserFrame → Token → Next
 prim_name S (Text f) = goes (PrimNamed f) S
 prim_name S t = stuck
 
-abbrev pub scope_name : List Symbol → List Frame → Token → Next
+abbrev pub scope_name : List Symbol → List ParserFrame → Token → Next
 scope_name xs S (Ident f) = goes (ScopeNamed (xs ++ f ∷ [])) S
 scope_name xs S t = stuck
 
-abbrev pub begin_scope : List Symbol → List Frame → Next
+abbrev pub begin_scope : List Symbol → List ParserFrame → Next
 begin_scope xs S = goes ToStrategy (ForStrategy (Scope xs) ∷ S)
 
-abbrev pub step : State → List Frame → Token → Next
+abbrev pub step : ParserState → List ParserFrame → Token → Next
 step ToStrategy S t = begin S t
 step (FirstStrategy g) S t = first_strategy g S t
 step (Read s) S t = behind s S t
@@ -312,7 +312,7 @@ step (Whole p) S t = behind_pattern p S t
 
 -- ---- the start of a text
 
-abbrev pub front_of : (State → List Frame → Option (Strategy × List Token)) → List Token → Next
+abbrev pub front_of : (ParserState → List ParserFrame → Option (Strategy × List Token)) → List Token → Next
     → Option (Strategy × List Token)
 front_of k x (goes q S) = k q S
 front_of k x (ends s) = Some (s, x)
@@ -325,11 +325,11 @@ front f (t ∷ ts) = front_of (λ q S. front (step q S) ts) (t ∷ ts) (f t)
 
 -- ---- the top of the stack
 
-abbrev pub no_operand : Infix → List Frame → Type 0
-no_operand i S = (s : Strategy) (R : List Frame) → S ≡ Operand i s ∷ R → ⊥
+abbrev pub no_operand : Infix → List ParserFrame → Type 0
+no_operand i S = (s : Strategy) (R : List ParserFrame) → S ≡ Operand i s ∷ R → ⊥
 
-abbrev pub HasOperand : Infix → List Frame → Type 0
-HasOperand i S = (s : Strategy) × (R : List Frame) × (S ≡ Operand i s ∷ R)
+abbrev pub HasOperand : Infix → List ParserFrame → Type 0
+HasOperand i S = (s : Strategy) × (R : List ParserFrame) × (S ≡ Operand i s ∷ R)
 
-abbrev pub no_at : List Frame → Type 0
-no_at S = (x : Symbol) (R : List Frame) → S ≡ At x ∷ R → ⊥
+abbrev pub no_at : List ParserFrame → Type 0
+no_at S = (x : Symbol) (R : List ParserFrame) → S ≡ At x ∷ R → ⊥

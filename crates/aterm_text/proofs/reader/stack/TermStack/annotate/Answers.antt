@@ -3,7 +3,7 @@ use Rattle.std.proofs.Math.ListN.{length-set}
 use Rattle.term_core.specs.Tree.{with_annotations}
 use Rattle.aterm_text.specs.inside.Depth.{depth}
 use Rattle.aterm_text.proofs.StackLemmas.{is_cut-same_length, cut-change, no_top, depth-cut}
-use Rattle.aterm_text.proofs.reader.stack.Stack.annotate.Goals as goal
+use Rattle.aterm_text.proofs.reader.stack.TermStack.annotate.Goals as goal
 
 pub returns-in_default-clause-top : goal.returns-in_default-clause-top
 returns-in_default-clause-top c = λ t below e.

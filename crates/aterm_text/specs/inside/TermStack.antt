@@ -15,26 +15,26 @@ pub record OpenBracket : Type 0 where
   pub terms : List Tree
 
 -- the terms outside of all brackets, and the open brackets, the innermost first
-pub record Stack : Type 0 where
+pub record TermStack : Type 0 where
   pub outside : List Tree
   pub open_brackets : List OpenBracket
 
-abbrev pub no_terms : Stack
+abbrev pub no_terms : TermStack
 no_terms = record { outside = []; open_brackets = [] }
 
 -- one more term, in the innermost bracket
-abbrev pub on_top : Tree → List Tree → List OpenBracket → Stack
+abbrev pub on_top : Tree → List Tree → List OpenBracket → TermStack
 on_top t outside [] = record { outside = outside ++ t ∷ []; open_brackets = [] }
 on_top t outside (g ∷ gs) = record {
   outside = outside;
   open_brackets = record { opening = g.opening; terms = g.terms ++ t ∷ [] } ∷ gs;
 }
 
-abbrev pub with_top : Tree → Stack → Stack
+abbrev pub with_top : Tree → TermStack → TermStack
 with_top t s = on_top t s.outside s.open_brackets
 
 -- one more bracket, with these terms in it
-abbrev pub inside : Opening → List Tree → Stack → Stack
+abbrev pub inside : Opening → List Tree → TermStack → TermStack
 inside opening ts s = record {
   outside = s.outside;
   open_brackets = record { opening = opening; terms = ts } ∷ s.open_brackets;
@@ -50,7 +50,7 @@ closes_first [] = None
 closes_first (g ∷ gs) = Some (closes g.opening)
 
 -- the bracket that closes the innermost one, if one is open
-abbrev pub first_closing : Stack → Option ℕ
+abbrev pub first_closing : TermStack → Option ℕ
 first_closing s = closes_first s.open_brackets
 
 -- ---- how the logic stores a stack: as the tuple of its fields
@@ -79,7 +79,7 @@ open_bracket_code =
     code_by (Opening × List Tree) (coded× opening_code (coded_list tree_code))
     (λ g. (g.opening, g.terms)) (λ p. record { opening = p.0; terms = p.1 }) (λ _. refl)
 
-abbrev pub stack_code : Coded Stack
+abbrev pub stack_code : Coded TermStack
 stack_code =
     code_by (List Tree × List OpenBracket) (coded× (coded_list tree_code) (coded_list open_bracket_code))
     (λ s. (s.outside, s.open_brackets)) (λ p. record { outside = p.0; open_brackets = p.1 }) (λ _. refl)

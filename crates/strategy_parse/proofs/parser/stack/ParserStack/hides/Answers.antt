@@ -1,7 +1,7 @@
 use Rattle.std.proofs.Common.{sym, ◌∙◌, arith}
 use Rattle.strategy_parse.specs.inside.Forms.{forms}
 use Rattle.strategy_parse.proofs.CountLemmas.{hidden-yes, hidden-no}
-use Rattle.strategy_parse.proofs.parser.stack.Stack.hides.Goals as goal
+use Rattle.strategy_parse.proofs.parser.stack.ParserStack.hides.Goals as goal
 
 pub returns-then-self-gt0 : goal.returns-then-self-gt0
 unfolding forms

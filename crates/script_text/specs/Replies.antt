@@ -10,7 +10,7 @@ use Rattle.aterm_text.specs.Printed.{print, print_name as print_symbol}
 use Rattle.strategy_check.specs.Words.{word_of as kind_word}
 use Rattle.session_history.specs.History.{History}
 use Rattle.session_history.specs.Applying.{Meaning}
-use Rattle.session_history.specs.Step as session
+use Rattle.session_history.specs.Acts as session
 use Rattle.session_history.specs.Preview.{Replacement, Preview, Previews}
 use Rattle.session_history.specs.Dump.{dumped}
 use Rattle.session_history.specs.Refusal.{number_of, word_of}
@@ -47,16 +47,16 @@ abbrev pub ok_with : History → Accepted
 ok_with h = told_of h (line (codes "ok"))
 
 -- a step of the session, answered with `ok`
-abbrev pub done : session.Outcome → Reply
+abbrev pub done : session.ActResult → Reply
 done (Ok h) = Ok (ok_with h)
 done (Err refusal) = Err refusal
 
 -- the outcome is answered with `ok`, or is the refusal
-abbrev pub Told : (session.Outcome → Type 0) → Reply → Type 0
-Told Comes reply = (outcome : session.Outcome) × Comes outcome × (reply ≡ done outcome)
+abbrev pub Told : (session.ActResult → Type 0) → Reply → Type 0
+Told Comes reply = (outcome : session.ActResult) × Comes outcome × (reply ≡ done outcome)
 
 -- the answer that shows a place, if it exists
-abbrev pub shown : History → Result session.Place Refusal → Reply
+abbrev pub shown : History → Result session.Located Refusal → Reply
 shown h (Ok place) = Ok (told_of h (line (print place.part)))
 shown h (Err refusal) = Err refusal
 
@@ -128,7 +128,7 @@ Replies meaning abandon h = Told (session.ComesTo session.abandon h)
 Replies meaning (show name path) h = Is (shown h (session.place_of h.now name path))
 Replies meaning trees h = Is (told h (listed (codes "trees") (finmap.keys h.now.trees)))
 Replies meaning modules h = Is (told h (listed (codes "modules") (finmap.keys h.now.modules)))
-Replies meaning (module_text name) h = Is (shown_text h (session.text_of h.now name))
+Replies meaning (module_text name) h = Is (shown_text h (session.module_text_of h.now name))
 Replies meaning history h = Is (told h (counted h))
 Replies meaning dump h = Is (told h (dumped h.now))
 

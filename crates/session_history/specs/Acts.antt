@@ -35,8 +35,8 @@ pub data Act : Type 0 where
   abandon : Act  -- undoes the changes of the group
 
 -- the outcome of an act: the history after it, or the refusal
-abbrev pub Outcome : Type 0
-Outcome = Result History Refusal
+abbrev pub ActResult : Type 0
+ActResult = Result History Refusal
 
 -- ---- the order of refusals: each test refuses, or the rest decides
 
@@ -46,7 +46,7 @@ Passing (Ok x) next outcome = next x outcome
 Passing (Err refusal) next outcome = outcome ≡ Err refusal
 
 -- A test has to hold, else this is the refusal.
-abbrev pub Holding : Bool → Refusal → (Outcome → Type 0) → Outcome → Type 0
+abbrev pub Holding : Bool → Refusal → (ActResult → Type 0) → ActResult → Type 0
 Holding true refusal next outcome = next outcome
 Holding false refusal next outcome = outcome ≡ Err refusal
 
@@ -55,11 +55,11 @@ abbrev pub Given : {X Y : Type 0} → (Result X Refusal → Type 0) → (X → R
     → Type 0
 Given {X} {Y} Gives next outcome = (given : Result X Refusal) × Gives given × Passing given next outcome
 
-abbrev pub Leaves : History → Outcome → Type 0
+abbrev pub Leaves : History → ActResult → Type 0
 Leaves g outcome = outcome ≡ Ok g
 
 -- These are the contents afterwards, by a change.
-abbrev pub ChangesTo : Contents → History → Outcome → Type 0
+abbrev pub ChangesTo : Contents → History → ActResult → Type 0
 ChangesTo c h = Leaves (changed c h)
 
 -- ---- what the tests find
@@ -67,39 +67,39 @@ ChangesTo c h = Leaves (changed c h)
 abbrev pub tree_of : Contents → List ℕ → Result Tree Refusal
 tree_of c name = ok_or (finmap.get c.trees name) NoTree
 
-abbrev pub text_of : Contents → List ℕ → Result (List ℕ) Refusal
-text_of c name = ok_or (finmap.get c.modules name) NoModule
+abbrev pub module_text_of : Contents → List ℕ → Result (List ℕ) Refusal
+module_text_of c name = ok_or (finmap.get c.modules name) NoModule
 
 -- A place in a tree: the tree, and the subterm there.
-pub record Place : Type 0 where
+pub record Located : Type 0 where
   pub tree : Tree
   pub part : Tree
 
-abbrev pub place_in : List ℕ → Result Tree Refusal → Result Place Refusal
+abbrev pub place_in : List ℕ → Result Tree Refusal → Result Located Refusal
 place_in path (Ok tree) =
     ok_or (option_map (λ part. record { tree = tree; part = part }) (at tree path)) Path
 place_in path (Err refusal) = Err refusal
 
 -- the place at a path in the tree of a label
-abbrev pub place_of : Contents → List ℕ → List ℕ → Result Place Refusal
+abbrev pub place_of : Contents → List ℕ → List ℕ → Result Located Refusal
 place_of c name path = place_in path (tree_of c name)
 
 -- ---- acts
 
 -- The modules become those of these contents, by a change. Outside a group the checker has to find
 -- no fault in them.
-abbrev pub ChangesModules : Option HistoryGroup → Contents → History → Outcome → Type 0
+abbrev pub ChangesModules : Option HistoryGroup → Contents → History → ActResult → Type 0
 ChangesModules None c h = Given (Checks h.primitives c.modules) (λ program. ChangesTo c h)
 ChangesModules (Some g) c h = ChangesTo c h
 
 -- A tree put at a place has to fit at its level, the length of the path; annotations have to fit
 -- one level below.
-abbrev pub PutsAt : List ℕ → List ℕ → Tree → History → Place → Outcome → Type 0
+abbrev pub PutsAt : List ℕ → List ℕ → Tree → History → Located → ActResult → Type 0
 PutsAt name path part h place =
     Holding (fits (length path) part) Big
     (ChangesTo (with_tree h.now name (set_at place.tree path part)) h)
 
-abbrev pub AnnotatesAt : List ℕ → List ℕ → List Tree → History → Place → Outcome → Type 0
+abbrev pub AnnotatesAt : List ℕ → List ℕ → List Tree → History → Located → ActResult → Type 0
 AnnotatesAt name path annotations h place =
     Holding (list_all (fits (length path + 1)) annotations) Big
     (ChangesTo (with_tree h.now name (set_annotations_at place.tree path annotations)) h)
@@ -107,14 +107,14 @@ AnnotatesAt name path annotations h place =
 -- A strategy, given as text, for a place: the place has to be there, the text has to be one, and the
 -- checker has to find no fault in the current modules, nor in the strategy, given their program.
 abbrev pub Resolving : {Y : Type 0} → List ℕ → List ℕ → List ℕ → History
-    → (Place → Program → Resolved → Result Y Refusal → Type 0) → Result Y Refusal → Type 0
+    → (Located → Program → Resolved → Result Y Refusal → Type 0) → Result Y Refusal → Type 0
 Resolving name path text h next =
     Passing (place_of h.now name path) (λ place. Given (ReadsAsStrategy text) (λ s.
     Given (Checks h.primitives h.now.modules) (λ program.
     Passing (resolved_in program h.primitives s) (next place program))))
 
 -- The result of the strategy there becomes the label's tree, by a change.
-abbrev pub AppliesAt : Meaning → List ℕ → List ℕ → ℕ → History → Place → Program → Resolved → Outcome → Type 0
+abbrev pub AppliesAt : Meaning → List ℕ → List ℕ → ℕ → History → Located → Program → Resolved → ActResult → Type 0
 AppliesAt meaning name path steps h place program strategy =
     Passing (given_by (applied (world_in meaning program h.primitives) path strategy steps place.tree))
     (λ tree. ChangesTo (with_tree h.now name tree) h)
@@ -127,7 +127,7 @@ committed g h =
 -- The outcome of each act at a history. A copy needs no test of its size. Going back or forward needs
 -- that many steps, and no open group; a group is committed if the checker finds no fault in the
 -- modules.
-abbrev pub ComesTo : Act → History → Outcome → Type 0
+abbrev pub ComesTo : Act → History → ActResult → Type 0
 ComesTo (set_tree name tree) h = Holding (fits 0 tree) Big (ChangesTo (with_tree h.now name tree) h)
 ComesTo (copy_tree name copy) h =
     Passing (tree_of h.now name) (λ tree. ChangesTo (with_tree h.now copy tree) h)
@@ -138,7 +138,7 @@ ComesTo (annotate name path annotations) h =
 ComesTo (set_module name text) h =
     Given (ReadsAsModule text) (λ m. ChangesModules h.group (with_module h.now name text) h)
 ComesTo (unload name) h =
-    Passing (text_of h.now name) (λ text. ChangesModules h.group (without_module h.now name) h)
+    Passing (module_text_of h.now name) (λ text. ChangesModules h.group (without_module h.now name) h)
 ComesTo (apply meaning name path steps text) h =
     Resolving name path text h (AppliesAt meaning name path steps h)
 ComesTo (undo k) h =
