@@ -44,7 +44,7 @@ scope_from-append known more (Some n) h = get_or_append_left known more nowhere 
 addition-more : (known more : List Scope) (a : Adds) (E : Scope) → AddsFit (length known) a
     → with_addition (known ++ more) (addition_of a) E ≡ with_addition known (addition_of a) E
 addition-more known more (Variables first n) E h = refl
-addition-more known more (Name k) E h = ap (with_name E k.strategy.now) (get_or_append_left known more nowhere k.inside h)
+addition-more known more (Name k) E h = ap (with_name E k.strategy.now) (get_or_append_left known more nowhere k.written_in h)
 
 widened-more : (known more : List Scope) (e : ScopeEntry) → RestsOnOlder known (length known) e → widened (known ++ more) (widening_of e) ≡ widened known (widening_of e)
 widened-more known more e s =

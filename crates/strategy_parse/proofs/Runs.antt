@@ -1,5 +1,5 @@
 -- What the machine accepts, and where it is stuck.
-use Rattle.std.proofs.Common.{◌≡◌, Bool, true, false, refl, sym, ap, ◌∙◌, subst, inl, inr, List, [], ◌∷◌, ◌++◌, Some, None}
+use Rattle.std.proofs.Common.{◌≡◌, Bool, true, false, ◌||◌, refl, sym, ap, ◌∙◌, subst, inl, inr, List, [], ◌∷◌, ◌++◌, Some, None}
 use Rattle.std.specs.Prelude.{if◌then◌else◌, ◌⊎◌}
 use Rattle.std.specs.declared.option.Option.{Option}
 use Rattle.strategy_syntax.specs.Syntax as syntax
@@ -66,124 +66,50 @@ pub record NoEnd (t : Token) : Type 0 where
   pub end_word : is_word KEnd t ≡ false
   pub where_word : is_word KWhere t ≡ false
 
+-- whether the token ends an open form
+abbrev ends_some : Token → Bool
+ends_some t = is_mark CloseRound t || (is_mark CloseSquare t || (is_mark CloseCurly t || (is_mark Comma t || (is_mark Bar t || (is_mark Greater t || (is_mark Backslash t || (is_mark RightArrow t || (is_mark Plus t || (is_word KThen t || (is_word KElse t || (is_word KEnd t || (is_word KWhere t))))))))))))
+
+neither : (a b : Bool) → (a || b) ≡ false → (a ≡ false) × (b ≡ false)
+neither true b e = absurd (cc)
+neither false b e = (refl, e)
+
+no_end : (t : Token) → ends_some t ≡ false → NoEnd t
+no_end t h =
+    let e0 = neither _ _ h in
+    let e1 = neither _ _ e0.1 in
+    let e2 = neither _ _ e1.1 in
+    let e3 = neither _ _ e2.1 in
+    let e4 = neither _ _ e3.1 in
+    let e5 = neither _ _ e4.1 in
+    let e6 = neither _ _ e5.1 in
+    let e7 = neither _ _ e6.1 in
+    let e8 = neither _ _ e7.1 in
+    let e9 = neither _ _ e8.1 in
+    let e10 = neither _ _ e9.1 in
+    let e11 = neither _ _ e10.1 in
+    record { round = e0.0; square = e1.0; curly = e2.0; comma = e3.0; bar = e4.0; greater = e5.0; backslash = e6.0; arrow = e7.0; plus = e8.0; then_word = e9.0; else_word = e10.0; end_word = e11.0; where_word = e11.1 }
+
 pub open_round : NoEnd (ASign OpenRound)
-open_round = record {
-  round = refl;
-  square = refl;
-  curly = refl;
-  comma = refl;
-  bar = refl;
-  greater = refl;
-  backslash = refl;
-  arrow = refl;
-  plus = refl;
-  then_word = refl;
-  else_word = refl;
-  end_word = refl;
-  where_word = refl;
-}
+open_round = no_end (ASign OpenRound) refl
 
 pub open_curly : NoEnd (ASign OpenCurly)
-open_curly = record {
-  round = refl;
-  square = refl;
-  curly = refl;
-  comma = refl;
-  bar = refl;
-  greater = refl;
-  backslash = refl;
-  arrow = refl;
-  plus = refl;
-  then_word = refl;
-  else_word = refl;
-  end_word = refl;
-  where_word = refl;
-}
+open_curly = no_end (ASign OpenCurly) refl
 
 pub at_sign : NoEnd (ASign AtSign)
-at_sign = record {
-  round = refl;
-  square = refl;
-  curly = refl;
-  comma = refl;
-  bar = refl;
-  greater = refl;
-  backslash = refl;
-  arrow = refl;
-  plus = refl;
-  then_word = refl;
-  else_word = refl;
-  end_word = refl;
-  where_word = refl;
-}
+at_sign = no_end (ASign AtSign) refl
 
 pub fat_arrow : NoEnd (ASign FatArrow)
-fat_arrow = record {
-  round = refl;
-  square = refl;
-  curly = refl;
-  comma = refl;
-  bar = refl;
-  greater = refl;
-  backslash = refl;
-  arrow = refl;
-  plus = refl;
-  then_word = refl;
-  else_word = refl;
-  end_word = refl;
-  where_word = refl;
-}
+fat_arrow = no_end (ASign FatArrow) refl
 
 pub semicolon : NoEnd (ASign Semicolon)
-semicolon = record {
-  round = refl;
-  square = refl;
-  curly = refl;
-  comma = refl;
-  bar = refl;
-  greater = refl;
-  backslash = refl;
-  arrow = refl;
-  plus = refl;
-  then_word = refl;
-  else_word = refl;
-  end_word = refl;
-  where_word = refl;
-}
+semicolon = no_end (ASign Semicolon) refl
 
 pub left_choice_sign : NoEnd (ASign LeftChoice)
-left_choice_sign = record {
-  round = refl;
-  square = refl;
-  curly = refl;
-  comma = refl;
-  bar = refl;
-  greater = refl;
-  backslash = refl;
-  arrow = refl;
-  plus = refl;
-  then_word = refl;
-  else_word = refl;
-  end_word = refl;
-  where_word = refl;
-}
+left_choice_sign = no_end (ASign LeftChoice) refl
 
 pub less : NoEnd (ASign Less)
-less = record {
-  round = refl;
-  square = refl;
-  curly = refl;
-  comma = refl;
-  bar = refl;
-  greater = refl;
-  backslash = refl;
-  arrow = refl;
-  plus = refl;
-  then_word = refl;
-  else_word = refl;
-  end_word = refl;
-  where_word = refl;
-}
+less = no_end (ASign Less) refl
 
 abbrev pub Refuses : Next → Type 0
 Refuses n = (K : ParserState → List ParserFrame → Option Strategy) → go_on K n ≡ None

@@ -5,7 +5,7 @@ ghost use Rattle.std.specs.Prelude.{◌≡◌, [], ◌∷◌, IfOk, Err, Some, N
 ghost use Rattle.strategy_parse.specs.inside.ModuleFronts.{names_at, more_names, make_header, parameters_at, header_at};
 
 use crate::modules::tokens::{behind_mark, expect_mark};
-use crate::parser::{NameList, SyntaxFault};
+use crate::parser::{ItemList, SyntaxFault};
 use std::alloc::Global;
 use strategy_tokens::{Sign, Token, is_mark};
 use term_core::Name;
@@ -15,9 +15,9 @@ use term_core::Name;
 pub struct Header {
     pub name: Name,
     /// The names of the strategy parameters.
-    pub strategies: NameList,
+    pub strategies: ItemList<Name>,
     /// The names of the term parameters.
-    pub terms: NameList,
+    pub terms: ItemList<Name>,
 }
 
 /// The header at the start of the tokens, and the rest.
@@ -36,8 +36,8 @@ pub fn read_header<'a>(
     match behind_mark(left, Sign::OpenRound) {
         Some(inside) => read_parameters(alloc, name, inside),
         None => {
-            let strategies = NameList::new(alloc);
-            let terms = NameList::new(alloc);
+            let strategies = ItemList::new(alloc);
+            let terms = ItemList::new(alloc);
             Ok((
                 Header {
                     name,
@@ -62,7 +62,7 @@ fn read_parameters<'a>(
 {
     let (strategies, left) = read_names(alloc, tokens)?;
     if let Some(rest) = behind_mark(left, Sign::CloseRound) {
-        let terms = NameList::new(alloc);
+        let terms = ItemList::new(alloc);
         return Ok((
             Header {
                 name,
@@ -89,11 +89,11 @@ fn read_parameters<'a>(
 fn read_names<'a>(
     alloc: Global,
     tokens: &'a [Token],
-) -> Result<(NameList, &'a [Token]), SyntaxFault>
+) -> Result<(ItemList<Name>, &'a [Token]), SyntaxFault>
     ensures ok { IfOk result (λ r. names_at tokens.now ≡ Some (r.0, r.1.now)) }
     ensures none { result ≡ Err SyntaxFault.Syntax → names_at tokens.now ≡ None }
 {
-    let names = NameList::new(alloc);
+    let names = ItemList::new(alloc);
     match tokens.split_first() {
         Some((Token::Ident(name), left)) => read_more_names(names.with(name.try_clone()?)?, left),
         _ => Ok((names, tokens)),
@@ -102,9 +102,9 @@ fn read_names<'a>(
 
 // Further identifiers, each after a comma.
 fn read_more_names<'a>(
-    first: NameList,
+    first: ItemList<Name>,
     tokens: &'a [Token],
-) -> Result<(NameList, &'a [Token]), SyntaxFault>
+) -> Result<(ItemList<Name>, &'a [Token]), SyntaxFault>
     ensures ok { IfOk result (λ r. more_names first tokens.now ≡ Some (r.0, r.1.now)) }
     ensures none { result ≡ Err SyntaxFault.Syntax → more_names first tokens.now ≡ None }
 {

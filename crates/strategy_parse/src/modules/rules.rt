@@ -13,13 +13,13 @@ ghost use Rattle.term_core.specs.Tree.{same_name};
 use crate::modules::headers::Header;
 use crate::modules::tokens::{behind_word, expect_mark};
 use crate::parser::{
-    Condition, NameList, SyntaxFault, add_variables, first_ones, make_rewrite, make_rewrite_where,
+    Condition, ItemList, SyntaxFault, add_variables, first_ones, make_rewrite, make_rewrite_where,
     make_scope, read_condition, read_pattern,
 };
 use std::alloc::Global;
 use strategy_syntax::{Definition, Pattern, Strategy};
 use strategy_tokens::{Keyword, Sign, Token};
-use term_core::NoMemory;
+use term_core::{Name, NoMemory};
 
 /// The rule with this header, whose patterns are at the start of the tokens, and the rest.
 pub fn read_rule<'a>(
@@ -66,7 +66,7 @@ fn read_body<'a>(
     let (before, left) = read_pattern(alloc, tokens)?;
     let rest = expect_mark(left, Sign::Arrow)?;
     let (after, left) = read_pattern(alloc, rest)?;
-    let names = add_variables(&before, NameList::new(alloc))?;
+    let names = add_variables(&before, ItemList::new(alloc))?;
     let names = add_variables(&after, names)?;
     let Some(rest) = behind_word(left, Keyword::Where) else {
         let body = make_rewrite(alloc, before, after)?;
@@ -84,7 +84,7 @@ fn read_body<'a>(
 fn make_body(
     alloc: Global,
     header: &Header,
-    names: &NameList,
+    names: &ItemList<Name>,
     body: Strategy,
 ) -> Result<Strategy, NoMemory>
     ensures { IfOk result (λ made. made

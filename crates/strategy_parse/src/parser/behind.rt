@@ -9,7 +9,7 @@ ghost use Rattle.strategy_parse.specs.inside.Parser.{no_operand};
 use crate::parser::expect::{expect, expect_word};
 use crate::parser::fault::SyntaxFault;
 use crate::parser::group::{closing_of, make_group};
-use crate::parser::lists::StrategyList;
+use crate::parser::lists::ItemList;
 use crate::parser::make::{
     make_child, make_closure_where, make_guard, make_id, make_if, make_operated, make_rec,
     make_scope, make_seq, make_square_tail,
@@ -241,7 +241,7 @@ fn behind_then(
 fn behind_element(
     alloc: Global,
     group: StrategyGroup,
-    done: StrategyList,
+    done: ItemList<Strategy>,
     stack: &mut ParserStack,
     token: &Token,
 ) -> Result<Effect, SyntaxFault>
@@ -269,7 +269,7 @@ fn behind_element(
 // A `|` after the strategies of a list.
 fn behind_bar(
     group: StrategyGroup,
-    done: StrategyList,
+    done: ItemList<Strategy>,
     stack: &mut ParserStack,
 ) -> Result<Effect, SyntaxFault>
     ensures ok { IfOk result (λ o.

@@ -7,24 +7,24 @@ ghost use Rattle.strategy_syntax.specs.Lists.{first_ones};
 ghost use Rattle.strategy_syntax.specs.Syntax.{patterns_of};
 ghost use Rattle.term_core.specs.Tree.{same_name};
 
-use crate::parser::lists::NameList;
+use crate::parser::lists::ItemList;
 use crate::parser::names::first_ones;
 use std::alloc::Global;
 use strategy_syntax::{Pattern, PatternForm};
-use term_core::NoMemory;
+use term_core::{Name, NoMemory};
 
 /// The variables of a pattern, each once, in the order of their first occurrence.
-pub fn scope_of(alloc: Global, left: &Pattern) -> Result<NameList, NoMemory>
+pub fn scope_of(alloc: Global, left: &Pattern) -> Result<ItemList<Name>, NoMemory>
     ensures { IfOk result (λ names. names ≡ first_ones same_name [] (variables left.now)) }
 {
-    let names = add_variables(left, NameList::new(alloc))?;
+    let names = add_variables(left, ItemList::new(alloc))?;
     let kept = first_ones(alloc, names.as_slice(), &[])?;
     Ok(kept)
 }
 
 /// The names followed by the variables of the pattern.
 #[cycle(variables)]
-pub fn add_variables(pattern: &Pattern, names: NameList) -> Result<NameList, NoMemory>
+pub fn add_variables(pattern: &Pattern, names: ItemList<Name>) -> Result<ItemList<Name>, NoMemory>
     ensures { IfOk result (λ more. more ≡ names ++ variables pattern.now) }
 {
     match pattern.form() {
@@ -48,7 +48,7 @@ pub fn add_variables(pattern: &Pattern, names: NameList) -> Result<NameList, NoM
 }
 
 #[cycle(variables)]
-fn add_all(patterns: &[Pattern], names: NameList) -> Result<NameList, NoMemory>
+fn add_all(patterns: &[Pattern], names: ItemList<Name>) -> Result<ItemList<Name>, NoMemory>
     ensures { IfOk result (λ more. more ≡ names ++ variables_of_all (patterns_of patterns.now)) }
 {
     let mut more = names;

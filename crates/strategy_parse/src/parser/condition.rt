@@ -7,14 +7,14 @@ ghost use Rattle.strategy_parse.specs.inside.FreeNames.{seen, names_seen};
 ghost use Rattle.strategy_parse.specs.inside.Parser.{front, begin};
 
 use crate::parser::fault::SyntaxFault;
-use crate::parser::lists::NameList;
+use crate::parser::lists::ItemList;
 use crate::parser::stack::ParserStack;
 use crate::parser::state::{Effect, ParserState};
 use crate::parser::step::step;
 use std::alloc::Global;
 use strategy_syntax::Strategy;
 use strategy_tokens::{Sign, Token, is_mark};
-use term_core::NoMemory;
+use term_core::{Name, NoMemory};
 
 /// A parsed condition.
 #[derive(Drop)]
@@ -22,7 +22,7 @@ pub struct Condition {
     /// The strategy.
     pub strategy: Strategy,
     /// The earlier names, followed by the names free in the condition, in the order of the text.
-    pub names: NameList,
+    pub names: ItemList<Name>,
 }
 
 /// The strategy at the start of the tokens, the earlier names followed by its free names, and the
@@ -30,7 +30,7 @@ pub struct Condition {
 #[tactic(auto, using(crate::proofs::ConditionLemmas::condition_rules))]
 pub fn read_condition<'a>(
     alloc: Global,
-    before: NameList,
+    before: ItemList<Name>,
     tokens: &'a [Token],
 ) -> Result<(Condition, &'a [Token]), SyntaxFault>
     ensures ok { IfOk result (λ r.
@@ -63,11 +63,11 @@ pub fn read_condition<'a>(
 // The names with the one that was read last, if the token shows it to be a variable and no open
 // form binds it.
 fn with_seen(
-    names: NameList,
+    names: ItemList<Name>,
     state: &ParserState,
     stack: &ParserStack,
     token: &Token,
-) -> Result<NameList, NoMemory>
+) -> Result<ItemList<Name>, NoMemory>
     ensures { IfOk result (λ more. more ≡ names ++ seen state.now (forms stack.now) token.now) }
 {
     let ParserState::Named(name) = state else {

@@ -6,7 +6,7 @@ ghost use Rattle.strategy_parse.specs.inside.Counts.{count, named, lefts_of, Rai
 ghost use Rattle.strategy_syntax.specs.Syntax.{patterns_of};
 
 use crate::parser::closure::add_variables;
-use crate::parser::lists::NameList;
+use crate::parser::lists::ItemList;
 use crate::parser::state::{ParserFrame, PatternFrame, StrategyFrame};
 use std::alloc::Global;
 use std::collections::HashMap;
@@ -71,7 +71,7 @@ pub fn raise_named(
         ParserFrame::Strategy(StrategyFrame::Scope(names)) => raise(counts, names.as_slice()),
         ParserFrame::Strategy(StrategyFrame::Where(left, _))
         | ParserFrame::Pattern(PatternFrame::Right(left)) => {
-            let names = add_variables(left, NameList::new(alloc))?;
+            let names = add_variables(left, ItemList::new(alloc))?;
             raise(counts, names.as_slice())
         }
         _ => Ok(()),
@@ -90,7 +90,7 @@ pub fn lower_named(
         ParserFrame::Strategy(StrategyFrame::Scope(names)) => lower(counts, names.as_slice()),
         ParserFrame::Strategy(StrategyFrame::Where(left, _))
         | ParserFrame::Pattern(PatternFrame::Right(left)) => {
-            let names = add_variables(left, NameList::new(alloc))?;
+            let names = add_variables(left, ItemList::new(alloc))?;
             lower(counts, names.as_slice())
         }
         _ => Ok(()),

@@ -6,7 +6,7 @@ ghost use Rattle.strategy_syntax.specs.Syntax as syntax;
 ghost use Rattle.strategy_parse.specs.Core.{in_brackets};
 ghost use Rattle.strategy_parse.specs.inside.Parser as machine;
 
-use crate::parser::lists::{PatternList, StrategyList};
+use crate::parser::lists::ItemList;
 use crate::parser::state::{ParserState, PatternGroup, StrategyGroup};
 use std::alloc::Global;
 use strategy_syntax::{Head, Pattern, PatternForm, Strategy, StrategyForm};
@@ -25,7 +25,7 @@ pub fn closing_of(group: &StrategyGroup) -> Sign
 }
 
 /// What a list of strategies makes.
-pub fn make_group(alloc: Global, group: StrategyGroup, done: StrategyList) -> Strategy
+pub fn make_group(alloc: Global, group: StrategyGroup, done: ItemList<Strategy>) -> Strategy
     ensures { result ≡ machine.grouped group done }
 {
     match group {
@@ -41,7 +41,7 @@ pub fn make_group(alloc: Global, group: StrategyGroup, done: StrategyList) -> St
 }
 
 // The strategy that strategies in round brackets stand for.
-fn make_round(strategies: StrategyList) -> Strategy
+fn make_round(strategies: ItemList<Strategy>) -> Strategy
     ensures { result ≡ in_brackets (syntax.strategies_of strategies) }
 {
     let mut strategies = strategies.into_vec();
@@ -72,7 +72,7 @@ pub fn closing_sign_of(group: &PatternGroup) -> Sign
 pub fn close_patterns(
     alloc: Global,
     group: PatternGroup,
-    done: PatternList,
+    done: ItemList<Pattern>,
 ) -> Result<ParserState, NoMemory>
     ensures { IfOk result (λ state. state ≡ machine.close_patterns group done) }
 {

@@ -8,7 +8,7 @@ ghost use Rattle.strategy_parse.specs.Core.{operated, rewrite, rewrite_where};
 ghost use Rattle.term_core.specs.Tree.{same_name};
 
 use crate::parser::closure::scope_of;
-use crate::parser::lists::{NameList, StrategyList};
+use crate::parser::lists::ItemList;
 use crate::parser::state::Operator;
 use std::alloc::Global;
 use strategy_syntax::{Pattern, Strategy, StrategyForm};
@@ -134,7 +134,11 @@ pub fn make_child(alloc: Global, index: usize, strategy: Strategy) -> Result<Str
 }
 
 /// `{x1,..,xn: s}`
-pub fn make_scope(alloc: Global, names: NameList, strategy: Strategy) -> Result<Strategy, NoMemory>
+pub fn make_scope(
+    alloc: Global,
+    names: ItemList<Name>,
+    strategy: Strategy,
+) -> Result<Strategy, NoMemory>
     ensures { IfOk result (λ made. made ≡ syntax.scope names strategy) }
 {
     let strategy = Box::new(alloc, strategy)?;
@@ -199,7 +203,7 @@ pub fn make_closure_where(
 /// `[s1,..,sn|s]`
 pub fn make_square_tail(
     alloc: Global,
-    strategies: StrategyList,
+    strategies: ItemList<Strategy>,
     tail: Strategy,
 ) -> Result<Strategy, NoMemory>
     ensures { IfOk result (λ made.

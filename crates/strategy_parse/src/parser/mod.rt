@@ -24,7 +24,7 @@ mod stuck;
 pub use closure::add_variables;
 pub use condition::{Condition, read_condition};
 pub use fault::SyntaxFault;
-pub use lists::NameList;
+pub use lists::ItemList;
 pub use make::{make_rewrite, make_rewrite_where, make_scope};
 pub use names::first_ones;
 pub use run::{read_pattern, read_strategy};

@@ -10,7 +10,7 @@ ghost use Rattle.strategy_parse.specs.declared.parser.state.ParserFrame.{ParserF
 use crate::parser::behind::behind;
 use crate::parser::fault::SyntaxFault;
 use crate::parser::group::{close_patterns, closing_sign_of};
-use crate::parser::lists::PatternList;
+use crate::parser::lists::ItemList;
 use crate::parser::make::{make_build, make_closure, make_match, make_seq};
 use crate::parser::stack::ParserStack;
 use crate::parser::state::{
@@ -72,9 +72,9 @@ pub fn first_pattern(
         machine.first_pattern group (forms stack.old) token.now ≡ machine.stuck }
 {
     if is_mark(token, closing_sign_of(&group)) {
-        return Ok(Effect::Goes(close_patterns(alloc, group, PatternList::new(alloc))?));
+        return Ok(Effect::Goes(close_patterns(alloc, group, ItemList::new(alloc))?));
     }
-    stack.push(ParserFrame::Pattern(PatternFrame::List(group, PatternList::new(alloc))))?;
+    stack.push(ParserFrame::Pattern(PatternFrame::List(group, ItemList::new(alloc))))?;
     begin_pattern(alloc, token)
 }
 
@@ -204,7 +204,7 @@ fn behind_left(left: Pattern, stack: &mut ParserStack, token: &Token) -> Result<
 // After the tail of a list.
 fn behind_tail(
     alloc: Global,
-    done: PatternList,
+    done: ItemList<Pattern>,
     tail: Pattern,
     token: &Token,
 ) -> Result<Effect, SyntaxFault>
@@ -222,7 +222,11 @@ fn behind_tail(
     Err(SyntaxFault::Syntax)
 }
 
-fn make_with_tail(alloc: Global, done: PatternList, tail: Pattern) -> Result<Pattern, NoMemory>
+fn make_with_tail(
+    alloc: Global,
+    done: ItemList<Pattern>,
+    tail: Pattern,
+) -> Result<Pattern, NoMemory>
     ensures { IfOk result (λ made. made ≡ syntax.with_tail (syntax.patterns_of done) tail) }
 {
     let tail = Box::new(alloc, tail)?;
@@ -260,7 +264,7 @@ fn behind_closure(
 fn behind_one(
     alloc: Global,
     group: PatternGroup,
-    done: PatternList,
+    done: ItemList<Pattern>,
     stack: &mut ParserStack,
     token: &Token,
 ) -> Result<Effect, SyntaxFault>
@@ -288,7 +292,7 @@ fn behind_one(
 // A `|` after the patterns of a list.
 fn pattern_bar(
     group: PatternGroup,
-    done: PatternList,
+    done: ItemList<Pattern>,
     stack: &mut ParserStack,
 ) -> Result<Effect, SyntaxFault>
     ensures ok { IfOk result (λ o.

@@ -1,6 +1,6 @@
 //! The state of the parser between two tokens: what was read last, and the open forms.
 
-use crate::parser::lists::{NameList, PatternList, StrategyList};
+use crate::parser::lists::ItemList;
 use strategy_syntax::{Pattern, Strategy};
 use term_core::Name;
 
@@ -28,9 +28,9 @@ pub enum ParserState {
     /// `{`, where the names of a scope or a `:` may come
     ScopeOpen,
     /// `{`, names, and a comma
-    ScopeComma(NameList),
+    ScopeComma(ItemList<Name>),
     /// `{` and names
-    ScopeNamed(NameList),
+    ScopeNamed(ItemList<Name>),
     /// A pattern has to begin.
     Pattern,
     /// After the opening bracket of a list of patterns: one may begin, or the list may end.
@@ -77,7 +77,7 @@ pub enum StrategyFrame {
     /// `i (`
     Child(usize),
     /// `{ x, .. :`
-    Scope(NameList),
+    Scope(ItemList<Name>),
     /// `<`, before a strategy that is applied to a built pattern
     Application,
     /// `if`
@@ -89,9 +89,9 @@ pub enum StrategyFrame {
     /// `\ l -> r where`
     Where(Pattern, Pattern),
     /// A list of strategies
-    List(StrategyGroup, StrategyList),
+    List(StrategyGroup, ItemList<Strategy>),
     /// `[ s, .. |`
-    Tail(StrategyList),
+    Tail(ItemList<Strategy>),
 }
 
 /// An open form that needs a pattern.
@@ -110,9 +110,9 @@ pub enum PatternFrame {
     /// `\ l ->`
     Right(Pattern),
     /// A list of patterns
-    List(PatternGroup, PatternList),
+    List(PatternGroup, ItemList<Pattern>),
     /// `[ p, .. |`
-    Tail(PatternList),
+    Tail(ItemList<Pattern>),
 }
 
 /// The words that may come before a single strategy in brackets.
@@ -155,7 +155,7 @@ pub enum PatternGroup {
     /// `p { q, .. }`
     Annotations(Pattern),
     /// `f ( s, .. | p, .. )`
-    Terms(Name, StrategyList),
+    Terms(Name, ItemList<Strategy>),
     /// `prim ( n, p, .. )`
     Prim(Name),
 }

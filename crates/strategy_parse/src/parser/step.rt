@@ -9,7 +9,7 @@ ghost use Rattle.strategy_syntax.specs.Syntax as syntax;
 use crate::parser::behind::behind;
 use crate::parser::expect::expect;
 use crate::parser::fault::SyntaxFault;
-use crate::parser::lists::{NameList, PatternList};
+use crate::parser::lists::ItemList;
 use crate::parser::patterns::{begin_pattern, behind_base, behind_pattern, first_pattern};
 use crate::parser::stack::ParserStack;
 use crate::parser::state::{
@@ -141,7 +141,7 @@ fn behind_prim(
     if is_mark(token, Sign::Comma) {
         stack.push(ParserFrame::Pattern(PatternFrame::List(
             PatternGroup::Prim(name),
-            PatternList::new(alloc),
+            ItemList::new(alloc),
         )))?;
         return Ok(Effect::Goes(ParserState::Pattern));
     }
@@ -166,13 +166,13 @@ fn first_scope_name(
         machine.step ParserState.ScopeOpen (forms stack.old) token.now ≡ machine.stuck }
 {
     if is_mark(token, Sign::Colon) {
-        return begin_scope(NameList::new(alloc), stack);
+        return begin_scope(ItemList::new(alloc), stack);
     }
-    scope_name(NameList::new(alloc), token)
+    scope_name(ItemList::new(alloc), token)
 }
 
 // A name of a scope has to come.
-fn scope_name(names: NameList, token: &Token) -> Result<Effect, SyntaxFault>
+fn scope_name(names: ItemList<Name>, token: &Token) -> Result<Effect, SyntaxFault>
     ensures ok { IfOk result (λ o. (S : List ParserFrame) →
         machine.scope_name names S token.now ≡ machine.leads o S) }
     ensures none { result ≡ Err SyntaxFault.Syntax → (S : List ParserFrame) →
@@ -189,7 +189,7 @@ fn scope_name(names: NameList, token: &Token) -> Result<Effect, SyntaxFault>
 
 // After a name of a scope.
 fn behind_scope_name(
-    names: NameList,
+    names: ItemList<Name>,
     stack: &mut ParserStack,
     token: &Token,
 ) -> Result<Effect, SyntaxFault>
@@ -210,7 +210,7 @@ fn behind_scope_name(
 }
 
 // After the names of a scope.
-fn begin_scope(names: NameList, stack: &mut ParserStack) -> Result<Effect, SyntaxFault>
+fn begin_scope(names: ItemList<Name>, stack: &mut ParserStack) -> Result<Effect, SyntaxFault>
     ensures ok { IfOk result (λ o. machine.begin_scope names (forms stack.old)
         ≡ machine.leads o (forms stack.new)) }
     ensures none { result ≡ Err SyntaxFault.Syntax →

@@ -8,7 +8,7 @@ ghost use Rattle.strategy_parse.specs.inside.Parser as machine;
 
 use crate::parser::fault::SyntaxFault;
 use crate::parser::group::{closing_of, make_group};
-use crate::parser::lists::StrategyList;
+use crate::parser::lists::ItemList;
 use crate::parser::make::{make_fail, make_id};
 use crate::parser::stack::ParserStack;
 use crate::parser::state::{
@@ -128,13 +128,13 @@ pub fn first_strategy(
         machine.first_strategy group (forms stack.old) token.now ≡ machine.stuck }
 {
     if is_mark(token, closing_of(&group)) {
-        let whole = make_group(alloc, group, StrategyList::new(alloc));
+        let whole = make_group(alloc, group, ItemList::new(alloc));
         return Ok(Effect::Goes(ParserState::Read(whole)));
     }
     if is_mark(token, Sign::Bar) {
         return empty_bar(alloc, group);
     }
-    stack.push(ParserFrame::Strategy(StrategyFrame::List(group, StrategyList::new(alloc))))?;
+    stack.push(ParserFrame::Strategy(StrategyFrame::List(group, ItemList::new(alloc))))?;
     begin(stack, token)
 }
 
@@ -147,7 +147,7 @@ fn empty_bar(alloc: Global, group: StrategyGroup) -> Result<Effect, SyntaxFault>
 {
     match group {
         StrategyGroup::Arguments(name) => {
-            let terms = PatternGroup::Terms(name, StrategyList::new(alloc));
+            let terms = PatternGroup::Terms(name, ItemList::new(alloc));
             Ok(Effect::Goes(ParserState::FirstPattern(terms)))
         }
         _ => Err(SyntaxFault::Syntax),
