@@ -1,8 +1,7 @@
 -- Calls of definitions and primitives.
 use Rattle.std.proofs.lemmas.Option.{slice_get_past, slice_get-get_or}
-use Rattle.std.proofs.Common.{◌≡◌, ◌<◌, ◌≤◌, get_or, ℕ, ◌+◌, List, [], ◌∷◌, arith, ◌++◌, length, map, replicate, reverse, sym, ap, ◌∙◌, subst, Some, None, Bor, slice_get}
-use Rattle.std.proofs.lemmas.List.{append_assoc, append-nil}
-use Rattle.strategy_meaning.specs.Matching.{Bindings}
+use Rattle.std.proofs.Common.{◌≡◌, ◌<◌, ◌≤◌, get_or, ℕ, ◌+◌, List, ◌++◌, length, map, replicate, reverse, sym, ap, ◌∙◌, subst, Some, None, Bor, slice_get}
+use Rattle.std.proofs.lemmas.List.{append_assoc}
 use Rattle.term_core.specs.Tree.{Tree}
 use Rattle.term_changes.specs.Standing.{Standing, standing_tree}
 use Rattle.strategy_syntax.specs.Resolved.{Places, ResolvedStrategy, ResolvedStrategies, call}
@@ -51,8 +50,3 @@ slice_past xs i le = slice_get_past xs i le
 
 pub slice_there : {A : Type 0} (xs : List A) (i : ℕ) (x : A) → i < length xs → x ≡ get_or xs i x → slice_get xs i ≡ Some x
 slice_there xs i x lt e = slice_get-get_or xs i x lt ∙ ap Some (sym e)
-
--- if there are no arguments and no other variables, no cells are opened
-pub none_more : (B : Bindings) (us : List Tree) (k : ℕ) → length us ≡ 0 → k ≡ 0 → B ≡ (B ++ map Some us) ++ replicate k None
-none_more B [] k e f = sym (ap (λ (n : ℕ). (B ++ []) ++ replicate n None) f ∙ append-nil (B ++ []) ∙ append-nil B)
-none_more B (u ∷ us) k e f = absurd (omega (arith, e))

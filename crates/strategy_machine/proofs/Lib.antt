@@ -17,6 +17,7 @@ pub mod TrailLemmas
 pub mod TailLemmas
 pub mod WalkLemmas
 pub mod CallLemmas
+pub mod NameLemmas
 pub mod NamedLemmas
 pub mod FormLemmas
 pub mod ResultLemmas
@@ -24,5 +25,6 @@ pub mod ArgumentLemmas
 pub mod HeadLemmas
 pub mod LengthLemmas
 pub mod RuleLemmas
+pub mod ChoiceLemmas
 pub mod TryLemmas
 pub mod StepLemmas

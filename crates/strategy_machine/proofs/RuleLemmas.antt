@@ -28,12 +28,12 @@ module _ (W : World) (E : Scope) (l : ℕ) (q r : Place) (B : Bindings) (t : Tre
   abbrev both : ResolvedStrategy
   both = seq (matches q) (builds r)
 
-  few : (b : ℕ) → b ≤ 1 → run W E l both b B t ≡ stopped spent
+  pub few : (b : ℕ) → b ≤ 1 → run W E l both b B t ≡ stopped spent
   few zero e = refl
   few (suc zero) e = refl
   few (suc (suc b)) e = absurd (omega (arith, e))
 
-  unmatched : (b c : ℕ) → b ≡ c + 2 → match_place q t (cells_in E) B ≡ None → run W E l both b B t ≡ failed c
+  pub unmatched : (b c : ℕ) → b ≡ c + 2 → match_place q t (cells_in E) B ≡ None → run W E l both b B t ≡ failed c
   unmatched b c e m =
       run_step W E l both b (c + 1) B t (omega (arith, e))
       ∙ ap (λ (a : Answer). and_then a (run W E l (builds r))) (run_step W E l (matches q) (c + 1) c B t refl ∙ none_is _ c (λ B1. done t B1 c []) m)
@@ -44,10 +44,10 @@ module _ (W : World) (E : Scope) (l : ℕ) (q r : Place) (B : Bindings) (t : Tre
       ∙ ap (λ (a : Answer). and_then a (run W E l (builds r))) (run_step W E l (matches q) (c + 1) c B t refl ∙ some_is _ D c (λ B1. done t B1 c []) m)
       ∙ with_edits-none (run W E l (builds r) c D t)
 
-  matched_few : (b c : ℕ) (D : Bindings) → b ≡ c + 2 → match_place q t (cells_in E) B ≡ Some D → c ≡ 0 → run W E l both b B t ≡ stopped spent
+  pub matched_few : (b c : ℕ) (D : Bindings) → b ≡ c + 2 → match_place q t (cells_in E) B ≡ Some D → c ≡ 0 → run W E l both b B t ≡ stopped spent
   matched_few b c D e m z = matched b c D e m ∙ ap (λ (k : ℕ). run W E l (builds r) k D t) z
 
-  builds_one : (b c : ℕ) (D : Bindings) → b ≡ c + 3 → match_place q t (cells_in E) B ≡ Some D
+  pub builds_one : (b c : ℕ) (D : Bindings) → b ≡ c + 3 → match_place q t (cells_in E) B ≡ Some D
       → run W E l both b B t ≡ built (build_place r (cells_in E) D) l c (λ u. done u D c (at_root u))
   builds_one b c D e m = matched b (c + 1) D (omega (arith, e)) m ∙ run_step W E l (builds r) (c + 1) c D t refl
 

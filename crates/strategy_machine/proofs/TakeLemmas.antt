@@ -54,24 +54,8 @@ run_step W E l s (suc b) c B t e =
 abbrev pub paid : State → ℕ → State
 paid S c = record { cells = S.cells; scopes = S.scopes; trail = S.trail; level = S.level; frames = S.frames; steps = c }
 
-pub pays : (W : World) (sub : Standing) (whole : Answer) (S : State) (s : Bor ResolvedStrategy) (n : ℕ) (p : Standing) (c : ℕ)
-    → S.steps ≡ c + 1 → HoldsIn W sub whole S (Begin s n p) → FormIn W sub whole (paid S c) s.now n p
-pays W sub whole S s n p c e h = record {
-  edits = h.edits;
-  shows = h.shows;
-  there = h.in_hand.0;
-  opens = subst (λ q. Opens (Meets W sub whole S.cells (mark_of S.cells) S.scopes S.level S.frames) (path_of S.frames) q h.edits (form W (run W) (scope_at S.scopes n) S.level s.now c S.cells.bindings (standing_tree p))) h.in_hand.1
-      (opens_along _ _ (run_step W (scope_at S.scopes n) S.level s.now S.steps c S.cells.bindings (standing_tree p) e) h.opens);
-}
-
 pub no_steps : (W : World) (E : Scope) (l : ℕ) (s : ResolvedStrategy) (b : ℕ) (B : Bindings) (t : Tree) → b ≡ 0 → run W E l s b B t ≡ stopped spent
 no_steps W E l s b B t e = rw e refl
-
-pub is_spent : (W : World) (sub : Standing) (whole : Answer) (S : State) (s : Bor ResolvedStrategy) (n : ℕ) (p : Standing)
-    → S.steps ≡ 0 → HoldsIn W sub whole S (Begin s n p) → whole ≡ stopped spent
-is_spent W sub whole S s n p e h =
-    let o = opens_along _ _ (no_steps W (scope_at S.scopes n) S.level s.now S.steps S.cells.bindings (standing_tree p) e) h.opens in
-    meets_stopped W sub whole S.cells (mark_of S.cells) S.scopes S.level S.frames o.start o.base spent o.is
 
 -- ---- answers of a form
 

@@ -4,6 +4,7 @@ pub mod Arguments
 pub mod Endings
 pub mod Filling
 pub mod Missing
+pub mod Names
 pub mod Steps
 pub mod Taking
 pub mod Tries

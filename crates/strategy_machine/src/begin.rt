@@ -13,12 +13,13 @@ use crate::congruence::{take_child, take_congruence, take_tail};
 use crate::forms::{take_build, take_guard, take_match, take_seq, take_test};
 use crate::frames::{Acts, Turned};
 use crate::machine::{Host, Machine};
+use crate::names::start_of;
 use prim_core::Meaning;
 use std::alloc::Global;
 use strategy_syntax::{ResolvedForm as Form, ResolvedStrategy};
 use term_core::NoMemory;
 
-/// Starts a strategy, which costs a step.
+/// Starts a strategy, which costs a step, or what it stands for.
 #[inline(always)]
 pub(crate) fn begin<'t, M: Meaning>(
     alloc: Global,
@@ -33,11 +34,11 @@ pub(crate) fn begin<'t, M: Meaning>(
         m.old (Begin strategy.entry scope m.old.part) m.new next) }
     ensures less { IfOk result (λ next. Falls m.old (Begin strategy.entry scope m.old.part) m.new next) }
 {
-    if m.steps == 0 {
+    let Some(start) = start_of(host, &m.scopes, strategy, scope, m.steps) else {
         return Ok(Turned::Spent);
-    }
-    m.steps -= 1;
-    take(alloc, host, m, strategy, scope)
+    };
+    m.steps = start.left;
+    take(alloc, host, m, start.strategy, start.scope)
 }
 
 // Continues with a strategy by its form.
@@ -61,7 +62,7 @@ fn take<'t, M: Meaning>(
         Form::Match(pattern) => take_match(alloc, m, pattern, scope),
         Form::Build(pattern) => take_build(alloc, m, pattern, scope),
         Form::Seq(parts) => take_seq(alloc, m, &parts.0, &parts.1, scope),
-        Form::Guard(parts) => take_guard(host, m, &parts.0, &parts.1, &parts.2, scope),
+        Form::Guard(parts) => take_guard(alloc, host, m, &parts.0, &parts.1, &parts.2, scope),
         Form::Test(inner) => take_test(m, inner, scope),
         Form::Scope(count, inner) => take_scope(alloc, m, *count, inner, scope),
         Form::Param(name) => Ok(take_param(m, *name, scope)),

@@ -100,7 +100,7 @@ pub(crate) fn take_call<'t, M: Meaning>(
     ensures less { IfOk result (λ next. TakeFalls m.old m.new next) }
 {
     if let Some(tried) = tried(host.definitions, definition, strategies, patterns) {
-        return take_try(host, m, tried, scope);
+        return take_try(alloc, host, m, tried, scope);
     }
     let built = build_all(
         alloc,
@@ -124,9 +124,7 @@ pub(crate) fn take_call<'t, M: Meaning>(
     }
 }
 
-// Opens the cells and the scope of a definition's body, with the arguments built so far. If there
-// are no cells to open, a scope is reused: the empty one if the call passes no strategies, or the
-// current one if the call passes all its names on.
+// Opens the cells and the scope of a definition's body, with the arguments built so far.
 fn enter<'t>(
     m: &mut Machine<'t>,
     strategies: &'t [ResolvedStrategy],
@@ -137,16 +135,6 @@ fn enter<'t>(
     ensures { IfOk result (λ inner. Enters m.old (resolveds_of strategies.entry.now) body.now scope m.new inner) }
 {
     let first = m.cells.count();
-    if m.arguments.len() == 0 && body.variables == 0 {
-        if strategies.is_empty() {
-            if let Some(nowhere) = m.scopes.nowhere() {
-                return Ok(nowhere);
-            }
-        }
-        if m.scopes.hands_all_on(scope, strategies) {
-            return Ok(scope);
-        }
-    }
     let Some(count) = m.arguments.len().checked_add(body.variables) else {
         return Err(NoMemory);
     };

@@ -1,6 +1,6 @@
 //! Strategies on children.
 
-ghost use Rattle.std.specs.Prelude.{◌≡◌, ℕ, suc, ◌-◌, [], ◌∷◌, ◌++◌, cond, MatchOption, IfOk, IfSome, OnOk, slice_get, slice_set};
+ghost use Rattle.std.specs.Prelude.{◌≡◌, ℕ, suc, ◌-◌, [], ◌∷◌, ◌++◌, cond, length, MatchOption, IfOk, IfSome, OnOk, slice_get, slice_set};
 ghost use Rattle.term_core.specs.Tree.{children};
 ghost use Rattle.term_changes.specs.Standing.{standing_tree, standing_children};
 ghost use Rattle.strategy_meaning.specs.Meaning.{World};
@@ -9,6 +9,7 @@ ghost use Rattle.strategy_machine.specs.Leading.{PartsStand, all_parts, node_wit
 ghost use Rattle.strategy_machine.specs.inside.Filling.{Fills};
 ghost use Rattle.strategy_machine.specs.Hands.{Each, Leftmost, Those};
 ghost use Rattle.strategy_machine.specs.Turns.{Turn, Falls};
+ghost use Rattle.strategy_machine.specs.inside.Turning.{EndFalls};
 
 use crate::frames::{Acts, Frame, Turned, Walk, drop_part, wait};
 use crate::lists::end_each;
@@ -180,6 +181,7 @@ fn add<'t>(parts: &mut Vec<Part<'t>>, part: Part<'t>) -> Result<(), NoMemory>
 }
 
 /// Continues with the children from this index on.
+#[inline(always)]
 pub(crate) fn go_on<'t>(
     alloc: Global,
     m: &mut Machine<'t>,
@@ -196,6 +198,24 @@ pub(crate) fn go_on<'t>(
     let Some((strategy, others)) = next_act(acts, left) else {
         return end_each(alloc, m);
     };
+    go_down(alloc, m, strategy, others, scope, index)
+}
+
+// Continues with the child at this index, whose strategy this is.
+#[inline(never)]
+fn go_down<'t>(
+    alloc: Global,
+    m: &mut Machine<'t>,
+    strategy: &'t ResolvedStrategy,
+    others: Acts<'t>,
+    scope: usize,
+    index: usize,
+) -> Result<Turned, NoMemory>
+    ensures ok { (W : World) (acts : Acts)
+        → acts_list acts (length (children (standing_tree m.old.part)) - index) ≡ strategy.entry.now ∷ acts_list others.entry (length (children (standing_tree m.old.part)) - index - 1)
+        → IfOk result (λ next. Turn W m.old (Each acts scope m.old.part index m.old.parts) m.new next) }
+    ensures less { IfOk result (λ next. EndFalls m.old m.new next) }
+{
     let Some(child) = child_now(&m.part, &m.parts, index)? else {
         return Ok(m.fails());
     };

@@ -23,7 +23,7 @@ use term_values::Part;
 pub(crate) fn is_over(head: &Head, count: usize, part: &Part<'_>) -> bool
     ensures { result ≡ is_headed_over (head_of head.now) count (standing_tree part.now) }
 {
-    head.is_head_of(part.kind()) && part.child_count() == count
+    part.child_count() == count && head.is_head_of(part.kind())
 }
 
 /// Whether the part is a list of at least `count` elements.

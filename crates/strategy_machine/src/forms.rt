@@ -6,6 +6,7 @@ ghost use Rattle.strategy_meaning.specs.Meaning.{World};
 ghost use Rattle.strategy_machine.specs.Turns.{world_of};
 ghost use Rattle.strategy_machine.specs.inside.Taking.{Takes, TakeFalls, Replaced};
 
+use crate::choices::rewrite_or;
 use crate::frames::{Frame, Turned, drop_value, put, wait};
 use crate::heads::{MOST, left_by_failure};
 use crate::machine::{Host, InTable, Machine};
@@ -180,10 +181,12 @@ fn match_first<'t>(
     }
 }
 
-/// A guarded choice. If the root symbol rules out the first branch, its steps are charged and the
-/// machine goes straight to the other, with no frame.
+/// A guarded choice. If its first branch is a match and a build, they are done at once, with no
+/// frame. If the root symbol rules out another first branch, its steps are charged and the machine
+/// goes straight to the other.
 #[inline(always)]
 pub(crate) fn take_guard<'t, M: Meaning>(
+    alloc: Global,
     host: &Host<'t, M>,
     m: &mut Machine<'t>,
     first: &'t ResolvedStrategy,
@@ -195,6 +198,13 @@ pub(crate) fn take_guard<'t, M: Meaning>(
         m.old (guard first.entry.now second.entry.now other.entry.now) scope m.old.part m.new next) }
     ensures less { IfOk result (λ next. TakeFalls m.old m.new next) }
 {
+    if let Form::Seq(parts) = first.form() {
+        if let Form::Match(left) = parts.0.form() {
+            if let Form::Build(right) = parts.1.form() {
+                return rewrite_or(alloc, m, left, right, second, other, scope);
+            }
+        }
+    }
     let ahead = left_by_failure(
         host.definitions,
         &m.scopes,

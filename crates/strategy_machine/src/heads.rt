@@ -95,8 +95,8 @@ pub(crate) fn left_by_failure<'t>(
     }
 }
 
-// Whether the root's kind shows that the pattern can't match.
-fn misses(pattern: &Place, part: &Part<'_>) -> bool
+/// Whether the root's kind shows that the pattern can't match.
+pub(crate) fn misses(pattern: &Place, part: &Part<'_>) -> bool
     ensures { OnTrue result (Misses pattern.now (standing_tree part.now)) }
 {
     match pattern.form() {

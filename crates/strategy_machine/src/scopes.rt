@@ -142,6 +142,7 @@ impl<'t> Scopes<'t> {
 
     /// Whether these strategies are exactly the names of this scope, in order, and it has no
     /// variables: then they stand for the same in a scope of their own.
+    #[inline(always)]
     pub fn hands_all_on(&self, scope: usize, strategies: &[ResolvedStrategy]) -> bool
         requires { scope < length (scopes self.now) }
         ensures { OnTrue result (scope_at (scopes self.now) scope
@@ -157,6 +158,7 @@ impl<'t> Scopes<'t> {
     }
 
     /// A scope without variables and names, if the oldest one is such a scope.
+    #[inline(always)]
     pub fn nowhere(&self) -> Option<usize>
         ensures there { IfSome result (λ n. n < length (scopes self.now)) }
         ensures empty { IfSome result (λ n. scope_at (scopes self.now) n ≡ nowhere) }
@@ -230,6 +232,7 @@ impl<'t> Scopes<'t> {
     }
 
     // The numbers of variables and names of a scope, if they fit in `usize`.
+    #[inline(always)]
     fn counts(&self, scope: Option<usize>) -> Option<Counts>
         requires { IsThere (length (scopes self.now)) scope }
         ensures variables { IfSome result (λ c. c.variables ≡ length (cells_in (scope_from (scopes self.now) scope))) }
@@ -300,6 +303,7 @@ struct Counts {
 }
 
 // Whether these are the names from 0 on, in order.
+#[inline(always)]
 fn are_names(strategies: &[ResolvedStrategy]) -> bool
     ensures { OnTrue result (AreNames 0 strategies.now) }
 {
@@ -312,6 +316,7 @@ fn are_names(strategies: &[ResolvedStrategy]) -> bool
 }
 
 // Whether this is just the name with this number.
+#[inline(always)]
 fn is_name(strategy: &ResolvedStrategy, x: usize) -> bool
     ensures { OnTrue result (strategy.now ≡ param x) }
 {

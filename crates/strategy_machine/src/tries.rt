@@ -12,6 +12,7 @@ use crate::forms::take_guard;
 use crate::frames::Turned;
 use crate::machine::{Host, Machine};
 use prim_core::Meaning;
+use std::alloc::Global;
 use strategy_syntax::{Place, Resolved, ResolvedForm as Form, ResolvedStrategy};
 use term_core::NoMemory;
 
@@ -89,6 +90,7 @@ fn is_itself(strategy: &ResolvedStrategy) -> bool
 /// The choice of such a call. Its step and that of the name are charged already.
 #[inline(always)]
 pub(crate) fn take_try<'t, M: Meaning>(
+    alloc: Global,
     host: &Host<'t, M>,
     m: &mut Machine<'t>,
     t: Try<'t>,
@@ -102,5 +104,5 @@ pub(crate) fn take_try<'t, M: Meaning>(
         return Ok(Turned::Spent);
     }
     m.steps -= 2;
-    take_guard(host, m, t.first, t.second, t.other, scope)
+    take_guard(alloc, host, m, t.first, t.second, t.other, scope)
 }

@@ -8,7 +8,7 @@ use Rattle.strategy_meaning.specs.Scopes.{Scope, inside, no_closures, numbers_fr
 use Rattle.strategy_meaning.specs.Answer.{Answer, with_edits}
 use Rattle.strategy_meaning.specs.Meaning.{World, run, run_whole}
 use Rattle.strategy_machine.specs.Table.{nowhere, scope_at}
-use Rattle.term_match.specs.CellContents.{Contents}
+use Rattle.term_match.specs.CellContents.{CellContents}
 use Rattle.strategy_run.specs.inside.Runs.{IsEmpty}
 use Rattle.strategy_machine.specs.Turns.{HoldsIn, After}
 use Rattle.strategy_machine.specs.declared.machine.Machine.{Machine}
@@ -21,7 +21,7 @@ use Rattle.strategy_machine.proofs.LeadLemmas.{leads_nothing}
 use Rattle.strategy_machine.proofs.OpenLemmas.{with_edits-none}
 use Rattle.strategy_machine.proofs.ScopeLemmas.{one_more_there, one_more_is}
 
-pub starts : (W : World) (m : Machine) (D : Contents) (bs es : List Scope) (r : Resolved) (s : Bor ResolvedStrategy) (t : Tree) (n : ℕ) (p : Standing)
+pub starts : (W : World) (m : Machine) (D : CellContents) (bs es : List Scope) (r : Resolved) (s : Bor ResolvedStrategy) (t : Tree) (n : ℕ) (p : Standing)
     → IsEmpty m → D.bindings ≡ m.cells.bindings ++ replicate r.variables None → n ≡ length bs
     → es ≡ bs ++ with_variables nowhere 0 r.variables ∷ [] → p ≡ unchanged t → s.now ≡ r.strategy
     → HoldsIn W (unchanged t) (run_whole W m.level r m.steps t)

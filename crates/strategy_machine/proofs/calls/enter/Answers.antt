@@ -1,13 +1,9 @@
-use Rattle.std.proofs.Common.{◌≡◌, refl, sym, arith, length, ap, subst, ◌∙◌, ◌++◌, ◌+◌, Some, None, map, replicate}
+use Rattle.std.proofs.Common.{ap, subst, ◌∙◌, ◌++◌, ◌+◌, Some, None, map, replicate}
 use Rattle.strategy_machine.proofs.ArgumentLemmas.{later_on, stays_on}
-use Rattle.strategy_machine.proofs.CallLemmas.{none_more}
-use Rattle.strategy_machine.proofs.EndingLemmas.{along}
-use Rattle.strategy_machine.proofs.LengthLemmas.{cut_none}
-use Rattle.strategy_machine.specs.Turns.{state_of}
 use Rattle.strategy_meaning.specs.Scopes.{inside, numbers_from, arguments}
 use Rattle.term_match.specs.CellContents.{CellContents}
 use Rattle.term_match.specs.Marks.{mark_of, Before, Stays}
-use Rattle.strategy_machine.specs.Table.{scopes, scope_at}
+use Rattle.strategy_machine.specs.Table.{scopes}
 use Rattle.strategy_syntax.specs.Resolved.{resolveds_of}
 use Rattle.strategy_machine.proofs.calls.enter.Goals as goal
 
@@ -23,7 +19,7 @@ returns c =
     let stays = stays_on mid.cells c.open_arguments.new.cells c.open_cells.new.self c.open_arguments.ensures.later c.open_arguments.ensures.stays c.open_cells.ensures.stays in
     record {
       there = c.in_ok-add_call.ensures.number;
-      scope = c.in_ok-add_call.ensures.ok ∙ (λ i. inside (numbers_from (c.count-first.ensures i) ((c.in-Some-checked_add.ensures.1 ∙ ap (λ x. x + c.args.body.now.variables) (c.len-2.ensures ∙ m.arguments.ok.0)) i)) (arguments (r.same i) (resolveds_of c.args.strategies.now)));
+      scope = c.in_ok-add_call.ensures.ok ∙ (λ i. inside (numbers_from (c.count-first.ensures i) ((c.in-Some.ensures.1 ∙ ap (λ x. x + c.args.body.now.variables) (c.len.ensures ∙ m.arguments.ok.0)) i)) (arguments (r.same i) (resolveds_of c.args.strategies.now)));
       cells = c.in_ok-open_cells.ensures.ok ∙ ap (λ x. x ++ replicate c.args.body.now.variables None)
           (c.in_ok-open_arguments.ensures.cells ∙ ap (λ us. mid.cells.bindings ++ map Some us) c.deref.ensures.value
           ∙ (λ i. (r.rest.0 i).bindings ++ map Some (r.rest.2 i).items));
@@ -32,18 +28,4 @@ returns c =
       part = r.part;
       rest = (r.rest.1, r.rest.3, r.rest.4);
       frames = r.frames;
-    }
-
-pub returns-then-hands_all_on : goal.returns-then-hands_all_on
-returns-then-hands_all_on c =
-    let m = c.args.m.now in
-    let none : length m.arguments.items + c.args.body.now.variables ≡ 0 = omega (arith, c.len.ensures, m.arguments.ok.0, c.if-len-eq0.true, c.if-body-eq0.true) in
-    record {
-      there = c.requires;
-      scope = c.if-hands_all_on.ensures ∙ (λ i. inside (numbers_from (length m.cells.bindings) (sym none i)) (arguments (scope_at (scopes m.scopes) c.args.scope) (resolveds_of c.args.strategies.now)));
-      cells = none_more m.cells.bindings m.arguments.items c.args.body.now.variables (omega (arith, none)) c.if-body-eq0.true;
-      room = λ W sub whole p a k x. along W sub whole (state_of m) p _ a (cut_none (length m.cells.bindings) a k) x;
-      part = refl;
-      rest = (refl, refl, refl);
-      frames = omega arith;
     }

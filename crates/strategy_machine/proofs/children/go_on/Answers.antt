@@ -1,30 +1,14 @@
 use Rattle.strategy_machine.proofs.ResultLemmas.{ok_map}
-use Rattle.std.proofs.Common.{refl, sym, ap, ◌∙◌, ◌-◌, ◌+◌, reverse}
-use Rattle.strategy_machine.proofs.ChildLemmas.{below_as, each_begins, each_over, each_fails}
-use Rattle.strategy_machine.proofs.TakeLemmas.{with_frames}
+use Rattle.std.proofs.Common.{◌≡◌, refl, ap, ◌∙◌, ◌-◌, ◌∷◌, subst}
+use Rattle.strategy_machine.proofs.ChildLemmas.{each_over}
+use Rattle.strategy_machine.specs.Frames.{acts_list}
 use Rattle.strategy_machine.specs.Turns.{state_of}
-use Rattle.strategy_machine.proofs.OpenLemmas.{pushed}
-use Rattle.strategy_machine.proofs.GiveLemmas.{st}
-use Rattle.strategy_machine.specs.Table.{scopes}
-use Rattle.strategy_machine.specs.Leading.{parts_now, all_parts, node_with}
-use Rattle.std.specs.Prelude.{slice_get}
-use Rattle.strategy_machine.specs.Hands.{Begin}
-use Rattle.strategy_machine.specs.declared.frames.Frame.TheVariants.{Each}
+use Rattle.strategy_machine.specs.Leading.{node_with}
 use Rattle.strategy_machine.proofs.children.go_on.Goals as goal
 
 pub returns-in_default-clause-ok : goal.returns-in_default-clause-ok
 returns-in_default-clause-ok c = λ W. ok_map c.end_each.result (λ next k. record { keeps = λ sub whole h. k.keeps sub whole (each_over W sub whole (state_of c.args.m.now) c.args.acts c.args.scope c.args.index c.saturating_sub-left.result c.args.m.now.part (node_with c.args.m.now.part c.args.m.now.parts.items) c.args.m.now.parts (c.saturating_sub-left.ensures ∙ ap (λ x. x - c.args.index) c.child_count-count.ensures) c.in_default.ensures refl h) }) (c.end_each.ensures.ok W)
 
-pub returns-in_default-2-clause-ok : goal.returns-in_default-2-clause-ok
-returns-in_default-2-clause-ok c = λ W. record { keeps = λ sub whole h. c.fails.ensures.keeps W sub whole (each_fails W sub whole (state_of c.args.m.now) c.args.acts c.in-Some.others c.in-Some.strategy c.args.scope c.args.index c.saturating_sub-left.result c.args.m.now.part c.args.m.now.parts (c.saturating_sub-left.ensures ∙ ap (λ x. x - c.args.index) c.child_count-count.ensures) c.in-Some.ensures (ap (λ ps. slice_get (parts_now c.args.m.now.part (all_parts c.args.m.now.part ps)) c.args.index) (sym c.deref.ensures.value) ∙ sym c.in_ok-child.ensures ∙ c.in_default-2.is) h) }
-
 pub returns-clause-ok : goal.returns-clause-ok
-returns-clause-ok c = λ W. record {
-  keeps = λ sub whole h. c.begins.ensures.keeps W sub whole (with_frames W sub whole (st c.args.m.now.cells (scopes c.args.m.now.scopes) c.args.m.now.trail (c.args.m.now.level + 1) c.args.m.now.steps (reverse c.args.m.now.frames.items)) _ _ _ (pushed _ _ _ c.in_ok-wait.ensures.items)
-      (below_as W sub whole (state_of c.args.m.now)
-      (Each c.in-Some.others c.args.scope (record { node = c.args.m.now.part; parts = c.args.m.now.parts; index = c.args.index; level = c.args.m.now.level; edits = c.args.m.now.trail.count })) _
-      (Begin c.in-Some.strategy c.args.scope c.in-Some-2.child) _
-      (λ j. Each c.in-Some.others c.args.scope (record { node = c.replace-node.ensures.value j; parts = c.replace-parts.ensures.value j; index = c.args.index; level = c.args.m.now.level; edits = c.args.m.now.trail.count }))
-      (ap (λ q. Begin c.in-Some.strategy c.args.scope q) c.replace-node.ensures.after)
-      (each_begins W sub whole (state_of c.args.m.now) c.args.acts c.in-Some.others c.in-Some.strategy c.args.scope c.args.index c.saturating_sub-left.result c.args.m.now.part c.in-Some-2.child c.args.m.now.parts (c.saturating_sub-left.ensures ∙ ap (λ x. x - c.args.index) c.child_count-count.ensures) c.in-Some.ensures (ap (λ ps. slice_get (parts_now c.args.m.now.part (all_parts c.args.m.now.part ps)) c.args.index) (sym c.deref.ensures.value) ∙ sym c.in_ok-child.ensures ∙ c.in-Some-2.is) h)));
-}
+returns-clause-ok c = λ W. c.go_down.ensures.ok W c.args.acts
+    (subst (λ k. acts_list c.args.acts k ≡ c.in-Some.strategy.now ∷ acts_list c.in-Some.others (k - 1)) (c.saturating_sub-left.ensures ∙ ap (λ x. x - c.args.index) c.child_count-count.ensures) c.in-Some.ensures)
