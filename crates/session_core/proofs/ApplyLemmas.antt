@@ -1,5 +1,5 @@
 -- What applying a strategy in a store means for the history.
-use Rattle.std.proofs.Common.{◌≡◌, ◌⊎◌, ℕ, List, Option, Some, Result, Ok, Err, IfErr, OnOk, inl, inr, sym, ap, ◌∙◌}
+use Rattle.std.proofs.Common.{◌≡◌, ◌⊎◌, ℕ, List, Option, Some, Result, Ok, Err, IfErr, OnOk, OnErr, inl, inr, refl, sym, ap, ◌∙◌}
 use Rattle.std.specs.Option.{option_map_or}
 use Rattle.prim_core.specs.Signature.{Signature}
 use Rattle.strategy_syntax.specs.declared.resolved.Resolved.{Resolved}
@@ -13,12 +13,11 @@ use Rattle.term_changes.proofs.ContentsLemmas.{tree_put}
 use Rattle.session_history.specs.Applying.{Meaning, world_in, given_by}
 use Rattle.session_history.specs.inside.Giving.{GivesIn}
 use Rattle.session_history.specs.History.{History, changed}
-use Rattle.session_history.specs.Acts.{apply, ActResult, ChangesTo, AppliesAt, Located, ComesTo}
-use Rattle.session_history.specs.Unfolded.{unfolded}
-use Rattle.session_history.specs.declared.timeline.Timeline.{Timeline}
+use Rattle.session_history.specs.Acts.{Act, apply, Performs, ActResult, ChangesTo, AppliesAt, Located, ComesTo}
+use Rattle.session_history.specs.Unfolded.{Logged, unfolded}
 use Rattle.session_history.specs.declared.refusal.Refusal.{Refusal}
 use Rattle.session_history.specs.declared.refusal.Refusal.TheVariants.{Memory}
-use Rattle.session_history.proofs.StepLemmas.{passed, stopped}
+use Rattle.session_history.proofs.StepLemmas.{passed, stopped, accepts, refuses}
 use Rattle.session_history.proofs.ActLemmas.{the_place}
 use Rattle.session_core.specs.inside.Resolved.{ResolvesTo, IsUnresolved}
 use Rattle.session_core.proofs.ResolveLemmas.{unresolved_before, resolved_then}
@@ -26,16 +25,19 @@ use Rattle.session_core.proofs.ResolveLemmas.{unresolved_before, resolved_then}
 pub same_program : (p q : Program) → Some p ≡ Some q → p ≡ q
 same_program p q e = cc
 
-module _ (meaning : Meaning) (ps : List Signature) (t : Timeline) (name path text : List ℕ) (steps : ℕ) where
+module _ (meaning : Meaning) (ps : List Signature) (t : Logged) (name path text : List ℕ) (steps : ℕ) where
   abbrev now : History
   now = unfolded ps t
 
-  abbrev Comes : ActResult → Type 0
-  Comes = ComesTo (apply meaning name path steps text) now
+  abbrev act : Act
+  act = apply meaning name path steps text
 
-  pub apply_unresolved : (refusal : Refusal) → (refusal ≡ Memory) ⊎ IsUnresolved name path text now refusal → (refusal ≡ Memory) ⊎ Comes (Err refusal)
-  apply_unresolved refusal (inl memory) = inl memory
-  apply_unresolved refusal (inr before) = inr (unresolved_before ps t name path text (AppliesAt meaning name path steps now) refusal before)
+  abbrev Comes : ActResult → Type 0
+  Comes = ComesTo act now
+
+  pub apply_unresolved : (refusal : Refusal) → (refusal ≡ Memory) ⊎ IsUnresolved name path text now refusal → Performs {X = Unit {0}} act now now (Err refusal)
+  apply_unresolved refusal (inl memory) = refuses act now now refusal (inl memory) refl
+  apply_unresolved refusal (inr before) = refuses act now now refusal (inr (unresolved_before ps t name path text (AppliesAt meaning name path steps now) refusal before)) refl
 
   module _ (cached : Option Program) (i : ℕ) (whole : Resolved) (r : ResolvesTo ps t name path text cached i whole) (lent : Program) (is : Some lent ≡ cached) where
     abbrev here : Located
@@ -60,7 +62,7 @@ module _ (meaning : Meaning) (ps : List Signature) (t : Timeline) (name path tex
     apply_fails : (refusal : Refusal) → given_by Ends ≡ Err refusal → Comes (Err refusal)
     apply_fails refusal none = ends (Err refusal) (stopped (given_by ending) (λ tree. ChangesTo (with_tree (contents t.store) name tree) now) refusal (sym (ap given_by in_slot) ∙ none))
 
-    apply_done : (n : Timeline) → GivesIn Ends i t.store n.store → unfolded ps n ≡ changed (contents n.store) now → Comes (Ok (unfolded ps n))
+    apply_done : (n : Logged) → GivesIn Ends i t.store n.store → unfolded ps n ≡ changed (contents n.store) now → Comes (Ok (unfolded ps n))
     apply_done n gives done =
         let then : contents n.store ≡ with_tree (contents t.store) name gives.tree = ap contents gives.stands ∙ tree_put t.store name i gives.tree r.there.1 in
         ends (Ok (unfolded ps n))
@@ -68,18 +70,8 @@ module _ (meaning : Meaning) (ps : List Signature) (t : Timeline) (name path tex
         (ap Ok (done ∙ ap (λ (c : Contents). changed c now) then)))
 
     -- what a change by the outcome says
-    module _ (result : Result (Unit {0}) Refusal) (n : Timeline) where
-      pub apply_ok : OnOk result (GivesIn Ends i t.store n.store) → OnOk result (unfolded ps n ≡ changed (contents n.store) now) → OnOk result (Comes (Ok (unfolded ps n)))
-      apply_ok gives done = by result gives done
-        where
-          by : (result : Result (Unit {0}) Refusal) → OnOk result (GivesIn Ends i t.store n.store) → OnOk result (unfolded ps n ≡ changed (contents n.store) now) → OnOk result (Comes (Ok (unfolded ps n)))
-          by (Ok x) gives done = apply_done n gives done
-          by (Err refusal) gives done = tt
-
-      pub apply_refused : IfErr result (λ refusal. (refusal ≡ Memory) ⊎ (given_by Ends ≡ Err refusal)) → IfErr result (λ refusal. (refusal ≡ Memory) ⊎ Comes (Err refusal))
-      apply_refused refused = by result refused
-        where
-          by : (result : Result (Unit {0}) Refusal) → IfErr result (λ refusal. (refusal ≡ Memory) ⊎ (given_by Ends ≡ Err refusal)) → IfErr result (λ refusal. (refusal ≡ Memory) ⊎ Comes (Err refusal))
-          by (Ok x) refused = tt
-          by (Err refusal) (inl memory) = inl memory
-          by (Err refusal) (inr none) = inr (apply_fails refusal none)
+    pub apply_performs : (result : Result (Unit {0}) Refusal) (n : Logged) → OnOk result (GivesIn Ends i t.store n.store) → OnOk result (unfolded ps n ≡ changed (contents n.store) now)
+        → IfErr result (λ refusal. (refusal ≡ Memory) ⊎ (given_by Ends ≡ Err refusal)) → OnErr result (unfolded ps n ≡ now) → Performs act now (unfolded ps n) result
+    apply_performs (Ok tt) n gives done refused same = accepts act now (unfolded ps n) tt (apply_done n gives done)
+    apply_performs (Err refusal) n gives done (inl memory) same = refuses act now (unfolded ps n) refusal (inl memory) same
+    apply_performs (Err refusal) n gives done (inr none) same = refuses act now (unfolded ps n) refusal (inr (apply_fails refusal none)) same

@@ -24,13 +24,12 @@ use Rattle.session_history.specs.History.{History}
 use Rattle.session_history.specs.Preview.{Replacement, part_at, replacement, Foresees as Shows, ForeseesAt, Previews}
 use Rattle.session_history.specs.Preview as definition
 use Rattle.session_history.specs.Acts.{Located, place_of}
-use Rattle.session_history.specs.Unfolded.{unfolded, IsPlaceOf}
-use Rattle.session_history.specs.declared.timeline.Timeline.{Timeline}
+use Rattle.session_history.specs.Unfolded.{Logged, unfolded, IsPlaceOf}
 use Rattle.session_history.specs.declared.refusal.Refusal.{Refusal}
 use Rattle.session_history.specs.declared.refusal.Refusal.TheVariants.{Memory, Fails}
 use Rattle.session_history.proofs.StepLemmas.{place_there}
 use Rattle.session_history.proofs.ActLemmas.{tree_held, seen_place, the_place}
-use Rattle.session_core.specs.Previewing.{entry_for, AreThere, ShowsPreview}
+use Rattle.session_core.specs.Previewing.{entry_for, AreThere, ShowsPreview, AnswersPreview}
 use Rattle.session_core.specs.declared.preview.Preview.{Preview}
 use Rattle.session_core.specs.inside.Foreseen.{Foresees, RefusesRun, ForeseesRefusal}
 use Rattle.session_core.specs.inside.Resolved.{ResolvesTo, IsUnresolved}
@@ -99,14 +98,14 @@ module _ (path : List ℕ) (tree before after : Tree) (here : at tree path ≡ S
 
 -- ---- a run in the slot is a run at the place
 
-module _ (meaning : Meaning) (ps : List Signature) (t : Timeline) (name path text : List ℕ) (steps : ℕ) where
+module _ (meaning : Meaning) (ps : List Signature) (t : Logged) (name path text : List ℕ) (steps : ℕ) where
   abbrev now : History
   now = unfolded ps t
 
   pub preview_unresolved : (refusal : Refusal) → (refusal ≡ Memory) ⊎ IsUnresolved name path text now refusal
-      → (refusal ≡ Memory) ⊎ Previews meaning name path steps text now (Err refusal)
-  preview_unresolved refusal (inl memory) = inl memory
-  preview_unresolved refusal (inr before) = inr (unresolved_before ps t name path text (ForeseesAt meaning path steps now) refusal before)
+      → AnswersPreview meaning name path steps text now (Err refusal)
+  preview_unresolved refusal (inl memory) = record { ok = tt; refused = inl memory }
+  preview_unresolved refusal (inr before) = record { ok = tt; refused = inr (unresolved_before ps t name path text (ForeseesAt meaning path steps now) refusal before) }
 
   module _ (cached : Option Program) (i : ℕ) (whole : Resolved) (r : ResolvesTo ps t name path text cached i whole) (lent : Program) (is : Some lent ≡ cached) where
     abbrev here : Located
@@ -137,7 +136,7 @@ module _ (meaning : Meaning) (ps : List Signature) (t : Timeline) (name path tex
         → Previews meaning name path steps text now outcome
     at_part part found_it outcome p = comes outcome (subst (λ y. Shows path steps y (run_on y) outcome) (same_part part found_it) p)
 
-    pub shows_preview : (preview : Preview) → Foresees (world_in meaning lent ps) t.store i path whole steps preview → ShowsPreview meaning name path steps text now preview
+    shows_preview : (preview : Preview) → Foresees (world_in meaning lent ps) t.store i path whole steps preview → ShowsPreview meaning name path steps text now preview
     shows_preview preview f =
         let g = f.gives in
         let list = map (replacement path f.part g.after) f.places in
@@ -171,13 +170,8 @@ module _ (meaning : Meaning) (ps : List Signature) (t : Timeline) (name path tex
     preview_refused refusal (inr (inl none)) = absurd (some_there none)
     preview_refused refusal (inr (inr (part, is, run))) = inr (at_part part is (Err refusal) (refuses_run part refusal run))
 
-    -- what the call says
-    pub all_shown : (result : Result Preview Refusal) → IfOk result (λ preview. Foresees (world_in meaning lent ps) t.store i path whole steps preview)
-        → IfOk result (λ preview. ShowsPreview meaning name path steps text now preview)
-    all_shown (Ok preview) f = shows_preview preview f
-    all_shown (Err refusal) f = tt
-
-    pub all_refused : (result : Result Preview Refusal) → IfErr result (λ refusal. (refusal ≡ Memory) ⊎ ForeseesRefusal (world_in meaning lent ps) t.store i path whole steps refusal)
-        → IfErr result (λ refusal. (refusal ≡ Memory) ⊎ Previews meaning name path steps text now (Err refusal))
-    all_refused (Ok preview) refused = tt
-    all_refused (Err refusal) refused = preview_refused refusal refused
+    -- what the call answers
+    pub preview_answers : (result : Result Preview Refusal) → IfOk result (λ preview. Foresees (world_in meaning lent ps) t.store i path whole steps preview)
+        → IfErr result (λ refusal. (refusal ≡ Memory) ⊎ ForeseesRefusal (world_in meaning lent ps) t.store i path whole steps refusal) → AnswersPreview meaning name path steps text now result
+    preview_answers (Ok preview) f refused = record { ok = shows_preview preview f; refused = tt }
+    preview_answers (Err refusal) f refused = record { ok = tt; refused = preview_refused refusal refused }

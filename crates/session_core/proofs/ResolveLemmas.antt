@@ -18,8 +18,7 @@ use Rattle.session_history.specs.Modules.{Texts, AreReadable, GivesProgram, AreC
 use Rattle.session_history.specs.Applying.{ReadsAsStrategy, resolved_in}
 use Rattle.session_history.specs.History.{History, AreFormed}
 use Rattle.session_history.specs.Acts.{Passing, Given, Located, Resolving, place_of}
-use Rattle.session_history.specs.Unfolded.{unfolded, IsPlaceOf}
-use Rattle.session_history.specs.declared.timeline.Timeline.{Timeline}
+use Rattle.session_history.specs.Unfolded.{Logged, unfolded, IsPlaceOf}
 use Rattle.session_history.specs.declared.refusal.Refusal.{Refusal}
 use Rattle.session_history.specs.declared.refusal.Refusal.TheVariants.{Memory}
 use Rattle.strategy_run.proofs.ApplyLemmas.{low_at}
@@ -37,7 +36,7 @@ lent_program ps texts kept lent is there = by kept.checked is there
 
 -- ---- a place in a tree that is low enough
 
-module _ (t : Timeline) (name path : List ℕ) (i : ℕ) (there : IsPlaceOf t.store name path i) (formed : AreFormed (contents t.store)) where
+module _ (t : Logged) (name path : List ℕ) (i : ℕ) (there : IsPlaceOf t.store name path i) (formed : AreFormed (contents t.store)) where
   within : height there.0 ≤ MAX_HEIGHT
   within = subst (λ (o : Option Tree). IfSome o (λ t. height t ≤ MAX_HEIGHT)) (tree_held t.store name there.2 i there.0 (sym there.1) there.3) (formed.0 name)
 
@@ -54,7 +53,7 @@ module _ (t : Timeline) (name path : List ℕ) (i : ℕ) (there : IsPlaceOf t.st
 
 -- ---- the tests, one after the other
 
-module _ (ps : List Signature) (t : Timeline) (name path text : List ℕ) where
+module _ (ps : List Signature) (t : Logged) (name path text : List ℕ) where
   abbrev now : History
   now = unfolded ps t
 

@@ -1,7 +1,8 @@
 -- What a preview lists.
-use Rattle.std.specs.Prelude.{◌≡◌, ℕ, List, [], ◌∷◌, map, Some, None, Ok}
+use Rattle.std.specs.Prelude.{◌≡◌, ◌⊎◌, ℕ, List, [], ◌∷◌, map, Some, None, Ok, Err, IfOk, IfErr}
 use Rattle.std.specs.FinMap as finmap
 use Rattle.std.specs.declared.option.Option.{Option}
+use Rattle.std.specs.declared.result.Result.{Result}
 use Rattle.term_core.specs.Tree.{Tree}
 use Rattle.term_paths.specs.Paths.{at}
 use Rattle.term_changes.specs.Entries.{Entry, slot_tree, subterm, subterm_annotations, slot_text}
@@ -9,6 +10,8 @@ use Rattle.session_history.specs.Applying.{Meaning}
 use Rattle.session_history.specs.History.{History}
 use Rattle.session_history.specs.Preview.{Replacement, Previews}
 use Rattle.session_history.specs.Preview as definition
+use Rattle.session_history.specs.declared.refusal.Refusal.{Refusal}
+use Rattle.session_history.specs.declared.refusal.Refusal.TheVariants.{Memory}
 use Rattle.session_core.specs.declared.preview.Preview.{Preview}
 
 -- what would be put at the place, in the tree of a slot
@@ -31,6 +34,12 @@ pub record ShowsPreview (meaning : Meaning) (name path : List ℕ) (b : ℕ) (te
   pub tree : Tree
   pub held : finmap.get h.now.trees name ≡ Some tree
   pub there : AreThere tree shown.replacements
+
+-- What the answer to a preview says: it shows what applying would replace, or the refusal is that of
+-- applying, or want of memory.
+pub record AnswersPreview (meaning : Meaning) (name path : List ℕ) (b : ℕ) (text : List ℕ) (h : History) (result : Result Preview Refusal) : Type 0 where
+  pub ok : IfOk result (ShowsPreview meaning name path b text h)
+  pub refused : IfErr result (λ refusal. (refusal ≡ Memory) ⊎ Previews meaning name path b text h (Err refusal))
 
 -- a path and a term, if they are given
 abbrev pub StartsWith : List ℕ → Tree → Option (List ℕ × Tree) → Type 0

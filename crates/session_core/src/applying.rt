@@ -9,8 +9,8 @@ ghost use Rattle.session_history.specs.Applying.{world_in, given_by};
 ghost use Rattle.session_history.specs.inside.Giving.{GivesIn};
 ghost use Rattle.session_history.specs.History.{AreFormed, changed};
 ghost use Rattle.session_history.specs.Modules.{IsKept};
-ghost use Rattle.session_history.specs.Acts.{ComesTo, apply};
-ghost use Rattle.session_history.specs.Unfolded.{unfolded, IsPlaced};
+ghost use Rattle.session_history.specs.Acts.{Performs, apply};
+ghost use Rattle.session_history.specs.Unfolded.{unfolded};
 ghost use Rattle.session_core.specs.inside.Resolved.{replaced_of};
 
 use crate::resolving::resolve_at;
@@ -33,17 +33,10 @@ pub(crate) fn apply_strategy<M: Meaning>(
     steps: u32,
     text: &[u8],
 ) -> Result<(), Refusal>
-    requires placed { IsPlaced timeline.old }
     requires formed { AreFormed (contents timeline.old.store) }
     requires kept { IsKept primitives.now (contents timeline.old.store).modules kept.old }
-    ensures placed { IsPlaced timeline.new }
-    ensures ok { OnOk result (ComesTo (apply M.meaning name.now path.now steps text.now)
-        (unfolded primitives.now timeline.old) (Ok (unfolded primitives.now timeline.new))) }
-    ensures refused { IfErr result (λ refusal. (refusal ≡ Refusal.Memory)
-        ⊎ ComesTo (apply M.meaning name.now path.now steps text.now)
-        (unfolded primitives.now timeline.old) (Err refusal)) }
-    ensures err { OnErr result (unfolded primitives.now timeline.new
-        ≡ unfolded primitives.now timeline.old) }
+    ensures performs { Performs (apply M.meaning name.now path.now steps text.now)
+        (unfolded primitives.now timeline.old) (unfolded primitives.now timeline.new) result }
     ensures kept { IsKept primitives.now (contents timeline.new.store).modules kept.new }
 {
     let (slot, whole) = match resolve_at(timeline, primitives, kept, name, path, text) {
@@ -68,10 +61,8 @@ fn apply_in_slot<M: Meaning>(
     strategy: &Resolved,
     steps: u32,
 ) -> Result<(), Refusal>
-    requires placed { IsPlaced timeline.old }
     requires low { IfSome (subterm_in timeline.old.store.trees slot path.now)
         (λ u. length path.now + height u ≤ MAX_HEIGHT) }
-    ensures placed { IsPlaced timeline.new }
     ensures ok { OnOk result (unfolded primitives.now timeline.new
         ≡ changed (contents timeline.new.store) (unfolded primitives.now timeline.old)) }
     ensures made { OnOk result (GivesIn (applied_in (world_in M.meaning program.now primitives.now)
@@ -83,7 +74,7 @@ fn apply_in_slot<M: Meaning>(
         ≡ unfolded primitives.now timeline.old) }
 {
     let alloc = timeline.allocator();
-    let Some(tree) = timeline.store.tree(slot) else {
+    let Some(tree) = timeline.store().tree(slot) else {
         return Err(Refusal::Fails);
     };
     let Some(part) = at(tree, path) else {

@@ -2,7 +2,7 @@
 
 ghost use Rattle.std.specs.Prelude.{◌≡◌};
 ghost use Rattle.session_history.specs.Laws.{ChangeIsToContents, ChangeIsUndone, GroupIsUndone, RedoTakesUndoBack, UndoTakesRedoBack};
-ghost use Rattle.session_history.specs.Unfolded.{unfolded, AllCompact, logs_of};
+ghost use Rattle.session_history.specs.Unfolded.{unfolded, AllCompact};
 
 use crate::Session;
 use prim_core::Meaning;
@@ -23,7 +23,9 @@ pub fn undo_and_redo_are_inverse()
 /// change costs only what it replaced, at disjoint places.
 pub fn steps_are_compact<M: Meaning>(session: &Session<M>) -> &Timeline
     ensures history { unfolded session.now.primitives result.now ≡ session.now }
-    ensures compact { AllCompact (logs_of result.now) }
+    ensures compact { AllCompact result.now.logs }
 {
-    session.timeline()
+    let timeline = session.timeline();
+    timeline.steps_are_compact();
+    timeline
 }

@@ -7,9 +7,8 @@ ghost use Rattle.term_changes.specs.Slots.{contents};
 ghost use Rattle.session_history.specs.Applying.{world_in};
 ghost use Rattle.session_history.specs.History.{AreFormed};
 ghost use Rattle.session_history.specs.Modules.{IsKept};
-ghost use Rattle.session_history.specs.Preview.{Previews};
 ghost use Rattle.session_history.specs.Unfolded.{unfolded};
-ghost use Rattle.session_core.specs.Previewing.{ShowsPreview, IsNext};
+ghost use Rattle.session_core.specs.Previewing.{AnswersPreview, IsNext};
 ghost use Rattle.session_core.specs.inside.Foreseen.{Foresees, ForeseesRefusal};
 
 use crate::applying::replaced;
@@ -107,10 +106,7 @@ pub(crate) fn preview_strategy<M: Meaning>(
 ) -> Result<Preview, Refusal>
     requires formed { AreFormed (contents timeline.now.store) }
     requires kept { IsKept primitives.now (contents timeline.now.store).modules kept.old }
-    ensures ok { IfOk result (λ preview. ShowsPreview M.meaning name.now path.now steps text.now
-        (unfolded primitives.now timeline.now) preview) }
-    ensures refused { IfErr result (λ refusal. (refusal ≡ Refusal.Memory)
-        ⊎ Previews M.meaning name.now path.now steps text.now (unfolded primitives.now timeline.now) (Err refusal)) }
+    ensures answers { AnswersPreview M.meaning name.now path.now steps text.now (unfolded primitives.now timeline.now) result }
     ensures kept { IsKept primitives.now (contents timeline.now.store).modules kept.new }
 {
     let (slot, whole) = match resolve_at(timeline, primitives, kept, name, path, text) {
@@ -143,7 +139,7 @@ fn preview_in_slot<M: Meaning>(
         ⊎ ForeseesRefusal (world_in M.meaning program.now primitives.now)
         timeline.now.store slot path.now strategy.now steps refusal) }
 {
-    let Some(tree) = timeline.store.tree(slot) else {
+    let Some(tree) = timeline.store().tree(slot) else {
         return Err(Refusal::Fails);
     };
     let Some(part) = at(tree, path) else {

@@ -46,7 +46,7 @@ pub(crate) fn resolve_at<M: Meaning>(
         Ok(strategy) => strategy,
         Err(refusal) => return Err(refusal),
     };
-    if let Err(refusal) = keep_modules(alloc, &timeline.store, primitives, kept) {
+    if let Err(refusal) = keep_modules(alloc, timeline.store(), primitives, kept) {
         drop(strategy);
         return Err(refusal);
     }

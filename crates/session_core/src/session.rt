@@ -1,14 +1,13 @@
 //! Sessions: contents that change in steps, which can be undone and redone.
 
-ghost use Rattle.std.specs.Prelude.{◌≡◌, ◌≢◌, ◌≤◌, ◌↔◌, ◌⊎◌, ◌++◌, Ok, Err, vec_capacity, OnOk, OnErr, IfOk, IfErr, None, length, option_copied};
+ghost use Rattle.std.specs.Prelude.{◌≡◌, ◌≤◌, ◌++◌, vec_capacity, OnOk, OnErr, IfOk, IfErr, length, option_copied};
 ghost use Rattle.std.specs.FinMap as finmap;
 ghost use Rattle.session_history.specs.History.{empty_history, HasSoundContents};
-ghost use Rattle.session_history.specs.Acts.{ComesTo, set_tree, copy_tree, drop_tree, put, annotate, set_module, unload, apply, undo, redo, begin, commit, abandon};
+ghost use Rattle.session_history.specs.Acts.{Performs, PerformsSurely, set_tree, copy_tree, drop_tree, put, annotate, set_module, unload, apply, undo, redo, begin, commit, abandon};
 ghost use Rattle.session_history.specs.Steps.{AreSteps};
-ghost use Rattle.session_history.specs.Preview.{Previews};
-ghost use Rattle.session_core.specs.Previewing.{ShowsPreview};
+ghost use Rattle.session_core.specs.Previewing.{AnswersPreview};
 ghost use Rattle.session_history.specs.Dump.{dumped, AreNamedTerms};
-ghost use Rattle.session_history.specs.Unfolded.{unfolded, IsPlaced};
+ghost use Rattle.session_history.specs.Unfolded.{unfolded};
 
 use crate::applying::apply_strategy;
 use crate::preview::{Preview, preview_strategy};
@@ -41,11 +40,11 @@ impl<M: Meaning> Model for Session<M> {
     ghost use Rattle.term_changes.specs.Slots.{contents};
     ghost use Rattle.session_history.specs.History.{HasSoundContents};
     ghost use Rattle.session_history.specs.Modules.{IsKept};
-    ghost use Rattle.session_history.specs.Unfolded.{unfolded, IsPlaced};
+    ghost use Rattle.session_history.specs.Unfolded.{unfolded};
 
     ghost view = { λ a. unfolded a.primitives a.timeline };
 
-    ghost invariant = { λ a. IsPlaced a.timeline × HasSoundContents (unfolded a.primitives a.timeline)
+    ghost invariant = { λ a. HasSoundContents (unfolded a.primitives a.timeline)
         × IsKept a.primitives (contents a.timeline.store).modules a.kept };
 }
 
@@ -53,8 +52,7 @@ impl<M: Meaning> Session<M> {
     /// A session with these primitives, without trees and modules, in which nothing can be undone
     /// or redone. It takes no memory.
     pub fn new(alloc: Global, primitives: Primitives<M>) -> Session<M>
-        ensures value { result ≡ empty_history primitives }
-        ensures sound { HasSoundContents result }
+        ensures { result ≡ empty_history primitives }
     {
         Session {
             primitives,
@@ -63,10 +61,17 @@ impl<M: Meaning> Session<M> {
         }
     }
 
+    /// All contents of the session are sound, those before and after each step included. It does
+    /// nothing.
+    pub fn contents_are_sound(&self)
+        ensures { HasSoundContents self.now }
+    {
+        let _ = &self.timeline;
+    }
+
     /// The steps that are kept.
     pub(crate) fn timeline(&self) -> &Timeline
-        ensures history { unfolded self.now.primitives result.now ≡ self.now }
-        ensures placed { IsPlaced result.now }
+        ensures { unfolded self.now.primitives result.now ≡ self.now }
     {
         &self.timeline
     }
@@ -74,7 +79,6 @@ impl<M: Meaning> Session<M> {
     /// The tree of this name, or `None` if there is none.
     pub fn tree(&self, name: &Label) -> Option<&Term>
         ensures value { option_copied result ≡ finmap.get self.now.now.trees name.now }
-        ensures sound { HasSoundContents self.now }
     {
         self.timeline.tree(name)
     }
@@ -82,7 +86,6 @@ impl<M: Meaning> Session<M> {
     /// The names of the trees, in byte order.
     pub fn tree_names(&self) -> Result<Vec<Label>, NoMemory>
         ensures names { IfOk result (λ names. names.items ≡ finmap.keys self.now.now.trees) }
-        ensures sound { HasSoundContents self.now }
     {
         self.timeline.tree_names()
     }
@@ -90,7 +93,6 @@ impl<M: Meaning> Session<M> {
     /// The text of the module of this name, or `None` if there is none.
     pub fn module_text(&self, name: &Label) -> Option<&[u8]>
         ensures value { option_copied result ≡ finmap.get self.now.now.modules name.now }
-        ensures sound { HasSoundContents self.now }
     {
         self.timeline.module_text(name)
     }
@@ -98,7 +100,6 @@ impl<M: Meaning> Session<M> {
     /// The names of the modules, in byte order.
     pub fn module_names(&self) -> Result<Vec<Label>, NoMemory>
         ensures names { IfOk result (λ names. names.items ≡ finmap.keys self.now.now.modules) }
-        ensures sound { HasSoundContents self.now }
     {
         self.timeline.module_names()
     }
@@ -108,7 +109,6 @@ impl<M: Meaning> Session<M> {
     pub fn counts(&self) -> (u64, u64)
         ensures undo { result.0 ≡ length self.now.past }
         ensures redo { result.1 ≡ length self.now.later }
-        ensures sound { HasSoundContents self.now }
     {
         (self.timeline.past() as u64, self.timeline.later() as u64)
     }
@@ -122,7 +122,6 @@ impl<M: Meaning> Session<M> {
         ensures terms { OnOk result (AreNamedTerms self.now.now) }
         ensures err { OnErr result (out.new.items ≡ out.old.items) }
         ensures room { vec_capacity out.old ≤ vec_capacity out.new }
-        ensures sound { HasSoundContents self.now }
     {
         self.timeline.dump(out)
     }
@@ -134,11 +133,7 @@ impl<M: Meaning> Session<M> {
     /// A refusal leaves the session as it was, and the tree is dropped.
     #[inline(always)]
     pub fn set_tree(&mut self, name: &Label, tree: Term) -> Result<(), Refusal>
-        ensures ok { OnOk result (ComesTo (set_tree name.now tree) self.old (Ok self.new)) }
-        ensures refused { IfErr result (λ refusal. (refusal ≡ Refusal.Memory)
-            ⊎ ComesTo (set_tree name.now tree) self.old (Err refusal)) }
-        ensures err { OnErr result (self.new ≡ self.old) }
-        ensures sound { HasSoundContents self.new }
+        ensures { Performs (set_tree name.now tree) self.old self.new result }
     {
         self.timeline.set_tree(name, tree)
     }
@@ -147,11 +142,7 @@ impl<M: Meaning> Session<M> {
     /// and even if the two are the same name. If there is no tree of `name`, the refusal is
     /// `NoTree`. A refusal leaves the session as it was.
     pub fn copy_tree(&mut self, name: &Label, copy: &Label) -> Result<(), Refusal>
-        ensures ok { OnOk result (ComesTo (copy_tree name.now copy.now) self.old (Ok self.new)) }
-        ensures refused { IfErr result (λ refusal. (refusal ≡ Refusal.Memory)
-            ⊎ ComesTo (copy_tree name.now copy.now) self.old (Err refusal)) }
-        ensures err { OnErr result (self.new ≡ self.old) }
-        ensures sound { HasSoundContents self.new }
+        ensures { Performs (copy_tree name.now copy.now) self.old self.new result }
     {
         self.timeline.copy_tree(name, copy)
     }
@@ -159,11 +150,7 @@ impl<M: Meaning> Session<M> {
     /// Removes the tree of this name. If there is none, the refusal is `NoTree`. A refusal leaves
     /// the session as it was.
     pub fn drop_tree(&mut self, name: &Label) -> Result<(), Refusal>
-        ensures ok { OnOk result (ComesTo (drop_tree name.now) self.old (Ok self.new)) }
-        ensures refused { IfErr result (λ refusal. (refusal ≡ Refusal.Memory)
-            ⊎ ComesTo (drop_tree name.now) self.old (Err refusal)) }
-        ensures err { OnErr result (self.new ≡ self.old) }
-        ensures sound { HasSoundContents self.new }
+        ensures { Performs (drop_tree name.now) self.old self.new result }
     {
         self.timeline.drop_tree(name)
     }
@@ -174,11 +161,7 @@ impl<M: Meaning> Session<M> {
     ///
     /// A refusal leaves the session as it was, and the term is dropped.
     pub fn put(&mut self, name: &Label, path: &Path, part: Term) -> Result<(), Refusal>
-        ensures ok { OnOk result (ComesTo (put name.now path.now part) self.old (Ok self.new)) }
-        ensures refused { IfErr result (λ refusal. (refusal ≡ Refusal.Memory)
-            ⊎ ComesTo (put name.now path.now part) self.old (Err refusal)) }
-        ensures err { OnErr result (self.new ≡ self.old) }
-        ensures sound { HasSoundContents self.new }
+        ensures { Performs (put name.now path.now part) self.old self.new result }
     {
         self.timeline.put(name, path, part)
     }
@@ -194,11 +177,7 @@ impl<M: Meaning> Session<M> {
         path: &Path,
         annotations: Vec<Term>,
     ) -> Result<(), Refusal>
-        ensures ok { OnOk result (ComesTo (annotate name.now path.now annotations.items) self.old (Ok self.new)) }
-        ensures refused { IfErr result (λ refusal. (refusal ≡ Refusal.Memory)
-            ⊎ ComesTo (annotate name.now path.now annotations.items) self.old (Err refusal)) }
-        ensures err { OnErr result (self.new ≡ self.old) }
-        ensures sound { HasSoundContents self.new }
+        ensures { Performs (annotate name.now path.now annotations.items) self.old self.new result }
     {
         self.timeline.annotate(name, path, annotations)
     }
@@ -210,11 +189,7 @@ impl<M: Meaning> Session<M> {
     ///
     /// A refusal leaves the session as it was.
     pub fn set_module(&mut self, name: &Label, text: &[u8]) -> Result<(), Refusal>
-        ensures ok { OnOk result (ComesTo (set_module name.now text.now) self.old (Ok self.new)) }
-        ensures refused { IfErr result (λ refusal. (refusal ≡ Refusal.Memory)
-            ⊎ ComesTo (set_module name.now text.now) self.old (Err refusal)) }
-        ensures err { OnErr result (self.new ≡ self.old) }
-        ensures sound { HasSoundContents self.new }
+        ensures { Performs (set_module name.now text.now) self.old self.new result }
     {
         self.timeline
             .set_module(&self.primitives, &mut self.kept, name, text)
@@ -224,11 +199,7 @@ impl<M: Meaning> Session<M> {
     /// group the checker must find no fault in the remaining modules, else the refusal is `Check`.
     /// A refusal leaves the session as it was.
     pub fn unload(&mut self, name: &Label) -> Result<(), Refusal>
-        ensures ok { OnOk result (ComesTo (unload name.now) self.old (Ok self.new)) }
-        ensures refused { IfErr result (λ refusal. (refusal ≡ Refusal.Memory)
-            ⊎ ComesTo (unload name.now) self.old (Err refusal)) }
-        ensures err { OnErr result (self.new ≡ self.old) }
-        ensures sound { HasSoundContents self.new }
+        ensures { Performs (unload name.now) self.old self.new result }
     {
         self.timeline.unload(&self.primitives, &mut self.kept, name)
     }
@@ -252,12 +223,7 @@ impl<M: Meaning> Session<M> {
         text: &[u8],
     ) -> Result<(), Refusal>
         requires { AreSteps steps }
-        ensures ok { OnOk result (ComesTo (apply M.meaning name.now path.now steps text.now) self.old
-            (Ok self.new)) }
-        ensures refused { IfErr result (λ refusal. (refusal ≡ Refusal.Memory)
-            ⊎ ComesTo (apply M.meaning name.now path.now steps text.now) self.old (Err refusal)) }
-        ensures err { OnErr result (self.new ≡ self.old) }
-        ensures sound { HasSoundContents self.new }
+        ensures { Performs (apply M.meaning name.now path.now steps text.now) self.old self.new result }
     {
         // Called for its contract: no tree becomes too high.
         heights_are_kept();
@@ -285,11 +251,8 @@ impl<M: Meaning> Session<M> {
         text: &[u8],
     ) -> Result<Preview, Refusal>
         requires { AreSteps steps }
-        ensures ok { IfOk result (λ preview. ShowsPreview M.meaning name.now path.now steps text.now self.old preview) }
-        ensures refused { IfErr result (λ refusal. (refusal ≡ Refusal.Memory)
-            ⊎ Previews M.meaning name.now path.now steps text.now self.old (Err refusal)) }
+        ensures answers { AnswersPreview M.meaning name.now path.now steps text.now self.old result }
         ensures same { self.new ≡ self.old }
-        ensures sound { HasSoundContents self.new }
     {
         preview_strategy(
             &self.timeline,
@@ -306,13 +269,10 @@ impl<M: Meaning> Session<M> {
     /// nothing. In a group the refusal is `Group`; if there are fewer steps, `NoUndo`. A refusal
     /// leaves the session as it was. It takes no memory.
     pub fn undo(&mut self, n: u32) -> Result<(), Refusal>
-        ensures ok { OnOk result (ComesTo (undo n) self.old (Ok self.new)) }
-        ensures refused { IfErr result (λ refusal. ComesTo (undo n) self.old (Err refusal)) }
-        ensures err { OnErr result (self.new ≡ self.old) }
-        ensures sound { HasSoundContents self.new }
+        ensures { PerformsSurely (undo n) self.old self.new result }
     {
         let texts = self.timeline.undo(n)?;
-        self.kept.note(&self.timeline.store, texts);
+        self.kept.note(self.timeline.store(), texts);
         Ok(())
     }
 
@@ -320,23 +280,17 @@ impl<M: Meaning> Session<M> {
     /// were undone since the last change, `NoRedo`. A refusal leaves the session as it was. It
     /// takes no memory.
     pub fn redo(&mut self, n: u32) -> Result<(), Refusal>
-        ensures ok { OnOk result (ComesTo (redo n) self.old (Ok self.new)) }
-        ensures refused { IfErr result (λ refusal. ComesTo (redo n) self.old (Err refusal)) }
-        ensures err { OnErr result (self.new ≡ self.old) }
-        ensures sound { HasSoundContents self.new }
+        ensures { PerformsSurely (redo n) self.old self.new result }
     {
         let texts = self.timeline.redo(n)?;
-        self.kept.note(&self.timeline.store, texts);
+        self.kept.note(self.timeline.store(), texts);
         Ok(())
     }
 
     /// Opens a group: all changes until `commit` are one step. If a group is open, the refusal is
     /// `Group`, and the session stays as it was. It takes no memory.
     pub fn begin(&mut self) -> Result<(), Refusal>
-        ensures ok { OnOk result (ComesTo begin self.old (Ok self.new)) }
-        ensures refused { IfErr result (λ refusal. ComesTo begin self.old (Err refusal)) }
-        ensures err { OnErr result (self.new ≡ self.old) }
-        ensures sound { HasSoundContents self.new }
+        ensures { PerformsSurely begin self.old self.new result }
     {
         self.timeline.begin()
     }
@@ -346,11 +300,7 @@ impl<M: Meaning> Session<M> {
     /// is `NoGroup`; if the checker finds a fault in the modules, `Check` with the first. A refusal
     /// leaves the session as it was, with the group open.
     pub fn commit(&mut self) -> Result<(), Refusal>
-        ensures ok { OnOk result (ComesTo commit self.old (Ok self.new)) }
-        ensures refused { IfErr result (λ refusal. (refusal ≡ Refusal.Memory)
-            ⊎ ComesTo commit self.old (Err refusal)) }
-        ensures err { OnErr result (self.new ≡ self.old) }
-        ensures sound { HasSoundContents self.new }
+        ensures { Performs commit self.old self.new result }
     {
         self.timeline.commit(&self.primitives, &mut self.kept)
     }
@@ -359,13 +309,10 @@ impl<M: Meaning> Session<M> {
     /// the group. If no group is open, the refusal is `NoGroup`, and the session stays as it was.
     /// It takes no memory.
     pub fn abandon(&mut self) -> Result<(), Refusal>
-        ensures ok { OnOk result (ComesTo abandon self.old (Ok self.new)) }
-        ensures refused { IfErr result (λ refusal. ComesTo abandon self.old (Err refusal)) }
-        ensures err { OnErr result (self.new ≡ self.old) }
-        ensures sound { HasSoundContents self.new }
+        ensures { PerformsSurely abandon self.old self.new result }
     {
         let texts = self.timeline.abandon()?;
-        self.kept.note(&self.timeline.store, texts);
+        self.kept.note(self.timeline.store(), texts);
         Ok(())
     }
 }

@@ -1,5 +1,5 @@
 -- What parsing and checking the modules of a store means for the history.
-use Rattle.std.proofs.Common.{◌≡◌, ◌<◌, ◌≤◌, ◌⊎◌, ℕ, Bool, true, false, cond, List, [], ◌∷◌, ◌++◌, ◌+◌, suc, length, drop, drop-cons, add-one, get_or, map, Option, Some, None, IsSome, is_some, IfSome, Result, Ok, Err, IfErr, ok_or, option_and_then, inl, inr, refl, sym, ap, subst, ◌∙◌, arith, append_assoc}
+use Rattle.std.proofs.Common.{◌≡◌, ◌<◌, ◌≤◌, ◌⊎◌, ℕ, Bool, true, false, cond, List, [], ◌∷◌, ◌++◌, ◌+◌, suc, length, drop, drop-cons, add-one, get_or, map, Option, Some, None, IsSome, IfSome, Result, Ok, Err, IfErr, ok_or, option_and_then, inl, inr, refl, sym, ap, subst, ◌∙◌, arith, append_assoc}
 use Rattle.std.specs.Prelude.{IsSomeAnd, IfOk, option_map}
 use Rattle.std.proofs.lemmas.List.{append-nil}
 use Rattle.std.proofs.lemmas.Bool.{cases_lt}
@@ -18,8 +18,7 @@ use Rattle.term_changes.specs.Slots.{Store, HaveDistinctLabels, contents, conten
 use Rattle.term_changes.specs.Entries.{Entry, slot_text, put, before}
 use Rattle.term_changes.proofs.ContentsLemmas.{module_of_name, module_put, module_taken}
 use Rattle.prim_core.specs.Signature.{Signature}
-use Rattle.session_history.specs.Unfolded.{unfolded}
-use Rattle.session_history.specs.declared.timeline.Timeline.{Timeline}
+use Rattle.session_history.specs.Unfolded.{Logged, unfolded}
 use Rattle.session_history.specs.declared.timeline.OpenGroup.{OpenGroup}
 use Rattle.session_history.specs.History.{HistoryGroup, History, changed}
 use Rattle.session_history.specs.Acts.{set_module, unload, commit, ActResult, Given, Leaves, ChangesModules, ComesTo, committed, module_text_of}
@@ -138,8 +137,12 @@ module _ (h : History) (name text : List ℕ) where
   with_text = with_module h.now name text
 
   -- a text that is no module changes nothing
-  pub set_unread : (refusal : Refusal) → ReadsAsModule text (Err refusal) → ComesTo (set_module name text) h (Err refusal)
+  set_unread : (refusal : Refusal) → ReadsAsModule text (Err refusal) → ComesTo (set_module name text) h (Err refusal)
   set_unread refusal unread = (Err refusal, unread, refl)
+
+  pub unread_refused : (refusal : Refusal) → (refusal ≡ Memory) ⊎ ReadsAsModule text (Err refusal) → (refusal ≡ Memory) ⊎ ComesTo (set_module name text) h (Err refusal)
+  unread_refused refusal (inl memory) = inl memory
+  unread_refused refusal (inr unread) = inr (set_unread refusal unread)
 
   set_read : (m : Module) (outcome : ActResult) → ReadsAsModule text (Ok m) → ChangesModules h.group with_text h outcome → ComesTo (set_module name text) h outcome
   set_read m outcome reads becomes = (Ok m, reads, becomes)
@@ -225,7 +228,7 @@ read_all texts all ms before = subst (AreRead texts all) (append-nil ms) (before
 
 -- ---- an open group
 
-pub group_of : (t : Timeline) (ps : List Signature) → IsSome t.group → (g : HistoryGroup) × ((unfolded ps t).group ≡ Some g)
+pub group_of : (t : Logged) (ps : List Signature) → IsSome t.group → (g : HistoryGroup) × ((unfolded ps t).group ≡ Some g)
 group_of t ps h = by t.group h
   where
     by : (o : Option OpenGroup) → IsSome o → (g : HistoryGroup) × (option_map {U = HistoryGroup} (λ g. record { begun = contents (before t.current t.store); changed = g.changed }) o ≡ Some g)
@@ -235,7 +238,7 @@ group_of t ps h = by t.group h
 -- ---- a slot's text
 
 -- the contents with a text that was put in the slot of its name
-pub text_put : (t m : Timeline) (name copy text : List ℕ) (i : ℕ) (e : Entry) (ps : List Signature) → slot_of m.store.modules name ≡ Some i → e ≡ slot_text i (Some copy) → copy ≡ text → unfolded ps m ≡ unfolded ps t
+pub text_put : (t m : Logged) (name copy text : List ℕ) (i : ℕ) (e : Entry) (ps : List Signature) → slot_of m.store.modules name ≡ Some i → e ≡ slot_text i (Some copy) → copy ≡ text → unfolded ps m ≡ unfolded ps t
     → contents (put e m.store) ≡ with_module (contents t.store) name text
 text_put t m name copy text i e ps here is copied same =
     ap (λ e. contents (put e m.store)) is ∙ module_put m.store name i copy here ∙ (λ j. with_module (now j) name (copied j))
@@ -243,20 +246,20 @@ text_put t m name copy text i e ps here is copied same =
     now : contents m.store ≡ contents t.store
     now = ap (λ h. h.now) same
 
-pub text_told : (t m n : Timeline) (name copy text : List ℕ) (i : ℕ) (e : Entry) (ps : List Signature) → slot_of m.store.modules name ≡ Some i → e ≡ slot_text i (Some copy) → copy ≡ text → unfolded ps m ≡ unfolded ps t
+pub text_told : (t m n : Logged) (name copy text : List ℕ) (i : ℕ) (e : Entry) (ps : List Signature) → slot_of m.store.modules name ≡ Some i → e ≡ slot_text i (Some copy) → copy ≡ text → unfolded ps m ≡ unfolded ps t
     → unfolded ps n ≡ changed (contents (put e m.store)) (unfolded ps m) → unfolded ps n ≡ changed (with_module (contents t.store) name text) (unfolded ps t)
 text_told t m n name copy text i e ps here is copied same done =
     let there = text_put t m name copy text i e ps here is copied same in
     done ∙ (λ j. changed (there j) (same j))
 
 -- the contents without a text that was taken out of the slot of its name
-pub text_taken : (t : Timeline) (name : List ℕ) (i : ℕ) (e : Entry) → HaveDistinctLabels t.store.modules → slot_of t.store.modules name ≡ Some i → e ≡ slot_text i None → contents (put e t.store) ≡ without_module (contents t.store) name
+pub text_taken : (t : Logged) (name : List ℕ) (i : ℕ) (e : Entry) → HaveDistinctLabels t.store.modules → slot_of t.store.modules name ≡ Some i → e ≡ slot_text i None → contents (put e t.store) ≡ without_module (contents t.store) name
 text_taken t name i e apart here is = ap (λ e. contents (put e t.store)) is ∙ module_taken t.store name i apart here
 
 -- ---- the text of one name changes
 
 -- the contents after a change
-pub now_then : (n : Timeline) (c : Contents) (h : History) (ps : List Signature) → unfolded ps n ≡ changed c h → contents n.store ≡ c
+pub now_then : (n : Logged) (c : Contents) (h : History) (ps : List Signature) → unfolded ps n ≡ changed c h → contents n.store ≡ c
 now_then n c h ps done = ap (λ h. h.now) done ∙ now_changed c h
 
 pub set_same_but : (before after : Contents) (c : Contents) (name text : List ℕ) → before ≡ c → after ≡ with_module c name text → SameBut name before.modules after.modules

@@ -3,7 +3,7 @@ use Rattle.std.proofs.Common.{◌≡◌, ◌<◌, ℕ, zero, suc, List, [], ◌�
 use Rattle.std.specs.Option.{option_map_or}
 use Rattle.term_changes.specs.Contents.{Contents}
 use Rattle.session_history.specs.Modules.{Checks}
-use Rattle.session_history.specs.History.{HistoryGroup, History, stepped, newest, older, back_to, forward_to, step_back, step_forward, undone, redone}
+use Rattle.session_history.specs.History.{HistoryGroup, History, stepped, newest, older, back_to, forward_to, step_back, step_forward, moved, undone, redone}
 use Rattle.session_history.specs.Acts.{ActResult, Passing, Holding, Given, Leaves, ComesTo, committed, undo, redo}
 use Rattle.session_history.specs.Laws.{ChangeIsUndone, GroupIsUndone, RedoTakesUndoBack, UndoTakesRedoBack}
 use Rattle.session_history.specs.declared.refusal.Refusal.{Refusal}
@@ -44,10 +44,10 @@ forward_after_back h g [] p e = absurd (cc)
 forward_after_back h g (c ∷ cs) p e =
     ap step_forward (sym (same_Some _ _ e)) ∙ (λ i. Some (record h { past = (older-newest c cs ∙ sym p) i }))
 
-pub step_back-step_forward : (h g : History) → step_forward h ≡ Some g → step_back g ≡ Some h
+step_back-step_forward : (h g : History) → step_forward h ≡ Some g → step_back g ≡ Some h
 step_back-step_forward h g e = back_after_forward h g h.later refl e
 
-pub step_forward-step_back : (h g : History) → step_back h ≡ Some g → step_forward g ≡ Some h
+step_forward-step_back : (h g : History) → step_back h ≡ Some g → step_forward g ≡ Some h
 step_forward-step_back h g e = forward_after_back h g h.past refl e
 
 -- ---- several steps
@@ -56,38 +56,34 @@ and_then-Some : (o : Option History) → option_and_then (λ g. Some g) o ≡ o
 and_then-Some None = refl
 and_then-Some (Some g) = refl
 
--- the last step taken first
-pub redone_last : (k : ℕ) (h : History) → redone (suc k) h ≡ option_and_then step_forward (redone k h)
-redone_last zero h = and_then-Some (step_forward h)
-redone_last (suc k) h =
-    elim (step_forward h) as (λ o. option_and_then (λ g. redone (suc k) g) o ≡ option_and_then step_forward (option_and_then (λ g. redone k g) o)) [
-      | None ↦ refl
-      | Some g ↦ redone_last k g
-    ]
+module _ (move : History → Option History) where
+  -- the last move made first
+  moved_last : (k : ℕ) (h : History) → moved move (suc k) h ≡ option_and_then move (moved move k h)
+  moved_last zero h = and_then-Some (move h)
+  moved_last (suc k) h =
+      elim (move h) as (λ o. option_and_then (λ g. moved move (suc k) g) o ≡ option_and_then move (option_and_then (λ g. moved move k g) o)) [
+        | None ↦ refl
+        | Some g ↦ moved_last k g
+      ]
 
-pub undone_last : (k : ℕ) (h : History) → undone (suc k) h ≡ option_and_then step_back (undone k h)
-undone_last zero h = and_then-Some (step_back h)
-undone_last (suc k) h =
-    elim (step_back h) as (λ o. option_and_then (λ g. undone (suc k) g) o ≡ option_and_then step_back (option_and_then (λ g. undone k g) o)) [
-      | None ↦ refl
-      | Some g ↦ undone_last k g
-    ]
+  -- what each move keeps, all of them keep
+  pub moved_keeps : (P : History → Type 0) → ((h m : History) → P h → move h ≡ Some m → P m) → (k : ℕ) (h g : History) → P h → moved move k h ≡ Some g → P g
+  moved_keeps P keeps zero h g p e = subst P (same_Some _ _ e) p
+  moved_keeps P keeps (suc k) h g p e = by (move h) refl (λ m. moved_keeps P keeps k m g) e
+    where
+      by : (o : Option History) → move h ≡ o → ((m : History) → P m → moved move k m ≡ Some g → P g) → option_and_then (λ m. moved move k m) o ≡ Some g → P g
+      by None is rest q = absurd (cc)
+      by (Some m) is rest q = rest m (keeps h m p is) q
 
-pub redone-undone : (k : ℕ) (h g : History) → undone k h ≡ Some g → redone k g ≡ Some h
-redone-undone zero h g e = sym e
-redone-undone (suc k) h g e = by (step_back h) refl (λ m. redone-undone k m g) e
-  where
-    by : (o : Option History) → step_back h ≡ o → ((m : History) → undone k m ≡ Some g → redone k g ≡ Some m) → option_and_then (λ m. undone k m) o ≡ Some g → redone (suc k) g ≡ Some h
-    by None p rest q = absurd (cc)
-    by (Some m) p rest q = redone_last k g ∙ ap (option_and_then step_forward) (rest m q) ∙ step_forward-step_back h m p
-
-pub undone-redone : (k : ℕ) (h g : History) → redone k h ≡ Some g → undone k g ≡ Some h
-undone-redone zero h g e = sym e
-undone-redone (suc k) h g e = by (step_forward h) refl (λ m. undone-redone k m g) e
-  where
-    by : (o : Option History) → step_forward h ≡ o → ((m : History) → redone k m ≡ Some g → undone k g ≡ Some m) → option_and_then (λ m. redone k m) o ≡ Some g → undone (suc k) g ≡ Some h
-    by None p rest q = absurd (cc)
-    by (Some m) p rest q = undone_last k g ∙ ap (option_and_then step_back) (rest m q) ∙ step_back-step_forward h m p
+-- moves and the moves that take them back
+module _ (move back : History → Option History) (taken : (h m : History) → move h ≡ Some m → back m ≡ Some h) where
+  moved_back : (k : ℕ) (h g : History) → moved move k h ≡ Some g → moved back k g ≡ Some h
+  moved_back zero h g e = sym e
+  moved_back (suc k) h g e = by (move h) refl (λ m. moved_back k m g) e
+    where
+      by : (o : Option History) → move h ≡ o → ((m : History) → moved move k m ≡ Some g → moved back k g ≡ Some m) → option_and_then (λ m. moved move k m) o ≡ Some g → moved back (suc k) g ≡ Some h
+      by None p rest q = absurd (cc)
+      by (Some m) p rest q = moved_last back k g ∙ ap (option_and_then back) (rest m q) ∙ taken h m p
 
 -- fewer steps than asked for
 length-older : (c : Contents) (cs : List Contents) → length (older c cs) ≡ length cs
@@ -120,21 +116,13 @@ same_group_forward : (h : History) (later : List Contents) (g : History) → for
 same_group_forward h [] g e = absurd (cc)
 same_group_forward h (c ∷ cs) g e = ap (λ g. g.group) (sym (same_Some _ _ e))
 
-undone_group : (k : ℕ) (h g : History) → undone k h ≡ Some g → g.group ≡ h.group
-undone_group zero h g e = ap (λ g. g.group) (sym (same_Some _ _ e))
-undone_group (suc k) h g e = by (step_back h) refl (λ m. undone_group k m g) e
-  where
-    by : (o : Option History) → step_back h ≡ o → ((m : History) → undone k m ≡ Some g → g.group ≡ m.group) → option_and_then (λ m. undone k m) o ≡ Some g → g.group ≡ h.group
-    by None p rest q = absurd (cc)
-    by (Some m) p rest q = rest m q ∙ same_group_back h h.past m p
+-- the group stays while going
+module _ (x : Option HistoryGroup) where
+  stays_back : (h m : History) → h.group ≡ x → step_back h ≡ Some m → m.group ≡ x
+  stays_back h m was e = same_group_back h h.past m e ∙ was
 
-redone_group : (k : ℕ) (h g : History) → redone k h ≡ Some g → g.group ≡ h.group
-redone_group zero h g e = ap (λ g. g.group) (sym (same_Some _ _ e))
-redone_group (suc k) h g e = by (step_forward h) refl (λ m. redone_group k m g) e
-  where
-    by : (o : Option History) → step_forward h ≡ o → ((m : History) → redone k m ≡ Some g → g.group ≡ m.group) → option_and_then (λ m. redone k m) o ≡ Some g → g.group ≡ h.group
-    by None p rest q = absurd (cc)
-    by (Some m) p rest q = rest m q ∙ same_group_forward h h.later m p
+  stays_forward : (h m : History) → h.group ≡ x → step_forward h ≡ Some m → m.group ≡ x
+  stays_forward h m was e = same_group_forward h h.later m e ∙ was
 
 -- ---- the laws
 
@@ -157,12 +145,12 @@ module _ (h g : History) (o : Option History) (refusal : Refusal) where
 pub redo_takes_undo_back : RedoTakesUndoBack
 redo_takes_undo_back k h g done =
     let back = went h g (undone k h) NoUndo done in
-    goes g h (redone k g) NoRedo (undone_group k h g back.1 ∙ back.0) (redone-undone k h g back.1)
+    goes g h (redone k g) NoRedo (moved_keeps step_back (λ g. g.group ≡ None) (stays_back None) k h g back.0 back.1) (moved_back step_back step_forward step_forward-step_back k h g back.1)
 
 pub undo_takes_redo_back : UndoTakesRedoBack
 undo_takes_redo_back k h g done =
     let forth = went h g (redone k h) NoRedo done in
-    goes g h (undone k g) NoUndo (redone_group k h g forth.1 ∙ forth.0) (undone-redone k h g forth.1)
+    goes g h (undone k g) NoUndo (moved_keeps step_forward (λ g. g.group ≡ None) (stays_forward None) k h g forth.0 forth.1) (moved_back step_forward step_back step_back-step_forward k h g forth.1)
 
 -- a step from these contents to the current ones is undone and redone
 step_is_undone : (from c : Contents) (h : History) → h.group ≡ None → (g : History) → record (stepped from h) { now = c } ≡ g

@@ -1,17 +1,17 @@
 -- Checked modules that are kept while texts change.
-use Rattle.std.proofs.Common.{◌≡◌, ℕ, Bool, true, false, ◌&&◌, nat_le, length, List, Option, Some, None, is_some, IfSome, OnOk, OnErr, Result, Ok, Err, refl, sym, ap, subst, ◌∙◌}
+use Rattle.std.proofs.Common.{◌≡◌, ℕ, Bool, true, false, ◌&&◌, nat_le, length, List, Option, Some, None, is_some, IfSome, refl, sym, ap, subst}
 use Rattle.std.specs.Prelude.{IsSomeAnd, if◌then◌else◌, option_map, slice_get}
 use Rattle.term_core.specs.Word.{is_word, label_of}
 use Rattle.term_core.specs.declared.label.TheConstants.{MAX_LABEL}
 use Rattle.strategy_check.specs.Faults.{Primitives}
-use Rattle.strategy_check.specs.Checking.{Checked, IsChecked}
+use Rattle.strategy_check.specs.Checking.{Checked}
 use Rattle.term_changes.specs.Slots.{Slots, Store, contents, named}
 use Rattle.change_log.specs.Texts.{TextsChange}
 use Rattle.change_log.specs.declared.texts.Texts.TheVariants.{None as NoTexts}
 use Rattle.session_history.specs.Modules.{Texts, AreModules, Differ, SameBut, IsKeptFor, AreCurrent}
 use Rattle.session_history.specs.inside.Keeping.{AreBut}
 use Rattle.session_history.specs.declared.kept.Changed.{Changed}
-use Rattle.session_history.specs.declared.kept.Changed.TheVariants.{Nothing, One, Several}
+use Rattle.session_history.specs.declared.kept.Changed.TheVariants.{Nothing, Several}
 
 -- texts change, and what may differ is noted
 pub kept_on : (ps : Primitives) (old now : Texts) (o : Option Checked) (before after : Changed)

@@ -1,7 +1,7 @@
 -- Edits have one list of outermost places.
-use Rattle.std.proofs.Common.{◌≡◌, ◌<◌, ◌⊎◌, ℕ, List, [], ◌∷◌, ◌++◌, length, map, inl, inr, refl, sym, ap, subst, ◌∙◌, arith, length-append}
+use Rattle.std.proofs.Common.{◌≡◌, ◌⊎◌, ℕ, List, [], ◌∷◌, ◌++◌, length, map, inl, inr, refl, sym, ap, subst, ◌∙◌, arith, length-append}
 use Rattle.term_paths.specs.Paths.{LiesWithin}
-use Rattle.term_paths.specs.Edits.{Edit, Edits, paths}
+use Rattle.term_paths.specs.Edits.{Edits, paths}
 use Rattle.strategy_meaning.specs.Outermost.{IsOf, IsBefore, IsBeforeAll, AreInOrder, AreOutermost}
 
 -- ---- the order of paths

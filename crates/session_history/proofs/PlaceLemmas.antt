@@ -1,7 +1,6 @@
 -- What each call on a timeline leaves: a well-placed timeline, and the history that it represents.
 use Rattle.std.proofs.Common.{◌≡◌, ℕ, suc, ◌+◌, ◌-◌, ◌<◌, ◌≤◌, Bool, true, false, cond, List, [], ◌∷◌, ◌++◌, length, take, drop, set, slice_get, Option, Some, None, IsSome, Result, Ok, Err, IfOk, OnOk, OnErr, option_map, refl, sym, ap, subst, subst₂, ◌∙◌, arith}
 use Rattle.std.specs.Bool.{OnFalse}
-use Rattle.std.specs.Global.{Vec}
 use Rattle.std.proofs.lemmas.List.{length-drop, length-set}
 use Rattle.std.specs.Option.{option_map_or}
 use Rattle.std.specs.Prelude.{nat_eq, if◌then◌else◌, IsSomeAnd}
@@ -15,10 +14,9 @@ use Rattle.term_changes.proofs.EntryLemmas.{before-append, pushed_fits, pushed_l
 use Rattle.change_log.proofs.FlipLemmas.{flipped_back_is_compact, flipped_forward_is_compact}
 use Rattle.session_history.specs.History.{HistoryGroup, History, stepped, changed, back_to, forward_to, step_back, step_forward}
 use Rattle.session_history.specs.Acts.{committed}
-use Rattle.session_history.specs.Unfolded.{past_of, later_of, FitBack, FitForward, AllCompact, unfolded, IsCurrent, IsPlaced}
+use Rattle.session_history.specs.Unfolded.{Logged, past_of, later_of, FitBack, FitForward, AllCompact, unfolded, IsCurrent, IsPlaced}
 use Rattle.session_history.specs.inside.Adding.{AddsEntries}
 use Rattle.session_history.specs.inside.Adding.{AddsStep}
-use Rattle.session_history.specs.declared.timeline.Timeline.{Timeline}
 use Rattle.session_history.specs.declared.timeline.OpenGroup.{OpenGroup}
 use Rattle.session_history.proofs.TimelineLemmas.{fits-append, IsGrowth, rewound_grown, past_grown, later_grown, length-past_of, length-later_of, count_past, compact-append, compact-take, compact-set, compact_at, grouped_past, grouped_later, grouped_back, grouped_forward, grouped_within, back_past, back_later, back_back, back_forward, forward_later, forward_past, forward_back, forward_forward}
 use Rattle.session_history.proofs.HistoryLemmas.{back_to-append}
@@ -38,30 +36,30 @@ slot_within (s ∷ ss) name i e =
     next (Some j) rest e = let is : j + 1 ≡ i = cc in omega (arith, is, rest j refl)
 
 module _ (grow : Store → Store) (is : IsGrowth grow) where
-  placed_grown : (t : Timeline) → IsPlaced t → IsPlaced (record t { store = grow t.store })
+  placed_grown : (t : Logged) → IsPlaced t → IsPlaced (record t { store = grow t.store })
   placed_grown t h =
       let here = is.fits t.current t.store h.fits in
-      let past = rewound_grown grow is (take t.position t.logs.items) (before t.current t.store) h.back in
-      let later = later_grown grow is (drop t.position t.logs.items) (before t.current t.store) h.forward in
+      let past = rewound_grown grow is (take t.position t.logs) (before t.current t.store) h.back in
+      let later = later_grown grow is (drop t.position t.logs) (before t.current t.store) h.forward in
       record {
         within = h.within;
-        back = subst (FitBack (take t.position t.logs.items)) (sym here.1) past.0;
-        forward = subst (FitForward (drop t.position t.logs.items)) (sym here.1) later.0;
+        back = subst (FitBack (take t.position t.logs)) (sym here.1) past.0;
+        forward = subst (FitForward (drop t.position t.logs)) (sym here.1) later.0;
         compact = h.compact;
         fits = here.0;
         current = h.current;
       }
 
-  unfolded_grown : (t : Timeline) (ps : List Signature) → IsPlaced t → unfolded ps (record t { store = grow t.store }) ≡ unfolded ps t
+  unfolded_grown : (t : Logged) (ps : List Signature) → IsPlaced t → unfolded ps (record t { store = grow t.store }) ≡ unfolded ps t
   unfolded_grown t ps h =
       let start = before t.current t.store in
       let here : before t.current (grow t.store) ≡ grow start = (is.fits t.current t.store h.fits).1 in
       let begun : contents (before t.current (grow t.store)) ≡ contents start = ap contents here ∙ is.same start in
       λ i. record {
         primitives = ps;
-        past = (ap (past_of (take t.position t.logs.items)) here ∙ past_grown grow is (take t.position t.logs.items) start h.back) i;
+        past = (ap (past_of (take t.position t.logs)) here ∙ past_grown grow is (take t.position t.logs) start h.back) i;
         now = is.same t.store i;
-        later = (ap (later_of (drop t.position t.logs.items)) here ∙ (later_grown grow is (drop t.position t.logs.items) start h.forward).1) i;
+        later = (ap (later_of (drop t.position t.logs)) here ∙ (later_grown grow is (drop t.position t.logs) start h.forward).1) i;
         group = option_map (λ g. record { begun = begun i; changed = g.changed }) t.group;
       }
 
@@ -75,7 +73,7 @@ module _ {E : Type 0} where
   grown_or_same (Err e) s t u ok err P p q = subst P (sym err) q
 
   -- a slot that was found or made
-  module _ (grow : Store → Store) (is : IsGrowth grow) (t : Timeline) (s : Store) (r : Result ℕ E) (ok : OnOk r (s ≡ grow t.store)) (err : OnErr r (s ≡ t.store)) (h : IsPlaced t) where
+  module _ (grow : Store → Store) (is : IsGrowth grow) (t : Logged) (s : Store) (r : Result ℕ E) (ok : OnOk r (s ≡ grow t.store)) (err : OnErr r (s ≡ t.store)) (h : IsPlaced t) where
     pub slot-placed : IsPlaced (record t { store = s })
     slot-placed = grown_or_same r s (grow t.store) t.store ok err (λ s. IsPlaced (record t { store = s })) (placed_grown grow is t h) h
 
@@ -84,45 +82,11 @@ module _ {E : Type 0} where
 
 -- ---- counts
 
-pub past_count : (t : Timeline) → IsPlaced t → length (past_of (take t.position t.logs.items) (before t.current t.store)) ≡ t.position
-past_count t h = length-past_of (take t.position t.logs.items) (before t.current t.store) ∙ count_past t.position t.logs.items h.within
+pub past_count : (t : Logged) → IsPlaced t → length (past_of (take t.position t.logs) (before t.current t.store)) ≡ t.position
+past_count t h = length-past_of (take t.position t.logs) (before t.current t.store) ∙ count_past t.position t.logs h.within
 
-pub later_count : (t : Timeline) (n : ℕ) → n ≡ length t.logs.items → length (later_of (drop t.position t.logs.items) (before t.current t.store)) ≡ n - t.position
-later_count t n e = length-later_of (drop t.position t.logs.items) (before t.current t.store) ∙ omega (arith, e, length-drop t.position t.logs.items)
-
--- ---- a change in a group
-
-module _ (t : Timeline) (e : Entry) (s : Store) (log : List Entry) (place : HasPlace e t.store) (is : s ≡ put e t.store) (more : log ≡ t.current ++ found e t.store ∷ []) (h : IsPlaced t) where
-  group_start_stays : before log s ≡ before t.current t.store
-  group_start_stays = (λ i. before (more i) (is i)) ∙ pushed_leads_back t.current e t.store
-
-  pub group_placed : (g : OpenGroup) → g.changed ≡ true → IsPlaced (record t { store = s; group = Some g; current = log })
-  group_placed g was = record {
-    within = h.within;
-    back = subst (FitBack (take t.position t.logs.items)) (sym group_start_stays) h.back;
-    forward = subst (FitForward (drop t.position t.logs.items)) (sym group_start_stays) h.forward;
-    compact = h.compact;
-    fits = subst (λ l. Fits l s) (sym more) (subst (Fits (t.current ++ found e t.store ∷ [])) (sym is) (pushed_fits t.current e t.store h.fits place));
-    current = subst (λ b. OnFalse b (log ≡ [])) (sym was) tt;
-  }
-
-  pub group_unfolded : (g : OpenGroup) (ps : List Signature) → g.changed ≡ true → IsSome t.group
-      → unfolded ps (record t { store = s; group = Some g; current = log }) ≡ changed (contents (put e t.store)) (unfolded ps t)
-  group_unfolded g ps was there =
-      (λ i. record {
-        primitives = ps;
-        past = past_of (take t.position t.logs.items) (group_start_stays i);
-        now = contents (is i);
-        later = later_of (drop t.position t.logs.items) (group_start_stays i);
-        group = Some (record { begun = contents (group_start_stays i); changed = was i });
-      })
-      ∙ in_group t.group there
-    where
-      in_group : (o : Option OpenGroup) → IsSome o
-          → record { primitives = ps; past = past_of (take t.position t.logs.items) (before t.current t.store); now = contents (put e t.store); later = later_of (drop t.position t.logs.items) (before t.current t.store); group = Some (record { begun = contents (before t.current t.store); changed = true }) }
-          ≡ changed (contents (put e t.store)) (unfolded ps (record t { group = o }))
-      in_group None there = absurd (cc)
-      in_group (Some g) there = refl
+pub later_count : (t : Logged) (n : ℕ) → n ≡ length t.logs → length (later_of (drop t.position t.logs) (before t.current t.store)) ≡ n - t.position
+later_count t n e = length-later_of (drop t.position t.logs) (before t.current t.store) ∙ omega (arith, e, length-drop t.position t.logs)
 
 -- ---- outside a group
 
@@ -152,15 +116,15 @@ adds_alone logs new step e all one = record {
 
 -- ---- a change of several entries in a group
 
-module _ (t : Timeline) (s : Store) (log : List Entry) (adds : AddsEntries t.store t.current s log) (h : IsPlaced t) where
+module _ (t : Logged) (s : Store) (log : List Entry) (adds : AddsEntries t.store t.current s log) (h : IsPlaced t) where
   begin_stays : before log s ≡ before t.current t.store
   begin_stays = ap (λ l. before l s) adds.behind ∙ before-append t.current adds.added s ∙ ap (before t.current) adds.back
 
   pub grown_placed : (g : OpenGroup) → g.changed ≡ true → IsPlaced (record t { store = s; group = Some g; current = log })
   grown_placed g was = record {
     within = h.within;
-    back = subst (FitBack (take t.position t.logs.items)) (sym begin_stays) h.back;
-    forward = subst (FitForward (drop t.position t.logs.items)) (sym begin_stays) h.forward;
+    back = subst (FitBack (take t.position t.logs)) (sym begin_stays) h.back;
+    forward = subst (FitForward (drop t.position t.logs)) (sym begin_stays) h.forward;
     compact = h.compact;
     fits = subst (λ l. Fits l s) (sym adds.behind) (fits-append t.current adds.added s (subst (Fits t.current) (sym adds.back) h.fits) adds.fits);
     current = subst (λ b. OnFalse b (log ≡ [])) (sym was) tt;
@@ -170,23 +134,23 @@ module _ (t : Timeline) (s : Store) (log : List Entry) (adds : AddsEntries t.sto
   grown_unfolded g ps was there =
       (λ i. record {
         primitives = ps;
-        past = past_of (take t.position t.logs.items) (begin_stays i);
+        past = past_of (take t.position t.logs) (begin_stays i);
         now = contents s;
-        later = later_of (drop t.position t.logs.items) (begin_stays i);
+        later = later_of (drop t.position t.logs) (begin_stays i);
         group = Some (record { begun = contents (begin_stays i); changed = was i });
       })
       ∙ in_group t.group there
     where
       in_group : (o : Option OpenGroup) → IsSome o
-          → record { primitives = ps; past = past_of (take t.position t.logs.items) (before t.current t.store); now = contents s; later = later_of (drop t.position t.logs.items) (before t.current t.store); group = Some (record { begun = contents (before t.current t.store); changed = true }) }
+          → record { primitives = ps; past = past_of (take t.position t.logs) (before t.current t.store); now = contents s; later = later_of (drop t.position t.logs) (before t.current t.store); group = Some (record { begun = contents (before t.current t.store); changed = true }) }
           ≡ changed (contents s) (unfolded ps (record t { group = o }))
       in_group None there = absurd (cc)
       in_group (Some g) there = refl
 
 -- ---- a change of several entries as a step of its own
 
-module _ (t : Timeline) (s : Store) (logs : Vec (List Entry)) (log new : List Entry) (closed : t.group ≡ None) (none : new ≡ []) (adds : AddsEntries t.store new s log)
-    (step : AddsStep (take t.position t.logs.items) log logs.items) (h : IsPlaced t) where
+module _ (t : Logged) (s : Store) (logs : List (List Entry)) (log new : List Entry) (closed : t.group ≡ None) (none : new ≡ []) (adds : AddsEntries t.store new s log)
+    (step : AddsStep (take t.position t.logs) log logs) (q : ℕ) (next : q ≡ t.position + 1) (h : IsPlaced t) where
   bare_log : t.current ≡ []
   bare_log = none_current t.group t.current closed h.current
 
@@ -202,24 +166,24 @@ module _ (t : Timeline) (s : Store) (logs : Vec (List Entry)) (log new : List En
   leads_back : before step.left s ≡ t.store
   leads_back = step.back s ∙ ap (λ l. before l s) log_is ∙ adds.back
 
-  pub many_placed : IsPlaced (record t { store = s; logs = logs; position = t.position + 1 })
-  many_placed = record {
-    within = subst (λ (l : List (List Entry)). t.position + 1 ≤ length l) (sym step.all) (grouped_within t.logs.items t.position s step.left h.within);
+  pub many_placed : IsPlaced (record t { store = s; logs = logs; position = q })
+  many_placed = subst (λ (q : ℕ). IsPlaced (record t { store = s; logs = logs; position = q })) (sym next) (record {
+    within = subst (λ (l : List (List Entry)). t.position + 1 ≤ length l) (sym step.all) (grouped_within t.logs t.position s step.left h.within);
     back = subst₂ (λ l s. FitBack (take (t.position + 1) l) s) (sym step.all) (sym bare_now)
-        (grouped_back t.logs.items t.position s step.left h.within (step.fits s (subst (λ l. Fits l s) (sym log_is) adds.fits)) (subst (FitBack (take t.position t.logs.items)) (bare_then ∙ sym leads_back) h.back));
-    forward = subst₂ (λ l s. FitForward (drop (t.position + 1) l) s) (sym step.all) (sym bare_now) (grouped_forward t.logs.items t.position s step.left h.within);
-    compact = subst AllCompact (sym step.all) (compact-append (take t.position t.logs.items) step.left (compact-take t.position t.logs.items h.compact) step.compact);
+        (grouped_back t.logs t.position s step.left h.within (step.fits s (subst (λ l. Fits l s) (sym log_is) adds.fits)) (subst (FitBack (take t.position t.logs)) (bare_then ∙ sym leads_back) h.back));
+    forward = subst₂ (λ l s. FitForward (drop (t.position + 1) l) s) (sym step.all) (sym bare_now) (grouped_forward t.logs t.position s step.left h.within);
+    compact = subst AllCompact (sym step.all) (compact-append (take t.position t.logs) step.left (compact-take t.position t.logs h.compact) step.compact);
     fits = subst (λ l. Fits l s) (sym bare_log) tt;
     current = h.current;
-  }
+  })
 
-  pub many_unfolded : (ps : List Signature) → unfolded ps (record t { store = s; logs = logs; position = t.position + 1 }) ≡ changed (contents s) (unfolded ps t)
+  pub many_unfolded : (ps : List Signature) → unfolded ps (record t { store = s; logs = logs; position = q }) ≡ changed (contents s) (unfolded ps t)
   many_unfolded ps =
-      let past : past_of (take (t.position + 1) logs.items) (before t.current s) ≡ past_of (take t.position t.logs.items) (before t.current t.store) ++ contents t.store ∷ [] =
-      (λ i. past_of (take (t.position + 1) (step.all i)) (bare_now i)) ∙ grouped_past t.logs.items t.position s step.left h.within
-      ∙ (λ i. past_of (take t.position t.logs.items) ((leads_back ∙ sym bare_then) i) ++ contents (leads_back i) ∷ []) in
-      let later : later_of (drop (t.position + 1) logs.items) (before t.current s) ≡ [] =
-      (λ i. later_of (drop (t.position + 1) (step.all i)) (bare_now i)) ∙ grouped_later t.logs.items t.position s step.left h.within in
+      let past : past_of (take q logs) (before t.current s) ≡ past_of (take t.position t.logs) (before t.current t.store) ++ contents t.store ∷ [] =
+      (λ i. past_of (take (next i) (step.all i)) (bare_now i)) ∙ grouped_past t.logs t.position s step.left h.within
+      ∙ (λ i. past_of (take t.position t.logs) ((leads_back ∙ sym bare_then) i) ++ contents (leads_back i) ∷ []) in
+      let later : later_of (drop q logs) (before t.current s) ≡ [] =
+      (λ i. later_of (drop (next i) (step.all i)) (bare_now i)) ∙ grouped_later t.logs t.position s step.left h.within in
       (λ i. record {
         primitives = ps;
         past = past i;
@@ -231,7 +195,7 @@ module _ (t : Timeline) (s : Store) (logs : Vec (List Entry)) (log new : List En
       (ap (option_map (λ g. record { begun = contents (before t.current t.store); changed = g.changed })) closed)
       ∙ (λ i. record {
         primitives = ps;
-        past = past_of (take t.position t.logs.items) (before t.current t.store) ++ contents t.store ∷ [];
+        past = past_of (take t.position t.logs) (before t.current t.store) ++ contents t.store ∷ [];
         now = contents s;
         later = [];
         group = option_map (λ g. record { begun = contents (before t.current t.store); changed = g.changed }) (closed i);
@@ -239,7 +203,7 @@ module _ (t : Timeline) (s : Store) (logs : Vec (List Entry)) (log new : List En
 
 -- ---- the same store, and room for a step
 
-module _ (t : Timeline) (s : Store) (logs : Vec (List Entry)) (same : s ≡ t.store) (all : logs.items ≡ t.logs.items) (h : IsPlaced t) where
+module _ (t : Logged) (s : Store) (logs : List (List Entry)) (same : s ≡ t.store) (all : logs ≡ t.logs) (h : IsPlaced t) where
   pub roomier_placed : IsPlaced (record t { store = s; logs = logs })
   roomier_placed = record {
     within = subst (λ (l : List (List Entry)). t.position ≤ length l) (sym all) h.within;
@@ -261,8 +225,8 @@ module _ (t : Timeline) (s : Store) (logs : Vec (List Entry)) (same : s ≡ t.st
 
 -- ---- a change that was rolled back
 
-module _ (t : Timeline) (e : Entry) (pushed s : Store) (logs : Vec (List Entry)) (log : List Entry) (is : pushed ≡ put e t.store) (one : log ≡ [] ++ found e t.store ∷ []) (back : s ≡ before (drop 0 log) pushed)
-    (all : logs.items ≡ t.logs.items) (h : IsPlaced t) where
+module _ (t : Logged) (e : Entry) (pushed s : Store) (logs : List (List Entry)) (log : List Entry) (is : pushed ≡ put e t.store) (one : log ≡ [] ++ found e t.store ∷ []) (back : s ≡ before (drop 0 log) pushed)
+    (all : logs ≡ t.logs) (h : IsPlaced t) where
   rolled_store : s ≡ t.store
   rolled_store = back ∙ (λ i. before (drop 0 (one i)) (is i)) ∙ pushed_leads_back [] e t.store
 
@@ -272,85 +236,80 @@ module _ (t : Timeline) (e : Entry) (pushed s : Store) (logs : Vec (List Entry))
   pub rolled_unfolded : (ps : List Signature) → unfolded ps (record t { store = s; logs = logs }) ≡ unfolded ps t
   rolled_unfolded ps = roomier_unfolded t s logs rolled_store all h ps
 
--- a timeline by its fields
-pub same_timeline : (t : Timeline) (s : Store) (q : ℕ) (g : Option OpenGroup) (log : List Entry) → t.store ≡ s → t.position ≡ q → t.group ≡ g → t.current ≡ log
-    → t ≡ record { store = s; logs = t.logs; position = q; group = g; current = log }
-same_timeline t s q g log store position group current = λ i. record { store = store i; logs = t.logs; position = position i; group = group i; current = current i }
-
 -- ---- one step back and forward
 
-module _ (t : Timeline) (q : ℕ) (s : Store) (logs : Vec (List Entry)) (log : List Entry) (closed : t.group ≡ None) (inside : q < length t.logs.items) (at : slice_get t.logs.items q ≡ Some log) (h : IsPlaced t) where
+module _ (t : Logged) (q : ℕ) (s : Store) (logs : List (List Entry)) (log : List Entry) (closed : t.group ≡ None) (inside : q < length t.logs) (at : slice_get t.logs q ≡ Some log) (h : IsPlaced t) where
   bare : t.current ≡ []
   bare = none_current t.group t.current closed h.current
 
   start : (s : Store) → before t.current s ≡ s
   start s = ap (λ l. before l s) bare
 
-  module _ (back : q + 1 ≡ t.position) (is : s ≡ before log t.store) (all : logs.items ≡ set t.logs.items q (flipped_back log t.store)) where
-    fit_back : FitBack (take (q + 1) t.logs.items) t.store
-    fit_back = subst₂ (λ n s. FitBack (take n t.logs.items) s) (sym back) (start t.store) h.back
+  module _ (back : q + 1 ≡ t.position) (is : s ≡ before log t.store) (all : logs ≡ set t.logs q (flipped_back log t.store)) where
+    fit_back : FitBack (take (q + 1) t.logs) t.store
+    fit_back = subst₂ (λ n s. FitBack (take n t.logs) s) (sym back) (start t.store) h.back
 
-    fit_forward : FitForward (drop (q + 1) t.logs.items) t.store
-    fit_forward = subst₂ (λ n s. FitForward (drop n t.logs.items) s) (sym back) (start t.store) h.forward
+    fit_forward : FitForward (drop (q + 1) t.logs) t.store
+    fit_forward = subst₂ (λ n s. FitForward (drop n t.logs) s) (sym back) (start t.store) h.forward
 
     now_is : before t.current s ≡ before log t.store
     now_is = start s ∙ is
 
     pub placed_back : IsPlaced (record t { store = s; logs = logs; position = q })
     placed_back = record {
-      within = omega (arith, inside, ap length all, length-set t.logs.items q (flipped_back log t.store));
-      back = subst₂ (λ l s. FitBack (take q l) s) (sym all) (sym now_is) (back_back t.logs.items q t.store log at inside fit_back);
-      forward = subst₂ (λ l s. FitForward (drop q l) s) (sym all) (sym now_is) (back_forward t.logs.items q t.store log at inside fit_back fit_forward);
-      compact = subst AllCompact (sym all) (compact-set q t.logs.items (flipped_back log t.store) h.compact (flipped_back_is_compact log t.store (compact_at q t.logs.items log at h.compact)));
+      within = omega (arith, inside, ap length all, length-set t.logs q (flipped_back log t.store));
+      back = subst₂ (λ l s. FitBack (take q l) s) (sym all) (sym now_is) (back_back t.logs q t.store log at inside fit_back);
+      forward = subst₂ (λ l s. FitForward (drop q l) s) (sym all) (sym now_is) (back_forward t.logs q t.store log at inside fit_back fit_forward);
+      compact = subst AllCompact (sym all) (compact-set q t.logs (flipped_back log t.store) h.compact (flipped_back_is_compact log t.store (compact_at q t.logs log at h.compact)));
       fits = subst (λ l. Fits l s) (sym bare) tt;
       current = h.current;
     }
 
     pub unfolded_back : (ps : List Signature) → step_back (unfolded ps t) ≡ Some (unfolded ps (record t { store = s; logs = logs; position = q }))
     unfolded_back ps =
-        let past : past_of (take t.position t.logs.items) (before t.current t.store) ≡ past_of (take q logs.items) (before t.current s) ++ contents s ∷ [] =
-        (λ i. past_of (take (sym back i) t.logs.items) (start t.store i)) ∙ back_past t.logs.items q t.store log at inside
+        let past : past_of (take t.position t.logs) (before t.current t.store) ≡ past_of (take q logs) (before t.current s) ++ contents s ∷ [] =
+        (λ i. past_of (take (sym back i) t.logs) (start t.store i)) ∙ back_past t.logs q t.store log at inside
         ∙ (λ i. past_of (take q (sym all i)) (sym now_is i) ++ contents (sym is i) ∷ []) in
-        let later : contents t.store ∷ later_of (drop t.position t.logs.items) (before t.current t.store) ≡ later_of (drop q logs.items) (before t.current s) =
-        (λ i. contents t.store ∷ later_of (drop (sym back i) t.logs.items) (start t.store i)) ∙ sym (back_later t.logs.items q t.store log at inside)
+        let later : contents t.store ∷ later_of (drop t.position t.logs) (before t.current t.store) ≡ later_of (drop q logs) (before t.current s) =
+        (λ i. contents t.store ∷ later_of (drop (sym back i) t.logs) (start t.store i)) ∙ sym (back_later t.logs q t.store log at inside)
         ∙ (λ i. later_of (drop q (sym all i)) (sym now_is i)) in
         let same : option_map (λ g. record { begun = contents (before t.current t.store); changed = g.changed }) t.group ≡ option_map (λ g. record { begun = contents (before t.current s); changed = g.changed }) t.group =
         ap (option_map (λ g. record { begun = contents (before t.current t.store); changed = g.changed })) closed ∙ sym (ap (option_map (λ g. record { begun = contents (before t.current s); changed = g.changed })) closed) in
-        ap (back_to (unfolded ps t)) past ∙ back_to-append (unfolded ps t) (past_of (take q logs.items) (before t.current s)) (contents s)
-        ∙ (λ i. Some (record { primitives = ps; past = past_of (take q logs.items) (before t.current s); now = contents s; later = later i; group = same i }))
+        ap (back_to (unfolded ps t)) past ∙ back_to-append (unfolded ps t) (past_of (take q logs) (before t.current s)) (contents s)
+        ∙ (λ i. Some (record { primitives = ps; past = past_of (take q logs) (before t.current s); now = contents s; later = later i; group = same i }))
 
-  module _ (forth : q ≡ t.position) (is : s ≡ after log t.store) (all : logs.items ≡ set t.logs.items q (flipped_forward log t.store)) where
-    fit_behind : FitBack (take q t.logs.items) t.store
-    fit_behind = subst₂ (λ n s. FitBack (take n t.logs.items) s) (sym forth) (start t.store) h.back
+  module _ (forth : q ≡ t.position) (is : s ≡ after log t.store) (all : logs ≡ set t.logs q (flipped_forward log t.store)) where
+    fit_behind : FitBack (take q t.logs) t.store
+    fit_behind = subst₂ (λ n s. FitBack (take n t.logs) s) (sym forth) (start t.store) h.back
 
-    fit_ahead : FitForward (drop q t.logs.items) t.store
-    fit_ahead = subst₂ (λ n s. FitForward (drop n t.logs.items) s) (sym forth) (start t.store) h.forward
+    fit_ahead : FitForward (drop q t.logs) t.store
+    fit_ahead = subst₂ (λ n s. FitForward (drop n t.logs) s) (sym forth) (start t.store) h.forward
 
     then_is : before t.current s ≡ after log t.store
     then_is = start s ∙ is
 
     pub placed_forward : IsPlaced (record t { store = s; logs = logs; position = q + 1 })
     placed_forward = record {
-      within = omega (arith, inside, ap length all, length-set t.logs.items q (flipped_forward log t.store));
-      back = subst₂ (λ l s. FitBack (take (q + 1) l) s) (sym all) (sym then_is) (forward_back t.logs.items q t.store log at inside fit_behind fit_ahead);
-      forward = subst₂ (λ l s. FitForward (drop (q + 1) l) s) (sym all) (sym then_is) (forward_forward t.logs.items q t.store log at inside fit_ahead);
-      compact = subst AllCompact (sym all) (compact-set q t.logs.items (flipped_forward log t.store) h.compact (flipped_forward_is_compact log t.store (compact_at q t.logs.items log at h.compact)));
+      within = omega (arith, inside, ap length all, length-set t.logs q (flipped_forward log t.store));
+      back = subst₂ (λ l s. FitBack (take (q + 1) l) s) (sym all) (sym then_is) (forward_back t.logs q t.store log at inside fit_behind fit_ahead);
+      forward = subst₂ (λ l s. FitForward (drop (q + 1) l) s) (sym all) (sym then_is) (forward_forward t.logs q t.store log at inside fit_ahead);
+      compact = subst AllCompact (sym all) (compact-set q t.logs (flipped_forward log t.store) h.compact (flipped_forward_is_compact log t.store (compact_at q t.logs log at h.compact)));
       fits = subst (λ l. Fits l s) (sym bare) tt;
       current = h.current;
     }
 
     pub unfolded_forward : (ps : List Signature) → step_forward (unfolded ps t) ≡ Some (unfolded ps (record t { store = s; logs = logs; position = q + 1 }))
     unfolded_forward ps =
-        let later : later_of (drop t.position t.logs.items) (before t.current t.store) ≡ contents s ∷ later_of (drop (q + 1) logs.items) (before t.current s) =
-        (λ i. later_of (drop (sym forth i) t.logs.items) (start t.store i)) ∙ forward_later t.logs.items q t.store log at inside
+        let later : later_of (drop t.position t.logs) (before t.current t.store) ≡ contents s ∷ later_of (drop (q + 1) logs) (before t.current s) =
+        (λ i. later_of (drop (sym forth i) t.logs) (start t.store i)) ∙ forward_later t.logs q t.store log at inside
         ∙ (λ i. contents (sym is i) ∷ later_of (drop (q + 1) (sym all i)) (sym then_is i)) in
-        let past : past_of (take t.position t.logs.items) (before t.current t.store) ++ contents t.store ∷ [] ≡ past_of (take (q + 1) logs.items) (before t.current s) =
-        (λ i. past_of (take (sym forth i) t.logs.items) (start t.store i) ++ contents t.store ∷ []) ∙ sym (forward_past t.logs.items q t.store log at inside)
+        let past : past_of (take t.position t.logs) (before t.current t.store) ++ contents t.store ∷ [] ≡ past_of (take (q + 1) logs) (before t.current s) =
+        (λ i. past_of (take (sym forth i) t.logs) (start t.store i) ++ contents t.store ∷ []) ∙ sym (forward_past t.logs q t.store log at inside)
         ∙ (λ i. past_of (take (q + 1) (sym all i)) (sym then_is i)) in
         let same : option_map (λ g. record { begun = contents (before t.current t.store); changed = g.changed }) t.group ≡ option_map (λ g. record { begun = contents (before t.current s); changed = g.changed }) t.group =
         ap (option_map (λ g. record { begun = contents (before t.current t.store); changed = g.changed })) closed ∙ sym (ap (option_map (λ g. record { begun = contents (before t.current s); changed = g.changed })) closed) in
         ap (forward_to (unfolded ps t)) later
-        ∙ (λ i. Some (record { primitives = ps; past = past i; now = contents s; later = later_of (drop (q + 1) logs.items) (before t.current s); group = same i }))
+        ∙ (λ i. Some (record { primitives = ps; past = past i; now = contents s; later = later_of (drop (q + 1) logs) (before t.current s); group = same i }))
 
 -- ---- the end of a group
 
@@ -365,7 +324,7 @@ group_seen o g c e = ap (option_map {U = HistoryGroup} (λ g. record { begun = c
 flag_of : (o : Option OpenGroup) (g : OpenGroup) (b : Bool) → o ≡ Some g → b ≡ option_map_or (λ g. g.changed) o false → g.changed ≡ b
 flag_of o g b e h = sym (h ∙ ap (λ o. option_map_or (λ g. g.changed) o false) e)
 
-module _ (t : Timeline) (changed : Bool) (there : IsSome t.group) (flag : changed ≡ option_map_or (λ g. g.changed) t.group false) (h : IsPlaced t) where
+module _ (t : Logged) (changed : Bool) (there : IsSome t.group) (flag : changed ≡ option_map_or (λ g. g.changed) t.group false) (h : IsPlaced t) where
   opened : OpenGroup
   opened = (some_group t.group there).0
 
@@ -397,7 +356,7 @@ module _ (t : Timeline) (changed : Bool) (there : IsSome t.group) (flag : change
   pub kept_unfolded : changed ≡ false → (ps : List Signature) → IsSomeAnd (unfolded ps t).group (λ k. unfolded ps (record t { group = None }) ≡ committed k (unfolded ps t))
   kept_unfolded none ps = committing ps (unfolded ps (record t { group = None })) (ap (closing ps) none)
 
-  module _ (logs : Vec (List Entry)) (log new : List Entry) (taken : log ≡ t.current) (empty : new ≡ []) (step : AddsStep (take t.position t.logs.items) log logs.items) where
+  module _ (logs : List (List Entry)) (log new : List Entry) (taken : log ≡ t.current) (empty : new ≡ []) (step : AddsStep (take t.position t.logs) log logs) (q : ℕ) (next : q ≡ t.position + 1) where
     left_back : before step.left t.store ≡ before t.current t.store
     left_back = step.back t.store ∙ ap (λ l. before l t.store) taken
 
@@ -407,22 +366,22 @@ module _ (t : Timeline) (changed : Bool) (there : IsSome t.group) (flag : change
     begins : before new t.store ≡ t.store
     begins = ap (λ l. before l t.store) empty
 
-    pub committed_placed : IsPlaced (record t { logs = logs; position = t.position + 1; group = None; current = new })
-    committed_placed = record {
-      within = subst (λ (l : List (List Entry)). t.position + 1 ≤ length l) (sym step.all) (grouped_within t.logs.items t.position t.store step.left h.within);
-      back = subst₂ (λ l s. FitBack (take (t.position + 1) l) s) (sym step.all) (sym begins) (grouped_back t.logs.items t.position t.store step.left h.within left_fits (subst (FitBack (take t.position t.logs.items)) (sym left_back) h.back));
-      forward = subst₂ (λ l s. FitForward (drop (t.position + 1) l) s) (sym step.all) (sym begins) (grouped_forward t.logs.items t.position t.store step.left h.within);
-      compact = subst AllCompact (sym step.all) (compact-append (take t.position t.logs.items) step.left (compact-take t.position t.logs.items h.compact) step.compact);
+    pub committed_placed : IsPlaced (record t { logs = logs; position = q; group = None; current = new })
+    committed_placed = subst (λ (q : ℕ). IsPlaced (record t { logs = logs; position = q; group = None; current = new })) (sym next) (record {
+      within = subst (λ (l : List (List Entry)). t.position + 1 ≤ length l) (sym step.all) (grouped_within t.logs t.position t.store step.left h.within);
+      back = subst₂ (λ l s. FitBack (take (t.position + 1) l) s) (sym step.all) (sym begins) (grouped_back t.logs t.position t.store step.left h.within left_fits (subst (FitBack (take t.position t.logs)) (sym left_back) h.back));
+      forward = subst₂ (λ l s. FitForward (drop (t.position + 1) l) s) (sym step.all) (sym begins) (grouped_forward t.logs t.position t.store step.left h.within);
+      compact = subst AllCompact (sym step.all) (compact-append (take t.position t.logs) step.left (compact-take t.position t.logs h.compact) step.compact);
       fits = subst (λ l. Fits l t.store) (sym empty) tt;
       current = empty;
-    }
+    })
 
     pub committed_unfolded : changed ≡ true → (ps : List Signature)
-        → IsSomeAnd (unfolded ps t).group (λ k. unfolded ps (record t { logs = logs; position = t.position + 1; group = None; current = new }) ≡ committed k (unfolded ps t))
+        → IsSomeAnd (unfolded ps t).group (λ k. unfolded ps (record t { logs = logs; position = q; group = None; current = new }) ≡ committed k (unfolded ps t))
     committed_unfolded some ps =
-        let past : past_of (take t.position t.logs.items) (before t.current t.store) ++ contents (before t.current t.store) ∷ [] ≡ past_of (take (t.position + 1) logs.items) (before new t.store) =
-        (λ i. past_of (take t.position t.logs.items) (sym left_back i) ++ contents (sym left_back i) ∷ []) ∙ sym (grouped_past t.logs.items t.position t.store step.left h.within) ∙ (λ i. past_of (take (t.position + 1) (sym step.all i)) (sym begins i)) in
-        let later : [] ≡ later_of (drop (t.position + 1) logs.items) (before new t.store) =
-        sym (grouped_later t.logs.items t.position t.store step.left h.within) ∙ (λ i. later_of (drop (t.position + 1) (sym step.all i)) (sym begins i)) in
-        committing ps (unfolded ps (record t { logs = logs; position = t.position + 1; group = None; current = new }))
+        let past : past_of (take t.position t.logs) (before t.current t.store) ++ contents (before t.current t.store) ∷ [] ≡ past_of (take q logs) (before new t.store) =
+        (λ i. past_of (take t.position t.logs) (sym left_back i) ++ contents (sym left_back i) ∷ []) ∙ sym (grouped_past t.logs t.position t.store step.left h.within) ∙ (λ i. past_of (take (sym next i) (sym step.all i)) (sym begins i)) in
+        let later : [] ≡ later_of (drop q logs) (before new t.store) =
+        sym (grouped_later t.logs t.position t.store step.left h.within) ∙ (λ i. later_of (drop (sym next i) (sym step.all i)) (sym begins i)) in
+        committing ps (unfolded ps (record t { logs = logs; position = q; group = None; current = new }))
         (ap (closing ps) some ∙ (λ i. record { primitives = ps; past = past i; now = contents t.store; later = later i; group = None }))

@@ -1,5 +1,5 @@
 -- A step preserves soundness.
-use Rattle.std.proofs.Common.{◌≡◌, ◌≤◌, ◌+◌, ◌-◌, ℕ, zero, suc, Bool, true, false, ◌&&◌, cond, List, [], ◌∷◌, ◌++◌, length, set, slice_get, Option, Some, None, IfSome, Result, Ok, Err, OnOk, OnErr, ok_or, is_none, option_and_then, refl, sym, ap, subst, ◌∙◌, arith}
+use Rattle.std.proofs.Common.{◌≡◌, ◌≤◌, ◌+◌, ◌-◌, ℕ, zero, suc, Bool, true, false, ◌&&◌, cond, List, [], ◌∷◌, ◌++◌, length, set, slice_get, Option, Some, None, IfSome, Result, Ok, Err, OnOk, OnErr, ok_or, is_none, refl, sym, ap, subst, ◌∙◌, arith}
 use Rattle.std.specs.Option.{option_map_or}
 use Rattle.std.specs.List.{AllByRecursion, list_all}
 use Rattle.std.specs.Ordering.{nat_cmp, eq_by_cmp}
@@ -27,6 +27,7 @@ use Rattle.session_history.specs.Applying.{ReadsAsStrategy, resolved_in, world_i
 use Rattle.session_history.specs.Laws.{ChangeIsToContents}
 use Rattle.session_history.specs.declared.refusal.Refusal.{Refusal}
 use Rattle.session_history.specs.declared.refusal.Refusal.TheVariants.{NoTree, Big, NoUndo, NoRedo, Group, NoGroup}
+use Rattle.session_history.proofs.HistoryLemmas.{moved_keeps}
 use Rattle.session_history.proofs.MapLemmas.{no_keys}
 use Rattle.session_history.proofs.StepLemmas.{same_Ok, passing_Ok, holding_Ok, given_Ok, ok_or-Ok, none_of, place_tree}
 
@@ -189,30 +190,20 @@ whole h s closed = (closed, (s.0, sound_outside h s closed, s.2))
 sound_whole : (h : History) → Whole h → HasSoundContents h
 sound_whole h w = (w.1.0, subst (IsSoundNow h.primitives h.now) (sym w.0) w.1.1, w.1.2)
 
-whole_back : (h : History) (past : List Contents) (g : History) → Whole h → AllByRecursion (AreSound h.primitives) past → back_to h past ≡ Some g → Whole g
-whole_back h [] g w a e = absurd (cc)
-whole_back h (c ∷ cs) g w a e =
-    subst Whole (same_Some g _ e) (w.0, (All-older (AreSound h.primitives) c cs a, All-newest (AreSound h.primitives) c cs a, (w.1.1, w.1.2)))
-
-whole_forward : (h : History) (later : List Contents) (g : History) → Whole h → AllByRecursion (AreSound h.primitives) later → forward_to h later ≡ Some g → Whole g
-whole_forward h [] g w a e = absurd (cc)
-whole_forward h (c ∷ cs) g w a e = subst Whole (same_Some g _ e) (w.0, (All-push (AreSound h.primitives) h.past h.now w.1.0 w.1.1, a.0, a.1))
-
-whole_undone : (k : ℕ) (h g : History) → Whole h → undone k h ≡ Some g → Whole g
-whole_undone zero h g w e = subst Whole (same_Some g h e) w
-whole_undone (suc k) h g w e = by (step_back h) refl (λ m. whole_undone k m g) e
+whole_back : (h g : History) → Whole h → step_back h ≡ Some g → Whole g
+whole_back h g w e = by h.past w.1.0 e
   where
-    by : (o : Option History) → step_back h ≡ o → ((m : History) → Whole m → undone k m ≡ Some g → Whole g) → option_and_then (λ m. undone k m) o ≡ Some g → Whole g
-    by None p rest q = absurd (cc)
-    by (Some m) p rest q = rest m (whole_back h h.past m w w.1.0 p) q
+    by : (past : List Contents) → AllByRecursion (AreSound h.primitives) past → back_to h past ≡ Some g → Whole g
+    by [] a e = absurd (cc)
+    by (c ∷ cs) a e =
+        subst Whole (same_Some g _ e) (w.0, (All-older (AreSound h.primitives) c cs a, All-newest (AreSound h.primitives) c cs a, (w.1.1, w.1.2)))
 
-whole_redone : (k : ℕ) (h g : History) → Whole h → redone k h ≡ Some g → Whole g
-whole_redone zero h g w e = subst Whole (same_Some g h e) w
-whole_redone (suc k) h g w e = by (step_forward h) refl (λ m. whole_redone k m g) e
+whole_forward : (h g : History) → Whole h → step_forward h ≡ Some g → Whole g
+whole_forward h g w e = by h.later w.1.2 e
   where
-    by : (o : Option History) → step_forward h ≡ o → ((m : History) → Whole m → redone k m ≡ Some g → Whole g) → option_and_then (λ m. redone k m) o ≡ Some g → Whole g
-    by None p rest q = absurd (cc)
-    by (Some m) p rest q = rest m (whole_forward h h.later m w w.1.2 p) q
+    by : (later : List Contents) → AllByRecursion (AreSound h.primitives) later → forward_to h later ≡ Some g → Whole g
+    by [] a e = absurd (cc)
+    by (c ∷ cs) a e = subst Whole (same_Some g _ e) (w.0, (All-push (AreSound h.primitives) h.past h.now w.1.0 w.1.1, a.0, a.1))
 
 -- ---- acts
 
@@ -256,14 +247,8 @@ ChangesTrees (copy_tree name copy) = Unit {0}
 ChangesTrees (drop_tree name) = Unit {0}
 ChangesTrees (put name path part) = Unit {0}
 ChangesTrees (annotate name path us) = Unit {0}
-ChangesTrees (set_module name text) = ⊥
-ChangesTrees (unload name) = ⊥
 ChangesTrees (apply meaning name path steps text) = Unit {0}
-ChangesTrees (undo k) = ⊥
-ChangesTrees (redo k) = ⊥
-ChangesTrees begin = ⊥
-ChangesTrees commit = ⊥
-ChangesTrees abandon = ⊥
+ChangesTrees act = ⊥
 
 low_at : (c : Contents) (name : List ℕ) (t : Tree) → get c.trees name ≡ Some t → AreLow c.trees → height t ≤ MAX_HEIGHT
 low_at c name t e low = subst (λ (o : Option Tree). IfSome o (λ t. height t ≤ MAX_HEIGHT)) e (low name)
@@ -315,8 +300,6 @@ trees_change (annotate name path us) h g only done =
       is = same_Ok (changed (with_tree h.now name tree) h) g fit.1;
       low = λ _ low. low_with_tree h.now.trees name tree low (height_of_annotated there.0.tree us path (low_at h.now name there.0.tree (place_tree h.now name path there.0 there.1) low) fit.0);
     }
-trees_change (set_module name text) h g only done = absurd only
-trees_change (unload name) h g only done = absurd only
 trees_change (apply meaning name path steps text) h g only done =
     let Resolves : Located → Strategy → Program → ActResult → Type 0 = λ place s program. Passing (resolved_in program h.primitives s) (AppliesAt meaning name path steps h place program) in
     let Checked : Located → Strategy → ActResult → Type 0 = λ place s. Given (Checks h.primitives h.now.modules) (Resolves place s) in
@@ -334,11 +317,7 @@ trees_change (apply meaning name path steps text) h g only done =
           let within = low_at h.now name there.0.tree (place_tree h.now name path there.0 there.1) low in
           low_with_tree h.now.trees name given.0 low (given_low ending given.0 given.1 (keeps (world_in meaning checked.0 h.primitives) path whole.0 steps there.0.tree within));
     }
-trees_change (undo k) h g only done = absurd only
-trees_change (redo k) h g only done = absurd only
-trees_change begin h g only done = absurd only
-trees_change commit h g only done = absurd only
-trees_change abandon h g only done = absurd only
+trees_change act h g only done = absurd only
 
 -- a change of the trees leaves the modules as they are
 trees_sound : (act : Act) (h g : History) → ChangesTrees act → StandsOn act → HasSoundContents h → ComesTo act h (Ok g) → HasSoundContents g
@@ -373,11 +352,6 @@ moved h g o refusal done =
     ok_or-Ok o refusal there.0 there.1 ∙ ap (λ (x : History). Some x) (sym (same_Ok there.0 g there.2))
 
 pub step_sound : (act : Act) (h g : History) → StandsOn act → HasSoundContents h → ComesTo act h (Ok g) → HasSoundContents g
-step_sound (set_tree name tree) h g stands s done = trees_sound (set_tree name tree) h g tt tt s done
-step_sound (copy_tree name copy) h g stands s done = trees_sound (copy_tree name copy) h g tt tt s done
-step_sound (drop_tree name) h g stands s done = trees_sound (drop_tree name) h g tt tt s done
-step_sound (put name path part) h g stands s done = trees_sound (put name path part) h g tt tt s done
-step_sound (annotate name path us) h g stands s done = trees_sound (annotate name path us) h g tt tt s done
 step_sound (set_module name text) h g stands s done =
     let read = given_Ok (ReadsAsModule text) (λ m. ChangesModules h.group (with_module h.now name text) h) g done in
     let formed = formed_now h.primitives h.now h.group s.1 in
@@ -386,13 +360,12 @@ step_sound (unload name) h g stands s done =
     let there = passing_Ok (module_text_of h.now name) (λ text. ChangesModules h.group (without_module h.now name) h) g done in
     let formed = formed_now h.primitives h.now h.group s.1 in
     modules_sound (without_module h.now name) h g s (formed.0, readable_without h.now.modules name formed.1) there.2
-step_sound (apply meaning name path steps text) h g stands s done = trees_sound (apply meaning name path steps text) h g tt stands s done
 step_sound (undo k) h g stands s done =
     let there = holding_Ok (is_none h.group) Group (Passing (ok_or (undone k h) NoUndo) Leaves) g done in
-    sound_whole g (whole_undone k h g (whole h s (none_of h.group there.0)) (moved h g (undone k h) NoUndo there.1))
+    sound_whole g (moved_keeps step_back Whole whole_back k h g (whole h s (none_of h.group there.0)) (moved h g (undone k h) NoUndo there.1))
 step_sound (redo k) h g stands s done =
     let there = holding_Ok (is_none h.group) Group (Passing (ok_or (redone k h) NoRedo) Leaves) g done in
-    sound_whole g (whole_redone k h g (whole h s (none_of h.group there.0)) (moved h g (redone k h) NoRedo there.1))
+    sound_whole g (moved_keeps step_forward Whole whole_forward k h g (whole h s (none_of h.group there.0)) (moved h g (redone k h) NoRedo there.1))
 step_sound begin h g stands s done =
     let begun : History = record h { group = Some (record { begun = h.now; changed = false }) } in
     let there = holding_Ok (is_none h.group) Group (Leaves begun) g done in
@@ -406,6 +379,7 @@ step_sound abandon h g stands s done =
     let there = passing_Ok (ok_or h.group NoGroup) (λ group. Leaves (record h { now = group.begun; group = None })) g done in
     let left : History = record h { now = there.0.begun; group = None } in
     subst HasSoundContents (sym (same_Ok left g there.2)) (s.0, sound_begun h there.0 s (ok_or-Ok h.group NoGroup there.0 there.1), s.2)
+step_sound act h g stands s done = trees_sound act h g tt stands s done
 
 -- an accepted act does what the machine does, and a refused one changes nothing
 pub act_sound : {A E : Type 0} (act : Act) (r : Result A E) (old new : History) → StandsOn act → OnOk r (ComesTo act old (Ok new)) → OnErr r (new ≡ old) → HasSoundContents old → HasSoundContents new
@@ -414,57 +388,30 @@ act_sound act (Err e) old new stands ok err s = subst HasSoundContents (sym err)
 
 -- an accepted change leads to contents by a change
 pub change_is_to_contents : ChangeIsToContents
-change_is_to_contents (set_tree name tree) h g change done = let t = trees_change (set_tree name tree) h g tt done in (record h.now { trees = t.trees }, t.is)
-change_is_to_contents (copy_tree name copy) h g change done = let t = trees_change (copy_tree name copy) h g tt done in (record h.now { trees = t.trees }, t.is)
-change_is_to_contents (drop_tree name) h g change done = let t = trees_change (drop_tree name) h g tt done in (record h.now { trees = t.trees }, t.is)
-change_is_to_contents (put name path part) h g change done = let t = trees_change (put name path part) h g tt done in (record h.now { trees = t.trees }, t.is)
-change_is_to_contents (annotate name path us) h g change done = let t = trees_change (annotate name path us) h g tt done in (record h.now { trees = t.trees }, t.is)
 change_is_to_contents (set_module name text) h g change done =
     let read = given_Ok (ReadsAsModule text) (λ m. ChangesModules h.group (with_module h.now name text) h) g done in
     (with_module h.now name text, (modules_change h.group (with_module h.now name text) h g read.2).0)
 change_is_to_contents (unload name) h g change done =
     let there = passing_Ok (module_text_of h.now name) (λ text. ChangesModules h.group (without_module h.now name) h) g done in
     (without_module h.now name, (modules_change h.group (without_module h.now name) h g there.2).0)
-change_is_to_contents (apply meaning name path steps text) h g change done = let t = trees_change (apply meaning name path steps text) h g tt done in (record h.now { trees = t.trees }, t.is)
 change_is_to_contents (undo k) h g change done = absurd change
 change_is_to_contents (redo k) h g change done = absurd change
 change_is_to_contents begin h g change done = absurd change
 change_is_to_contents commit h g change done = absurd change
 change_is_to_contents abandon h g change done = absurd change
+change_is_to_contents act h g change done = let t = trees_change act h g tt done in (record h.now { trees = t.trees }, t.is)
 
 -- ---- acts that leave the modules as they are
 
 abbrev pub LeavesModules : Act → Type 0
-LeavesModules (set_tree name tree) = Unit {0}
-LeavesModules (copy_tree name copy) = Unit {0}
-LeavesModules (drop_tree name) = Unit {0}
-LeavesModules (put name path part) = Unit {0}
-LeavesModules (annotate name path us) = Unit {0}
-LeavesModules (set_module name text) = ⊥
-LeavesModules (unload name) = ⊥
-LeavesModules (apply meaning name path steps text) = Unit {0}
-LeavesModules (undo k) = ⊥
-LeavesModules (redo k) = ⊥
 LeavesModules begin = Unit {0}
-LeavesModules commit = ⊥
-LeavesModules abandon = ⊥
+LeavesModules act = ChangesTrees act
 
 pub step_leaves : (act : Act) (h g : History) → LeavesModules act → ComesTo act h (Ok g) → g.now.modules ≡ h.now.modules
-step_leaves (set_tree name tree) h g leaves done = trees_leave (set_tree name tree) h g tt done
-step_leaves (copy_tree name copy) h g leaves done = trees_leave (copy_tree name copy) h g tt done
-step_leaves (drop_tree name) h g leaves done = trees_leave (drop_tree name) h g tt done
-step_leaves (put name path part) h g leaves done = trees_leave (put name path part) h g tt done
-step_leaves (annotate name path us) h g leaves done = trees_leave (annotate name path us) h g tt done
-step_leaves (set_module name text) h g leaves done = absurd leaves
-step_leaves (unload name) h g leaves done = absurd leaves
-step_leaves (apply meaning name path steps text) h g leaves done = trees_leave (apply meaning name path steps text) h g tt done
-step_leaves (undo k) h g leaves done = absurd leaves
-step_leaves (redo k) h g leaves done = absurd leaves
 step_leaves begin h g leaves done =
     let begun : History = record h { group = Some (record { begun = h.now; changed = false }) } in
     ap (λ (x : History). x.now.modules) (same_Ok begun g (holding_Ok (is_none h.group) Group (Leaves begun) g done).1)
-step_leaves commit h g leaves done = absurd leaves
-step_leaves abandon h g leaves done = absurd leaves
+step_leaves act h g leaves done = trees_leave act h g leaves done
 
 -- the same for the end of a group
 pub committed_leaves : (group : HistoryGroup) (h : History) → (committed group h).now ≡ h.now

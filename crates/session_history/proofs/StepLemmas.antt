@@ -1,14 +1,15 @@
 -- The tests of an act: what an accepted one passed, and the outcome if the results of the tests are
 -- known.
-use Rattle.std.proofs.Common.{◌≡◌, ℕ, Bool, true, false, List, Option, Some, None, Result, Ok, Err, is_none, ok_or, option_map, refl, sym, ap, subst, ◌∙◌}
+use Rattle.std.proofs.Common.{◌≡◌, ◌⊎◌, ℕ, Bool, true, false, List, Option, Some, None, Result, Ok, Err, is_none, ok_or, option_map, inl, refl, sym, ap, subst, ◌∙◌}
+use Rattle.std.specs.Result.{IsErrAnd}
 use Rattle.std.specs.FinMap as finmap
 use Rattle.term_core.specs.Tree.{Tree}
 use Rattle.term_paths.specs.Paths.{at}
 use Rattle.term_changes.specs.Contents.{Contents}
 use Rattle.session_history.specs.History.{HistoryGroup, History}
-use Rattle.session_history.specs.Acts.{ActResult, Passing, Holding, Given, Located, place_in, place_of}
+use Rattle.session_history.specs.Acts.{Act, ActResult, Passing, Holding, Given, Located, ComesTo, Performs, PerformsSurely, place_in, place_of}
 use Rattle.session_history.specs.declared.refusal.Refusal.{Refusal}
-use Rattle.session_history.specs.declared.refusal.Refusal.TheVariants.{NoTree, Path}
+use Rattle.session_history.specs.declared.refusal.Refusal.TheVariants.{Memory, NoTree, Path}
 
 -- ---- what was accepted
 
@@ -46,6 +47,30 @@ module _ (test : Bool) (refusal : Refusal) (Next : ActResult → Type 0) where
 
   pub missed : test ≡ false → Holding test refusal Next (Err refusal)
   missed is = subst (λ (b : Bool). Holding b refusal Next (Err refusal)) (sym is) refl
+
+-- ---- the answer to an act
+
+module _ {X : Type 0} (act : Act) (h g : History) where
+  pub accepts : (x : X) → ComesTo act h (Ok g) → Performs act h g (Ok x)
+  accepts x done = record { ok = done; refused = tt; err = tt }
+
+  pub refuses : (refusal : Refusal) → (refusal ≡ Memory) ⊎ ComesTo act h (Err refusal) → g ≡ h → Performs {X = X} act h g (Err refusal)
+  refuses refusal why same = record { ok = tt; refused = why; err = same }
+
+  -- the answer at a `?`
+  pub refuses_by : (r : Result X Refusal) (refusal : Refusal) → IsErrAnd r (λ e. e ≡ refusal) → (refusal ≡ Memory) ⊎ ComesTo act h (Err refusal) → g ≡ h → Performs act h g r
+  refuses_by (Ok x) refusal is why same = absurd is
+  refuses_by (Err e) refusal is why same = refuses e (subst (λ (e : Refusal). (e ≡ Memory) ⊎ ComesTo act h (Err e)) (sym is) why) same
+
+  pub wants : (r : Result X Refusal) → IsErrAnd r (λ e. e ≡ Memory) → g ≡ h → Performs act h g r
+  wants r is same = refuses_by r Memory is (inl refl) same
+
+  -- an act that takes no memory
+  pub surely_accepts : (x : X) → ComesTo act h (Ok g) → PerformsSurely act h g (Ok x)
+  surely_accepts x done = record { ok = done; refused = tt; err = tt }
+
+  pub surely_refuses : (refusal : Refusal) → ComesTo act h (Err refusal) → g ≡ h → PerformsSurely {X = X} act h g (Err refusal)
+  surely_refuses refusal comes same = record { ok = tt; refused = comes; err = same }
 
 -- ---- what the tests find
 

@@ -32,14 +32,6 @@ pub fits-append : (es fs : List Entry) (s : Store) → Fits es (before fs s) →
 fits-append [] fs s h f = f
 fits-append (e ∷ es) fs s h f = (subst (HasPlace e) (sym (before-append es fs s)) h.0, fits-append es fs s h.1 f)
 
-pub take-append : (es fs : List Entry) → take (length es) (es ++ fs) ≡ es
-take-append [] fs = refl
-take-append (e ∷ es) fs = ap (λ l. e ∷ l) (take-append es fs)
-
-pub drop-append : (es fs : List Entry) → drop (length es) (es ++ fs) ≡ fs
-drop-append [] fs = refl
-drop-append (e ∷ es) fs = drop-append es fs
-
 -- ---- lists of logs
 
 module _ {A : Type 0} where

@@ -1,6 +1,6 @@
 -- What each act does to a session: the history after it, or the one refusal, which leaves the
 -- history unchanged.
-use Rattle.std.specs.Prelude.{◌≡◌, ℕ, ◌+◌, Bool, true, false, List, length, Some, None, Ok, Err, is_none, ok_or, option_map, if◌then◌else◌}
+use Rattle.std.specs.Prelude.{◌≡◌, ◌⊎◌, ℕ, ◌+◌, Bool, true, false, List, length, Some, None, Ok, Err, OnOk, OnErr, IfErr, is_none, ok_or, option_map, if◌then◌else◌}
 use Rattle.std.specs.declared.option.Option.{Option}
 use Rattle.std.specs.declared.result.Result.{Result}
 use Rattle.std.specs.List.{list_all}
@@ -16,7 +16,7 @@ use Rattle.session_history.specs.Modules.{ReadsAsModule, Checks}
 use Rattle.session_history.specs.Applying.{Meaning, ReadsAsStrategy, resolved_in, world_in, given_by}
 use Rattle.session_history.specs.History.{HistoryGroup, History, stepped, changed, undone, redone}
 use Rattle.session_history.specs.declared.refusal.Refusal.{Refusal}
-use Rattle.session_history.specs.declared.refusal.Refusal.TheVariants.{NoTree, NoModule, Path, Big, NoUndo, NoRedo, Group, NoGroup}
+use Rattle.session_history.specs.declared.refusal.Refusal.TheVariants.{Memory, NoTree, NoModule, Path, Big, NoUndo, NoRedo, Group, NoGroup}
 
 pub data Act : Type 0 where
   set_tree : List ℕ → Tree → Act  -- sets the tree of a label
@@ -154,18 +154,24 @@ ComesTo commit h =
 ComesTo abandon h =
     Passing (ok_or h.group NoGroup) (λ g. Leaves (record h { now = g.begun; group = None }))
 
+-- What the answer to an act says, from the old history to the new one: an accepted act leads to the
+-- new history; a refusal is that of the act, or want of memory, and changes nothing.
+pub record Performs {X : Type 0} (act : Act) (old new : History) (result : Result X Refusal) : Type 0 where
+  pub ok : OnOk result (ComesTo act old (Ok new))
+  pub refused : IfErr result (λ refusal. (refusal ≡ Memory) ⊎ ComesTo act old (Err refusal))
+  pub err : OnErr result (new ≡ old)
+
+-- The same for an act that takes no memory.
+pub record PerformsSurely {X : Type 0} (act : Act) (old new : History) (result : Result X Refusal) : Type 0 where
+  pub ok : OnOk result (ComesTo act old (Ok new))
+  pub refused : IfErr result (λ refusal. ComesTo act old (Err refusal))
+  pub err : OnErr result (new ≡ old)
+
 -- which acts change the contents, if they are accepted
 abbrev pub IsChange : Act → Type 0
-IsChange (set_tree name tree) = Unit {0}
-IsChange (copy_tree name copy) = Unit {0}
-IsChange (drop_tree name) = Unit {0}
-IsChange (put name path part) = Unit {0}
-IsChange (annotate name path annotations) = Unit {0}
-IsChange (set_module name text) = Unit {0}
-IsChange (unload name) = Unit {0}
-IsChange (apply meaning name path steps text) = Unit {0}
 IsChange (undo k) = ⊥
 IsChange (redo k) = ⊥
 IsChange begin = ⊥
 IsChange commit = ⊥
 IsChange abandon = ⊥
+IsChange act = Unit {0}

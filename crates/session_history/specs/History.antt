@@ -74,15 +74,18 @@ forward_to h (c ∷ cs) = Some (record h { past = h.past ++ h.now ∷ []; now = 
 abbrev pub step_forward : History → Option History
 step_forward h = forward_to h h.later
 
+-- k of these moves, if all are possible
+abbrev pub moved : (History → Option History) → ℕ → History → Option History
+moved move zero h = Some h
+moved move (suc k) h = option_and_then (moved move k) (move h)
+
 -- k steps back, if there are that many
 abbrev pub undone : ℕ → History → Option History
-undone zero h = Some h
-undone (suc k) h = option_and_then (undone k) (step_back h)
+undone = moved step_back
 
 -- k steps forward, if there are that many
 abbrev pub redone : ℕ → History → Option History
-redone zero h = Some h
-redone (suc k) h = option_and_then (redone k) (step_forward h)
+redone = moved step_forward
 
 -- no tree is higher than 1,000, the greatest height that fits at level 0
 abbrev pub AreLow : Named Tree → Type 0

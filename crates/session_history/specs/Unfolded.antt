@@ -10,8 +10,16 @@ use Rattle.term_changes.specs.Slots.{Store, HaveDistinctLabels, contents, conten
 use Rattle.term_changes.specs.Entries.{Entry, before, after, Fits, FitsForward}
 use Rattle.term_changes.specs.Compact.{IsCompact}
 use Rattle.session_history.specs.History.{History}
-use Rattle.session_history.specs.declared.timeline.Timeline.{Timeline}
 use Rattle.session_history.specs.declared.timeline.OpenGroup.{OpenGroup}
+
+-- The steps that a session keeps: the store, the log of each step, the oldest first, the number of
+-- those that lead back, the open group, and the changes since it began.
+pub record Logged : Type 0 where
+  pub store : Store
+  pub logs : List (List Entry)
+  pub position : ℕ
+  pub group : Option OpenGroup
+  pub current : List Entry
 
 -- the store before the steps of these logs, the newest last
 abbrev pub rewound : List (List Entry) → Store → Store
@@ -38,16 +46,16 @@ abbrev pub FitForward : List (List Entry) → Store → Type 0
 FitForward [] s = Unit {0}
 FitForward (log ∷ logs) s = FitsForward log s × FitForward logs (after log s)
 
--- The history that a timeline represents, in a session with these primitives. The current log holds
+-- The history that these steps represent, in a session with these primitives. The current log holds
 -- the changes since the open group began, and is empty outside a group.
-abbrev pub unfolded : List Signature → Timeline → History
+abbrev pub unfolded : List Signature → Logged → History
 unfolded primitives t =
     let start = before t.current t.store in
     record {
       primitives = primitives;
-      past = past_of (take t.position t.logs.items) start;
+      past = past_of (take t.position t.logs) start;
       now = contents t.store;
-      later = later_of (drop t.position t.logs.items) start;
+      later = later_of (drop t.position t.logs) start;
       group = option_map (λ g. record { begun = contents start; changed = g.changed }) t.group;
     }
 
@@ -61,17 +69,13 @@ abbrev pub AllCompact : List (List Entry) → Type 0
 AllCompact [] = Unit {0}
 AllCompact (log ∷ logs) = IsCompact log × AllCompact logs
 
--- the log of each step
-abbrev pub logs_of : Timeline → List (List Entry)
-logs_of t = t.logs.items
-
 -- The position is that of a log or the end; the logs before it lead back, the others forward. All
 -- are compact. The changes of an open group lead back too.
-pub record IsPlaced (t : Timeline) : Type 0 where
-  pub within : t.position ≤ length t.logs.items
-  pub back : FitBack (take t.position t.logs.items) (before t.current t.store)
-  pub forward : FitForward (drop t.position t.logs.items) (before t.current t.store)
-  pub compact : AllCompact t.logs.items
+pub record IsPlaced (t : Logged) : Type 0 where
+  pub within : t.position ≤ length t.logs
+  pub back : FitBack (take t.position t.logs) (before t.current t.store)
+  pub forward : FitForward (drop t.position t.logs) (before t.current t.store)
+  pub compact : AllCompact t.logs
   pub fits : Fits t.current t.store
   pub current : IsCurrent t.group t.current
 

@@ -2,3 +2,5 @@ pub mod Adding
 pub mod Codes
 pub mod Giving
 pub mod Keeping
+pub mod Moving
+pub mod View

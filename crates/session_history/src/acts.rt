@@ -1,14 +1,14 @@
 //! What commands do to a timeline: each is a step of the session's machine, or is refused and
 //! changes nothing.
 
-ghost use Rattle.std.specs.Prelude.{◌≡◌, ◌⊎◌, List, Ok, Err, IfOk, OnOk, OnErr, IfErr};
+ghost use Rattle.std.specs.Prelude.{◌≡◌, List, Err, IfOk, IfErr};
 ghost use Rattle.std.specs.List.{list_all};
 ghost use Rattle.term_core.specs.Size.{fits};
 ghost use Rattle.prim_core.specs.Signature.{Signature};
 ghost use Rattle.term_changes.specs.Slots.{contents};
 ghost use Rattle.change_log.specs.Texts.{TextsChange};
-ghost use Rattle.session_history.specs.Acts.{ComesTo, set_tree, copy_tree, drop_tree, put, annotate, undo, redo, begin, abandon, place_of};
-ghost use Rattle.session_history.specs.Unfolded.{unfolded, IsPlaced, IsPlaceOf};
+ghost use Rattle.session_history.specs.Acts.{Performs, PerformsSurely, set_tree, copy_tree, drop_tree, put, annotate, undo, redo, begin, abandon, place_of};
+ghost use Rattle.session_history.specs.Unfolded.{unfolded, IsPlaceOf};
 
 use crate::{Refusal, Timeline};
 use change_log::{Entry, Texts};
@@ -19,13 +19,7 @@ impl Timeline {
     /// Sets the tree of this name.
     #[inline(always)]
     pub fn set_tree(&mut self, name: &Label, tree: Term) -> Result<(), Refusal>
-        requires { IsPlaced self.old }
-        ensures placed { IsPlaced self.new }
-        ensures ok { OnOk result ((ps : List Signature) → ComesTo (set_tree name.now tree) (unfolded ps self.old) (Ok (unfolded ps self.new))) }
-        ensures refused { IfErr result (λ refusal. (refusal ≡ Refusal.Memory)
-            ⊎ ((ps : List Signature) → ComesTo (set_tree name.now tree) (unfolded ps self.old) (Err refusal))) }
-        ensures err { OnErr result ((ps : List Signature) → unfolded ps self.new
-            ≡ unfolded ps self.old) }
+        ensures { (ps : List Signature) → Performs (set_tree name.now tree) (unfolded ps self.old) (unfolded ps self.new) result }
     {
         if !tree.fits(0) {
             return Err(Refusal::Big);
@@ -37,13 +31,7 @@ impl Timeline {
 
     /// Sets the tree of `copy` to a copy of the tree of `name`.
     pub fn copy_tree(&mut self, name: &Label, copy: &Label) -> Result<(), Refusal>
-        requires { IsPlaced self.old }
-        ensures placed { IsPlaced self.new }
-        ensures ok { OnOk result ((ps : List Signature) → ComesTo (copy_tree name.now copy.now) (unfolded ps self.old) (Ok (unfolded ps self.new))) }
-        ensures refused { IfErr result (λ refusal. (refusal ≡ Refusal.Memory)
-            ⊎ ((ps : List Signature) → ComesTo (copy_tree name.now copy.now) (unfolded ps self.old) (Err refusal))) }
-        ensures err { OnErr result ((ps : List Signature) → unfolded ps self.new
-            ≡ unfolded ps self.old) }
+        ensures { (ps : List Signature) → Performs (copy_tree name.now copy.now) (unfolded ps self.old) (unfolded ps self.new) result }
     {
         let Some(tree) = self.tree(name) else {
             return Err(Refusal::NoTree);
@@ -56,18 +44,13 @@ impl Timeline {
 
     /// Removes the tree of this name.
     pub fn drop_tree(&mut self, name: &Label) -> Result<(), Refusal>
-        requires { IsPlaced self.old }
-        ensures placed { IsPlaced self.new }
-        ensures ok { OnOk result ((ps : List Signature) → ComesTo (drop_tree name.now) (unfolded ps self.old) (Ok (unfolded ps self.new))) }
-        ensures refused { IfErr result (λ refusal. (refusal ≡ Refusal.Memory)
-            ⊎ ((ps : List Signature) → ComesTo (drop_tree name.now) (unfolded ps self.old) (Err refusal))) }
-        ensures err { OnErr result ((ps : List Signature) → unfolded ps self.new
-            ≡ unfolded ps self.old) }
+        ensures { (ps : List Signature) → Performs (drop_tree name.now) (unfolded ps self.old) (unfolded ps self.new) result }
     {
-        let Some(slot) = self.store.find_tree(name) else {
+        let store = self.store();
+        let Some(slot) = store.find_tree(name) else {
             return Err(Refusal::NoTree);
         };
-        if self.store.tree(slot).is_none() {
+        if store.tree(slot).is_none() {
             return Err(Refusal::NoTree);
         }
         self.change(Entry::tree(slot, None))?;
@@ -76,13 +59,7 @@ impl Timeline {
 
     /// Replaces the subterm at the path in the tree of this name.
     pub fn put(&mut self, name: &Label, path: &Path, part: Term) -> Result<(), Refusal>
-        requires { IsPlaced self.old }
-        ensures placed { IsPlaced self.new }
-        ensures ok { OnOk result ((ps : List Signature) → ComesTo (put name.now path.now part) (unfolded ps self.old) (Ok (unfolded ps self.new))) }
-        ensures refused { IfErr result (λ refusal. (refusal ≡ Refusal.Memory)
-            ⊎ ((ps : List Signature) → ComesTo (put name.now path.now part) (unfolded ps self.old) (Err refusal))) }
-        ensures err { OnErr result ((ps : List Signature) → unfolded ps self.new
-            ≡ unfolded ps self.old) }
+        ensures { (ps : List Signature) → Performs (put name.now path.now part) (unfolded ps self.old) (unfolded ps self.new) result }
     {
         let slot = match self.place(name, path) {
             Ok(slot) => slot,
@@ -102,15 +79,7 @@ impl Timeline {
         path: &Path,
         annotations: Vec<Term>,
     ) -> Result<(), Refusal>
-        requires { IsPlaced self.old }
-        ensures placed { IsPlaced self.new }
-        ensures ok { OnOk result ((ps : List Signature)
-            → ComesTo (annotate name.now path.now annotations.items) (unfolded ps self.old) (Ok (unfolded ps self.new))) }
-        ensures refused { IfErr result (λ refusal. (refusal ≡ Refusal.Memory)
-            ⊎ ((ps : List Signature)
-            → ComesTo (annotate name.now path.now annotations.items) (unfolded ps self.old) (Err refusal))) }
-        ensures err { OnErr result ((ps : List Signature) → unfolded ps self.new
-            ≡ unfolded ps self.old) }
+        ensures { (ps : List Signature) → Performs (annotate name.now path.now annotations.items) (unfolded ps self.old) (unfolded ps self.new) result }
     {
         let slot = match self.place(name, path) {
             Ok(slot) => slot,
@@ -129,10 +98,11 @@ impl Timeline {
         ensures refused { IfErr result (λ refusal. place_of (contents self.now.store) name.now path.now
             ≡ Err refusal) }
     {
-        let Some(slot) = self.store.find_tree(name) else {
+        let store = self.store();
+        let Some(slot) = store.find_tree(name) else {
             return Err(Refusal::NoTree);
         };
-        let Some(tree) = self.store.tree(slot) else {
+        let Some(tree) = store.tree(slot) else {
             return Err(Refusal::NoTree);
         };
         if at(tree, path).is_none() {
@@ -143,13 +113,8 @@ impl Timeline {
 
     /// Goes `n` steps back. Returns which module texts may have changed.
     pub fn undo(&mut self, n: u32) -> Result<Texts, Refusal>
-        requires { IsPlaced self.old }
-        ensures placed { IsPlaced self.new }
-        ensures ok { OnOk result ((ps : List Signature) → ComesTo (undo n) (unfolded ps self.old) (Ok (unfolded ps self.new))) }
+        ensures performs { (ps : List Signature) → PerformsSurely (undo n) (unfolded ps self.old) (unfolded ps self.new) result }
         ensures texts { IfOk result (λ texts. TextsChange texts self.old.store self.new.store) }
-        ensures refused { IfErr result (λ refusal. (ps : List Signature) → ComesTo (undo n) (unfolded ps self.old) (Err refusal)) }
-        ensures err { OnErr result ((ps : List Signature) → unfolded ps self.new
-            ≡ unfolded ps self.old) }
     {
         if self.in_group() {
             return Err(Refusal::Group);
@@ -163,13 +128,8 @@ impl Timeline {
 
     /// Goes `n` steps forward. Returns which module texts may have changed.
     pub fn redo(&mut self, n: u32) -> Result<Texts, Refusal>
-        requires { IsPlaced self.old }
-        ensures placed { IsPlaced self.new }
-        ensures ok { OnOk result ((ps : List Signature) → ComesTo (redo n) (unfolded ps self.old) (Ok (unfolded ps self.new))) }
+        ensures performs { (ps : List Signature) → PerformsSurely (redo n) (unfolded ps self.old) (unfolded ps self.new) result }
         ensures texts { IfOk result (λ texts. TextsChange texts self.old.store self.new.store) }
-        ensures refused { IfErr result (λ refusal. (ps : List Signature) → ComesTo (redo n) (unfolded ps self.old) (Err refusal)) }
-        ensures err { OnErr result ((ps : List Signature) → unfolded ps self.new
-            ≡ unfolded ps self.old) }
     {
         if self.in_group() {
             return Err(Refusal::Group);
@@ -183,12 +143,7 @@ impl Timeline {
 
     /// Opens a group.
     pub fn begin(&mut self) -> Result<(), Refusal>
-        requires { IsPlaced self.old }
-        ensures placed { IsPlaced self.new }
-        ensures ok { OnOk result ((ps : List Signature) → ComesTo begin (unfolded ps self.old) (Ok (unfolded ps self.new))) }
-        ensures refused { IfErr result (λ refusal. (ps : List Signature) → ComesTo begin (unfolded ps self.old) (Err refusal)) }
-        ensures err { OnErr result ((ps : List Signature) → unfolded ps self.new
-            ≡ unfolded ps self.old) }
+        ensures { (ps : List Signature) → PerformsSurely begin (unfolded ps self.old) (unfolded ps self.new) result }
     {
         if self.in_group() {
             return Err(Refusal::Group);
@@ -200,13 +155,8 @@ impl Timeline {
     /// Undoes the changes of the open group and closes it. Returns which module texts may have
     /// changed.
     pub fn abandon(&mut self) -> Result<Texts, Refusal>
-        requires { IsPlaced self.old }
-        ensures placed { IsPlaced self.new }
-        ensures ok { OnOk result ((ps : List Signature) → ComesTo abandon (unfolded ps self.old) (Ok (unfolded ps self.new))) }
+        ensures performs { (ps : List Signature) → PerformsSurely abandon (unfolded ps self.old) (unfolded ps self.new) result }
         ensures texts { IfOk result (λ texts. TextsChange texts self.old.store self.new.store) }
-        ensures refused { IfErr result (λ refusal. (ps : List Signature) → ComesTo abandon (unfolded ps self.old) (Err refusal)) }
-        ensures err { OnErr result ((ps : List Signature) → unfolded ps self.new
-            ≡ unfolded ps self.old) }
     {
         if !self.in_group() {
             return Err(Refusal::NoGroup);

@@ -1,11 +1,11 @@
 //! The modules of a session: reading their texts, and checking them.
 
-ghost use Rattle.std.specs.Prelude.{◌≡◌, ◌⊎◌, Ok, Err, None, IfOk, IfErr, OnOk, OnErr, IsSome, IsSomeAnd};
+ghost use Rattle.std.specs.Prelude.{◌≡◌, ◌⊎◌, Ok, Err, IfOk, IfErr, IsSome, IsSomeAnd};
 ghost use Rattle.std.specs.FinMap as finmap;
 ghost use Rattle.term_changes.specs.Slots.{contents};
-ghost use Rattle.session_history.specs.Acts.{ComesTo, set_module, unload, commit};
+ghost use Rattle.session_history.specs.Acts.{Performs, set_module, unload, commit};
 ghost use Rattle.session_history.specs.Modules.{ReadsAsModule, AreModules, AreReadable, AreRefused, AreCurrent, IsKept, IsUnread};
-ghost use Rattle.session_history.specs.Unfolded.{unfolded, IsPlaced};
+ghost use Rattle.session_history.specs.Unfolded.{unfolded};
 
 use crate::kept::keep_modules;
 use crate::{KeptModules, Refusal, Timeline};
@@ -27,16 +27,9 @@ impl Timeline {
         name: &Label,
         text: &[u8],
     ) -> Result<(), Refusal>
-        requires placed { IsPlaced self.old }
         requires readable { AreReadable (contents self.old.store).modules }
         requires kept { IsKept primitives.now (contents self.old.store).modules kept.old }
-        ensures placed { IsPlaced self.new }
-        ensures ok { OnOk result (ComesTo (set_module name.now text.now) (unfolded primitives.now self.old)
-            (Ok (unfolded primitives.now self.new))) }
-        ensures refused { IfErr result (λ refusal. (refusal ≡ Refusal.Memory)
-            ⊎ ComesTo (set_module name.now text.now) (unfolded primitives.now self.old) (Err refusal)) }
-        ensures err { OnErr result (unfolded primitives.now self.new
-            ≡ unfolded primitives.now self.old) }
+        ensures performs { Performs (set_module name.now text.now) (unfolded primitives.now self.old) (unfolded primitives.now self.new) result }
         ensures kept { IsKept primitives.now (contents self.new.store).modules kept.new }
     {
         if self.in_group() {
@@ -58,16 +51,9 @@ impl Timeline {
         name: &Label,
         text: &[u8],
     ) -> Result<(), Refusal>
-        requires placed { IsPlaced self.old }
         requires kept { IsKept primitives.now (contents self.old.store).modules kept.old }
         requires inside { IsSome self.old.group }
-        ensures placed { IsPlaced self.new }
-        ensures ok { OnOk result (ComesTo (set_module name.now text.now) (unfolded primitives.now self.old)
-            (Ok (unfolded primitives.now self.new))) }
-        ensures refused { IfErr result (λ refusal. (refusal ≡ Refusal.Memory)
-            ⊎ ComesTo (set_module name.now text.now) (unfolded primitives.now self.old) (Err refusal)) }
-        ensures err { OnErr result (unfolded primitives.now self.new
-            ≡ unfolded primitives.now self.old) }
+        ensures performs { Performs (set_module name.now text.now) (unfolded primitives.now self.old) (unfolded primitives.now self.new) result }
         ensures kept { IsKept primitives.now (contents self.new.store).modules kept.new }
     {
         drop(read_module(self.allocator(), text)?);
@@ -86,22 +72,16 @@ impl Timeline {
         kept: &mut KeptModules,
         name: &Label,
     ) -> Result<(), Refusal>
-        requires placed { IsPlaced self.old }
         requires readable { AreReadable (contents self.old.store).modules }
         requires kept { IsKept primitives.now (contents self.old.store).modules kept.old }
-        ensures placed { IsPlaced self.new }
-        ensures ok { OnOk result (ComesTo (unload name.now) (unfolded primitives.now self.old)
-            (Ok (unfolded primitives.now self.new))) }
-        ensures refused { IfErr result (λ refusal. (refusal ≡ Refusal.Memory)
-            ⊎ ComesTo (unload name.now) (unfolded primitives.now self.old) (Err refusal)) }
-        ensures err { OnErr result (unfolded primitives.now self.new
-            ≡ unfolded primitives.now self.old) }
+        ensures performs { Performs (unload name.now) (unfolded primitives.now self.old) (unfolded primitives.now self.new) result }
         ensures kept { IsKept primitives.now (contents self.new.store).modules kept.new }
     {
-        let Some(slot) = self.store.find_module(name) else {
+        let store = self.store();
+        let Some(slot) = store.find_module(name) else {
             return Err(Refusal::NoModule);
         };
-        if self.store.module(slot).is_none() {
+        if store.module(slot).is_none() {
             return Err(Refusal::NoModule);
         }
         if self.in_group() {
@@ -122,22 +102,15 @@ impl Timeline {
         primitives: &Primitives<M>,
         kept: &mut KeptModules,
     ) -> Result<(), Refusal>
-        requires placed { IsPlaced self.old }
         requires readable { AreReadable (contents self.old.store).modules }
         requires kept { IsKept primitives.now (contents self.old.store).modules kept.old }
-        ensures placed { IsPlaced self.new }
-        ensures ok { OnOk result (ComesTo commit (unfolded primitives.now self.old)
-            (Ok (unfolded primitives.now self.new))) }
-        ensures refused { IfErr result (λ refusal. (refusal ≡ Refusal.Memory)
-            ⊎ ComesTo commit (unfolded primitives.now self.old) (Err refusal)) }
-        ensures err { OnErr result (unfolded primitives.now self.new
-            ≡ unfolded primitives.now self.old) }
+        ensures performs { Performs commit (unfolded primitives.now self.old) (unfolded primitives.now self.new) result }
         ensures kept { IsKept primitives.now (contents self.new.store).modules kept.new }
     {
         if !self.in_group() {
             return Err(Refusal::NoGroup);
         }
-        match keep_modules(self.allocator(), &self.store, primitives, kept) {
+        match keep_modules(self.allocator(), self.store(), primitives, kept) {
             Ok(()) => Ok(self.close_group()?),
             Err(refusal) => Err(refusal),
         }

@@ -12,14 +12,16 @@ ghost use Rattle.change_log.specs.Texts.{TextsChange};
 ghost use Rattle.session_history.specs.History.{empty_history, changed, step_back, step_forward, undone, redone};
 ghost use Rattle.session_history.specs.Acts.{ComesTo, begin, abandon, committed};
 ghost use Rattle.session_history.specs.Modules.{AreRefused, SameBut, IsCurrent, IsKept};
-ghost use Rattle.session_history.specs.Unfolded.{unfolded, IsPlaced};
+ghost use Rattle.session_history.specs.Unfolded.{unfolded, AllCompact};
 ghost use Rattle.session_history.specs.inside.Adding.{AddsStep};
+ghost use Rattle.session_history.specs.inside.Moving.{Moves};
 
 use crate::kept::{keep_modules, settle};
 use crate::{KeptModules, Refusal};
 use change_log::{Entry, Log, Plan, Step, Store, Texts};
 use prim_core::{Meaning, Primitives};
 use std::alloc::Global;
+use std::marker::Model;
 use std::mem;
 use term_changes::Patch;
 use term_core::{Label, NoMemory, Term};
@@ -27,7 +29,7 @@ use term_core::{Label, NoMemory, Term};
 /// The current contents, and the steps that lead back and forward from them.
 #[derive(Drop)]
 pub struct Timeline {
-    pub store: Store,
+    store: Store,
     // The steps, the oldest first. Those before the position lead back; the others are undone and
     // lead forward.
     logs: Vec<Step>,
@@ -35,6 +37,22 @@ pub struct Timeline {
     group: Option<OpenGroup>,
     // The changes since the open group began; empty outside a group.
     current: Log,
+}
+
+impl Model for Timeline {
+    ghost use Rattle.session_history.specs.Unfolded.{Logged};
+    ghost use Rattle.session_history.specs.inside.Codes.{logged_code};
+
+    ghost Value = { Logged };
+
+    ghost coded = { logged_code };
+
+    ghost use Rattle.session_history.specs.Unfolded.{IsPlaced};
+    ghost use Rattle.session_history.specs.inside.View.{logged};
+
+    ghost view = { logged };
+
+    ghost invariant = { λ a. IsPlaced (logged a) };
 }
 
 /// An open group.
@@ -47,8 +65,7 @@ pub struct OpenGroup {
 impl Timeline {
     /// A timeline without contents and steps. It takes no memory.
     pub fn new(alloc: Global) -> Timeline
-        ensures value { (ps : List Signature) → unfolded ps result ≡ empty_history ps }
-        ensures placed { IsPlaced result }
+        ensures { (ps : List Signature) → unfolded ps result ≡ empty_history ps }
     {
         Timeline {
             store: Store::new(alloc),
@@ -64,9 +81,22 @@ impl Timeline {
         *self.logs.allocator()
     }
 
+    /// The trees and module texts now.
+    pub fn store(&self) -> &Store
+        ensures { result.now ≡ self.now.store }
+    {
+        &self.store
+    }
+
+    /// The log of each step is compact. It does nothing.
+    pub fn steps_are_compact(&self)
+        ensures { AllCompact self.now.logs }
+    {
+        let _ = &self.logs;
+    }
+
     /// The number of steps to undo.
     pub fn past(&self) -> usize
-        requires { IsPlaced self.now }
         ensures value { (ps : List Signature) → length (unfolded ps self.now).past ≡ result }
         ensures position { result ≡ self.now.position }
     {
@@ -75,9 +105,8 @@ impl Timeline {
 
     /// The number of steps to redo.
     pub fn later(&self) -> usize
-        requires { IsPlaced self.now }
         ensures value { (ps : List Signature) → length (unfolded ps self.now).later ≡ result }
-        ensures rest { self.now.position + result ≡ length self.now.logs.items }
+        ensures rest { self.now.position + result ≡ length self.now.logs }
     {
         self.logs.len() - self.position
     }
@@ -125,8 +154,6 @@ impl Timeline {
 
     /// The slot for the tree of this name. It is made if there is none.
     pub fn tree_slot(&mut self, name: &Label) -> Result<usize, NoMemory>
-        requires { IsPlaced self.old }
-        ensures placed { IsPlaced self.new }
         ensures same { (ps : List Signature) → unfolded ps self.new ≡ unfolded ps self.old }
         ensures slot { IfOk result (λ i. slot_of self.new.store.trees name.now ≡ Some i) }
         ensures within { IfOk result (λ i. i < length self.new.store.trees) }
@@ -136,8 +163,6 @@ impl Timeline {
 
     /// The slot for the module of this name. It is made if there is none.
     pub fn module_slot(&mut self, name: &Label) -> Result<usize, NoMemory>
-        requires { IsPlaced self.old }
-        ensures placed { IsPlaced self.new }
         ensures same { (ps : List Signature) → unfolded ps self.new ≡ unfolded ps self.old }
         ensures slot { IfOk result (λ i. slot_of self.new.store.modules name.now ≡ Some i) }
         ensures within { IfOk result (λ i. i < length self.new.store.modules) }
@@ -150,9 +175,7 @@ impl Timeline {
     /// Makes a change, as a step or as part of the open group. If memory can't grow, nothing
     /// changes.
     pub fn change(&mut self, entry: Entry<'_>) -> Result<(), NoMemory>
-        requires placed { IsPlaced self.old }
-        requires place { HasPlace entry self.old.store }
-        ensures placed { IsPlaced self.new }
+        requires { HasPlace entry self.old.store }
         ensures ok { OnOk result ((ps : List Signature) → unfolded ps self.new
             ≡ changed (contents (put entry.entry self.old.store)) (unfolded ps self.old)) }
         ensures err { OnErr result ((ps : List Signature) → unfolded ps self.new
@@ -166,10 +189,8 @@ impl Timeline {
     }
 
     pub fn change_in_group(&mut self, entry: Entry<'_>) -> Result<(), NoMemory>
-        requires placed { IsPlaced self.old }
         requires place { HasPlace entry self.old.store }
         requires inside { IsSome self.old.group }
-        ensures placed { IsPlaced self.new }
         ensures ok { OnOk result ((ps : List Signature) → unfolded ps self.new
             ≡ changed (contents (put entry.entry self.old.store)) (unfolded ps self.old)) }
         ensures err { OnErr result ((ps : List Signature) → unfolded ps self.new
@@ -182,10 +203,8 @@ impl Timeline {
 
     // The place in the list of steps is reserved before anything changes.
     fn change_as_step(&mut self, entry: Entry<'_>) -> Result<(), NoMemory>
-        requires placed { IsPlaced self.old }
         requires place { HasPlace entry self.old.store }
         requires outside { self.old.group ≡ None }
-        ensures placed { IsPlaced self.new }
         ensures ok { OnOk result ((ps : List Signature) → unfolded ps self.new
             ≡ changed (contents (put entry.entry self.old.store)) (unfolded ps self.old)) }
         ensures err { OnErr result ((ps : List Signature) → unfolded ps self.new
@@ -193,7 +212,7 @@ impl Timeline {
     {
         self.logs.reserve(1)?;
         let step = Step::make(*self.logs.allocator(), &mut self.store, entry)?;
-        self.add(step);
+        add(&mut self.logs, &mut self.position, step);
         Ok(())
     }
 
@@ -205,10 +224,8 @@ impl Timeline {
         path: Vec<usize>,
         patch: Patch,
     ) -> Result<(), NoMemory>
-        requires placed { IsPlaced self.old }
         requires outside { self.old.group ≡ None }
         requires places { FitsForward (patch_entries slot path.items patch) self.old.store }
-        ensures placed { IsPlaced self.new }
         ensures ok { OnOk result ((ps : List Signature) → unfolded ps self.new
             ≡ changed (contents self.new.store) (unfolded ps self.old)) }
         ensures store { OnOk result (self.new.store
@@ -218,17 +235,15 @@ impl Timeline {
     {
         self.logs.reserve(1)?;
         let step = Step::patched(&mut self.store, slot, path, patch);
-        self.add(step);
+        add(&mut self.logs, &mut self.position, step);
         Ok(())
     }
 
     /// Makes the planned changes in order, as part of the open group. If memory can't grow, nothing
     /// changes.
     pub fn plan_in_group(&mut self, plan: Plan) -> Result<(), NoMemory>
-        requires placed { IsPlaced self.old }
         requires inside { IsSome self.old.group }
         requires places { FitsForward plan self.old.store }
-        ensures placed { IsPlaced self.new }
         ensures ok { OnOk result ((ps : List Signature) → unfolded ps self.new
             ≡ changed (contents self.new.store) (unfolded ps self.old)) }
         ensures store { OnOk result (self.new.store ≡ after plan self.old.store) }
@@ -249,13 +264,11 @@ impl Timeline {
         name: &Label,
         entry: Entry<'_>,
     ) -> Result<(), Refusal>
-        requires placed { IsPlaced self.old }
         requires place { HasPlace entry self.old.store }
         requires outside { self.old.group ≡ None }
         requires one { SameBut name.now (contents self.old.store).modules
             (contents (put entry self.old.store)).modules }
         requires kept { IsKept primitives.now (contents self.old.store).modules kept.old }
-        ensures placed { IsPlaced self.new }
         ensures ok { OnOk result (unfolded primitives.now self.new
             ≡ changed (contents (put entry.entry self.old.store)) (unfolded primitives.now self.old)) }
         ensures current { OnOk result (IsCurrent primitives.now
@@ -276,7 +289,7 @@ impl Timeline {
         kept.note_name(name);
         match keep_modules(alloc, &self.store, primitives, kept) {
             Ok(()) => {
-                self.add_step(log);
+                add_log(&mut self.logs, &mut self.position, log);
                 Ok(())
             }
             Err(refusal) => {
@@ -287,46 +300,13 @@ impl Timeline {
         }
     }
 
-    // Appends a step of the compacted log, for which there is room, and drops the undone steps.
-    fn add_step(&mut self, log: Log)
-        requires within { self.old.position ≤ length self.old.logs.items }
-        requires room { length self.old.logs.items < vec_capacity self.old.logs }
-        ensures logs { AddsStep (take self.old.position self.old.logs.items) log self.new.logs.items }
-        ensures position { self.new.position ≡ self.old.position + 1 }
-        ensures store { self.new.store ≡ self.old.store }
-        ensures group { self.new.group ≡ self.old.group }
-        ensures current { self.new.current ≡ self.old.current }
-    {
-        self.add(Step::of(log));
-    }
-
-    // Appends a step, for which there is room, and drops the undone steps.
-    #[inline(always)]
-    fn add(&mut self, step: Step)
-        requires within { self.old.position ≤ length self.old.logs.items }
-        requires room { length self.old.logs.items < vec_capacity self.old.logs }
-        ensures logs { self.new.logs.items ≡ take self.old.position self.old.logs.items ++ step ∷ [] }
-        ensures position { self.new.position ≡ self.old.position + 1 }
-        ensures store { self.new.store ≡ self.old.store }
-        ensures group { self.new.group ≡ self.old.group }
-        ensures current { self.new.current ≡ self.old.current }
-    {
-        self.logs.truncate(self.position);
-        self.logs.push_reserved(step);
-        self.position += 1;
-    }
-
     /// Goes one step back. Returns which module texts may have changed.
     pub fn back(&mut self) -> Texts
-        requires placed { IsPlaced self.old }
         requires some { 0 < self.old.position }
         requires outside { self.old.group ≡ None }
-        ensures placed { IsPlaced self.new }
         ensures outside { self.new.group ≡ None }
         ensures position { self.new.position ≡ self.old.position - 1 }
-        ensures texts { TextsChange result self.old.store self.new.store }
-        ensures value { (ps : List Signature) → step_back (unfolded ps self.old)
-            ≡ Some (unfolded ps self.new) }
+        ensures moves { Moves step_back result self.old self.new }
     {
         self.position -= 1;
         let step = &mut self.logs[self.position];
@@ -337,13 +317,9 @@ impl Timeline {
 
     /// Goes this many steps back. Returns which module texts may have changed.
     pub fn back_by(&mut self, steps: usize) -> Texts
-        requires placed { IsPlaced self.old }
         requires enough { steps ≤ self.old.position }
         requires outside { self.old.group ≡ None }
-        ensures placed { IsPlaced self.new }
-        ensures value { (ps : List Signature) → undone steps (unfolded ps self.old)
-            ≡ Some (unfolded ps self.new) }
-        ensures texts { TextsChange result self.old.store self.new.store }
+        ensures { Moves (undone steps) result self.old self.new }
     {
         let mut texts = Texts::None;
         let mut left = steps;
@@ -356,16 +332,12 @@ impl Timeline {
 
     /// Goes one step forward. Returns which module texts may have changed.
     pub fn forward(&mut self) -> Texts
-        requires placed { IsPlaced self.old }
-        requires some { self.old.position < length self.old.logs.items }
+        requires some { self.old.position < length self.old.logs }
         requires outside { self.old.group ≡ None }
-        ensures placed { IsPlaced self.new }
         ensures outside { self.new.group ≡ None }
         ensures position { self.new.position ≡ self.old.position + 1 }
-        ensures count { length self.new.logs.items ≡ length self.old.logs.items }
-        ensures texts { TextsChange result self.old.store self.new.store }
-        ensures value { (ps : List Signature) → step_forward (unfolded ps self.old)
-            ≡ Some (unfolded ps self.new) }
+        ensures count { length self.new.logs ≡ length self.old.logs }
+        ensures moves { Moves step_forward result self.old self.new }
     {
         let step = &mut self.logs[self.position];
         let texts = step.texts();
@@ -376,13 +348,9 @@ impl Timeline {
 
     /// Goes this many steps forward. Returns which module texts may have changed.
     pub fn forward_by(&mut self, steps: usize) -> Texts
-        requires placed { IsPlaced self.old }
-        requires enough { self.old.position + steps ≤ length self.old.logs.items }
+        requires enough { self.old.position + steps ≤ length self.old.logs }
         requires outside { self.old.group ≡ None }
-        ensures placed { IsPlaced self.new }
-        ensures value { (ps : List Signature) → redone steps (unfolded ps self.old)
-            ≡ Some (unfolded ps self.new) }
-        ensures texts { TextsChange result self.old.store self.new.store }
+        ensures { Moves (redone steps) result self.old self.new }
     {
         let mut texts = Texts::None;
         let mut left = steps;
@@ -395,9 +363,7 @@ impl Timeline {
 
     /// Opens a group. It takes no memory.
     pub fn open_group(&mut self)
-        requires placed { IsPlaced self.old }
         requires outside { self.old.group ≡ None }
-        ensures placed { IsPlaced self.new }
         ensures value { (ps : List Signature) → ComesTo begin (unfolded ps self.old) (Ok (unfolded ps self.new)) }
     {
         self.group = Some(OpenGroup { changed: false });
@@ -406,9 +372,7 @@ impl Timeline {
     /// Makes the changes of the open group one step and closes it. If memory can't grow, nothing
     /// changes.
     pub fn close_group(&mut self) -> Result<(), NoMemory>
-        requires placed { IsPlaced self.old }
         requires inside { IsSome self.old.group }
-        ensures placed { IsPlaced self.new }
         ensures ok { OnOk result ((ps : List Signature)
             → IsSomeAnd (unfolded ps self.old).group (λ g. unfolded ps self.new
             ≡ committed g (unfolded ps self.old))) }
@@ -421,7 +385,7 @@ impl Timeline {
         }
         self.logs.reserve(1)?;
         let log = mem::replace(&mut self.current, Log::new(*self.logs.allocator()));
-        self.add_step(log);
+        add_log(&mut self.logs, &mut self.position, log);
         self.group = None;
         Ok(())
     }
@@ -436,9 +400,7 @@ impl Timeline {
     /// Undoes the changes of the open group and closes it. Returns which module texts may have
     /// changed. It takes no memory.
     pub fn leave_group(&mut self) -> Texts
-        requires placed { IsPlaced self.old }
         requires inside { IsSome self.old.group }
-        ensures placed { IsPlaced self.new }
         ensures value { (ps : List Signature) → ComesTo abandon (unfolded ps self.old) (Ok (unfolded ps self.new)) }
         ensures texts { TextsChange result self.old.store self.new.store }
     {
@@ -447,4 +409,27 @@ impl Timeline {
         self.group = None;
         texts
     }
+}
+
+// Appends a step, for which there is room, at this position, and drops the undone steps.
+#[inline(always)]
+fn add(logs: &mut Vec<Step>, position: &mut usize, step: Step)
+    requires within { position.old ≤ length logs.old.items }
+    requires room { length logs.old.items < vec_capacity logs.old }
+    ensures logs { logs.new.items ≡ take position.old logs.old.items ++ step ∷ [] }
+    ensures position { position.new ≡ position.old + 1 }
+{
+    logs.truncate(*position);
+    logs.push_reserved(step);
+    *position += 1;
+}
+
+// The same with the step of the compacted log.
+fn add_log(logs: &mut Vec<Step>, position: &mut usize, log: Log)
+    requires within { position.old ≤ length logs.old.items }
+    requires room { length logs.old.items < vec_capacity logs.old }
+    ensures logs { AddsStep (take position.old logs.old.items) log logs.new.items }
+    ensures position { position.new ≡ position.old + 1 }
+{
+    add(logs, position, Step::of(log));
 }

@@ -12,8 +12,7 @@ use Rattle.session_history.specs.Modules.{GivesProgram}
 use Rattle.session_history.specs.Applying.{ReadsAsStrategy, resolved_in}
 use Rattle.session_history.specs.History.{History}
 use Rattle.session_history.specs.Acts.{Located, Resolving}
-use Rattle.session_history.specs.Unfolded.{IsPlaceOf}
-use Rattle.session_history.specs.declared.timeline.Timeline.{Timeline}
+use Rattle.session_history.specs.Unfolded.{Logged, IsPlaceOf}
 use Rattle.session_history.specs.declared.refusal.Refusal.{Refusal}
 use Rattle.session_history.specs.declared.refusal.Refusal.TheVariants as refusals
 use Rattle.strategy_run.specs.declared.planning.Planned.{Planned}
@@ -21,7 +20,7 @@ use Rattle.strategy_run.specs.declared.planning.Planned.TheVariants.{Replaced, F
 
 -- The name's tree is in the slot and has a subterm at the path, and the text is resolved to this
 -- strategy in the program of the modules, which is cached.
-pub record ResolvesTo (ps : List Signature) (t : Timeline) (name path text : List ℕ) (cached : Option Program) (slot : ℕ) (whole : Resolved) : Type 0 where
+pub record ResolvesTo (ps : List Signature) (t : Logged) (name path text : List ℕ) (cached : Option Program) (slot : ℕ) (whole : Resolved) : Type 0 where
   pub there : IsPlaceOf t.store name path slot
   pub strategy : Strategy
   pub reads : ReadsAsStrategy text (Ok strategy)

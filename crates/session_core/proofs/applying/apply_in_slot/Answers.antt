@@ -20,7 +20,7 @@ plan_in_group-requires-clause-places g c =
     let s = c.args.timeline.now.store in
     let path = c.args.path.now in
     let part = c.in-Some-at.part.now in
-    let there : content s.trees c.args.slot ≡ Some c.in-Some.tree.now = sym c.tree.ensures ∙ ap (λ o. option_copied o) c.in-Some.is in
+    let there : content s.trees c.args.slot ≡ Some c.in-Some.tree.now = sym (rw c.store.ensures at c.tree.ensures) ∙ ap (λ o. option_copied o) c.in-Some.is in
     let here : at c.in-Some.tree.now path ≡ Some part = sym c.at.ensures ∙ ap (λ o. option_copied o) c.in-Some-at.is in
     let plan = planned_there (λ (ps : Edits) (plan : List Entry). plan ≡ entries_at c.args.slot (behind path ps)) part c.args.steps (run_whole W (length path) c.args.strategy.now c.args.steps part) c.plan_entries-planned.result c.in_ok-plan.plan c.in_ok-plan.field-0-1 c.plan_entries-planned.ensures (sym c.in_ok-plan.ensures) in
     fits_in W s c.args.slot path c.args.strategy.now c.args.steps c.in-Some.tree.now part there here plan.0 c.in_ok-plan.plan c.in_ok-plan.field-0-1 plan.1 plan.2
@@ -37,7 +37,7 @@ returns-then-in_group-clause-made g c =
     let s = c.args.timeline.now.store in
     let path = c.args.path.now in
     let part = c.in-Some-at.part.now in
-    let there : content s.trees c.args.slot ≡ Some c.in-Some.tree.now = sym c.tree.ensures ∙ ap (λ o. option_copied o) c.in-Some.is in
+    let there : content s.trees c.args.slot ≡ Some c.in-Some.tree.now = sym (rw c.store.ensures at c.tree.ensures) ∙ ap (λ o. option_copied o) c.in-Some.is in
     let here : at c.in-Some.tree.now path ≡ Some part = sym c.at.ensures ∙ ap (λ o. option_copied o) c.in-Some-at.is in
     let plan = planned_there (λ (ps : Edits) (plan : List Entry). plan ≡ entries_at c.args.slot (behind path ps)) part c.args.steps (run_whole W (length path) c.args.strategy.now c.args.steps part) c.plan_entries-planned.result c.in_ok-plan.plan c.in_ok-plan.field-0-1 c.plan_entries-planned.ensures (sym c.in_ok-plan.ensures) in
     gives_in W s c.args.slot path c.args.strategy.now c.args.steps c.in-Some.tree.now part there here plan.0 c.in_ok-plan.plan c.in_ok-plan.field-0-1 c.plan_in_group.new.self.store plan.1 plan.2 c.in_ok-plan_in_group.ensures.store
@@ -49,7 +49,7 @@ patch_as_step-requires-clause-places g c =
     let path = c.args.path.now in
     let part = c.in-Some-at.part.now in
     let copy = c.in-Ok.place.items in
-    let there : content s.trees c.args.slot ≡ Some c.in-Some.tree.now = sym c.tree.ensures ∙ ap (λ o. option_copied o) c.in-Some.is in
+    let there : content s.trees c.args.slot ≡ Some c.in-Some.tree.now = sym (rw c.store.ensures at c.tree.ensures) ∙ ap (λ o. option_copied o) c.in-Some.is in
     let here : at c.in-Some.tree.now path ≡ Some part = sym c.at.ensures ∙ ap (λ o. option_copied o) c.in-Some-at.is in
     let plan = planned_there (λ (ps : Edits) (patch : Change). places patch ≡ ps) part c.args.steps (run_whole W (length path) c.args.strategy.now c.args.steps part) c.plan_patch-planned.result c.in_ok-patch.patch c.in_ok-patch.field-0-1
     (subst (λ (level : ℕ). IfOk c.plan_patch-planned.result (Plans (λ (ps : Edits) (patch : Change). places patch ≡ ps) part c.args.steps (run_whole W level c.args.strategy.now c.args.steps part))) c.len-level.ensures c.plan_patch-planned.ensures) (sym c.in_ok-patch.ensures) in
@@ -69,7 +69,7 @@ returns-clause-made g c =
     let path = c.args.path.now in
     let part = c.in-Some-at.part.now in
     let copy = c.in-Ok.place.items in
-    let there : content s.trees c.args.slot ≡ Some c.in-Some.tree.now = sym c.tree.ensures ∙ ap (λ o. option_copied o) c.in-Some.is in
+    let there : content s.trees c.args.slot ≡ Some c.in-Some.tree.now = sym (rw c.store.ensures at c.tree.ensures) ∙ ap (λ o. option_copied o) c.in-Some.is in
     let here : at c.in-Some.tree.now path ≡ Some part = sym c.at.ensures ∙ ap (λ o. option_copied o) c.in-Some-at.is in
     let plan = planned_there (λ (ps : Edits) (patch : Change). places patch ≡ ps) part c.args.steps (run_whole W (length path) c.args.strategy.now c.args.steps part) c.plan_patch-planned.result c.in_ok-patch.patch c.in_ok-patch.field-0-1
     (subst (λ (level : ℕ). IfOk c.plan_patch-planned.result (Plans (λ (ps : Edits) (patch : Change). places patch ≡ ps) part c.args.steps (run_whole W level c.args.strategy.now c.args.steps part))) c.len-level.ensures c.plan_patch-planned.ensures) (sym c.in_ok-patch.ensures) in

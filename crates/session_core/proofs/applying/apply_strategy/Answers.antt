@@ -1,18 +1,17 @@
 use Rattle.std.proofs.Common.{refl}
 use Rattle.session_history.specs.Modules.{program_in}
 use Rattle.session_core.proofs.ResolveLemmas.{is_low}
-use Rattle.session_core.proofs.ApplyLemmas.{apply_ok, apply_refused}
+use Rattle.session_core.proofs.ApplyLemmas.{apply_unresolved, apply_performs}
 use Rattle.session_core.proofs.applying.apply_strategy.Goals as goal
 
 pub apply_in_slot-outcome-requires-clause-low : goal.apply_in_slot-outcome-requires-clause-low
 apply_in_slot-outcome-requires-clause-low g c = is_low c.args.timeline.now c.args.name.now c.args.path.now c.in-Ok.found.0 c.in-Ok.ensures.ok.there c.requires.formed c.args.timeline.now.store refl
 
-pub returns-clause-ok : goal.returns-clause-ok
-returns-clause-ok g c =
-    apply_ok g.M.Meaning.meaning c.args.primitives.now c.args.timeline.now c.args.name.now c.args.path.now c.args.text.now c.args.steps (program_in c.resolve_at.new.kept) c.in-Ok.found.0 c.in-Ok.found.1 c.in-Ok.ensures.ok
-    c.in-Some.checked.now c.in-Some.ensures c.apply_in_slot-outcome.result c.apply_in_slot-outcome.new.timeline c.apply_in_slot-outcome.ensures.made c.apply_in_slot-outcome.ensures.ok
+pub returns-in-Err-clause-performs : goal.returns-in-Err-clause-performs
+returns-in-Err-clause-performs g c =
+    apply_unresolved g.M.Meaning.meaning c.args.primitives.now c.args.timeline.now c.args.name.now c.args.path.now c.args.text.now c.args.steps c.in-Err.refusal c.in-Err.ensures.refused
 
-pub returns-clause-refused : goal.returns-clause-refused
-returns-clause-refused g c =
-    apply_refused g.M.Meaning.meaning c.args.primitives.now c.args.timeline.now c.args.name.now c.args.path.now c.args.text.now c.args.steps (program_in c.resolve_at.new.kept) c.in-Ok.found.0 c.in-Ok.found.1 c.in-Ok.ensures.ok
-    c.in-Some.checked.now c.in-Some.ensures c.apply_in_slot-outcome.result c.apply_in_slot-outcome.new.timeline c.apply_in_slot-outcome.ensures.refused
+pub returns-clause-performs : goal.returns-clause-performs
+returns-clause-performs g c =
+    apply_performs g.M.Meaning.meaning c.args.primitives.now c.args.timeline.now c.args.name.now c.args.path.now c.args.text.now c.args.steps (program_in c.resolve_at.new.kept) c.in-Ok.found.0 c.in-Ok.found.1 c.in-Ok.ensures.ok
+    c.in-Some.checked.now c.in-Some.ensures c.apply_in_slot-outcome.result c.apply_in_slot-outcome.new.timeline c.apply_in_slot-outcome.ensures.made c.apply_in_slot-outcome.ensures.ok c.apply_in_slot-outcome.ensures.refused c.apply_in_slot-outcome.ensures.err

@@ -1,4 +1,4 @@
-use Rattle.std.proofs.Common.{refl, sym, ap, subst, ◌∙◌, ◌++◌, ◌∷◌, [], Ok, Err}
+use Rattle.std.proofs.Common.{refl, sym, ap, subst, ◌∙◌, ◌++◌, ◌∷◌, [], Err}
 use Rattle.term_changes.specs.Slots.{contents}
 use Rattle.session_history.specs.inside.Keeping.{AreGiven}
 use Rattle.session_history.proofs.CheckLemmas.{text_there, text_missing, named_refused}

@@ -1,28 +1,28 @@
-use Rattle.std.proofs.Common.{sym, subst, ◌∙◌}
+use Rattle.std.proofs.Common.{subst, sym}
 use Rattle.session_history.specs.History.{HasSoundContents}
-use Rattle.session_history.specs.Acts.{abandon}
-use Rattle.session_history.proofs.ActLemmas.{on_err, stepped_sound, kept_same}
+use Rattle.session_history.specs.Acts.{abandon, PerformsSurely}
+use Rattle.session_history.proofs.SoundLemmas.{step_sound}
+use Rattle.session_history.proofs.ActLemmas.{kept_same, surely_again, surely_passed}
 use Rattle.session_core.proofs.session.Session.abandon.Goals as goal
 
 pub invariant_of-self : goal.invariant_of-self
-invariant_of-self g c = (
-  c.abandon.ensures.placed,
-  subst HasSoundContents (sym (c.in_err-texts.ensures.err c.self.inside.primitives)) c.self.invariant.1,
-  kept_same c.self.inside.primitives c.self.inside.timeline c.abandon.new.self c.self.inside.kept (c.in_err-texts.ensures.err c.self.inside.primitives) c.self.invariant.2,
-)
+invariant_of-self g c =
+    let same = (c.in_err-texts.ensures.performs c.self.inside.primitives).err in (
+      subst HasSoundContents (sym same) c.self.invariant.0,
+      kept_same c.self.inside.primitives c.self.inside.timeline c.abandon.new.self c.self.inside.kept same c.self.invariant.1,
+    )
 
-pub returns-in_err-texts-clause-err : goal.returns-in_err-texts-clause-err
-returns-in_err-texts-clause-err g c = on_err c.from_residual.result (c.in_err-texts.ensures.err c.self.inside.primitives ∙ c.self.view_is)
-
-pub returns-in_err-texts-clause-sound : goal.returns-in_err-texts-clause-sound
-returns-in_err-texts-clause-sound g c = subst HasSoundContents (sym (c.in_err-texts.ensures.err c.self.inside.primitives)) c.self.invariant.1
+pub returns-in_err-texts : goal.returns-in_err-texts
+returns-in_err-texts g c =
+    subst (λ h. PerformsSurely abandon h _ c.from_residual.result) c.self.view_is
+    (surely_passed abandon _ _ _ c.from_residual.result c.from_residual.ensures.1 (c.in_err-texts.ensures.performs c.self.inside.primitives))
 
 pub invariant_of-self-2 : goal.invariant_of-self-2
 invariant_of-self-2 g c = (
-  c.abandon.ensures.placed,
-  stepped_sound abandon c.abandon.result c.self.inside.primitives c.self.inside.timeline c.abandon.new.self c.args.self.now c.self.view_is tt c.in_ok-texts.ensures.ok c.self.invariant.1,
-  c.note.ensures c.self.inside.primitives c.self.inside.timeline.store c.in_ok-texts.ensures.texts c.self.invariant.2,
+  step_sound abandon _ _ tt c.self.invariant.0 (c.in_ok-texts.ensures.performs c.self.inside.primitives).ok,
+  rw c.store.ensures at (c.note.ensures c.self.inside.primitives c.self.inside.timeline.store (rw (← c.store.ensures) at c.in_ok-texts.ensures.texts) c.self.invariant.1),
 )
 
-pub returns-clause-sound : goal.returns-clause-sound
-returns-clause-sound g c = stepped_sound abandon c.abandon.result c.self.inside.primitives c.self.inside.timeline c.abandon.new.self c.args.self.now c.self.view_is tt c.in_ok-texts.ensures.ok c.self.invariant.1
+pub returns : goal.returns
+returns g c =
+    subst (λ h. PerformsSurely abandon h _ _) c.self.view_is (surely_again abandon _ _ c.in_ok-texts.texts tt (c.in_ok-texts.ensures.performs c.self.inside.primitives))

@@ -1,22 +1,16 @@
-use Rattle.session_history.specs.Acts.{annotate}
-use Rattle.session_history.proofs.ActLemmas.{ok_seen, refused_seen, err_seen, sound_seen, kept_seen}
+use Rattle.std.proofs.Common.{subst}
+use Rattle.session_history.specs.Acts.{annotate, Performs}
+use Rattle.session_history.proofs.SoundLemmas.{act_sound}
+use Rattle.session_history.proofs.ActLemmas.{kept_by}
 use Rattle.session_core.proofs.session.Session.annotate.Goals as goal
 
 pub invariant_of-self : goal.invariant_of-self
-invariant_of-self g c = (
-  c.annotate.ensures.placed,
-  sound_seen (annotate c.args.name.now c.args.path.now c.args.annotations.items) c.annotate.result c.self.inside.primitives c.self.inside.timeline c.annotate.new.self c.args.self.now c.self.view_is tt c.annotate.ensures.ok c.annotate.ensures.err c.self.invariant.1,
-  kept_seen c.self.inside.primitives c.self.inside.timeline c.annotate.new.self c.self.inside.kept (annotate c.args.name.now c.args.path.now c.args.annotations.items) c.annotate.result tt c.annotate.ensures.ok c.annotate.ensures.err c.self.invariant.2,
-)
+invariant_of-self g c =
+    let act = annotate c.args.name.now c.args.path.now c.args.annotations.items in
+    let p = c.annotate.ensures c.self.inside.primitives in (
+      act_sound act c.annotate.result _ _ tt p.ok p.err c.self.invariant.0,
+      kept_by c.self.inside.primitives c.self.inside.timeline c.annotate.new.self c.self.inside.kept act c.annotate.result tt p.ok p.err c.self.invariant.1,
+    )
 
-pub returns-clause-ok : goal.returns-clause-ok
-returns-clause-ok g c = ok_seen (annotate c.args.name.now c.args.path.now c.args.annotations.items) c.annotate.result c.self.inside.primitives c.self.inside.timeline c.annotate.new.self c.args.self.now c.self.view_is c.annotate.ensures.ok
-
-pub returns-clause-refused : goal.returns-clause-refused
-returns-clause-refused g c = refused_seen (annotate c.args.name.now c.args.path.now c.args.annotations.items) c.annotate.result c.self.inside.primitives c.self.inside.timeline c.annotate.new.self c.args.self.now c.self.view_is c.annotate.ensures.refused
-
-pub returns-clause-err : goal.returns-clause-err
-returns-clause-err g c = err_seen (annotate c.args.name.now c.args.path.now c.args.annotations.items) c.annotate.result c.self.inside.primitives c.self.inside.timeline c.annotate.new.self c.args.self.now c.self.view_is c.annotate.ensures.err
-
-pub returns-clause-sound : goal.returns-clause-sound
-returns-clause-sound g c = sound_seen (annotate c.args.name.now c.args.path.now c.args.annotations.items) c.annotate.result c.self.inside.primitives c.self.inside.timeline c.annotate.new.self c.args.self.now c.self.view_is tt c.annotate.ensures.ok c.annotate.ensures.err c.self.invariant.1
+pub returns : goal.returns
+returns g c = subst (λ h. Performs (annotate c.args.name.now c.args.path.now c.args.annotations.items) h _ c.annotate.result) c.self.view_is (c.annotate.ensures c.self.inside.primitives)

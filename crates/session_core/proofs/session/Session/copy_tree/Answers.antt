@@ -1,22 +1,16 @@
-use Rattle.session_history.specs.Acts.{copy_tree}
-use Rattle.session_history.proofs.ActLemmas.{ok_seen, refused_seen, err_seen, sound_seen, kept_seen}
+use Rattle.std.proofs.Common.{subst}
+use Rattle.session_history.specs.Acts.{copy_tree, Performs}
+use Rattle.session_history.proofs.SoundLemmas.{act_sound}
+use Rattle.session_history.proofs.ActLemmas.{kept_by}
 use Rattle.session_core.proofs.session.Session.copy_tree.Goals as goal
 
 pub invariant_of-self : goal.invariant_of-self
-invariant_of-self g c = (
-  c.copy_tree.ensures.placed,
-  sound_seen (copy_tree c.args.name.now c.args.copy.now) c.copy_tree.result c.self.inside.primitives c.self.inside.timeline c.copy_tree.new.self c.args.self.now c.self.view_is tt c.copy_tree.ensures.ok c.copy_tree.ensures.err c.self.invariant.1,
-  kept_seen c.self.inside.primitives c.self.inside.timeline c.copy_tree.new.self c.self.inside.kept (copy_tree c.args.name.now c.args.copy.now) c.copy_tree.result tt c.copy_tree.ensures.ok c.copy_tree.ensures.err c.self.invariant.2,
-)
+invariant_of-self g c =
+    let act = copy_tree c.args.name.now c.args.copy.now in
+    let p = c.copy_tree.ensures c.self.inside.primitives in (
+      act_sound act c.copy_tree.result _ _ tt p.ok p.err c.self.invariant.0,
+      kept_by c.self.inside.primitives c.self.inside.timeline c.copy_tree.new.self c.self.inside.kept act c.copy_tree.result tt p.ok p.err c.self.invariant.1,
+    )
 
-pub returns-clause-ok : goal.returns-clause-ok
-returns-clause-ok g c = ok_seen (copy_tree c.args.name.now c.args.copy.now) c.copy_tree.result c.self.inside.primitives c.self.inside.timeline c.copy_tree.new.self c.args.self.now c.self.view_is c.copy_tree.ensures.ok
-
-pub returns-clause-refused : goal.returns-clause-refused
-returns-clause-refused g c = refused_seen (copy_tree c.args.name.now c.args.copy.now) c.copy_tree.result c.self.inside.primitives c.self.inside.timeline c.copy_tree.new.self c.args.self.now c.self.view_is c.copy_tree.ensures.refused
-
-pub returns-clause-err : goal.returns-clause-err
-returns-clause-err g c = err_seen (copy_tree c.args.name.now c.args.copy.now) c.copy_tree.result c.self.inside.primitives c.self.inside.timeline c.copy_tree.new.self c.args.self.now c.self.view_is c.copy_tree.ensures.err
-
-pub returns-clause-sound : goal.returns-clause-sound
-returns-clause-sound g c = sound_seen (copy_tree c.args.name.now c.args.copy.now) c.copy_tree.result c.self.inside.primitives c.self.inside.timeline c.copy_tree.new.self c.args.self.now c.self.view_is tt c.copy_tree.ensures.ok c.copy_tree.ensures.err c.self.invariant.1
+pub returns : goal.returns
+returns g c = subst (λ h. Performs (copy_tree c.args.name.now c.args.copy.now) h _ c.copy_tree.result) c.self.view_is (c.copy_tree.ensures c.self.inside.primitives)

@@ -6,13 +6,9 @@ use Rattle.session_core.proofs.session.Session.new.Goals as goal
 
 pub invariant_of-result : goal.invariant_of-result
 invariant_of-result g c = (
-  c.new.ensures.placed,
-  subst HasSoundContents (sym (c.new.ensures.value c.args.primitives)) (tt, sound_no_contents c.args.primitives, tt),
+  subst HasSoundContents (sym (c.new.ensures c.args.primitives)) (tt, sound_no_contents c.args.primitives, tt),
   c.new-2.ensures c.args.primitives (contents c.new.result.store).modules,
 )
 
-pub returns-clause-value : goal.returns-clause-value
-returns-clause-value g c = c.new.ensures.value c.args.primitives
-
-pub returns-clause-sound : goal.returns-clause-sound
-returns-clause-sound g c = subst HasSoundContents (sym (c.new.ensures.value c.args.primitives)) (tt, sound_no_contents c.args.primitives, tt)
+pub returns : goal.returns
+returns g c = c.new.ensures c.args.primitives

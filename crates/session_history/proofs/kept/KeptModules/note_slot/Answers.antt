@@ -1,4 +1,4 @@
-use Rattle.std.proofs.Common.{sym, ap, ◌∙◌}
+use Rattle.std.proofs.Common.{sym}
 use Rattle.term_changes.specs.Slots.{contents}
 use Rattle.session_history.proofs.KeepingLemmas.{slot_same_but}
 use Rattle.session_history.proofs.KeptLemmas.{kept_several, labelled}

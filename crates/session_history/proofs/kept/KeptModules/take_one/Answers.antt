@@ -1,4 +1,4 @@
-use Rattle.std.proofs.Common.{sym, ap, subst, ◌∙◌, IfSome}
+use Rattle.std.proofs.Common.{sym, subst, ◌∙◌, IfSome}
 use Rattle.session_history.specs.Modules.{IsKeptFor, SameBut}
 use Rattle.session_history.proofs.KeptLemmas.{label_is, one_kept}
 use Rattle.session_history.proofs.kept.KeptModules.take_one.Goals as goal

@@ -1,21 +1,28 @@
-use Rattle.std.proofs.Common.{sym, ap, ◌∙◌, ◌-◌, Some, set, arith}
-use Rattle.std.specs.Vec.{with_item}
+use Rattle.std.proofs.Common.{ap, sym, ◌∙◌, ◌-◌, Some, set, arith}
 use Rattle.std.proofs.lemmas.Option.{slice_get-get_or}
+use Rattle.session_history.specs.History.{step_back}
+use Rattle.session_history.specs.Unfolded.{Logged, unfolded}
+use Rattle.session_history.specs.inside.View.{logged}
 use Rattle.session_history.proofs.PlaceLemmas.{placed_back, unfolded_back}
 use Rattle.session_history.proofs.TextLemmas.{changed_back}
 use Rattle.session_history.proofs.timeline.Timeline.back.Goals as goal
 
-pub returns-clause-placed : goal.returns-clause-placed
-returns-clause-placed c =
-    placed_back c.args.self.now (c.args.self.now.position - 1) c.flip_back.new.store (with_item c.args.self.now.logs (c.args.self.now.position - 1) c.flip_back.new.self) c.index_mut-step.result.now c.requires.outside (omega (arith, c.requires.some, c.requires.placed.within))
-    (slice_get-get_or c.args.self.now.logs.items (c.args.self.now.position - 1) c.index_mut-step.result.now (omega (arith, c.requires.some, c.requires.placed.within)) ∙ ap Some (sym c.index_mut-step.ensures.value)) c.requires.placed
-    (omega (arith, c.requires.some)) c.flip_back.ensures.store (ap (set c.args.self.now.logs.items (c.args.self.now.position - 1)) c.flip_back.ensures.step)
+pub invariant_of-self : goal.invariant_of-self
+invariant_of-self c =
+    let t = logged c.self.inside in
+    let some = rw (← c.self.view_is) at c.requires.some in
+    placed_back t (t.position - 1) c.flip_back.new.store (set t.logs (t.position - 1) c.flip_back.new.self) c.index_mut-step.result.now (rw (← c.self.view_is) at c.requires.outside) (omega (arith, some, c.self.invariant.within))
+    (slice_get-get_or t.logs (t.position - 1) c.index_mut-step.result.now (omega (arith, some, c.self.invariant.within)) ∙ ap Some (sym c.index_mut-step.ensures.value)) c.self.invariant
+    (omega (arith, some)) c.flip_back.ensures.store (ap (set t.logs (t.position - 1)) c.flip_back.ensures.step)
 
-pub returns-clause-value : goal.returns-clause-value
-returns-clause-value c = λ ps.
-    unfolded_back c.args.self.now (c.args.self.now.position - 1) c.flip_back.new.store (with_item c.args.self.now.logs (c.args.self.now.position - 1) c.flip_back.new.self) c.index_mut-step.result.now c.requires.outside (omega (arith, c.requires.some, c.requires.placed.within))
-    (slice_get-get_or c.args.self.now.logs.items (c.args.self.now.position - 1) c.index_mut-step.result.now (omega (arith, c.requires.some, c.requires.placed.within)) ∙ ap Some (sym c.index_mut-step.ensures.value)) c.requires.placed
-    (omega (arith, c.requires.some)) c.flip_back.ensures.store (ap (set c.args.self.now.logs.items (c.args.self.now.position - 1)) c.flip_back.ensures.step) ps
-
-pub returns-clause-texts : goal.returns-clause-texts
-returns-clause-texts c = changed_back c.texts-texts.result c.index_mut-step.result.now c.args.self.now.store c.flip_back.new.store c.texts-texts.ensures c.flip_back.ensures.store
+pub returns-clause-moves : goal.returns-clause-moves
+returns-clause-moves c = record {
+  value = λ ps.
+      let t = logged c.self.inside in
+      let some = rw (← c.self.view_is) at c.requires.some in
+      ap (λ (o : Logged). step_back (unfolded ps o)) (sym c.self.view_is)
+      ∙ unfolded_back t (t.position - 1) c.flip_back.new.store (set t.logs (t.position - 1) c.flip_back.new.self) c.index_mut-step.result.now (rw (← c.self.view_is) at c.requires.outside) (omega (arith, some, c.self.invariant.within))
+      (slice_get-get_or t.logs (t.position - 1) c.index_mut-step.result.now (omega (arith, some, c.self.invariant.within)) ∙ ap Some (sym c.index_mut-step.ensures.value)) c.self.invariant
+      (omega (arith, some)) c.flip_back.ensures.store (ap (set t.logs (t.position - 1)) c.flip_back.ensures.step) ps;
+  texts = rw (← c.self.view_is) (changed_back c.texts-texts.result c.index_mut-step.result.now c.self.inside.store c.flip_back.new.store c.texts-texts.ensures c.flip_back.ensures.store);
+}

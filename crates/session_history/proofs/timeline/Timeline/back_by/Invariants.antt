@@ -2,13 +2,12 @@ use Rattle.std.proofs.Common.{◌≡◌, ◌≤◌, List, None}
 use Rattle.prim_core.specs.Signature.{Signature}
 use Rattle.change_log.specs.Texts.{TextsChange}
 use Rattle.session_history.specs.History.{undone}
-use Rattle.session_history.specs.Unfolded.{unfolded, IsPlaced}
+use Rattle.session_history.specs.Unfolded.{unfolded}
 use Rattle.session_history.proofs.timeline.Timeline.back_by.Given as goal
 
 -- the remaining steps lead where all of them led
 abbrev pub invariant-loop-left : goal.invariant-loop-left
 invariant-loop-left l = record {
-  placed : IsPlaced l.self;
   outside : l.self.group ≡ None;
   enough : l.left ≤ l.self.position;
   value : (ps : List Signature) → undone l.steps (unfolded ps l.initial.self) ≡ undone l.left (unfolded ps l.self);

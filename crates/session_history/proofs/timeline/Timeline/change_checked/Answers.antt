@@ -1,46 +1,35 @@
-use Rattle.std.proofs.Common.{sym, ap, subst, ◌∙◌, ◌++◌, ◌+◌, ◌∷◌, [], take}
+use Rattle.std.proofs.Common.{sym, ap, subst, ◌∙◌, ◌++◌, ◌∷◌, [], take}
 use Rattle.term_changes.specs.Entries.{put, found}
 use Rattle.term_changes.specs.Slots.{Store, contents}
 use Rattle.session_history.specs.History.{History, changed}
 use Rattle.session_history.specs.Modules.{AreRefused, SameBut}
-use Rattle.session_history.specs.Unfolded.{unfolded, IsPlaced}
+use Rattle.session_history.specs.Unfolded.{Logged, unfolded}
 use Rattle.session_history.specs.inside.Adding.{AddsStep}
+use Rattle.session_history.specs.inside.View.{logged}
 use Rattle.session_history.proofs.KeepingLemmas.{same_but_sym}
-use Rattle.session_history.proofs.PlaceLemmas.{adds_one, many_placed, many_unfolded, same_timeline, rolled_placed, rolled_unfolded}
+use Rattle.session_history.proofs.PlaceLemmas.{adds_one, many_placed, many_unfolded, rolled_placed, rolled_unfolded}
 use Rattle.session_history.proofs.timeline.Timeline.change_checked.Goals as goal
-
-pub returns-in-Ok-keep_modules-clause-placed : goal.returns-in-Ok-keep_modules-clause-placed
-returns-in-Ok-keep_modules-clause-placed g c =
-    let t = c.args.self.now in
-    subst IsPlaced (sym (same_timeline c.add_step.new.self c.push.new.store (t.position + 1) t.group t.current c.add_step.ensures.store c.add_step.ensures.position c.add_step.ensures.group c.add_step.ensures.current))
-    (many_placed t c.push.new.store c.add_step.new.self.logs c.push.new.self c.new-log.result c.requires.outside c.new-log.ensures
-    (adds_one c.args.entry t.store c.push.new.store c.new-log.result c.push.new.self c.requires.place c.in_ok-push.ensures.store c.in_ok-push.ensures.log)
-    (subst (λ l. AddsStep (take t.position l) c.push.new.self c.add_step.new.self.logs.items) c.in-Ok.ensures.items c.add_step.ensures.logs)
-    c.requires.placed)
 
 pub returns-in-Ok-keep_modules-clause-ok : goal.returns-in-Ok-keep_modules-clause-ok
 returns-in-Ok-keep_modules-clause-ok g c =
-    let t = c.args.self.now in
+    let t = logged c.self.inside in
     let ps = c.args.primitives.now in
-    ap (unfolded ps) (same_timeline c.add_step.new.self c.push.new.store (t.position + 1) t.group t.current c.add_step.ensures.store c.add_step.ensures.position c.add_step.ensures.group c.add_step.ensures.current)
-    ∙ many_unfolded t c.push.new.store c.add_step.new.self.logs c.push.new.self c.new-log.result c.requires.outside c.new-log.ensures
-    (adds_one c.args.entry t.store c.push.new.store c.new-log.result c.push.new.self c.requires.place c.in_ok-push.ensures.store c.in_ok-push.ensures.log)
-    (subst (λ l. AddsStep (take t.position l) c.push.new.self c.add_step.new.self.logs.items) c.in-Ok.ensures.items c.add_step.ensures.logs)
-    c.requires.placed ps
+    many_unfolded t c.push.new.store c.add_log.new.logs.items c.push.new.self c.new-log.result (rw (← c.self.view_is) at c.requires.outside) c.new-log.ensures
+    (adds_one c.args.entry t.store c.push.new.store c.new-log.result c.push.new.self (rw (← c.self.view_is) at c.requires.place) c.in_ok-push.ensures.store c.in_ok-push.ensures.log)
+    (subst (λ l. AddsStep (take t.position l) c.push.new.self c.add_log.new.logs.items) c.in-Ok.ensures.items c.add_log.ensures.logs)
+    _ c.add_log.ensures.position c.self.invariant ps
     ∙ ap (λ (s : Store). changed (contents s) (unfolded ps t)) c.in_ok-push.ensures.store
-
-pub returns-in-Err-clause-placed : goal.returns-in-Err-clause-placed
-returns-in-Err-clause-placed g c =
-    rolled_placed c.args.self.now c.args.entry c.push.new.store c.roll_back.new.store c.reserve.new.self c.push.new.self c.in_ok-push.ensures.store
-    (c.in_ok-push.ensures.log ∙ ap (λ l. l ++ found c.args.entry c.args.self.now.store ∷ []) c.new-log.ensures) c.roll_back.ensures.store c.in-Ok.ensures.items c.requires.placed
+    ∙ ap (λ (o : Logged). changed (contents (put c.args.entry o.store)) (unfolded ps o)) c.self.view_is
 
 pub returns-in-Err-clause-err : goal.returns-in-Err-clause-err
 returns-in-Err-clause-err g c =
-    rolled_unfolded c.args.self.now c.args.entry c.push.new.store c.roll_back.new.store c.reserve.new.self c.push.new.self c.in_ok-push.ensures.store
-    (c.in_ok-push.ensures.log ∙ ap (λ l. l ++ found c.args.entry c.args.self.now.store ∷ []) c.new-log.ensures) c.roll_back.ensures.store c.in-Ok.ensures.items c.requires.placed c.args.primitives.now
+    let t = logged c.self.inside in
+    rolled_unfolded t c.args.entry c.push.new.store c.roll_back.new.store c.reserve.new.self.items c.push.new.self c.in_ok-push.ensures.store
+    (c.in_ok-push.ensures.log ∙ ap (λ l. l ++ found c.args.entry t.store ∷ []) c.new-log.ensures) c.roll_back.ensures.store c.in-Ok.ensures.items c.self.invariant c.args.primitives.now
+    ∙ ap (unfolded c.args.primitives.now) c.self.view_is
 
 pub returns-in-Err-clause-refused : goal.returns-in-Err-clause-refused
-returns-in-Err-clause-refused g c = subst (λ (s : Store). AreRefused c.args.primitives.now (contents s).modules c.in-Err.refusal) c.in_ok-push.ensures.store c.in-Err.ensures.refused
+returns-in-Err-clause-refused g c = rw (← c.self.view_is) (subst (λ (s : Store). AreRefused c.args.primitives.now (contents s).modules c.in-Err.refusal) c.in_ok-push.ensures.store c.in-Err.ensures.refused)
 
 pub returns-in-Err-clause-kept : goal.returns-in-Err-clause-kept
 returns-in-Err-clause-kept g c =
@@ -48,7 +37,21 @@ returns-in-Err-clause-kept g c =
     let before = (contents c.args.self.now.store).modules in
     let after = (contents (put c.args.entry c.args.self.now.store)).modules in
     let back = ap (λ (h : History). h.now.modules) (returns-in-Err-clause-err g c) in
-    let mid = ap (λ (s : Store). (contents s).modules) c.in_ok-push.ensures.store in
+    let mid = ap (λ (s : Store). (contents s).modules) c.in_ok-push.ensures.store ∙ ap (λ (o : Logged). (contents (put c.args.entry o.store)).modules) c.self.view_is in
     c.note_name-in-Err.ensures c.args.primitives.now (contents c.push.new.store).modules (contents c.roll_back.new.store).modules
     (subst (λ texts. SameBut name texts (contents c.roll_back.new.store).modules) (sym mid) (subst (SameBut name after) (sym back) (same_but_sym name before after c.requires.one)))
     c.in-Err.ensures.kept
+
+pub invariant_of-self-in-Ok-keep_modules : goal.invariant_of-self-in-Ok-keep_modules
+invariant_of-self-in-Ok-keep_modules g c =
+    let t = logged c.self.inside in
+    many_placed t c.push.new.store c.add_log.new.logs.items c.push.new.self c.new-log.result (rw (← c.self.view_is) at c.requires.outside) c.new-log.ensures
+    (adds_one c.args.entry t.store c.push.new.store c.new-log.result c.push.new.self (rw (← c.self.view_is) at c.requires.place) c.in_ok-push.ensures.store c.in_ok-push.ensures.log)
+    (subst (λ l. AddsStep (take t.position l) c.push.new.self c.add_log.new.logs.items) c.in-Ok.ensures.items c.add_log.ensures.logs)
+    _ c.add_log.ensures.position c.self.invariant
+
+pub invariant_of-self-in-Err-keep_modules : goal.invariant_of-self-in-Err-keep_modules
+invariant_of-self-in-Err-keep_modules g c =
+    let t = logged c.self.inside in
+    rolled_placed t c.args.entry c.push.new.store c.roll_back.new.store c.reserve.new.self.items c.push.new.self c.in_ok-push.ensures.store
+    (c.in_ok-push.ensures.log ∙ ap (λ l. l ++ found c.args.entry t.store ∷ []) c.new-log.ensures) c.roll_back.ensures.store c.in-Ok.ensures.items c.self.invariant

@@ -1,21 +1,28 @@
-use Rattle.std.proofs.Common.{refl, sym, ap, ◌∙◌, Some, set}
-use Rattle.std.specs.Vec.{with_item}
+use Rattle.std.proofs.Common.{refl, ap, sym, ◌∙◌, Some, set}
 use Rattle.std.proofs.lemmas.Option.{slice_get-get_or}
+use Rattle.session_history.specs.History.{step_forward}
+use Rattle.session_history.specs.Unfolded.{Logged, unfolded}
+use Rattle.session_history.specs.inside.View.{logged}
 use Rattle.session_history.proofs.PlaceLemmas.{placed_forward, unfolded_forward}
 use Rattle.session_history.proofs.TextLemmas.{changed_forward}
 use Rattle.session_history.proofs.timeline.Timeline.forward.Goals as goal
 
-pub returns-clause-placed : goal.returns-clause-placed
-returns-clause-placed c =
-    placed_forward c.args.self.now c.args.self.now.position c.flip_forward.new.store (with_item c.args.self.now.logs c.args.self.now.position c.flip_forward.new.self) c.index_mut-step.result.now c.requires.outside c.requires.some
-    (slice_get-get_or c.args.self.now.logs.items c.args.self.now.position c.index_mut-step.result.now c.requires.some ∙ ap Some (sym c.index_mut-step.ensures.value)) c.requires.placed
-    refl c.flip_forward.ensures.store (ap (set c.args.self.now.logs.items c.args.self.now.position) c.flip_forward.ensures.step)
+pub invariant_of-self : goal.invariant_of-self
+invariant_of-self c =
+    let t = logged c.self.inside in
+    let some = rw (← c.self.view_is) at c.requires.some in
+    placed_forward t t.position c.flip_forward.new.store (set t.logs t.position c.flip_forward.new.self) c.index_mut-step.result.now (rw (← c.self.view_is) at c.requires.outside) some
+    (slice_get-get_or t.logs t.position c.index_mut-step.result.now some ∙ ap Some (sym c.index_mut-step.ensures.value)) c.self.invariant
+    refl c.flip_forward.ensures.store (ap (set t.logs t.position) c.flip_forward.ensures.step)
 
-pub returns-clause-value : goal.returns-clause-value
-returns-clause-value c = λ ps.
-    unfolded_forward c.args.self.now c.args.self.now.position c.flip_forward.new.store (with_item c.args.self.now.logs c.args.self.now.position c.flip_forward.new.self) c.index_mut-step.result.now c.requires.outside c.requires.some
-    (slice_get-get_or c.args.self.now.logs.items c.args.self.now.position c.index_mut-step.result.now c.requires.some ∙ ap Some (sym c.index_mut-step.ensures.value)) c.requires.placed
-    refl c.flip_forward.ensures.store (ap (set c.args.self.now.logs.items c.args.self.now.position) c.flip_forward.ensures.step) ps
-
-pub returns-clause-texts : goal.returns-clause-texts
-returns-clause-texts c = changed_forward c.texts-texts.result c.index_mut-step.result.now c.args.self.now.store c.flip_forward.new.store c.texts-texts.ensures c.flip_forward.ensures.store
+pub returns-clause-moves : goal.returns-clause-moves
+returns-clause-moves c = record {
+  value = λ ps.
+      let t = logged c.self.inside in
+      let some = rw (← c.self.view_is) at c.requires.some in
+      ap (λ (o : Logged). step_forward (unfolded ps o)) (sym c.self.view_is)
+      ∙ unfolded_forward t t.position c.flip_forward.new.store (set t.logs t.position c.flip_forward.new.self) c.index_mut-step.result.now (rw (← c.self.view_is) at c.requires.outside) some
+      (slice_get-get_or t.logs t.position c.index_mut-step.result.now some ∙ ap Some (sym c.index_mut-step.ensures.value)) c.self.invariant
+      refl c.flip_forward.ensures.store (ap (set t.logs t.position) c.flip_forward.ensures.step) ps;
+  texts = rw (← c.self.view_is) (changed_forward c.texts-texts.result c.index_mut-step.result.now c.self.inside.store c.flip_forward.new.store c.texts-texts.ensures c.flip_forward.ensures.store);
+}

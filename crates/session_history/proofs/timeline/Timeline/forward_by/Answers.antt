@@ -6,11 +6,10 @@ use Rattle.session_history.proofs.timeline.Timeline.forward_by.Goals as goal
 
 pub loop-left-preserved : goal.loop-left-preserved
 loop-left-preserved c = record {
-  placed = c.forward.ensures.placed;
   outside = c.forward.ensures.outside;
   enough = omega (arith, c.loop-left.invariant.enough, c.loop-left-test.true, c.forward.ensures.position, c.forward.ensures.count);
   value = λ ps.
       let one_more : c.loop-left.left ≡ suc (c.loop-left.left - 1) = omega (arith, c.loop-left-test.true) in
-      c.loop-left.invariant.value ps ∙ ap (λ n. redone n (unfolded ps c.loop-left.self)) one_more ∙ ap (option_and_then (λ h. redone (c.loop-left.left - 1) h)) (c.forward.ensures.value ps);
-  texts = changed_further c.and-texts.result c.loop-left.texts c.forward.result c.args.self.now.store c.loop-left.self.store c.forward.new.self.store c.and-texts.ensures c.loop-left.invariant.texts c.forward.ensures.texts;
+      c.loop-left.invariant.value ps ∙ ap (λ n. redone n (unfolded ps c.loop-left.self)) one_more ∙ ap (option_and_then (λ h. redone (c.loop-left.left - 1) h)) (c.forward.ensures.moves.value ps);
+  texts = changed_further c.and-texts.result c.loop-left.texts c.forward.result c.args.self.now.store c.loop-left.self.store c.forward.new.self.store c.and-texts.ensures c.loop-left.invariant.texts c.forward.ensures.moves.texts;
 }

@@ -2,15 +2,14 @@ use Rattle.std.proofs.Common.{◌≡◌, ◌≤◌, ◌+◌, List, None, length}
 use Rattle.prim_core.specs.Signature.{Signature}
 use Rattle.change_log.specs.Texts.{TextsChange}
 use Rattle.session_history.specs.History.{redone}
-use Rattle.session_history.specs.Unfolded.{unfolded, IsPlaced}
+use Rattle.session_history.specs.Unfolded.{unfolded}
 use Rattle.session_history.proofs.timeline.Timeline.forward_by.Given as goal
 
 -- the remaining steps lead where all of them led
 abbrev pub invariant-loop-left : goal.invariant-loop-left
 invariant-loop-left l = record {
-  placed : IsPlaced l.self;
   outside : l.self.group ≡ None;
-  enough : l.self.position + l.left ≤ length l.self.logs.items;
+  enough : l.self.position + l.left ≤ length l.self.logs;
   value : (ps : List Signature) → redone l.steps (unfolded ps l.initial.self) ≡ redone l.left (unfolded ps l.self);
   texts : TextsChange l.texts l.initial.self.store l.self.store;
 }

@@ -5,11 +5,11 @@ use Rattle.term_changes.proofs.ContentsLemmas.{module_of_name}
 use Rattle.session_history.proofs.timeline.Timeline.module_text.Goals as goal
 
 pub returns-in_err-slot : goal.returns-in_err-slot
-returns-in_err-slot c =
+returns-in_err-slot c = rw (← c.self.view_is) (
     ap option_copied c.from_residual.ensures
-    ∙ sym (module_of_name c.args.self.now.store c.args.name.now c.find_module.ensures.apart ∙ ap (option_and_then (content c.args.self.now.store.modules)) (sym c.in_err-slot.ensures.slot))
+    ∙ sym (module_of_name c.self.inside.store c.args.name.now c.find_module.ensures.apart ∙ ap (option_and_then (content c.self.inside.store.modules)) (sym c.in_err-slot.ensures.slot)))
 
 pub returns : goal.returns
-returns c =
+returns c = rw (← c.self.view_is) (
     c.«module».ensures
-    ∙ sym (module_of_name c.args.self.now.store c.args.name.now c.find_module.ensures.apart ∙ ap (option_and_then (content c.args.self.now.store.modules)) (sym c.in_ok-slot.ensures.slot))
+    ∙ sym (module_of_name c.self.inside.store c.args.name.now c.find_module.ensures.apart ∙ ap (option_and_then (content c.self.inside.store.modules)) (sym c.in_ok-slot.ensures.slot)))

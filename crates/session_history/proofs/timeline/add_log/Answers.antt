@@ -1,4 +1,4 @@
-use Rattle.session_history.proofs.timeline.Timeline.add_step.Goals as goal
+use Rattle.session_history.proofs.timeline.add_log.Goals as goal
 
 pub returns-clause-logs : goal.returns-clause-logs
 returns-clause-logs c = record {
