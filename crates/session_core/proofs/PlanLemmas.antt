@@ -1,5 +1,5 @@
 -- What was planned for a subterm, in the words of a session.
-use Rattle.std.proofs.Common.{◌≡◌, ◌⊎◌, ◌≤◌, ◌+◌, ℕ, List, length, Some, None, Ok, Err, IfSome, inl, inr, refl, sym, ap, subst, ◌∙◌}
+use Rattle.std.proofs.Common.{◌≡◌, ◌⊎◌, ℕ, List, length, Some, None, Ok, Err, inl, inr, sym, ap, subst, ◌∙◌}
 use Rattle.std.specs.Prelude.{IfOk}
 use Rattle.std.specs.declared.result.Result.{Result}
 use Rattle.term_core.specs.Tree.{Tree}
@@ -12,9 +12,9 @@ use Rattle.term_changes.specs.PatchLaws.{patch_entries}
 use Rattle.term_changes.specs.Slots.{Store, content}
 use Rattle.term_changes.specs.Entries.{Entry, after, FitsForward}
 use Rattle.strategy_syntax.specs.declared.resolved.Resolved.{Resolved}
-use Rattle.strategy_meaning.specs.Answer.{Answer, failed, stopped, spent, big}
+use Rattle.strategy_meaning.specs.Answer.{Answer}
 use Rattle.strategy_meaning.specs.Meaning.{World, run_whole}
-use Rattle.strategy_meaning.specs.Applied.{Outcome, fails, stops, applied}
+use Rattle.strategy_meaning.specs.Applied.{Outcome, applied}
 use Rattle.strategy_run.specs.Applies.{applied_in}
 use Rattle.strategy_run.specs.Planning.{Gives, Plans}
 use Rattle.strategy_run.specs.declared.planning.Planned.{Planned}

@@ -1,32 +1,31 @@
 -- What a run foresees, in the words of a session.
-use Rattle.std.proofs.Common.{◌≡◌, ◌<◌, ◌-◌, ◌⊎◌, ℕ, true, false, List, [], ◌∷◌, ◌++◌, length, map, Option, Some, None, IsSome, Result, Ok, Err, IfOk, IfErr, inl, inr, refl, sym, ap, subst, ◌∙◌, arith}
+use Rattle.std.proofs.Common.{◌≡◌, ◌-◌, ◌⊎◌, ℕ, true, false, List, [], ◌∷◌, ◌++◌, length, map, Option, Some, None, IsSome, Result, Ok, Err, IfOk, IfErr, inl, inr, refl, sym, ap, subst, ◌∙◌, arith}
 use Rattle.std.specs.Prelude.{option_and_then, unwrap_or, is_some}
 use Rattle.prim_core.specs.Signature.{Signature}
 use Rattle.term_core.specs.Tree.{Tree}
-use Rattle.term_paths.specs.Paths.{at, set_at, LiesWithin}
+use Rattle.term_paths.specs.Paths.{at, set_at}
 use Rattle.term_paths.specs.Laws.{AreApart}
-use Rattle.term_paths.specs.Edits.{Edit, Edits, Replaces, behind, edited}
+use Rattle.term_paths.specs.Edits.{Edits, Replaces, behind, edited}
 use Rattle.term_paths.proofs.PathLemmas.{at-append}
 use Rattle.term_paths.proofs.LawLemmas.{set_is_there}
 use Rattle.term_paths.proofs.ApartLemmas.{apart_is_left}
 use Rattle.term_changes.specs.Putting.{ApartFromAll, entries_at}
 use Rattle.term_changes.proofs.OrderLemmas.{left_apart}
-use Rattle.term_changes.specs.Slots.{contents, content}
-use Rattle.term_changes.specs.Entries.{Entry, subterm, subterm_in}
+use Rattle.term_changes.specs.Slots.{contents}
+use Rattle.term_changes.specs.Entries.{subterm, subterm_in}
 use Rattle.strategy_syntax.specs.declared.resolved.Resolved.{Resolved}
 use Rattle.strategy_check.specs.Programs.{Program}
-use Rattle.strategy_meaning.specs.Answer.{Answer, done, failed, stopped}
+use Rattle.strategy_meaning.specs.Answer.{Answer}
 use Rattle.strategy_meaning.specs.Meaning.{run_whole}
-use Rattle.strategy_meaning.specs.Outermost.{IsBefore, IsBeforeAll, AreInOrder, AreOutermost}
-use Rattle.strategy_run.specs.Planning.{Gives}
-use Rattle.session_history.specs.Applying.{Meaning, world_in, stopped_as}
+use Rattle.strategy_meaning.specs.Outermost.{IsBefore, IsBeforeAll, AreInOrder}
+use Rattle.session_history.specs.Applying.{Meaning, world_in}
 use Rattle.session_history.specs.History.{History}
 use Rattle.session_history.specs.Preview.{Replacement, part_at, replacement, Foresees as Shows, ForeseesAt, Previews}
 use Rattle.session_history.specs.Preview as definition
 use Rattle.session_history.specs.Acts.{Located, place_of}
-use Rattle.session_history.specs.Unfolded.{Logged, unfolded, IsPlaceOf}
+use Rattle.session_history.specs.Unfolded.{Logged, unfolded}
 use Rattle.session_history.specs.declared.refusal.Refusal.{Refusal}
-use Rattle.session_history.specs.declared.refusal.Refusal.TheVariants.{Memory, Fails}
+use Rattle.session_history.specs.declared.refusal.Refusal.TheVariants.{Memory}
 use Rattle.session_history.proofs.StepLemmas.{place_there}
 use Rattle.session_history.proofs.ActLemmas.{tree_held, seen_place, the_place}
 use Rattle.session_core.specs.Previewing.{entry_for, AreThere, ShowsPreview, AnswersPreview}

@@ -57,7 +57,7 @@ impl<M: Meaning> Session<M> {
         Session {
             primitives,
             timeline: Timeline::new(alloc),
-            kept: KeptModules::new(),
+            kept: KeptModules::new(alloc),
         }
     }
 

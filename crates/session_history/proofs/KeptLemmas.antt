@@ -8,8 +8,9 @@ use Rattle.strategy_check.specs.Checking.{Checked}
 use Rattle.term_changes.specs.Slots.{Slots, Store, contents, named}
 use Rattle.change_log.specs.Texts.{TextsChange}
 use Rattle.change_log.specs.declared.texts.Texts.TheVariants.{None as NoTexts}
-use Rattle.session_history.specs.Modules.{Texts, AreModules, Differ, SameBut, IsKeptFor, AreCurrent}
+use Rattle.session_history.specs.Modules.{Texts, AreModules, Differ, SameBut, IsKeptFor, IsKept, AreCurrent}
 use Rattle.session_history.specs.inside.Keeping.{AreBut}
+use Rattle.session_history.specs.declared.kept.KeptModules.{KeptModules}
 use Rattle.session_history.specs.declared.kept.Changed.{Changed}
 use Rattle.session_history.specs.declared.kept.Changed.TheVariants.{Nothing, Several}
 
@@ -24,8 +25,8 @@ pub kept_several : (ps : Primitives) (old now : Texts) (o : Option Checked) (bef
 kept_several ps old now o before k = kept_on ps old now o before Several (λ first d. tt) k
 
 -- the texts are the same
-pub kept_still : (ps : Primitives) (old new : Store) (o : Option Checked) (changed : Changed) → TextsChange NoTexts old new → IfSome o (IsKeptFor ps (contents old).modules changed) → IfSome o (IsKeptFor ps (contents new).modules changed)
-kept_still ps old new o changed same k = subst (λ texts. IfSome o (IsKeptFor ps texts changed)) (sym (ap named same)) k
+pub kept_still : (ps : Primitives) (old new : Store) (kept : KeptModules) → TextsChange NoTexts old new → IsKept ps (contents old).modules kept → IsKept ps (contents new).modules kept
+kept_still ps old new kept same k = subst (λ texts. IsKept ps texts kept) (sym (ap named same)) k
 
 -- no text has changed
 pub current_if : (ps : Primitives) (texts : Texts) (o : Option Checked) → is_some o ≡ true → IfSome o (IsKeptFor ps texts Nothing) → IsSomeAnd o (AreCurrent ps texts)

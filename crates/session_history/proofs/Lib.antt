@@ -10,4 +10,5 @@ pub mod ActLemmas
 pub mod PatchLemmas
 pub mod OutermostLemmas
 pub mod KeepingLemmas
+pub mod ReadingLemmas
 pub mod KeptLemmas

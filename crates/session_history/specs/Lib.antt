@@ -4,6 +4,7 @@ pub mod Modules
 pub mod Applying
 pub mod History
 pub mod Unfolded
+pub mod Moving
 pub mod Acts
 pub mod Preview
 pub mod Dump

@@ -3,6 +3,7 @@
 use Rattle.std.specs.Prelude.{◌≡◌, ◌<◌, ◌≤◌, ◌⊎◌, ℕ, List, [], ◌∷◌, length, Some, Ok, Err, IfSome, IsSomeAnd, false, option_map}
 use Rattle.std.specs.declared.option.Option.{Option}
 use Rattle.std.specs.declared.result.Result.{Result}
+use Rattle.std.specs.List.{AllByRecursion}
 use Rattle.std.specs.FinMap as finmap
 use Rattle.std.specs.Ordering.{nat_cmp, eq_by_cmp}
 use Rattle.std.specs.Cmp.Lexicographic.{slice_cmp}
@@ -91,8 +92,17 @@ pub record IsKeptFor (primitives : Primitives) (texts : Texts) (changed : Change
   pub checked : IsChecked primitives c
   pub differ : Differ changed old texts
 
-abbrev pub IsKept : Primitives → Texts → KeptModules → Type 0
-IsKept primitives texts kept = IfSome kept.checked (IsKeptFor primitives texts kept.changed)
+-- A module is what the text of its name is read as.
+abbrev pub IsReadIn : Texts → List ℕ × Module → Type 0
+IsReadIn texts m = IsSomeAnd (finmap.get texts m.0) (λ text. ReadsAsModule text (Ok m.1))
+
+abbrev pub AreReadIn : Texts → Modules → Type 0
+AreReadIn texts ms = AllByRecursion (IsReadIn texts) ms
+
+-- The checked modules are kept so; those that wait for a check are what the texts now are read as.
+pub record IsKept (primitives : Primitives) (texts : Texts) (kept : KeptModules) : Type 0 where
+  pub checked : IfSome kept.checked (IsKeptFor primitives texts kept.changed)
+  pub read : AreReadIn texts kept.read
 
 -- They are those of these texts.
 pub record AreCurrent (primitives : Primitives) (texts : Texts) (c : Checked) : Type 0 where

@@ -2,5 +2,4 @@ pub mod Adding
 pub mod Codes
 pub mod Giving
 pub mod Keeping
-pub mod Moving
 pub mod View

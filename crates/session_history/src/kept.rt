@@ -8,11 +8,12 @@ ghost use Rattle.strategy_check.specs.Checking.{with_modules};
 ghost use Rattle.strategy_check.specs.Tables.{Modules};
 ghost use Rattle.strategy_check.specs.Faults as faults;
 ghost use Rattle.session_history.specs.Modules as modules;
-ghost use Rattle.session_history.specs.Modules.{AreRefused, IsUnread, SameBut, Differ, IsKept, AreCurrent, IsCurrent, program_in};
+ghost use Rattle.session_history.specs.Modules.{AreRefused, IsUnread, SameBut, Differ, IsKept, IsReadIn, AreReadIn, AreCurrent, IsCurrent, program_in};
 ghost use Rattle.session_history.specs.inside.Keeping.{AreBut, AreNamed, with_module};
 
 use crate::Refusal;
-use crate::modules::{check_modules, read_module, with_name};
+use crate::modules::{check_modules, read_once};
+use crate::reading::ReadModules;
 use arrayvec::ArrayVec;
 use change_log::{Store, Texts};
 use prim_core::{Meaning, Primitives};
@@ -27,6 +28,8 @@ use term_core::{Label, LabelFault};
 pub struct KeptModules {
     checked: Option<Checked>,
     changed: Changed,
+    // Modules of texts now, which aren't checked yet.
+    read: ReadModules,
 }
 
 /// Which texts may differ.
@@ -40,12 +43,13 @@ pub enum Changed {
 
 impl KeptModules {
     /// No modules are kept. It takes no memory.
-    pub fn new() -> KeptModules
+    pub fn new(alloc: Global) -> KeptModules
         ensures { (ps : faults.Primitives) (texts : modules.Texts) → IsKept ps texts result }
     {
         KeptModules {
             checked: None,
             changed: Changed::Nothing,
+            read: ReadModules::new(alloc),
         }
     }
 
@@ -68,8 +72,16 @@ impl KeptModules {
         match texts {
             Texts::None => {}
             Texts::One(slot) => self.note_slot(store, slot),
-            Texts::Several => self.changed = Changed::Several,
+            Texts::Several => self.note_all(),
         }
+    }
+
+    fn note_all(&mut self)
+        ensures { (ps : faults.Primitives) (old now : modules.Texts) → IsKept ps old self.old
+            → IsKept ps now self.new }
+    {
+        self.changed = Changed::Several;
+        self.read.clear();
     }
 
     fn note_slot(&mut self, store: &Store, slot: usize)
@@ -79,7 +91,7 @@ impl KeptModules {
     {
         match store.module_name(slot) {
             Some(name) => self.note_name(name),
-            None => self.changed = Changed::Several,
+            None => self.note_all(),
         }
     }
 
@@ -90,6 +102,15 @@ impl KeptModules {
     {
         let changed = changed_by(&self.changed, name);
         self.changed = changed;
+        self.read.forget(name);
+    }
+
+    /// Keeps the module that a text is read as, until the modules are checked.
+    pub fn remember(&mut self, module: NamedModule)
+        ensures { (ps : faults.Primitives) (texts : modules.Texts) → IsReadIn texts «module»
+            → IsKept ps texts self.old → IsKept ps texts self.new }
+    {
+        self.read.add(module);
     }
 
     // Whether they are kept, and no text has changed.
@@ -143,12 +164,13 @@ impl KeptModules {
     {
         self.checked = Some(checked);
         self.changed = Changed::Nothing;
+        self.read.clear();
     }
 
     // Keeps modules from whose texts that of this name differs.
     fn put(&mut self, checked: Checked, name: &Label)
         ensures { (ps : faults.Primitives) (texts : modules.Texts) → AreBut ps name.now texts checked
-            → IsKept ps texts self.new }
+            → IsKept ps texts self.old → IsKept ps texts self.new }
     {
         self.checked = Some(checked);
         self.changed = one(name);
@@ -179,7 +201,7 @@ fn one(name: &Label) -> Changed
 
 /// Reads the one text that may have changed, if that is so, before another changes. If that isn't
 /// possible, no modules are kept.
-pub fn settle<M: Meaning>(
+pub fn catch_up<M: Meaning>(
     alloc: Global,
     store: &Store,
     primitives: &Primitives<M>,
@@ -192,7 +214,7 @@ pub fn settle<M: Meaning>(
         return;
     }
     let Ok(()) = keep_modules(alloc, store, primitives, kept) else {
-        *kept = KeptModules::new();
+        *kept = KeptModules::new(alloc);
         return;
     };
 }
@@ -234,7 +256,7 @@ fn keep_all<M: Meaning>(
         (contents store.now).modules refusal) }
     ensures kept { IsKept primitives.now (contents store.now).modules kept.new }
 {
-    match check_modules(alloc, store, primitives) {
+    match check_modules(alloc, store, primitives, &mut kept.read) {
         Ok(checked) => {
             kept.set(checked);
             Ok(())
@@ -259,7 +281,7 @@ fn keep_one<M: Meaning>(
         (contents store.now).modules refusal) }
     ensures kept { IsKept primitives.now (contents store.now).modules kept.new }
 {
-    let new = match read_new(alloc, store, name) {
+    let new = match read_new(alloc, store, name, &mut kept.read) {
         Ok(new) => new,
         Err(refusal) => {
             kept.put(checked, name);
@@ -281,24 +303,30 @@ fn keep_one<M: Meaning>(
 }
 
 // The module of this name in the store, or none.
-fn read_new(alloc: Global, store: &Store, name: &Label) -> Result<Vec<NamedModule>, Refusal>
+fn read_new(
+    alloc: Global,
+    store: &Store,
+    name: &Label,
+    read: &mut ReadModules,
+) -> Result<Vec<NamedModule>, Refusal>
+    requires { AreReadIn (contents store.now).modules read.old }
     ensures ok { IfOk result (λ new. AreNamed (contents store.now).modules name.now new.items) }
     ensures refused { IfErr result (λ refusal. (refusal ≡ Refusal.Memory)
         ⊎ IsUnread (contents store.now).modules refusal) }
+    ensures left { AreReadIn (contents store.now).modules read.new }
 {
     let mut new = Vec::new(alloc);
     let Some(slot) = store.find_module(name) else {
         return Ok(new);
     };
-    let Some(text) = store.module(slot) else {
+    let Some(_) = store.module(slot) else {
         return Ok(new);
     };
-    let module = match read_module(alloc, text) {
+    let module = match read_once(alloc, store, name, read) {
         Ok(module) => module,
         Err(refusal) => return Err(refusal),
     };
-    let named = with_name(alloc, name, module)?;
-    let Ok(()) = new.push(named) else {
+    let Ok(()) = new.push(module) else {
         return Err(Refusal::Memory);
     };
     Ok(new)

@@ -6,6 +6,7 @@ mod acts;
 mod dump;
 mod kept;
 mod modules;
+mod reading;
 mod refusal;
 mod timeline;
 

@@ -4,10 +4,11 @@ ghost use Rattle.std.specs.Prelude.{◌≡◌, ◌⊎◌, Ok, Err, IfOk, IfErr, 
 ghost use Rattle.std.specs.FinMap as finmap;
 ghost use Rattle.term_changes.specs.Slots.{contents};
 ghost use Rattle.session_history.specs.Acts.{Performs, set_module, unload, commit};
-ghost use Rattle.session_history.specs.Modules.{ReadsAsModule, AreModules, AreReadable, AreRefused, AreCurrent, IsKept, IsUnread};
+ghost use Rattle.session_history.specs.Modules.{ReadsAsModule, AreModules, AreReadable, AreRefused, AreCurrent, IsKept, IsReadIn, AreReadIn, IsUnread};
 ghost use Rattle.session_history.specs.Unfolded.{unfolded};
 
 use crate::kept::keep_modules;
+use crate::reading::ReadModules;
 use crate::{KeptModules, Refusal, Timeline};
 use change_log::{Entry, Store};
 use prim_core::{Meaning, Primitives};
@@ -56,11 +57,13 @@ impl Timeline {
         ensures performs { Performs (set_module name.now text.now) (unfolded primitives.now self.old) (unfolded primitives.now self.new) result }
         ensures kept { IsKept primitives.now (contents self.new.store).modules kept.new }
     {
-        drop(read_module(self.allocator(), text)?);
+        let module = read_module(self.allocator(), text)?;
+        let named = with_name(self.allocator(), name, module)?;
         let copy = copied(self.allocator(), text)?;
         let slot = self.module_slot(name)?;
         self.change_in_group(Entry::text(slot, Some(copy)))?;
         kept.note_name(name);
+        kept.remember(named);
         Ok(())
     }
 
@@ -122,12 +125,15 @@ pub fn check_modules<M: Meaning>(
     alloc: Global,
     store: &Store,
     primitives: &Primitives<M>,
+    read: &mut ReadModules,
 ) -> Result<Checked, Refusal>
+    requires { AreReadIn (contents store.now).modules read.old }
     ensures ok { IfOk result (AreCurrent primitives.now (contents store.now).modules) }
     ensures refused { IfErr result (λ refusal. AreRefused primitives.now
         (contents store.now).modules refusal) }
+    ensures left { AreReadIn (contents store.now).modules read.new }
 {
-    let modules = match read_modules(alloc, store) {
+    let modules = match read_modules(alloc, store, read) {
         Ok(modules) => modules,
         Err(refusal) => return Err(refusal),
     };
@@ -141,29 +147,59 @@ pub fn check_modules<M: Meaning>(
 }
 
 // The modules of the store, in byte order of their names.
-fn read_modules(alloc: Global, store: &Store) -> Result<Vec<NamedModule>, Refusal>
+fn read_modules(
+    alloc: Global,
+    store: &Store,
+    read: &mut ReadModules,
+) -> Result<Vec<NamedModule>, Refusal>
+    requires { AreReadIn (contents store.now).modules read.old }
     ensures ok { IfOk result (λ modules. AreModules (contents store.now).modules modules.items) }
     ensures refused { IfErr result (λ refusal. (refusal ≡ Refusal.Memory)
         ⊎ IsUnread (contents store.now).modules refusal) }
+    ensures left { AreReadIn (contents store.now).modules read.new }
 {
     let names = store.module_names(alloc)?;
     let Ok(mut modules) = Vec::with_capacity(alloc, names.len()) else {
         return Err(Refusal::Memory);
     };
     for name in &names {
-        let module = match read_named(alloc, store, name) {
+        let module = match read_once(alloc, store, name, read) {
             Ok(module) => module,
             Err(refusal) => return Err(refusal),
         };
-        let named = with_name(alloc, name, module)?;
-        let Ok(()) = modules.push(named) else {
+        let Ok(()) = modules.push(module) else {
             return Err(Refusal::Memory);
         };
     }
     Ok(modules)
 }
 
-// The module of a name that has one.
+/// The module of a name that has one. Its text is read, unless it was before.
+pub fn read_once(
+    alloc: Global,
+    store: &Store,
+    name: &Label,
+    read: &mut ReadModules,
+) -> Result<NamedModule, Refusal>
+    requires there { IsSome (finmap.get (contents store.now).modules name.now) }
+    requires read { AreReadIn (contents store.now).modules read.old }
+    ensures named { IfOk result (λ m. m.0 ≡ name.now) }
+    ensures ok { IfOk result (IsReadIn (contents store.now).modules) }
+    ensures refused { IfErr result (λ refusal. (refusal ≡ Refusal.Memory)
+        ⊎ IsUnread (contents store.now).modules refusal) }
+    ensures left { AreReadIn (contents store.now).modules read.new }
+{
+    if let Some(module) = read.take(name) {
+        return Ok(module);
+    }
+    let module = match read_named(alloc, store, name) {
+        Ok(module) => module,
+        Err(refusal) => return Err(refusal),
+    };
+    Ok(with_name(alloc, name, module)?)
+}
+
+// The module that the text of a name is read as.
 fn read_named(alloc: Global, store: &Store, name: &Label) -> Result<Module, Refusal>
     requires { IsSome (finmap.get (contents store.now).modules name.now) }
     ensures ok { IfOk result (λ m. IsSomeAnd (finmap.get (contents store.now).modules name.now)
@@ -180,8 +216,8 @@ fn read_named(alloc: Global, store: &Store, name: &Label) -> Result<Module, Refu
     read_module(alloc, text)
 }
 
-/// Parses a module.
-pub fn read_module(alloc: Global, text: &[u8]) -> Result<Module, Refusal>
+// Parses a module.
+fn read_module(alloc: Global, text: &[u8]) -> Result<Module, Refusal>
     ensures ok { IfOk result (λ m. ReadsAsModule text.now (Ok m)) }
     ensures refused { IfErr result (λ refusal. (refusal ≡ Refusal.Memory)
         ⊎ ReadsAsModule text.now (Err refusal)) }
@@ -194,8 +230,8 @@ pub fn read_module(alloc: Global, text: &[u8]) -> Result<Module, Refusal>
     }
 }
 
-/// A module with its name.
-pub fn with_name(alloc: Global, name: &Label, module: Module) -> Result<NamedModule, NoMemory>
+// A module with its name.
+fn with_name(alloc: Global, name: &Label, module: Module) -> Result<NamedModule, NoMemory>
     ensures { IfOk result (λ named. named ≡ (name.now, «module»)) }
 {
     let name = name.try_clone()?;

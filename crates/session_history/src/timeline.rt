@@ -14,9 +14,9 @@ ghost use Rattle.session_history.specs.Acts.{ComesTo, begin, abandon, committed}
 ghost use Rattle.session_history.specs.Modules.{AreRefused, SameBut, IsCurrent, IsKept};
 ghost use Rattle.session_history.specs.Unfolded.{unfolded, AllCompact};
 ghost use Rattle.session_history.specs.inside.Adding.{AddsStep};
-ghost use Rattle.session_history.specs.inside.Moving.{Moves};
+ghost use Rattle.session_history.specs.Moving.{Moves};
 
-use crate::kept::{keep_modules, settle};
+use crate::kept::{catch_up, keep_modules};
 use crate::{KeptModules, Refusal};
 use change_log::{Entry, Log, Plan, Step, Store, Texts};
 use prim_core::{Meaning, Primitives};
@@ -283,7 +283,7 @@ impl Timeline {
         let Ok(()) = self.logs.reserve(1) else {
             return Err(Refusal::Memory);
         };
-        settle(alloc, &self.store, primitives, kept);
+        catch_up(alloc, &self.store, primitives, kept);
         let mut log = Log::new(alloc);
         log.push(&mut self.store, entry)?;
         kept.note_name(name);

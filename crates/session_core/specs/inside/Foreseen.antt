@@ -1,10 +1,9 @@
 -- What a run in the tree of a slot leads to.
-use Rattle.std.specs.Prelude.{◌≡◌, ◌⊎◌, ℕ, List, length, Some, None, Err}
+use Rattle.std.specs.Prelude.{◌≡◌, ◌⊎◌, ℕ, List, length, Some, None}
 use Rattle.term_core.specs.Tree.{Tree}
-use Rattle.term_paths.specs.Paths.{at}
 use Rattle.term_paths.specs.Edits.{Edits, behind}
 use Rattle.term_changes.specs.Putting.{entries_at}
-use Rattle.term_changes.specs.Slots.{Store, content}
+use Rattle.term_changes.specs.Slots.{Store}
 use Rattle.term_changes.specs.Entries.{subterm_in}
 use Rattle.strategy_syntax.specs.declared.resolved.Resolved.{Resolved}
 use Rattle.strategy_meaning.specs.Answer.{Answer, failed, stopped}

@@ -4,8 +4,8 @@ use Rattle.session_core.proofs.ResolveLemmas.{is_low}
 use Rattle.session_core.proofs.ApplyLemmas.{apply_unresolved, apply_performs}
 use Rattle.session_core.proofs.applying.apply_strategy.Goals as goal
 
-pub apply_in_slot-outcome-requires-clause-low : goal.apply_in_slot-outcome-requires-clause-low
-apply_in_slot-outcome-requires-clause-low g c = is_low c.args.timeline.now c.args.name.now c.args.path.now c.in-Ok.found.0 c.in-Ok.ensures.ok.there c.requires.formed c.args.timeline.now.store refl
+pub apply_in_slot-outcome-requires : goal.apply_in_slot-outcome-requires
+apply_in_slot-outcome-requires g c = record { low = is_low c.args.timeline.now c.args.name.now c.args.path.now c.in-Ok.found.0 c.in-Ok.ensures.ok.there c.requires.formed c.args.timeline.now.store refl }
 
 pub returns-in-Err-clause-performs : goal.returns-in-Err-clause-performs
 returns-in-Err-clause-performs g c =

@@ -1,7 +1,9 @@
-use Rattle.std.proofs.Common.{refl, sym, ap, subst, ◌∙◌, ◌++◌, ◌∷◌, [], Err}
+use Rattle.std.proofs.Common.{refl, sym, ap, subst, ◌∙◌, ◌++◌, ◌∷◌, [], IsSome}
+use Rattle.std.specs.FinMap as finmap
 use Rattle.term_changes.specs.Slots.{contents}
 use Rattle.session_history.specs.inside.Keeping.{AreGiven}
-use Rattle.session_history.proofs.CheckLemmas.{text_there, text_missing, named_refused}
+use Rattle.session_history.proofs.CheckLemmas.{text_there, text_missing}
+use Rattle.session_history.proofs.ReadingLemmas.{given_alone}
 use Rattle.session_history.proofs.kept.read_new.Goals as goal
 
 pub returns-in_default-clause-ok : goal.returns-in_default-clause-ok
@@ -12,13 +14,11 @@ pub returns-in_default-module-clause-ok : goal.returns-in_default-module-clause-
 returns-in_default-module-clause-ok c =
     subst (λ o. AreGiven c.args.name.now o c.new-new.result.items) (sym (text_missing c.args.store.now c.args.name.now c.find_module.ensures.apart _ c.in-Some.ensures.slot (sym c.in_default-module.ensures))) c.new-new.ensures.items
 
-pub returns-in-Err-clause-refused : goal.returns-in-Err-clause-refused
-returns-in-Err-clause-refused c =
-    named_refused (contents c.args.store.now).modules c.args.name.now c.in-Some-module.text.now (text_there c.args.store.now c.args.name.now c.find_module.ensures.apart c.in-Some.slot c.in-Some-module.text.now c.in-Some.ensures.slot (sym c.in-Some-module.ensures)) (Err c.in-Err.refusal)
-    c.in-Err.ensures.refused
+pub read_once-requires-clause-there : goal.read_once-requires-clause-there
+read_once-requires-clause-there c =
+    subst IsSome (sym (text_there c.args.store.now c.args.name.now c.find_module.ensures.apart c.in-Some.slot _ c.in-Some.ensures.slot (sym c.in-Some-module.ensures))) refl
 
 pub returns-clause-ok : goal.returns-clause-ok
 returns-clause-ok c =
-    let there = text_there c.args.store.now c.args.name.now c.find_module.ensures.apart c.in-Some.slot c.in-Some-module.text.now c.in-Some.ensures.slot (sym c.in-Some-module.ensures) in
-    subst (λ o. AreGiven c.args.name.now o c.push.new.self.items) (sym there)
-    (c.in-Ok.module, c.in-Ok.ensures.ok, c.in-Ok-push.ensures.items ∙ ap (λ ms. ms ++ c.in_ok-named.named ∷ []) c.new-new.ensures.items ∙ ap (λ m. m ∷ []) c.in_ok-named.ensures)
+    given_alone (contents c.args.store.now).modules c.args.name.now c.in-Ok.module c.push.new.self.items c.in-Ok.ensures.named c.in-Ok.ensures.ok
+    (c.in-Ok-push.ensures.items ∙ ap (λ ms. ms ++ c.in-Ok.module ∷ []) c.new-new.ensures.items)

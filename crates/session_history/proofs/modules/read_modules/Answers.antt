@@ -6,6 +6,7 @@ use Rattle.term_changes.specs.Slots.{contents}
 use Rattle.session_history.specs.Modules.{AreRead}
 use Rattle.session_history.proofs.MapLemmas.{keys_there}
 use Rattle.session_history.proofs.CheckLemmas.{read_more, read_all, next_one}
+use Rattle.session_history.proofs.ReadingLemmas.{read_as}
 use Rattle.session_history.proofs.modules.read_modules.Goals as goal
 
 pub loop-name-init : goal.loop-name-init
@@ -15,6 +16,7 @@ loop-name-init c =
     record {
       read = λ rest h. subst (λ ms. AreRead texts c.deref-name-items.result.now (ms ++ rest)) (sym c.in-Ok.ensures.items) h;
       there = subst (AllByRecursion (λ name. IsSome (finmap.get texts name))) (sym names) (keys_there texts);
+      left = c.requires;
     }
 
 pub loop-name-preserved : goal.loop-name-preserved
@@ -27,10 +29,17 @@ loop-name-preserved c =
     let more = next_one names i name c.loop-name-test.true c.name-item.is in
     record {
       read = λ rest h.
-          subst (λ all. AreRead texts names (all ++ rest)) (sym (c.in-Ok-push.ensures.items ∙ ap (λ m. ms ++ m ∷ []) c.in_ok-named.ensures))
-          (read_more texts names (drop (i + 1) names) ms name (name, c.in-Ok-read_named.module) refl c.in-Ok-read_named.ensures.ok (λ rest h. c.loop-name.invariant.read rest (subst (λ left. AreRead texts left rest) (sym more) h)) rest h);
+          subst (λ all. AreRead texts names (all ++ rest)) (sym c.in-Ok-push.ensures.items)
+          (read_more texts names (drop (i + 1) names) ms name c.in-Ok-read_once.module c.in-Ok-read_once.ensures.named (read_as texts name c.in-Ok-read_once.module c.in-Ok-read_once.ensures.named c.in-Ok-read_once.ensures.ok) (λ rest h. c.loop-name.invariant.read rest (subst (λ left. AreRead texts left rest) (sym more) h)) rest h);
       there = (subst (AllByRecursion (λ name. IsSome (finmap.get texts name))) more c.loop-name.invariant.there).1;
+      left = c.in-Ok-read_once.ensures.left;
     }
+
+pub read_once-requires-clause-read : goal.read_once-requires-clause-read
+read_once-requires-clause-read c = c.loop-name.invariant.left
+
+pub returns-clause-left : goal.returns-clause-left
+returns-clause-left c = c.loop-name.invariant.left
 
 pub returns-clause-ok : goal.returns-clause-ok
 returns-clause-ok c =

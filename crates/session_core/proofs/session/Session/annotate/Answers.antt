@@ -1,5 +1,6 @@
 use Rattle.std.proofs.Common.{subst}
 use Rattle.session_history.specs.Acts.{annotate, Performs}
+use Rattle.session_history.specs.Unfolded.{unfolded}
 use Rattle.session_history.proofs.SoundLemmas.{act_sound}
 use Rattle.session_history.proofs.ActLemmas.{kept_by}
 use Rattle.session_core.proofs.session.Session.annotate.Goals as goal
@@ -13,4 +14,4 @@ invariant_of-self g c =
     )
 
 pub returns : goal.returns
-returns g c = subst (λ h. Performs (annotate c.args.name.now c.args.path.now c.args.annotations.items) h _ c.annotate.result) c.self.view_is (c.annotate.ensures c.self.inside.primitives)
+returns g c = subst (λ h. Performs (annotate c.args.name.now c.args.path.now c.args.annotations.items) h (unfolded c.self.inside.primitives c.annotate.new.self) c.annotate.result) c.self.view_is (c.annotate.ensures c.self.inside.primitives)

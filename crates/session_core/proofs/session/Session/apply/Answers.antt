@@ -1,5 +1,6 @@
 use Rattle.std.proofs.Common.{subst}
 use Rattle.session_history.specs.Acts.{apply, Performs}
+use Rattle.session_history.specs.Unfolded.{unfolded}
 use Rattle.session_history.proofs.SoundLemmas.{act_sound}
 use Rattle.session_core.proofs.session.Session.apply.Goals as goal
 
@@ -10,4 +11,4 @@ invariant_of-self g c = (
 )
 
 pub returns : goal.returns
-returns g c = subst (λ h. Performs (apply g.M.Meaning.meaning c.args.name.now c.args.path.now c.args.steps c.args.text.now) h _ c.apply_strategy.result) c.self.view_is c.apply_strategy.ensures.performs
+returns g c = subst (λ h. Performs (apply g.M.Meaning.meaning c.args.name.now c.args.path.now c.args.steps c.args.text.now) h (unfolded c.self.inside.primitives c.apply_strategy.new.timeline) c.apply_strategy.result) c.self.view_is c.apply_strategy.ensures.performs

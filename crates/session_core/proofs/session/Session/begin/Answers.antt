@@ -1,5 +1,6 @@
 use Rattle.std.proofs.Common.{subst}
 use Rattle.session_history.specs.Acts.{begin, PerformsSurely}
+use Rattle.session_history.specs.Unfolded.{unfolded}
 use Rattle.session_history.proofs.SoundLemmas.{act_sound}
 use Rattle.session_history.proofs.ActLemmas.{kept_by}
 use Rattle.session_core.proofs.session.Session.begin.Goals as goal
@@ -13,4 +14,4 @@ invariant_of-self g c =
     )
 
 pub returns : goal.returns
-returns g c = subst (λ h. PerformsSurely begin h _ c.begin.result) c.self.view_is (c.begin.ensures c.self.inside.primitives)
+returns g c = subst (λ h. PerformsSurely begin h (unfolded c.self.inside.primitives c.begin.new.self) c.begin.result) c.self.view_is (c.begin.ensures c.self.inside.primitives)

@@ -1,5 +1,6 @@
 use Rattle.std.proofs.Common.{subst}
 use Rattle.session_history.specs.Acts.{commit, Performs}
+use Rattle.session_history.specs.Unfolded.{unfolded}
 use Rattle.session_history.proofs.SoundLemmas.{act_sound}
 use Rattle.session_core.proofs.session.Session.commit.Goals as goal
 
@@ -10,4 +11,4 @@ invariant_of-self g c = (
 )
 
 pub returns : goal.returns
-returns g c = subst (λ h. Performs commit h _ c.commit.result) c.self.view_is c.commit.ensures.performs
+returns g c = subst (λ h. Performs commit h (unfolded c.self.inside.primitives c.commit.new.self) c.commit.result) c.self.view_is c.commit.ensures.performs

@@ -1,5 +1,6 @@
 use Rattle.std.proofs.Common.{subst}
 use Rattle.session_history.specs.Acts.{copy_tree, Performs}
+use Rattle.session_history.specs.Unfolded.{unfolded}
 use Rattle.session_history.proofs.SoundLemmas.{act_sound}
 use Rattle.session_history.proofs.ActLemmas.{kept_by}
 use Rattle.session_core.proofs.session.Session.copy_tree.Goals as goal
@@ -13,4 +14,4 @@ invariant_of-self g c =
     )
 
 pub returns : goal.returns
-returns g c = subst (λ h. Performs (copy_tree c.args.name.now c.args.copy.now) h _ c.copy_tree.result) c.self.view_is (c.copy_tree.ensures c.self.inside.primitives)
+returns g c = subst (λ h. Performs (copy_tree c.args.name.now c.args.copy.now) h (unfolded c.self.inside.primitives c.copy_tree.new.self) c.copy_tree.result) c.self.view_is (c.copy_tree.ensures c.self.inside.primitives)

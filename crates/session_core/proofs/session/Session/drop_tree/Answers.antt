@@ -1,5 +1,6 @@
 use Rattle.std.proofs.Common.{subst}
 use Rattle.session_history.specs.Acts.{drop_tree, Performs}
+use Rattle.session_history.specs.Unfolded.{unfolded}
 use Rattle.session_history.proofs.SoundLemmas.{act_sound}
 use Rattle.session_history.proofs.ActLemmas.{kept_by}
 use Rattle.session_core.proofs.session.Session.drop_tree.Goals as goal
@@ -13,4 +14,4 @@ invariant_of-self g c =
     )
 
 pub returns : goal.returns
-returns g c = subst (λ h. Performs (drop_tree c.args.name.now) h _ c.drop_tree.result) c.self.view_is (c.drop_tree.ensures c.self.inside.primitives)
+returns g c = subst (λ h. Performs (drop_tree c.args.name.now) h (unfolded c.self.inside.primitives c.drop_tree.new.self) c.drop_tree.result) c.self.view_is (c.drop_tree.ensures c.self.inside.primitives)

@@ -1,6 +1,7 @@
-use Rattle.std.proofs.Common.{subst, sym}
+use Rattle.std.proofs.Common.{Ok, subst, sym}
 use Rattle.session_history.specs.History.{HasSoundContents}
 use Rattle.session_history.specs.Acts.{redo, PerformsSurely}
+use Rattle.session_history.specs.Unfolded.{unfolded}
 use Rattle.session_history.proofs.SoundLemmas.{step_sound}
 use Rattle.session_history.proofs.ActLemmas.{kept_same, surely_again, surely_passed}
 use Rattle.session_core.proofs.session.Session.redo.Goals as goal
@@ -14,7 +15,7 @@ invariant_of-self g c =
 
 pub returns-in_err-texts : goal.returns-in_err-texts
 returns-in_err-texts g c =
-    subst (λ h. PerformsSurely (redo c.args.n) h _ c.from_residual.result) c.self.view_is
+    subst (λ h. PerformsSurely (redo c.args.n) h (unfolded c.self.inside.primitives c.redo.new.self) c.from_residual.result) c.self.view_is
     (surely_passed (redo c.args.n) _ _ _ c.from_residual.result c.from_residual.ensures.1 (c.in_err-texts.ensures.performs c.self.inside.primitives))
 
 pub invariant_of-self-2 : goal.invariant_of-self-2
@@ -25,4 +26,4 @@ invariant_of-self-2 g c = (
 
 pub returns : goal.returns
 returns g c =
-    subst (λ h. PerformsSurely (redo c.args.n) h _ _) c.self.view_is (surely_again (redo c.args.n) _ _ c.in_ok-texts.texts tt (c.in_ok-texts.ensures.performs c.self.inside.primitives))
+    subst (λ h. PerformsSurely {X = Unit {0}} (redo c.args.n) h (unfolded c.self.inside.primitives c.redo.new.self) (Ok tt)) c.self.view_is (surely_again (redo c.args.n) _ _ c.in_ok-texts.texts tt (c.in_ok-texts.ensures.performs c.self.inside.primitives))

@@ -1,5 +1,6 @@
 use Rattle.std.proofs.Common.{subst}
 use Rattle.session_history.specs.Acts.{set_module, Performs}
+use Rattle.session_history.specs.Unfolded.{unfolded}
 use Rattle.session_history.proofs.SoundLemmas.{act_sound}
 use Rattle.session_core.proofs.session.Session.set_module.Goals as goal
 
@@ -10,4 +11,4 @@ invariant_of-self g c = (
 )
 
 pub returns : goal.returns
-returns g c = subst (λ h. Performs (set_module c.args.name.now c.args.text.now) h _ c.set_module.result) c.self.view_is c.set_module.ensures.performs
+returns g c = subst (λ h. Performs (set_module c.args.name.now c.args.text.now) h (unfolded c.self.inside.primitives c.set_module.new.self) c.set_module.result) c.self.view_is c.set_module.ensures.performs

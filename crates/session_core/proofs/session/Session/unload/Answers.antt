@@ -1,5 +1,6 @@
 use Rattle.std.proofs.Common.{subst}
 use Rattle.session_history.specs.Acts.{unload, Performs}
+use Rattle.session_history.specs.Unfolded.{unfolded}
 use Rattle.session_history.proofs.SoundLemmas.{act_sound}
 use Rattle.session_core.proofs.session.Session.unload.Goals as goal
 
@@ -10,4 +11,4 @@ invariant_of-self g c = (
 )
 
 pub returns : goal.returns
-returns g c = subst (λ h. Performs (unload c.args.name.now) h _ c.unload.result) c.self.view_is c.unload.ensures.performs
+returns g c = subst (λ h. Performs (unload c.args.name.now) h (unfolded c.self.inside.primitives c.unload.new.self) c.unload.result) c.self.view_is c.unload.ensures.performs

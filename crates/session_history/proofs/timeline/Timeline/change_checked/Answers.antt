@@ -2,13 +2,21 @@ use Rattle.std.proofs.Common.{sym, ap, subst, ◌∙◌, ◌++◌, ◌∷◌, []
 use Rattle.term_changes.specs.Entries.{put, found}
 use Rattle.term_changes.specs.Slots.{Store, contents}
 use Rattle.session_history.specs.History.{History, changed}
-use Rattle.session_history.specs.Modules.{AreRefused, SameBut}
+use Rattle.session_history.specs.Modules.{AreRefused, SameBut, IsKept}
 use Rattle.session_history.specs.Unfolded.{Logged, unfolded}
 use Rattle.session_history.specs.inside.Adding.{AddsStep}
 use Rattle.session_history.specs.inside.View.{logged}
 use Rattle.session_history.proofs.KeepingLemmas.{same_but_sym}
 use Rattle.session_history.proofs.PlaceLemmas.{adds_one, many_placed, many_unfolded, rolled_placed, rolled_unfolded}
 use Rattle.session_history.proofs.timeline.Timeline.change_checked.Goals as goal
+
+pub keep_modules-requires : goal.keep_modules-requires
+keep_modules-requires g c =
+    let name = c.args.name.now in
+    let before = (contents c.args.self.now.store).modules in
+    let mid = ap (λ (s : Store). (contents s).modules) c.in_ok-push.ensures.store ∙ ap (λ (o : Logged). (contents (put c.args.entry o.store)).modules) c.self.view_is in
+    c.note_name.ensures c.args.primitives.now before (contents c.push.new.store).modules (subst (SameBut name before) (sym mid) c.requires.one)
+    (subst (λ (o : Logged). IsKept c.args.primitives.now (contents o.store).modules c.catch_up.new.kept) c.self.view_is c.catch_up.ensures)
 
 pub returns-in-Ok-keep_modules-clause-ok : goal.returns-in-Ok-keep_modules-clause-ok
 returns-in-Ok-keep_modules-clause-ok g c =

@@ -1,4 +1,4 @@
-use Rattle.std.proofs.Common.{Option, sym, ap, ◌∙◌, ok_or}
+use Rattle.std.proofs.Common.{Option, refl, sym, ap, ◌∙◌, ok_or}
 use Rattle.term_core.specs.Tree.{Tree}
 use Rattle.session_history.specs.Acts.{copy_tree}
 use Rattle.session_history.specs.Unfolded.{unfolded}
@@ -19,3 +19,6 @@ returns-in_err-change c = λ ps. wants (copy_tree c.args.name.now c.args.copy.no
 pub returns : goal.returns
 returns c = λ ps.
     copied c.args.self.now c.change.new.self ps c.tree_slot.new.self c.args.name.now c.args.copy.now c.in-Some.tree.now c.in_ok-tree.tree c.in_ok-slot.slot c.tree-3.result (sym c.in-Some.ensures) c.in_ok-tree.ensures c.in_ok-slot.ensures.slot c.tree-3.ensures (c.tree_slot.ensures.same ps) (c.in_ok-change.ensures.ok ps)
+
+pub returns-in_err-tree : goal.returns-in_err-tree
+returns-in_err-tree c = λ ps. wants (copy_tree c.args.name.now c.args.copy.now) _ _ c.from_residual.result c.from_residual.ensures.1 refl

@@ -1,4 +1,4 @@
-use Rattle.std.proofs.Common.{ap, subst, ◌∙◌}
+use Rattle.std.proofs.Common.{ap, refl, subst, ◌∙◌}
 use Rattle.term_changes.specs.Contents.{Contents, with_module}
 use Rattle.term_changes.specs.Slots.{contents}
 use Rattle.term_changes.specs.Entries.{put}
@@ -49,3 +49,6 @@ returns-in-Err-clause-performs g c =
     (set_refused (unfolded ps t) c.args.name.now c.args.text.now c.in-Err.refusal (closed_group t ps (c.in_group.ensures.closed c.if-in_group.false)) c.requires.readable
     (subst (λ (now : Contents). AreRefused ps now.modules c.in-Err.refusal) there c.in-Err.ensures.refused))
     (c.in-Err.ensures.err ∙ c.module_slot.ensures.same ps)
+
+pub returns-in_err-copy-clause-performs : goal.returns-in_err-copy-clause-performs
+returns-in_err-copy-clause-performs g c = wants (set_module c.args.name.now c.args.text.now) _ _ c.from_residual.result c.from_residual.ensures.1 refl
