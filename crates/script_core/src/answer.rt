@@ -1,51 +1,41 @@
 //! Answering one command.
 
-ghost use Rattle.std.specs.Prelude.{◌≡◌, ◌≤◌, ◌⊎◌, ◌+◌, ◌++◌, ℕ, List, Ok, Err, OnOk, OnErr, IfOk, IfErr, false, codes, vec_capacity, vec_len};
-ghost use Rattle.std.specs.FinMap as finmap;
-ghost use Rattle.aterm_text.specs.Tokens.{is_blank};
+ghost use Rattle.std.specs.Prelude.{◌≡◌, ◌⊎◌, Ok, Err, OnOk, IfOk, IfErr, is_ok, false, codes};
 ghost use Rattle.aterm_text.specs.Grammar.{Spells, SpellsAnnotations};
-ghost use Rattle.aterm_text.specs.Printed.{print as print_of};
-ghost use Rattle.session_history.specs.Acts.{place_of};
 ghost use Rattle.term_core.specs.Tree.{Tree};
+ghost use Rattle.session_history.specs.Acts.{place_of};
 ghost use Rattle.session_history.specs.Steps.{AreSteps};
-ghost use Rattle.script_text.specs.Script.{without_end};
-ghost use Rattle.script_text.specs.Handed.{text as text_handed};
-ghost use Rattle.script_text.specs.Form.{tree, put, annotate, show, module_text, HasBudget, takes_no_memory, is_without_memory, front_word, behind_word};
+ghost use Rattle.script_text.specs.Form.{tree, put, annotate, tree_form, put_form, HasBudget, is_without_memory};
 ghost use Rattle.script_text.specs.FedRight.{handed_out};
-ghost use Rattle.script_text.specs.Replies.{ReadAs, Replies, ReplyToText, line, listed, counted, ok_with, told_of};
-ghost use Rattle.script_text.specs.inside.Accepting.{Accepts, Refuses, reading_refusal};
+ghost use Rattle.script_text.specs.Replies.{ReadAs, Replies, line};
 ghost use Rattle.script_text.specs.Answer.{Answered, ReplyInRun, TellsRefusal};
 ghost use Rattle.script_text.specs.CommandView.{form as form_seen};
+ghost use Rattle.script_text.specs.KeywordView.{form_behind, is_without_memory_behind};
+ghost use Rattle.script_core.specs.inside.Performing.{PerformedRight, ReplyToForm, ToldRight, reading_refusal};
 
+use crate::buffer::Answer;
 use crate::preview::show_preview;
 use crate::watch::{Unwatched, Watch};
 use aterm_text::{ReadFault, read, read_annotations};
-use itoa::Buffer;
 use prim_core::Meaning;
-use script_text::{
-    ANSWER_ROOM, Command, Piece, append_line, append_shown, behind_put, behind_tree, list_names,
-    read_name_and_text, read_put_parts, refuse,
-};
+use script_text::{Command, Keyword, Piece, read_name_and_text, read_path_and_text, split_keyword};
 use session_core::{Refusal, Session};
 use std::alloc::Global;
-use term_core::{Label, NoMemory, Term};
+use term_core::{Label, Term};
 use term_paths::{Path, at};
 
-/// Appends the answer of a command to the buffer, and returns whether the command was accepted. If
-/// memory can't grow, the answer is `refused 1 memory` and the session stays as it was. `steps`,
-/// from 1 to 1,000,000, is the budget of a command that names none.
+/// Writes the answer of a command, in place of what was in the buffer, and returns whether the
+/// command was accepted. If memory can't grow, the answer is `refused 1 memory` and the session
+/// stays as it was. `steps`, from 1 to 1,000,000, is the budget of a command that names none.
 pub fn answer_text<M: Meaning>(
     alloc: Global,
     session: &mut Session<M>,
     command: Piece<'_>,
     steps: u32,
-    answer: &mut Vec<u8>,
+    answer: &mut Answer,
 ) -> bool
-    requires steps { AreSteps steps }
-    requires room { vec_len answer.old + ANSWER_ROOM ≤ vec_capacity answer.old }
-    ensures answered { Answered (ReplyInRun M.meaning steps) (handed_out command.entry) session.old session.new answer.old.items
-        answer.new.items result }
-    ensures room { vec_capacity answer.old ≤ vec_capacity answer.new }
+    requires { AreSteps steps }
+    ensures { Answered (ReplyInRun M.meaning steps) (handed_out command.entry) session.old session.new answer.new result }
 {
     answer_watched(alloc, session, command, steps, answer, &mut Unwatched)
 }
@@ -56,233 +46,145 @@ pub(crate) fn answer_watched<M: Meaning, W: Watch<M>>(
     session: &mut Session<M>,
     command: Piece<'_>,
     steps: u32,
-    answer: &mut Vec<u8>,
+    answer: &mut Answer,
     watch: &mut W,
 ) -> bool
-    requires steps { AreSteps steps }
-    requires room { vec_len answer.old + ANSWER_ROOM ≤ vec_capacity answer.old }
-    ensures answered { Answered (ReplyInRun M.meaning steps) (handed_out command.entry) session.old session.new answer.old.items
-        answer.new.items result }
-    ensures room { vec_capacity answer.old ≤ vec_capacity answer.new }
-{
-    let accepted = answer_piece(alloc, session, command, steps, answer, watch);
-    if accepted {
-        watch.accepted(session, command);
-    }
-    accepted
-}
-
-// Answers a command, and shows a refused one to the observer.
-fn answer_piece<M: Meaning, W: Watch<M>>(
-    alloc: Global,
-    session: &mut Session<M>,
-    command: Piece<'_>,
-    steps: u32,
-    answer: &mut Vec<u8>,
-    watch: &mut W,
-) -> bool
-    requires steps { AreSteps steps }
-    requires room { vec_len answer.old + ANSWER_ROOM ≤ vec_capacity answer.old }
-    ensures answered { Answered (ReplyInRun M.meaning steps) (handed_out command.entry) session.old session.new answer.old.items
-        answer.new.items result }
-    ensures room { vec_capacity answer.old ≤ vec_capacity answer.new }
+    requires { AreSteps steps }
+    ensures { Answered (ReplyInRun M.meaning steps) (handed_out command.entry) session.old session.new answer.new result }
 {
     match command {
-        Piece::Text(text) => answer_line(alloc, session, text, steps, answer, watch),
-        Piece::Long => refuse_seen(session, command, &Refusal::Long, answer, watch),
+        Piece::Text(text) => {
+            let (keyword, rest) = split_keyword(text);
+            match keyword {
+                Keyword::Tree => answer_tree(alloc, session, text, rest, answer, watch),
+                Keyword::Put => answer_put(alloc, session, text, rest, answer, watch),
+                _ => answer_form(alloc, session, text, keyword, rest, steps, answer, watch),
+            }
+        }
+        Piece::Long => refuse(session, command, &Refusal::Long, answer, watch),
     }
 }
 
-// Shows a refused command to the observer, and appends the refusal.
-#[inline(always)]
-fn refuse_seen<M: Meaning, W: Watch<M>>(
+// Shows a refusal to the observer, and writes it.
+#[inline(never)]
+fn refuse<M: Meaning, W: Watch<M>>(
     session: &Session<M>,
     command: Piece<'_>,
     refusal: &Refusal,
-    answer: &mut Vec<u8>,
+    answer: &mut Answer,
     watch: &mut W,
 ) -> bool
-    requires { vec_len answer.old + ANSWER_ROOM ≤ vec_capacity answer.old }
     ensures refused { result ≡ false }
-    ensures told { TellsRefusal answer.old.items answer.new.items refusal.now }
-    ensures room { vec_capacity answer.old ≤ vec_capacity answer.new }
+    ensures told { TellsRefusal answer.new refusal.now }
 {
     watch.refused(session, command, refusal);
-    refuse(answer, refusal)
+    answer.refuse(refusal);
+    false
 }
 
-// A command `tree` is read and answered apart, at less cost: most commands of scripts are of this
-// form.
-fn answer_line<M: Meaning, W: Watch<M>>(
-    alloc: Global,
-    session: &mut Session<M>,
-    command: &[u8],
-    steps: u32,
-    answer: &mut Vec<u8>,
-    watch: &mut W,
-) -> bool
-    requires steps { AreSteps steps }
-    requires room { vec_len answer.old + ANSWER_ROOM ≤ vec_capacity answer.old }
-    ensures answered { Answered (ReplyInRun M.meaning steps) (text_handed command.now) session.old session.new
-        answer.old.items answer.new.items result }
-    ensures room { vec_capacity answer.old ≤ vec_capacity answer.new }
-{
-    match behind_tree(command) {
-        Some(rest) => answer_tree(alloc, session, rest, answer, command, watch),
-        None => answer_other(alloc, session, command, steps, answer, watch),
-    }
-}
-
-// Answers the command `tree` with this text after its keyword. A refusal is written where it
-// occurs: it is larger than a truth value, and would be passed on from call to call.
+// Most commands of scripts are of the forms `tree` and `put`. They are performed as they are read:
+// a `Command` in between would cost more than the rest of their reading. No function here is
+// inlined, so that none pays for the variables of another.
 #[inline(never)]
 fn answer_tree<M: Meaning, W: Watch<M>>(
     alloc: Global,
     session: &mut Session<M>,
+    command: &[u8],
     rest: &[u8],
-    answer: &mut Vec<u8>,
-    whole: &[u8],
+    answer: &mut Answer,
     watch: &mut W,
 ) -> bool
-    requires room { vec_len answer.old + ANSWER_ROOM ≤ vec_capacity answer.old }
-    ensures answered { (steps : ℕ) (command : List ℕ) → front_word (without_end is_blank command) ≡ codes "tree"
-        → behind_word (without_end is_blank command) ≡ rest.now
-        → Answered (ReplyInRun M.meaning steps) (text_handed command) session.old session.new answer.old.items answer.new.items
-        result }
-    ensures room { vec_capacity answer.old ≤ vec_capacity answer.new }
+    ensures { ToldRight (ReplyToForm M.meaning (tree_form rest.now) session.old) false session.old session.new answer.new result }
 {
     match read_name_and_text(alloc, rest) {
-        Ok((name, text)) => match set_tree(alloc, session, &name, text) {
-            Ok(()) => {
-                append_ok(answer);
-                true
-            }
-            Err(refusal) => refuse_seen(session, Piece::Text(whole), &refusal, answer, watch),
-        },
-        Err(refusal) => refuse_seen(session, Piece::Text(whole), &refusal, answer, watch),
+        Ok((name, text)) => {
+            let outcome = set_tree(alloc, session, &name, text);
+            tell(outcome, session, command, answer, watch)
+        }
+        Err(refusal) => refuse(session, Piece::Text(command), &refusal, answer, watch),
     }
 }
 
-// A command of any form. It isn't inlined, so that `tree` doesn't pay for its variables.
 #[inline(never)]
-fn answer_other<M: Meaning, W: Watch<M>>(
+fn answer_put<M: Meaning, W: Watch<M>>(
     alloc: Global,
     session: &mut Session<M>,
     command: &[u8],
-    steps: u32,
-    answer: &mut Vec<u8>,
+    rest: &[u8],
+    answer: &mut Answer,
     watch: &mut W,
 ) -> bool
-    requires steps { AreSteps steps }
-    requires room { vec_len answer.old + ANSWER_ROOM ≤ vec_capacity answer.old }
-    ensures answered { Answered (ReplyInRun M.meaning steps) (text_handed command.now) session.old session.new
-        answer.old.items answer.new.items result }
-    ensures room { vec_capacity answer.old ≤ vec_capacity answer.new }
+    ensures { ToldRight (ReplyToForm M.meaning (put_form rest.now) session.old) false session.old session.new answer.new result }
 {
-    match try_answer(alloc, session, command, steps, answer) {
-        Ok(()) => true,
-        Err(refusal) => refuse_seen(session, Piece::Text(command), &refusal, answer, watch),
+    match read_path_and_text(alloc, rest) {
+        Ok((name, path, text)) => {
+            let outcome = put(alloc, session, &name, &path, text);
+            tell(outcome, session, command, answer, watch)
+        }
+        Err(refusal) => refuse(session, Piece::Text(command), &refusal, answer, watch),
     }
 }
 
-// Appends the answer of an accepted command. A refusal leaves session and buffer unchanged.
-fn try_answer<M: Meaning>(
-    alloc: Global,
-    session: &mut Session<M>,
+// Shows the outcome of an act to the observer, and writes it.
+#[inline(always)]
+fn tell<M: Meaning, W: Watch<M>>(
+    outcome: Result<(), Refusal>,
+    session: &Session<M>,
     command: &[u8],
-    steps: u32,
-    answer: &mut Vec<u8>,
-) -> Result<(), Refusal>
-    requires steps { AreSteps steps }
-    requires room { vec_len answer.old + ANSWER_ROOM ≤ vec_capacity answer.old }
-    ensures ok { OnOk result (Accepts (ReplyToText M.meaning steps command.now session.old) session.new
-        answer.old.items answer.new.items) }
-    ensures refused { IfErr result (Refuses (ReplyToText M.meaning steps command.now session.old)
-        (takes_no_memory command.now)) }
-    ensures err { OnErr result ((session.new ≡ session.old)
-        × (answer.new.items ≡ answer.old.items)) }
-    ensures len { OnErr result (vec_len answer.new ≡ vec_len answer.old) }
-    ensures room { vec_capacity answer.old ≤ vec_capacity answer.new }
+    answer: &mut Answer,
+    watch: &mut W,
+) -> bool
+    ensures accepted { result ≡ is_ok outcome }
+    ensures ok { OnOk outcome (answer.new ≡ line (codes "ok")) }
+    ensures refused { IfErr outcome (λ refusal. TellsRefusal answer.new refusal) }
 {
-    match command.first() {
-        Some(byte) if *byte == b'p' => answer_put(alloc, session, command, steps, answer),
-        _ => answer_form(alloc, session, command, steps, answer),
+    match outcome {
+        Ok(()) => {
+            answer.write_ok();
+            watch.accepted(session, Piece::Text(command));
+            true
+        }
+        Err(refusal) => refuse(session, Piece::Text(command), &refusal, answer, watch),
     }
 }
 
-// A command `put` is read and answered apart as well. It isn't inlined, so that the others don't
-// pay for its variables.
 #[inline(never)]
-fn answer_put<M: Meaning>(
+fn answer_form<M: Meaning, W: Watch<M>>(
     alloc: Global,
     session: &mut Session<M>,
     command: &[u8],
+    keyword: Keyword,
+    rest: &[u8],
     steps: u32,
-    answer: &mut Vec<u8>,
-) -> Result<(), Refusal>
-    requires steps { AreSteps steps }
-    requires room { vec_len answer.old + ANSWER_ROOM ≤ vec_capacity answer.old }
-    ensures ok { OnOk result (Accepts (ReplyToText M.meaning steps command.now session.old) session.new
-        answer.old.items answer.new.items) }
-    ensures refused { IfErr result (Refuses (ReplyToText M.meaning steps command.now session.old)
-        (takes_no_memory command.now)) }
-    ensures err { OnErr result ((session.new ≡ session.old)
-        × (answer.new.items ≡ answer.old.items)) }
-    ensures len { OnErr result (vec_len answer.new ≡ vec_len answer.old) }
-    ensures room { vec_capacity answer.old ≤ vec_capacity answer.new }
+    answer: &mut Answer,
+    watch: &mut W,
+) -> bool
+    requires { AreSteps steps }
+    ensures { ToldRight (ReplyToForm M.meaning (form_behind keyword steps rest.now) session.old) (is_without_memory_behind keyword)
+        session.old session.new answer.new result }
 {
-    let Some(rest) = behind_put(command) else {
-        return answer_form(alloc, session, command, steps, answer);
-    };
-    match read_put_parts(alloc, rest) {
-        Ok((name, path, text)) => say_ok(put(alloc, session, &name, &path, text), answer),
-        Err(refusal) => Err(refusal),
+    match Command::read_form(alloc, keyword, rest, steps) {
+        Ok(read) => match perform(alloc, session, &read, answer) {
+            Ok(()) => {
+                watch.accepted(session, Piece::Text(command));
+                true
+            }
+            Err(refusal) => refuse(session, Piece::Text(command), &refusal, answer, watch),
+        },
+        Err(refusal) => refuse(session, Piece::Text(command), &refusal, answer, watch),
     }
 }
 
-// A command of any form. It isn't inlined, so that those two don't pay for its variables.
-#[inline(never)]
-fn answer_form<M: Meaning>(
-    alloc: Global,
-    session: &mut Session<M>,
-    command: &[u8],
-    steps: u32,
-    answer: &mut Vec<u8>,
-) -> Result<(), Refusal>
-    requires steps { AreSteps steps }
-    requires room { vec_len answer.old + ANSWER_ROOM ≤ vec_capacity answer.old }
-    ensures ok { OnOk result (Accepts (ReplyToText M.meaning steps command.now session.old) session.new
-        answer.old.items answer.new.items) }
-    ensures refused { IfErr result (Refuses (ReplyToText M.meaning steps command.now session.old)
-        (takes_no_memory command.now)) }
-    ensures err { OnErr result ((session.new ≡ session.old)
-        × (answer.new.items ≡ answer.old.items)) }
-    ensures len { OnErr result (vec_len answer.new ≡ vec_len answer.old) }
-    ensures room { vec_capacity answer.old ≤ vec_capacity answer.new }
-{
-    match Command::read(alloc, command, steps) {
-        Ok(read) => perform(alloc, session, &read, answer),
-        Err(refusal) => Err(refusal),
-    }
-}
-
-// Does what a command says and appends its answer. A refusal leaves session and buffer unchanged.
+// Does what a command says and writes its answer.
 fn perform<M: Meaning>(
     alloc: Global,
     session: &mut Session<M>,
     command: &Command<'_>,
-    answer: &mut Vec<u8>,
+    answer: &mut Answer,
 ) -> Result<(), Refusal>
-    requires budget { HasBudget (form_seen command.now) }
-    requires room { vec_len answer.old + ANSWER_ROOM ≤ vec_capacity answer.old }
-    ensures ok { OnOk result (Accepts (Replies M.meaning (form_seen command.now) session.old) session.new
-        answer.old.items answer.new.items) }
-    ensures refused { IfErr result (Refuses (Replies M.meaning (form_seen command.now) session.old)
-        (is_without_memory (form_seen command.now))) }
-    ensures err { OnErr result ((session.new ≡ session.old)
-        × (answer.new.items ≡ answer.old.items)) }
-    ensures len { OnErr result (vec_len answer.new ≡ vec_len answer.old) }
-    ensures room { vec_capacity answer.old ≤ vec_capacity answer.new }
+    requires { HasBudget (form_seen command.now) }
+    ensures { PerformedRight (Replies M.meaning (form_seen command.now) session.old) (is_without_memory (form_seen command.now)) result
+        session.old session.new answer.new }
 {
     match command {
         Command::Tree(name, text) => say_ok(set_tree(alloc, session, name, text), answer),
@@ -305,39 +207,27 @@ fn perform<M: Meaning>(
         Command::Begin => say_ok(session.begin(), answer),
         Command::Commit => say_ok(session.commit(), answer),
         Command::Abandon => say_ok(session.abandon(), answer),
-        Command::Show(name, path) => show_place(session, name, path, answer),
-        Command::Trees => Ok(list_trees(session, answer)?),
-        Command::Modules => Ok(list_modules(session, answer)?),
-        Command::Text(name) => show_text(session, name, answer),
-        Command::History => {
-            count_steps(session, answer);
-            Ok(())
-        }
-        Command::Dump => Ok(session.dump(answer)?),
+        Command::Show(name, path) => Ok(answer.write_term(find_place(session, name, path)?)?),
+        Command::Trees => Ok(answer.write_names(b"trees", &session.tree_names()?)?),
+        Command::Modules => Ok(answer.write_names(b"modules", &session.module_names()?)?),
+        Command::Text(name) => match session.module_text(name) {
+            Some(text) => Ok(answer.write_line(text)?),
+            None => Err(Refusal::NoModule),
+        },
+        Command::History => Ok(answer.write_counts(session)?),
+        Command::Dump => Ok(answer.write_dump(session)?),
     }
 }
 
-// Appends `ok` if the step was accepted.
-fn say_ok(outcome: Result<(), Refusal>, answer: &mut Vec<u8>) -> Result<(), Refusal>
-    requires { vec_len answer.old + ANSWER_ROOM ≤ vec_capacity answer.old }
+// Writes `ok` if the step was accepted.
+#[inline(always)]
+fn say_ok(outcome: Result<(), Refusal>, answer: &mut Answer) -> Result<(), Refusal>
     ensures same { result ≡ outcome }
-    ensures ok { OnOk result (answer.new.items ≡ answer.old.items ++ line (codes "ok")) }
-    ensures err { OnErr result (answer.new.items ≡ answer.old.items) }
-    ensures len { OnErr result (vec_len answer.new ≡ vec_len answer.old) }
-    ensures room { vec_capacity answer.old ≤ vec_capacity answer.new }
+    ensures ok { OnOk result (answer.new ≡ line (codes "ok")) }
 {
     outcome?;
-    append_ok(answer);
+    answer.write_ok();
     Ok(())
-}
-
-#[inline(always)]
-fn append_ok(answer: &mut Vec<u8>)
-    requires { vec_len answer.old + ANSWER_ROOM ≤ vec_capacity answer.old }
-    ensures text { answer.new.items ≡ answer.old.items ++ line (codes "ok") }
-    ensures room { vec_capacity answer.old ≤ vec_capacity answer.new }
-{
-    answer.extend_from_slice(b"ok\n").unwrap();
 }
 
 #[inline(always)]
@@ -347,9 +237,8 @@ fn set_tree<M: Meaning>(
     name: &Label,
     text: &[u8],
 ) -> Result<(), Refusal>
-    ensures ok { OnOk result (Replies M.meaning (tree name.now text.now) session.old (Ok (ok_with session.new))) }
-    ensures refused { IfErr result (Refuses (Replies M.meaning (tree name.now text.now) session.old) false) }
-    ensures err { OnErr result (session.new ≡ session.old) }
+    ensures { PerformedRight (Replies M.meaning (tree name.now text.now) session.old) false result session.old session.new
+        (line (codes "ok")) }
 {
     match read(alloc, text) {
         Ok(tree) => session.set_tree(name, tree),
@@ -364,11 +253,8 @@ fn put<M: Meaning>(
     path: &Path,
     text: &[u8],
 ) -> Result<(), Refusal>
-    ensures ok { OnOk result (Replies M.meaning (put name.now path.now text.now) session.old
-        (Ok (ok_with session.new))) }
-    ensures refused { IfErr result (Refuses (Replies M.meaning (put name.now path.now text.now) session.old)
-        false) }
-    ensures err { OnErr result (session.new ≡ session.old) }
+    ensures { PerformedRight (Replies M.meaning (put name.now path.now text.now) session.old) false result session.old session.new
+        (line (codes "ok")) }
 {
     if let Err(refusal) = find_place(session, name, path) {
         return Err(refusal);
@@ -386,11 +272,8 @@ fn annotate<M: Meaning>(
     path: &Path,
     text: &[u8],
 ) -> Result<(), Refusal>
-    ensures ok { OnOk result (Replies M.meaning (annotate name.now path.now text.now) session.old
-        (Ok (ok_with session.new))) }
-    ensures refused { IfErr result (Refuses (Replies M.meaning (annotate name.now path.now text.now) session.old)
-        false) }
-    ensures err { OnErr result (session.new ≡ session.old) }
+    ensures { PerformedRight (Replies M.meaning (annotate name.now path.now text.now) session.old) false result session.old session.new
+        (line (codes "ok")) }
 {
     if let Err(refusal) = find_place(session, name, path) {
         return Err(refusal);
@@ -411,10 +294,6 @@ fn find_place<'s, M: Meaning>(
         ≡ Ok (record { tree = tree; part = part.now }))) }
     ensures refused { IfErr result (λ refusal. place_of session.now.now name.now path.now
         ≡ Err refusal) }
-    ensures shown { IfOk result (λ part. Replies M.meaning (show name.now path.now) session.now
-        (Ok (told_of session.now (line (print_of part.now))))) }
-    ensures not_shown { IfErr result (λ refusal. Replies M.meaning (show name.now path.now) session.now
-        (Err refusal)) }
 {
     let Some(tree) = session.tree(name) else {
         return Err(Refusal::NoTree);
@@ -455,81 +334,4 @@ fn read_refusal(fault: ReadFault) -> Refusal
         ReadFault::Term => Refusal::Term,
         ReadFault::Memory => Refusal::Memory,
     }
-}
-
-fn show_place<M: Meaning>(
-    session: &Session<M>,
-    name: &Label,
-    path: &Path,
-    answer: &mut Vec<u8>,
-) -> Result<(), Refusal>
-    ensures ok { OnOk result (Accepts (Replies M.meaning (show name.now path.now) session.now) session.now
-        answer.old.items answer.new.items) }
-    ensures refused { IfErr result (Refuses (Replies M.meaning (show name.now path.now) session.now) false) }
-    ensures err { OnErr result (answer.new.items ≡ answer.old.items) }
-    ensures len { OnErr result (vec_len answer.new ≡ vec_len answer.old) }
-    ensures room { vec_capacity answer.old ≤ vec_capacity answer.new }
-{
-    match find_place(session, name, path) {
-        Ok(part) => Ok(append_shown(part, answer)?),
-        Err(refusal) => Err(refusal),
-    }
-}
-
-fn list_trees<M: Meaning>(session: &Session<M>, answer: &mut Vec<u8>) -> Result<(), NoMemory>
-    ensures ok { OnOk result (answer.new.items
-        ≡ answer.old.items ++ listed (codes "trees") (finmap.keys session.now.now.trees)) }
-    ensures err { OnErr result (answer.new.items ≡ answer.old.items) }
-    ensures len { OnErr result (vec_len answer.new ≡ vec_len answer.old) }
-    ensures room { vec_capacity answer.old ≤ vec_capacity answer.new }
-{
-    list_names(b"trees", &session.tree_names()?, answer)
-}
-
-fn list_modules<M: Meaning>(session: &Session<M>, answer: &mut Vec<u8>) -> Result<(), NoMemory>
-    ensures ok { OnOk result (answer.new.items
-        ≡ answer.old.items ++ listed (codes "modules") (finmap.keys session.now.now.modules)) }
-    ensures err { OnErr result (answer.new.items ≡ answer.old.items) }
-    ensures len { OnErr result (vec_len answer.new ≡ vec_len answer.old) }
-    ensures room { vec_capacity answer.old ≤ vec_capacity answer.new }
-{
-    list_names(b"modules", &session.module_names()?, answer)
-}
-
-// Appends the text of the name's module.
-fn show_text<M: Meaning>(
-    session: &Session<M>,
-    name: &Label,
-    answer: &mut Vec<u8>,
-) -> Result<(), Refusal>
-    ensures ok { OnOk result (Accepts (Replies M.meaning (module_text name.now) session.now) session.now
-        answer.old.items answer.new.items) }
-    ensures refused { IfErr result (Refuses (Replies M.meaning (module_text name.now) session.now) false) }
-    ensures err { OnErr result (answer.new.items ≡ answer.old.items) }
-    ensures len { OnErr result (vec_len answer.new ≡ vec_len answer.old) }
-    ensures room { vec_capacity answer.old ≤ vec_capacity answer.new }
-{
-    match session.module_text(name) {
-        Some(text) => Ok(append_line(text, answer)?),
-        None => Err(Refusal::NoModule),
-    }
-}
-
-// Appends the numbers of steps to undo and to redo, for which there is room.
-fn count_steps<M: Meaning>(session: &Session<M>, answer: &mut Vec<u8>)
-    requires { vec_len answer.old + ANSWER_ROOM ≤ vec_capacity answer.old }
-    ensures text { answer.new.items ≡ answer.old.items ++ counted session.now }
-    ensures room { vec_capacity answer.old ≤ vec_capacity answer.new }
-{
-    let (past, later) = session.counts();
-    let mut number = Buffer::new();
-    answer.extend_from_slice(b"undo ").unwrap();
-    answer
-        .extend_from_slice(number.format(past).as_bytes())
-        .unwrap();
-    answer.extend_from_slice(b" redo ").unwrap();
-    answer
-        .extend_from_slice(number.format(later).as_bytes())
-        .unwrap();
-    answer.extend_from_slice(b"\n").unwrap();
 }

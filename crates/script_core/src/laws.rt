@@ -7,7 +7,7 @@ ghost use Rattle.aterm_text.specs.declared.TheConstants.{MAX_NESTING};
 ghost use Rattle.strategy_tokens.specs.declared.TheConstants.{MAX_TOKENS};
 ghost use Rattle.session_history.specs.declared.TheConstants.{MAX_STEPS};
 ghost use Rattle.script_text.specs.declared.TheConstants.{MAX_COMMAND};
-ghost use Rattle.script_text.specs.declared.telling.TheConstants.{ANSWER_ROOM};
+ghost use Rattle.script_core.specs.declared.buffer.TheConstants.{ANSWER_ROOM};
 ghost use Rattle.script_core.specs.declared.running.TheConstants.{MAX_READS};
 ghost use Rattle.script_text.specs.Laws.{OneRun, DumpReadsBack, DumpIsAnswered};
 
@@ -47,7 +47,7 @@ pub fn dump_reads_back()
 
 /// The values of the bounds that definitions name: the height and the size of terms, the bytes of
 /// names, the open brackets in a term's text, the tokens of a strategy's or module's text, the
-/// bytes of commands, the steps of `undo` and `redo`, the reads of a run, and the spare bytes of an
+/// bytes of commands, the steps of `undo` and `redo`, the reads of a run, and the least capacity of an
 /// answer's buffer.
 pub fn bounds()
     ensures height { MAX_HEIGHT ≡ 1000 }

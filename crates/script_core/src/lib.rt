@@ -3,15 +3,18 @@
 #![tactic(auto)]
 
 mod answer;
+mod buffer;
 pub mod laws;
+mod lines;
 mod preview;
+mod refusing;
 mod running;
 mod watch;
 
 pub use answer::answer_text;
+pub use buffer::{ANSWER_ROOM, Answer};
 pub use running::{MAX_READS, PIECE, RunFault, Settings, Summary, run, run_watched};
 pub use script_text::{
-    ANSWER_ROOM, Bytes, Command, Counted, Failed, Fed, Framing, Held, MAX_COMMAND, Piece, Sink,
-    Source, Splitter,
+    Bytes, Command, Counted, Failed, Fed, Framing, Held, MAX_COMMAND, Piece, Sink, Source, Splitter,
 };
 pub use watch::{Unwatched, Watch};

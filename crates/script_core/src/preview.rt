@@ -1,78 +1,89 @@
 //! The answer of `preview`.
 
-ghost use Rattle.std.specs.Prelude.{◌≡◌, ◌≤◌, ◌++◌, ℕ, List, length, false, vec_capacity, vec_len, OnOk, OnErr, IfErr};
+ghost use Rattle.std.specs.Prelude.{◌≡◌, ◌++◌, length, false, OnOk};
 ghost use Rattle.std.specs.List.{flat_map};
-ghost use Rattle.aterm_text.specs.inside.Printing.{Extends};
 ghost use Rattle.session_history.specs.Steps.{AreSteps};
 ghost use Rattle.script_text.specs.Form.{preview as preview_form};
-ghost use Rattle.script_text.specs.Replies.{Replies, preview_line};
-ghost use Rattle.script_text.specs.inside.Accepting.{Accepts, Refuses};
+ghost use Rattle.script_text.specs.Replies.{Replies, path_text, preview_line, replacement_line};
+ghost use Rattle.script_core.specs.inside.Performing.{PerformedRight};
 ghost use Rattle.script_core.specs.inside.PreviewLines.{AreSubterms, entry_line};
 
+use crate::buffer::Answer;
 use prim_core::Meaning;
-use script_text::{append_preview_line, append_replacement};
 use session_core::{Preview, Refusal, Session};
 use term_core::{Label, NoMemory, Term};
 use term_paths::{Path, at_parts};
 
-/// Appends what applying the strategy at the path of the name's tree would replace.
+/// Writes what applying the strategy at the path of the name's tree would replace.
 pub(crate) fn show_preview<M: Meaning>(
     session: &mut Session<M>,
     name: &Label,
     path: &Path,
     steps: u32,
     text: &[u8],
-    answer: &mut Vec<u8>,
+    answer: &mut Answer,
 ) -> Result<(), Refusal>
-    requires steps { AreSteps steps }
-    ensures ok { OnOk result (Accepts (Replies M.meaning (preview_form name.now path.now steps text.now) session.old)
-        session.new answer.old.items answer.new.items) }
-    ensures refused { IfErr result (Refuses (Replies M.meaning (preview_form name.now path.now steps text.now) session.old)
-        false) }
-    ensures same { session.new ≡ session.old }
-    ensures err { OnErr result (answer.new.items ≡ answer.old.items) }
-    ensures len { OnErr result (vec_len answer.new ≡ vec_len answer.old) }
-    ensures room { vec_capacity answer.old ≤ vec_capacity answer.new }
+    requires { AreSteps steps }
+    ensures { PerformedRight (Replies M.meaning (preview_form name.now path.now steps text.now) session.old) false result
+        session.old session.new answer.new }
 {
-    let preview = match session.preview(name, path, steps, text) {
-        Ok(preview) => preview,
-        Err(refusal) => return Err(refusal),
-    };
+    let preview = session.preview(name, path, steps, text)?;
     let Some(tree) = session.tree(name) else {
         unreachable!()
     };
-    Ok(append_preview(tree, &preview, answer)?)
+    Ok(answer.write_preview(tree, &preview)?)
 }
 
-// Appends all lines, or none.
-fn append_preview(tree: &Term, preview: &Preview, answer: &mut Vec<u8>) -> Result<(), NoMemory>
-    requires { AreSubterms preview.now.plan }
-    ensures ok { OnOk result (answer.new.items ≡ answer.old.items
-        ++ preview_line (length preview.now.plan) preview.now.steps ++ flat_map (entry_line tree.now) preview.now.plan) }
-    ensures err { OnErr result (answer.new.items ≡ answer.old.items) }
-    ensures len { OnErr result (vec_len answer.new ≡ vec_len answer.old) }
-    ensures room { vec_capacity answer.old ≤ vec_capacity answer.new }
-{
-    let start = answer.len();
-    if append_lines(tree, preview, answer).is_err() {
-        answer.truncate(start);
-        return Err(NoMemory);
+impl Answer {
+    fn write_preview(&mut self, tree: &Term, preview: &Preview) -> Result<(), NoMemory>
+        requires { AreSubterms preview.now.plan }
+        ensures { OnOk result (self.new
+            ≡ preview_line (length preview.now.plan) preview.now.steps ++ flat_map (entry_line tree.now) preview.now.plan) }
+    {
+        let mut places = preview.places();
+        self.write_totals(places.count() as u64, preview.steps)?;
+        while let Some((path, new)) = places.next() {
+            let old = at_parts(tree, path).unwrap_or(tree);
+            self.append_replacement(path, old, new)?;
+        }
+        Ok(())
     }
-    Ok(())
-}
 
-fn append_lines(tree: &Term, preview: &Preview, answer: &mut Vec<u8>) -> Result<(), NoMemory>
-    requires { AreSubterms preview.now.plan }
-    ensures ok { OnOk result (answer.new.items ≡ answer.old.items
-        ++ preview_line (length preview.now.plan) preview.now.steps ++ flat_map (entry_line tree.now) preview.now.plan) }
-    ensures err { Extends answer.old.items answer.new.items }
-    ensures room { vec_capacity answer.old ≤ vec_capacity answer.new }
-{
-    let mut places = preview.places();
-    append_preview_line(places.count(), preview.steps, answer)?;
-    while let Some((path, new)) = places.next() {
-        let old = at_parts(tree, path).unwrap_or(tree);
-        append_replacement(path, old, new, answer)?;
+    // Writes the numbers of places and of steps.
+    fn write_totals(&mut self, places: u64, steps: u64) -> Result<(), NoMemory>
+        ensures { OnOk result (self.new ≡ preview_line places steps) }
+    {
+        self.clear();
+        self.append(b"changes ")?;
+        self.append_number(places)?;
+        self.append(b" steps ")?;
+        self.append_number(steps)?;
+        self.push(b'\n')
     }
-    Ok(())
+
+    // Appends a path, what is there, and what would be there.
+    fn append_replacement(&mut self, path: &[usize], old: &Term, new: &Term) -> Result<(), NoMemory>
+        ensures { OnOk result (self.new
+            ≡ self.old ++ replacement_line (record { path = path.now; old = old.now; new = new.now })) }
+    {
+        self.append_path(path)?;
+        self.push(b' ')?;
+        self.append_term(old)?;
+        self.append(b" => ")?;
+        self.append_term(new)?;
+        self.push(b'\n')
+    }
+
+    fn append_path(&mut self, path: &[usize]) -> Result<(), NoMemory>
+        ensures { OnOk result (self.new ≡ self.old ++ path_text path.now) }
+    {
+        if path.is_empty() {
+            return self.push(b'/');
+        }
+        for part in path {
+            self.push(b'/')?;
+            self.append_number(*part as u64)?;
+        }
+        Ok(())
+    }
 }

@@ -1,7 +1,7 @@
 //! Running a script: reading it in pieces, answering each command when it is complete, and writing
 //! the answers.
 
-ghost use Rattle.std.specs.Prelude.{◌≡◌, ◌≤◌, ◌<◌, ◌+◌, ◌*◌, ◌^◌, ◌∷◌, [], Ok, Err, OnOk, OnErr, IfOk, true, false, not, is_some, Some, vec_capacity, length};
+ghost use Rattle.std.specs.Prelude.{◌≡◌, ◌≤◌, ◌<◌, ◌+◌, ◌*◌, ◌^◌, ◌∷◌, [], Ok, Err, OnOk, OnErr, IfOk, true, false, not, is_some, Some, length};
 ghost use Rattle.script_text.specs.Handed.{Handed};
 ghost use Rattle.script_text.specs.Splitting.{StandsBehind};
 ghost use Rattle.session_history.specs.Steps.{AreSteps};
@@ -12,9 +12,10 @@ ghost use Rattle.script_text.specs.Run.{Answers, AnswersPart, AnswersFirst, Comp
 ghost use Rattle.script_text.specs.inside.Counting.{one_if};
 
 use crate::answer::answer_watched;
+use crate::buffer::Answer;
 use crate::watch::{Unwatched, Watch};
 use prim_core::Meaning;
-use script_text::{ANSWER_ROOM, Failed, Fed, Framing, Sink, Source, Splitter, write_whole};
+use script_text::{Failed, Fed, Framing, Sink, Source, Splitter, write_whole};
 use session_core::Session;
 use std::alloc::Global;
 use thiserror::Error;
@@ -64,7 +65,7 @@ pub enum RunFault {
 #[derive(Drop)]
 struct Running {
     splitter: Splitter,
-    answer: Vec<u8>,
+    answer: Answer,
     summary: Summary,
     settings: Settings,
 }
@@ -141,7 +142,7 @@ pub fn run_watched<M: Meaning, I: Source, O: Sink, W: Watch<M>>(
     let Ok(splitter) = Splitter::new(alloc, settings.framing) else {
         return Err(RunFault::Memory);
     };
-    let Ok(answer) = Vec::with_capacity(alloc, ANSWER_ROOM) else {
+    let Ok(answer) = Answer::new(alloc) else {
         return Err(RunFault::Memory);
     };
     let mut running = Running {
@@ -167,7 +168,6 @@ impl Running {
     ) -> Result<bool, Failed>
         requires ready { is_some self.old.splitter.to_hand_out ≡ true }
         requires steps { AreSteps self.old.settings.steps }
-        requires room { ANSWER_ROOM ≤ vec_capacity self.old.answer }
         requires counts { self.old.summary.accepted + self.old.summary.refused + 1 < 2 ^ 64 }
         requires sink { O.failed sink.old + 1 < 2 ^ 64 }
         ensures answers { IfOk result (AnswersReady (ReplyInRun M.meaning) self.old self.new session.old session.new
@@ -178,9 +178,7 @@ impl Running {
             (O.held sink.old) (O.held sink.new)) }
         ensures count { OnErr result (O.failed sink.new ≡ O.failed sink.old + 1) }
         ensures splitter { self.new.splitter ≡ self.old.splitter }
-        ensures room { ANSWER_ROOM ≤ vec_capacity self.new.answer }
     {
-        self.answer.clear();
         let accepted = answer_watched(
             alloc,
             session,
@@ -189,7 +187,7 @@ impl Running {
             &mut self.answer,
             watch,
         );
-        write_whole(sink, &self.answer)?;
+        write_whole(sink, self.answer.bytes())?;
         self.summary.count(accepted);
         Ok(accepted || !self.settings.stop)
     }
@@ -204,7 +202,6 @@ impl Running {
         watch: &mut W,
     ) -> Result<bool, Failed>
         requires steps { AreSteps self.old.settings.steps }
-        requires room { ANSWER_ROOM ≤ vec_capacity self.old.answer }
         requires counts { self.old.summary.accepted + self.old.summary.refused + length bytes.now
             < 2 ^ 64 }
         requires sink { O.failed sink.old + 1 < 2 ^ 64 }
@@ -214,7 +211,6 @@ impl Running {
         ensures breaks { OnErr result (Breaks (ReplyInRun M.meaning) self.old session.old session.new
             (O.held sink.old) (O.held sink.new) bytes.now) }
         ensures count { OnErr result (O.failed sink.new ≡ O.failed sink.old + 1) }
-        ensures room { ANSWER_ROOM ≤ vec_capacity self.new.answer }
     {
         let mut rest = bytes;
         while let Fed::Command(taken) = self.splitter.feed(rest) {
@@ -237,7 +233,6 @@ impl Running {
         watch: &mut W,
     ) -> Result<(), Failed>
         requires steps { AreSteps self.old.settings.steps }
-        requires room { ANSWER_ROOM ≤ vec_capacity self.old.answer }
         requires counts { self.old.summary.accepted + self.old.summary.refused + 1 < 2 ^ 64 }
         requires sink { O.failed sink.old + 1 < 2 ^ 64 }
         ensures ends { OnOk result (Ends (ReplyInRun M.meaning) self.old self.new session.old session.new
@@ -264,7 +259,6 @@ impl Running {
         watch: &mut W,
     ) -> Result<bool, RunFault>
         requires steps { AreSteps self.old.settings.steps }
-        requires room { ANSWER_ROOM ≤ vec_capacity self.old.answer }
         requires piece { 0 < length piece.old }
         requires counts { self.old.summary.accepted + self.old.summary.refused + length piece.old
             < 2 ^ 64 }
@@ -274,7 +268,6 @@ impl Running {
             (streams (I.left source.old) (O.held sink.old) (I.failed source.old) (O.failed sink.old))
             (streams (I.left source.new) (O.held sink.new) (I.failed source.new) (O.failed sink.new))
             (length piece.old) }
-        ensures room { result ≡ Ok true → ANSWER_ROOM ≤ vec_capacity self.new.answer }
         ensures piece { length piece.new ≡ length piece.old }
     {
         let Ok(()) = sink.flush() else {
@@ -304,7 +297,6 @@ impl Running {
         requires fresh { StandsBehind self.old.settings.framing [] [] self.old.splitter.left }
         requires zero { (self.old.summary.accepted ≡ 0) × (self.old.summary.refused ≡ 0) }
         requires steps { AreSteps self.old.settings.steps }
-        requires room { ANSWER_ROOM ≤ vec_capacity self.old.answer }
         requires source { I.failed source.old + 1 < 2 ^ 64 }
         requires sink { O.failed sink.old + 1 < 2 ^ 64 }
         ensures some { result ≡ Err RunFault.Memory → ⊥ }

@@ -3,8 +3,8 @@
 #![tactic(auto)]
 
 #[cfg(test)]
-mod command_line;
-#[cfg(test)]
 mod hints;
+#[cfg(test)]
+mod options;
 #[cfg(test)]
 mod runs;

@@ -1,5 +1,5 @@
 -- What a byte keeps of the framing, and when it completes a line that is a command.
-use Rattle.std.proofs.Common.{◌≡◌, ℕ, Bool, true, false, ◌==◌, ◌||◌, ◌&&◌, Some, None, option_map, refl, sym, ap, subst, if◌then◌else◌}
+use Rattle.std.proofs.Common.{◌≡◌, ℕ, Bool, true, false, ◌==◌, ◌||◌, ◌&&◌, Some, None, refl, sym, subst, if◌then◌else◌}
 use Rattle.std.specs.declared.option.Option.{Option}
 use Rattle.std.proofs.lemmas.Bool.{eqb-true}
 use Rattle.script_text.specs.declared.framing.Framing.{Framing}
@@ -9,7 +9,7 @@ use Rattle.script_text.specs.declared.splitter.LineState.TheVariants.{Start, Kep
 use Rattle.script_text.specs.declared.splitter.Unfinished.{Unfinished}
 use Rattle.script_text.specs.Script.{is_blank}
 use Rattle.script_text.specs.Handed.{Handed}
-use Rattle.script_text.specs.Splitting.{Taken, going, gone_on, taken, taken_in, continued_at, own_line_at}
+use Rattle.script_text.specs.Splitting.{Taken, gone_on, taken, taken_in, continued_at, own_line_at}
 
 -- ---- the framing stays
 

@@ -5,7 +5,6 @@ pub mod LineLemmas
 pub mod OwnLineLemmas
 pub mod SplitLemmas
 pub mod SplitRunLemmas
-pub mod AnswerLemmas
 pub mod WriteLemmas
 pub mod RunLemmas
 pub mod LawLemmas
@@ -14,4 +13,4 @@ pub mod DumpContents
 pub mod DumpLemmas
 pub mod DumpRows
 pub mod DefinitionRows
-pub mod FormLemmas
+pub mod KeywordLemmas

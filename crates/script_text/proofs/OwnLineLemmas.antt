@@ -1,22 +1,20 @@
 -- Lines that are commands: the machine over bytes gives the commands of a script.
-use Rattle.std.proofs.Common.{◌≡◌, ◌≤◌, ◌<◌, ◌+◌, ◌-◌, ℕ, zero, suc, Bool, true, false, not, ◌==◌, ◌||◌, ◌&&◌, List, [], ◌∷◌, ◌++◌, length, take, drop, reverse, map, filter, Some, None, option_map, refl, sym, ap, ◌∙◌, subst, arith, append_assoc, append-nil, if◌then◌else◌}
-use Rattle.std.specs.declared.option.Option.{Option}
+use Rattle.std.proofs.Common.{◌≡◌, ◌≤◌, ◌+◌, ◌-◌, ℕ, suc, Bool, true, false, not, ◌==◌, ◌||◌, List, [], ◌∷◌, ◌++◌, length, take, drop, reverse, map, filter, Some, None, refl, sym, ap, ◌∙◌, subst, arith, append_assoc, append-nil, if◌then◌else◌}
 use Rattle.std.specs.Option.{option_to_list}
 use Rattle.std.specs.List.{All, slice_split, prefix_len, suffix_len, onto_first}
 use Rattle.std.proofs.Math.Dec.{eqb}
 use Rattle.std.proofs.lemmas.Bool.{eqb-true}
 use Rattle.std.proofs.lemmas.List.{length-append, length-drop, length-reverse, take_all, take-append-le, reverse-append}
-use Rattle.std.proofs.lemmas.List.Elements.{All-append, All-cons}
+use Rattle.std.proofs.lemmas.List.Elements.{All-append}
 use Rattle.std.proofs.lemmas.List.Folds.{prefix_len-append}
 use Rattle.std.proofs.lemmas.List.Sums.{suffix_len-le-length}
 use Rattle.std.proofs.lemmas.List.Splits.{slice_split_none, slice_split_at, slice_split-cons_yes, slice_split-cons_no}
-use Rattle.script_text.specs.declared.framing.Framing.{Framing}
 use Rattle.script_text.specs.declared.framing.Framing.TheVariants.{Lines}
-use Rattle.script_text.specs.declared.splitter.LineState.TheVariants.{Start, Kept, Comment}
+use Rattle.script_text.specs.declared.splitter.LineState.TheVariants.{Kept, Comment}
 use Rattle.script_text.specs.declared.splitter.Unfinished.{Unfinished}
 use Rattle.script_text.specs.Script.{is_line_feed, is_carriage_return, without_end, pieces, is_blank, without_start, is_command, line_commands, commands, ended_lines}
 use Rattle.script_text.specs.Handed.{Handed, handed_as, handed}
-use Rattle.script_text.specs.Splitting.{with_more, behind_returns, Taken, going, taken, begun, rest_of, nothing}
+use Rattle.script_text.specs.Splitting.{behind_returns, Taken, going, taken, begun, rest_of, nothing}
 use Rattle.script_text.proofs.HandedLemmas.{with_more-handed_as}
 use Rattle.script_text.proofs.ReturnLemmas.{capped, capped-suc, capped-more}
 use Rattle.script_text.proofs.LineLemmas.{returns, IsCore, one_line-returns, core_of, longer_core, one_more_return, first_piece, no_core}

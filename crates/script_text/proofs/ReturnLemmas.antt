@@ -1,5 +1,5 @@
 -- Carriage returns that are held back, as the machine counts them.
-use Rattle.std.proofs.Common.{◌≡◌, ◌≤◌, ◌<◌, ◌+◌, ℕ, zero, suc, Bool, true, false, ◌==◌, nat_le, List, [], ◌∷◌, ◌++◌, length, refl, sym, ap, ◌∙◌, arith, if◌then◌else◌}
+use Rattle.std.proofs.Common.{◌≡◌, ℕ, suc, Bool, true, false, ◌==◌, nat_le, refl, sym, ap, ◌∙◌, arith, if◌then◌else◌}
 use Rattle.std.proofs.Math.Dec.{leb, eqb-suc-zero}
 use Rattle.std.proofs.lemmas.Bool.{leb-true, leb-false}
 use Rattle.script_text.specs.declared.TheConstants.{MAX_COMMAND}

@@ -104,44 +104,39 @@ Replied-one stop Rule command flag h r p = (p, at (stop && is_err r))
     at true = (refl, refl)
     at false = tt
 
-Leads-one : (stop : Bool) (Rule : Replying) (command : Handed) (h g : History) (before after : List ℕ) (verdict : Bool) (a : Answered Rule command h g before after verdict) →
+Leads-one : (stop : Bool) (Rule : Replying) (command : Handed) (h g : History) (answer : List ℕ) (verdict : Bool) (a : Answered Rule command h g answer verdict) →
     RunLeads stop Rule (command ∷ []) h g (a.flag ∷ []) (a.reply ∷ [])
-Leads-one stop Rule command h g before after verdict a = record { replied = Replied-one stop Rule command a.flag h a.reply a.replied; history = a.history }
+Leads-one stop Rule command h g answer verdict a = record { replied = Replied-one stop Rule command a.flag h a.reply a.replied; history = a.history }
 
 one_ok : (verdict : Bool) (reply : Reply) → verdict ≡ is_ok reply → (one_if verdict ≡ count_by is_ok (reply ∷ [])) × (one_if (not verdict) ≡ count_by is_err (reply ∷ []))
 one_ok verdict (Ok x) e = (ap one_if e, ap (λ (b : Bool). one_if (not b)) e)
 one_ok verdict (Err x) e = (ap one_if e, ap (λ (b : Bool). one_if (not b)) e)
 
--- the buffer was empty before, and is sent
-pub Answered-alone : (Rule : Replying) (command : Handed) (h g : History) (before bytes sent : List ℕ) (verdict : Bool) → before ≡ [] → sent ≡ bytes → Answered Rule command h g before bytes verdict → Answered Rule command h g [] sent verdict
-Answered-alone Rule command h g before bytes sent verdict e s a =
-    subst (λ (xs : List ℕ). Answered Rule command h g xs sent verdict) e (subst (λ (ys : List ℕ). Answered Rule command h g before ys verdict) (sym s) a)
-
--- a command that was answered into an empty buffer, which was written
-pub Completes-one : (stop : Bool) (Rule : Replying) (command : Handed) (h g : History) (bytes : List ℕ) (verdict : Bool) (old new : Option (List ℕ)) →
-    Answered Rule command h g [] bytes verdict → Appends old new bytes → Completes stop Rule (command ∷ []) h g old new (one_if verdict) (one_if (not verdict))
-Completes-one stop Rule command h g bytes verdict old new a w = record {
+-- a command whose answer is written
+pub Completes-one : (stop : Bool) (Rule : Replying) (command : Handed) (h g : History) (answer sent : List ℕ) (verdict : Bool) (old new : Option (List ℕ)) →
+    sent ≡ answer → Answered Rule command h g answer verdict → Appends old new sent → Completes stop Rule (command ∷ []) h g old new (one_if verdict) (one_if (not verdict))
+Completes-one stop Rule command h g answer sent verdict old new e a w = record {
   flags = a.flag ∷ [];
   replies = a.reply ∷ [];
-  leads = Leads-one stop Rule command h g [] bytes verdict a;
-  written = subst (λ (xs : List ℕ). Appends old new xs) (a.answer ∙ sym (append-nil (written a.reply))) w;
+  leads = Leads-one stop Rule command h g answer verdict a;
+  written = subst (λ (xs : List ℕ). Appends old new xs) (e ∙ a.written ∙ sym (append-nil (written a.reply))) w;
   accepted = (one_ok verdict a.reply a.accepted).0;
   refused = (one_ok verdict a.reply a.accepted).1;
 }
 
-pub BreaksOff-one : (stop : Bool) (Rule : Replying) (command : Handed) (h g : History) (bytes : List ℕ) (verdict : Bool) (old new : Option (List ℕ)) (lost : List ℕ) →
-    Answered Rule command h g [] bytes verdict → WritesFront old new bytes lost → BreaksOff stop Rule (command ∷ []) h g old new
-BreaksOff-one stop Rule command h g bytes verdict old new lost a w = record {
+pub BreaksOff-one : (stop : Bool) (Rule : Replying) (command : Handed) (h g : History) (answer sent : List ℕ) (verdict : Bool) (old new : Option (List ℕ)) (lost : List ℕ) →
+    sent ≡ answer → Answered Rule command h g answer verdict → WritesFront old new sent lost → BreaksOff stop Rule (command ∷ []) h g old new
+BreaksOff-one stop Rule command h g answer sent verdict old new lost e a w = record {
   first = command ∷ [];
   others = [];
   split = refl;
   flags = a.flag ∷ [];
   replies = a.reply ∷ [];
-  leads = Leads-one stop Rule command h g [] bytes verdict a;
+  leads = Leads-one stop Rule command h g answer verdict a;
   lost = lost;
-  written = record { kept = w.kept; all = append-nil (written a.reply) ∙ sym a.answer ∙ w.all; written = w.written };
+  written = record { kept = w.kept; all = append-nil (written a.reply) ∙ sym a.written ∙ sym e ∙ w.all; written = w.written };
   front = w.kept;
-  last = sym a.answer ∙ w.all;
+  last = sym a.written ∙ sym e ∙ w.all;
 }
 
 -- ---- several in order

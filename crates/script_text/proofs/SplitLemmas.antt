@@ -1,10 +1,10 @@
 -- The machine over bytes gives the commands of a script.
-use Rattle.std.proofs.Common.{◌≡◌, ◌≤◌, ◌<◌, ◌+◌, ℕ, zero, suc, Bool, true, false, not, ◌==◌, ◌||◌, ◌&&◌, nat_le, List, [], ◌∷◌, ◌++◌, length, take, get_or, Some, None, is_some, option_map, map, refl, sym, ap, ◌∙◌, subst, arith, append_assoc, append-nil, add-one, if◌then◌else◌}
+use Rattle.std.proofs.Common.{◌≡◌, ◌≤◌, ◌<◌, ◌+◌, ℕ, zero, suc, Bool, true, false, not, ◌==◌, ◌||◌, ◌&&◌, List, [], ◌∷◌, ◌++◌, length, take, get_or, Some, None, is_some, option_map, map, refl, sym, ap, ◌∙◌, subst, arith, append_assoc, append-nil, add-one, if◌then◌else◌}
 use Rattle.std.specs.declared.option.Option.{Option}
 use Rattle.std.proofs.lemmas.List.{take_all}
 use Rattle.std.proofs.Math.Seq.{take-suc}
-use Rattle.std.proofs.Math.Dec.{leb, eqb-suc-zero}
-use Rattle.std.proofs.lemmas.Bool.{eqb-true, leb-true, leb-false}
+use Rattle.std.proofs.Math.Dec.{leb}
+use Rattle.std.proofs.lemmas.Bool.{eqb-true, leb-false}
 use Rattle.std.specs.Option.{option_to_list}
 use Rattle.script_text.specs.declared.TheConstants.{MAX_COMMAND}
 use Rattle.script_text.specs.declared.framing.Framing.{Framing}
@@ -15,9 +15,9 @@ use Rattle.script_text.specs.declared.splitter.Unfinished.{Unfinished}
 use Rattle.script_text.specs.Split.{Split}
 use Rattle.script_text.specs.Script.{Cut, cut, begins_command, lines, commands, but_last}
 use Rattle.script_text.specs.Handed.{Handed, handed_as, handed, completed}
-use Rattle.script_text.specs.Splitting.{with_more, behind_returns, one_more, hold_return, Taken, going, gone_on, begun, at_start, continued_at, taken, rest_of, nothing, StandsBehind}
+use Rattle.script_text.specs.Splitting.{with_more, behind_returns, hold_return, Taken, going, gone_on, begun, at_start, continued_at, taken, rest_of, nothing, StandsBehind}
 use Rattle.script_text.specs.inside.Passing.{out_of}
-use Rattle.script_text.proofs.HandedLemmas.{handed_long, with_more-handed_as, with_more-append, length-behind_returns, too_many_returns}
+use Rattle.script_text.proofs.HandedLemmas.{handed_long, with_more-handed_as, with_more-append, length-behind_returns}
 use Rattle.script_text.proofs.FramingLemmas.{taken-framing, own_feed, own_byte}
 use Rattle.script_text.proofs.ReturnLemmas.{capped, capped-suc, capped-some, capped-more}
 use Rattle.script_text.proofs.OwnLineLemmas.{handed_by_lines, ended-feed, ended-byte}

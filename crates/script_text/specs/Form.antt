@@ -209,17 +209,9 @@ has_labels (set_module name text) = is_some (label_of name)
 has_labels (unload name) = is_some (label_of name)
 has_labels (apply name path steps text) = is_some (label_of name)
 has_labels (preview name path steps text) = is_some (label_of name)
-has_labels (undo n) = true
-has_labels (redo n) = true
-has_labels begin = true
-has_labels commit = true
-has_labels abandon = true
 has_labels (show name path) = is_some (label_of name)
-has_labels trees = true
-has_labels modules = true
 has_labels (module_text name) = is_some (label_of name)
-has_labels history = true
-has_labels dump = true
+has_labels form = true
 
 -- The form is tested before the names.
 abbrev pub checked : Option Form → Result Form Refusal
@@ -249,23 +241,8 @@ takes_no_memory command = takes_no_memory_with (front_word (without_end is_blank
 
 -- the same for a form
 abbrev pub is_without_memory : Form → Bool
-is_without_memory (tree name text) = false
-is_without_memory (copy name other) = false
-is_without_memory (drop_tree name) = false
-is_without_memory (put name path text) = false
-is_without_memory (annotate name path text) = false
-is_without_memory (set_module name text) = false
-is_without_memory (unload name) = false
-is_without_memory (apply name path steps text) = false
-is_without_memory (preview name path steps text) = false
 is_without_memory (undo n) = true
 is_without_memory (redo n) = true
 is_without_memory begin = true
-is_without_memory commit = false
 is_without_memory abandon = true
-is_without_memory (show name path) = false
-is_without_memory trees = false
-is_without_memory modules = false
-is_without_memory (module_text name) = false
-is_without_memory history = false
-is_without_memory dump = false
+is_without_memory form = false

@@ -5,6 +5,8 @@ pub mod FedRight
 pub mod Splitting
 pub mod Form
 pub mod CommandView
+pub mod KeywordView
+pub mod Reading
 pub mod Replies
 pub mod Answer
 pub mod Run

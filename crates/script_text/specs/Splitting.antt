@@ -1,6 +1,6 @@
 -- Splitting a script as its bytes arrive: what is pending, and what each byte completes. The code
 -- equals this machine, which gives the commands of the script: see `StandsBehind`.
-use Rattle.std.specs.Prelude.{◌≡◌, ℕ, suc, Bool, ◌==◌, ◌&&◌, ◌||◌, nat_le, List, [], ◌∷◌, ◌++◌, Some, None, option_map, if◌then◌else◌}
+use Rattle.std.specs.Prelude.{◌≡◌, ℕ, suc, ◌==◌, ◌&&◌, ◌||◌, nat_le, List, [], ◌∷◌, ◌++◌, Some, None, option_map, if◌then◌else◌}
 use Rattle.std.specs.declared.option.Option.{Option}
 use Rattle.std.specs.List.{repeat}
 use Rattle.std.specs.Option.{option_to_list}

@@ -1,18 +1,19 @@
 //! The forms of commands.
 
-ghost use Rattle.std.specs.Prelude.{◌≡◌, ◌≤◌, length, ◌⊎◌, ℕ, List, true, false, codes, IfOk, IfErr, IfSome, Ok, Err, Some, None, option_copied};
+ghost use Rattle.std.specs.Prelude.{◌≡◌, ◌≤◌, length, ◌⊎◌, ℕ, List, true, false, IfOk, IfErr, Ok, Err, Some, None, option_copied};
 ghost use Rattle.std.specs.List.{prefix_len, suffix_len, position_or_len};
 ghost use Rattle.term_core.specs.Word.{label_of};
-ghost use Rattle.aterm_text.specs.Tokens.{is_blank, without_blanks};
-ghost use Rattle.script_text.specs.Script.{without_end};
-ghost use Rattle.session_history.specs.Steps.{AreSteps};
-ghost use Rattle.script_text.specs.Form.{Form, tree, put, apply, preview, command_of, checked, tree_form, copy_form, drop_form, put_form, annotate_form, module_form, unload_form, strategy_form, text_form, show_form, last_name, last_steps, last_text, option_word, behind_option, path_or_root, steps_or, steps_of, ended, HasBudget, is_without_memory, takes_no_memory, front_word, behind_word, has_word, is_same};
 ghost use Rattle.term_paths.specs.PathText.{path_of};
+ghost use Rattle.aterm_text.specs.Tokens.{is_blank, without_blanks};
+ghost use Rattle.session_history.specs.Steps.{AreSteps};
+ghost use Rattle.script_text.specs.Script.{without_end};
+ghost use Rattle.script_text.specs.Form.{tree, put, annotate, set_module, apply, preview, command_of, form_of, checked, tree_form, copy_form, put_form, annotate_form, module_form, strategy_form, show_form, last_name, last_steps, option_word, behind_option, path_or_root, steps_or, steps_of, ended, HasBudget, is_without_memory, takes_no_memory, front_word, behind_word, has_word};
 ghost use Rattle.script_text.specs.CommandView.{form as form_seen};
-ghost use Rattle.script_text.specs.inside.KeywordView.{form_behind, is_without_memory_behind};
+ghost use Rattle.script_text.specs.KeywordView.{form_behind, is_without_memory_behind};
+ghost use Rattle.script_text.specs.Reading.{ReadRight};
 
 use crate::keyword::{Keyword, keyword_of};
-use aterm_text::{after_blanks, after_byte, is_blank};
+use aterm_text::is_blank;
 use session_history::{MAX_STEPS, Refusal};
 use std::alloc::Global;
 use term_core::Label;
@@ -79,119 +80,113 @@ impl<'a> Command<'a> {
             × (takes_no_memory command.now ≡ false))
             ⊎ (command_of steps command.now ≡ Err refusal)) }
     {
-        let text = without_last_blanks(command);
-        let (word, rest) = split_word(text);
-        read_form(alloc, keyword_of(word), rest, steps)
+        let (keyword, rest) = split_keyword(command);
+        Command::read_form(alloc, keyword, rest, steps)
+    }
+
+    /// Reads the form that this keyword starts, given what follows it in the command.
+    ///
+    /// Errors: those of `read`.
+    pub fn read_form(
+        alloc: Global,
+        keyword: Keyword,
+        rest: &'a [u8],
+        steps: u32,
+    ) -> Result<Command<'a>, Refusal>
+        requires { AreSteps steps }
+        ensures { ReadRight (form_behind keyword steps rest.now) (is_without_memory_behind keyword) result }
+    {
+        match keyword {
+            Keyword::Tree => {
+                let (name, text) = read_name_and_text(alloc, rest)?;
+                Ok(Command::Tree(name, text))
+            }
+            Keyword::Copy => read_copy(alloc, rest),
+            Keyword::Drop => Ok(Command::Drop(read_last_name(alloc, rest)?)),
+            Keyword::Put => {
+                let (name, path, text) = read_path_and_text(alloc, rest)?;
+                Ok(Command::Put(name, path, text))
+            }
+            Keyword::Annotate => {
+                let (name, path, text) = read_path_and_text(alloc, rest)?;
+                Ok(Command::Annotate(name, path, text))
+            }
+            Keyword::Module => {
+                let (name, text) = read_name_and_text(alloc, rest)?;
+                Ok(Command::Module(name, text))
+            }
+            Keyword::Unload => Ok(Command::Unload(read_last_name(alloc, rest)?)),
+            Keyword::Apply => {
+                let (name, path, steps, text) = read_strategy_parts(alloc, rest, steps)?;
+                Ok(Command::Apply(name, path, steps, text))
+            }
+            Keyword::Preview => {
+                let (name, path, steps, text) = read_strategy_parts(alloc, rest, steps)?;
+                Ok(Command::Preview(name, path, steps, text))
+            }
+            Keyword::Undo => Ok(Command::Undo(read_steps(rest)?)),
+            Keyword::Redo => Ok(Command::Redo(read_steps(rest)?)),
+            Keyword::Begin => read_ended(Command::Begin, rest),
+            Keyword::Commit => read_ended(Command::Commit, rest),
+            Keyword::Abandon => read_ended(Command::Abandon, rest),
+            Keyword::Show => read_show(alloc, rest),
+            Keyword::Trees => read_ended(Command::Trees, rest),
+            Keyword::Modules => read_ended(Command::Modules, rest),
+            Keyword::Text => Ok(Command::Text(read_last_name(alloc, rest)?)),
+            Keyword::History => read_ended(Command::History, rest),
+            Keyword::Dump => read_ended(Command::Dump, rest),
+            Keyword::Other => Err(Refusal::Line),
+        }
     }
 }
 
-// The form that this keyword starts. `steps` is the budget of a form that names none.
-fn read_form(
-    alloc: Global,
-    keyword: Keyword,
-    rest: &[u8],
-    steps: u32,
-) -> Result<Command<'_>, Refusal>
-    requires { AreSteps steps }
-    ensures ok { IfOk result (λ read. checked (form_behind keyword steps rest.now) ≡ Ok (form_seen read)) }
-    ensures without_memory { IfOk result (λ read. is_without_memory_behind keyword
-        ≡ is_without_memory (form_seen read)) }
-    ensures budget { IfOk result (λ read. HasBudget (form_seen read)) }
-    ensures refused { IfErr result (λ refusal. ((refusal ≡ Refusal.Memory)
-        × (is_without_memory_behind keyword ≡ false))
-        ⊎ (checked (form_behind keyword steps rest.now) ≡ Err refusal)) }
+/// The keyword of a command, and what follows it without the blanks at the end.
+#[inline(always)]
+pub fn split_keyword(command: &[u8]) -> (Keyword, &[u8])
+    ensures form { (steps : ℕ) → form_of steps command.now ≡ form_behind result.0 steps result.1.now }
+    ensures without_memory { takes_no_memory command.now ≡ is_without_memory_behind result.0 }
 {
-    match keyword {
-        Keyword::Tree => read_tree(alloc, rest),
-        Keyword::Copy => read_copy(alloc, rest),
-        Keyword::Drop => Ok(Command::Drop(read_last_name(alloc, rest)?)),
-        Keyword::Put => read_put(alloc, rest),
-        Keyword::Annotate => read_annotate(alloc, rest),
-        Keyword::Module => read_module(alloc, rest),
-        Keyword::Unload => Ok(Command::Unload(read_last_name(alloc, rest)?)),
-        Keyword::Apply => read_apply(alloc, rest, steps),
-        Keyword::Preview => read_preview(alloc, rest, steps),
-        Keyword::Undo => Ok(Command::Undo(read_steps(rest)?)),
-        Keyword::Redo => Ok(Command::Redo(read_steps(rest)?)),
-        Keyword::Begin => read_ended(Command::Begin, rest),
-        Keyword::Commit => read_ended(Command::Commit, rest),
-        Keyword::Abandon => read_ended(Command::Abandon, rest),
-        Keyword::Show => read_show(alloc, rest),
-        Keyword::Trees => read_ended(Command::Trees, rest),
-        Keyword::Modules => read_ended(Command::Modules, rest),
-        Keyword::Text => Ok(Command::Text(read_last_name(alloc, rest)?)),
-        Keyword::History => read_ended(Command::History, rest),
-        Keyword::Dump => read_ended(Command::Dump, rest),
-        Keyword::Other => Err(Refusal::Line),
-    }
+    let (word, rest) = split_word(without_last_blanks(command));
+    (keyword_of(word), rest)
 }
 
-fn read_tree(alloc: Global, rest: &[u8]) -> Result<Command<'_>, Refusal>
-    ensures ok { IfOk result (λ read. checked (tree_form rest.now) ≡ Ok (form_seen read)) }
-    ensures may_take_memory { IfOk result (λ read. is_without_memory (form_seen read) ≡ false) }
-    ensures budget { IfOk result (λ read. HasBudget (form_seen read)) }
-    ensures refused { IfErr result (λ refusal. (refusal ≡ Refusal.Memory)
-        ⊎ (checked (tree_form rest.now) ≡ Err refusal)) }
-{
-    let (name, text) = read_name_and_text(alloc, rest)?;
-    Ok(Command::Tree(name, text))
-}
-
-/// The name and the text of a command `tree`, given what follows its keyword.
+/// Reads a name and a text, with which a command ends.
 ///
 /// Errors: those of `Command::read`.
 #[inline(always)]
 pub fn read_name_and_text(alloc: Global, rest: &[u8]) -> Result<(Label, &[u8]), Refusal>
-    ensures ok { IfOk result (λ read. checked (tree_form rest.now) ≡ Ok (tree read.0 read.1.now)) }
+    ensures tree { IfOk result (λ read. checked (tree_form rest.now) ≡ Ok (tree read.0 read.1.now)) }
+    ensures module { IfOk result (λ read. checked (module_form rest.now) ≡ Ok (set_module read.0 read.1.now)) }
     ensures refused { IfErr result (λ refusal. (refusal ≡ Refusal.Memory)
-        ⊎ (checked (tree_form rest.now) ≡ Err refusal)) }
+        ⊎ ((checked (tree_form rest.now) ≡ Err refusal) × (checked (module_form rest.now) ≡ Err refusal))) }
 {
-    let (name, rest) = split_word(rest);
-    if name.is_empty() {
-        return Err(Refusal::Line);
-    }
-    let name = read_label(alloc, name)?;
-    Ok((name, behind_blanks(rest)))
+    let (name, rest) = split_name(rest)?;
+    let text = behind_blanks(rest);
+    Ok((read_label(alloc, name)?, text))
 }
 
-/// What follows the keyword `tree`, if the command begins with it and not with blanks. The first
-/// byte rules out most other commands.
-pub fn behind_tree(command: &[u8]) -> Option<&[u8]>
-    ensures { IfSome result (λ rest.
-        (front_word (without_end is_blank command.now) ≡ codes "tree")
-        × (behind_word (without_end is_blank command.now) ≡ rest.now)) }
+/// Reads a name, a path and a text, with which a command ends.
+///
+/// Errors: those of `Command::read`.
+pub fn read_path_and_text(alloc: Global, rest: &[u8]) -> Result<(Label, Path, &[u8]), Refusal>
+    ensures put { IfOk result (λ read. checked (put_form rest.now) ≡ Ok (put read.0 read.1 read.2.now)) }
+    ensures annotate { IfOk result (λ read. checked (annotate_form rest.now) ≡ Ok (annotate read.0 read.1 read.2.now)) }
+    ensures refused { IfErr result (λ refusal. (refusal ≡ Refusal.Memory)
+        ⊎ ((checked (put_form rest.now) ≡ Err refusal) × (checked (annotate_form rest.now) ≡ Err refusal))) }
 {
-    after_byte(b't', command)?;
-    let behind_t = after_byte(b't', without_last_blanks(command))?;
-    let behind_tr = after_byte(b'r', behind_t)?;
-    let behind_tre = after_byte(b'e', behind_tr)?;
-    let rest = after_byte(b'e', behind_tre)?;
-    if !ends_word(rest) {
-        return None;
-    }
-    Some(rest)
-}
-
-// Whether a word ends before this text.
-fn ends_word(rest: &[u8]) -> bool
-    ensures { result ≡ true → position_or_len is_blank rest.now ≡ 0 }
-{
-    match rest.first() {
-        Some(byte) => is_blank(*byte),
-        None => true,
-    }
+    let (name, rest) = split_name(rest)?;
+    let (path, rest) = split_word(rest);
+    let text = behind_blanks(rest);
+    let path = read_path_word(alloc, path)?;
+    Ok((read_label(alloc, name)?, path, text))
 }
 
 fn read_copy<'a>(alloc: Global, rest: &[u8]) -> Result<Command<'a>, Refusal>
-    ensures ok { IfOk result (λ read. checked (copy_form rest.now) ≡ Ok (form_seen read)) }
-    ensures may_take_memory { IfOk result (λ read. is_without_memory (form_seen read) ≡ false) }
-    ensures budget { IfOk result (λ read. HasBudget (form_seen read)) }
-    ensures refused { IfErr result (λ refusal. (refusal ≡ Refusal.Memory)
-        ⊎ (checked (copy_form rest.now) ≡ Err refusal)) }
+    ensures { ReadRight (copy_form rest.now) false result }
 {
-    let (name, rest) = split_word(rest);
-    let (copy, rest) = split_word(rest);
-    if name.is_empty() || copy.is_empty() || has_more(rest) {
+    let (name, rest) = split_name(rest)?;
+    let (copy, rest) = split_name(rest)?;
+    if has_more(rest) {
         return Err(Refusal::Line);
     }
     let name = read_label(alloc, name)?;
@@ -199,94 +194,10 @@ fn read_copy<'a>(alloc: Global, rest: &[u8]) -> Result<Command<'a>, Refusal>
     Ok(Command::Copy(name, copy))
 }
 
-fn read_put(alloc: Global, rest: &[u8]) -> Result<Command<'_>, Refusal>
-    ensures ok { IfOk result (λ read. checked (put_form rest.now) ≡ Ok (form_seen read)) }
-    ensures may_take_memory { IfOk result (λ read. is_without_memory (form_seen read) ≡ false) }
-    ensures budget { IfOk result (λ read. HasBudget (form_seen read)) }
-    ensures refused { IfErr result (λ refusal. (refusal ≡ Refusal.Memory)
-        ⊎ (checked (put_form rest.now) ≡ Err refusal)) }
-{
-    let (name, path, text) = read_put_parts(alloc, rest)?;
-    Ok(Command::Put(name, path, text))
-}
-
-/// The name, the path and the text of a command `put`, given what follows its keyword.
-///
-/// Errors: those of `Command::read`.
-pub fn read_put_parts(alloc: Global, rest: &[u8]) -> Result<(Label, Path, &[u8]), Refusal>
-    ensures ok { IfOk result (λ read. checked (put_form rest.now) ≡ Ok (put read.0 read.1 read.2.now)) }
-    ensures refused { IfErr result (λ refusal. (refusal ≡ Refusal.Memory)
-        ⊎ (checked (put_form rest.now) ≡ Err refusal)) }
-{
-    let (name, rest) = split_word(rest);
-    if name.is_empty() {
-        return Err(Refusal::Line);
-    }
-    let (path, rest) = split_word(rest);
-    let path = read_path_word(alloc, path)?;
-    let name = read_label(alloc, name)?;
-    Ok((name, path, behind_blanks(rest)))
-}
-
-/// What follows the keyword `put`, if the command begins with it and not with blanks.
-pub fn behind_put(command: &[u8]) -> Option<&[u8]>
-    ensures { IfSome result (λ rest.
-        (front_word (without_end is_blank command.now) ≡ codes "put")
-        × (behind_word (without_end is_blank command.now) ≡ rest.now)) }
-{
-    after_byte(b'p', command)?;
-    let behind_p = after_byte(b'p', without_last_blanks(command))?;
-    let behind_pu = after_byte(b'u', behind_p)?;
-    let rest = after_byte(b't', behind_pu)?;
-    if !ends_word(rest) {
-        return None;
-    }
-    Some(rest)
-}
-
-fn read_annotate(alloc: Global, rest: &[u8]) -> Result<Command<'_>, Refusal>
-    ensures ok { IfOk result (λ read. checked (annotate_form rest.now) ≡ Ok (form_seen read)) }
-    ensures may_take_memory { IfOk result (λ read. is_without_memory (form_seen read) ≡ false) }
-    ensures budget { IfOk result (λ read. HasBudget (form_seen read)) }
-    ensures refused { IfErr result (λ refusal. (refusal ≡ Refusal.Memory)
-        ⊎ (checked (annotate_form rest.now) ≡ Err refusal)) }
-{
-    let (name, rest) = split_word(rest);
-    if name.is_empty() {
-        return Err(Refusal::Line);
-    }
-    let (path, rest) = split_word(rest);
-    let path = read_path_word(alloc, path)?;
-    let name = read_label(alloc, name)?;
-    Ok(Command::Annotate(name, path, behind_blanks(rest)))
-}
-
-fn read_module(alloc: Global, rest: &[u8]) -> Result<Command<'_>, Refusal>
-    ensures ok { IfOk result (λ read. checked (module_form rest.now) ≡ Ok (form_seen read)) }
-    ensures may_take_memory { IfOk result (λ read. is_without_memory (form_seen read) ≡ false) }
-    ensures budget { IfOk result (λ read. HasBudget (form_seen read)) }
-    ensures refused { IfErr result (λ refusal. (refusal ≡ Refusal.Memory)
-        ⊎ (checked (module_form rest.now) ≡ Err refusal)) }
-{
-    let (name, rest) = split_word(rest);
-    if name.is_empty() {
-        return Err(Refusal::Line);
-    }
-    let name = read_label(alloc, name)?;
-    Ok(Command::Module(name, behind_blanks(rest)))
-}
-
 fn read_show<'a>(alloc: Global, rest: &[u8]) -> Result<Command<'a>, Refusal>
-    ensures ok { IfOk result (λ read. checked (show_form rest.now) ≡ Ok (form_seen read)) }
-    ensures may_take_memory { IfOk result (λ read. is_without_memory (form_seen read) ≡ false) }
-    ensures budget { IfOk result (λ read. HasBudget (form_seen read)) }
-    ensures refused { IfErr result (λ refusal. (refusal ≡ Refusal.Memory)
-        ⊎ (checked (show_form rest.now) ≡ Err refusal)) }
+    ensures { ReadRight (show_form rest.now) false result }
 {
-    let (name, rest) = split_word(rest);
-    if name.is_empty() {
-        return Err(Refusal::Line);
-    }
+    let (name, rest) = split_name(rest)?;
     let (word, rest) = split_option(b"at", rest);
     if has_more(rest) {
         return Err(Refusal::Line);
@@ -294,30 +205,6 @@ fn read_show<'a>(alloc: Global, rest: &[u8]) -> Result<Command<'a>, Refusal>
     let path = read_place(alloc, word)?;
     let name = read_label(alloc, name)?;
     Ok(Command::Show(name, path))
-}
-
-fn read_apply(alloc: Global, rest: &[u8], steps: u32) -> Result<Command<'_>, Refusal>
-    requires { AreSteps steps }
-    ensures ok { IfOk result (λ read. checked (strategy_form apply steps rest.now) ≡ Ok (form_seen read)) }
-    ensures may_take_memory { IfOk result (λ read. is_without_memory (form_seen read) ≡ false) }
-    ensures budget { IfOk result (λ read. HasBudget (form_seen read)) }
-    ensures refused { IfErr result (λ refusal. (refusal ≡ Refusal.Memory)
-        ⊎ (checked (strategy_form apply steps rest.now) ≡ Err refusal)) }
-{
-    let (name, path, steps, text) = read_strategy_parts(alloc, rest, steps)?;
-    Ok(Command::Apply(name, path, steps, text))
-}
-
-fn read_preview(alloc: Global, rest: &[u8], steps: u32) -> Result<Command<'_>, Refusal>
-    requires { AreSteps steps }
-    ensures ok { IfOk result (λ read. checked (strategy_form preview steps rest.now) ≡ Ok (form_seen read)) }
-    ensures may_take_memory { IfOk result (λ read. is_without_memory (form_seen read) ≡ false) }
-    ensures budget { IfOk result (λ read. HasBudget (form_seen read)) }
-    ensures refused { IfErr result (λ refusal. (refusal ≡ Refusal.Memory)
-        ⊎ (checked (strategy_form preview steps rest.now) ≡ Err refusal)) }
-{
-    let (name, path, steps, text) = read_strategy_parts(alloc, rest, steps)?;
-    Ok(Command::Preview(name, path, steps, text))
 }
 
 // The name, the path, the budget and the text of a command `apply` or `preview`.
@@ -332,15 +219,11 @@ fn read_strategy_parts(
     ensures preview { IfOk result (λ read. checked (strategy_form preview steps rest.now)
         ≡ Ok (preview read.0 read.1 read.2 read.3.now)) }
     ensures budget { IfOk result (λ read. AreSteps read.2) }
-    ensures apply_refused { IfErr result (λ refusal. (refusal ≡ Refusal.Memory)
-        ⊎ (checked (strategy_form apply steps rest.now) ≡ Err refusal)) }
-    ensures preview_refused { IfErr result (λ refusal. (refusal ≡ Refusal.Memory)
-        ⊎ (checked (strategy_form preview steps rest.now) ≡ Err refusal)) }
+    ensures refused { IfErr result (λ refusal. (refusal ≡ Refusal.Memory)
+        ⊎ ((checked (strategy_form apply steps rest.now) ≡ Err refusal)
+        × (checked (strategy_form preview steps rest.now) ≡ Err refusal))) }
 {
-    let (name, rest) = split_word(rest);
-    if name.is_empty() {
-        return Err(Refusal::Line);
-    }
+    let (name, rest) = split_name(rest)?;
     let (place, rest) = split_option(b"at", rest);
     let (budget, rest) = split_option(b"within", rest);
     let (keyword, text) = split_word(rest);
@@ -362,8 +245,8 @@ fn read_last_name(alloc: Global, rest: &[u8]) -> Result<Label, Refusal>
         ⊎ ((refusal ≡ Refusal.Name) × (name : List ℕ) × (last_name rest.now ≡ Some name)
         × (label_of name ≡ None)))) }
 {
-    let (name, rest) = split_word(rest);
-    if name.is_empty() || has_more(rest) {
+    let (name, rest) = split_name(rest)?;
+    if has_more(rest) {
         return Err(Refusal::Line);
     }
     read_label(alloc, name)
@@ -468,14 +351,25 @@ fn read_label(alloc: Global, name: &[u8]) -> Result<Label, Refusal>
 
 // ---- words
 
-// The text after its leading blanks. Usually there is one, so the first is tested alone.
+// Most bytes are beyond the blanks, and are told apart by one test.
+#[inline(always)]
+fn is_space(byte: u8) -> bool
+    ensures { result ≡ is_blank byte }
+{
+    byte <= b' ' && is_blank(byte)
+}
+
 fn behind_blanks(text: &[u8]) -> &[u8]
     ensures { result.now ≡ without_blanks text.now }
 {
-    match text.split_first() {
-        Some((first, rest)) if is_blank(*first) => after_blanks(rest),
-        _ => after_blanks(text),
-    }
+    &text[blanks_at_start(text)..]
+}
+
+fn blanks_at_start(text: &[u8]) -> usize
+    ensures run { result ≡ prefix_len is_blank text.now }
+    ensures within { result ≤ length text.now }
+{
+    text.iter().take_while(|b| is_space(**b)).count()
 }
 
 fn without_last_blanks(text: &[u8]) -> &[u8]
@@ -488,16 +382,31 @@ fn blanks_at_end(text: &[u8]) -> usize
     ensures run { result ≡ suffix_len is_blank text.now }
     ensures within { result ≤ length text.now }
 {
-    text.iter().rev().take_while(|b| is_blank(**b)).count()
+    text.iter().rev().take_while(|b| is_space(**b)).count()
 }
 
 // The first word of a text, empty if there is none, and what follows it.
+#[inline(always)]
 fn split_word(text: &[u8]) -> (&[u8], &[u8])
     ensures word { result.0.now ≡ front_word text.now }
     ensures behind { result.1.now ≡ behind_word text.now }
 {
     let text = behind_blanks(text);
     text.split_at(word_len(text))
+}
+
+// The word at the start of a text, where a name has to be, and what follows it.
+#[inline(always)]
+fn split_name(text: &[u8]) -> Result<(&[u8], &[u8]), Refusal>
+    ensures ok { IfOk result (λ parts. (has_word text.now ≡ true)
+        × (parts.0.now ≡ front_word text.now) × (parts.1.now ≡ behind_word text.now)) }
+    ensures refused { IfErr result (λ refusal. (refusal ≡ Refusal.Line) × (has_word text.now ≡ false)) }
+{
+    let (word, rest) = split_word(text);
+    if word.is_empty() {
+        return Err(Refusal::Line);
+    }
+    Ok((word, rest))
 }
 
 // If this keyword comes next: the word after it, and what follows that; else nothing, and the whole
@@ -518,5 +427,5 @@ fn word_len(text: &[u8]) -> usize
     ensures run { result ≡ position_or_len is_blank text.now }
     ensures within { result ≤ length text.now }
 {
-    text.iter().take_while(|b| !is_blank(**b)).count()
+    text.iter().take_while(|b| !is_space(**b)).count()
 }

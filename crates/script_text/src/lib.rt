@@ -1,25 +1,22 @@
-//! Scripts as text: commands are cut out of bytes and read, answers are written, and streams bring the
-//! one and take the other.
+//! Scripts as text: commands are cut out of bytes and read, and streams bring the bytes and take the
+//! answers.
 #![tactic(auto)]
 
 mod command;
 mod framing;
 mod keyword;
-mod lines;
 mod pending;
 mod sink;
 mod source;
 mod splitter;
-mod telling;
 mod write;
 
-pub use command::{Command, behind_put, behind_tree, read_name_and_text, read_put_parts};
+pub use command::{Command, read_name_and_text, read_path_and_text, split_keyword};
 pub use framing::Framing;
-pub use lines::{append_line, append_preview_line, append_replacement, append_shown, list_names};
+pub use keyword::Keyword;
 pub use sink::{Held, Sink};
 pub use source::{Bytes, Counted, Failed, Source};
 pub use splitter::{Fed, Piece, Splitter};
-pub use telling::{ANSWER_ROOM, refuse};
 pub use write::write_whole;
 
 /// The most bytes of a command.

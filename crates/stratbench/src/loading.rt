@@ -3,7 +3,7 @@
 ghost use Rattle.std.specs.Prelude.{◌≡◌, ◌⊎◌, Ok, Err, OnOk, OnErr, IfErr};
 ghost use Rattle.script_text.specs.declared.framing.Framing.TheVariants.{Continued};
 ghost use Rattle.script_text.specs.Laws.{IsCommandText};
-ghost use Rattle.script_text.specs.inside.Accepting.{reading_refusal};
+ghost use Rattle.script_core.specs.inside.Performing.{reading_refusal};
 ghost use Rattle.stratbench.specs.Files.{LoadsModule, LoadsTree, module_text_of};
 
 use crate::module_text::module_text;

@@ -24,9 +24,8 @@ use loading::{load_text, read_file};
 use prim_core::{Meaning, Primitive, Primitives};
 use prim_extended::extended_primitives;
 use script_core::{
-    ANSWER_ROOM, Counted, Framing, RunFault, Settings, Sink, Source, Summary, run, run_watched,
+    Answer, Counted, Framing, RunFault, Settings, Sink, Source, Summary, run, run_watched,
 };
-use script_text::refuse;
 use session_core::{Refusal, Session};
 use status::{FileFault, file_status, status};
 use std::alloc::Global;
@@ -99,10 +98,12 @@ fn report_file(rt: &HostRuntime, file: &str, fault: &FileFault) -> u8 {
 
 // Prints a refusal as an answer has it.
 fn print_refusal(rt: &HostRuntime, file: &str, refusal: &Refusal) -> io::Result<()> {
-    let mut text = Vec::with_capacity(rt.alloc(), ANSWER_ROOM)?;
-    refuse(&mut text, refusal);
+    let Ok(mut text) = Answer::new(rt.alloc()) else {
+        return Err(io::ErrorKind::OutOfMemory.into());
+    };
+    text.refuse(refusal);
     eprint!(rt; "stratbench: {file}: ")?;
-    rt.stderr().write_all(&text)
+    rt.stderr().write_all(text.bytes())
 }
 
 // Runs a new session with the extended primitives over the script. Returns the exit status.

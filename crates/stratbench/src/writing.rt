@@ -9,7 +9,7 @@ ghost use Rattle.script_text.specs.Replies.{line};
 use crate::status::FileFault;
 use command_line::Named;
 use prim_core::Meaning;
-use script_text::append_shown;
+use script_core::Answer;
 use session_core::{Refusal, Session};
 use std::alloc::{AllocError, Global};
 use std::fs::{self, File, Permissions};
@@ -24,17 +24,17 @@ pub fn shown_tree<M: Meaning>(
     alloc: Global,
     session: &Session<M>,
     name: &Label,
-) -> Result<Vec<u8>, Refusal>
+) -> Result<Answer, Refusal>
     ensures shown { IfOk result (λ text. (tree : Tree)
-        × (finmap.get session.now.now.trees name.now ≡ Some tree) × (text.items ≡ line (print tree))) }
+        × (finmap.get session.now.now.trees name.now ≡ Some tree) × (text ≡ line (print tree))) }
     ensures refused { IfErr result (λ refusal. (refusal ≡ Refusal.Memory)
         ⊎ ((refusal ≡ Refusal.NoTree) × (finmap.get session.now.now.trees name.now ≡ None))) }
 {
     let Some(tree) = session.tree(name) else {
         return Err(Refusal::NoTree);
     };
-    let mut text = Vec::new(alloc);
-    append_shown(tree, &mut text)?;
+    let mut text = Answer::new(alloc)?;
+    text.write_term(tree)?;
     Ok(text)
 }
 
@@ -45,7 +45,7 @@ pub fn write_tree<M: Meaning>(
     named: &Named<'_>,
 ) -> Result<(), FileFault> {
     let text = shown_tree(rt.alloc(), session, &named.name)?;
-    match replace(rt, named.file, &text) {
+    match replace(rt, named.file, text.bytes()) {
         Ok(()) => Ok(()),
         Err(error) if error.kind() == ErrorKind::OutOfMemory => Err(FileFault::Memory),
         Err(_) => Err(FileFault::Write),

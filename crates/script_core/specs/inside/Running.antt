@@ -5,12 +5,10 @@ use Rattle.std.specs.declared.result.Result.{Result}
 use Rattle.std.specs.Io.KnownBytes.{Consumes, Keeps, IsAtEnd}
 use Rattle.session_history.specs.History.{History}
 use Rattle.script_core.specs.declared.running.Running.{Running}
-use Rattle.script_core.specs.declared.running.Summary.{Summary}
 use Rattle.script_core.specs.declared.running.RunFault.{RunFault}
 use Rattle.script_core.specs.declared.running.RunFault.TheVariants.{Read, Write, Turns, Memory}
 use Rattle.script_text.specs.declared.framing.Framing.{Framing}
 use Rattle.script_text.specs.Handed.{Handed, handed, completed}
-use Rattle.script_text.specs.Replies.{Replying}
 use Rattle.script_text.specs.Splitting.{StandsBehind}
 use Rattle.script_text.specs.Split.{Split}
 use Rattle.script_text.specs.FedRight.{GoesBehind}

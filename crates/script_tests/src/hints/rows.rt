@@ -1,7 +1,7 @@
 //! Comparing what is said of a refused command.
 
 use prim_core::{NoPrimitives, Primitives};
-use script_core::{ANSWER_ROOM, Framing, Piece, answer_text};
+use script_core::{Answer, Framing, Piece, answer_text};
 use script_hints::{Past, Seen, explain, warn};
 use session_core::Session;
 use session_history::Refusal;
@@ -13,11 +13,11 @@ use term_core::Name;
 
 // The answer of a command, in a session whose budget is 1,000 steps.
 fn answer(alloc: Global, session: &mut Session<NoPrimitives>, command: Piece<'_>) -> Vec<u8> {
-    let Ok(mut answer) = Vec::with_capacity(alloc, ANSWER_ROOM) else {
+    let Ok(mut answer) = Answer::new(alloc) else {
         return Vec::new(alloc);
     };
     answer_text(alloc, session, command, 1_000, &mut answer);
-    answer
+    answer.bytes().to_vec(alloc).unwrap_or(Vec::new(alloc))
 }
 
 fn kind_of(word: &str) -> Option<FaultKind> {

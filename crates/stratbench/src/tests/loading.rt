@@ -47,7 +47,7 @@ fn is_loaded<M: Meaning>(alloc: Global) -> Result<bool, Fail> {
     let text_is = session.module_text(&name) == Some(b"strategies\n f = id".as_slice());
     let steps = session.counts() == (2, 0);
     let tree_is = match shown_tree(alloc, &session, &name) {
-        Ok(text) => text.as_slice() == b"f(1,2)\n".as_slice(),
+        Ok(text) => text.bytes() == b"f(1,2)\n".as_slice(),
         Err(_) => false,
     };
     Ok(well && faults && text_is && steps && tree_is)

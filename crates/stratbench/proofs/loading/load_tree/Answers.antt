@@ -2,7 +2,7 @@ use Rattle.std.proofs.Common.{ap, Err}
 use Rattle.aterm_text.specs.Grammar.{Spells}
 use Rattle.session_history.specs.Acts.{set_tree, ComesTo}
 use Rattle.script_text.specs.Replies.{ReadAs}
-use Rattle.script_text.proofs.AnswerLemmas.{read_refused, read_well}
+use Rattle.script_core.proofs.AnswerLemmas.{read_refused, read_well}
 use Rattle.stratbench.proofs.LoadingLemmas.{read_ok, read_then_refused, unread}
 use Rattle.stratbench.proofs.loading.load_tree.Goals as goal
 

@@ -1,4 +1,4 @@
-use Rattle.std.proofs.Common.{refl, ap, Ok, true, false, length, ◌∙◌}
+use Rattle.std.proofs.Common.{refl, true, false, length, ◌∙◌}
 use Rattle.std.proofs.KnownBytes.{Consumes-nil}
 use Rattle.script_core.specs.Ran.{streams}
 use Rattle.script_text.specs.Answer.{ReplyInRun}
@@ -6,7 +6,7 @@ use Rattle.script_core.proofs.RunningLemmas.{Progress-none, Progress-more, Progr
 use Rattle.script_core.proofs.running.Running.answer_all.Goals as goal
 
 pub loop-init : goal.loop-init
-loop-init g c = record { progress = Progress-none (ReplyInRun g.M.Meaning.meaning) _ _ _ c.requires.fresh; room = c.requires.room; piece = (search) }
+loop-init g c = record { progress = Progress-none (ReplyInRun g.M.Meaning.meaning) _ _ _ c.requires.fresh; piece = (search) }
 
 pub returns-in_default-clause-right : goal.returns-in_default-clause-right
 returns-in_default-clause-right g c =
@@ -25,7 +25,6 @@ pub loop-preserved : goal.loop-preserved
 loop-preserved g c = record {
   progress = Progress-more (ReplyInRun g.M.Meaning.meaning) c.args.self.now c.loop.self c.turn.new.self c.args.session.now c.loop.session c.turn.new.session (streams (g.I.Source.left c.args.source.now) (g.O.Sink.held c.args.sink.now) (g.I.Source.failed c.args.source.now) (g.O.Sink.failed c.args.sink.now)) (streams (g.I.Source.left c.loop.source) (g.O.Sink.held c.loop.sink) (g.I.Source.failed c.loop.source) (g.O.Sink.failed c.loop.sink)) (streams (g.I.Source.left c.turn.new.source) (g.O.Sink.held c.turn.new.sink) (g.I.Source.failed c.turn.new.source) (g.O.Sink.failed c.turn.new.sink)) _ _ c.loop.invariant.piece c.loop.invariant.progress
       (turn_is (ReplyInRun g.M.Meaning.meaning) c.in-Ok-true.field-0 true c.loop.self c.turn.new.self c.loop.session c.turn.new.session (streams (g.I.Source.left c.loop.source) (g.O.Sink.held c.loop.sink) (g.I.Source.failed c.loop.source) (g.O.Sink.failed c.loop.sink)) (streams (g.I.Source.left c.turn.new.source) (g.O.Sink.held c.turn.new.sink) (g.I.Source.failed c.turn.new.source) (g.O.Sink.failed c.turn.new.sink)) (length c.loop.piece) c.in-Ok-true.field-0-test c.in-Ok-true.ensures.right);
-  room = c.in-Ok-true.ensures.room (ap Ok c.in-Ok-true.field-0-test);
   piece = c.in-Ok-true.ensures.piece ∙ c.loop.invariant.piece;
 }
 

@@ -1,5 +1,4 @@
-use Rattle.std.proofs.Common.{◌≡◌, ◌≤◌, length, vec_capacity}
-use Rattle.script_text.specs.declared.telling.TheConstants.{ANSWER_ROOM}
+use Rattle.std.proofs.Common.{◌≡◌, length}
 use Rattle.script_core.specs.declared.running.TheConstants.{PIECE}
 use Rattle.script_text.specs.Answer.{ReplyInRun}
 use Rattle.script_core.specs.Ran.{streams}
@@ -12,6 +11,5 @@ invariant-loop g l = record {
   progress : Progress (ReplyInRun g.M.Meaning.meaning) l.fn.self l.self l.fn.session l.session
       (streams (g.I.Source.left l.fn.source) (g.O.Sink.held l.fn.sink) (g.I.Source.failed l.fn.source) (g.O.Sink.failed l.fn.sink))
       (streams (g.I.Source.left l.source) (g.O.Sink.held l.sink) (g.I.Source.failed l.source) (g.O.Sink.failed l.sink)) l.counter;
-  room : ANSWER_ROOM ≤ vec_capacity l.self.answer;
   piece : length l.piece ≡ PIECE;
 }

@@ -5,7 +5,7 @@ use Rattle.script_core.proofs.RunningLemmas.{OnErr-from, Underway-none, Underway
 use Rattle.script_core.proofs.running.Running.answer_bytes.Goals as goal
 
 pub loop-taken-init : goal.loop-taken-init
-loop-taken-init g c = record { underway = Underway-none (ReplyInRun g.M.Meaning.meaning) _ _ _ _; same = refl; room = c.requires.room }
+loop-taken-init g c = record { underway = Underway-none (ReplyInRun g.M.Meaning.meaning) _ _ _ _; same = refl }
 
 pub returns-in_err-answer_ready-clause-breaks : goal.returns-in_err-answer_ready-clause-breaks
 returns-in_err-answer_ready-clause-breaks g c =
@@ -24,7 +24,6 @@ loop-taken-preserved g c = record {
   underway = Underway-more (ReplyInRun g.M.Meaning.meaning) _ _ (record { splitter = c.feed.new.self; answer = c.loop-taken.self.answer; summary = c.loop-taken.self.summary; settings = c.loop-taken.self.settings }) _ _ _ _ _ _ _ _ _ _ c.loop-taken.invariant.underway c.in-Command.ensures (take_rest c.loop-taken.rest.now c.in-Command.taken) refl refl _ _
       (goes_on_is (ReplyInRun g.M.Meaning.meaning) (record { splitter = c.feed.new.self; answer = c.loop-taken.self.answer; summary = c.loop-taken.self.summary; settings = c.loop-taken.self.settings }) _ _ _ _ _ _ c.if-not-branch.false c.in_ok-answer_ready.ensures.answers) c.in_ok-answer_ready.ensures.splitter;
   same = c.in_ok-answer_ready.ensures.same ∙ c.loop-taken.invariant.same;
-  room = c.in_ok-answer_ready.ensures.room;
 }
 
 pub returns-clause-answers : goal.returns-clause-answers
