@@ -63,7 +63,9 @@ def main():
     print("|---|---|---|---|")
     for modules, rounds in [(100, 90), (400, 52)]:
         library = ["module lib strategies try(s) = s <+ id  bottomup(s) = all(bottomup(s)); s\n"]
-        row(program, f"{modules} modules of {RULES} rules, loaded", library + script(modules, 0))
+        loading = library + script(modules, 0)
+        row(program, f"{modules} modules of {RULES} rules, loaded", loading)
+        row(program, "the same in a group", ["begin\n", *loading, "commit\n"])
         row(program, f"the same and {8 * rounds} commands more", library + script(modules, rounds))
     row(program, "1,000 modules of one definition", [f"module m{i:04d} strategies s{i} = id\n" for i in range(1000)])
 
