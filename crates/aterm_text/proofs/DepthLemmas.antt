@@ -7,7 +7,7 @@ use Rattle.std.specs.Option.{option_map}
 use Rattle.std.proofs.lemmas.Bool.Decides.{nat_tests}
 use Rattle.term_core.specs.Word.{begins_word, continues_word, first_word}
 use Rattle.term_core.specs.Tree.{Tree}
-use Rattle.aterm_text.specs.Nesting.{greatest_open, outside_quotes, inside_quotes, behind_backslash, open_after}
+use Rattle.aterm_text.specs.Nesting.{greatest_open, outside_quotes, inside_quotes, after_backslash, open_after}
 use Rattle.aterm_text.specs.Tokens.{is_blank, without_blanks, NextQuoted, NextWord, integer_len, ReadsItems, item_at, escape_at, short_or_octal, octal_at, octal_value, is_octal_digit, are_octal_digits}
 use Rattle.aterm_text.specs.inside.Beginnings.{Begins, beginning_of}
 use Rattle.aterm_text.specs.inside.TermStack.{TermStack, OpenBracket, on_top, with_top, inside, first_closing, closes_first, closes}
@@ -102,7 +102,7 @@ closing-byte s n x closing e = closing_first s.open_brackets n x closing e
 -- ---- quoted bytes
 
 inside-plain : (b : ℕ) (x : List ℕ) (q k : Bool) → (b == 34) ≡ q → (b == 92) ≡ k → q ≡ false → k ≡ false → inside_quotes (b ∷ x) ≡ inside_quotes x
-inside-plain b x q k p r e f = ap (λ c. cond c (outside_quotes x) (cond (b == 92) (behind_backslash x) (inside_quotes x))) (p ∙ e) ∙ ap (λ c. cond c (behind_backslash x) (inside_quotes x)) (r ∙ f)
+inside-plain b x q k p r e f = ap (λ c. cond c (outside_quotes x) (cond (b == 92) (after_backslash x) (inside_quotes x))) (p ∙ e) ∙ ap (λ c. cond c (after_backslash x) (inside_quotes x)) (r ∙ f)
 
 octal-plain : (b : ℕ) (x : List ℕ) → is_octal_digit b ≡ true → inside_quotes (b ∷ x) ≡ inside_quotes x
 octal-plain b x h = inside-plain b x false false (grind (arith, nat_tests)) (grind (arith, nat_tests)) refl refl
@@ -138,7 +138,7 @@ escape_so d x byte left false false false true r h = ap inside_quotes (same_pair
 escape_so d x byte left false false false false true h = ap inside_quotes (same_pair 13 byte x left h).1
 escape_so d x byte left false false false false false h = octal-inside d x byte left h
 
-escape-inside : (x : List ℕ) (byte : ℕ) (left : List ℕ) → escape_at x ≡ Some (byte, left) → behind_backslash x ≡ inside_quotes left
+escape-inside : (x : List ℕ) (byte : ℕ) (left : List ℕ) → escape_at x ≡ Some (byte, left) → after_backslash x ≡ inside_quotes left
 escape-inside [] byte left h = absurd (cc)
 escape-inside (d ∷ x) byte left h = escape_so d x byte left (d == 34) (d == 92) (d == 110) (d == 116) (d == 114) h
 
@@ -146,7 +146,7 @@ item_so : (b : ℕ) (x : List ℕ) (byte : ℕ) (left : List ℕ) (q k : Bool) �
     → (if q then None else if k then escape_at x else Some (b, x)) ≡ Some (byte, left) → inside_quotes (b ∷ x) ≡ inside_quotes left
 item_so b x byte left true k p r h = absurd (cc)
 item_so b x byte left false true p r h =
-    ap (λ c. cond c (outside_quotes x) (cond (b == 92) (behind_backslash x) (inside_quotes x))) p ∙ ap (λ c. cond c (behind_backslash x) (inside_quotes x)) r ∙ escape-inside x byte left h
+    ap (λ c. cond c (outside_quotes x) (cond (b == 92) (after_backslash x) (inside_quotes x))) p ∙ ap (λ c. cond c (after_backslash x) (inside_quotes x)) r ∙ escape-inside x byte left h
 item_so b x byte left false false p r h = inside-plain b x false false p r refl refl ∙ ap inside_quotes (same_pair b byte x left h).1
 
 item-inside : (x : List ℕ) (byte : ℕ) (left : List ℕ) → item_at x ≡ Some (byte, left) → inside_quotes x ≡ inside_quotes left
@@ -187,13 +187,13 @@ name_so : (n : ℕ) (quoted : Bool) (bytes x y : List ℕ) → MatchBool quoted 
 name_so n true bytes x y h = ap (Greatest n) h.1 ∙ ap (greatest_open n) (items-inside bytes h.0 y h.2)
 name_so n false bytes x y h = word-skipped n (without_blanks x) bytes y h
 
-behind_blanks : (lexeme : Lexeme) (n : ℕ) (x y : List ℕ) → Begins (beginning_of lexeme) x y → Greatest n (without_blanks x) ≡ Greatest n y
-behind_blanks (Integer z) n x y h = sym (integer-skipped n (without_blanks x)) ∙ ap (Greatest n) (sym h.1)
-behind_blanks (Named name) n x y h = name_so n name.is_quoted name.text x y h
+after_blanks : (lexeme : Lexeme) (n : ℕ) (x y : List ℕ) → Begins (beginning_of lexeme) x y → Greatest n (without_blanks x) ≡ Greatest n y
+after_blanks (Integer z) n x y h = sym (integer-skipped n (without_blanks x)) ∙ ap (Greatest n) (sym h.1)
+after_blanks (Named name) n x y h = name_so n name.is_quoted name.text x y h
 
 -- a lexeme opens no bracket
-pub behind_lexeme : (lexeme : Lexeme) (n : ℕ) (x y : List ℕ) → Begins (beginning_of lexeme) x y → Greatest n x ≡ Greatest n y
-behind_lexeme lexeme n x y h = sym (blanks-skipped n x) ∙ behind_blanks lexeme n x y h
+pub after_lexeme : (lexeme : Lexeme) (n : ℕ) (x y : List ℕ) → Begins (beginning_of lexeme) x y → Greatest n x ≡ Greatest n y
+after_lexeme lexeme n x y h = sym (blanks-skipped n x) ∙ after_blanks lexeme n x y h
 
 -- ---- the stack
 
@@ -274,14 +274,14 @@ too-deep-after n x text e h = omega (arith, e, h)
 
 -- ---- as the answers cite them
 
-pub behind_trim : (n : ℕ) (x text : List ℕ) → text ≡ without_blanks x → Greatest n x ≡ Greatest n text
-behind_trim n x text e = sym (blanks-skipped n x) ∙ ap (Greatest n) (sym e)
+pub after_trim : (n : ℕ) (x text : List ℕ) → text ≡ without_blanks x → Greatest n x ≡ Greatest n text
+after_trim n x text e = sym (blanks-skipped n x) ∙ ap (Greatest n) (sym e)
 
-pub behind_round : (n : ℕ) (x text y : List ℕ) → text ≡ without_blanks x → text ≡ 40 ∷ y → Greatest n x ≡ Greatest (n + 1) y
-behind_round n x text y e next = behind_trim n x text e ∙ ap (Greatest n) next ∙ opening-round n y
+pub after_round : (n : ℕ) (x text y : List ℕ) → text ≡ without_blanks x → text ≡ 40 ∷ y → Greatest n x ≡ Greatest (n + 1) y
+after_round n x text y e next = after_trim n x text e ∙ ap (Greatest n) next ∙ opening-round n y
 
-pub behind_curly : (n : ℕ) (x y : List ℕ) → x ≡ 123 ∷ y → Greatest n x ≡ Greatest (n + 1) y
-behind_curly n x y next = ap (Greatest n) next ∙ opening-curly n y
+pub after_curly : (n : ℕ) (x y : List ℕ) → x ≡ 123 ∷ y → Greatest n x ≡ Greatest (n + 1) y
+after_curly n x y next = ap (Greatest n) next ∙ opening-curly n y
 
-pub behind_square : (n : ℕ) (x y : List ℕ) → x ≡ 91 ∷ y → Greatest n x ≡ Greatest (n + 1) y
-behind_square n x y next = ap (Greatest n) next ∙ opening-square n y
+pub after_square : (n : ℕ) (x y : List ℕ) → x ≡ 91 ∷ y → Greatest n x ≡ Greatest (n + 1) y
+after_square n x y next = ap (Greatest n) next ∙ opening-square n y

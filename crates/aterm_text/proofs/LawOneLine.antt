@@ -148,8 +148,8 @@ plain_printed true b h p = (p refl, tt)
 plain_printed false b h p = octal_printed b h
 
 -- a byte after a backslash
-behind_backslash : (b : ℕ) → IsSolid b → ArePrinted (92 ∷ (b ∷ []))
-behind_backslash b h = (printed 92 (solid 92 refl), (printed b h, tt))
+after_backslash : (b : ℕ) → IsSolid b → ArePrinted (92 ∷ (b ∷ []))
+after_backslash b h = (printed 92 (solid 92 refl), (printed b h, tt))
 
 one_of : (q : Bool) (x y : List ℕ) → ArePrinted x → ArePrinted y → ArePrinted (if q then x else y)
 one_of true x y p r = p
@@ -157,8 +157,8 @@ one_of false x y p r = r
 
 escaped_printed : (b : ℕ) → b < 256 → ArePrinted (escaped b)
 escaped_printed b h =
-    one_of (b == 34) _ _ (behind_backslash 34 (solid 34 refl)) (one_of (b == 92) _ _ (behind_backslash 92 (solid 92 refl)) (one_of (b == 10) _ _ (behind_backslash 110 (solid 110 refl))
-    (one_of (b == 9) _ _ (behind_backslash 116 (solid 116 refl)) (one_of (b == 13) _ _ (behind_backslash 114 (solid 114 refl)) (plain_printed (nat_lt 31 b && nat_lt b 127) b h range)))))
+    one_of (b == 34) _ _ (after_backslash 34 (solid 34 refl)) (one_of (b == 92) _ _ (after_backslash 92 (solid 92 refl)) (one_of (b == 10) _ _ (after_backslash 110 (solid 110 refl))
+    (one_of (b == 9) _ _ (after_backslash 116 (solid 116 refl)) (one_of (b == 13) _ _ (after_backslash 114 (solid 114 refl)) (plain_printed (nat_lt 31 b && nat_lt b 127) b h range)))))
   where
     range : (nat_lt 31 b && nat_lt b 127) ≡ true → IsPrinted b
     range t = let ends = both (nat_lt 31 b) (nat_lt b 127) t in (omega (arith, ltb-true 31 b ends.0), omega (arith, ltb-true b 127 ends.1))

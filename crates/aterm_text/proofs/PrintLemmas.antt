@@ -58,17 +58,17 @@ escaped-run : (s : List ℕ) → flat_map escaped s ≡ take (prefix_len is_plai
 escaped-run [] = refl
 escaped-run (b ∷ s) = run_more (is_plain b) b (prefix_len is_plain s) s (escaped-plain b) (escaped-run s)
 
-behind_run : (q : Bool) (b n c : ℕ) (s r : List ℕ) → (q ≡ is_plain b) → (drop n s ≡ c ∷ r → is_plain c ≡ false) → drop (cond q (1 + n) 0) (b ∷ s) ≡ c ∷ r → is_plain c ≡ false
-behind_run true b n c s r q h e = let k : 1 + n ≡ suc n = omega arith in h (rw k at e)
-behind_run false b n c s r q h e = let same : b ≡ c = cc in ap is_plain (sym same) ∙ sym q
+after_run : (q : Bool) (b n c : ℕ) (s r : List ℕ) → (q ≡ is_plain b) → (drop n s ≡ c ∷ r → is_plain c ≡ false) → drop (cond q (1 + n) 0) (b ∷ s) ≡ c ∷ r → is_plain c ≡ false
+after_run true b n c s r q h e = let k : 1 + n ≡ suc n = omega arith in h (rw k at e)
+after_run false b n c s r q h e = let same : b ≡ c = cc in ap is_plain (sym same) ∙ sym q
 
 stopped : (s : List ℕ) (c : ℕ) (r : List ℕ) → drop (prefix_len is_plain s) s ≡ c ∷ r → is_plain c ≡ false
 stopped [] c r e = absurd (cc)
-stopped (b ∷ s) c r e = behind_run (is_plain b) b (prefix_len is_plain s) c s r refl (stopped s c r) e
+stopped (b ∷ s) c r e = after_run (is_plain b) b (prefix_len is_plain s) c s r refl (stopped s c r) e
 
 -- the byte after the run needs an escape
-pub escape-behind : (s : List ℕ) (n c : ℕ) (r : List ℕ) → n ≡ prefix_len is_plain s → drop n s ≡ c ∷ r → is_plain c ≡ false
-escape-behind s n c r e h = stopped s c r (sym (ap (λ m. drop m s) e) ∙ h)
+pub escape-after : (s : List ℕ) (n c : ℕ) (r : List ℕ) → n ≡ prefix_len is_plain s → drop n s ≡ c ∷ r → is_plain c ≡ false
+escape-after s n c r e h = stopped s c r (sym (ap (λ m. drop m s) e) ∙ h)
 
 run_split : (s : List ℕ) (n : ℕ) → n ≡ prefix_len is_plain s → flat_map escaped s ≡ take n s ++ flat_map escaped (drop n s)
 run_split s n e = escaped-run s ∙ ap (λ m. take m s ++ flat_map escaped (drop m s)) (sym e)

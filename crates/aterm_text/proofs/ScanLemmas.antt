@@ -135,9 +135,9 @@ run_at_start text run rest bytes n e f g h =
     (subst (IsReadSoFar text (take (prefix_len is_plain text) text)) (sym (g ∙ ap (λ k. drop k text) e)) (run_read text [] text (nothing_read text)))
 
 -- an escape, and the run after it
-pub run_behind : (text bytes rest behind left run rest' bytes' : List ℕ) (b : ℕ) → IsReadSoFar text bytes rest → rest ≡ 92 ∷ behind → escape_at behind ≡ Some (b, left) → length left < length behind
+pub run_after : (text bytes rest after left run rest' bytes' : List ℕ) (b : ℕ) → IsReadSoFar text bytes rest → rest ≡ 92 ∷ after → escape_at after ≡ Some (b, left) → length left < length after
     → run ≡ take (prefix_len is_plain left) left → rest' ≡ drop (prefix_len is_plain left) left → bytes' ≡ (bytes ++ b ∷ []) ++ run → IsReadSoFar text bytes' rest'
-run_behind text bytes rest behind left run rest' bytes' b so_far e escaped shorter f g h =
+run_after text bytes rest after left run rest' bytes' b so_far e escaped shorter f g h =
     let item : item_at rest ≡ Some (b, left) = ap item_at e ∙ escaped in
     let read = item_read text bytes rest b left item (omega (arith, ap length e)) so_far in
     subst (λ l. IsReadSoFar text l rest') (sym (h ∙ ap (λ l. (bytes ++ b ∷ []) ++ l) f))
@@ -147,11 +147,11 @@ pub rest_stops : (x rest : List ℕ) (n : ℕ) → n ≡ prefix_len is_plain x �
 rest_stops x rest n e f = ap (prefix_len is_plain) (f ∙ ap (λ k. drop k x) e) ∙ prefix_len-rest is_plain x
 
 -- what an escape is not
-pub no_escape : (rest behind : List ℕ) → rest ≡ 92 ∷ behind → escape_at behind ≡ None → item_at rest ≡ None
-no_escape rest behind e h = ap item_at e ∙ h
+pub no_escape : (rest after : List ℕ) → rest ≡ 92 ∷ after → escape_at after ≡ None → item_at rest ≡ None
+no_escape rest after e h = ap item_at e ∙ h
 
-pub no_quote : (rest behind : List ℕ) → rest ≡ 92 ∷ behind → (left : List ℕ) → rest ≡ 34 ∷ left → ⊥
-no_quote rest behind e left h = let same : ◌≡◌ {A = List ℕ} (92 ∷ behind) (34 ∷ left) = sym e ∙ h in let first : ◌≡◌ {A = ℕ} 92 34 = cc in omega (arith, first)
+pub no_quote : (rest after : List ℕ) → rest ≡ 92 ∷ after → (left : List ℕ) → rest ≡ 34 ∷ left → ⊥
+no_quote rest after e left h = let same : ◌≡◌ {A = List ℕ} (92 ∷ after) (34 ∷ left) = sym e ∙ h in let first : ◌≡◌ {A = ℕ} 92 34 = cc in omega (arith, first)
 
 plain-stop : (b : ℕ) (bs : List ℕ) (q k : Bool) → (b == 34) ≡ q → (b == 92) ≡ k → cond (not q && not k) (1 + prefix_len is_plain bs) 0 ≡ 0
     → ((left : List ℕ) → ◌≡◌ {A = List ℕ} (b ∷ bs) (92 ∷ left) → ⊥) → item_at (b ∷ bs) ≡ None

@@ -6,7 +6,7 @@ use Rattle.term_core.specs.Tree.{Tree, Trees, integer, branch, application, list
 use Rattle.aterm_text.specs.Tokens.{is_blank, without_blanks, NextSign, IsInteger, integer_len, NextQuoted, NextWord}
 use Rattle.aterm_text.specs.Grammar.{Reads, ReadsUntil, ReadsMore}
 use Rattle.aterm_text.specs.inside.Level.{Level, closing_of}
-use Rattle.aterm_text.specs.inside.Unread.{Reading, expected, entered, base, whole, Unread, Continues, BehindWhole}
+use Rattle.aterm_text.specs.inside.Unread.{Reading, expected, entered, base, whole, Unread, Continues, AfterWhole}
 use Rattle.aterm_text.proofs.ScanLemmas.{prefix_len-rest}
 
 pub trimmed : (x : List ℕ) → without_blanks (without_blanks x) ≡ without_blanks x
@@ -47,7 +47,7 @@ module _ (x y : List ℕ) (same : without_blanks x ≡ without_blanks y) where
   more_in none close z h = sign_in close z h
   more_in (more t ts) close z h = (h.0, h.1, sign_in 44 h.0 h.2, h.3, h.4)
 
-  whole_in : (levels : List Level) (t all : Tree) → BehindWhole levels t x all → BehindWhole levels t y all
+  whole_in : (levels : List Level) (t all : Tree) → AfterWhole levels t x all → AfterWhole levels t y all
   whole_in [] t all h = (sym same ∙ h.0, h.1)
   whole_in (level ∷ levels) t all h = (h.0, h.1, more_in h.0 (closing_of level.opened) h.1 h.2, h.3)
 
@@ -60,7 +60,7 @@ module _ (x y : List ℕ) (same : without_blanks x ≡ without_blanks y) where
       y,
       inr ((λ a next. bare.0 a (sign_in y x (sym same) 123 a next)), bare.1, refl),
       whole_in x y same levels (with_annotations t (to_list h.0)) all
-          (subst (λ l. BehindWhole levels (with_annotations t (to_list h.0)) l all) bare.2 h.3),
+          (subst (λ l. AfterWhole levels (with_annotations t (to_list h.0)) l all) bare.2 h.3),
     )
   ]
 

@@ -13,11 +13,11 @@ abbrev mutual
   inside_quotes [] = []
   inside_quotes (b ∷ bs) =
       if (b == quote) then outside_quotes bs else
-      if (b == backslash) then behind_backslash bs else inside_quotes bs
+      if (b == backslash) then after_backslash bs else inside_quotes bs
 
-  pub behind_backslash : List ℕ → List ℕ
-  behind_backslash [] = []
-  behind_backslash (b ∷ bs) = inside_quotes bs
+  pub after_backslash : List ℕ → List ℕ
+  after_backslash [] = []
+  after_backslash (b ∷ bs) = inside_quotes bs
 
 -- the number of open brackets after this byte, if n are open before it: a closing one, of any kind,
 -- closes one if one is open

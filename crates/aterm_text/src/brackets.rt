@@ -10,7 +10,7 @@ ghost use Rattle.aterm_text.specs.inside.NestingPlaces.{place_after, depth_after
 enum Quoting {
     OutsideQuotes,
     InsideQuotes,
-    BehindBackslash,
+    AfterBackslash,
 }
 
 impl Quoting {
@@ -21,8 +21,8 @@ impl Quoting {
             (Quoting::OutsideQuotes, b'"') => Quoting::InsideQuotes,
             (Quoting::OutsideQuotes, _) => Quoting::OutsideQuotes,
             (Quoting::InsideQuotes, b'"') => Quoting::OutsideQuotes,
-            (Quoting::InsideQuotes, b'\\') => Quoting::BehindBackslash,
-            (Quoting::InsideQuotes | Quoting::BehindBackslash, _) => Quoting::InsideQuotes,
+            (Quoting::InsideQuotes, b'\\') => Quoting::AfterBackslash,
+            (Quoting::InsideQuotes | Quoting::AfterBackslash, _) => Quoting::InsideQuotes,
         }
     }
 

@@ -185,9 +185,9 @@ fn print_escaped(bytes: &[u8], out: &mut Vec<u8>) -> Result<(), NoMemory>
 {
     let mut rest = bytes;
     while !rest.is_empty() {
-        let (run, behind) = rest.split_at(plain_run_len(rest));
+        let (run, after) = rest.split_at(plain_run_len(rest));
         out.extend_from_slice(run)?;
-        let Some((byte, next)) = behind.split_first() else {
+        let Some((byte, next)) = after.split_first() else {
             return Ok(());
         };
         print_escape(*byte, out)?;

@@ -280,8 +280,8 @@ fn flip_forward(replaced: &mut [Replaced], paths: &[usize], store: &mut Store)
     let mut rest = paths;
     for i in 0..replaced.len() {
         let entry = &mut replaced[i];
-        let (path, behind) = rest.split_at(entry.depth);
+        let (path, later) = rest.split_at(entry.depth);
         store.exchange(entry.slot, path, &mut entry.kept);
-        rest = behind;
+        rest = later;
     }
 }

@@ -86,7 +86,7 @@ pub files : row (codes "stratbench" ∷ codes "--tree=t=a" ∷ codes "--module" 
 unfolding clap_on_literals
 files = refl
 
-pub behind_dashes : row (codes "stratbench" ∷ codes "--steps" ∷ codes "1" ∷ codes "--" ∷ codes "--stop" ∷ [])
+pub after_dashes : row (codes "stratbench" ∷ codes "--steps" ∷ codes "1" ∷ codes "--" ∷ codes "--stop" ∷ [])
     ≡ record {
       library = false;
       stop = false;
@@ -101,7 +101,7 @@ pub behind_dashes : row (codes "stratbench" ∷ codes "--steps" ∷ codes "1" �
       fault = [];
     }
 unfolding clap_on_literals
-behind_dashes = refl
+after_dashes = refl
 
 pub two_files : line_fault (codes "stratbench" ∷ codes "a" ∷ codes "b" ∷ []) ≡ kind.UnknownArgument ∷ []
 unfolding clap_on_literals

@@ -18,11 +18,11 @@ use Rattle.script_text.specs.declared.command.Command.{Command}
 use Rattle.script_text.specs.declared.keyword.Keyword.{Keyword}
 use Rattle.script_text.specs.Script.{without_end}
 use Rattle.script_text.specs.Handed.{Handed, text as handed_text, long}
-use Rattle.script_text.specs.Form.{Form, is_without_memory, undo, redo, begin, abandon, checked, form_of, form_with, is_same, last_steps, has_word, front_word, behind_word, takes_no_memory, takes_no_memory_with}
+use Rattle.script_text.specs.Form.{Form, is_without_memory, undo, redo, begin, abandon, checked, form_of, form_with, is_same, last_steps, has_word, front_word, after_word, takes_no_memory, takes_no_memory_with}
 use Rattle.script_text.specs.CommandView.{form}
 use Rattle.script_text.specs.Replies.{Reply, ReadAs, Told, done, told_of, Replies, ReplyTo, ReplyToText, refused, line}
 use Rattle.script_text.specs.Answer.{Answered, ReplyInRun, TellsRefusal, takes_none, is_fault}
-use Rattle.script_text.specs.KeywordView.{form_behind, is_without_memory_behind}
+use Rattle.script_text.specs.KeywordView.{form_after, is_without_memory_after}
 use Rattle.script_core.specs.inside.Performing.{Refuses, PerformedRight, ReplyToForm, ToldRight, reading_refusal}
 
 -- ---- texts that are read
@@ -184,7 +184,7 @@ told_shortly meaning steps (handed_text c) h refusal fault reply = at (takes_no_
     at : (b : Bool) → takes_no_memory c ≡ b → takes_no_memory c ≡ false
     at false e = e
     at true e =
-        let short : is_fault refusal ≡ false = said_shortly meaning steps h (Err refusal) (front_word (without_end is_blank c)) (behind_word (without_end is_blank c)) reply e in
+        let short : is_fault refusal ≡ false = said_shortly meaning steps h (Err refusal) (front_word (without_end is_blank c)) (after_word (without_end is_blank c)) reply e in
         absurd (cc)
 told_shortly meaning steps long h refusal fault reply = let short : is_fault refusal ≡ false = ap tells_fault reply in absurd (cc)
 
@@ -209,10 +209,10 @@ answered meaning steps command h g answer false (refusal, inr reply, same, inr w
 
 -- a command that is answered by its form
 pub by_form : (meaning : Meaning) (steps : ℕ) (command : Handed) (text : List ℕ) (keyword known : Keyword) (rest : List ℕ) (h g : History) (answer : List ℕ) (verdict : Bool) →
-    command ≡ handed_text text → form_of steps text ≡ form_behind keyword steps rest → takes_no_memory text ≡ is_without_memory_behind keyword → keyword ≡ known →
-    ToldRight (ReplyToForm meaning (form_behind known steps rest) h) (is_without_memory_behind known) h g answer verdict → Answered (ReplyInRun meaning steps) command h g answer verdict
+    command ≡ handed_text text → form_of steps text ≡ form_after keyword steps rest → takes_no_memory text ≡ is_without_memory_after keyword → keyword ≡ known →
+    ToldRight (ReplyToForm meaning (form_after known steps rest) h) (is_without_memory_after known) h g answer verdict → Answered (ReplyInRun meaning steps) command h g answer verdict
 by_form meaning steps command text keyword known rest h g answer verdict is same quiet e t =
     answered meaning steps command h g answer verdict
     (subst (λ (c : Handed). ToldRight (ReplyTo meaning steps c h) (takes_none c) h g answer verdict) (sym is)
-    (subst (λ (none : Bool). ToldRight (ReplyToText meaning steps text h) none h g answer verdict) (sym (quiet ∙ ap is_without_memory_behind e))
-    (subst (λ (asked : Option Form). ToldRight (ReplyToForm meaning asked h) (is_without_memory_behind known) h g answer verdict) (sym (same ∙ ap (λ k. form_behind k steps rest) e)) t)))
+    (subst (λ (none : Bool). ToldRight (ReplyToText meaning steps text h) none h g answer verdict) (sym (quiet ∙ ap is_without_memory_after e))
+    (subst (λ (asked : Option Form). ToldRight (ReplyToForm meaning asked h) (is_without_memory_after known) h g answer verdict) (sym (same ∙ ap (λ k. form_after k steps rest) e)) t)))

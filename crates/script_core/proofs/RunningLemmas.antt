@@ -14,16 +14,16 @@ use Rattle.script_core.specs.declared.running.TheConstants.{MAX_READS, PIECE}
 use Rattle.script_text.specs.declared.splitter.Fed.TheVariants.{Command}
 use Rattle.script_text.specs.declared.framing.Framing.{Framing}
 use Rattle.script_text.specs.Handed.{Handed, handed, completed}
-use Rattle.script_text.specs.Splitting.{StandsBehind, rest_of}
+use Rattle.script_text.specs.Splitting.{StandsAfter, rest_of}
 use Rattle.script_text.specs.inside.Passing.{out_of}
 use Rattle.script_text.specs.Split.{Split}
-use Rattle.script_text.specs.FedRight.{FedRight, GoesBehind}
+use Rattle.script_text.specs.FedRight.{FedRight, GoesAfter}
 use Rattle.script_text.specs.Run.{Completes, BreaksOff}
 use Rattle.script_text.specs.inside.Counting.{one_if}
 use Rattle.script_core.specs.Ran.{ByBudget, Calm, RunRight, Streams}
-use Rattle.script_core.specs.inside.Running.{GoesOnBy, Counts, AnswersReady, AnswersBytes, Underway, HandsBehind, Breaks, Ends, Stops, TurnRight}
+use Rattle.script_core.specs.inside.Running.{GoesOnBy, Counts, AnswersReady, AnswersBytes, Underway, HandsAfter, Breaks, Ends, Stops, TurnRight}
 use Rattle.script_text.proofs.RunLemmas.{one_if-total, Completes-none, Completes-append, Completes-stopped, Completes-after, Completes-flushed, BreaksOff-append, BreaksOff-longer, BreaksOff-flush, BreaksOff-after}
-use Rattle.script_text.proofs.SplitLemmas.{StandsBehind-end, StandsBehind-out}
+use Rattle.script_text.proofs.SplitLemmas.{StandsAfter-end, StandsAfter-out}
 
 pub OnErr-from : {T E P : Type 0} (r : Result T E) → P → OnErr r P
 OnErr-from (Ok x) p = tt
@@ -68,17 +68,17 @@ module _ (Rule : ByBudget) where
 
   -- ---- commands after commands
 
-  GoesBehind-none : (s : Split) → GoesBehind s s [] []
-  GoesBehind-none s framing x out h = subst (λ (xs : List ℕ). StandsBehind framing xs (out ++ []) s.left) (sym (append-nil x)) (subst (λ (hs : List Handed). StandsBehind framing x hs s.left) (sym (append-nil out)) h)
+  GoesAfter-none : (s : Split) → GoesAfter s s [] []
+  GoesAfter-none s framing x out h = subst (λ (xs : List ℕ). StandsAfter framing xs (out ++ []) s.left) (sym (append-nil x)) (subst (λ (hs : List Handed). StandsAfter framing x hs s.left) (sym (append-nil out)) h)
 
-  GoesBehind-trans : (a b c : Split) (xs ys : List ℕ) (cs ds : List Handed) → GoesBehind a b xs cs → GoesBehind b c ys ds → GoesBehind a c (xs ++ ys) (cs ++ ds)
-  GoesBehind-trans a b c xs ys cs ds p q framing x out h =
-      subst (λ (zs : List ℕ). StandsBehind framing zs (out ++ (cs ++ ds)) c.left) (append_assoc x xs ys)
-      (subst (λ (hs : List Handed). StandsBehind framing ((x ++ xs) ++ ys) hs c.left) (append_assoc out cs ds) (q framing (x ++ xs) (out ++ cs) (p framing x out h)))
+  GoesAfter-trans : (a b c : Split) (xs ys : List ℕ) (cs ds : List Handed) → GoesAfter a b xs cs → GoesAfter b c ys ds → GoesAfter a c (xs ++ ys) (cs ++ ds)
+  GoesAfter-trans a b c xs ys cs ds p q framing x out h =
+      subst (λ (zs : List ℕ). StandsAfter framing zs (out ++ (cs ++ ds)) c.left) (append_assoc x xs ys)
+      (subst (λ (hs : List Handed). StandsAfter framing ((x ++ xs) ++ ys) hs c.left) (append_assoc out cs ds) (q framing (x ++ xs) (out ++ cs) (p framing x out h)))
 
   -- all commands of these bytes are those taken so far followed by those of the rest
-  hands_behind : (old new : Split) (taken rest : List ℕ) (commands : List Handed) → GoesBehind old new taken commands → HandsBehind old (taken ++ rest) (commands ++ rest_of new.left rest)
-  hands_behind old new taken rest commands b framing x out h =
+  hands_after : (old new : Split) (taken rest : List ℕ) (commands : List Handed) → GoesAfter old new taken commands → HandsAfter old (taken ++ rest) (commands ++ rest_of new.left rest)
+  hands_after old new taken rest commands b framing x out h =
       ap (handed framing) (sym (append_assoc x taken rest)) ∙ (b framing x out h).rest rest ∙ append_assoc out commands (rest_of new.left rest)
 
   some_same : {X : Type 0} (o : Option X) (x y : X) → o ≡ Some x → o ≡ Some y → x ≡ y
@@ -119,21 +119,21 @@ module _ (Rule : ByBudget) where
   -- ---- bytes
 
   pub Underway-none : (s : Running) (h : History) (a : Option (List ℕ)) (bytes : List ℕ) → Underway Rule s s h h a a bytes bytes true
-  Underway-none s h a bytes = record { taken = []; all = refl; commands = []; behind = GoesBehind-none s.splitter; counts = Counts-none s h a; few = omega arith }
+  Underway-none s h a bytes = record { taken = []; all = refl; commands = []; after = GoesAfter-none s.splitter; counts = Counts-none s h a; few = omega arith }
 
   -- One more command was taken, and is answered.
-  module _ (old s t : Running) (h g k : History) (a b c : Option (List ℕ)) (bytes rest behind : List ℕ) (n : ℕ) (u : Underway Rule old s h g a b bytes rest true)
-      (fed : FedRight (Command n) s.splitter t.splitter rest) (rest_is : behind ≡ drop n rest) (summary : t.summary ≡ s.summary) (settings : t.settings ≡ s.settings) where
-    split : bytes ≡ (u.taken ++ take n rest) ++ behind
-    split = u.all ∙ ap (λ (xs : List ℕ). u.taken ++ xs) (sym (take-append-drop n rest) ∙ ap (λ (xs : List ℕ). take n rest ++ xs) (sym rest_is)) ∙ sym (append_assoc u.taken (take n rest) behind)
+  module _ (old s t : Running) (h g k : History) (a b c : Option (List ℕ)) (bytes rest after : List ℕ) (n : ℕ) (u : Underway Rule old s h g a b bytes rest true)
+      (fed : FedRight (Command n) s.splitter t.splitter rest) (rest_is : after ≡ drop n rest) (summary : t.summary ≡ s.summary) (settings : t.settings ≡ s.settings) where
+    split : bytes ≡ (u.taken ++ take n rest) ++ after
+    split = u.all ∙ ap (λ (xs : List ℕ). u.taken ++ xs) (sym (take-append-drop n rest) ∙ ap (λ (xs : List ℕ). take n rest ++ xs) (sym rest_is)) ∙ sym (append_assoc u.taken (take n rest) after)
 
-    pub Underway-more : (new : Running) (goes_on : Bool) → AnswersReady Rule t new g k b c goes_on → new.splitter ≡ t.splitter → Underway Rule old new h k a c bytes behind goes_on
+    pub Underway-more : (new : Running) (goes_on : Bool) → AnswersReady Rule t new g k b c goes_on → new.splitter ≡ t.splitter → Underway Rule old new h k a c bytes after goes_on
     Underway-more new goes_on r same = record {
       taken = u.taken ++ take n rest;
       all = split;
       commands = u.commands ++ fed.2 ∷ [];
-      behind = subst (λ (x : Split). GoesBehind old.splitter x (u.taken ++ take n rest) (u.commands ++ fed.2 ∷ [])) (sym same)
-          (GoesBehind-trans old.splitter s.splitter t.splitter u.taken (take n rest) u.commands (fed.2 ∷ []) u.behind fed.4);
+      after = subst (λ (x : Split). GoesAfter old.splitter x (u.taken ++ take n rest) (u.commands ++ fed.2 ∷ [])) (sym same)
+          (GoesAfter-trans old.splitter s.splitter t.splitter u.taken (take n rest) u.commands (fed.2 ∷ []) u.after fed.4);
       counts = Counts-append old s t new h g k a b c u.commands (fed.2 ∷ []) goes_on u.counts summary settings
           (subst (λ (x : Handed). Counts Rule (x ∷ []) t new g k b c goes_on) (some_same _ r.0 fed.2 r.1 fed.3) r.2);
       few = omega (arith, u.few, length-append u.commands (fed.2 ∷ []), length-append u.taken (take n rest), length-take n rest, fed.0, fed.1);
@@ -143,24 +143,24 @@ module _ (Rule : ByBudget) where
     Breaks-more command ready broken =
         let same : command ≡ fed.2 = some_same _ command fed.2 ready fed.3 in
         let one : BreaksOff old.settings.stop (Rule old.settings.steps) (fed.2 ∷ []) g k b c = subst (λ (x : Settings). BreaksOff x.stop (Rule x.steps) (fed.2 ∷ []) g k b c) (settings ∙ u.counts.settings) (subst (λ (x : Handed). BreaksOff t.settings.stop (Rule t.settings.steps) (x ∷ []) g k b c) same broken) in
-        let goes = GoesBehind-trans old.splitter s.splitter t.splitter u.taken (take n rest) u.commands (fed.2 ∷ []) u.behind fed.4 in
+        let goes = GoesAfter-trans old.splitter s.splitter t.splitter u.taken (take n rest) u.commands (fed.2 ∷ []) u.after fed.4 in
         record {
-          all = (u.commands ++ fed.2 ∷ []) ++ rest_of t.splitter.left behind;
-          hands = subst (λ (xs : List ℕ). HandsBehind old.splitter xs ((u.commands ++ fed.2 ∷ []) ++ rest_of t.splitter.left behind)) (sym split)
-              (hands_behind old.splitter t.splitter (u.taken ++ take n rest) behind (u.commands ++ fed.2 ∷ []) goes);
+          all = (u.commands ++ fed.2 ∷ []) ++ rest_of t.splitter.left after;
+          hands = subst (λ (xs : List ℕ). HandsAfter old.splitter xs ((u.commands ++ fed.2 ∷ []) ++ rest_of t.splitter.left after)) (sym split)
+              (hands_after old.splitter t.splitter (u.taken ++ take n rest) after (u.commands ++ fed.2 ∷ []) goes);
           breaks = BreaksOff-longer old.settings.stop (Rule old.settings.steps) (u.commands ++ fed.2 ∷ []) _ h k a c
               (BreaksOff-append old.settings.stop (Rule old.settings.steps) u.commands (fed.2 ∷ []) h g k a b c u.counts.yes u.counts.no u.counts.goes u.counts.completes one);
         }
 
   -- No command is complete in the rest.
-  pub Underway-all : (old s t : Running) (h g : History) (a b : Option (List ℕ)) (bytes rest : List ℕ) → Underway Rule old s h g a b bytes rest true → GoesBehind s.splitter t.splitter rest [] →
+  pub Underway-all : (old s t : Running) (h g : History) (a b : Option (List ℕ)) (bytes rest : List ℕ) → Underway Rule old s h g a b bytes rest true → GoesAfter s.splitter t.splitter rest [] →
       t.summary ≡ s.summary → t.settings ≡ s.settings → Underway Rule old t h g a b bytes [] true
   Underway-all old s t h g a b bytes rest u fed summary settings = record {
     taken = u.taken ++ rest;
     all = u.all ∙ sym (append-nil (u.taken ++ rest));
     commands = u.commands;
-    behind = subst (λ (cs : List Handed). GoesBehind old.splitter t.splitter (u.taken ++ rest) cs) (append-nil u.commands)
-        (GoesBehind-trans old.splitter s.splitter t.splitter u.taken rest u.commands [] u.behind fed);
+    after = subst (λ (cs : List Handed). GoesAfter old.splitter t.splitter (u.taken ++ rest) cs) (append-nil u.commands)
+        (GoesAfter-trans old.splitter s.splitter t.splitter u.taken rest u.commands [] u.after fed);
     counts = record {
       yes = u.counts.yes;
       no = u.counts.no;
@@ -177,7 +177,7 @@ module _ (Rule : ByBudget) where
   -- ---- the end
 
   pub Ends-ready : (old mid new : Running) (h g : History) (a b : Option (List ℕ)) (goes_on : Bool) →
-      ((framing : Framing) (x : List ℕ) (out : List Handed) → StandsBehind framing x out old.splitter.left → handed framing x ≡ out ++ option_to_list mid.splitter.to_hand_out) →
+      ((framing : Framing) (x : List ℕ) (out : List Handed) → StandsAfter framing x out old.splitter.left → handed framing x ≡ out ++ option_to_list mid.splitter.to_hand_out) →
       mid.summary ≡ old.summary → mid.settings ≡ old.settings → AnswersReady Rule mid new h g a b goes_on → Ends Rule old new h g a b []
   Ends-ready old mid new h g a b goes_on all summary settings r = record {
     all = r.0 ∷ [];
@@ -190,7 +190,7 @@ module _ (Rule : ByBudget) where
   }
 
   pub Breaks-ready : (old mid : Running) (command : Handed) (h g : History) (a b : Option (List ℕ)) →
-      ((framing : Framing) (x : List ℕ) (out : List Handed) → StandsBehind framing x out old.splitter.left → handed framing x ≡ out ++ option_to_list mid.splitter.to_hand_out) →
+      ((framing : Framing) (x : List ℕ) (out : List Handed) → StandsAfter framing x out old.splitter.left → handed framing x ≡ out ++ option_to_list mid.splitter.to_hand_out) →
       mid.settings ≡ old.settings → mid.splitter.to_hand_out ≡ Some command → BreaksOff mid.settings.stop (Rule mid.settings.steps) (command ∷ []) h g a b → Breaks Rule old h g a b []
   Breaks-ready old mid command h g a b all settings ready broken = record {
     all = command ∷ [];
@@ -200,7 +200,7 @@ module _ (Rule : ByBudget) where
 
   -- there is no command at the end
   pub Ends-none : (old mid : Running) (h : History) (a : Option (List ℕ)) →
-      ((framing : Framing) (x : List ℕ) (out : List Handed) → StandsBehind framing x out old.splitter.left → handed framing x ≡ out ++ option_to_list mid.splitter.to_hand_out) →
+      ((framing : Framing) (x : List ℕ) (out : List Handed) → StandsAfter framing x out old.splitter.left → handed framing x ≡ out ++ option_to_list mid.splitter.to_hand_out) →
       mid.summary ≡ old.summary → is_some mid.splitter.to_hand_out ≡ false → Ends Rule old mid h h a a []
   Ends-none old mid h a all summary none = record {
     all = [];
@@ -222,7 +222,7 @@ module _ (Rule : ByBudget) where
   pub Breaks-flush : (old : Running) (h : History) (a b : Option (List ℕ)) → Keeps a b → Breaks Rule old h h a b []
   Breaks-flush old h a b k = record {
     all = option_to_list old.splitter.left.command;
-    hands = λ framing x out s. ap (handed framing) (append-nil x) ∙ StandsBehind-end framing x out old.splitter.left s;
+    hands = λ framing x out s. ap (handed framing) (append-nil x) ∙ StandsAfter-end framing x out old.splitter.left s;
     breaks = BreaksOff-longer old.settings.stop (Rule old.settings.steps) [] (option_to_list old.splitter.left.command) h h a b (BreaksOff-flush old.settings.stop (Rule old.settings.steps) [] h h a a b 0 0 (Completes-none old.settings.stop (Rule old.settings.steps) h a) k);
   }
 
@@ -247,7 +247,7 @@ module _ (Rule : ByBudget) where
     taken = u.taken;
     all = u.all;
     commands = u.commands;
-    behind = u.behind;
+    after = u.after;
     counts = record {
       yes = u.counts.yes;
       no = u.counts.no;
@@ -265,8 +265,8 @@ module _ (Rule : ByBudget) where
   Ends-stopped : (old new : Running) (h g : History) (a b : Option (List ℕ)) (bytes rest : List ℕ) → Underway Rule old new h g a b bytes rest false → Ends Rule old new h g a b bytes
   Ends-stopped old new h g a b bytes rest u = record {
     all = u.commands ++ rest_of new.splitter.left rest;
-    hands = subst (λ (xs : List ℕ). HandsBehind old.splitter xs (u.commands ++ rest_of new.splitter.left rest)) (sym u.all)
-        (hands_behind old.splitter new.splitter u.taken rest u.commands u.behind);
+    hands = subst (λ (xs : List ℕ). HandsAfter old.splitter xs (u.commands ++ rest_of new.splitter.left rest)) (sym u.all)
+        (hands_after old.splitter new.splitter u.taken rest u.commands u.after);
     yes = u.counts.yes;
     no = u.counts.no;
     completes = Completes-stopped old.settings.stop (Rule old.settings.steps) u.commands (rest_of new.splitter.left rest) h g a b u.counts.yes u.counts.no u.counts.goes.0 u.counts.goes.1 u.counts.completes;
@@ -280,7 +280,7 @@ module _ (Rule : ByBudget) where
     some = u.counts.goes.1;
     all = u.commands ++ out_of new.splitter.left rest;
     hands = λ framing x out s. ap (λ (xs : List ℕ). completed framing (x ++ xs)) u.all ∙ sym (ap (completed framing) (append_assoc x u.taken rest))
-        ∙ StandsBehind-out framing rest (x ++ u.taken) (out ++ u.commands) new.splitter.left (u.behind framing x out s) ∙ append_assoc out u.commands (out_of new.splitter.left rest);
+        ∙ StandsAfter-out framing rest (x ++ u.taken) (out ++ u.commands) new.splitter.left (u.after framing x out s) ∙ append_assoc out u.commands (out_of new.splitter.left rest);
     completes = Completes-stopped old.settings.stop (Rule old.settings.steps) u.commands (out_of new.splitter.left rest) h g a b u.counts.yes u.counts.no u.counts.goes.0 u.counts.goes.1 u.counts.completes;
   }
 
@@ -300,14 +300,14 @@ module _ (Rule : ByBudget) where
     pub script : List ℕ
     pub read : Consumes a.left b.left script
     pub done : List Handed
-    pub stands : StandsBehind old.settings.framing script done s.splitter.left
+    pub stands : StandsAfter old.settings.framing script done s.splitter.left
     pub counts : Counts Rule done old s h g a.held b.held true
     pub few : length done ≤ length script
     pub least : turns ≤ length script
     pub most : length script ≤ PIECE * turns
     pub calm : Calm a b
 
-  pub Progress-none : (s : Running) (h : History) (a : Streams) → StandsBehind s.settings.framing [] [] s.splitter.left → Progress s s h h a a 0
+  pub Progress-none : (s : Running) (h : History) (a : Streams) → StandsAfter s.settings.framing [] [] s.splitter.left → Progress s s h h a a 0
   Progress-none s h a fresh = record {
     script = [];
     read = Consumes-nil a.left;
@@ -326,7 +326,7 @@ module _ (Rule : ByBudget) where
     script = p.script ++ bytes;
     read = Consumes-trans a.left b.left c.left p.script bytes p.read read;
     done = p.done ++ u.commands;
-    stands = subst (λ (xs : List ℕ). StandsBehind old.settings.framing (p.script ++ xs) (p.done ++ u.commands) t.splitter.left) (sym (u.all ∙ append-nil u.taken)) (u.behind old.settings.framing p.script p.done p.stands);
+    stands = subst (λ (xs : List ℕ). StandsAfter old.settings.framing (p.script ++ xs) (p.done ++ u.commands) t.splitter.left) (sym (u.all ∙ append-nil u.taken)) (u.after old.settings.framing p.script p.done p.stands);
     counts = Counts-append old s s t h g k a.held b.held c.held p.done u.commands true p.counts refl refl u.counts;
     few = omega (arith, p.few, u.few, length-append p.done u.commands, length-append p.script bytes, ap length (u.all ∙ append-nil u.taken));
     least = omega (arith, p.least, some, length-append p.script bytes);
@@ -377,7 +377,7 @@ module _ (Rule : ByBudget) where
         part = p.script ++ [];
         read = Consumes-trans a.left b.left c.left p.script [] p.read read;
         breaks = subst (λ (cs : List Handed). BreaksOff old.settings.stop (Rule old.settings.steps) cs h g a.held c.held)
-            (sym (ap (handed old.settings.framing) (append-nil p.script) ∙ StandsBehind-end old.settings.framing p.script p.done s.splitter.left p.stands))
+            (sym (ap (handed old.settings.framing) (append-nil p.script) ∙ StandsAfter-end old.settings.framing p.script p.done s.splitter.left p.stands))
             (BreaksOff-longer old.settings.stop (Rule old.settings.steps) p.done (option_to_list s.splitter.left.command) h g a.held c.held
             (BreaksOff-flush old.settings.stop (Rule old.settings.steps) p.done h g a.held b.held c.held p.counts.yes p.counts.no p.counts.completes held));
       },

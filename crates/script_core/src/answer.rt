@@ -10,7 +10,7 @@ ghost use Rattle.script_text.specs.FedRight.{handed_out};
 ghost use Rattle.script_text.specs.Replies.{ReadAs, Replies, line};
 ghost use Rattle.script_text.specs.Answer.{Answered, ReplyInRun, TellsRefusal};
 ghost use Rattle.script_text.specs.CommandView.{form as form_seen};
-ghost use Rattle.script_text.specs.KeywordView.{form_behind, is_without_memory_behind};
+ghost use Rattle.script_text.specs.KeywordView.{form_after, is_without_memory_after};
 ghost use Rattle.script_core.specs.inside.Performing.{PerformedRight, ReplyToForm, ToldRight, reading_refusal};
 
 use crate::buffer::Answer;
@@ -160,7 +160,7 @@ fn answer_form<M: Meaning, W: Watch<M>>(
     watch: &mut W,
 ) -> bool
     requires { AreSteps steps }
-    ensures { ToldRight (ReplyToForm M.meaning (form_behind keyword steps rest.now) session.old) (is_without_memory_behind keyword)
+    ensures { ToldRight (ReplyToForm M.meaning (form_after keyword steps rest.now) session.old) (is_without_memory_after keyword)
         session.old session.new answer.new result }
 {
     match Command::read_form(alloc, keyword, rest, steps) {

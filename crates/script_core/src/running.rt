@@ -3,7 +3,7 @@
 
 ghost use Rattle.std.specs.Prelude.{◌≡◌, ◌≤◌, ◌<◌, ◌+◌, ◌*◌, ◌^◌, ◌∷◌, [], Ok, Err, OnOk, OnErr, IfOk, true, false, not, is_some, Some, length};
 ghost use Rattle.script_text.specs.Handed.{Handed};
-ghost use Rattle.script_text.specs.Splitting.{StandsBehind};
+ghost use Rattle.script_text.specs.Splitting.{StandsAfter};
 ghost use Rattle.session_history.specs.Steps.{AreSteps};
 ghost use Rattle.script_text.specs.Answer.{ReplyInRun};
 ghost use Rattle.script_core.specs.Ran.{RunRight, streams};
@@ -294,7 +294,7 @@ impl Running {
         sink: &mut O,
         watch: &mut W,
     ) -> Result<Summary, RunFault>
-        requires fresh { StandsBehind self.old.settings.framing [] [] self.old.splitter.left }
+        requires fresh { StandsAfter self.old.settings.framing [] [] self.old.splitter.left }
         requires zero { (self.old.summary.accepted ≡ 0) × (self.old.summary.refused ≡ 0) }
         requires steps { AreSteps self.old.settings.steps }
         requires source { I.failed source.old + 1 < 2 ^ 64 }

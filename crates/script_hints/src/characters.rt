@@ -64,11 +64,11 @@ pub fn character_at(text: &[u8], at: usize) -> &[u8] {
     let Some([first, more @ ..]) = text.get(at..) else {
         return &[];
     };
-    let behind = more.iter().take_while(|b| !begins_character(**b)).count();
+    let after = more.iter().take_while(|b| !begins_character(**b)).count();
     let length = if *first < 0x80 {
         1
     } else {
-        behind.saturating_add(1)
+        after.saturating_add(1)
     };
     text.get(at..at.saturating_add(length)).unwrap_or(&[])
 }

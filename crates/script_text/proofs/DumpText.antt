@@ -12,12 +12,12 @@ use Rattle.session_history.specs.declared.refusal.Refusal.TheVariants.{Name}
 use Rattle.term_core.specs.Word.{begins_word, continues_word, is_word, label_of}
 use Rattle.aterm_text.specs.Tokens.{is_blank, without_blanks}
 use Rattle.aterm_text.specs.Laws.{IsPrinted, IsOneLine}
-use Rattle.session_history.specs.Dump.{behind_name}
+use Rattle.session_history.specs.Dump.{after_name}
 use Rattle.script_text.specs.declared.framing.Framing.{Framing}
 use Rattle.script_text.specs.declared.framing.Framing.TheVariants.{Continued, Lines}
 use Rattle.script_text.specs.Script.{is_line_feed, is_carriage_return, without_end, is_comment, lines, begins_command, Cut, cut, commands, without_start, is_command}
 use Rattle.script_text.specs.Laws.{IsCommandText}
-use Rattle.script_text.specs.Form.{Form, tree, set_module, front_word, behind_word, has_bytes, form_with, form_of, checked, command_of}
+use Rattle.script_text.specs.Form.{Form, tree, set_module, front_word, after_word, has_bytes, form_with, form_of, checked, command_of}
 use Rattle.script_text.proofs.LineLemmas.{IsCore, with_line, first_piece, lines-line_feed, lines-kept, kept-core}
 use Rattle.script_text.proofs.OwnLineLemmas.{own_command}
 
@@ -27,7 +27,7 @@ tree_command name x = codes "tree " ++ (name ++ 32 ∷ x)
 
 -- the command that sets the module of a name to that of a text
 abbrev pub module_command : List ℕ → List ℕ → List ℕ
-module_command name text = codes "module " ++ (name ++ behind_name text)
+module_command name text = codes "module " ++ (name ++ after_name text)
 
 -- a label, and the printed text of a tree
 pub record IsDumped (name x : List ℕ) : Type 0 where
@@ -86,8 +86,8 @@ label_ink name h = word_ink name (both (is_word name) _ (passed _ name h)).0
 no_blanks_in_front : (b : ℕ) (x : List ℕ) → IsInk b → prefix_len is_blank (b ∷ x) ≡ 0
 no_blanks_in_front b x h = ap (λ (q : Bool). cond q (1 + prefix_len is_blank x) 0) (not_blank b h)
 
-behind_space : (x : List ℕ) → prefix_len is_blank x ≡ 0 → without_blanks (32 ∷ x) ≡ x
-behind_space x h = ap (λ (n : ℕ). drop (1 + n) (32 ∷ x)) h
+after_space : (x : List ℕ) → prefix_len is_blank x ≡ 0 → without_blanks (32 ∷ x) ≡ x
+after_space x h = ap (λ (n : ℕ). drop (1 + n) (32 ∷ x)) h
 
 word_length : (name x : List ℕ) → AllByRecursion IsInk name → position_or_len is_blank (name ++ 32 ∷ x) ≡ length name
 word_length [] x h = refl
@@ -97,15 +97,15 @@ word_length (b ∷ s) x h =
 
 word_starts : (name x : List ℕ) → IsInkWord name → without_blanks (32 ∷ (name ++ 32 ∷ x)) ≡ name ++ 32 ∷ x
 word_starts [] x h = absurd (omega (arith, h.some))
-word_starts (b ∷ s) x h = behind_space (b ∷ (s ++ 32 ∷ x)) (no_blanks_in_front b (s ++ 32 ∷ x) h.all.0)
+word_starts (b ∷ s) x h = after_space (b ∷ (s ++ 32 ∷ x)) (no_blanks_in_front b (s ++ 32 ∷ x) h.all.0)
 
 first-is : (name x : List ℕ) → IsInkWord name → front_word (32 ∷ (name ++ 32 ∷ x)) ≡ name
 first-is name x h =
     ap (λ (text : List ℕ). take (position_or_len is_blank text) text) (word_starts name x h)
     ∙ ap (λ (n : ℕ). take n (name ++ 32 ∷ x)) (word_length name x h.all) ∙ take-append_seam name (32 ∷ x)
 
-behind-is : (name x : List ℕ) → IsInkWord name → behind_word (32 ∷ (name ++ 32 ∷ x)) ≡ 32 ∷ x
-behind-is name x h =
+after-is : (name x : List ℕ) → IsInkWord name → after_word (32 ∷ (name ++ 32 ∷ x)) ≡ 32 ∷ x
+after-is name x h =
     ap (λ (text : List ℕ). drop (position_or_len is_blank text) text) (word_starts name x h)
     ∙ ap (λ (n : ℕ). drop n (name ++ 32 ∷ x)) (word_length name x h.all) ∙ drop-append_seam name (32 ∷ x)
 
@@ -127,15 +127,15 @@ lone_length (b ∷ s) h =
 
 lone_starts : (name : List ℕ) → IsInkWord name → without_blanks (32 ∷ name) ≡ name
 lone_starts [] h = absurd (omega (arith, h.some))
-lone_starts (b ∷ s) h = behind_space (b ∷ s) (no_blanks_in_front b s h.all.0)
+lone_starts (b ∷ s) h = after_space (b ∷ s) (no_blanks_in_front b s h.all.0)
 
 lone_first : (name : List ℕ) → IsInkWord name → front_word (32 ∷ name) ≡ name
 lone_first name h =
     ap (λ (text : List ℕ). take (position_or_len is_blank text) text) (lone_starts name h)
     ∙ ap (λ (n : ℕ). take n name) (lone_length name h.all) ∙ take-length name
 
-lone_behind : (name : List ℕ) → IsInkWord name → behind_word (32 ∷ name) ≡ []
-lone_behind name h =
+lone_after : (name : List ℕ) → IsInkWord name → after_word (32 ∷ name) ≡ []
+lone_after name h =
     ap (λ (text : List ℕ). drop (position_or_len is_blank text) text) (lone_starts name h)
     ∙ ap (λ (n : ℕ). drop n name) (lone_length name h.all) ∙ drop-length name
 
@@ -144,15 +144,15 @@ abbrev named : (List ℕ → List ℕ → Form) → List ℕ → List ℕ → Op
 named form word rest = if has_bytes word then Some (form word (without_blanks rest)) else None
 
 module _ (form : List ℕ → List ℕ → Form) where
-  named-is : (name x : List ℕ) → IsInkWord name → prefix_len is_blank x ≡ 0 → named form (front_word (32 ∷ (name ++ 32 ∷ x))) (behind_word (32 ∷ (name ++ 32 ∷ x))) ≡ Some (form name x)
+  named-is : (name x : List ℕ) → IsInkWord name → prefix_len is_blank x ≡ 0 → named form (front_word (32 ∷ (name ++ 32 ∷ x))) (after_word (32 ∷ (name ++ 32 ∷ x))) ≡ Some (form name x)
   named-is name x h front =
-      (λ i. named form (first-is name x h i) (behind-is name x h i))
+      (λ i. named form (first-is name x h i) (after-is name x h i))
       ∙ ap (λ (q : Bool). if q then Some (form name (without_blanks (32 ∷ x))) else None) (some_bytes name h)
-      ∙ ap (λ (rest : List ℕ). Some (form name rest)) (behind_space x front)
+      ∙ ap (λ (rest : List ℕ). Some (form name rest)) (after_space x front)
 
-  named-alone : (name : List ℕ) → IsInkWord name → named form (front_word (32 ∷ name)) (behind_word (32 ∷ name)) ≡ Some (form name [])
+  named-alone : (name : List ℕ) → IsInkWord name → named form (front_word (32 ∷ name)) (after_word (32 ∷ name)) ≡ Some (form name [])
   named-alone name h =
-      (λ i. named form (lone_first name h i) (lone_behind name h i)) ∙ ap (λ (q : Bool). if q then Some (form name []) else None) (some_bytes name h)
+      (λ i. named form (lone_first name h i) (lone_after name h i)) ∙ ap (λ (q : Bool). if q then Some (form name []) else None) (some_bytes name h)
 
 -- ---- no white space ends the command
 
@@ -182,7 +182,7 @@ command_ends keyword name x some end =
 
 form-is : (steps : ℕ) (name x : List ℕ) → IsDumped name x → form_of steps (tree_command name x) ≡ Some (tree name x)
 form-is steps name x h =
-    ap (λ (text : List ℕ). form_with steps (front_word text) (behind_word text)) (no_end is_blank (tree_command name x) (command_ends (codes "tree ") name x h.line.some h.line.end))
+    ap (λ (text : List ℕ). form_with steps (front_word text) (after_word text)) (no_end is_blank (tree_command name x) (command_ends (codes "tree ") name x h.line.some h.line.end))
     ∙ named-is tree name x (label_ink name h.label) h.line.front
 
 -- the command is read as what was dumped
@@ -196,10 +196,10 @@ module_form-is : (framing : Framing) (steps : ℕ) (name text : List ℕ) → la
 module_form-is framing steps name [] label h =
     let word = label_ink name label in
     ap (λ (rest : List ℕ). form_of steps (codes "module " ++ rest)) (append-nil name)
-    ∙ ap (λ (text : List ℕ). form_with steps (front_word text) (behind_word text)) (no_end is_blank (codes "module " ++ name) (end-append is_blank (codes "module ") name word.some (ink_end name word.all)))
+    ∙ ap (λ (text : List ℕ). form_with steps (front_word text) (after_word text)) (no_end is_blank (codes "module " ++ name) (end-append is_blank (codes "module ") name word.some (ink_end name word.all)))
     ∙ named-alone set_module name word
 module_form-is framing steps name (b ∷ text) label h =
-    ap (λ (text : List ℕ). form_with steps (front_word text) (behind_word text)) (no_end is_blank (module_command name (b ∷ text)) (command_ends (codes "module ") name (b ∷ text) (omega arith) h.end))
+    ap (λ (text : List ℕ). form_with steps (front_word text) (after_word text)) (no_end is_blank (module_command name (b ∷ text)) (command_ends (codes "module ") name (b ∷ text) (omega arith) h.end))
     ∙ named-is set_module name (b ∷ text) (label_ink name label) h.front
 
 pub module_command-is : (framing : Framing) (steps : ℕ) (name text : List ℕ) → label_of name ≡ Some name → IsCommandText framing text → command_of steps (module_command name text) ≡ Ok (set_module name text)
@@ -292,26 +292,26 @@ record IsFurther (line : List ℕ) : Type 0 where
   whole : IsLine line
   goes_on : begins_command line ≡ false
 
-abbrev behind_feeds : List (List ℕ) → List ℕ
-behind_feeds others = flat_map (λ line. 10 ∷ line) others
+abbrev after_feeds : List (List ℕ) → List ℕ
+after_feeds others = flat_map (λ line. 10 ∷ line) others
 
 abbrev followed : List (List ℕ) → List ℕ → List ℕ
 followed [] y = y
 followed (line ∷ others) y = line ++ 10 ∷ followed others y
 
-seam : (first : List ℕ) (others : List (List ℕ)) (y : List ℕ) → (first ++ behind_feeds others) ++ 10 ∷ y ≡ first ++ 10 ∷ followed others y
+seam : (first : List ℕ) (others : List (List ℕ)) (y : List ℕ) → (first ++ after_feeds others) ++ 10 ∷ y ≡ first ++ 10 ∷ followed others y
 seam first [] y = ap (λ (x : List ℕ). x ++ 10 ∷ y) (append-nil first)
-seam first (line ∷ others) y = append_assoc first (10 ∷ (line ++ behind_feeds others)) (10 ∷ y) ∙ ap (λ (x : List ℕ). first ++ 10 ∷ x) (seam line others y)
+seam first (line ∷ others) y = append_assoc first (10 ∷ (line ++ after_feeds others)) (10 ∷ y) ∙ ap (λ (x : List ℕ). first ++ 10 ∷ x) (seam line others y)
 
 further : (others : List (List ℕ)) (y : List ℕ) (cs : List (List ℕ)) → AllByRecursion IsFurther others → cut (lines y) ≡ record { going_on = []; commands = cs }
-    → cut (lines (followed others y)) ≡ record { going_on = behind_feeds others; commands = cs }
+    → cut (lines (followed others y)) ≡ record { going_on = after_feeds others; commands = cs }
 further [] y cs h e = e
 further (line ∷ others) y cs h e =
     ap cut (h.0.whole (followed others y))
     ∙ ap (λ (q : Bool). cut (if not q then line ∷ lines (followed others y) else lines (followed others y))) (no_comment line h.0.goes_on)
     ∙ (λ i. cut_by (h.0.goes_on i) line (further others y cs h.1 e i))
 
-whole : (first : List ℕ) (others : List (List ℕ)) → IsLine first → is_comment first ≡ false → begins_command first ≡ true → AllByRecursion IsFurther others → IsContinued (first ++ behind_feeds others)
+whole : (first : List ℕ) (others : List (List ℕ)) → IsLine first → is_comment first ≡ false → begins_command first ≡ true → AllByRecursion IsFurther others → IsContinued (first ++ after_feeds others)
 whole first others line comment begins h y cs e =
     ap (λ (x : List ℕ). cut (lines x)) (seam first others y)
     ∙ ap cut (line (followed others y))
@@ -363,7 +363,7 @@ commit_whole framing = one_line framing (codes "commit") (inner-core (codes "com
 
 abbrev joined : List (List ℕ) → List ℕ
 joined [] = []
-joined (line ∷ others) = line ++ behind_feeds others
+joined (line ∷ others) = line ++ after_feeds others
 
 -- the parts between line feeds
 record IsParted (text : List ℕ) : Type 0 where
@@ -420,9 +420,9 @@ module_continued name (b ∷ text) label h = by (is_line_feed b) refl (first_pie
         let end : AllByRecursion (λ line. suffix_len is_carriage_return line ≡ 0) ((b ∷ rest.0) ∷ rest.1.0) = subst (AllByRecursion (λ line. suffix_len is_carriage_return line ≡ 0)) split h.lines in
         let goes_on : AllByRecursion (λ line. begins_command line ≡ false) rest.1.0 = subst (λ (ps : List (List ℕ)). AllByRecursion (λ line. begins_command line ≡ false) (drop 1 ps)) split h.goes_on in
         let first : List ℕ = codes "module " ++ (name ++ 32 ∷ (b ∷ rest.0)) in
-        let same : first ++ behind_feeds rest.1.0 ≡ module_command name (b ∷ text) =
-        append_assoc (codes "module ") (name ++ 32 ∷ (b ∷ rest.0)) (behind_feeds rest.1.0)
-        ∙ ap (λ (x : List ℕ). codes "module " ++ x) (append_assoc name (32 ∷ (b ∷ rest.0)) (behind_feeds rest.1.0) ∙ ap (λ (x : List ℕ). name ++ 32 ∷ x) (sym (ap joined split) ∙ parts.same)) in
+        let same : first ++ after_feeds rest.1.0 ≡ module_command name (b ∷ text) =
+        append_assoc (codes "module ") (name ++ 32 ∷ (b ∷ rest.0)) (after_feeds rest.1.0)
+        ∙ ap (λ (x : List ℕ). codes "module " ++ x) (append_assoc name (32 ∷ (b ∷ rest.0)) (after_feeds rest.1.0) ∙ ap (λ (x : List ℕ). name ++ 32 ∷ x) (sym (ap joined split) ∙ parts.same)) in
         subst IsContinued same
         (whole first rest.1.0 (first_line name (b ∷ rest.0) (label_ink name label).all (omega arith) inner.0 end.0) refl refl (further_lines rest.1.0 inner.1 end.1 goes_on))
 

@@ -6,7 +6,7 @@ use Rattle.std.proofs.lemmas.List.{length-append}
 use Rattle.std.proofs.Math.Dec.{ltb}
 use Rattle.script_text.specs.declared.TheConstants.{MAX_COMMAND}
 use Rattle.script_text.specs.Handed.{Handed, text, long, handed_as}
-use Rattle.script_text.specs.Splitting.{with_more, behind_returns}
+use Rattle.script_text.specs.Splitting.{with_more, after_returns}
 
 pub handed_long : (x : List ℕ) → MAX_COMMAND < length x → handed_as x ≡ long
 handed_long x h = ap (λ (b : Bool). if b then long else text x) (lt-ltb MAX_COMMAND (length x) h)
@@ -28,27 +28,27 @@ with_more-append (x ∷ xs) (y ∷ ys) long = refl
 
 -- ---- carriage returns that were held back
 
-pub length-behind_returns : (n b : ℕ) → length (behind_returns n b) ≡ suc n
-length-behind_returns zero b = refl
-length-behind_returns (suc n) b = ap suc (length-behind_returns n b)
+pub length-after_returns : (n b : ℕ) → length (after_returns n b) ≡ suc n
+length-after_returns zero b = refl
+length-after_returns (suc n) b = ap suc (length-after_returns n b)
 
 -- one carriage return is appended, followed by the others
 pub more_return : (n left b : ℕ) (c : Option Handed) → suc n ≡ left →
-    option_map (with_more (behind_returns n b)) (option_map (with_more (13 ∷ [])) c) ≡ option_map (with_more (behind_returns left b)) c
+    option_map (with_more (after_returns n b)) (option_map (with_more (13 ∷ [])) c) ≡ option_map (with_more (after_returns left b)) c
 more_return n left b None e = refl
 more_return n left b (Some c) e =
-    ap Some (with_more-append (13 ∷ []) (behind_returns n b) c) ∙ ap (λ (k : ℕ). Some (with_more (behind_returns k b) c)) e
+    ap Some (with_more-append (13 ∷ []) (after_returns n b) c) ∙ ap (λ (k : ℕ). Some (with_more (after_returns k b) c)) e
 
 -- with too many of them every command is too long
-pub too_many_returns : (n b : ℕ) (c : Handed) → MAX_COMMAND < n → with_more (behind_returns n b) c ≡ long
-too_many_returns n b c h = long_by (behind_returns n b) c (omega (arith, h, length-behind_returns n b))
+pub too_many_returns : (n b : ℕ) (c : Handed) → MAX_COMMAND < n → with_more (after_returns n b) c ≡ long
+too_many_returns n b c h = long_by (after_returns n b) c (omega (arith, h, length-after_returns n b))
   where
     long_by : (more : List ℕ) (c : Handed) → MAX_COMMAND < length more → with_more more c ≡ long
     long_by [] c h = absurd (omega (arith, h))
     long_by (x ∷ more) (text bytes) h = handed_long (bytes ++ x ∷ more) (omega (arith, h, length-append bytes (x ∷ more)))
     long_by (x ∷ more) long h = refl
 
-pub too_many : (n b : ℕ) (c : Option Handed) → MAX_COMMAND < n → option_map (with_more (behind_returns n b)) c ≡ option_map (λ _. long) c
+pub too_many : (n b : ℕ) (c : Option Handed) → MAX_COMMAND < n → option_map (with_more (after_returns n b)) c ≡ option_map (λ _. long) c
 too_many n b None h = refl
 too_many n b (Some c) h = ap Some (too_many_returns n b c h)
 

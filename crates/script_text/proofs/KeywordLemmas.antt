@@ -3,8 +3,8 @@ use Rattle.std.proofs.Common.{◌≡◌, ℕ, suc, Bool, true, false, List, [], 
 use Rattle.script_text.specs.declared.keyword.Keyword.{Keyword}
 use Rattle.aterm_text.specs.Tokens.{is_blank}
 use Rattle.script_text.specs.Script.{without_end}
-use Rattle.script_text.specs.Form.{form_of, form_with, front_word, behind_word}
-use Rattle.script_text.specs.KeywordView.{keyword_at, form_behind}
+use Rattle.script_text.specs.Form.{form_of, form_with, front_word, after_word}
+use Rattle.script_text.specs.KeywordView.{keyword_at, form_after}
 
 -- the bytes of a text from an index on are these
 abbrev pub HasBytes : List ℕ → ℕ → List ℕ → Type 0
@@ -22,17 +22,17 @@ same_bytes (b ∷ bytes) [] e h = absurd (omega (arith, e))
 same_bytes (b ∷ bytes) (x ∷ text) e h =
     let rest : text ≡ bytes = same_bytes bytes text (omega (arith, e)) (HasBytes-rest x text 0 bytes h.1) in (λ i. h.0 i ∷ rest i)
 
-form_if : (b : Bool) (k l : Keyword) (steps : ℕ) (rest : List ℕ) → form_behind (if b then k else l) steps rest ≡ (if b then form_behind k steps rest else form_behind l steps rest)
+form_if : (b : Bool) (k l : Keyword) (steps : ℕ) (rest : List ℕ) → form_after (if b then k else l) steps rest ≡ (if b then form_after k steps rest else form_after l steps rest)
 form_if true k l steps rest = refl
 form_if false k l steps rest = refl
 
-pub form_at : (word : List ℕ) (steps : ℕ) (rest : List ℕ) → form_with steps word rest ≡ form_behind (keyword_at word) steps rest
+pub form_at : (word : List ℕ) (steps : ℕ) (rest : List ℕ) → form_with steps word rest ≡ form_after (keyword_at word) steps rest
 form_at word steps rest = simp form_if
 
 -- a command that is split into its keyword and the rest
-pub split_form : (steps : ℕ) (command text word rest : List ℕ) (keyword : Keyword) → text ≡ without_end is_blank command → word ≡ front_word text → rest ≡ behind_word text → keyword_at word ≡ keyword
-    → form_of steps command ≡ form_behind keyword steps rest
+pub split_form : (steps : ℕ) (command text word rest : List ℕ) (keyword : Keyword) → text ≡ without_end is_blank command → word ≡ front_word text → rest ≡ after_word text → keyword_at word ≡ keyword
+    → form_of steps command ≡ form_after keyword steps rest
 split_form steps command text word rest keyword text_is word_is rest_is keyword_is =
     let front : word ≡ front_word (without_end is_blank command) = word_is ∙ ap front_word text_is in
-    let behind : rest ≡ behind_word (without_end is_blank command) = rest_is ∙ ap behind_word text_is in
-    sym (λ i. form_with steps (front i) (behind i)) ∙ form_at word steps rest ∙ ap (λ k. form_behind k steps rest) keyword_is
+    let after : rest ≡ after_word (without_end is_blank command) = rest_is ∙ ap after_word text_is in
+    sym (λ i. form_with steps (front i) (after i)) ∙ form_at word steps rest ∙ ap (λ k. form_after k steps rest) keyword_is

@@ -256,13 +256,13 @@ module _ (one : OneTerm) (one_module : OneModule) (one_strategy : OneResult) (me
   Replied-one stop steps [] [] h [] [] p q = refl
   Replied-one stop steps (c ∷ cs) (f ∷ fs) h (r ∷ rs) (s ∷ ss) p q =
       let first = ReplyInRun-one steps c f h r s p.0 q.0 in
-      behind (stop && is_err r) first p.1 (subst (λ (x : Reply). MatchBool (stop && is_err x) ((fs ≡ []) × (ss ≡ [])) (Replied stop (ReplyInRun meaning steps) cs fs (history_after h x) ss)) (sym first) q.1)
+      later (stop && is_err r) first p.1 (subst (λ (x : Reply). MatchBool (stop && is_err x) ((fs ≡ []) × (ss ≡ [])) (Replied stop (ReplyInRun meaning steps) cs fs (history_after h x) ss)) (sym first) q.1)
       (Replied-one stop steps cs fs (history_after h r) rs ss)
     where
-      behind : (b : Bool) → r ≡ s → MatchBool b ((fs ≡ []) × (rs ≡ [])) (Replied stop (ReplyInRun meaning steps) cs fs (history_after h r) rs) → MatchBool b ((fs ≡ []) × (ss ≡ [])) (Replied stop (ReplyInRun meaning steps) cs fs (history_after h r) ss) →
+      later : (b : Bool) → r ≡ s → MatchBool b ((fs ≡ []) × (rs ≡ [])) (Replied stop (ReplyInRun meaning steps) cs fs (history_after h r) rs) → MatchBool b ((fs ≡ []) × (ss ≡ [])) (Replied stop (ReplyInRun meaning steps) cs fs (history_after h r) ss) →
           (Replied stop (ReplyInRun meaning steps) cs fs (history_after h r) rs → Replied stop (ReplyInRun meaning steps) cs fs (history_after h r) ss → rs ≡ ss) → r ∷ rs ≡ s ∷ ss
-      behind true e a b rest = ap (λ (x : Reply). x ∷ rs) e ∙ ap (λ (xs : List Reply). s ∷ xs) (a.1 ∙ sym b.1)
-      behind false e a b rest = ap (λ (x : Reply). x ∷ rs) e ∙ ap (λ (xs : List Reply). s ∷ xs) (rest a b)
+      later true e a b rest = ap (λ (x : Reply). x ∷ rs) e ∙ ap (λ (xs : List Reply). s ∷ xs) (a.1 ∙ sym b.1)
+      later false e a b rest = ap (λ (x : Reply). x ∷ rs) e ∙ ap (λ (xs : List Reply). s ∷ xs) (rest a b)
   Replied-one stop steps [] [] h (r ∷ rs) ss p q = absurd p
   Replied-one stop steps [] [] h [] (s ∷ ss) p q = absurd q
   Replied-one stop steps [] (f ∷ fs) h rs ss p q = absurd p

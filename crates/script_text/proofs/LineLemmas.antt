@@ -49,11 +49,11 @@ core_of core n h =
     let all : List ℕ = core ++ returns n in
     let total : length all ≡ length core + n = length-append core (returns n) ∙ ap (λ (k : ℕ). length core + k) (length-returns n) in
     let run : suffix_len is_carriage_return all ≡ length all - length core =
-    suffix_len_is is_carriage_return all (length core) 0 (omega (arith, total)) (λ k low high. behind k low (omega (arith, high, total))) in_front in
+    suffix_len_is is_carriage_return all (length core) 0 (omega (arith, total)) (λ k low high. after k low (omega (arith, high, total))) in_front in
     ap (λ (k : ℕ). take k all) (omega (arith, run, total)) ∙ take-append_seam core (returns n)
   where
-    behind : (k : ℕ) → length core ≤ k → k < length core + n → is_carriage_return (get_or (core ++ returns n) k 0) ≡ true
-    behind k low high =
+    after : (k : ℕ) → length core ≤ k → k < length core + n → is_carriage_return (get_or (core ++ returns n) k 0) ≡ true
+    after k low high =
         ap is_carriage_return (ap (λ (i : ℕ). get_or (core ++ returns n) i 0) (omega (arith, low)) ∙ get_or-append-add core (returns n) (k - length core) 0)
         ∙ get_or-returns n (k - length core) (omega (arith, low, high))
 
@@ -102,10 +102,10 @@ lines-ended raw core y inner kept =
     let split : pieces (raw ++ 10 ∷ y) ≡ core ∷ pieces y =
     ap (map (without_end is_carriage_return)) (slice_split_at is_line_feed raw 10 y inner refl) ∙ ap (λ (p : List ℕ). p ∷ pieces y) kept in
     let first = first_piece y in
-    let behind : pieces y ≡ without_end is_carriage_return first.0 ∷ map (without_end is_carriage_return) first.1.0 = ap (map (without_end is_carriage_return)) first.1.1 in
+    let after : pieces y ≡ without_end is_carriage_return first.0 ∷ map (without_end is_carriage_return) first.1.0 = ap (map (without_end is_carriage_return)) first.1.1 in
     let whole : without_empty_last (core ∷ pieces y) ≡ core ∷ without_empty_last (pieces y) =
-    ap (λ (ps : List (List ℕ)). without_empty_last (core ∷ ps)) behind
-    ∙ not_empty core _ _ ∙ ap (λ (ps : List (List ℕ)). core ∷ without_empty_last ps) (sym behind) in
+    ap (λ (ps : List (List ℕ)). without_empty_last (core ∷ ps)) after
+    ∙ not_empty core _ _ ∙ ap (λ (ps : List (List ℕ)). core ∷ without_empty_last ps) (sym after) in
     ap (λ (ps : List (List ℕ)). filter (λ line. not (is_comment line)) (without_empty_last ps)) split
     ∙ ap (filter (λ line. not (is_comment line))) whole
 

@@ -14,7 +14,7 @@ use Rattle.script_text.specs.declared.splitter.LineState.TheVariants.{Kept, Comm
 use Rattle.script_text.specs.declared.splitter.Unfinished.{Unfinished}
 use Rattle.script_text.specs.Script.{is_line_feed, is_carriage_return, without_end, pieces, is_blank, without_start, is_command, line_commands, commands, ended_lines}
 use Rattle.script_text.specs.Handed.{Handed, handed_as, handed}
-use Rattle.script_text.specs.Splitting.{behind_returns, Taken, going, taken, begun, rest_of, nothing}
+use Rattle.script_text.specs.Splitting.{after_returns, Taken, going, taken, begun, rest_of, nothing}
 use Rattle.script_text.proofs.HandedLemmas.{with_more-handed_as}
 use Rattle.script_text.proofs.ReturnLemmas.{capped, capped-suc, capped-more}
 use Rattle.script_text.proofs.LineLemmas.{returns, IsCore, one_line-returns, core_of, longer_core, one_more_return, first_piece, no_core}
@@ -226,7 +226,7 @@ line-byte : (b : ℕ) (x : List ℕ) → (b == 13) ≡ false → (b == 10) ≡ f
 line-byte b x e f ih core n h =
     rw (e, f)
     (ap (λ (c : Handed). rest_of (record { framing = Lines; command = Some c; place = Kept; returns = 0 }) x)
-    (capped-more n b (handed_as core) ∙ with_more-handed_as core (behind_returns n b)))
+    (capped-more n b (handed_as core) ∙ with_more-handed_as core (after_returns n b)))
     ∙ ih (core ++ (returns n ++ b ∷ [])) 0 (longer_own core n b h e f)
     ∙ ap (handed Lines) (append_assoc core (returns n ++ b ∷ []) x ∙ ap (λ (xs : List ℕ). core ++ xs) (append_assoc (returns n) (b ∷ []) x))
 

@@ -4,7 +4,7 @@ use Rattle.std.proofs.Math.Dec.{leb, eqb-suc-zero}
 use Rattle.std.proofs.lemmas.Bool.{leb-true, leb-false}
 use Rattle.script_text.specs.declared.TheConstants.{MAX_COMMAND}
 use Rattle.script_text.specs.Handed.{Handed}
-use Rattle.script_text.specs.Splitting.{with_more, behind_returns, one_more}
+use Rattle.script_text.specs.Splitting.{with_more, after_returns, one_more}
 use Rattle.script_text.proofs.HandedLemmas.{too_many_returns}
 
 abbrev pub capped : ℕ → ℕ
@@ -27,9 +27,9 @@ capped-some n = at (nat_le (suc n) MAX_COMMAND)
     at false = refl
 
 -- more of them than a command may have make it too long in any case
-pub capped-more : (n b : ℕ) (c : Handed) → with_more (behind_returns (capped n) b) c ≡ with_more (behind_returns n b) c
+pub capped-more : (n b : ℕ) (c : Handed) → with_more (after_returns (capped n) b) c ≡ with_more (after_returns n b) c
 capped-more n b c = at (leb n MAX_COMMAND) refl
   where
-    at : (t : Bool) → leb n MAX_COMMAND ≡ t → with_more (behind_returns (if t then n else suc MAX_COMMAND) b) c ≡ with_more (behind_returns n b) c
+    at : (t : Bool) → leb n MAX_COMMAND ≡ t → with_more (after_returns (if t then n else suc MAX_COMMAND) b) c ≡ with_more (after_returns n b) c
     at true e = refl
     at false e = too_many_returns (suc MAX_COMMAND) b c (omega arith) ∙ sym (too_many_returns n b c (leb-false _ _ e))

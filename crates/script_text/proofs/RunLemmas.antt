@@ -22,24 +22,24 @@ history_after_all-append h [] ss = refl
 history_after_all-append h (r ∷ rs) ss = history_after_all-append (history_after h r) rs ss
 
 -- a run that doesn't stop at these replies
-abbrev pub GoesBehind : Bool → List Reply → Type 0
-GoesBehind stop rs = stop ≡ true → count_by is_err rs ≡ 0
+abbrev pub GoesAfter : Bool → List Reply → Type 0
+GoesAfter stop rs = stop ≡ true → count_by is_err rs ≡ 0
 
 some_refused : (r : Reply) (rs : List Reply) → count_by is_err (r ∷ rs) ≡ 0 → is_err r ≡ true → ⊥
 some_refused (Ok x) rs e err = absurd (cc)
 some_refused (Err x) rs e err = omega (arith, e, sum_by-cons (λ r. cond (is_err r) 1 0) (Err x) rs)
 
-goes-first : (stop : Bool) (r : Reply) (rs : List Reply) → GoesBehind stop (r ∷ rs) → (stop && is_err r) ≡ false
+goes-first : (stop : Bool) (r : Reply) (rs : List Reply) → GoesAfter stop (r ∷ rs) → (stop && is_err r) ≡ false
 goes-first false r rs g = refl
 goes-first true (Ok x) rs g = refl
 goes-first true (Err x) rs g = absurd (some_refused (Err x) rs (g refl) refl)
 
-goes-rest : (stop : Bool) (r : Reply) (rs : List Reply) → GoesBehind stop (r ∷ rs) → GoesBehind stop rs
+goes-rest : (stop : Bool) (r : Reply) (rs : List Reply) → GoesAfter stop (r ∷ rs) → GoesAfter stop rs
 goes-rest stop (Ok x) rs g e = g e
 goes-rest stop (Err x) rs g e = absurd (some_refused (Err x) rs (g e) refl)
 
 -- the replies after which the run goes on, followed by those to the later commands
-Replied-append : (stop : Bool) (Rule : Replying) (cs ds : List Handed) (fs gs : List Bool) (h : History) (rs ss : List Reply) → GoesBehind stop rs → Replied stop Rule cs fs h rs →
+Replied-append : (stop : Bool) (Rule : Replying) (cs ds : List Handed) (fs gs : List Bool) (h : History) (rs ss : List Reply) → GoesAfter stop rs → Replied stop Rule cs fs h rs →
     Replied stop Rule ds gs (history_after_all h rs) ss → Replied stop Rule (cs ++ ds) (fs ++ gs) h (rs ++ ss)
 Replied-append stop Rule [] ds [] gs h [] ss g p q = q
 Replied-append stop Rule (c ∷ cs) ds (f ∷ fs) gs h (r ∷ rs) ss g p q =
@@ -59,14 +59,14 @@ Replied-stopped : (stop : Bool) (Rule : Replying) (cs ds : List Handed) (fs : Li
     Replied stop Rule (cs ++ ds) fs h rs
 Replied-stopped stop Rule [] ds [] h [] e some p = absurd (omega (arith, some))
 Replied-stopped stop Rule (c ∷ cs) ds (f ∷ fs) h (Ok x ∷ rs) e some p =
-    let Behind : Bool → List Handed → Type 0 = λ b commands. MatchBool (b && false) ((fs ≡ []) × (rs ≡ [])) (Replied stop Rule commands fs (history_after h (Ok x)) rs) in
-    let rest = Replied-stopped stop Rule cs ds fs (history_after h (Ok x)) rs e some (subst (λ (b : Bool). Behind b cs) e p.1) in (
+    let After : Bool → List Handed → Type 0 = λ b commands. MatchBool (b && false) ((fs ≡ []) × (rs ≡ [])) (Replied stop Rule commands fs (history_after h (Ok x)) rs) in
+    let rest = Replied-stopped stop Rule cs ds fs (history_after h (Ok x)) rs e some (subst (λ (b : Bool). After b cs) e p.1) in (
       p.0,
-      subst (λ (b : Bool). Behind b (cs ++ ds)) (sym e) rest,
+      subst (λ (b : Bool). After b (cs ++ ds)) (sym e) rest,
     )
 Replied-stopped stop Rule (c ∷ cs) ds (f ∷ fs) h (Err x ∷ rs) e some p =
-    let Behind : Bool → List Handed → Type 0 = λ b commands. MatchBool (b && true) ((fs ≡ []) × (rs ≡ [])) (Replied stop Rule commands fs (history_after h (Err x)) rs) in
-    let ends = subst (λ (b : Bool). Behind b cs) e p.1 in (p.0, subst (λ (b : Bool). Behind b (cs ++ ds)) (sym e) ends)
+    let After : Bool → List Handed → Type 0 = λ b commands. MatchBool (b && true) ((fs ≡ []) × (rs ≡ [])) (Replied stop Rule commands fs (history_after h (Err x)) rs) in
+    let ends = subst (λ (b : Bool). After b cs) e p.1 in (p.0, subst (λ (b : Bool). After b (cs ++ ds)) (sym e) ends)
 Replied-stopped stop Rule [] ds [] h (r ∷ rs) e some p = absurd p
 Replied-stopped stop Rule [] ds (f ∷ fs) h rs e some p = absurd p
 Replied-stopped stop Rule (c ∷ cs) ds [] h rs e some p = absurd p
@@ -81,7 +81,7 @@ append-empty : {A : Type 0} (xs ys : List A) → [] ≡ xs ++ ys → ys ≡ []
 append-empty [] ys e = sym e
 append-empty (x ∷ xs) ys e = absurd (cc)
 
-Leads-append : (stop : Bool) (Rule : Replying) (cs ds : List Handed) (h g k : History) (fs gs : List Bool) (rs ss : List Reply) → GoesBehind stop rs → RunLeads stop Rule cs h g fs rs → RunLeads stop Rule ds g k gs ss →
+Leads-append : (stop : Bool) (Rule : Replying) (cs ds : List Handed) (h g k : History) (fs gs : List Bool) (rs ss : List Reply) → GoesAfter stop rs → RunLeads stop Rule cs h g fs rs → RunLeads stop Rule ds g k gs ss →
     RunLeads stop Rule (cs ++ ds) h k (fs ++ gs) (rs ++ ss)
 Leads-append stop Rule cs ds h g k fs gs rs ss goes p q = record {
   replied = Replied-append stop Rule cs ds fs gs h rs ss goes p.replied (subst (λ (x : History). Replied stop Rule ds gs x ss) p.history q.replied);
@@ -148,7 +148,7 @@ Completes-none stop Rule h a = record { flags = []; replies = []; leads = record
     kept None = tt
     kept (Some xs) = refl
 
-goes_from : (stop : Bool) (n : ℕ) (rs : List Reply) → n ≡ count_by is_err rs → (stop ≡ true → n ≡ 0) → GoesBehind stop rs
+goes_from : (stop : Bool) (n : ℕ) (rs : List Reply) → n ≡ count_by is_err rs → (stop ≡ true → n ≡ 0) → GoesAfter stop rs
 goes_from stop n rs e goes s = sym e ∙ goes s
 
 pub Completes-append : (stop : Bool) (Rule : Replying) (cs ds : List Handed) (h g k : History) (a b c : Option (List ℕ)) (y n z m : ℕ) → (stop ≡ true → n ≡ 0) → Completes stop Rule cs h g a b y n → Completes stop Rule ds g k b c z m →

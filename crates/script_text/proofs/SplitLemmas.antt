@@ -15,9 +15,9 @@ use Rattle.script_text.specs.declared.splitter.Unfinished.{Unfinished}
 use Rattle.script_text.specs.Split.{Split}
 use Rattle.script_text.specs.Script.{Cut, cut, begins_command, lines, commands, but_last}
 use Rattle.script_text.specs.Handed.{Handed, handed_as, handed, completed}
-use Rattle.script_text.specs.Splitting.{with_more, behind_returns, hold_return, Taken, going, gone_on, begun, at_start, continued_at, taken, rest_of, nothing, StandsBehind}
+use Rattle.script_text.specs.Splitting.{with_more, after_returns, hold_return, Taken, going, gone_on, begun, at_start, continued_at, taken, rest_of, nothing, StandsAfter}
 use Rattle.script_text.specs.inside.Passing.{out_of}
-use Rattle.script_text.proofs.HandedLemmas.{handed_long, with_more-handed_as, with_more-append, length-behind_returns}
+use Rattle.script_text.proofs.HandedLemmas.{handed_long, with_more-handed_as, with_more-append, length-after_returns}
 use Rattle.script_text.proofs.FramingLemmas.{taken-framing, own_feed, own_byte}
 use Rattle.script_text.proofs.ReturnLemmas.{capped, capped-suc, capped-some, capped-more}
 use Rattle.script_text.proofs.OwnLineLemmas.{handed_by_lines, ended-feed, ended-byte}
@@ -52,10 +52,10 @@ finished-line c line ls = at (begins_command line) c
 capped-begun : (n b : ℕ) → begun Continued (capped n) b ≡ begun Continued n b
 capped-begun n b = ap (λ (h : Handed). record { framing = Continued; command = Some h; place = Kept; returns = 0 }) (at (leb n MAX_COMMAND) refl)
   where
-    at : (t : Bool) → leb n MAX_COMMAND ≡ t → handed_as (behind_returns (if t then n else suc MAX_COMMAND) b) ≡ handed_as (behind_returns n b)
+    at : (t : Bool) → leb n MAX_COMMAND ≡ t → handed_as (after_returns (if t then n else suc MAX_COMMAND) b) ≡ handed_as (after_returns n b)
     at true e = refl
-    at false e = handed_long (behind_returns (suc MAX_COMMAND) b) (omega (arith, length-behind_returns (suc MAX_COMMAND) b))
-        ∙ sym (handed_long (behind_returns n b) (omega (arith, length-behind_returns n b, leb-false _ _ e)))
+    at false e = handed_long (after_returns (suc MAX_COMMAND) b) (omega (arith, length-after_returns (suc MAX_COMMAND) b))
+        ∙ sym (handed_long (after_returns n b) (omega (arith, length-after_returns n b, leb-false _ _ e)))
 
 -- ---- a line of which this much has arrived
 
@@ -89,13 +89,13 @@ at_return c (k ∷ core) x n = at (k == 35) (begins_command (k ∷ core)) c
     at false false (Some d) = ap (λ (i : ℕ). rest_of (record { framing = Continued; command = Some (with_more (10 ∷ (k ∷ core)) d); place = Kept; returns = i }) x) (capped-suc n)
 
 -- what is pending after a line
-abbrev behind_line : Option Handed → List ℕ → List ℕ → List Handed
-behind_line c [] x = rest_of (record { framing = Continued; command = option_map (with_more (10 ∷ [])) c; place = Start; returns = 0 }) x
-behind_line c (k ∷ core) x =
+abbrev after_line : Option Handed → List ℕ → List ℕ → List Handed
+after_line c [] x = rest_of (record { framing = Continued; command = option_map (with_more (10 ∷ [])) c; place = Start; returns = 0 }) x
+after_line c (k ∷ core) x =
     if k == 35 then rest_of (record { framing = Continued; command = c; place = Start; returns = 0 }) x
     else line_out (begins_command (k ∷ core)) c ++ rest_of (record { framing = Continued; command = line_command (begins_command (k ∷ core)) c (k ∷ core); place = Start; returns = 0 }) x
 
-at_line_feed : (c : Option Handed) (core x : List ℕ) (n : ℕ) → handed_from (in_core c core n) (10 ∷ x) ≡ behind_line c core x
+at_line_feed : (c : Option Handed) (core x : List ℕ) (n : ℕ) → handed_from (in_core c core n) (10 ∷ x) ≡ after_line c core x
 at_line_feed c [] x n = refl
 at_line_feed c (k ∷ core) x n = at (k == 35) (begins_command (k ∷ core)) c
   where
@@ -135,11 +135,11 @@ at_byte c (k ∷ core) x n b e f = at (k == 35) (begins_command (k ∷ core)) c
     at true begins c = rw f refl
     at false true c = rw (e, f)
         (ap (λ (h : Handed). option_to_list c ++ rest_of (record { framing = Continued; command = Some h; place = Kept; returns = 0 }) x)
-        (capped-more n b (handed_as (k ∷ core)) ∙ with_more-handed_as (k ∷ core) (behind_returns n b)))
+        (capped-more n b (handed_as (k ∷ core)) ∙ with_more-handed_as (k ∷ core) (after_returns n b)))
     at false false None = rw f refl
     at false false (Some d) = rw (e, f)
         (ap (λ (h : Handed). rest_of (record { framing = Continued; command = Some h; place = Kept; returns = 0 }) x)
-        (capped-more n b (with_more (10 ∷ (k ∷ core)) d) ∙ with_more-append (10 ∷ (k ∷ core)) (behind_returns n b) d))
+        (capped-more n b (with_more (10 ∷ (k ∷ core)) d) ∙ with_more-append (10 ∷ (k ∷ core)) (after_returns n b) d))
 
 finished-none : (c : Option Handed) → finished c (cut []) ≡ option_to_list c
 finished-none None = refl
@@ -165,10 +165,10 @@ at_end c (k ∷ core) n = at (k == 35) (begins_command (k ∷ core)) c ∙ cut_a
 
 -- ---- the whole text
 
-behind : (c : Option Handed) (core x : List ℕ) → ((d : Option Handed) → rest_of (record { framing = Continued; command = d; place = Start; returns = 0 }) x ≡ finished d (cut (lines x))) →
-    behind_line c core x ≡ finished c (cut (with_line core (lines x)))
-behind c [] x ih = ih _ ∙ sym (finished-line c [] (lines x))
-behind c (k ∷ core) x ih = at (k == 35)
+later : (c : Option Handed) (core x : List ℕ) → ((d : Option Handed) → rest_of (record { framing = Continued; command = d; place = Start; returns = 0 }) x ≡ finished d (cut (lines x))) →
+    after_line c core x ≡ finished c (cut (with_line core (lines x)))
+later c [] x ih = ih _ ∙ sym (finished-line c [] (lines x))
+later c (k ∷ core) x ih = at (k == 35)
   where
     at : (comment : Bool) →
         (if comment then rest_of (record { framing = Continued; command = c; place = Start; returns = 0 }) x
@@ -192,7 +192,7 @@ follows-return x ih c core n h = at_return c core x n ∙ ih c core (suc n) h �
 
 follows-line_feed : (x : List ℕ) → AllFollows x → AllFollows (10 ∷ x)
 follows-line_feed x ih c core n h =
-    at_line_feed c core x n ∙ behind c core x (λ d. ih d [] 0 no_core) ∙ ap (λ (ls : List (List ℕ)). finished c (cut ls)) (sym (lines-line_feed core x n h))
+    at_line_feed c core x n ∙ later c core x (λ d. ih d [] 0 no_core) ∙ ap (λ (ls : List (List ℕ)). finished c (cut ls)) (sym (lines-line_feed core x n h))
 
 follows-byte : (b : ℕ) (x : List ℕ) → (b == 13) ≡ false → (b == 10) ≡ false → AllFollows x → AllFollows (b ∷ x)
 follows-byte b x e f ih c core n h =
@@ -233,12 +233,12 @@ but_last-same (x ∷ xs) e = absurd (omega (arith, but_last-length x xs, ap leng
 
 -- ---- after a text
 
-pub StandsBehind-none : (framing : Framing) → StandsBehind framing [] [] (nothing framing)
-StandsBehind-none Continued = record { framed = refl; complete = refl; rest = λ more. handed_by_bytes more }
-StandsBehind-none Lines = record { framed = refl; complete = refl; rest = λ more. handed_by_lines more }
+pub StandsAfter-none : (framing : Framing) → StandsAfter framing [] [] (nothing framing)
+StandsAfter-none Continued = record { framed = refl; complete = refl; rest = λ more. handed_by_bytes more }
+StandsAfter-none Lines = record { framed = refl; complete = refl; rest = λ more. handed_by_lines more }
 
 -- Without a pending command none was completed.
-none_out : (x : List ℕ) (out : List Handed) (s : Unfinished) → StandsBehind Continued x out s → s.command ≡ None → out ≡ []
+none_out : (x : List ℕ) (out : List Handed) (s : Unfinished) → StandsAfter Continued x out s → s.command ≡ None → out ≡ []
 none_out x out s b e =
     but_last-same out (b.complete ∙ but_last-map handed_as (commands Continued x) ∙ ap but_last (sym (ap (handed Continued) (append-nil x)) ∙ b.rest [] ∙ ap (λ (c : Option Handed). out ++ option_to_list c) e ∙ append-nil out))
 
@@ -262,7 +262,7 @@ line_none : (p q : Bool) (c : Option Handed) (n b : ℕ) →
     (let s : Unfinished = record { framing = Continued; command = c; place = Kept; returns = n } in
     let after : Taken = if p then going (hold_return s) else
     if q then going (record { framing = Continued; command = c; place = Start; returns = 0 }) else
-    going (record { framing = Continued; command = option_map (with_more (behind_returns n b)) c; place = Kept; returns = 0 }) in
+    going (record { framing = Continued; command = option_map (with_more (after_returns n b)) c; place = Kept; returns = 0 }) in
     after.left.command ≡ None → (c ≡ None) × (after.out ≡ None))
 line_none true q c n b e = (e, refl)
 line_none false true c n b e = (e, refl)
@@ -293,14 +293,14 @@ none_before Continued e place c n b none = continued_none place c n b none
 none_before Lines e place c n b none = absurd (cc)
 
 -- a byte after the text
-module _ (framing : Framing) (x : List ℕ) (out : List Handed) (s : Unfinished) (b : ℕ) (h : StandsBehind framing x out s) where
+module _ (framing : Framing) (x : List ℕ) (out : List Handed) (s : Unfinished) (b : ℕ) (h : StandsAfter framing x out s) where
   rest_more : (more : List ℕ) → handed framing ((x ++ b ∷ []) ++ more) ≡ (out ++ option_to_list (taken s b).out) ++ rest_of (taken s b).left more
   rest_more more = ap (handed framing) (append_assoc x (b ∷ []) more) ∙ h.rest (b ∷ more) ∙ sym (append_assoc out (option_to_list (taken s b).out) (rest_of (taken s b).left more))
 
   whole : handed framing (x ++ b ∷ []) ≡ (out ++ option_to_list (taken s b).out) ++ option_to_list (taken s b).left.command
   whole = sym (ap (handed framing) (append-nil (x ++ b ∷ []))) ∙ rest_more []
 
-complete_continued : (x : List ℕ) (out : List Handed) (s : Unfinished) (b : ℕ) → StandsBehind Continued x out s → out ++ option_to_list (taken s b).out ≡ completed Continued (x ++ b ∷ [])
+complete_continued : (x : List ℕ) (out : List Handed) (s : Unfinished) (b : ℕ) → StandsAfter Continued x out s → out ++ option_to_list (taken s b).out ≡ completed Continued (x ++ b ∷ [])
 complete_continued x out s b h = all (taken s b).left.command refl
   where
     all : (c : Option Handed) → (taken s b).left.command ≡ c → out ++ option_to_list (taken s b).out ≡ completed Continued (x ++ b ∷ [])
@@ -311,7 +311,7 @@ complete_continued x out s b h = all (taken s b).left.command refl
     all (Some c) e =
         sym (but_last-map handed_as (commands Continued (x ++ b ∷ [])) ∙ ap but_last (whole Continued x out s b h ∙ ap (λ (o : Option Handed). (out ++ option_to_list (taken s b).out) ++ option_to_list o) e) ∙ but_last-snoc (out ++ option_to_list (taken s b).out) c)
 
-complete_lines : (x : List ℕ) (out : List Handed) (s : Unfinished) (b : ℕ) → StandsBehind Lines x out s → out ++ option_to_list (taken s b).out ≡ completed Lines (x ++ b ∷ [])
+complete_lines : (x : List ℕ) (out : List Handed) (s : Unfinished) (b : ℕ) → StandsAfter Lines x out s → out ++ option_to_list (taken s b).out ≡ completed Lines (x ++ b ∷ [])
 complete_lines x out s b h = at (b == 10) refl
   where
     at : (feed : Bool) → (b == 10) ≡ feed → out ++ option_to_list (taken s b).out ≡ completed Lines (x ++ b ∷ [])
@@ -322,59 +322,59 @@ complete_lines x out s b h = at (b == 10) refl
         let none = own_byte s.framing h.framed s.place s.command s.returns b e in
         ap (λ (o : Option Handed). out ++ option_to_list o) none ∙ append-nil out ∙ h.complete ∙ sym (ap (handed Lines) (ended-byte x b e))
 
-complete_more : (framing : Framing) (x : List ℕ) (out : List Handed) (s : Unfinished) (b : ℕ) → StandsBehind framing x out s → out ++ option_to_list (taken s b).out ≡ completed framing (x ++ b ∷ [])
+complete_more : (framing : Framing) (x : List ℕ) (out : List Handed) (s : Unfinished) (b : ℕ) → StandsAfter framing x out s → out ++ option_to_list (taken s b).out ≡ completed framing (x ++ b ∷ [])
 complete_more Continued x out s b h = complete_continued x out s b h
 complete_more Lines x out s b h = complete_lines x out s b h
 
-pub StandsBehind-more : (framing : Framing) (x : List ℕ) (out : List Handed) (s : Unfinished) (b : ℕ) → StandsBehind framing x out s →
-    StandsBehind framing (x ++ b ∷ []) (out ++ option_to_list (taken s b).out) (taken s b).left
-StandsBehind-more framing x out s b h = record {
+pub StandsAfter-more : (framing : Framing) (x : List ℕ) (out : List Handed) (s : Unfinished) (b : ℕ) → StandsAfter framing x out s →
+    StandsAfter framing (x ++ b ∷ []) (out ++ option_to_list (taken s b).out) (taken s b).left
+StandsAfter-more framing x out s b h = record {
   framed = taken-framing s b ∙ h.framed;
   complete = complete_more framing x out s b h;
   rest = rest_more framing x out s b h;
 }
 
 -- what is complete in more bytes
-pub StandsBehind-out : (framing : Framing) (more x : List ℕ) (out : List Handed) (s : Unfinished) → StandsBehind framing x out s → completed framing (x ++ more) ≡ out ++ out_of s more
-StandsBehind-out framing [] x out s h = ap (completed framing) (append-nil x) ∙ sym h.complete ∙ sym (append-nil out)
-StandsBehind-out framing (b ∷ more) x out s h =
-    sym (ap (completed framing) (append_assoc x (b ∷ []) more)) ∙ StandsBehind-out framing more (x ++ b ∷ []) (out ++ option_to_list (taken s b).out) (taken s b).left (StandsBehind-more framing x out s b h)
+pub StandsAfter-out : (framing : Framing) (more x : List ℕ) (out : List Handed) (s : Unfinished) → StandsAfter framing x out s → completed framing (x ++ more) ≡ out ++ out_of s more
+StandsAfter-out framing [] x out s h = ap (completed framing) (append-nil x) ∙ sym h.complete ∙ sym (append-nil out)
+StandsAfter-out framing (b ∷ more) x out s h =
+    sym (ap (completed framing) (append_assoc x (b ∷ []) more)) ∙ StandsAfter-out framing more (x ++ b ∷ []) (out ++ option_to_list (taken s b).out) (taken s b).left (StandsAfter-more framing x out s b h)
     ∙ append_assoc out (option_to_list (taken s b).out) (out_of (taken s b).left more)
 
 -- at the end
-pub StandsBehind-end : (framing : Framing) (x : List ℕ) (out : List Handed) (s : Unfinished) → StandsBehind framing x out s → handed framing x ≡ out ++ option_to_list s.command
-StandsBehind-end framing x out s h = sym (ap (handed framing) (append-nil x)) ∙ h.rest []
+pub StandsAfter-end : (framing : Framing) (x : List ℕ) (out : List Handed) (s : Unfinished) → StandsAfter framing x out s → handed framing x ≡ out ++ option_to_list s.command
+StandsAfter-end framing x out s h = sym (ap (handed framing) (append-nil x)) ∙ h.rest []
 
-pub StandsBehind-nil : (framing : Framing) (x : List ℕ) (out : List Handed) (s : Unfinished) → StandsBehind framing x out s → StandsBehind framing (x ++ []) out s
-StandsBehind-nil framing x out s h = subst (λ (xs : List ℕ). StandsBehind framing xs out s) (sym (append-nil x)) h
+pub StandsAfter-nil : (framing : Framing) (x : List ℕ) (out : List Handed) (s : Unfinished) → StandsAfter framing x out s → StandsAfter framing (x ++ []) out s
+StandsAfter-nil framing x out s h = subst (λ (xs : List ℕ). StandsAfter framing xs out s) (sym (append-nil x)) h
 
 -- the next byte of a piece
-module _ (framing : Framing) (x bytes : List ℕ) (i : ℕ) (within : i < length bytes) (out : List Handed) (s : Unfinished) (h : StandsBehind framing (x ++ take i bytes) out s) where
-  more : StandsBehind framing (x ++ take (i + 1) bytes) (out ++ option_to_list (taken s (get_or bytes i 0)).out) (taken s (get_or bytes i 0)).left
-  more = subst (λ (xs : List ℕ). StandsBehind framing xs (out ++ option_to_list (taken s (get_or bytes i 0)).out) (taken s (get_or bytes i 0)).left)
+module _ (framing : Framing) (x bytes : List ℕ) (i : ℕ) (within : i < length bytes) (out : List Handed) (s : Unfinished) (h : StandsAfter framing (x ++ take i bytes) out s) where
+  more : StandsAfter framing (x ++ take (i + 1) bytes) (out ++ option_to_list (taken s (get_or bytes i 0)).out) (taken s (get_or bytes i 0)).left
+  more = subst (λ (xs : List ℕ). StandsAfter framing xs (out ++ option_to_list (taken s (get_or bytes i 0)).out) (taken s (get_or bytes i 0)).left)
       (append_assoc x (take i bytes) _ ∙ ap (λ (xs : List ℕ). x ++ xs) (sym (ap (λ (k : ℕ). take k bytes) (add-one i) ∙ take-suc bytes i 0 within)))
-      (StandsBehind-more framing (x ++ take i bytes) out s (get_or bytes i 0) h)
+      (StandsAfter-more framing (x ++ take i bytes) out s (get_or bytes i 0) h)
 
-  pub StandsBehind-goes : (left : Unfinished) → taken s (get_or bytes i 0) ≡ going left → StandsBehind framing (x ++ take (i + 1) bytes) out left
-  StandsBehind-goes left e =
-      subst (λ (hs : List Handed). StandsBehind framing (x ++ take (i + 1) bytes) hs left) (append-nil out)
-      (subst (λ (t : Taken). StandsBehind framing (x ++ take (i + 1) bytes) (out ++ option_to_list t.out) t.left) e more)
+  pub StandsAfter-goes : (left : Unfinished) → taken s (get_or bytes i 0) ≡ going left → StandsAfter framing (x ++ take (i + 1) bytes) out left
+  StandsAfter-goes left e =
+      subst (λ (hs : List Handed). StandsAfter framing (x ++ take (i + 1) bytes) hs left) (append-nil out)
+      (subst (λ (t : Taken). StandsAfter framing (x ++ take (i + 1) bytes) (out ++ option_to_list t.out) t.left) e more)
 
-  pub StandsBehind-completes : (c : Handed) (o : Option Handed) (left : Unfinished) → taken s (get_or bytes i 0) ≡ record { out = o; left = left } → o ≡ Some c →
-      StandsBehind framing (x ++ take (i + 1) bytes) (out ++ c ∷ []) left
-  StandsBehind-completes c o left e f =
-      subst (λ (p : Option Handed). StandsBehind framing (x ++ take (i + 1) bytes) (out ++ option_to_list p) left) f
-      (subst (λ (t : Taken). StandsBehind framing (x ++ take (i + 1) bytes) (out ++ option_to_list t.out) t.left) e more)
+  pub StandsAfter-completes : (c : Handed) (o : Option Handed) (left : Unfinished) → taken s (get_or bytes i 0) ≡ record { out = o; left = left } → o ≡ Some c →
+      StandsAfter framing (x ++ take (i + 1) bytes) (out ++ c ∷ []) left
+  StandsAfter-completes c o left e f =
+      subst (λ (p : Option Handed). StandsAfter framing (x ++ take (i + 1) bytes) (out ++ option_to_list p) left) f
+      (subst (λ (t : Taken). StandsAfter framing (x ++ take (i + 1) bytes) (out ++ option_to_list t.out) t.left) e more)
 
 pub command_there : (o : Option Handed) → is_some o ≡ true → (c : Handed) × (o ≡ Some c)
 command_there None e = absurd (cc)
 command_there (Some c) e = (c, refl)
 
 -- what a splitter represents, and how it continues
-pub StandsBehind-open : (framing : Framing) (x : List ℕ) (out : List Handed) (s t : Split) (left : Unfinished) → s ≡ t → left ≡ s.left → StandsBehind framing x out t.left → StandsBehind framing x out left
-StandsBehind-open framing x out s t left e f h = subst (StandsBehind framing x out) (sym f) (subst (λ (r : Split). StandsBehind framing x out r.left) (sym e) h)
+pub StandsAfter-open : (framing : Framing) (x : List ℕ) (out : List Handed) (s t : Split) (left : Unfinished) → s ≡ t → left ≡ s.left → StandsAfter framing x out t.left → StandsAfter framing x out left
+StandsAfter-open framing x out s t left e f h = subst (StandsAfter framing x out) (sym f) (subst (λ (r : Split). StandsAfter framing x out r.left) (sym e) h)
 
 -- a piece was consumed to its end
-pub StandsBehind-all : (framing : Framing) (x bytes : List ℕ) (i : ℕ) → length bytes ≤ i → (out : List Handed) (s : Unfinished) → StandsBehind framing (x ++ take i bytes) out s → StandsBehind framing (x ++ bytes) (out ++ []) s
-StandsBehind-all framing x bytes i within out s h =
-    subst (λ (hs : List Handed). StandsBehind framing (x ++ bytes) hs s) (sym (append-nil out)) (subst (λ (xs : List ℕ). StandsBehind framing (x ++ xs) out s) (take_all i bytes within) h)
+pub StandsAfter-all : (framing : Framing) (x bytes : List ℕ) (i : ℕ) → length bytes ≤ i → (out : List Handed) (s : Unfinished) → StandsAfter framing (x ++ take i bytes) out s → StandsAfter framing (x ++ bytes) (out ++ []) s
+StandsAfter-all framing x bytes i within out s h =
+    subst (λ (hs : List Handed). StandsAfter framing (x ++ bytes) hs s) (sym (append-nil out)) (subst (λ (xs : List ℕ). StandsAfter framing (x ++ xs) out s) (take_all i bytes within) h)

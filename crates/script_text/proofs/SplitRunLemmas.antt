@@ -15,10 +15,10 @@ use Rattle.script_text.specs.declared.splitter.LineState.TheVariants.{Kept, Comm
 use Rattle.script_text.specs.declared.splitter.Unfinished.{Unfinished}
 use Rattle.script_text.specs.Handed.{Handed}
 use Rattle.script_text.specs.Script.{is_line_feed}
-use Rattle.script_text.specs.Splitting.{StandsBehind, Taken, going, with_more, taken, taken_in}
+use Rattle.script_text.specs.Splitting.{StandsAfter, Taken, going, with_more, taken, taken_in}
 use Rattle.script_text.specs.inside.Passing.{ends_run, passed, out_of}
 use Rattle.script_text.proofs.HandedLemmas.{with_more-append}
-use Rattle.script_text.proofs.SplitLemmas.{StandsBehind-more, StandsBehind-nil}
+use Rattle.script_text.proofs.SplitLemmas.{StandsAfter-more, StandsAfter-nil}
 
 -- ---- the bytes before the first that passes a test, as a search finds them
 
@@ -82,14 +82,14 @@ more_of_none : (c : Option Handed) → c ≡ option_map (with_more []) c
 more_of_none None = refl
 more_of_none (Some c) = refl
 
-more_behind : (b : ℕ) (run : List ℕ) (c : Option Handed) → option_map (with_more run) (option_map (with_more (b ∷ [])) c) ≡ option_map (with_more (b ∷ run)) c
-more_behind b run None = refl
-more_behind b run (Some c) = ap Some (with_more-append (b ∷ []) run c)
+more_after : (b : ℕ) (run : List ℕ) (c : Option Handed) → option_map (with_more run) (option_map (with_more (b ∷ [])) c) ≡ option_map (with_more (b ∷ run)) c
+more_after b run None = refl
+more_after b run (Some c) = ap Some (with_more-append (b ∷ []) run c)
 
 kept_run : (f : Framing) (run : List ℕ) (c : Option Handed) → NonePasses ends_run run → Runs (kept f c) run (kept f (option_map (with_more run) c))
 kept_run f [] c h = record { none = refl; left = ap (kept f) (more_of_none c) }
 kept_run f (b ∷ run) c h =
-    subst (λ (after : Option Handed). Runs (kept f c) (b ∷ run) (kept f after)) (more_behind b run c)
+    subst (λ (after : Option Handed). Runs (kept f c) (b ∷ run) (kept f after)) (more_after b run c)
     (runs_on (kept f c) _ _ b run (kept_byte f c b (h zero (omega arith))) (kept_run f run (option_map (with_more (b ∷ [])) c) (λ i within. h (suc i) (omega (arith, within)))))
 
 -- in a dropped line
@@ -122,12 +122,12 @@ dropped_taken s x k place e = dropped_run (take k x) s (λ b f. stays s.framing 
 
 -- after a text
 
-StandsBehind-run : (framing : Framing) (run x : List ℕ) (out : List Handed) (s : Unfinished) → StandsBehind framing x out s → StandsBehind framing (x ++ run) (out ++ out_of s run) (passed s run)
-StandsBehind-run framing [] x out s h = subst (λ (hs : List Handed). StandsBehind framing (x ++ []) hs s) (sym (append-nil out)) (StandsBehind-nil framing x out s h)
-StandsBehind-run framing (b ∷ run) x out s h =
-    subst (λ (xs : List ℕ). StandsBehind framing xs (out ++ out_of s (b ∷ run)) (passed s (b ∷ run))) (append_assoc x (b ∷ []) run)
-    (subst (λ (hs : List Handed). StandsBehind framing ((x ++ b ∷ []) ++ run) hs (passed s (b ∷ run))) (append_assoc out (option_to_list (taken s b).out) (out_of (taken s b).left run))
-    (StandsBehind-run framing run (x ++ b ∷ []) (out ++ option_to_list (taken s b).out) (taken s b).left (StandsBehind-more framing x out s b h)))
+StandsAfter-run : (framing : Framing) (run x : List ℕ) (out : List Handed) (s : Unfinished) → StandsAfter framing x out s → StandsAfter framing (x ++ run) (out ++ out_of s run) (passed s run)
+StandsAfter-run framing [] x out s h = subst (λ (hs : List Handed). StandsAfter framing (x ++ []) hs s) (sym (append-nil out)) (StandsAfter-nil framing x out s h)
+StandsAfter-run framing (b ∷ run) x out s h =
+    subst (λ (xs : List ℕ). StandsAfter framing xs (out ++ out_of s (b ∷ run)) (passed s (b ∷ run))) (append_assoc x (b ∷ []) run)
+    (subst (λ (hs : List Handed). StandsAfter framing ((x ++ b ∷ []) ++ run) hs (passed s (b ∷ run))) (append_assoc out (option_to_list (taken s b).out) (out_of (taken s b).left run))
+    (StandsAfter-run framing run (x ++ b ∷ []) (out ++ option_to_list (taken s b).out) (taken s b).left (StandsAfter-more framing x out s b h)))
 
 -- the rest of a piece, as the code consumes it
 abbrev pub left_of : ℕ → List ℕ → List ℕ
@@ -140,12 +140,12 @@ pub run_within : (i k : ℕ) (bytes : List ℕ) → i ≤ length bytes → k ≤
 run_within i k bytes in_range within = omega (arith, in_range, within, ap length (left_is i bytes), length-drop i bytes)
 
 -- the next run of a piece
-pub StandsBehind-runs : (framing : Framing) (x bytes : List ℕ) (i k : ℕ) (out : List Handed) (s left : Unfinished) → StandsBehind framing (x ++ take i bytes) out s →
-    out_of s (take k (left_of i bytes)) ≡ [] → left ≡ passed s (take k (left_of i bytes)) → StandsBehind framing (x ++ take (i + k) bytes) out left
-StandsBehind-runs framing x bytes i k out s left h none e =
+pub StandsAfter-runs : (framing : Framing) (x bytes : List ℕ) (i k : ℕ) (out : List Handed) (s left : Unfinished) → StandsAfter framing (x ++ take i bytes) out s →
+    out_of s (take k (left_of i bytes)) ≡ [] → left ≡ passed s (take k (left_of i bytes)) → StandsAfter framing (x ++ take (i + k) bytes) out left
+StandsAfter-runs framing x bytes i k out s left h none e =
     let run : List ℕ = take k (left_of i bytes) in
     let joined : take i bytes ++ run ≡ take (i + k) bytes = ap (λ (xs : List ℕ). take i bytes ++ take k xs) (left_is i bytes) ∙ sym (take-add i k bytes) in
-    subst (λ (xs : List ℕ). StandsBehind framing xs out left) (append_assoc x (take i bytes) run ∙ ap (λ (xs : List ℕ). x ++ xs) joined)
-    (subst (λ (t : Unfinished). StandsBehind framing ((x ++ take i bytes) ++ run) out t) (sym e)
-    (subst (λ (hs : List Handed). StandsBehind framing ((x ++ take i bytes) ++ run) hs (passed s run)) (ap (λ (hs : List Handed). out ++ hs) none ∙ append-nil out)
-    (StandsBehind-run framing run (x ++ take i bytes) out s h)))
+    subst (λ (xs : List ℕ). StandsAfter framing xs out left) (append_assoc x (take i bytes) run ∙ ap (λ (xs : List ℕ). x ++ xs) joined)
+    (subst (λ (t : Unfinished). StandsAfter framing ((x ++ take i bytes) ++ run) out t) (sym e)
+    (subst (λ (hs : List Handed). StandsAfter framing ((x ++ take i bytes) ++ run) hs (passed s run)) (ap (λ (hs : List Handed). out ++ hs) none ∙ append-nil out)
+    (StandsAfter-run framing run (x ++ take i bytes) out s h)))

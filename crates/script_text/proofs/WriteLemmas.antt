@@ -42,17 +42,17 @@ WritesFront-all a b bytes rest w e = let P : List ℕ → Type 0 = λ xs. Append
     subst P (sym (w.all ∙ ap (λ (r : List ℕ). w.kept ++ r) e ∙ append-nil w.kept)) w.written
 
 -- nothing is read, and then bytes are
-pub Consumes-behind : (a b c : Option (List ℕ)) (bs : List ℕ) → Keeps a b → Consumes b c bs → Consumes a c bs
-Consumes-behind None b c bs h k = tt
-Consumes-behind (Some xs) None c bs h k = absurd h
-Consumes-behind (Some xs) (Some ys) None bs h k = absurd k
-Consumes-behind (Some xs) (Some ys) (Some zs) bs h k = sym h ∙ k
+pub Consumes-after : (a b c : Option (List ℕ)) (bs : List ℕ) → Keeps a b → Consumes b c bs → Consumes a c bs
+Consumes-after None b c bs h k = tt
+Consumes-after (Some xs) None c bs h k = absurd h
+Consumes-after (Some xs) (Some ys) None bs h k = absurd k
+Consumes-after (Some xs) (Some ys) (Some zs) bs h k = sym h ∙ k
 
 -- nothing is written, and then bytes are
-pub Appends-behind : (a b c : Option (List ℕ)) (bs : List ℕ) → Keeps a b → Appends b c bs → Appends a c bs
-Appends-behind None b c bs h k = tt
-Appends-behind (Some xs) None c bs h k = absurd h
-Appends-behind (Some xs) (Some ys) None bs h k = absurd k
-Appends-behind (Some xs) (Some ys) (Some zs) bs h k = k ∙ ap (λ (l : List ℕ). l ++ bs) h
+pub Appends-after : (a b c : Option (List ℕ)) (bs : List ℕ) → Keeps a b → Appends b c bs → Appends a c bs
+Appends-after None b c bs h k = tt
+Appends-after (Some xs) None c bs h k = absurd h
+Appends-after (Some xs) (Some ys) None bs h k = absurd k
+Appends-after (Some xs) (Some ys) (Some zs) bs h k = k ∙ ap (λ (l : List ℕ). l ++ bs) h
 
-pub ruleset known_bytes = (Keeps-from_none, Appends-none, WritesFront-none, WritesFront-more, WritesFront-kept, Keeps-refl, Keeps-trans, Consumes-behind, Appends-behind)
+pub ruleset known_bytes = (Keeps-from_none, Appends-none, WritesFront-none, WritesFront-more, WritesFront-kept, Keeps-refl, Keeps-trans, Consumes-after, Appends-after)

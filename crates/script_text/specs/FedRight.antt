@@ -6,7 +6,7 @@ use Rattle.script_text.specs.declared.splitter.Fed.TheVariants.{Need, Command}
 use Rattle.script_text.specs.declared.splitter.Piece.{Piece}
 use Rattle.script_text.specs.declared.splitter.Piece.TheVariants.{Text, Long}
 use Rattle.script_text.specs.Handed.{Handed, text, long}
-use Rattle.script_text.specs.Splitting.{StandsBehind}
+use Rattle.script_text.specs.Splitting.{StandsAfter}
 use Rattle.script_text.specs.Split.{Split}
 
 -- a borrowed piece, as the command that the splitter gives
@@ -16,15 +16,15 @@ handed_out Long = long
 
 -- A splitter that had consumed a text has consumed it and these bytes; and these commands were
 -- given in addition to the earlier ones.
-abbrev pub GoesBehind : Split → Split → List ℕ → List Handed → Type 0
-GoesBehind old new bytes more =
-    (framing : Framing) (x : List ℕ) (out : List Handed) → StandsBehind framing x out old.left
-    → StandsBehind framing (x ++ bytes) (out ++ more) new.left
+abbrev pub GoesAfter : Split → Split → List ℕ → List Handed → Type 0
+GoesAfter old new bytes more =
+    (framing : Framing) (x : List ℕ) (out : List Handed) → StandsAfter framing x out old.left
+    → StandsAfter framing (x ++ bytes) (out ++ more) new.left
 
 -- All bytes are consumed and no command is given; or those up to and including the one that
 -- completes a command, which is given.
 abbrev pub FedRight : Fed → Split → Split → List ℕ → Type 0
-FedRight Need old new bytes = GoesBehind old new bytes []
+FedRight Need old new bytes = GoesAfter old new bytes []
 FedRight (Command taken) old new bytes =
     (0 < taken) × (taken ≤ length bytes) × (command : Handed) × (new.to_hand_out ≡ Some command)
-    × GoesBehind old new (take taken bytes) (command ∷ [])
+    × GoesAfter old new (take taken bytes) (command ∷ [])

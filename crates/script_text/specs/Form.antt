@@ -43,8 +43,8 @@ abbrev pub front_word : List ℕ → List ℕ
 front_word text = before_first is_blank (without_blanks text)
 
 -- the rest after the first word
-abbrev pub behind_word : List ℕ → List ℕ
-behind_word text = drop (position_or_len is_blank (without_blanks text)) (without_blanks text)
+abbrev pub after_word : List ℕ → List ℕ
+after_word text = drop (position_or_len is_blank (without_blanks text)) (without_blanks text)
 
 abbrev pub has_bytes : List ℕ → Bool
 has_bytes [] = false
@@ -61,7 +61,7 @@ is_same word other = pointwise nat_eq word other
 
 -- A form that continues with a word, given what that makes of the rest.
 abbrev pub with_word : List ℕ → (List ℕ → List ℕ → Option Form) → Option Form
-with_word rest next = if has_word rest then next (front_word rest) (behind_word rest) else None
+with_word rest next = if has_word rest then next (front_word rest) (after_word rest) else None
 
 -- A form that ends here.
 abbrev pub ended : Form → List ℕ → Option Form
@@ -74,12 +74,12 @@ last_text rest = without_blanks rest
 -- A form that continues with a path and ends with a text.
 abbrev pub with_path_and_text : (List ℕ → List ℕ → Form) → List ℕ → Option Form
 with_path_and_text form rest =
-    option_map (λ path. form path (last_text (behind_word rest))) (path_of (front_word rest))
+    option_map (λ path. form path (last_text (after_word rest))) (path_of (front_word rest))
 
 -- A form that ends with a name.
 abbrev pub last_name : List ℕ → Option (List ℕ)
 last_name rest =
-    if has_word rest && not (has_word (behind_word rest)) then Some (front_word rest) else None
+    if has_word rest && not (has_word (after_word rest)) then Some (front_word rest) else None
 
 -- a number of steps, from 1 to 1,000,000, written as a number in a path is
 abbrev pub within_steps : ℕ → Option ℕ
@@ -92,17 +92,17 @@ steps_of digits = option_and_then within_steps (part_of digits)
 abbrev pub last_steps : List ℕ → Option ℕ
 last_steps rest =
     if has_word rest
-    then (if has_word (behind_word rest) then None else steps_of (front_word rest))
+    then (if has_word (after_word rest) then None else steps_of (front_word rest))
     else Some 1
 
 -- An optional keyword followed by a word: that word, if the keyword comes next, and the rest.
 abbrev pub option_word : List ℕ → List ℕ → Option (List ℕ)
 option_word keyword rest =
-    if is_same (front_word rest) keyword then Some (front_word (behind_word rest)) else None
+    if is_same (front_word rest) keyword then Some (front_word (after_word rest)) else None
 
-abbrev pub behind_option : List ℕ → List ℕ → List ℕ
-behind_option keyword rest =
-    if is_same (front_word rest) keyword then behind_word (behind_word rest) else rest
+abbrev pub after_option : List ℕ → List ℕ → List ℕ
+after_option keyword rest =
+    if is_same (front_word rest) keyword then after_word (after_word rest) else rest
 
 -- the path of a word, or the root if there is none
 abbrev pub path_or_root : Option (List ℕ) → Option (List ℕ)
@@ -117,41 +117,41 @@ steps_or steps (Some word) = steps_of word
 -- A form that ends with `at` and a path, both optional.
 abbrev pub last_place : List ℕ → Option (List ℕ)
 last_place rest =
-    if has_word (behind_option (codes "at") rest) then None
+    if has_word (after_option (codes "at") rest) then None
     else path_or_root (option_word (codes "at") rest)
 
 -- A form that ends with `do` and a text.
 abbrev pub with_do : (List ℕ → Form) → List ℕ → Option Form
 with_do form rest =
-    if is_same (front_word rest) (codes "do") then Some (form (last_text (behind_word rest))) else None
+    if is_same (front_word rest) (codes "do") then Some (form (last_text (after_word rest))) else None
 
 -- A form that continues with `within` and a number of steps, both optional, and ends with `do` and
 -- a text.
 abbrev pub with_budget : ℕ → (ℕ → List ℕ → Form) → List ℕ → Option Form
 with_budget steps form rest =
-    option_and_then (λ n. with_do (form n) (behind_option (codes "within") rest))
+    option_and_then (λ n. with_do (form n) (after_option (codes "within") rest))
     (steps_or steps (option_word (codes "within") rest))
 
 -- ---- forms
 
 abbrev pub tree_form : List ℕ → Option Form
-tree_form rest = with_word rest (λ name behind. Some (tree name (last_text behind)))
+tree_form rest = with_word rest (λ name after. Some (tree name (last_text after)))
 
 abbrev pub copy_form : List ℕ → Option Form
 copy_form rest =
-    with_word rest (λ name behind. with_word behind (λ other end. ended (copy name other) end))
+    with_word rest (λ name after. with_word after (λ other end. ended (copy name other) end))
 
 abbrev pub drop_form : List ℕ → Option Form
 drop_form rest = option_map drop_tree (last_name rest)
 
 abbrev pub put_form : List ℕ → Option Form
-put_form rest = with_word rest (λ name behind. with_path_and_text (put name) behind)
+put_form rest = with_word rest (λ name after. with_path_and_text (put name) after)
 
 abbrev pub annotate_form : List ℕ → Option Form
-annotate_form rest = with_word rest (λ name behind. with_path_and_text (annotate name) behind)
+annotate_form rest = with_word rest (λ name after. with_path_and_text (annotate name) after)
 
 abbrev pub module_form : List ℕ → Option Form
-module_form rest = with_word rest (λ name behind. Some (set_module name (last_text behind)))
+module_form rest = with_word rest (λ name after. Some (set_module name (last_text after)))
 
 abbrev pub unload_form : List ℕ → Option Form
 unload_form rest = option_map unload (last_name rest)
@@ -159,15 +159,15 @@ unload_form rest = option_map unload (last_name rest)
 -- Both `at` and `within`, in this order, are optional.
 abbrev pub strategy_form : (List ℕ → List ℕ → ℕ → List ℕ → Form) → ℕ → List ℕ → Option Form
 strategy_form form steps rest =
-    with_word rest (λ name behind. option_and_then
-    (λ path. with_budget steps (form name path) (behind_option (codes "at") behind))
-    (path_or_root (option_word (codes "at") behind)))
+    with_word rest (λ name after. option_and_then
+    (λ path. with_budget steps (form name path) (after_option (codes "at") after))
+    (path_or_root (option_word (codes "at") after)))
 
 abbrev pub text_form : List ℕ → Option Form
 text_form rest = option_map module_text (last_name rest)
 
 abbrev pub show_form : List ℕ → Option Form
-show_form rest = with_word rest (λ name behind. option_map (show name) (last_place behind))
+show_form rest = with_word rest (λ name after. option_map (show name) (last_place after))
 
 -- the form that a keyword starts, given the budget of a command that names none
 abbrev pub form_with : ℕ → List ℕ → List ℕ → Option Form
@@ -196,7 +196,7 @@ form_with steps keyword rest =
 -- the form of a command, without the blanks at its end, given that budget
 abbrev pub form_of : ℕ → List ℕ → Option Form
 form_of steps command =
-    let text = without_end is_blank command in form_with steps (front_word text) (behind_word text)
+    let text = without_end is_blank command in form_with steps (front_word text) (after_word text)
 
 -- whether the names of a form are labels
 abbrev pub has_labels : Form → Bool

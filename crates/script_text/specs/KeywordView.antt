@@ -30,33 +30,33 @@ keyword_at word =
     if is_same word (codes "dump") then Dump else Other
 
 -- the form, given the budget of a command that names none and the rest after the word
-abbrev pub form_behind : Keyword → ℕ → List ℕ → Option Form
-form_behind Tree steps rest = tree_form rest
-form_behind Copy steps rest = copy_form rest
-form_behind Drop steps rest = drop_form rest
-form_behind Put steps rest = put_form rest
-form_behind Annotate steps rest = annotate_form rest
-form_behind Module steps rest = module_form rest
-form_behind Unload steps rest = unload_form rest
-form_behind Apply steps rest = strategy_form apply steps rest
-form_behind Preview steps rest = strategy_form preview steps rest
-form_behind Undo steps rest = option_map undo (last_steps rest)
-form_behind Redo steps rest = option_map redo (last_steps rest)
-form_behind Begin steps rest = ended begin rest
-form_behind Commit steps rest = ended commit rest
-form_behind Abandon steps rest = ended abandon rest
-form_behind Show steps rest = show_form rest
-form_behind Trees steps rest = ended trees rest
-form_behind Modules steps rest = ended modules rest
-form_behind Text steps rest = text_form rest
-form_behind History steps rest = ended history rest
-form_behind Dump steps rest = ended dump rest
-form_behind Other steps rest = None
+abbrev pub form_after : Keyword → ℕ → List ℕ → Option Form
+form_after Tree steps rest = tree_form rest
+form_after Copy steps rest = copy_form rest
+form_after Drop steps rest = drop_form rest
+form_after Put steps rest = put_form rest
+form_after Annotate steps rest = annotate_form rest
+form_after Module steps rest = module_form rest
+form_after Unload steps rest = unload_form rest
+form_after Apply steps rest = strategy_form apply steps rest
+form_after Preview steps rest = strategy_form preview steps rest
+form_after Undo steps rest = option_map undo (last_steps rest)
+form_after Redo steps rest = option_map redo (last_steps rest)
+form_after Begin steps rest = ended begin rest
+form_after Commit steps rest = ended commit rest
+form_after Abandon steps rest = ended abandon rest
+form_after Show steps rest = show_form rest
+form_after Trees steps rest = ended trees rest
+form_after Modules steps rest = ended modules rest
+form_after Text steps rest = text_form rest
+form_after History steps rest = ended history rest
+form_after Dump steps rest = ended dump rest
+form_after Other steps rest = None
 
 -- whether it is `undo`, `redo`, `begin` or `abandon`
-abbrev pub is_without_memory_behind : Keyword → Bool
-is_without_memory_behind Undo = true
-is_without_memory_behind Redo = true
-is_without_memory_behind Begin = true
-is_without_memory_behind Abandon = true
-is_without_memory_behind keyword = false
+abbrev pub is_without_memory_after : Keyword → Bool
+is_without_memory_after Undo = true
+is_without_memory_after Redo = true
+is_without_memory_after Begin = true
+is_without_memory_after Abandon = true
+is_without_memory_after keyword = false

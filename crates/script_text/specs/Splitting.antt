@@ -1,5 +1,5 @@
 -- Splitting a script as its bytes arrive: what is pending, and what each byte completes. The code
--- equals this machine, which gives the commands of the script: see `StandsBehind`.
+-- equals this machine, which gives the commands of the script: see `StandsAfter`.
 use Rattle.std.specs.Prelude.{◌≡◌, ℕ, suc, ◌==◌, ◌&&◌, ◌||◌, nat_le, List, [], ◌∷◌, ◌++◌, Some, None, option_map, if◌then◌else◌}
 use Rattle.std.specs.declared.option.Option.{Option}
 use Rattle.std.specs.List.{repeat}
@@ -44,8 +44,8 @@ hold_return s = record {
 }
 
 -- a byte after carriage returns that were held back
-abbrev pub behind_returns : ℕ → ℕ → List ℕ
-behind_returns n b = repeat n (13 ∷ []) ++ b ∷ []
+abbrev pub after_returns : ℕ → ℕ → List ℕ
+after_returns n b = repeat n (13 ∷ []) ++ b ∷ []
 
 -- at the start of a line, or in one of this kind, with no carriage returns held back
 abbrev pub in_place : Framing → Option Handed → LineState → Unfinished
@@ -53,11 +53,11 @@ in_place framing command place = record { framing = framing; command = command; 
 
 -- a command that begins with these carriage returns and this byte
 abbrev pub begun : Framing → ℕ → ℕ → Unfinished
-begun framing n b = in_place framing (Some (handed_as (behind_returns n b))) Kept
+begun framing n b = in_place framing (Some (handed_as (after_returns n b))) Kept
 
 -- a byte of the command, after the carriage returns that were held back
 abbrev pub longer : Unfinished → ℕ → Unfinished
-longer s b = in_place s.framing (option_map (with_more (behind_returns s.returns b)) s.command) Kept
+longer s b = in_place s.framing (option_map (with_more (after_returns s.returns b)) s.command) Kept
 
 -- ---- commands that may go on over lines
 
@@ -131,7 +131,7 @@ rest_of s (b ∷ bytes) = option_to_list (taken s b).out ++ rest_of (taken s b).
 
 -- What is pending after the text x, for which these commands were given: exactly those that are
 -- complete; and whatever follows x, the other commands come from what is pending and the rest.
-pub record StandsBehind (framing : Framing) (x : List ℕ) (out : List Handed) (s : Unfinished) : Type 0 where
+pub record StandsAfter (framing : Framing) (x : List ℕ) (out : List Handed) (s : Unfinished) : Type 0 where
   pub framed : s.framing ≡ framing
   pub complete : out ≡ completed framing x
   pub rest : (more : List ℕ) → handed framing (x ++ more) ≡ out ++ rest_of s more

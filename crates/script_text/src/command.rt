@@ -7,9 +7,9 @@ ghost use Rattle.term_paths.specs.PathText.{path_of};
 ghost use Rattle.aterm_text.specs.Tokens.{is_blank, without_blanks};
 ghost use Rattle.session_history.specs.Steps.{AreSteps};
 ghost use Rattle.script_text.specs.Script.{without_end};
-ghost use Rattle.script_text.specs.Form.{tree, put, annotate, set_module, apply, preview, command_of, form_of, checked, tree_form, copy_form, put_form, annotate_form, module_form, strategy_form, show_form, last_name, last_steps, option_word, behind_option, path_or_root, steps_or, steps_of, ended, HasBudget, is_without_memory, takes_no_memory, front_word, behind_word, has_word};
+ghost use Rattle.script_text.specs.Form.{tree, put, annotate, set_module, apply, preview, command_of, form_of, checked, tree_form, copy_form, put_form, annotate_form, module_form, strategy_form, show_form, last_name, last_steps, option_word, after_option, path_or_root, steps_or, steps_of, ended, HasBudget, is_without_memory, takes_no_memory, front_word, after_word, has_word};
 ghost use Rattle.script_text.specs.CommandView.{form as form_seen};
-ghost use Rattle.script_text.specs.KeywordView.{form_behind, is_without_memory_behind};
+ghost use Rattle.script_text.specs.KeywordView.{form_after, is_without_memory_after};
 ghost use Rattle.script_text.specs.Reading.{ReadRight};
 
 use crate::keyword::{Keyword, keyword_of};
@@ -94,7 +94,7 @@ impl<'a> Command<'a> {
         steps: u32,
     ) -> Result<Command<'a>, Refusal>
         requires { AreSteps steps }
-        ensures { ReadRight (form_behind keyword steps rest.now) (is_without_memory_behind keyword) result }
+        ensures { ReadRight (form_after keyword steps rest.now) (is_without_memory_after keyword) result }
     {
         match keyword {
             Keyword::Tree => {
@@ -143,8 +143,8 @@ impl<'a> Command<'a> {
 /// The keyword of a command, and what follows it without the blanks at the end.
 #[inline(always)]
 pub fn split_keyword(command: &[u8]) -> (Keyword, &[u8])
-    ensures form { (steps : ℕ) → form_of steps command.now ≡ form_behind result.0 steps result.1.now }
-    ensures without_memory { takes_no_memory command.now ≡ is_without_memory_behind result.0 }
+    ensures form { (steps : ℕ) → form_of steps command.now ≡ form_after result.0 steps result.1.now }
+    ensures without_memory { takes_no_memory command.now ≡ is_without_memory_after result.0 }
 {
     let (word, rest) = split_word(without_last_blanks(command));
     (keyword_of(word), rest)
@@ -161,7 +161,7 @@ pub fn read_name_and_text(alloc: Global, rest: &[u8]) -> Result<(Label, &[u8]), 
         ⊎ ((checked (tree_form rest.now) ≡ Err refusal) × (checked (module_form rest.now) ≡ Err refusal))) }
 {
     let (name, rest) = split_name(rest)?;
-    let text = behind_blanks(rest);
+    let text = after_blanks(rest);
     Ok((read_label(alloc, name)?, text))
 }
 
@@ -176,7 +176,7 @@ pub fn read_path_and_text(alloc: Global, rest: &[u8]) -> Result<(Label, Path, &[
 {
     let (name, rest) = split_name(rest)?;
     let (path, rest) = split_word(rest);
-    let text = behind_blanks(rest);
+    let text = after_blanks(rest);
     let path = read_path_word(alloc, path)?;
     Ok((read_label(alloc, name)?, path, text))
 }
@@ -233,7 +233,7 @@ fn read_strategy_parts(
     let path = read_place(alloc, place)?;
     let steps = read_budget(budget, steps)?;
     let name = read_label(alloc, name)?;
-    Ok((name, path, steps, behind_blanks(text)))
+    Ok((name, path, steps, after_blanks(text)))
 }
 
 // A name at the end of a form.
@@ -359,7 +359,7 @@ fn is_space(byte: u8) -> bool
     byte <= b' ' && is_blank(byte)
 }
 
-fn behind_blanks(text: &[u8]) -> &[u8]
+fn after_blanks(text: &[u8]) -> &[u8]
     ensures { result.now ≡ without_blanks text.now }
 {
     &text[blanks_at_start(text)..]
@@ -389,9 +389,9 @@ fn blanks_at_end(text: &[u8]) -> usize
 #[inline(always)]
 fn split_word(text: &[u8]) -> (&[u8], &[u8])
     ensures word { result.0.now ≡ front_word text.now }
-    ensures behind { result.1.now ≡ behind_word text.now }
+    ensures after { result.1.now ≡ after_word text.now }
 {
-    let text = behind_blanks(text);
+    let text = after_blanks(text);
     text.split_at(word_len(text))
 }
 
@@ -399,7 +399,7 @@ fn split_word(text: &[u8]) -> (&[u8], &[u8])
 #[inline(always)]
 fn split_name(text: &[u8]) -> Result<(&[u8], &[u8]), Refusal>
     ensures ok { IfOk result (λ parts. (has_word text.now ≡ true)
-        × (parts.0.now ≡ front_word text.now) × (parts.1.now ≡ behind_word text.now)) }
+        × (parts.0.now ≡ front_word text.now) × (parts.1.now ≡ after_word text.now)) }
     ensures refused { IfErr result (λ refusal. (refusal ≡ Refusal.Line) × (has_word text.now ≡ false)) }
 {
     let (word, rest) = split_word(text);
@@ -413,14 +413,14 @@ fn split_name(text: &[u8]) -> Result<(&[u8], &[u8]), Refusal>
 // text.
 fn split_option<'a>(keyword: &[u8], rest: &'a [u8]) -> (Option<&'a [u8]>, &'a [u8])
     ensures word { option_copied result.0 ≡ option_word keyword.now rest.now }
-    ensures behind { result.1.now ≡ behind_option keyword.now rest.now }
+    ensures after { result.1.now ≡ after_option keyword.now rest.now }
 {
-    let (word, behind) = split_word(rest);
+    let (word, after) = split_word(rest);
     if word != keyword {
         return (None, rest);
     }
-    let (word, behind) = split_word(behind);
-    (Some(word), behind)
+    let (word, after) = split_word(after);
+    (Some(word), after)
 }
 
 fn word_len(text: &[u8]) -> usize

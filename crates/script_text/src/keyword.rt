@@ -2,7 +2,7 @@
 
 ghost use Rattle.std.specs.Prelude.{◌≡◌};
 ghost use Rattle.script_text.specs.Form.{takes_no_memory_with};
-ghost use Rattle.script_text.specs.KeywordView.{keyword_at, is_without_memory_behind};
+ghost use Rattle.script_text.specs.KeywordView.{keyword_at, is_without_memory_after};
 
 /// The first word of a command.
 #[derive(Clone, Copy)]
@@ -35,7 +35,7 @@ pub enum Keyword {
 #[inline(always)]
 pub(crate) fn keyword_of(word: &[u8]) -> Keyword
     ensures keyword { keyword_at word.now ≡ result }
-    ensures without_memory { takes_no_memory_with word.now ≡ is_without_memory_behind result }
+    ensures without_memory { takes_no_memory_with word.now ≡ is_without_memory_after result }
 {
     match word {
         b"tree" => Keyword::Tree,

@@ -2,7 +2,7 @@
 
 ghost use Rattle.std.specs.Prelude.{◌≡◌, ◌∷◌, [], IfOk, true, Some, None, option_map, is_some};
 ghost use Rattle.script_text.specs.Handed.{handed_as, text};
-ghost use Rattle.script_text.specs.Splitting.{with_more, behind_returns};
+ghost use Rattle.script_text.specs.Splitting.{with_more, after_returns};
 ghost use Rattle.script_text.specs.FedRight.{handed_out};
 
 use crate::MAX_COMMAND;
@@ -70,12 +70,12 @@ impl Pending {
 
     /// Begins a command with `returns` carriage returns and another byte.
     pub fn begin(&mut self, returns: usize, byte: u8)
-        ensures { self.new ≡ Some (handed_as (behind_returns returns byte)) }
+        ensures { self.new ≡ Some (handed_as (after_returns returns byte)) }
     {
         self.bytes.clear();
         self.is_there = true;
         self.is_long = false;
-        self.add_behind(returns, byte);
+        self.add_after(returns, byte);
     }
 
     /// Drops the command, if there is one.
@@ -86,8 +86,8 @@ impl Pending {
     }
 
     /// Appends `returns` carriage returns and another byte to the pending command.
-    pub fn add_behind(&mut self, returns: usize, byte: u8)
-        ensures { self.new ≡ option_map (with_more (behind_returns returns byte)) self.old }
+    pub fn add_after(&mut self, returns: usize, byte: u8)
+        ensures { self.new ≡ option_map (with_more (after_returns returns byte)) self.old }
     {
         if returns > MAX_COMMAND {
             self.is_long = true;

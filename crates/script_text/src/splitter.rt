@@ -13,7 +13,7 @@ ghost use Rattle.std.specs.Option.{option_to_list};
 ghost use Rattle.script_text.specs.Script.{is_line_feed};
 ghost use Rattle.script_text.specs.declared.framing.Framing.{Framing as AnyFraming};
 ghost use Rattle.script_text.specs.declared.framing.Framing.TheVariants.{Continued, Lines};
-ghost use Rattle.script_text.specs.Splitting.{StandsBehind, taken, taken_in, going, begun, nothing, longer, in_place, hold_return, continued_at, own_line_at, at_start, in_line, in_dropped, at_own_start, in_own_line, in_own_comment, gone_on, with_more};
+ghost use Rattle.script_text.specs.Splitting.{StandsAfter, taken, taken_in, going, begun, nothing, longer, in_place, hold_return, continued_at, own_line_at, at_start, in_line, in_dropped, at_own_start, in_own_line, in_own_comment, gone_on, with_more};
 ghost use Rattle.script_text.specs.inside.Passing.{passed, out_of, ends_run};
 ghost use Rattle.script_text.specs.inside.SplitView.{begins_with, left_behind};
 ghost use Rattle.script_text.specs.FedRight.{FedRight, handed_out};
@@ -98,7 +98,7 @@ impl Splitter {
     /// A splitter that was fed nothing. It takes the memory for the longest command, and no other
     /// call takes any.
     pub fn new(alloc: Global, framing: Framing) -> Result<Splitter, NoMemory>
-        ensures { IfOk result (λ splitter. StandsBehind framing [] [] splitter.left) }
+        ensures { IfOk result (λ splitter. StandsAfter framing [] [] splitter.left) }
     {
         let command = Pending::new(alloc)?;
         Ok(Splitter {
@@ -116,7 +116,7 @@ impl Splitter {
     pub fn feed(&mut self, bytes: &[u8]) -> Fed
         ensures { FedRight result self.old self.new bytes.now }
     {
-        self.open.go_on_behind(self.next);
+        self.open.go_on_after(self.next);
         self.next = None;
         let mut at = 0;
         while at < bytes.len() {
@@ -137,10 +137,10 @@ impl Splitter {
     /// Ends the script, and returns whether there is a last command. Nothing may be fed afterwards.
     pub fn finish(&mut self) -> bool
         ensures ready { result ≡ is_some self.new.to_hand_out }
-        ensures all { (framing : AnyFraming) (x : List ℕ) (out : List Handed) → StandsBehind framing x out self.old.left
+        ensures all { (framing : AnyFraming) (x : List ℕ) (out : List Handed) → StandsAfter framing x out self.old.left
             → handed framing x ≡ out ++ option_to_list self.new.to_hand_out }
     {
-        self.open.go_on_behind(self.next);
+        self.open.go_on_after(self.next);
         self.next = None;
         self.open.command.is_there()
     }
@@ -156,7 +156,7 @@ impl Splitter {
 
 impl Unfinished {
     // Drops the complete command, if there is one, in favour of what comes after it.
-    fn go_on_behind(&mut self, next: Option<Next>)
+    fn go_on_after(&mut self, next: Option<Next>)
         ensures { self.new ≡ left_behind self.old next }
     {
         match next {
@@ -322,7 +322,7 @@ impl Unfinished {
         requires { self.old.place ≡ LineState.Kept }
         ensures { self.new ≡ longer self.old byte }
     {
-        self.command.add_behind(self.returns, byte);
+        self.command.add_after(self.returns, byte);
         self.returns = 0;
     }
 

@@ -5,7 +5,7 @@ use Rattle.std.specs.declared.result.Result.{Result}
 use Rattle.term_core.specs.Tree.{Tree}
 use Rattle.term_core.specs.declared.memory.NoMemory.{NoMemory}
 use Rattle.term_paths.specs.Paths.{at, set_at}
-use Rattle.term_paths.specs.Edits.{Edits, behind}
+use Rattle.term_paths.specs.Edits.{Edits, prefixed}
 use Rattle.term_changes.specs.Change.{Change, places}
 use Rattle.term_changes.specs.Putting.{entries_at}
 use Rattle.term_changes.specs.PatchLaws.{patch_entries}
@@ -47,7 +47,7 @@ module _ (W : World) (s : Store) (slot : ℕ) (path : List ℕ) (r : Resolved) (
     into = in_tree W s slot path r b t h
 
     -- what was planned, made in the store
-    pub gives_in : (ps : Edits) (es : List Entry) (taken : ℕ) (n : Store) → es ≡ entries_at slot (behind path ps) → Gives u b whole ps taken
+    pub gives_in : (ps : Edits) (es : List Entry) (taken : ℕ) (n : Store) → es ≡ entries_at slot (prefixed path ps) → Gives u b whole ps taken
         → n ≡ after es s → GivesIn Ends slot s n
     gives_in ps es taken n are g made =
         record {
@@ -56,7 +56,7 @@ module _ (W : World) (s : Store) (slot : ℕ) (path : List ℕ) (r : Resolved) (
           stands = made ∙ ap (λ x. after x s) are ∙ (makes_there slot s path b whole t u ps taken h k g).tree;
         }
 
-    pub fits_in : (ps : Edits) (es : List Entry) (taken : ℕ) → es ≡ entries_at slot (behind path ps) → Gives u b whole ps taken → FitsForward es s
+    pub fits_in : (ps : Edits) (es : List Entry) (taken : ℕ) → es ≡ entries_at slot (prefixed path ps) → Gives u b whole ps taken → FitsForward es s
     fits_in ps es taken are g = subst (λ x. FitsForward x s) (sym are) (makes_there slot s path b whole t u ps taken h k g).places
 
     -- or the refusal
@@ -87,5 +87,5 @@ planned_there {R} Shows u b answer (Err none) shown taken plans e = absurd (cc)
 
 -- A patch at a copy of the path.
 module _ (slot : ℕ) (path copy : List ℕ) (patch : Change) (same : copy ≡ path) where
-  pub patch_entries_are : (ps : Edits) → places patch ≡ ps → patch_entries slot copy patch ≡ entries_at slot (behind path ps)
-  patch_entries_are ps is = ap (λ p. entries_at slot (behind p (places patch))) same ∙ ap (λ x. entries_at slot (behind path x)) is
+  pub patch_entries_are : (ps : Edits) → places patch ≡ ps → patch_entries slot copy patch ≡ entries_at slot (prefixed path ps)
+  patch_entries_are ps is = ap (λ p. entries_at slot (prefixed p (places patch))) same ∙ ap (λ x. entries_at slot (prefixed path x)) is

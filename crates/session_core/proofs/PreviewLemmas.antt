@@ -5,7 +5,7 @@ use Rattle.prim_core.specs.Signature.{Signature}
 use Rattle.term_core.specs.Tree.{Tree}
 use Rattle.term_paths.specs.Paths.{at, set_at}
 use Rattle.term_paths.specs.Laws.{AreApart}
-use Rattle.term_paths.specs.Edits.{Edits, Replaces, behind, edited}
+use Rattle.term_paths.specs.Edits.{Edits, Replaces, prefixed, edited}
 use Rattle.term_paths.proofs.PathLemmas.{at-append}
 use Rattle.term_paths.proofs.LawLemmas.{set_is_there}
 use Rattle.term_paths.proofs.ApartLemmas.{apart_is_left}
@@ -60,7 +60,7 @@ there_of (Some u) h = (u, refl)
 
 -- the entries of the places are those of the replacements
 module _ (slot : ℕ) (path : List ℕ) (before after : Tree) where
-  pub entries_for : (e : Edits) (t : Tree) → Replaces e t after → AreInOrder e → entries_at slot (behind path e) ≡ map (entry_for slot) (map (replacement path before after) e)
+  pub entries_for : (e : Edits) (t : Tree) → Replaces e t after → AreInOrder e → entries_at slot (prefixed path e) ≡ map (entry_for slot) (map (replacement path before after) e)
   entries_for [] t made order = refl
   entries_for (x ∷ e) t made order =
       let u = there_of (at t x.path) made.0 in

@@ -49,11 +49,11 @@ module _ {X : Type 0} where
   find_below q (e ∷ es) h =
       ap (λ (b : Bool). cond b (Some e.1) (find R q es)) (lower (R q e.0) (earlier _ (below_all R q es) h)) ∙ find_below q es (later (is_lt (R q e.0)) _ h)
 
-  found_behind : (e : List ℕ × X) (all ds : List (List ℕ × X)) → T (below_all R e.0 ds) → AllByRecursion (λ d. find R d.0 all ≡ Some d.1) ds → AllByRecursion (λ d. find R d.0 (e ∷ all) ≡ Some d.1) ds
-  found_behind e all [] h f = tt
-  found_behind e all (d ∷ ds) h f = (
+  found_after : (e : List ℕ × X) (all ds : List (List ℕ × X)) → T (below_all R e.0 ds) → AllByRecursion (λ d. find R d.0 all ≡ Some d.1) ds → AllByRecursion (λ d. find R d.0 (e ∷ all) ≡ Some d.1) ds
+  found_after e all [] h f = tt
+  found_after e all (d ∷ ds) h f = (
     ap (λ (b : Bool). cond b (Some e.1) (find R d.0 all)) (ap is_eq (nat_list_cmp_total.antisymm d.0 e.0) ∙ higher (R e.0 d.0) (earlier _ (below_all R e.0 ds) h)) ∙ f.0,
-    found_behind e all ds (later (is_lt (R e.0 d.0)) _ h) f.1,
+    found_after e all ds (later (is_lt (R e.0 d.0)) _ h) f.1,
   )
 
   -- each entry is found by its key
@@ -61,7 +61,7 @@ module _ {X : Type 0} where
   found [] h = tt
   found (e ∷ es) h = (
     ap (λ (r : Ordering). cond (is_eq r) (Some e.1) (find R e.0 es)) (tied_itself nat_list_cmp_total e.0),
-    found_behind e es es (earlier _ (is_sorted R es) h) (found es (later (below_all R e.0 es) _ h)),
+    found_after e es es (earlier _ (is_sorted R es) h) (found es (later (below_all R e.0 es) _ h)),
   )
 
   there : (m : Named X) (es : List (List ℕ × X)) → AllByRecursion (λ e. find R e.0 (entries m) ≡ Some e.1) es → AllByRecursion (λ e. finmap.get m e.0 ≡ Some e.1) es

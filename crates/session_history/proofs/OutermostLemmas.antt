@@ -6,16 +6,16 @@ use Rattle.strategy_meaning.specs.Outermost.{IsOf, IsBefore, IsBeforeAll, AreInO
 
 -- ---- the order of paths
 
-before_not_behind : (p q : List ℕ) → IsBefore p q → IsBefore q p → ⊥
-before_not_behind [] q h g = absurd h
-before_not_behind (i ∷ p) [] h g = absurd h
-before_not_behind (i ∷ p) (j ∷ q) (inl h) (inl g) = omega (arith, h, g)
-before_not_behind (i ∷ p) (j ∷ q) (inl h) (inr g) = omega (arith, h, g.0)
-before_not_behind (i ∷ p) (j ∷ q) (inr h) (inl g) = omega (arith, h.0, g)
-before_not_behind (i ∷ p) (j ∷ q) (inr h) (inr g) = before_not_behind p q h.1 g.1
+before_not_after : (p q : List ℕ) → IsBefore p q → IsBefore q p → ⊥
+before_not_after [] q h g = absurd h
+before_not_after (i ∷ p) [] h g = absurd h
+before_not_after (i ∷ p) (j ∷ q) (inl h) (inl g) = omega (arith, h, g)
+before_not_after (i ∷ p) (j ∷ q) (inl h) (inr g) = omega (arith, h, g.0)
+before_not_after (i ∷ p) (j ∷ q) (inr h) (inl g) = omega (arith, h.0, g)
+before_not_after (i ∷ p) (j ∷ q) (inr h) (inr g) = before_not_after p q h.1 g.1
 
 not_before_itself : (p : List ℕ) → IsBefore p p → ⊥
-not_before_itself p h = before_not_behind p p h h
+not_before_itself p h = before_not_after p p h h
 
 is_before : (p x : List ℕ) (e : Edits) → IsBeforeAll p e → IsOf x e → IsBefore p x
 is_before p x [] h is = absurd is
@@ -78,22 +78,22 @@ same_paths (p ∷ ps) [] h g forth back = absurd (forth p.path (inl refl))
 same_paths (p ∷ ps) (q ∷ qs) h g forth back =
     let first : p.path ≡ q.path = heads (forth p.path (inl refl)) (back q.path (inl refl)) in
     let rest = same_paths ps qs h.1 g.1
-    (λ x is. behind x (λ same. not_before_itself x (subst (λ l. IsBefore l x) (first ∙ same) (is_before p.path x ps h.0 is))) (forth x (inr is)))
-    (λ x is. behind_p x (λ same. not_before_itself x (subst (λ l. IsBefore l x) (sym first ∙ same) (is_before q.path x qs g.0 is))) (back x (inr is))) in
+    (λ x is. after x (λ same. not_before_itself x (subst (λ l. IsBefore l x) (first ∙ same) (is_before p.path x ps h.0 is))) (forth x (inr is)))
+    (λ x is. after_p x (λ same. not_before_itself x (subst (λ l. IsBefore l x) (sym first ∙ same) (is_before q.path x qs g.0 is))) (back x (inr is))) in
     (λ i. first i ∷ rest i)
   where
     heads : (q.path ≡ p.path) ⊎ IsOf p.path qs → (p.path ≡ q.path) ⊎ IsOf q.path ps → p.path ≡ q.path
     heads (inl same) right = sym same
     heads (inr left) (inl same) = same
-    heads (inr left) (inr right) = absurd (before_not_behind p.path q.path (is_before p.path q.path ps h.0 right) (is_before q.path p.path qs g.0 left))
+    heads (inr left) (inr right) = absurd (before_not_after p.path q.path (is_before p.path q.path ps h.0 right) (is_before q.path p.path qs g.0 left))
 
-    behind : (x : List ℕ) → ((q.path ≡ x) → ⊥) → (q.path ≡ x) ⊎ IsOf x qs → IsOf x qs
-    behind x never (inl same) = absurd (never same)
-    behind x never (inr is) = is
+    after : (x : List ℕ) → ((q.path ≡ x) → ⊥) → (q.path ≡ x) ⊎ IsOf x qs → IsOf x qs
+    after x never (inl same) = absurd (never same)
+    after x never (inr is) = is
 
-    behind_p : (x : List ℕ) → ((p.path ≡ x) → ⊥) → (p.path ≡ x) ⊎ IsOf x ps → IsOf x ps
-    behind_p x never (inl same) = absurd (never same)
-    behind_p x never (inr is) = is
+    after_p : (x : List ℕ) → ((p.path ≡ x) → ⊥) → (p.path ≡ x) ⊎ IsOf x ps → IsOf x ps
+    after_p x never (inl same) = absurd (never same)
+    after_p x never (inr is) = is
 
 pub outermost_paths : (ps qs e : Edits) → AreOutermost ps e → AreOutermost qs e → paths ps ≡ paths qs
 outermost_paths ps qs e p q = same_paths ps qs p.order q.order (same_places ps qs e p q) (same_places qs ps e q p)

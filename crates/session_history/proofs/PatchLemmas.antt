@@ -10,7 +10,7 @@ use Rattle.session_history.specs.inside.Adding.{AddsEntries}
 pub adds_many : (es : List Entry) (s t : Store) (l m : List Entry) → FitsForward es s → t ≡ after es s → m ≡ l ++ flipped_forward es s → AddsEntries s l t m
 adds_many es s t l m fit store log = record {
   added = flipped_forward es s;
-  behind = log;
+  after = log;
   back = ap (before (flipped_forward es s)) store ∙ store_from_before es s;
   fits = subst (Fits (flipped_forward es s)) (sym store) (flipped_forward_fits es s fit);
 }

@@ -99,7 +99,7 @@ none_current g log e h = subst (λ g. IsCurrent g log) e h
 pub adds_one : (e : Entry) (s t : Store) (l m : List Entry) → HasPlace e s → t ≡ put e s → m ≡ l ++ found e s ∷ [] → AddsEntries s l t m
 adds_one e s t l m place store log = record {
   added = found e s ∷ [];
-  behind = log;
+  after = log;
   back = ap (before (found e s ∷ [])) store ∙ pushed_leads_back [] e s;
   fits = subst (Fits (found e s ∷ [])) (sym store) (pushed_fits [] e s tt place);
 }
@@ -118,7 +118,7 @@ adds_alone logs new step e all one = record {
 
 module _ (t : Logged) (s : Store) (log : List Entry) (adds : AddsEntries t.store t.current s log) (h : IsPlaced t) where
   begin_stays : before log s ≡ before t.current t.store
-  begin_stays = ap (λ l. before l s) adds.behind ∙ before-append t.current adds.added s ∙ ap (before t.current) adds.back
+  begin_stays = ap (λ l. before l s) adds.after ∙ before-append t.current adds.added s ∙ ap (before t.current) adds.back
 
   pub grown_placed : (g : OpenGroup) → g.changed ≡ true → IsPlaced (record t { store = s; group = Some g; current = log })
   grown_placed g was = record {
@@ -126,7 +126,7 @@ module _ (t : Logged) (s : Store) (log : List Entry) (adds : AddsEntries t.store
     back = subst (FitBack (take t.position t.logs)) (sym begin_stays) h.back;
     forward = subst (FitForward (drop t.position t.logs)) (sym begin_stays) h.forward;
     compact = h.compact;
-    fits = subst (λ l. Fits l s) (sym adds.behind) (fits-append t.current adds.added s (subst (Fits t.current) (sym adds.back) h.fits) adds.fits);
+    fits = subst (λ l. Fits l s) (sym adds.after) (fits-append t.current adds.added s (subst (Fits t.current) (sym adds.back) h.fits) adds.fits);
     current = subst (λ b. OnFalse b (log ≡ [])) (sym was) tt;
   }
 
@@ -161,7 +161,7 @@ module _ (t : Logged) (s : Store) (logs : List (List Entry)) (log new : List Ent
   bare_now = ap (λ l. before l s) bare_log
 
   log_is : log ≡ adds.added
-  log_is = adds.behind ∙ ap (λ l. l ++ adds.added) none
+  log_is = adds.after ∙ ap (λ l. l ++ adds.added) none
 
   leads_back : before step.left s ≡ t.store
   leads_back = step.back s ∙ ap (λ l. before l s) log_is ∙ adds.back
@@ -279,8 +279,8 @@ module _ (t : Logged) (q : ℕ) (s : Store) (logs : List (List Entry)) (log : Li
         ∙ (λ i. Some (record { primitives = ps; past = past_of (take q logs) (before t.current s); now = contents s; later = later i; group = same i }))
 
   module _ (forth : q ≡ t.position) (is : s ≡ after log t.store) (all : logs ≡ set t.logs q (flipped_forward log t.store)) where
-    fit_behind : FitBack (take q t.logs) t.store
-    fit_behind = subst₂ (λ n s. FitBack (take n t.logs) s) (sym forth) (start t.store) h.back
+    fit_after : FitBack (take q t.logs) t.store
+    fit_after = subst₂ (λ n s. FitBack (take n t.logs) s) (sym forth) (start t.store) h.back
 
     fit_ahead : FitForward (drop q t.logs) t.store
     fit_ahead = subst₂ (λ n s. FitForward (drop n t.logs) s) (sym forth) (start t.store) h.forward
@@ -291,7 +291,7 @@ module _ (t : Logged) (q : ℕ) (s : Store) (logs : List (List Entry)) (log : Li
     pub placed_forward : IsPlaced (record t { store = s; logs = logs; position = q + 1 })
     placed_forward = record {
       within = omega (arith, inside, ap length all, length-set t.logs q (flipped_forward log t.store));
-      back = subst₂ (λ l s. FitBack (take (q + 1) l) s) (sym all) (sym then_is) (forward_back t.logs q t.store log at inside fit_behind fit_ahead);
+      back = subst₂ (λ l s. FitBack (take (q + 1) l) s) (sym all) (sym then_is) (forward_back t.logs q t.store log at inside fit_after fit_ahead);
       forward = subst₂ (λ l s. FitForward (drop (q + 1) l) s) (sym all) (sym then_is) (forward_forward t.logs q t.store log at inside fit_ahead);
       compact = subst AllCompact (sym all) (compact-set q t.logs (flipped_forward log t.store) h.compact (flipped_forward_is_compact log t.store (compact_at q t.logs log at h.compact)));
       fits = subst (λ l. Fits l s) (sym bare) tt;

@@ -38,8 +38,8 @@ module _ {X Y : Type 0} (test : Result X Refusal) (next : X → Result Y Refusal
   stopped refusal is = subst (λ (r : Result X Refusal). Passing r next (Err refusal)) (sym is) refl
 
   -- the rest after a test whose result is known
-  pub behind : (x : X) (outcome : Result Y Refusal) → test ≡ Ok x → Passing test next outcome → next x outcome
-  behind x outcome is p = subst (λ (r : Result X Refusal). Passing r next outcome) is p
+  pub after : (x : X) (outcome : Result Y Refusal) → test ≡ Ok x → Passing test next outcome → next x outcome
+  after x outcome is p = subst (λ (r : Result X Refusal). Passing r next outcome) is p
 
 module _ (test : Bool) (refusal : Refusal) (Next : ActResult → Type 0) where
   pub held : (outcome : ActResult) → test ≡ true → Next outcome → Holding test refusal Next outcome

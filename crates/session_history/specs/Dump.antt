@@ -18,13 +18,13 @@ abbrev pub dumped_trees : Contents → List ℕ
 dumped_trees c = flat_map (λ name. option_map_or (tree_line name) (finmap.get c.trees name) []) (finmap.keys c.trees)
 
 -- a text after a name: a space and the text, or nothing if it is empty
-abbrev pub behind_name : List ℕ → List ℕ
-behind_name [] = []
-behind_name (b ∷ text) = 32 ∷ b ∷ text
+abbrev pub after_name : List ℕ → List ℕ
+after_name [] = []
+after_name (b ∷ text) = 32 ∷ b ∷ text
 
 -- The command that restores the text of a module. The text may have line feeds.
 abbrev pub module_line : List ℕ → List ℕ → List ℕ
-module_line name text = codes "module " ++ name ++ behind_name text ++ 10 ∷ []
+module_line name text = codes "module " ++ name ++ after_name text ++ 10 ∷ []
 
 -- a command for each of these modules
 abbrev pub module_lines : Contents → List (List ℕ) → List ℕ

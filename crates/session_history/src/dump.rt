@@ -8,7 +8,7 @@ ghost use Rattle.term_core.specs.Terms.{IsTerm};
 ghost use Rattle.term_core.specs.Word.{label_of};
 ghost use Rattle.aterm_text.specs.inside.Printing.{Extends};
 ghost use Rattle.term_changes.specs.Slots.{contents};
-ghost use Rattle.session_history.specs.Dump.{tree_line, behind_name, module_line, module_lines, grouped, dumped, IsNamedTerm, AreNamedTerms};
+ghost use Rattle.session_history.specs.Dump.{tree_line, after_name, module_line, module_lines, grouped, dumped, IsNamedTerm, AreNamedTerms};
 
 use crate::Timeline;
 use aterm_text::print;
@@ -155,7 +155,7 @@ fn write_module(name: &[u8], text: &[u8], out: &mut Vec<u8>) -> Result<(), NoMem
 }
 
 fn write_text(text: &[u8], out: &mut Vec<u8>) -> Result<(), NoMemory>
-    ensures ok { OnOk result (out.new.items ≡ out.old.items ++ behind_name text.now) }
+    ensures ok { OnOk result (out.new.items ≡ out.old.items ++ after_name text.now) }
     ensures err { Extends out.old.items out.new.items }
     ensures room { vec_capacity out.old ≤ vec_capacity out.new }
 {

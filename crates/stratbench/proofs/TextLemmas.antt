@@ -157,8 +157,8 @@ no_return raw = by (cut_whole is_carriage_return raw)
     by (inr w) = ends_well is_carriage_return (kept raw) w
 
 -- the same of a line with a space in front
-no_return_behind : (raw : List ℕ) → suffix_len is_carriage_return (32 ∷ kept raw) ≡ 0
-no_return_behind raw = by (cut_whole is_carriage_return raw)
+no_return_after : (raw : List ℕ) → suffix_len is_carriage_return (32 ∷ kept raw) ≡ 0
+no_return_after raw = by (cut_whole is_carriage_return raw)
   where
     by : ((kept raw ≡ []) × (0 < length raw → is_carriage_return (get_or raw 0 0) ≡ true)) ⊎ EndsWell is_carriage_return (kept raw) → suffix_len is_carriage_return (32 ∷ kept raw) ≡ 0
     by (inl none) = ap (λ (l : List ℕ). suffix_len is_carriage_return (32 ∷ l)) none.0
@@ -168,7 +168,7 @@ indented_no_return : (raw : List ℕ) → suffix_len is_carriage_return (indente
 indented_no_return raw = by (begins_command (kept raw))
   where
     by : (q : Bool) → suffix_len is_carriage_return (cond q (32 ∷ kept raw) (kept raw)) ≡ 0
-    by true = no_return_behind raw
+    by true = no_return_after raw
     by false = no_return raw
 
 no_returns : (raws : List (List ℕ)) → AllByRecursion (λ line. suffix_len is_carriage_return line ≡ 0) (map indented (map kept raws))

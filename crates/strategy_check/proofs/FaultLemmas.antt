@@ -22,14 +22,14 @@ told_first Memory o p h = tt
 told_first (Told kind f n m) o p h = ap (λ o. option_or o p) h
 
 -- a part without a fault is skipped
-pub told_behind : {X : Type 0} (r : Result X CheckFault) (o p : Option Fault) → o ≡ None → Tells r p → Tells r (option_or o p)
-told_behind (Ok x) o p e h = ap (λ o. option_or o p) e ∙ h
-told_behind (Err Memory) o p e h = tt
-told_behind (Err (Told kind f n m)) o p e h = ap (λ o. option_or o p) e ∙ h
+pub told_after : {X : Type 0} (r : Result X CheckFault) (o p : Option Fault) → o ≡ None → Tells r p → Tells r (option_or o p)
+told_after (Ok x) o p e h = ap (λ o. option_or o p) e ∙ h
+told_after (Err Memory) o p e h = tt
+told_after (Err (Told kind f n m)) o p e h = ap (λ o. option_or o p) e ∙ h
 
-pub is_told_behind : (e : CheckFault) (o p : Option Fault) → o ≡ None → IsTold e p → IsTold e (option_or o p)
-is_told_behind Memory o p e h = tt
-is_told_behind (Told kind f n m) o p e h = ap (λ o. option_or o p) e ∙ h
+pub is_told_after : (e : CheckFault) (o p : Option Fault) → o ≡ None → IsTold e p → IsTold e (option_or o p)
+is_told_after Memory o p e h = tt
+is_told_after (Told kind f n m) o p e h = ap (λ o. option_or o p) e ∙ h
 
 -- the number of patterns
 pub pattern_count : (ps : List Pattern) → length (pattern_list (patterns_of ps)) ≡ length ps
@@ -38,7 +38,7 @@ pattern_count ps = ap length (pattern_list-patterns_of ps)
 pub strategy_count : (ss : List Strategy) → length (strategy_list (strategies_of ss)) ≡ length ss
 strategy_count ss = ap length (strategy_list-strategies_of ss)
 
-pub ruleset told = (told_first, told_behind, is_told_behind, pattern_count, strategy_count, patterns_depth-item, depths-item)
+pub ruleset told = (told_first, told_after, is_told_after, pattern_count, strategy_count, patterns_depth-item, depths-item)
 
 -- an error that is passed on by `?`
 pub told_on : {X : Type 0} (r : Result X CheckFault) (e : CheckFault) (o : Option Fault) → IsErr r × IsErrAnd r (λ x. x ≡ e) → IsTold e o → Tells r o

@@ -7,6 +7,7 @@ pub mod Grouping
 pub mod Mentioned
 pub mod Mentions
 pub mod Met
+pub mod PatternUses
 pub mod ProgramCodes
 pub mod Replacing
 pub mod Staying

@@ -5,6 +5,7 @@ ghost use Rattle.strategy_syntax.specs.Syntax.{patterns_of};
 ghost use Rattle.strategy_syntax.specs.Heads.{head_of};
 ghost use Rattle.strategy_check.specs.Faults.{underscore};
 ghost use Rattle.strategy_check.specs.inside.FirstFault.{Tells, fault_when, first_in_head, first_in_pattern, first_in_patterns};
+ghost use Rattle.strategy_check.specs.inside.PatternUses.{is_built};
 
 use crate::fault::fault;
 use crate::table::Table;
@@ -13,36 +14,43 @@ use std::alloc::Global;
 use strategy_syntax::{Head, Pattern, PatternForm};
 use term_core::Name;
 
-/// The first fault in a pattern, which either builds a term or matches one.
+/// What a pattern is for.
+#[derive(Clone, Copy)]
+pub enum PatternUse {
+    Match,
+    Build,
+}
+
+/// The first fault in a pattern.
 #[cycle(pattern)]
 pub fn check_pattern(
     alloc: Global,
     table: &Table,
-    building: bool,
+    used: PatternUse,
     pattern: &Pattern,
 ) -> Result<(), CheckFault>
-    ensures { Tells result (first_in_pattern table.now building pattern.now) }
+    ensures { Tells result (first_in_pattern table.now (is_built used) pattern.now) }
 {
     match pattern.form() {
         PatternForm::Variable(_) | PatternForm::Integer(_) => Ok(()),
-        PatternForm::Wildcard => check_wildcard(alloc, building),
+        PatternForm::Wildcard => check_wildcard(alloc, used),
         PatternForm::At(name, inner) => {
-            if building {
+            if matches!(used, PatternUse::Build) {
                 return Err(fault(FaultKind::Wild, name, 0, 0));
             }
-            check_pattern(alloc, table, building, inner)
+            check_pattern(alloc, table, used, inner)
         }
         PatternForm::Compound(head, patterns) => {
             check_pattern_head(table, head, patterns.len())?;
-            check_patterns(alloc, table, building, patterns)
+            check_patterns(alloc, table, used, patterns)
         }
         PatternForm::WithTail(patterns, tail) => {
-            check_patterns(alloc, table, building, patterns)?;
-            check_pattern(alloc, table, building, tail)
+            check_patterns(alloc, table, used, patterns)?;
+            check_pattern(alloc, table, used, tail)
         }
         PatternForm::Annotated(base, annotations) => {
-            check_pattern(alloc, table, building, base)?;
-            check_patterns(alloc, table, building, annotations)
+            check_pattern(alloc, table, used, base)?;
+            check_patterns(alloc, table, used, annotations)
         }
     }
 }
@@ -52,21 +60,21 @@ pub fn check_pattern(
 pub fn check_patterns(
     alloc: Global,
     table: &Table,
-    building: bool,
+    used: PatternUse,
     patterns: &[Pattern],
 ) -> Result<(), CheckFault>
-    ensures { Tells result (first_in_patterns table.now building (patterns_of patterns.now)) }
+    ensures { Tells result (first_in_patterns table.now (is_built used) (patterns_of patterns.now)) }
 {
     for pattern in patterns {
-        check_pattern(alloc, table, building, pattern)?;
+        check_pattern(alloc, table, used, pattern)?;
     }
     Ok(())
 }
 
-fn check_wildcard(alloc: Global, building: bool) -> Result<(), CheckFault>
-    ensures { Tells result (fault_when building FaultKind.Wild underscore 0 0) }
+fn check_wildcard(alloc: Global, used: PatternUse) -> Result<(), CheckFault>
+    ensures { Tells result (fault_when (is_built used) FaultKind.Wild underscore 0 0) }
 {
-    if !building {
+    if matches!(used, PatternUse::Match) {
         return Ok(());
     }
     match Name::word(alloc, b"_") {

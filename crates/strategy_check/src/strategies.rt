@@ -8,7 +8,7 @@ ghost use Rattle.strategy_check.specs.inside.FirstFault.{Tells, first_in_name, f
 use crate::binders::Binders;
 use crate::fault::fault;
 use crate::headers::check_names;
-use crate::patterns::{check_pattern, check_patterns};
+use crate::patterns::{PatternUse, check_pattern, check_patterns};
 use crate::table::Table;
 use crate::{CheckFault, FaultKind};
 use prim_core::{Meaning, Primitives};
@@ -31,8 +31,8 @@ pub fn check_strategy<M: Meaning>(
 {
     match strategy.form() {
         StrategyForm::Id | StrategyForm::Fail => Ok(()),
-        StrategyForm::Match(pattern) => check_pattern(alloc, table, false, pattern),
-        StrategyForm::Build(pattern) => check_pattern(alloc, table, true, pattern),
+        StrategyForm::Match(pattern) => check_pattern(alloc, table, PatternUse::Match, pattern),
+        StrategyForm::Build(pattern) => check_pattern(alloc, table, PatternUse::Build, pattern),
         StrategyForm::Seq(parts) => {
             check_strategy(alloc, table, primitives, names, &parts.0)?;
             check_strategy(alloc, table, primitives, names, &parts.1)
@@ -49,7 +49,7 @@ pub fn check_strategy<M: Meaning>(
         StrategyForm::Use(name, parts, terms) => {
             check_name(table, names, name, parts.len(), terms.len())?;
             check_strategies(alloc, table, primitives, names, parts)?;
-            check_patterns(alloc, table, true, terms)
+            check_patterns(alloc, table, PatternUse::Build, terms)
         }
         StrategyForm::Congruence(_, parts) => {
             check_strategies(alloc, table, primitives, names, parts)
@@ -71,7 +71,7 @@ pub fn check_strategy<M: Meaning>(
         }
         StrategyForm::Prim(name, terms) => {
             check_primitive(primitives, name, terms.len())?;
-            check_patterns(alloc, table, true, terms)
+            check_patterns(alloc, table, PatternUse::Build, terms)
         }
     }
 }

@@ -5,7 +5,7 @@ use Rattle.std.proofs.lemmas.List.{length-append}
 use Rattle.std.proofs.lemmas.Bool.{eqb-true, not-false}
 use Rattle.std.proofs.lemmas.Option.{slice_get_past, slice_get_within}
 use Rattle.term_core.specs.Tree.{Tree, children, with_child}
-use Rattle.term_paths.specs.Edits.{Edits, behind}
+use Rattle.term_paths.specs.Edits.{Edits, prefixed}
 use Rattle.term_paths.proofs.PathLemmas.{with_child-same}
 use Rattle.term_changes.specs.Standing.{Standing, standing_tree}
 use Rattle.strategy_syntax.specs.Resolved.{ResolvedStrategy}
@@ -29,7 +29,7 @@ use Rattle.strategy_machine.specs.declared.frames.Frame.TheVariants as frames
 use Rattle.strategy_machine.specs.Hands.{Hand, Begin, Done, Failed, Each, Leftmost, Those}
 use Rattle.strategy_machine.proofs.LeadLemmas.{leads_nothing, leads_same}
 use Rattle.strategy_machine.proofs.NodeLeads.{none_stand, child_has, node_has, node_tree, node_count, part_count, node_written, leads_child}
-use Rattle.strategy_machine.proofs.OpenLemmas.{with_edits-done, behind-behind, opens_along, opens_on, opens_new, before_self}
+use Rattle.strategy_machine.proofs.OpenLemmas.{with_edits-done, prefixed-prefixed, opens_along, opens_on, opens_new, before_self}
 
 -- ---- a child's turn comes
 
@@ -37,11 +37,11 @@ use Rattle.strategy_machine.proofs.OpenLemmas.{with_edits-done, behind-behind, o
 pub on_there : (W : World) (E : Scope) (l : ℕ) (s : ResolvedStrategy) (i c : ℕ) (B : Bindings) (t u : Tree) → slice_get (children t) i ≡ Some u
     → on_child (run W E l s) i c B t ≡ put_back i t (run W E l s c B u)
 on_there W E l s i c B t u e =
-    ap (λ (o : Option Tree). with_some o c (λ v. if_done (run W E l s c B v) (λ x C b d. done (with_child t i x) C b (behind (i ∷ []) d)))) e
+    ap (λ (o : Option Tree). with_some o c (λ v. if_done (run W E l s c B v) (λ x C b d. done (with_child t i x) C b (prefixed (i ∷ []) d)))) e
 
 pub on_none : (act : Act) (i c : ℕ) (B : Bindings) (t : Tree) → slice_get (children t) i ≡ None → on_child act i c B t ≡ failed c
 on_none act i c B t e =
-    ap (λ (o : Option Tree). with_some o c (λ v. if_done (act c B v) (λ x C b d. done (with_child t i x) C b (behind (i ∷ []) d)))) e
+    ap (λ (o : Option Tree). with_some o c (λ v. if_done (act c B v) (λ x C b d. done (with_child t i x) C b (prefixed (i ∷ []) d)))) e
 
 none_within : (ps : List Standing) (i : ℕ) → slice_get ps i ≡ None → length ps ≤ i
 none_within [] i e = omega arith
@@ -256,14 +256,14 @@ those_none W sub whole S s n i p any parts e a h =
 
 -- the node after that, and the edits that led to it from the node before
 pub record Settled (w : Walk) (T : Edits) (base : Edits) (path : List ℕ) (d : Edits) (q : Standing) (parts : List Standing) : Type 0 where
-  pub leads : Leads (walked w) (behind (w.index ∷ []) d) (node_now w.node parts)
+  pub leads : Leads (walked w) (prefixed (w.index ∷ []) d) (node_now w.node parts)
   pub stand : PartsStand w.node parts
   pub tree : standing_tree (node_now w.node parts) ≡ with_child (standing_tree (walked w)) w.index (standing_tree q)
-  pub trail : T ≡ base ++ behind path (behind (w.index ∷ []) d)
+  pub trail : T ≡ base ++ prefixed path (prefixed (w.index ∷ []) d)
 
-no_edits : (path : List ℕ) (T base d : Edits) → T ≡ base ++ behind path d → length T ≡ length base → d ≡ []
+no_edits : (path : List ℕ) (T base d : Edits) → T ≡ base ++ prefixed path d → length T ≡ length base → d ≡ []
 no_edits path T base [] e k = refl
-no_edits path T base (x ∷ d) e k = absurd (omega (arith, k, ap (λ (l : Edits). length l) e, length-append base (behind path (x ∷ d))))
+no_edits path T base (x ∷ d) e k = absurd (omega (arith, k, ap (λ (l : Edits). length l) e, length-append base (prefixed path (x ∷ d))))
 
 unmoved : (count before : ℕ) → not (count == before) ≡ false → count ≡ before
 unmoved count before e = eqb-true count before (not-false (count == before) e)
@@ -271,31 +271,31 @@ unmoved count before e = eqb-true count before (not-false (count == before) e)
 settled_by : (changed : Bool) (l : ℕ) (w : Walk) (start q : Standing) (base d T : Edits) (path : List ℕ) (parts : List Standing)
     → (changed ≡ false → d ≡ []) → Inside l w start base → Leads start d q
     → parts ≡ cond changed (slice_set (parts_now w.node (walk_parts w)) w.index q) (walk_parts w)
-    → T ≡ base ++ behind (path ++ w.index ∷ []) d → Settled w T base path d q parts
+    → T ≡ base ++ prefixed (path ++ w.index ∷ []) d → Settled w T base path d q parts
 settled_by true l w start q base d T path parts f h k e t =
     let c = leads_child w.node (walk_parts w) parts w.index start q d h.has h.stand h.is k e in record {
       leads = c.0;
       stand = c.1;
       tree = ap (λ ps. standing_tree (node_now w.node ps)) e ∙ node_written w.node (walk_parts w) w.index start q h.stand h.is (subst (PartsStand w.node) e c.1);
-      trail = t ∙ ap (λ (x : Edits). base ++ x) (sym (behind-behind path (w.index ∷ []) d));
+      trail = t ∙ ap (λ (x : Edits). base ++ x) (sym (prefixed-prefixed path (w.index ∷ []) d));
     }
 settled_by false l w start q base d T path parts f h k e t =
     let none = f refl in
     let same : standing_tree start ≡ standing_tree q = leads_same start q (subst (λ x. Leads start x q) none k) in
     record {
-      leads = subst (λ x. Leads (walked w) (behind (w.index ∷ []) d) (node_now w.node x)) (sym e)
-          (subst (λ x. Leads (walked w) (behind (w.index ∷ []) x) (walked w)) (sym none) (leads_nothing (walked w) (node_has w.node (walk_parts w) h.has h.stand)));
+      leads = subst (λ x. Leads (walked w) (prefixed (w.index ∷ []) d) (node_now w.node x)) (sym e)
+          (subst (λ x. Leads (walked w) (prefixed (w.index ∷ []) x) (walked w)) (sym none) (leads_nothing (walked w) (node_has w.node (walk_parts w) h.has h.stand)));
       stand = subst (PartsStand w.node) (sym e) h.stand;
       tree = ap (λ ps. standing_tree (node_now w.node ps)) e
           ∙ sym (with_child-same (standing_tree (walked w)) w.index (standing_tree start) (node_tree w.node (walk_parts w) w.index start h.stand h.is))
           ∙ ap (λ x. with_child (standing_tree (walked w)) w.index x) same;
-      trail = t ∙ ap (λ (x : Edits). base ++ x) (sym (behind-behind path (w.index ∷ []) d));
+      trail = t ∙ ap (λ (x : Edits). base ++ x) (sym (prefixed-prefixed path (w.index ∷ []) d));
     }
 
 pub settled_here : (l : ℕ) (w : Walk) (start q : Standing) (base d T : Edits) (trail : Trail) (path : List ℕ) (parts : List Standing)
     → Shows trail T → Inside l w start base → Leads start d q
     → parts ≡ cond (not (trail.count == w.edits)) (slice_set (parts_now w.node (walk_parts w)) w.index q) (walk_parts w)
-    → T ≡ base ++ behind (path ++ w.index ∷ []) d → Settled w T base path d q parts
+    → T ≡ base ++ prefixed (path ++ w.index ∷ []) d → Settled w T base path d q parts
 settled_here l w start q base d T trail path parts sh h k e t =
     settled_by (not (trail.count == w.edits)) l w start q base d T path parts
     (λ same. no_edits (path ++ w.index ∷ []) T base d t (sym sh.count ∙ unmoved trail.count w.edits same ∙ h.edits)) h k e t
@@ -307,7 +307,7 @@ pub goes_up : (W : World) (sub : Standing) (whole : Answer) (C : CellContents) (
     → Opens (Meets W sub whole C top es l fs) (path_of fs) (walked w) base (K (put_back w.index (standing_tree (walked w)) (with_edits d (done (standing_tree q) B c []))))
     → Opens (Meets W sub whole C top es l fs) (path_of fs) (node_now w.node parts) T (k c B (standing_tree (node_now w.node parts)))
 goes_up W sub whole C top es l fs w base d T q parts B c K k law s o =
-    opens_on (path_of fs) (walked w) (node_now w.node parts) base T (behind (w.index ∷ []) d) (k c B (standing_tree (node_now w.node parts))) s.leads s.trail
+    opens_on (path_of fs) (walked w) (node_now w.node parts) base T (prefixed (w.index ∷ []) d) (k c B (standing_tree (node_now w.node parts))) s.leads s.trail
     (opens_along _ _ (ap (λ (a : Answer). K (put_back w.index (standing_tree (walked w)) a)) (with_edits-done d (standing_tree q) B c)
-    ∙ law (with_child (standing_tree (walked w)) w.index (standing_tree q)) (behind (w.index ∷ []) d)
-    ∙ ap (λ (t : Tree). with_edits (behind (w.index ∷ []) d) (k c B t)) (sym s.tree)) o)
+    ∙ law (with_child (standing_tree (walked w)) w.index (standing_tree q)) (prefixed (w.index ∷ []) d)
+    ∙ ap (λ (t : Tree). with_edits (prefixed (w.index ∷ []) d) (k c B t)) (sym s.tree)) o)

@@ -17,7 +17,7 @@ use Rattle.strategy_machine.specs.Turns.{State, HoldsIn}
 use Rattle.strategy_machine.specs.inside.Taking.{FormIn}
 use Rattle.strategy_machine.specs.inside.Endings.{LeavesScopes, LeavesCells, AnswersIn, with_those}
 use Rattle.strategy_machine.specs.declared.frames.Frame.{Frame}
-use Rattle.strategy_machine.specs.declared.frames.Frame.TheVariants.{Then, Choose, Restore, Each, Leftmost, Those, Tail, Rest, Head, Behind, Leave, Cut}
+use Rattle.strategy_machine.specs.declared.frames.Frame.TheVariants.{Then, Choose, Restore, Each, Leftmost, Those, Tail, Rest, Head, After, Leave, Cut}
 use Rattle.strategy_machine.specs.Hands.{Begin}
 use Rattle.strategy_machine.proofs.OpenLemmas.{with_edits-cut, opens_along, opens_through, meets_kept, pushed}
 
@@ -143,7 +143,7 @@ leave_kept W sub whole S p a k m mid es f le e st h = record {
     kept (Tail s n j ∷ fs) start base b g r = absurd g
     kept (Rest node ps n j ∷ fs) start base b g r = absurd g
     kept (Head s n w ∷ fs) start base b g r = absurd g
-    kept (Behind node first j ∷ fs) start base b g r = absurd g
+    kept (After node first j ∷ fs) start base b g r = absurd g
 
 -- ---- cells that end
 
@@ -198,4 +198,4 @@ cut_kept W sub whole S p a k m mid es D f le e st b sy h = record {
     kept (Tail s n j ∷ fs) start base x g r = absurd g
     kept (Rest node ps n j ∷ fs) start base x g r = absurd g
     kept (Head s n w ∷ fs) start base x g r = absurd g
-    kept (Behind node first j ∷ fs) start base x g r = absurd g
+    kept (After node first j ∷ fs) start base x g r = absurd g

@@ -110,7 +110,7 @@ first_short (Some p) = omega arith
 pub give_head : (W : World) (sub : Standing) (whole : Answer) (C : CellContents) (es : List Scope) (t : Trail) (l c : ℕ) (fs : List Frame) (s : Bor ResolvedStrategy) (n : ℕ) (w : Walk) (first : Option Standing) (p q : Standing)
     → first ≡ cond (not (t.count == w.edits)) (Some p) None → q ≡ fresh (rest_of 1 (standing_tree w.node))
     → HoldsIn W sub whole (st C es t l c (frames.Head s n w ∷ fs)) (Done p)
-    → HoldsIn W sub whole (st C es t w.level c (frames.Behind w.node first t.count ∷ fs)) (Begin s n q)
+    → HoldsIn W sub whole (st C es t w.level c (frames.After w.node first t.count ∷ fs)) (Begin s n q)
 give_head W sub whole C es t l c fs s n w first p q fe qe h =
     let o = h.opens in
     let parts = first_part first in
@@ -160,29 +160,29 @@ pub first_in_front : (node : Standing) (first : Option Standing) (p : Standing)
 first_in_front node first p e = first_alone (parts_now node (all_parts node (first_part first))) p e
 
 -- what holds of them in a run
-pub behind_list : (W : World) (sub : Standing) (whole : Answer) (C : CellContents) (es : List Scope) (t : Trail) (l c : ℕ) (fs : List Frame) (node : Standing) (first : Option Standing) (k : ℕ) (p : Standing)
-    → HoldsIn W sub whole (st C es t l c (frames.Behind node first k ∷ fs)) (Done p) → elements (standing_tree node) ≡ Some (children (standing_tree node))
-behind_list W sub whole C es t l c fs node first k p h = h.opens.is.0
+pub after_list : (W : World) (sub : Standing) (whole : Answer) (C : CellContents) (es : List Scope) (t : Trail) (l c : ℕ) (fs : List Frame) (node : Standing) (first : Option Standing) (k : ℕ) (p : Standing)
+    → HoldsIn W sub whole (st C es t l c (frames.After node first k ∷ fs)) (Done p) → elements (standing_tree node) ≡ Some (children (standing_tree node))
+after_list W sub whole C es t l c fs node first k p h = h.opens.is.0
 
-pub behind_stands : (W : World) (sub : Standing) (whole : Answer) (C : CellContents) (es : List Scope) (t : Trail) (l c : ℕ) (fs : List Frame) (node : Standing) (first : Option Standing) (k : ℕ) (p : Standing)
-    → HoldsIn W sub whole (st C es t l c (frames.Behind node first k ∷ fs)) (Done p) → PartsStand node (all_parts node (first_part first))
-behind_stands W sub whole C es t l c fs node first k p h = h.opens.is.1
+pub after_stands : (W : World) (sub : Standing) (whole : Answer) (C : CellContents) (es : List Scope) (t : Trail) (l c : ℕ) (fs : List Frame) (node : Standing) (first : Option Standing) (k : ℕ) (p : Standing)
+    → HoldsIn W sub whole (st C es t l c (frames.After node first k ∷ fs)) (Done p) → PartsStand node (all_parts node (first_part first))
+after_stands W sub whole C es t l c fs node first k p h = h.opens.is.1
 
-pub give_behind : (W : World) (sub : Standing) (whole : Answer) (C : CellContents) (es : List Scope) (t u v : Trail) (l c : ℕ) (fs : List Frame) (node : Standing) (first : Option Standing) (k : ℕ) (p q : Standing) (x : Tree)
+pub give_after : (W : World) (sub : Standing) (whole : Answer) (C : CellContents) (es : List Scope) (t u v : Trail) (l c : ℕ) (fs : List Frame) (node : Standing) (first : Option Standing) (k : ℕ) (p q : Standing) (x : Tree)
     → Cuts k t u → ((T : Edits) → Shows u T → Shows v (T ++ record { path = path_of fs; new = x } ∷ []))
     → elements (standing_tree p) ≡ Some (children (standing_tree p)) → x ≡ with_rest 1 (standing_tree (node_with node (first_part first))) (children (standing_tree p)) → q ≡ fresh x
-    → HoldsIn W sub whole (st C es t l c (frames.Behind node first k ∷ fs)) (Done p) → HoldsIn W sub whole (st C es v l c fs) (Done q)
-give_behind W sub whole C es t u v l c fs node first k p q x cu sh e is qe h =
+    → HoldsIn W sub whole (st C es t l c (frames.After node first k ∷ fs)) (Done p) → HoldsIn W sub whole (st C es v l c fs) (Done q)
+give_after W sub whole C es t u v l c fs node first k p q x cu sh e is qe h =
     let o = h.opens in
     let old = node_with node (first_part first) in
     puts W sub whole (st C es u l c fs) old q o.base x v qe (sh o.base (cut_back h.edits o.base _ cu o.is.3 o.trail h.shows))
     (opens_along _ _ (some_is (elements (standing_tree p)) (children (standing_tree p)) c (λ us. done (with_rest 1 (standing_tree old) us) C.bindings c (at_root (with_rest 1 (standing_tree old) us))) e
     ∙ ap (λ y. done y C.bindings c (at_root y)) (sym is)) o.is.4)
 
-pub behind_fails : (W : World) (sub : Standing) (whole : Answer) (C : CellContents) (es : List Scope) (t u : Trail) (l c : ℕ) (fs : List Frame) (node : Standing) (first : Option Standing) (k : ℕ) (p : Standing)
+pub after_fails : (W : World) (sub : Standing) (whole : Answer) (C : CellContents) (es : List Scope) (t u : Trail) (l c : ℕ) (fs : List Frame) (node : Standing) (first : Option Standing) (k : ℕ) (p : Standing)
     → Cuts k t u → elements (standing_tree p) ≡ None
-    → HoldsIn W sub whole (st C es t l c (frames.Behind node first k ∷ fs)) (Done p) → HoldsIn W sub whole (st C es u l c fs) Failed
-behind_fails W sub whole C es t u l c fs node first k p cu e h =
+    → HoldsIn W sub whole (st C es t l c (frames.After node first k ∷ fs)) (Done p) → HoldsIn W sub whole (st C es u l c fs) Failed
+after_fails W sub whole C es t u l c fs node first k p cu e h =
     let o = h.opens in
     let old = node_with node (first_part first) in record {
       now = old;
@@ -192,10 +192,10 @@ behind_fails W sub whole C es t u l c fs node first k p cu e h =
       opens = opens_along _ _ (none_is (elements (standing_tree p)) c (λ us. done (with_rest 1 (standing_tree old) us) C.bindings c (at_root (with_rest 1 (standing_tree old) us))) e) o.is.4;
     }
 
-pub fail_behind : (W : World) (sub : Standing) (whole : Answer) (C : CellContents) (es : List Scope) (t u : Trail) (l c : ℕ) (fs : List Frame) (node : Standing) (first : Option Standing) (k : ℕ)
+pub fail_after : (W : World) (sub : Standing) (whole : Answer) (C : CellContents) (es : List Scope) (t u : Trail) (l c : ℕ) (fs : List Frame) (node : Standing) (first : Option Standing) (k : ℕ)
     → Cuts k t u
-    → HoldsIn W sub whole (st C es t l c (frames.Behind node first k ∷ fs)) Failed → HoldsIn W sub whole (st C es u l c fs) Failed
-fail_behind W sub whole C es t u l c fs node first k cu h =
+    → HoldsIn W sub whole (st C es t l c (frames.After node first k ∷ fs)) Failed → HoldsIn W sub whole (st C es u l c fs) Failed
+fail_after W sub whole C es t u l c fs node first k cu h =
     let o = h.opens in record {
       now = node_with node (first_part first);
       edits = o.base;

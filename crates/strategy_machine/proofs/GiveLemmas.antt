@@ -3,7 +3,7 @@ use Rattle.std.proofs.Common.{◌≡◌, ℕ, suc, ◌+◌, ◌-◌, List, [], �
 use Rattle.std.proofs.lemmas.List.{append-nil}
 use Rattle.std.proofs.lemmas.Option.{slice_get_within}
 use Rattle.term_core.specs.Tree.{Tree, children}
-use Rattle.term_paths.specs.Edits.{Edits, behind}
+use Rattle.term_paths.specs.Edits.{Edits, prefixed}
 use Rattle.term_changes.specs.Standing.{Standing, fresh, standing_tree}
 use Rattle.strategy_syntax.specs.Resolved.{ResolvedStrategy}
 use Rattle.strategy_meaning.specs.Scopes.{Scope}
@@ -25,7 +25,7 @@ use Rattle.strategy_machine.specs.declared.frames.Walk.{Walk}
 use Rattle.strategy_machine.specs.declared.frames.Frame.{Frame}
 use Rattle.strategy_machine.specs.declared.frames.Frame.TheVariants as frames
 use Rattle.strategy_machine.specs.Hands.{Begin, Done, Failed, Each, Those}
-use Rattle.strategy_machine.proofs.OpenLemmas.{with_edits-done, opens_along, opens_through, opens_on, opens_new, behind-nothing, stays_self, meets_kept, opens_kept}
+use Rattle.strategy_machine.proofs.OpenLemmas.{with_edits-done, opens_along, opens_through, opens_on, opens_new, prefixed-nothing, stays_self, meets_kept, opens_kept}
 use Rattle.strategy_machine.proofs.NodeLeads.{part_count}
 use Rattle.strategy_machine.proofs.ChildLemmas.{Settled, settled_here, goes_up, each_begins}
 use Rattle.strategy_machine.proofs.TakeLemmas.{puts, some_is, none_is}
@@ -91,7 +91,7 @@ pub settled : (W : World) (sub : Standing) (whole : Answer) (C : CellContents) (
 settled W sub whole C es t l c fs gs w p parts pe e h k =
     settled_here l w h.opens.start p h.opens.base h.opens.before h.edits t (path_of fs) parts h.shows k
     (subst (λ x. Leads h.opens.start h.opens.before x) h.in_hand h.opens.leads) e
-    (h.opens.trail ∙ ap (λ (x : List ℕ). h.opens.base ++ behind x h.opens.before) pe)
+    (h.opens.trail ∙ ap (λ (x : List ℕ). h.opens.base ++ prefixed x h.opens.before) pe)
 
 pub give_each : (W : World) (sub : Standing) (whole : Answer) (C : CellContents) (es : List Scope) (t : Trail) (l c : ℕ) (fs : List Frame) (acts : Acts) (n i : ℕ) (w : Walk) (p : Standing) (parts : Vec Standing Global)
     → i ≡ w.index + 1
@@ -139,7 +139,7 @@ goes_on W sub whole C es t l c fs (frames.Those r m w mark any) g s n p q k x = 
 goes_on W sub whole C es t l c fs (frames.Tail r m e) g s n p q k x = absurd k.2
 goes_on W sub whole C es t l c fs (frames.Rest node ps m e) g s n p q k x = absurd k.2
 goes_on W sub whole C es t l c fs (frames.Head r m w) g s n p q k x = absurd k.2
-goes_on W sub whole C es t l c fs (frames.Behind node first e) g s n p q k x = absurd k.2
+goes_on W sub whole C es t l c fs (frames.After node first e) g s n p q k x = absurd k.2
 goes_on W sub whole C es t l c fs (frames.Leave m) g s n p q k x = absurd k.2
 goes_on W sub whole C es t l c fs (frames.Cut m e) g s n p q k x = absurd k.2
 
@@ -272,7 +272,7 @@ pub done_whole : (W : World) (sub : Standing) (whole : Answer) (C : CellContents
     → HoldsIn W sub whole (st C es t l c []) (Done p) → IsDone sub whole (st C es t l c []) p
 done_whole W sub whole C es t l c p h =
     let o = h.opens in
-    let trail : h.edits ≡ o.before = o.trail ∙ ap (λ (x : Edits). x ++ behind [] o.before) o.is.1 ∙ behind-nothing o.before in
+    let trail : h.edits ≡ o.before = o.trail ∙ ap (λ (x : Edits). x ++ prefixed [] o.before) o.is.1 ∙ prefixed-nothing o.before in
     record {
       edits = o.before;
       leads = subst (λ x. Leads sub o.before x) h.in_hand (subst (λ x. Leads x o.before h.now) o.is.0 o.leads);

@@ -4,7 +4,7 @@ use Rattle.std.proofs.lemmas.Bool.{cases_eq}
 use Rattle.std.specs.Prelude.{slice_set, option_map}
 use Rattle.std.proofs.lemmas.Option.{slice_get-map}
 use Rattle.term_core.specs.Tree.{Tree, children, with_children, with_child}
-use Rattle.term_paths.specs.Edits.{Edits, behind, Replaces}
+use Rattle.term_paths.specs.Edits.{Edits, prefixed, Replaces}
 use Rattle.term_paths.proofs.EditLemmas.{replaces-child}
 use Rattle.term_changes.specs.Change.{Change, same, inside, replaced, Changes, no_more, and_then}
 use Rattle.term_changes.specs.EditChanges.{nth_change}
@@ -16,7 +16,7 @@ use Rattle.term_changes.proofs.StandingLemmas.{length-map_tree}
 use Rattle.term_changes.proofs.FollowLemmas.{follows_itself, follows_on, followers_can_stand, same_root_follows, trees_of_children, tree_over_children}
 use Rattle.strategy_meaning.specs.Outermost.{IsOf}
 use Rattle.strategy_machine.specs.Leading.{IsPlace, IsWithin, Has, AllHave, node_now, parts_now, PartsStand, Leads}
-use Rattle.strategy_machine.proofs.PlaceLemmas.{of_behind, behind_of}
+use Rattle.strategy_machine.proofs.PlaceLemmas.{of_prefixed, prefixed_of}
 use Rattle.strategy_machine.proofs.LeadLemmas.{suits_has}
 
 -- ---- the parts in the places of the children
@@ -229,11 +229,11 @@ parted_itself cs = record { place = λ x h. h; within = λ x h. h }
 
 -- One more edit, in child i.
 pub record OneMore (c : Change) (ps : List Standing) (i : ℕ) (d : Edits) (r : Standing) : Type 0 where
-  pub among : (x : List ℕ) → IsPlace (inside (standing_changes (slice_set ps i r))) x → IsPlace c x ⊎ IsOf x (behind (i ∷ []) d)
-  pub covers : (x : List ℕ) → IsWithin c x ⊎ IsOf x (behind (i ∷ []) d) → IsWithin (inside (standing_changes (slice_set ps i r))) x
+  pub among : (x : List ℕ) → IsPlace (inside (standing_changes (slice_set ps i r))) x → IsPlace c x ⊎ IsOf x (prefixed (i ∷ []) d)
+  pub covers : (x : List ℕ) → IsWithin c x ⊎ IsOf x (prefixed (i ∷ []) d) → IsWithin (inside (standing_changes (slice_set ps i r))) x
 
 place_moves : (ps : List Standing) (i : ℕ) (c r : Standing) (d : Edits) (x : List ℕ) → slice_get ps i ≡ Some c → Leads c d r
-    → IsPlace (inside (standing_changes (slice_set ps i r))) x → IsPlace (inside (standing_changes ps)) x ⊎ IsOf x (behind (i ∷ []) d)
+    → IsPlace (inside (standing_changes (slice_set ps i r))) x → IsPlace (inside (standing_changes ps)) x ⊎ IsOf x (prefixed (i ∷ []) d)
 place_moves ps i c r d [] e l h = absurd h
 place_moves ps i c r d (j ∷ x) e l h = elim (cases_eq i j) [
   | inr differ ↦ inl (subst (λ k. IsPlace k x) (nth_other ps i j r differ) h)
@@ -241,7 +241,7 @@ place_moves ps i c r d (j ∷ x) e l h = elim (cases_eq i j) [
       let here : IsPlace (standing_change r) x = subst (λ k. IsPlace k x) (ap (nth_change (standing_changes (slice_set ps i r))) (sym is) ∙ nth_set ps i c r e) h in
       elim (l.among x here) [
         | inl before ↦ inl (subst (λ k. IsPlace k x) (sym (ap (nth_change (standing_changes ps)) (sym is) ∙ nth_get ps i c e)) before)
-        | inr edit ↦ inr (subst (λ k. IsOf (k ∷ x) (behind (i ∷ []) d)) is (of_behind (i ∷ []) x d edit))
+        | inr edit ↦ inr (subst (λ k. IsOf (k ∷ x) (prefixed (i ∷ []) d)) is (of_prefixed (i ∷ []) x d edit))
       ]
 ]
 
@@ -256,9 +256,9 @@ within_moves ps i c r d (j ∷ x) e l h = elim (cases_eq i j) [
 ]
 
 edit_within : (ps : List Standing) (i : ℕ) (c r : Standing) (d : Edits) (x : List ℕ) → slice_get ps i ≡ Some c → Leads c d r
-    → IsOf x (behind (i ∷ []) d) → IsWithin (inside (standing_changes (slice_set ps i r))) x
+    → IsOf x (prefixed (i ∷ []) d) → IsWithin (inside (standing_changes (slice_set ps i r))) x
 edit_within ps i c r d x e l h =
-    let w = behind_of (i ∷ []) x d h in
+    let w = prefixed_of (i ∷ []) x d h in
     subst (IsWithin (inside (standing_changes (slice_set ps i r)))) (sym w.1)
     (subst (λ k. IsWithin k w.0) (sym (nth_set ps i c r e)) (l.covers w.0 (inr w.2)))
 
@@ -287,7 +287,7 @@ root_stays A t u [] h = inl tt
 root_stays A t u (i ∷ x) h = absurd h
 
 moves : (node : Standing) (parts : List Standing) (i : ℕ) (c r : Standing) (d : Edits) → Has node → slice_get (parts_now node parts) i ≡ Some c → Leads c d r
-    → Moves (node_now node parts) (with_standing node (slice_set (parts_now node parts) i r)) (behind (i ∷ []) d)
+    → Moves (node_now node parts) (with_standing node (slice_set (parts_now node parts) i r)) (prefixed (i ∷ []) d)
 moves (unchanged t) [] i c r d n e l =
     let o = one_more same (map unchanged (children t)) i c r d (parted_same (children t)) e l in
     record { follows = refl; among = o.among; covers = o.covers }
@@ -296,7 +296,7 @@ moves (altered a) [] i c r d n e l =
     record { follows = refl; among = o.among; covers = o.covers }
 moves (fresh t) [] i c r d n e l = record {
   follows = tt;
-  among = λ x. root_stays (IsOf x (behind (i ∷ []) d)) t (with_children t (map standing_tree (slice_set (map fresh (children t)) i r))) x;
+  among = λ x. root_stays (IsOf x (prefixed (i ∷ []) d)) t (with_children t (map standing_tree (slice_set (map fresh (children t)) i r))) x;
   covers = λ x h. tt;
 }
 moves (unchanged t) (q ∷ qs) i c r d n e l =
@@ -307,19 +307,19 @@ moves (altered a) (q ∷ qs) i c r d n e l =
     record { follows = refl; among = o.among; covers = o.covers }
 moves (fresh t) (q ∷ qs) i c r d n e l = record {
   follows = tt;
-  among = λ x. root_stays (IsOf x (behind (i ∷ []) d)) (with_children t (map standing_tree (q ∷ qs))) (with_children t (map standing_tree (slice_set (q ∷ qs) i r))) x;
+  among = λ x. root_stays (IsOf x (prefixed (i ∷ []) d)) (with_children t (map standing_tree (q ∷ qs))) (with_children t (map standing_tree (slice_set (q ∷ qs) i r))) x;
   covers = λ x h. tt;
 }
 
 set_leads : (node : Standing) (parts : List Standing) (i : ℕ) (c r : Standing) (d : Edits) → Has node → PartsStand node parts → slice_get (parts_now node parts) i ≡ Some c → Leads c d r
     → PartsStand node (slice_set (parts_now node parts) i r)
-    → Leads (node_now node parts) (behind (i ∷ []) d) (node_now node (slice_set (parts_now node parts) i r))
+    → Leads (node_now node parts) (prefixed (i ∷ []) d) (node_now node (slice_set (parts_now node parts) i r))
 set_leads node parts i c r d n h e l k =
     let ps = parts_now node parts in
-    let m : Moves (node_now node parts) (node_now node (slice_set ps i r)) (behind (i ∷ []) d) =
-    subst (λ x. Moves (node_now node parts) x (behind (i ∷ []) d)) (sym (set_over node ps i c r e)) (moves node parts i c r d n e l) in record {
+    let m : Moves (node_now node parts) (node_now node (slice_set ps i r)) (prefixed (i ∷ []) d) =
+    subst (λ x. Moves (node_now node parts) x (prefixed (i ∷ []) d)) (sym (set_over node ps i c r e)) (moves node parts i c r d n e l) in record {
       follows = m.follows;
-      made = subst (Replaces (behind (i ∷ []) d) (standing_tree (node_now node parts))) (sym (node_written node parts i c r h e k))
+      made = subst (Replaces (prefixed (i ∷ []) d) (standing_tree (node_now node parts))) (sym (node_written node parts i c r h e k))
           (replaces-child d i (standing_tree (node_now node parts)) (standing_tree c) (standing_tree r) (node_tree node parts i c h e) l.made);
       has = node_has node (slice_set ps i r) n k;
       among = m.among;
@@ -327,8 +327,8 @@ set_leads node parts i c r d n h e l k =
     }
 
 pub leads_child : (node : Standing) (parts new : List Standing) (i : ℕ) (c r : Standing) (d : Edits) → Has node → PartsStand node parts → slice_get (parts_now node parts) i ≡ Some c → Leads c d r
-    → new ≡ slice_set (parts_now node parts) i r → Leads (node_now node parts) (behind (i ∷ []) d) (node_now node new) × PartsStand node new
+    → new ≡ slice_set (parts_now node parts) i r → Leads (node_now node parts) (prefixed (i ∷ []) d) (node_now node new) × PartsStand node new
 leads_child node parts new i c r d n h e l is =
     let k = set_stands node parts i c r h e l.follows l.has in
-    subst (λ x. Leads (node_now node parts) (behind (i ∷ []) d) (node_now node x) × PartsStand node x) (sym is)
+    subst (λ x. Leads (node_now node parts) (prefixed (i ∷ []) d) (node_now node x) × PartsStand node x) (sym is)
     (set_leads node parts i c r d n h e l k, k)

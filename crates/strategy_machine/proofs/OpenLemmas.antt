@@ -2,7 +2,7 @@
 use Rattle.std.proofs.Common.{◌≡◌, ℕ, ◌+◌, List, [], ◌∷◌, ◌++◌, take, reverse, true, refl, sym, ap, ◌∙◌, subst, arith}
 use Rattle.std.proofs.lemmas.List.{append-nil, append_assoc, map-append, reverse-append}
 use Rattle.term_core.specs.Tree.{Tree}
-use Rattle.term_paths.specs.Edits.{Edit, Edits, behind}
+use Rattle.term_paths.specs.Edits.{Edit, Edits, prefixed}
 use Rattle.term_changes.specs.Standing.{Standing, standing_tree}
 use Rattle.strategy_meaning.specs.Scopes.{Scope}
 use Rattle.strategy_meaning.specs.Matching.{Bindings}
@@ -15,7 +15,7 @@ use Rattle.term_match.specs.declared.cells.Mark.{Mark}
 use Rattle.strategy_machine.specs.Leading.{Leads, Has}
 use Rattle.strategy_machine.specs.Frames.{Becomes, Opens, Meets, put_back, walked, left_behind}
 use Rattle.strategy_machine.specs.declared.frames.Frame.{Frame}
-use Rattle.strategy_machine.specs.declared.frames.Frame.TheVariants.{Then, Choose, Restore, Each, Leftmost, Those, Tail, Rest, Head, Behind, Leave, Cut}
+use Rattle.strategy_machine.specs.declared.frames.Frame.TheVariants.{Then, Choose, Restore, Each, Leftmost, Those, Tail, Rest, Head, After, Leave, Cut}
 use Rattle.strategy_machine.proofs.LeadLemmas.{leads_nothing, leads_on}
 
 -- ---- answers
@@ -48,14 +48,14 @@ and_then-done (done t B b e) = ap (done t B b) (append-nil e)
 and_then-done (failed b) = refl
 and_then-done (stopped w) = refl
 
-pub behind-behind : (p q : List ℕ) (e : Edits) → behind p (behind q e) ≡ behind (p ++ q) e
-behind-behind p q [] = refl
-behind-behind p q (x ∷ e) =
-    (λ i. record { path = sym (append_assoc p q x.path) i; new = x.new } ∷ behind-behind p q e i)
+pub prefixed-prefixed : (p q : List ℕ) (e : Edits) → prefixed p (prefixed q e) ≡ prefixed (p ++ q) e
+prefixed-prefixed p q [] = refl
+prefixed-prefixed p q (x ∷ e) =
+    (λ i. record { path = sym (append_assoc p q x.path) i; new = x.new } ∷ prefixed-prefixed p q e i)
 
-pub behind-nothing : (e : Edits) → behind [] e ≡ e
-behind-nothing [] = refl
-behind-nothing (x ∷ e) = ap (λ (f : Edits). x ∷ f) (behind-nothing e)
+pub prefixed-nothing : (e : Edits) → prefixed [] e ≡ e
+prefixed-nothing [] = refl
+prefixed-nothing (x ∷ e) = ap (λ (f : Edits). x ∷ f) (prefixed-nothing e)
 
 pub pushed : {A : Type 0} (xs ys : List A) (x : A) → ys ≡ xs ++ x ∷ [] → reverse ys ≡ x ∷ reverse xs
 pushed xs ys x e = ap reverse e ∙ reverse-append xs (x ∷ [])
@@ -97,13 +97,13 @@ opens_through a b f h = record {
 
 -- the part continues after some more edits
 pub opens_on : {R : Becomes} (path : List ℕ) (p q : Standing) (T U d : Edits) (a : Answer)
-    → Leads p d q → U ≡ T ++ behind path d → Opens R path p T (with_edits d a) → Opens R path q U a
+    → Leads p d q → U ≡ T ++ prefixed path d → Opens R path p T (with_edits d a) → Opens R path q U a
 opens_on {R = R} path p q T U d a l e h = record {
   start = h.start;
   base = h.base;
   before = h.before ++ d;
   leads = leads_on h.start p q h.before d h.leads l;
-  trail = e ∙ ap (λ (x : Edits). x ++ behind path d) h.trail ∙ append_assoc h.base (behind path h.before) (behind path d)
+  trail = e ∙ ap (λ (x : Edits). x ++ prefixed path d) h.trail ∙ append_assoc h.base (prefixed path h.before) (prefixed path d)
       ∙ ap (λ (x : Edits). h.base ++ x) (sym (map-append (λ (x : Edit). record { path = path ++ x.path; new = x.new }) h.before d));
   is = subst (R h.start h.base) (with_edits-append h.before d a) h.is;
 }
@@ -172,7 +172,7 @@ meets_kept W sub whole C D top up es l (Rest node ps n k ∷ fs) start base a b 
     (h.0, h.1, h.2, opens_map (λ s e x g. meets_kept W sub whole C D top up es l fs s e x b st g) h.3)
 meets_kept W sub whole C D top up es l (Head s n w ∷ fs) start base a b st h =
     (h.0, h.1, h.2, opens_map (λ s e x g. meets_kept W sub whole C D top up es w.level fs s e x b st g) h.3)
-meets_kept W sub whole C D top up es l (Behind node first k ∷ fs) start base a b st h =
+meets_kept W sub whole C D top up es l (After node first k ∷ fs) start base a b st h =
     (h.0, h.1, h.2, h.3, opens_map (λ s e x g. meets_kept W sub whole C D top up es l fs s e x b st g) h.4)
 meets_kept W sub whole C D top up es l (Leave n ∷ fs) start base a b st h =
     (h.0, meets_kept W sub whole C D top up (take n es) l fs start base a b st h.1)
@@ -202,7 +202,7 @@ meets_stopped W sub whole C top es l (Those s n v m any ∷ fs) start base w h =
 meets_stopped W sub whole C top es l (Tail s n k ∷ fs) start base w h = meets_stopped W sub whole C top es l fs start base w h.1
 meets_stopped W sub whole C top es l (Rest node ps n k ∷ fs) start base w h = meets_stopped W sub whole C top es l fs h.3.start h.3.base w h.3.is
 meets_stopped W sub whole C top es l (Head s n v ∷ fs) start base w h = meets_stopped W sub whole C top es v.level fs h.3.start h.3.base w h.3.is
-meets_stopped W sub whole C top es l (Behind node first k ∷ fs) start base w h = meets_stopped W sub whole C top es l fs h.4.start h.4.base w h.4.is
+meets_stopped W sub whole C top es l (After node first k ∷ fs) start base w h = meets_stopped W sub whole C top es l fs h.4.start h.4.base w h.4.is
 meets_stopped W sub whole C top es l (Leave n ∷ fs) start base w h = meets_stopped W sub whole C top (take n es) l fs start base w h.1
 meets_stopped W sub whole C top es l (Cut n k ∷ fs) start base w h =
     meets_stopped W sub whole C (record { count = n; filled = top.filled }) (take k es) l fs start base w h.2

@@ -44,17 +44,17 @@ get_none [] i le = refl
 get_none (x ∷ xs) zero le = absurd (omega (arith, le))
 get_none (x ∷ xs) (suc i) le = get_none xs i (omega (arith, le))
 
-get_behind : (qs cs : List Standing) (i : ℕ) → length qs ≤ i → slice_get (over qs cs) i ≡ slice_get cs i
-get_behind [] cs i le = refl
-get_behind (q ∷ qs) [] i le = ap (λ l. slice_get l i) (over_none (q ∷ qs)) ∙ get_none (q ∷ qs) i le
-get_behind (q ∷ qs) (c ∷ cs) zero le = absurd (omega (arith, le))
-get_behind (q ∷ qs) (c ∷ cs) (suc i) le = get_behind qs cs i (omega (arith, le))
+get_after : (qs cs : List Standing) (i : ℕ) → length qs ≤ i → slice_get (over qs cs) i ≡ slice_get cs i
+get_after [] cs i le = refl
+get_after (q ∷ qs) [] i le = ap (λ l. slice_get l i) (over_none (q ∷ qs)) ∙ get_none (q ∷ qs) i le
+get_after (q ∷ qs) (c ∷ cs) zero le = absurd (omega (arith, le))
+get_after (q ∷ qs) (c ∷ cs) (suc i) le = get_after qs cs i (omega (arith, le))
 
 pub child_in : (p : Standing) (qs : List Standing) (i : ℕ) → i < length qs → slice_get qs i ≡ slice_get (parts_now p (all_parts p qs)) i
 child_in p qs i lt = sym (get_front qs (drop (length qs) (standing_children p)) i lt) ∙ ap (λ l. slice_get l i) (sym (parts_over p qs))
 
-pub child_behind : (p : Standing) (qs : List Standing) (i : ℕ) → length qs ≤ i → slice_get (standing_children p) i ≡ slice_get (parts_now p (all_parts p qs)) i
-child_behind p qs i le = sym (get_behind qs (standing_children p) i le) ∙ ap (λ l. slice_get l i) (sym (parts_over p qs))
+pub child_after : (p : Standing) (qs : List Standing) (i : ℕ) → length qs ≤ i → slice_get (standing_children p) i ≡ slice_get (parts_now p (all_parts p qs)) i
+child_after p qs i le = sym (get_after qs (standing_children p) i le) ∙ ap (λ l. slice_get l i) (sym (parts_over p qs))
 
 -- ---- one of them set
 

@@ -2,7 +2,7 @@
 use Rattle.std.proofs.Common.{◌≡◌, ◌<◌, ℕ, ◌+◌, List, [], ◌∷◌, ◌++◌, ◌⊎◌, inl, inr, refl, sym, ap, subst, ◌∙◌, zero, suc, arith, append_assoc}
 use Rattle.term_core.specs.Tree.{Tree}
 use Rattle.term_paths.specs.Paths.{LiesWithin}
-use Rattle.term_paths.specs.Edits.{Edits, behind}
+use Rattle.term_paths.specs.Edits.{Edits, prefixed}
 use Rattle.term_changes.specs.Change.{Change, same, inside, replaced, Changes, no_more, and_then, below, places, places_from}
 use Rattle.term_changes.specs.EditChanges.{nth_change}
 use Rattle.term_changes.specs.Standing.{Standing, unchanged, standing_change}
@@ -28,15 +28,15 @@ of_either x (y ∷ e) d (inr h) = elim (of_either x e d h) [
   | inr right ↦ inr right
 ]
 
-pub of_behind : (p x : List ℕ) (e : Edits) → IsOf x e → IsOf (p ++ x) (behind p e)
-of_behind p x [] h = absurd h
-of_behind p x (y ∷ e) (inl h) = inl (ap (λ l. p ++ l) h)
-of_behind p x (y ∷ e) (inr h) = inr (of_behind p x e h)
+pub of_prefixed : (p x : List ℕ) (e : Edits) → IsOf x e → IsOf (p ++ x) (prefixed p e)
+of_prefixed p x [] h = absurd h
+of_prefixed p x (y ∷ e) (inl h) = inl (ap (λ l. p ++ l) h)
+of_prefixed p x (y ∷ e) (inr h) = inr (of_prefixed p x e h)
 
-pub behind_of : (p x : List ℕ) (e : Edits) → IsOf x (behind p e) → (y : List ℕ) × (x ≡ p ++ y) × IsOf y e
-behind_of p x [] h = absurd h
-behind_of p x (y ∷ e) (inl h) = (y.path, sym h, inl refl)
-behind_of p x (y ∷ e) (inr h) = let r = behind_of p x e h in (r.0, r.1, inr r.2)
+pub prefixed_of : (p x : List ℕ) (e : Edits) → IsOf x (prefixed p e) → (y : List ℕ) × (x ≡ p ++ y) × IsOf y e
+prefixed_of p x [] h = absurd h
+prefixed_of p x (y ∷ e) (inl h) = (y.path, sym h, inl refl)
+prefixed_of p x (y ∷ e) (inr h) = let r = prefixed_of p x e h in (r.0, r.1, inr r.2)
 
 -- ---- from a place to its path and back
 
@@ -54,7 +54,7 @@ mutual
   place_from no_more k x h = absurd h
   place_from (and_then c cs) k x h = elim (of_either x (below k (places c)) (places_from (k + 1) cs) h) [
     | inl here ↦
-        let r = behind_of (k ∷ []) x (places c) here in
+        let r = prefixed_of (k ∷ []) x (places c) here in
         let first : k ≡ k + 0 = omega arith in
         (0, r.0, r.1 ∙ ap (λ n. n ∷ r.0) first, place_is c r.0 r.2)
     | inr there ↦
@@ -78,7 +78,7 @@ mutual
   within_from (and_then c cs) k zero x h =
       let r = within_place c x h in
       let first : k + 0 ≡ k = omega arith in
-      (k ∷ r.0, of_left (k ∷ r.0) (below k (places c)) (places_from (k + 1) cs) (of_behind (k ∷ []) r.0 (places c) r.1), (r.2.0, λ i. first i ∷ r.2.1 i))
+      (k ∷ r.0, of_left (k ∷ r.0) (below k (places c)) (places_from (k + 1) cs) (of_prefixed (k ∷ []) r.0 (places c) r.1), (r.2.0, λ i. first i ∷ r.2.1 i))
   within_from (and_then c cs) k (suc j) x h =
       let r = within_from cs (k + 1) j x h in
       let next : k + suc j ≡ (k + 1) + j = omega arith in
@@ -91,17 +91,17 @@ before_append q [] ys h g = g
 before_append q (x ∷ xs) ys h g = (h.0, before_append q xs ys h.1 g)
 
 -- below a path
-before_behind : (p x y : List ℕ) → IsBefore x y → IsBefore (p ++ x) (p ++ y)
-before_behind [] x y h = h
-before_behind (i ∷ p) x y h = inr (refl, before_behind p x y h)
+before_after : (p x y : List ℕ) → IsBefore x y → IsBefore (p ++ x) (p ++ y)
+before_after [] x y h = h
+before_after (i ∷ p) x y h = inr (refl, before_after p x y h)
 
-before_all_behind : (p x : List ℕ) (e : Edits) → IsBeforeAll x e → IsBeforeAll (p ++ x) (behind p e)
-before_all_behind p x [] h = tt
-before_all_behind p x (y ∷ e) h = (before_behind p x y.path h.0, before_all_behind p x e h.1)
+before_all_prefixed : (p x : List ℕ) (e : Edits) → IsBeforeAll x e → IsBeforeAll (p ++ x) (prefixed p e)
+before_all_prefixed p x [] h = tt
+before_all_prefixed p x (y ∷ e) h = (before_after p x y.path h.0, before_all_prefixed p x e h.1)
 
-behind_in_order : (p : List ℕ) (e : Edits) → AreInOrder e → AreInOrder (behind p e)
-behind_in_order p [] h = tt
-behind_in_order p (x ∷ e) h = (before_all_behind p x.path e h.0, behind_in_order p e h.1)
+prefixed_in_order : (p : List ℕ) (e : Edits) → AreInOrder e → AreInOrder (prefixed p e)
+prefixed_in_order p [] h = tt
+prefixed_in_order p (x ∷ e) h = (before_all_prefixed p x.path e h.0, prefixed_in_order p e h.1)
 
 -- below a later child
 before_later : (i k : ℕ) (p : List ℕ) (e : Edits) → i < k → IsBeforeAll (i ∷ p) (below k e)
@@ -117,7 +117,7 @@ before_from i k p (and_then c cs) h =
 in_order_then : (i k : ℕ) (e : Edits) (cs : Changes) → i < k → AreInOrder e → AreInOrder (places_from k cs) → AreInOrder (below i e ++ places_from k cs)
 in_order_then i k [] cs less h g = g
 in_order_then i k (x ∷ e) cs less h g =
-    (before_append (i ∷ x.path) (below i e) (places_from k cs) (before_all_behind (i ∷ []) x.path e h.0) (before_from i k x.path cs less), in_order_then i k e cs less h.1 g)
+    (before_append (i ∷ x.path) (below i e) (places_from k cs) (before_all_prefixed (i ∷ []) x.path e h.0) (before_from i k x.path cs less), in_order_then i k e cs less h.1 g)
 
 mutual
   places_in_order : (c : Change) → AreInOrder (places c)
@@ -133,20 +133,20 @@ mutual
 
 -- ---- the places of what edits amount to
 
-pub outermost : (p : List ℕ) (t : Tree) (e : Edits) (q : Standing) → Leads (unchanged t) e q → AreOutermost (behind p (places (standing_change q))) (behind p e)
-outermost p t e q h = record { order = behind_in_order p (places (standing_change q)) (places_in_order (standing_change q)); among = of_edits; covers = covered }
+pub outermost : (p : List ℕ) (t : Tree) (e : Edits) (q : Standing) → Leads (unchanged t) e q → AreOutermost (prefixed p (places (standing_change q))) (prefixed p e)
+outermost p t e q h = record { order = prefixed_in_order p (places (standing_change q)) (places_in_order (standing_change q)); among = of_edits; covers = covered }
   where
     edit : (y : List ℕ) → ⊥ ⊎ IsOf y e → IsOf y e
     edit y (inl never) = absurd never
     edit y (inr is) = is
 
-    of_edits : (x : List ℕ) → IsOf x (behind p (places (standing_change q))) → IsOf x (behind p e)
+    of_edits : (x : List ℕ) → IsOf x (prefixed p (places (standing_change q))) → IsOf x (prefixed p e)
     of_edits x is =
-        let r = behind_of p x (places (standing_change q)) is in
-        subst (λ l. IsOf l (behind p e)) (sym r.1) (of_behind p r.0 e (edit r.0 (h.among r.0 (place_is (standing_change q) r.0 r.2))))
+        let r = prefixed_of p x (places (standing_change q)) is in
+        subst (λ l. IsOf l (prefixed p e)) (sym r.1) (of_prefixed p r.0 e (edit r.0 (h.among r.0 (place_is (standing_change q) r.0 r.2))))
 
-    covered : (x : List ℕ) → IsOf x (behind p e) → (y : List ℕ) × IsOf y (behind p (places (standing_change q))) × LiesWithin x y
+    covered : (x : List ℕ) → IsOf x (prefixed p e) → (y : List ℕ) × IsOf y (prefixed p (places (standing_change q))) × LiesWithin x y
     covered x is =
-        let r = behind_of p x e is in
+        let r = prefixed_of p x e is in
         let w = within_place (standing_change q) r.0 (h.covers r.0 (inr r.2)) in
-        (p ++ w.0, of_behind p w.0 (places (standing_change q)) w.1, (w.2.0, r.1 ∙ ap (λ l. p ++ l) w.2.1 ∙ sym (append_assoc p w.0 w.2.0)))
+        (p ++ w.0, of_prefixed p w.0 (places (standing_change q)) w.1, (w.2.0, r.1 ∙ ap (λ l. p ++ l) w.2.1 ∙ sym (append_assoc p w.0 w.2.0)))

@@ -3,25 +3,25 @@ use Rattle.std.proofs.Common.{◌≡◌, ℕ, ◌+◌, ◌≤◌, ◌<◌, List,
 use Rattle.std.specs.declared.option.Option.{Option}
 use Rattle.std.proofs.lemmas.List.{append-nil, append_assoc, length-append, get_or_append_left, get_or_past}
 use Rattle.strategy_meaning.specs.Scopes.{Scope, cells_in, with_name}
-use Rattle.strategy_machine.specs.Table.{Widening, nowhere, scope_at, scope_from, with_addition, widened, scopes_behind, scopes, IsThere}
+use Rattle.strategy_machine.specs.Table.{Widening, nowhere, scope_at, scope_from, with_addition, widened, scopes_after, scopes, IsThere}
 use Rattle.strategy_machine.specs.declared.scopes.Adds.{Adds}
 use Rattle.strategy_machine.specs.declared.scopes.Adds.TheVariants.{Variables, Name}
 use Rattle.strategy_machine.specs.declared.scopes.ScopeEntry.{ScopeEntry}
 use Rattle.strategy_machine.specs.inside.Entries.{names_in, closure_count, addition_of, widening_of, AddsFit, RestsOnOlder, RestOnOlder}
 
-pub length-scopes : (known : List Scope) (ws : List Widening) → length (scopes_behind known ws) ≡ length ws
+pub length-scopes : (known : List Scope) (ws : List Widening) → length (scopes_after known ws) ≡ length ws
 length-scopes known [] = refl
 length-scopes known (w ∷ ws) = ap suc (length-scopes (known ++ widened known w ∷ []) ws)
 
 pub scopes-append : (known : List Scope) (ws : List Widening) (w : Widening)
-    → scopes_behind known (ws ++ w ∷ []) ≡ scopes_behind known ws ++ widened (known ++ scopes_behind known ws) w ∷ []
+    → scopes_after known (ws ++ w ∷ []) ≡ scopes_after known ws ++ widened (known ++ scopes_after known ws) w ∷ []
 scopes-append known [] w = ap (λ l. widened l w ∷ []) (sym (append-nil known))
 scopes-append known (v ∷ ws) w =
     let more : List Scope = known ++ widened known v ∷ [] in
     ap (λ l. widened known v ∷ l) (scopes-append more ws w
-    ∙ ap (λ l. scopes_behind more ws ++ widened l w ∷ []) (append_assoc known (widened known v ∷ []) (scopes_behind more ws)))
+    ∙ ap (λ l. scopes_after more ws ++ widened l w ∷ []) (append_assoc known (widened known v ∷ []) (scopes_after more ws)))
 
-pub scopes-take : (known : List Scope) (n : ℕ) (ws : List Widening) → scopes_behind known (take n ws) ≡ take n (scopes_behind known ws)
+pub scopes-take : (known : List Scope) (n : ℕ) (ws : List Widening) → scopes_after known (take n ws) ≡ take n (scopes_after known ws)
 scopes-take known zero ws = refl
 scopes-take known (suc n) [] = refl
 scopes-take known (suc n) (w ∷ ws) = ap (λ l. widened known w ∷ l) (scopes-take (known ++ widened known w ∷ []) n ws)
@@ -73,16 +73,16 @@ at_first : (known more : List Scope) (b : ℕ) (e : ScopeEntry) → b ≡ length
 at_first known more b e i s = record { sound = rw i (sound-more known more e s); scope = sym (widened-more known more e s) }
 
 pub at : (known : List Scope) (es : List ScopeEntry) (n b : ℕ) (e : ScopeEntry) → RestOnOlder known es → n < length es → e ≡ get_or es n e → b ≡ length known + n
-    → IsAt (known ++ scopes_behind known (map widening_of es)) b (scope_at (scopes_behind known (map widening_of es)) n) e
+    → IsAt (known ++ scopes_after known (map widening_of es)) b (scope_at (scopes_after known (map widening_of es)) n) e
 at known [] n b e o h is i = absurd (omega (arith, h))
 at known (f ∷ es) zero b e o h is i =
-    let more : List Scope = scopes_behind known (map widening_of (f ∷ es)) in
+    let more : List Scope = scopes_after known (map widening_of (f ∷ es)) in
     subst (λ (x : ScopeEntry). IsAt (known ++ more) b (widened known (widening_of f)) x) (sym is) (at_first known more b f (omega (arith, i)) o.0)
 at known (f ∷ es) (suc n) b e o h is i =
     let more : List Scope = known ++ widened known (widening_of f) ∷ [] in
     let l : length more ≡ length known + 1 = length-append known (widened known (widening_of f) ∷ []) in
-    subst (λ (all : List Scope). IsAt all b (scope_at (scopes_behind more (map widening_of es)) n) e)
-    (append_assoc known (widened known (widening_of f) ∷ []) (scopes_behind more (map widening_of es)))
+    subst (λ (all : List Scope). IsAt all b (scope_at (scopes_after more (map widening_of es)) n) e)
+    (append_assoc known (widened known (widening_of f) ∷ []) (scopes_after more (map widening_of es)))
     (at more es n b e o.1 (omega (arith, h)) is (omega (arith, i, l)))
 
 pub sound-take : (known : List Scope) (n : ℕ) (es : List ScopeEntry) → RestOnOlder known es → RestOnOlder known (take n es)
@@ -91,14 +91,14 @@ sound-take known (suc n) [] o = tt
 sound-take known (suc n) (e ∷ es) o = (o.0, sound-take (known ++ widened known (widening_of e) ∷ []) n es o.1)
 
 pub sound-append : (known all : List Scope) (es : List ScopeEntry) (e : ScopeEntry) → RestOnOlder known es
-    → all ≡ known ++ scopes_behind known (map widening_of es) → RestsOnOlder all (length all) e → RestOnOlder known (es ++ e ∷ [])
+    → all ≡ known ++ scopes_after known (map widening_of es) → RestsOnOlder all (length all) e → RestOnOlder known (es ++ e ∷ [])
 sound-append known all [] e o i s =
     let same : all ≡ known = i ∙ append-nil known in (subst (λ (l : List Scope). RestsOnOlder l (length l) e) same s, tt)
 sound-append known all (f ∷ es) e o i s =
     let more : List Scope = known ++ widened known (widening_of f) ∷ [] in (
       o.0,
       sound-append more all es e o.1
-          (i ∙ sym (append_assoc known (widened known (widening_of f) ∷ []) (scopes_behind more (map widening_of es)))) s,
+          (i ∙ sym (append_assoc known (widened known (widening_of f) ∷ []) (scopes_after more (map widening_of es)))) s,
     )
 
 -- ---- by the vector

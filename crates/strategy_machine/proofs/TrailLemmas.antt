@@ -2,13 +2,13 @@
 use Rattle.std.proofs.Common.{◌≡◌, ◌<◌, ◌≤◌, ℕ, ◌+◌, List, [], ◌∷◌, ◌++◌, length, take, reverse, refl, sym, ap, ◌∙◌, arith, get_or, suc}
 use Rattle.std.proofs.lemmas.List.{append-nil, take_all, map-append}
 use Rattle.std.proofs.Math.Seq.{take-suc}
-use Rattle.term_paths.specs.Edits.{Edit, Edits, behind}
+use Rattle.term_paths.specs.Edits.{Edit, Edits, prefixed}
 use Rattle.term_changes.specs.Entries.{Entry}
 use Rattle.term_changes.specs.Putting.{entry_at, entries_at}
 use Rattle.strategy_machine.specs.Trails.{path_of}
 use Rattle.strategy_machine.specs.inside.Steps.{step_of}
 use Rattle.strategy_machine.specs.declared.frames.Frame.{Frame}
-use Rattle.strategy_machine.specs.declared.frames.Frame.TheVariants.{Then, Choose, Restore, Each, Leftmost, Those, Tail, Rest, Head, Behind, Leave, Cut}
+use Rattle.strategy_machine.specs.declared.frames.Frame.TheVariants.{Then, Choose, Restore, Each, Leftmost, Those, Tail, Rest, Head, After, Leave, Cut}
 use Rattle.strategy_machine.proofs.OpenLemmas.{pushed}
 
 next : (i : ℕ) → i + 1 ≡ suc i
@@ -27,7 +27,7 @@ path_step (Those s n w m any) fs = refl
 path_step (Tail s n k) fs = sym (append-nil (path_of fs))
 path_step (Rest p ps n k) fs = sym (append-nil (path_of fs))
 path_step (Head s n w) fs = refl
-path_step (Behind p first k) fs = sym (append-nil (path_of fs))
+path_step (After p first k) fs = sym (append-nil (path_of fs))
 path_step (Leave n) fs = sym (append-nil (path_of fs))
 path_step (Cut n k) fs = sym (append-nil (path_of fs))
 
@@ -41,18 +41,18 @@ path_whole fs i p le e = e ∙ ap (λ x. path_of (reverse x)) (take_all i fs le)
 
 -- ---- edits as entries of a plan
 
-behind-append : (p : List ℕ) (e d : Edits) → behind p (e ++ d) ≡ behind p e ++ behind p d
-behind-append p [] d = refl
-behind-append p (x ∷ e) d = ap (λ l. record { path = p ++ x.path; new = x.new } ∷ l) (behind-append p e d)
+prefixed-append : (p : List ℕ) (e d : Edits) → prefixed p (e ++ d) ≡ prefixed p e ++ prefixed p d
+prefixed-append p [] d = refl
+prefixed-append p (x ∷ e) d = ap (λ l. record { path = p ++ x.path; new = x.new } ∷ l) (prefixed-append p e d)
 
 -- one more edit
-pub planned_more : (slot : ℕ) (p : List ℕ) (es : Edits) (i : ℕ) (x : Edit) (old new : List Entry) → i < length es → x ≡ get_or es i x → old ≡ entries_at slot (behind p (take i es))
-    → new ≡ old ++ entry_at slot (record { path = p ++ x.path; new = x.new }) ∷ [] → new ≡ entries_at slot (behind p (take (i + 1) es))
+pub planned_more : (slot : ℕ) (p : List ℕ) (es : Edits) (i : ℕ) (x : Edit) (old new : List Entry) → i < length es → x ≡ get_or es i x → old ≡ entries_at slot (prefixed p (take i es))
+    → new ≡ old ++ entry_at slot (record { path = p ++ x.path; new = x.new }) ∷ [] → new ≡ entries_at slot (prefixed p (take (i + 1) es))
 planned_more slot p es i x old new lt e o n =
     let one : Edits = record { path = p ++ x.path; new = x.new } ∷ [] in
-    n ∙ ap (λ l. l ++ entries_at slot one) o ∙ sym (map-append (entry_at slot) (behind p (take i es)) one)
-    ∙ ap (entries_at slot) (sym (behind-append p (take i es) (x ∷ []))
-    ∙ ap (behind p) (sym (ap (λ k. take k es) (next i) ∙ take-suc es i x lt ∙ ap (λ y. take i es ++ y ∷ []) (sym e))))
+    n ∙ ap (λ l. l ++ entries_at slot one) o ∙ sym (map-append (entry_at slot) (prefixed p (take i es)) one)
+    ∙ ap (entries_at slot) (sym (prefixed-append p (take i es) (x ∷ []))
+    ∙ ap (prefixed p) (sym (ap (λ k. take k es) (next i) ∙ take-suc es i x lt ∙ ap (λ y. take i es ++ y ∷ []) (sym e))))
 
-pub planned_whole : (slot : ℕ) (p : List ℕ) (es T : Edits) (i : ℕ) (plan : List Entry) → length es ≤ i → plan ≡ entries_at slot (behind p (take i es)) → es ≡ T → plan ≡ entries_at slot (behind p T)
-planned_whole slot p es T i plan le e t = e ∙ ap (λ l. entries_at slot (behind p l)) (take_all i es le ∙ t)
+pub planned_whole : (slot : ℕ) (p : List ℕ) (es T : Edits) (i : ℕ) (plan : List Entry) → length es ≤ i → plan ≡ entries_at slot (prefixed p (take i es)) → es ≡ T → plan ≡ entries_at slot (prefixed p T)
+planned_whole slot p es T i plan le e t = e ∙ ap (λ l. entries_at slot (prefixed p l)) (take_all i es le ∙ t)

@@ -13,7 +13,7 @@ use Rattle.strategy_machine.specs.inside.Turning.{ComesUp, Waits}
 use Rattle.strategy_machine.specs.declared.machine.Machine.{Machine}
 use Rattle.strategy_machine.specs.declared.frames.Walk.{Walk}
 use Rattle.strategy_machine.specs.declared.frames.Frame.{Frame}
-use Rattle.strategy_machine.specs.declared.frames.Frame.TheVariants.{Then, Choose, Restore, Each, Leftmost, Those, Tail, Rest, Head, Behind, Leave, Cut}
+use Rattle.strategy_machine.specs.declared.frames.Frame.TheVariants.{Then, Choose, Restore, Each, Leftmost, Those, Tail, Rest, Head, After, Leave, Cut}
 use Rattle.strategy_machine.specs.Hands.{Hand}
 use Rattle.strategy_machine.proofs.OpenLemmas.{pushed}
 
@@ -76,6 +76,6 @@ tail_taken xs new (Leftmost t m v q ∷ fs) s n k len e w is le = absurd w
 tail_taken xs new (Those t m v q any ∷ fs) s n k len e w is le = absurd w
 tail_taken xs new (Rest p ps m j ∷ fs) s n k len e w is le = absurd w
 tail_taken xs new (Head t m v ∷ fs) s n k len e w is le = absurd w
-tail_taken xs new (Behind p first j ∷ fs) s n k len e w is le = absurd w
+tail_taken xs new (After p first j ∷ fs) s n k len e w is le = absurd w
 tail_taken xs new (Leave m ∷ fs) s n k len e w is le = absurd w
 tail_taken xs new (Cut m j ∷ fs) s n k len e w is le = absurd w

@@ -2,7 +2,7 @@
 use Rattle.std.specs.Prelude.{◌≡◌, ◌<◌, ◌≤◌, ℕ, ◌+◌, ◌-◌, Bool, true, List, [], ◌∷◌, ◌++◌, length, replicate, take, slice_get, Some, None}
 use Rattle.std.specs.declared.option.Option.{Option}
 use Rattle.term_core.specs.Tree.{Tree, children, with_child}
-use Rattle.term_paths.specs.Edits.{Edits, behind}
+use Rattle.term_paths.specs.Edits.{Edits, prefixed}
 use Rattle.term_changes.specs.Standing.{Standing, fresh, standing_tree}
 use Rattle.strategy_syntax.specs.Resolved.{ResolvedStrategy}
 use Rattle.strategy_meaning.specs.Scopes.{Scope}
@@ -19,7 +19,7 @@ use Rattle.strategy_machine.specs.declared.frames.Acts.{Acts}
 use Rattle.strategy_machine.specs.declared.frames.Acts.TheVariants.{Same, List as Listed}
 use Rattle.strategy_machine.specs.declared.frames.Walk.{Walk}
 use Rattle.strategy_machine.specs.declared.frames.Frame.{Frame}
-use Rattle.strategy_machine.specs.declared.frames.Frame.TheVariants.{Then, Choose, Restore, Each, Leftmost, Those, Tail, Rest, Head, Behind, Leave, Cut}
+use Rattle.strategy_machine.specs.declared.frames.Frame.TheVariants.{Then, Choose, Restore, Each, Leftmost, Those, Tail, Rest, Head, After, Leave, Cut}
 
 -- the strategies for k children
 abbrev pub acts_list : Acts → ℕ → List ResolvedStrategy
@@ -28,7 +28,7 @@ acts_list (Listed ss) k = ss.now
 
 -- The parent continues with child i after the child's answer.
 abbrev pub put_back : ℕ → Tree → Answer → Answer
-put_back i t a = if_done a (λ v B b e. done (with_child t i v) B b (behind (i ∷ []) e))
+put_back i t a = if_done a (λ v B b e. done (with_child t i v) B b (prefixed (i ∷ []) e))
 
 -- How the answer of a part, given its start and the earlier edits of the run, determines that of
 -- the whole.
@@ -42,7 +42,7 @@ pub record Opens (R : Becomes) (path : List ℕ) (p : Standing) (T : Edits) (a :
   pub base : Edits
   pub before : Edits
   pub leads : Leads start before p
-  pub trail : T ≡ base ++ behind path before
+  pub trail : T ≡ base ++ prefixed path before
   pub is : R start base (with_edits before a)
 
 -- the parts in the places of the children so far
@@ -147,7 +147,7 @@ Meets W sub whole C top es l (Head s n w ∷ fs) start base a =
     (n < length es) × Inside l w start base × IsFirst w
     × Opens (Meets W sub whole C top es w.level fs) (path_of fs) (walked w) base
     (after_head W (scope_at es n) s.now w a)
-Meets W sub whole C top es l (Behind node first k ∷ fs) start base a =
+Meets W sub whole C top es l (After node first k ∷ fs) start base a =
     (elements (standing_tree node) ≡ Some (children (standing_tree node)))
     × PartsStand node (all_parts node (first_part first)) × (start ≡ fresh (rest_of 1 (standing_tree (node_with node (first_part first))))) × (k ≡ length base)
     × Opens (Meets W sub whole C top es l fs) (path_of fs) (node_with node (first_part first)) base

@@ -33,13 +33,13 @@ abbrev pub widened : List Scope → Widening → Scope
 widened known w = with_addition known w.adds (scope_from known w.outer)
 
 -- the scopes of a table, given those of its older entries
-abbrev pub scopes_behind : List Scope → List Widening → List Scope
-scopes_behind known [] = []
-scopes_behind known (w ∷ ws) = widened known w ∷ scopes_behind (known ++ widened known w ∷ []) ws
+abbrev pub scopes_after : List Scope → List Widening → List Scope
+scopes_after known [] = []
+scopes_after known (w ∷ ws) = widened known w ∷ scopes_after (known ++ widened known w ∷ []) ws
 
 -- the scopes of a table, the oldest first
 abbrev pub scopes : List Widening → List Scope
-scopes ws = scopes_behind [] ws
+scopes ws = scopes_after [] ws
 
 -- whether it is one of the first b scopes, or none
 abbrev pub IsThere : ℕ → Option ℕ → Type 0

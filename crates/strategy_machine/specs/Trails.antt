@@ -4,7 +4,7 @@ use Rattle.std.specs.Global.{Global}
 use Rattle.std.specs.declared.option.Option.{Option}
 use Rattle.term_paths.specs.Edits.{Edit, Edits}
 use Rattle.strategy_machine.specs.declared.frames.Frame.{Frame}
-use Rattle.strategy_machine.specs.declared.frames.Frame.TheVariants.{Then, Choose, Restore, Each, Leftmost, Those, Tail, Rest, Head, Behind, Leave, Cut}
+use Rattle.strategy_machine.specs.declared.frames.Frame.TheVariants.{Then, Choose, Restore, Each, Leftmost, Those, Tail, Rest, Head, After, Leave, Cut}
 use Rattle.strategy_machine.specs.declared.trail.Trail.{Trail}
 
 -- the path through the frames, the innermost first
@@ -19,7 +19,7 @@ path_of (Those s n w m any ∷ fs) = path_of fs ++ w.index ∷ []
 path_of (Tail s n k ∷ fs) = path_of fs
 path_of (Rest p ps n k ∷ fs) = path_of fs
 path_of (Head s n w ∷ fs) = path_of fs ++ w.index ∷ []
-path_of (Behind p first k ∷ fs) = path_of fs
+path_of (After p first k ∷ fs) = path_of fs
 path_of (Leave n ∷ fs) = path_of fs
 path_of (Cut n k ∷ fs) = path_of fs
 

@@ -120,7 +120,7 @@ fn fail<'t>(alloc: Global, m: &mut Machine<'t>, frame: Frame<'t>) -> Result<Turn
             drop_walk(walk);
             Ok(m.fails())
         }
-        Frame::Behind { node, first, edits } => {
+        Frame::After { node, first, edits } => {
             drop_changed(first);
             drop_part(node);
             m.trail.cut(edits);

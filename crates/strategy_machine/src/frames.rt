@@ -98,7 +98,7 @@ pub enum Frame<'t> {
     },
     /// A list whose elements after the first are the focus, as a list of their own, with the part
     /// in the place of the first if that has changed.
-    Behind {
+    After {
         node: Part<'t>,
         first: Option<Part<'t>>,
         edits: usize,
@@ -169,7 +169,7 @@ fn drop_frame(frame: Frame<'_>) {
             drop_part(node);
         }
         Frame::Head { walk, .. } => drop_walk(walk),
-        Frame::Behind { node, first, .. } => {
+        Frame::After { node, first, .. } => {
             drop_changed(first);
             drop_part(node);
         }

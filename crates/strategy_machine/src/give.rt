@@ -11,7 +11,7 @@ ghost use Rattle.strategy_machine.specs.inside.Turning.{Gives, IsOfRun, GiveFall
 
 use crate::children::{child_now, finish, first_act, go_on, go_over, settle};
 use crate::frames::{Acts, Frame, Turned, Walk, put};
-use crate::lists::{give_behind, give_head, give_rest, give_tail};
+use crate::lists::{give_after, give_head, give_rest, give_tail};
 use crate::machine::Machine;
 use std::alloc::Global;
 use std::mem;
@@ -172,7 +172,7 @@ fn give<'t>(alloc: Global, m: &mut Machine<'t>, frame: Frame<'t>) -> Result<Turn
             edits,
         } => give_rest(alloc, m, node, parts, count, edits),
         Frame::Head { tail, scope, walk } => give_head(alloc, m, tail, scope, walk),
-        Frame::Behind { node, first, edits } => give_behind(alloc, m, node, first, edits),
+        Frame::After { node, first, edits } => give_after(alloc, m, node, first, edits),
         Frame::Leave { scopes } => {
             m.scopes.cut(scopes);
             Ok(m.gives())

@@ -16,7 +16,7 @@ use crate::forms::replace;
 use crate::frames::{Frame, Turned, Walk, drop_changed, drop_part, drop_parts, drop_value, wait};
 use crate::heads::is_list as is_list_part;
 use crate::machine::Machine;
-use crate::tails::{first_values, in_front, rest_behind, rest_of_part, with_rest_behind};
+use crate::tails::{first_values, in_front, rest_after, rest_of_part, with_rest_after};
 use std::alloc::Global;
 use std::mem;
 use strategy_syntax::ResolvedStrategy;
@@ -84,7 +84,7 @@ fn begin_tail<'t>(
     ensures less { IfOk result (λ next. GiveFalls m.old m.new next) }
 {
     let list = m.part.value()?;
-    let found = rest_behind(alloc, &list, count);
+    let found = rest_after(alloc, &list, count);
     drop_value(list);
     let rest = found?;
     let node = mem::replace(&mut m.part, Part::new(rest));
@@ -115,7 +115,7 @@ pub(crate) fn give_rest<'t>(
     ensures less { IfOk result (λ next. GiveFalls m.old m.new next) }
 {
     m.trail.cut(edits);
-    let found = behind_those(alloc, &node, &parts, count, &m.part);
+    let found = after_those(alloc, &node, &parts, count, &m.part);
     drop_parts(parts);
     drop_part(node);
     match found? {
@@ -130,7 +130,7 @@ pub(crate) fn give_rest<'t>(
 // The same root over the parts of the first `count` children followed by the children of `rest`, if
 // that is a list.
 #[inline(always)]
-fn behind_those<'t>(
+fn after_those<'t>(
     alloc: Global,
     node: &Part<'t>,
     parts: &[Part<'t>],
@@ -181,7 +181,7 @@ fn with_list<'t>(
         (take count (map standing_tree (parts_now node.now (all_parts node.now parts.now))) ++ children rest.now)) }
 {
     let front = first_values(alloc, node, parts, count)?;
-    with_rest_behind(alloc, list, front, rest)
+    with_rest_after(alloc, list, front, rest)
 }
 
 // The first element is done; the list of the rest is opened as a part of its own.
@@ -208,7 +208,7 @@ pub(crate) fn give_head<'t>(
     let first = where_changed(child, now != edits);
     wait(
         &mut m.frames,
-        Frame::Behind {
+        Frame::After {
             node,
             first,
             edits: now,
@@ -238,7 +238,7 @@ fn first_now<'t>(node: &Part<'t>, first: Option<Part<'t>>) -> Result<Option<Part
 
 // The same root over the part of the first child followed by the children of a list.
 #[inline(always)]
-fn behind_first<'t>(
+fn after_first<'t>(
     alloc: Global,
     list: &Part<'t>,
     first: Option<Part<'t>>,
@@ -264,15 +264,15 @@ fn behind_first<'t>(
 }
 
 // The rest succeeded. It has to be a list, else the whole fails.
-pub(crate) fn give_behind<'t>(
+pub(crate) fn give_after<'t>(
     alloc: Global,
     m: &mut Machine<'t>,
     node: Part<'t>,
     first: Option<Part<'t>>,
     edits: usize,
 ) -> Result<Turned, NoMemory>
-    requires { IsOfRun (Frame.Behind node first edits) m.old (Done m.old.part) }
-    ensures ok { (W : World) → IfOk result (λ next. Gives W (Frame.Behind node.entry first.entry edits) m.old (Done m.old.part) m.new next) }
+    requires { IsOfRun (Frame.After node first edits) m.old (Done m.old.part) }
+    ensures ok { (W : World) → IfOk result (λ next. Gives W (Frame.After node.entry first.entry edits) m.old (Done m.old.part) m.new next) }
     ensures less { IfOk result (λ next. GiveFalls m.old m.new next) }
 {
     m.trail.cut(edits);
@@ -282,7 +282,7 @@ pub(crate) fn give_behind<'t>(
         drop_changed(first);
         return Ok(m.fails());
     }
-    let whole = behind_first(alloc, &m.part, first, rest)?;
+    let whole = after_first(alloc, &m.part, first, rest)?;
     replace(alloc, m, whole)?;
     Ok(m.gives())
 }

@@ -15,7 +15,7 @@ use term_match::is_list;
 use term_values::{Part, Value};
 
 /// The children after the first `count`, as a list without annotations.
-pub(crate) fn rest_behind<'t>(
+pub(crate) fn rest_after<'t>(
     alloc: Global,
     value: &Value<'t>,
     count: usize,
@@ -44,7 +44,7 @@ pub(crate) fn rest_of_part<'t>(
 }
 
 /// The same root over these children followed by those of a list.
-pub(crate) fn with_rest_behind<'t>(
+pub(crate) fn with_rest_after<'t>(
     alloc: Global,
     value: &Value<'t>,
     front: Vec<Value<'t>>,
@@ -57,8 +57,8 @@ pub(crate) fn with_rest_behind<'t>(
         return list.with_annotations_of(alloc, value);
     }
     let mut all = front;
-    let mut behind = rest.share_children(alloc)?;
-    all.append(&mut behind)?;
+    let mut after = rest.share_children(alloc)?;
+    all.append(&mut after)?;
     value.with_children(alloc, all)
 }
 

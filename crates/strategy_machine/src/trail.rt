@@ -1,7 +1,7 @@
 //! The edits of a run: their count and, on request, the edits themselves.
 
 ghost use Rattle.std.specs.Prelude.{◌≡◌, ◌++◌, ◌∷◌, [], length, reverse, IfOk, OnOk};
-ghost use Rattle.term_paths.specs.Edits.{Edits, behind};
+ghost use Rattle.term_paths.specs.Edits.{Edits, prefixed};
 ghost use Rattle.term_changes.specs.Putting.{entry_at, entries_at};
 ghost use Rattle.strategy_machine.specs.Trails.{Shows, path_of};
 ghost use Rattle.strategy_machine.specs.inside.Steps.{step_of};
@@ -110,7 +110,7 @@ impl<'t> Trail<'t> {
     /// The edits in the tree of a slot as owned terms, in order, with `path` in front of their own.
     /// A trail that keeps only the count answers `NoMemory`.
     pub fn replacements(&self, alloc: Global, slot: usize, path: &[usize]) -> Result<Plan, NoMemory>
-        ensures { IfOk result (λ plan. (T : Edits) → Shows self.now T → plan ≡ entries_at slot (behind path.now T)) }
+        ensures { IfOk result (λ plan. (T : Edits) → Shows self.now T → plan ≡ entries_at slot (prefixed path.now T)) }
     {
         let Some(made) = &self.made else {
             return Err(NoMemory);

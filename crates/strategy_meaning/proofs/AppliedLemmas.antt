@@ -5,7 +5,7 @@ use Rattle.term_core.specs.Tree.{Tree, children}
 use Rattle.term_core.specs.Size.{height}
 use Rattle.term_core.specs.declared.TheConstants.{MAX_HEIGHT}
 use Rattle.term_paths.specs.Paths.{at, set_at}
-use Rattle.term_paths.specs.Edits.{Edits, Replaces, behind}
+use Rattle.term_paths.specs.Edits.{Edits, Replaces, prefixed}
 use Rattle.term_paths.proofs.PathLemmas.{at-child, at-no_child, set_at-child}
 use Rattle.term_paths.proofs.EditLemmas.{edits_of_a_subterm}
 use Rattle.strategy_syntax.specs.declared.resolved.Resolved.{Resolved}
@@ -60,7 +60,7 @@ height-set (i ∷ p) l whole t u is h low =
 -- ---- what holds of the whole tree, from what holds of the subterm
 
 given : (P : Tree → Edits → Type 0) (Q : Tree → Bindings → ℕ → Edits → Type 0) (t : Tree) (p : List ℕ) (a : Answer)
-    → IfDone a Q → ((u : Tree) (B : Bindings) (b : ℕ) (e : Edits) → Q u B b e → P (set_at t p u) (behind p e)) → IfGiven (placed t p a) P
+    → IfDone a Q → ((u : Tree) (B : Bindings) (b : ℕ) (e : Edits) → Q u B b e → P (set_at t p u) (prefixed p e)) → IfGiven (placed t p a) P
 given P Q t p (done u B b e) h g = g u B b e h
 given P Q t p (failed b) h g = tt
 given P Q t p (stopped why) h g = tt

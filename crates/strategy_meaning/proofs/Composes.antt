@@ -3,7 +3,7 @@ use Rattle.std.proofs.Common.{◌≡◌, ℕ, ◌+◌, zero, suc, List, [], ◌�
 use Rattle.std.specs.declared.option.Option.{Option}
 use Rattle.term_core.specs.Tree.{Tree, children, with_child}
 use Rattle.term_core.specs.Size.{fits}
-use Rattle.term_paths.specs.Edits.{Edits, behind}
+use Rattle.term_paths.specs.Edits.{Edits, prefixed}
 use Rattle.strategy_syntax.specs.Resolved.{Places, no_places, and_place, ResolvedStrategy, id, fail, matches, builds, seq, guard, test, scope, param, call, congruence, tail_congruence, all, one, some, child, rec, prim, resolved_list}
 use Rattle.strategy_meaning.specs.Matching.{Bindings, match_place, build_place, elements}
 use Rattle.strategy_meaning.specs.Scopes.{Scope, cells_in, stands_for, with_variables, with_name}
@@ -18,7 +18,7 @@ pub record Composes (K : ℕ → Tree → Tree → Edits → Type 0) : Type 0 wh
   pub after : (l : ℕ) (t u v : Tree) (e f : Edits) → K l t u e → K l u v f → K l t v (e ++ f)
   pub built : (l : ℕ) (t u : Tree) → fits l u ≡ true → K l t u (at_root u)
   pub below : (l : ℕ) (t u v : Tree) (i : ℕ) (e : Edits) → slice_get (children t) i ≡ Some u
-      → K (l + 1) u v e → K l t (with_child t i v) (behind (i ∷ []) e)
+      → K (l + 1) u v e → K l t (with_child t i v) (prefixed (i ∷ []) e)
   pub rest : (l : ℕ) (t u : Tree) (n : ℕ) (us : List Tree) (e : Edits) → K l (rest_of n t) u e
       → elements u ≡ Some us → K l t (with_rest n t us) (at_root (with_rest n t us))
 

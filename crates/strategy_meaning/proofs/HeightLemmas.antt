@@ -76,9 +76,9 @@ below-kept l t u v i is h low =
     let before : l + 1 + height u ≤ MAX_HEIGHT = omega (arith, inner, low) in
     omega (arith, h before, below_top t, top-set (children t) i v, with_children-height t (set (children t) i v), low)
 
-behind-kept : (l : ℕ) (t u : Tree) (n : ℕ) (us : List Tree) → (l + height (rest_of n t) ≤ MAX_HEIGHT → l + height u ≤ MAX_HEIGHT)
+after-kept : (l : ℕ) (t u : Tree) (n : ℕ) (us : List Tree) → (l + height (rest_of n t) ≤ MAX_HEIGHT → l + height u ≤ MAX_HEIGHT)
     → elements u ≡ Some us → l + height t ≤ MAX_HEIGHT → l + height (with_rest n t us) ≤ MAX_HEIGHT
-behind-kept l t u n us h is low =
+after-kept l t u n us h is low =
     let before : l + height (rest_of n t) ≤ MAX_HEIGHT = omega (arith, top-drop (children t) n, below_top t, low) in
     omega (arith, h before, elements-height u us is, below_top t, top-take (children t) n, top-append (take n (children t)) us, with_children-height t (take n (children t) ++ us), low)
 
@@ -88,7 +88,7 @@ kept = record {
   after = λ l t u v e f h g low. g (h low);
   built = λ l t u fit low. leb-true (l + height u) MAX_HEIGHT (and-left _ (nat_le (size u) MAX_SIZE) fit);
   below = λ l t u v i e is h. below-kept l t u v i is h;
-  rest = λ l t u n us e h is. behind-kept l t u n us h is;
+  rest = λ l t u n us e h is. after-kept l t u n us h is;
 }
 
 pub heights_are_kept : HeightsAreKept

@@ -15,18 +15,18 @@ use Rattle.strategy_meaning.proofs.Related.{Related, Alike, form-related}
 abbrev Anything : Answer → Type 0
 Anything a = Unit {0}
 
-abbrev Behind : ℕ → ℕ → ℕ → Type 0
-Behind k b c = c ≡ b + k
+abbrev After : ℕ → ℕ → ℕ → Type 0
+After k b c = c ≡ b + k
 
-bounded-more : (W : World) (k n m : ℕ) → n ≤ m → Alike (Behind k) Anything (λ a g h q. tt) (run_bounded W n) (run_bounded W m)
+bounded-more : (W : World) (k n m : ℕ) → n ≤ m → Alike (After k) Anything (λ a g h q. tt) (run_bounded W n) (run_bounded W m)
 bounded-more W k zero m h E l s b c B t e = tt
 bounded-more W k (suc n) zero h E l s b c B t e = absurd (omega (arith, h))
 bounded-more W k (suc n) (suc m) h E l s zero c B t e = tt
 bounded-more W k (suc n) (suc m) h E l s (suc b) zero B t e = absurd (omega (arith, e))
 bounded-more W k (suc n) (suc m) h E l s (suc b) (suc c) B t e =
-    form-related (Behind k) Anything (λ a g h q. tt) W (run_bounded W n) (run_bounded W m) (bounded-more W k n m (omega (arith, h))) E l s b c B t (omega (arith, e))
+    form-related (After k) Anything (λ a g h q. tt) W (run_bounded W n) (run_bounded W m) (bounded-more W k n m (omega (arith, h))) E l s b c B t (omega (arith, e))
 
-later_related : (k : ℕ) (a a' : Answer) → Related (Behind k) Anything a a' → a ≢ stopped spent → a' ≡ later k a
+later_related : (k : ℕ) (a a' : Answer) → Related (After k) Anything a a' → a ≢ stopped spent → a' ≡ later k a
 later_related k (done t B b e) a' h n = h.1 ∙ ap (λ x. done t B x e) h.2
 later_related k (failed b) a' h n = h.1 ∙ ap failed h.2
 later_related k (stopped spent) a' h n = absurd (n refl)

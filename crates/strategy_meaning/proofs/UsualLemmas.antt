@@ -3,7 +3,7 @@ use Rattle.std.proofs.Common.{append-nil, ◌≡◌, ℕ, ◌+◌, zero, suc, Bo
 use Rattle.std.specs.declared.option.Option.{Option}
 use Rattle.std.specs.Prelude.{cond}
 use Rattle.term_core.specs.Tree.{Tree, integer, branch, children, annotations, with_children, with_child}
-use Rattle.term_paths.specs.Edits.{Edits, behind}
+use Rattle.term_paths.specs.Edits.{Edits, prefixed}
 use Rattle.strategy_syntax.specs.Resolved.{ResolvedStrategy, id, fail, seq, guard, test, congruence, tail_congruence, all, one, some, child, resolved_list}
 use Rattle.strategy_meaning.specs.Matching.{Bindings, elements}
 use Rattle.strategy_meaning.specs.Scopes.{Scope}
@@ -95,9 +95,9 @@ child-kept t i (stopped why) f = tt
 
 one-kept : (act : Act) (i c : ℕ) (B : Bindings) (t : Tree) → Kept t (on_child act i c B t)
 one-kept act i c B t =
-    elim (slice_get (children t) i) as (λ o. Kept t (with_some o c (λ u. if_done (act c B u) (λ v B1 b e. done (with_child t i v) B1 b (behind (i ∷ []) e))))) [
+    elim (slice_get (children t) i) as (λ o. Kept t (with_some o c (λ u. if_done (act c B u) (λ v B1 b e. done (with_child t i v) B1 b (prefixed (i ∷ []) e))))) [
       | None ↦ tt
-      | Some u ↦ child-kept t i (act c B u) (behind (i ∷ []))
+      | Some u ↦ child-kept t i (act c B u) (prefixed (i ∷ []))
     ]
 
 each-kept : (act : ResolvedStrategy → Act) (ss : List ResolvedStrategy) (i c : ℕ) (B : Bindings) (t : Tree) → Kept t (each act ss i c B t)

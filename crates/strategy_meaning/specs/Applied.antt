@@ -3,7 +3,7 @@ use Rattle.std.specs.Prelude.{ℕ, List, length, ⊤}
 use Rattle.std.specs.Option.{option_map_or}
 use Rattle.term_core.specs.Tree.{Tree}
 use Rattle.term_paths.specs.Paths.{at, set_at}
-use Rattle.term_paths.specs.Edits.{Edits, behind}
+use Rattle.term_paths.specs.Edits.{Edits, prefixed}
 use Rattle.strategy_syntax.specs.declared.resolved.Resolved.{Resolved}
 use Rattle.strategy_meaning.specs.Answer.{Stop, Answer, done, failed, stopped}
 use Rattle.strategy_meaning.specs.Meaning.{World, run_whole}
@@ -22,7 +22,7 @@ IfGiven (stops why) P = ⊤
 
 -- the tree with the resulting term at the path
 abbrev pub placed : Tree → List ℕ → Answer → Outcome
-placed t p (done u B b e) = gives (set_at t p u) (behind p e)
+placed t p (done u B b e) = gives (set_at t p u) (prefixed p e)
 placed t p (failed b) = fails
 placed t p (stopped why) = stops why
 

@@ -16,7 +16,7 @@ use Rattle.std.specs.Prelude.{ℕ, zero, suc, ◌+◌, nat_le, Bool, true, false
 use Rattle.std.specs.declared.option.Option.{Option}
 use Rattle.term_core.specs.Tree.{Head, Tree, children, with_children, with_child, list_term}
 use Rattle.term_core.specs.Size.{fits}
-use Rattle.term_paths.specs.Edits.{behind}
+use Rattle.term_paths.specs.Edits.{prefixed}
 use Rattle.prim_core.specs.Signature.{Signature}
 use Rattle.strategy_syntax.specs.Resolved.{Places, no_places, and_place, ResolvedStrategy, id, fail, matches, builds, seq, guard, test, scope, param, call, congruence, tail_congruence, all, one, some, child, rec, prim, ResolvedStrategies, resolved_list}
 use Rattle.strategy_syntax.specs.declared.resolved.Resolved.{Resolved}
@@ -46,7 +46,7 @@ with_some (Some x) c go = go x
 abbrev pub on_child : Act → ℕ → Act
 on_child act i c B t =
     with_some (slice_get (children t) i) c (λ u. if_done (act c B u)
-    (λ v B1 b e. done (with_child t i v) B1 b (behind (i ∷ []) e)))
+    (λ v B1 b e. done (with_child t i v) B1 b (prefixed (i ∷ []) e)))
 
 -- each strategy on a child of its own, from child i on
 abbrev pub each : (ResolvedStrategy → Act) → List ResolvedStrategy → ℕ → Act

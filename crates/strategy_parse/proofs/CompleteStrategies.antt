@@ -20,8 +20,8 @@ use Rattle.strategy_parse.specs.declared.parser.state.StrategyGroup.{StrategyGro
 use Rattle.strategy_parse.specs.declared.parser.state.StrategyGroup.TheVariants.{Round, Square, Arguments}
 use Rattle.strategy_parse.specs.declared.parser.state.PatternGroup.TheVariants.{Terms, Prim}
 use Rattle.strategy_tokens.specs.Marks.{is_mark}
-use Rattle.strategy_parse.specs.inside.Parser.{Next, goes, stuck, begin, behind, behind_arrow, behind_seq, behind_choice, behind_element, closing, grouped, first_strategy, first_pattern, empty_bar, step}
-use Rattle.strategy_parse.proofs.Runs.{resume, at_end, go_on, Accepts, Refuses, open_round, fat_arrow, semicolon, left_choice_sign, less, choice-stuck, arrow-stuck, behind-stuck, passes}
+use Rattle.strategy_parse.specs.inside.Parser.{Next, goes, stuck, begin, after, after_arrow, after_seq, after_choice, after_element, closing, grouped, first_strategy, first_pattern, empty_bar, step}
+use Rattle.strategy_parse.proofs.Runs.{resume, at_end, go_on, Accepts, Refuses, open_round, fat_arrow, semicolon, left_choice_sign, less, choice-stuck, arrow-stuck, after-stuck, passes}
 use Rattle.strategy_parse.specs.Grammar.{ReadsMorePatterns, ReadsArrows, ReadsMoreNames, ReadsNames, word_of, ReadsChoice, ReadsSeq, ReadsArrow, ReadsPrefix, ReadsChoices, ReadsSomeChoices, ReadsMoreChoices}
 use Rattle.strategy_tokens.proofs.MarkLemmas.{mark_self}
 use Rattle.strategy_parse.specs.Written.{Choice, sequence, left_choice, guarded_choice, Seq, last, before, Arrow, arrow, Prefix, question, exclamation, application, identity, failure, operator, if_then, if_then_else, recursion, primitive, local, closure, closure_where, round, square, square_with_tail, name, call, call_with_terms, child, Choices, no_choices, and_choice}
@@ -34,16 +34,16 @@ strategies_of-list (syntax.and_strategy s ss) = ap (syntax.and_strategy s) (stra
 
 -- ---- the machine where a form could continue and doesn't
 
-pub arrow_in : (s : Strategy) (S : List ParserFrame) (y : List Token) (r : Strategy) → Accepts (behind_arrow s S) y r → Accepts (behind s S) y r
+pub arrow_in : (s : Strategy) (S : List ParserFrame) (y : List Token) (r : Strategy) → Accepts (after_arrow s S) y r → Accepts (after s S) y r
 arrow_in s S y r k =
-    passes FatArrow (goes ToPattern (ForPattern (Matched s) ∷ S)) (λ t. if (is_mark Semicolon t) then goes ToStrategy (Operand Before s ∷ S) else behind_arrow s S t) y r
+    passes FatArrow (goes ToPattern (ForPattern (Matched s) ∷ S)) (λ t. if (is_mark Semicolon t) then goes ToStrategy (Operand Before s ∷ S) else after_arrow s S t) y r
     (λ K. arrow-stuck (ASign FatArrow) fat_arrow refl refl S s K)
-    (passes Semicolon (goes ToStrategy (Operand Before s ∷ S)) (behind_arrow s S) y r (λ K. arrow-stuck (ASign Semicolon) semicolon refl refl S s K) k)
+    (passes Semicolon (goes ToStrategy (Operand Before s ∷ S)) (after_arrow s S) y r (λ K. arrow-stuck (ASign Semicolon) semicolon refl refl S s K) k)
 
-pub used_in : (f : Symbol) (S : List ParserFrame) (y : List Token) (r : Strategy) → Accepts (behind (syntax.uses f syntax.no_strategies syntax.no_patterns) S) y r → Accepts (step (Used f) S) y r
+pub used_in : (f : Symbol) (S : List ParserFrame) (y : List Token) (r : Strategy) → Accepts (after (syntax.uses f syntax.no_strategies syntax.no_patterns) S) y r → Accepts (step (Used f) S) y r
 used_in f S y r k =
-    passes OpenRound (goes (FirstStrategy (Arguments f)) S) (behind (syntax.uses f syntax.no_strategies syntax.no_patterns) S) y r
-    (λ K. behind-stuck (ASign OpenRound) open_round refl refl refl refl S (syntax.uses f syntax.no_strategies syntax.no_patterns) K) k
+    passes OpenRound (goes (FirstStrategy (Arguments f)) S) (after (syntax.uses f syntax.no_strategies syntax.no_patterns) S) y r
+    (λ K. after-stuck (ASign OpenRound) open_round refl refl refl refl S (syntax.uses f syntax.no_strategies syntax.no_patterns) K) k
 
 -- no choice ends before a `;` or a `+`
 stuck-accepts : (f : Token → Next) (x : List Token) (r : Strategy) → ((t : Token) → f t ≡ stuck) → Accepts f x r → ⊥
@@ -52,22 +52,22 @@ stuck-accepts f (t ∷ ts) r h k = let no : ◌≡◌ {A = Option Strategy} None
 
 -- if a whole choice may end before x, no sequence is open
 abbrev pub Bare : List ParserFrame → Type 0
-Bare S = (s : Strategy) (t : Token) → behind_arrow s S t ≡ behind_seq s S t
+Bare S = (s : Strategy) (t : Token) → after_arrow s S t ≡ after_seq s S t
 
-bare : (S : List ParserFrame) (s : Strategy) (x : List Token) (r : Strategy) → Accepts (behind_choice s S) x r → Bare S
+bare : (S : List ParserFrame) (s : Strategy) (x : List Token) (r : Strategy) → Accepts (after_choice s S) x r → Bare S
 bare [] s x r k a t = refl
-bare (Operand Before q ∷ S) s x r k a t = absurd (stuck-accepts (behind_choice s (Operand Before q ∷ S)) x r (λ u. refl) k)
-bare (Operand Guarded q ∷ S) s x r k a t = absurd (stuck-accepts (behind_choice s (Operand Guarded q ∷ S)) x r (λ u. refl) k)
+bare (Operand Before q ∷ S) s x r k a t = absurd (stuck-accepts (after_choice s (Operand Before q ∷ S)) x r (λ u. refl) k)
+bare (Operand Guarded q ∷ S) s x r k a t = absurd (stuck-accepts (after_choice s (Operand Guarded q ∷ S)) x r (λ u. refl) k)
 bare (Operand Otherwise b ∷ S) s x r k a t = refl
 bare (At f ∷ S) s x r k a t = refl
 bare (ForStrategy F ∷ S) s x r k a t = refl
 bare (ForPattern F ∷ S) s x r k a t = refl
 
-pub choice_in : (s : Strategy) (S : List ParserFrame) (y : List Token) (r : Strategy) → Accepts (behind_choice s S) y r → Accepts (behind_seq s S) y r
+pub choice_in : (s : Strategy) (S : List ParserFrame) (y : List Token) (r : Strategy) → Accepts (after_choice s S) y r → Accepts (after_seq s S) y r
 choice_in s S y r k =
-    passes LeftChoice (goes ToStrategy (Operand Otherwise syntax.id ∷ (Operand Guarded s ∷ S))) (λ t. if (is_mark Less t) then goes ToStrategy (Operand Guarded s ∷ S) else behind_choice s S t) y r
+    passes LeftChoice (goes ToStrategy (Operand Otherwise syntax.id ∷ (Operand Guarded s ∷ S))) (λ t. if (is_mark Less t) then goes ToStrategy (Operand Guarded s ∷ S) else after_choice s S t) y r
     (λ K. choice-stuck (ASign LeftChoice) left_choice_sign S s K)
-    (passes Less (goes ToStrategy (Operand Guarded s ∷ S)) (behind_choice s S) y r (λ K. choice-stuck (ASign Less) less S s K) k)
+    (passes Less (goes ToStrategy (Operand Guarded s ∷ S)) (after_choice s S) y r (λ K. choice-stuck (ASign Less) less S s K) k)
 
 pub same_accepts : (f g : Token → Next) (x : List Token) (r : Strategy) → ((t : Token) → f t ≡ g t) → Accepts g x r → Accepts f x r
 same_accepts f g [] r h k = ap at_end (h Bad) ∙ k
@@ -99,10 +99,10 @@ bar-closing Round = refl
 bar-closing Square = refl
 bar-closing (Arguments f) = refl
 
-pub closes_first : (g : StrategyGroup) (S : List ParserFrame) (y : List Token) (r : Strategy) → Accepts (behind (grouped g []) S) y r → Accepts (first_strategy g S) (ASign (closing g) ∷ y) r
+pub closes_first : (g : StrategyGroup) (S : List ParserFrame) (y : List Token) (r : Strategy) → Accepts (after (grouped g []) S) y r → Accepts (first_strategy g S) (ASign (closing g) ∷ y) r
 closes_first g S y r k = rw (mark_self (closing g)) k
 
-pub closes_more : (g : StrategyGroup) (done : List Strategy) (S : List ParserFrame) (y : List Token) (r : Strategy) → Accepts (behind (grouped g done) S) y r → Accepts (behind_element g done S) (ASign (closing g) ∷ y) r
+pub closes_more : (g : StrategyGroup) (done : List Strategy) (S : List ParserFrame) (y : List Token) (r : Strategy) → Accepts (after (grouped g done) S) y r → Accepts (after_element g done S) (ASign (closing g) ∷ y) r
 closes_more g done S y r k = rw (comma-closing g, bar-closing g, mark_self (closing g)) k
 
 -- ---- names
@@ -119,8 +119,8 @@ names_in [] S x y r h k = rw h k
 names_in (f ∷ fs) S x y r h k = rw h.1 (names_more fs (f ∷ []) S h.0 y r h.2 k)
 
 -- the patterns after a prefix
-arrows_in : (ps : syntax.Patterns) (s : Strategy) (S : List ParserFrame) (x y : List Token) (r : Strategy) → ReadsArrows ps x y → Accepts (behind (then_matched s ps) S) y r → Accepts (behind s S) x r
-arrows_in no_patterns s S x y r h k = subst (λ l. Accepts (behind s S) l r) h k
+arrows_in : (ps : syntax.Patterns) (s : Strategy) (S : List ParserFrame) (x y : List Token) (r : Strategy) → ReadsArrows ps x y → Accepts (after (then_matched s ps) S) y r → Accepts (after s S) x r
+arrows_in no_patterns s S x y r h k = subst (λ l. Accepts (after s S) l r) h k
 arrows_in (and_pattern p ps) s S x y r h k =
     rw h.1 (pattern_in p (ForPattern (Matched s) ∷ S) h.0 h.2.0 r h.2.1 (arrows_in ps (syntax.seq s (syntax.matches p)) S h.2.0 y r h.2.2 k))
 
@@ -139,37 +139,37 @@ child_reads zero S x r h k = absurd (omega arith)
 child_reads (suc i) S x r h k = k
 
 prim_reads : (ps : syntax.Patterns) (n : Symbol) (S : List ParserFrame) (x y : List Token) (r : Strategy) → ReadsMorePatterns ps CloseRound x y
-    → Accepts (behind (syntax.prim n ps) S) y r → Accepts (step (PrimNamed n) S) x r
+    → Accepts (after (syntax.prim n ps) S) y r → Accepts (step (PrimNamed n) S) x r
 prim_reads no_patterns n S x y r h k = rw h k
 prim_reads (and_pattern p ps) n S x y r h k =
     rw h.1 (pattern_in p (ForPattern (Patterns (Prim n) []) ∷ S) h.0 h.2.0 r h.2.1
-    (rest_in ps (Prim n) (p ∷ []) S h.2.0 y r h.2.2 (subst (λ l. Accepts (behind (syntax.prim n (and_pattern p l)) S) y r) (sym (patterns_of-list ps)) k)))
+    (rest_in ps (Prim n) (p ∷ []) S h.2.0 y r h.2.2 (subst (λ l. Accepts (after (syntax.prim n (and_pattern p l)) S) y r) (sym (patterns_of-list ps)) k)))
 
 -- ---- the productions
 
 mutual
-  choice_reads : (a : Choice) (S : List ParserFrame) (x y : List Token) (r : Strategy) → ReadsChoice a x y → Accepts (behind_choice (core a) S) y r → Accepts (begin S) x r
+  choice_reads : (a : Choice) (S : List ParserFrame) (x y : List Token) (r : Strategy) → ReadsChoice a x y → Accepts (after_choice (core a) S) y r → Accepts (begin S) x r
   choice_reads (sequence a) S x y r h k =
-      seq_reads a S x y r h (same_accepts (behind_arrow (core_seq a) S) (behind_seq (core_seq a) S) y r (bare S (core_seq a) y r k (core_seq a)) (choice_in (core_seq a) S y r k))
+      seq_reads a S x y r h (same_accepts (after_arrow (core_seq a) S) (after_seq (core_seq a) S) y r (bare S (core_seq a) y r k (core_seq a)) (choice_in (core_seq a) S y r k))
   choice_reads (left_choice a b) S x y r h k =
       seq_reads a S x h.0 r h.1
-      (same_accepts (behind_arrow (core_seq a) S) (behind_seq (core_seq a) S) h.0 r (bare S (syntax.guard (core_seq a) syntax.id (core b)) y r k (core_seq a))
+      (same_accepts (after_arrow (core_seq a) S) (after_seq (core_seq a) S) h.0 r (bare S (syntax.guard (core_seq a) syntax.id (core b)) y r k (core_seq a))
       (rw h.2.1 (choice_reads b (Operand Otherwise syntax.id ∷ (Operand Guarded (core_seq a) ∷ S)) h.2.0 y r h.2.2 k)))
   choice_reads (guarded_choice a b c) S x y r h k =
       seq_reads a S x h.0 r h.1
-      (same_accepts (behind_arrow (core_seq a) S) (behind_seq (core_seq a) S) h.0 r (bare S (syntax.guard (core_seq a) (core_seq b) (core c)) y r k (core_seq a))
+      (same_accepts (after_arrow (core_seq a) S) (after_seq (core_seq a) S) h.0 r (bare S (syntax.guard (core_seq a) (core_seq b) (core c)) y r k (core_seq a))
       (rw h.2.1 (seq_reads b (Operand Guarded (core_seq a) ∷ S) h.2.0 h.2.2.0 r h.2.2.1
       (rw h.2.2.2.1 (choice_reads c (Operand Otherwise (core_seq b) ∷ (Operand Guarded (core_seq a) ∷ S)) h.2.2.2.0 y r h.2.2.2.2 k)))))
 
-  seq_reads : (a : Seq) (S : List ParserFrame) (x y : List Token) (r : Strategy) → ReadsSeq a x y → Accepts (behind_arrow (core_seq a) S) y r → Accepts (begin S) x r
+  seq_reads : (a : Seq) (S : List ParserFrame) (x y : List Token) (r : Strategy) → ReadsSeq a x y → Accepts (after_arrow (core_seq a) S) y r → Accepts (begin S) x r
   seq_reads (last a) S x y r h k = arrow_reads a S x y r h (arrow_in (core_arrow a) S y r k)
   seq_reads (before a b) S x y r h k =
       arrow_reads a S x h.0 r h.1 (rw h.2.1 (seq_reads b (Operand Before (core_arrow a) ∷ S) h.2.0 y r h.2.2 k))
 
-  arrow_reads : (a : Arrow) (S : List ParserFrame) (x y : List Token) (r : Strategy) → ReadsArrow a x y → Accepts (behind (core_arrow a) S) y r → Accepts (begin S) x r
+  arrow_reads : (a : Arrow) (S : List ParserFrame) (x y : List Token) (r : Strategy) → ReadsArrow a x y → Accepts (after (core_arrow a) S) y r → Accepts (begin S) x r
   arrow_reads (arrow a ps) S x y r h k = prefix_reads a S x h.0 r h.1 (arrows_in ps (core_prefix a) S h.0 y r h.2 k)
 
-  prefix_reads : (a : Prefix) (S : List ParserFrame) (x y : List Token) (r : Strategy) → ReadsPrefix a x y → Accepts (behind (core_prefix a) S) y r → Accepts (begin S) x r
+  prefix_reads : (a : Prefix) (S : List ParserFrame) (x y : List Token) (r : Strategy) → ReadsPrefix a x y → Accepts (after (core_prefix a) S) y r → Accepts (begin S) x r
   prefix_reads (question p) S x y r h k = rw h.1 (pattern_in p (ForPattern Match ∷ S) h.0 y r h.2 k)
   prefix_reads (exclamation p) S x y r h k = rw h.1 (pattern_in p (ForPattern Build ∷ S) h.0 y r h.2 k)
   prefix_reads (application a p) S x y r h k =
@@ -199,26 +199,26 @@ mutual
       (rw h.2.2.1 (pattern_in q (ForPattern (ClosureRight p) ∷ S) h.2.2.0 h.2.2.2.0 r h.2.2.2.1
       (rw h.2.2.2.2.1 (choice_reads a (ForStrategy (Where p q) ∷ S) h.2.2.2.2.0 h.2.2.2.2.2.0 r h.2.2.2.2.2.1 (rw h.2.2.2.2.2.2 k))))))
   prefix_reads (round cs) S x y r h k =
-      rw h.1 (choices_read cs Round S h.0 y r h.2 (subst (λ l. Accepts (behind (in_brackets l) S) y r) (sym (strategies_of-list (core_all cs))) k))
+      rw h.1 (choices_read cs Round S h.0 y r h.2 (subst (λ l. Accepts (after (in_brackets l) S) y r) (sym (strategies_of-list (core_all cs))) k))
   prefix_reads (square cs) S x y r h k =
-      rw h.1 (choices_read cs Square S h.0 y r h.2 (subst (λ l. Accepts (behind (syntax.congruence list l) S) y r) (sym (strategies_of-list (core_all cs))) k))
+      rw h.1 (choices_read cs Square S h.0 y r h.2 (subst (λ l. Accepts (after (syntax.congruence list l) S) y r) (sym (strategies_of-list (core_all cs))) k))
   prefix_reads (square_with_tail cs a) S x y r h k =
       rw h.1 (some_choices_read cs S h.0 h.2.0 r h.2.1
       (choice_reads a (ForStrategy (SquareTail (strategy_list (core_all cs))) ∷ S) h.2.0 h.2.2.0 r h.2.2.1
-      (rw h.2.2.2 (subst (λ l. Accepts (behind (syntax.tail_congruence l (core a)) S) y r) (sym (strategies_of-list (core_all cs))) k))))
+      (rw h.2.2.2 (subst (λ l. Accepts (after (syntax.tail_congruence l (core a)) S) y r) (sym (strategies_of-list (core_all cs))) k))))
   prefix_reads (name f) S x y r h k = rw h (used_in f S y r k)
   prefix_reads (call f cs) S x y r h k =
-      rw h.1 (rw h.2.1 (choices_read cs (Arguments f) S h.2.0 y r h.2.2 (subst (λ l. Accepts (behind (syntax.uses f l no_patterns) S) y r) (sym (strategies_of-list (core_all cs))) k)))
+      rw h.1 (rw h.2.1 (choices_read cs (Arguments f) S h.2.0 y r h.2.2 (subst (λ l. Accepts (after (syntax.uses f l no_patterns) S) y r) (sym (strategies_of-list (core_all cs))) k)))
   prefix_reads (call_with_terms f cs ps) S x y r h k =
       rw h.1 (rw h.2.1 (arguments_read cs f S h.2.0 h.2.2.0 r h.2.2.1
       (list_in ps (Terms f (strategy_list (core_all cs))) S h.2.2.0 y r h.2.2.2
-      (subst (λ l. Accepts (behind (syntax.uses f l (patterns_of (pattern_list ps))) S) y r) (sym (strategies_of-list (core_all cs)))
-      (subst (λ l. Accepts (behind (syntax.uses f (core_all cs) l) S) y r) (sym (patterns_of-list ps)) k)))))
+      (subst (λ l. Accepts (after (syntax.uses f l (patterns_of (pattern_list ps))) S) y r) (sym (strategies_of-list (core_all cs)))
+      (subst (λ l. Accepts (after (syntax.uses f (core_all cs) l) S) y r) (sym (patterns_of-list ps)) k)))))
   prefix_reads (child i a) S x y r h k =
       rw h.1.1 (rw h.1.2.1 (child_reads i S h.1.2.0 r h.0 (choice_reads a (ForStrategy (Child i) ∷ S) h.1.2.0 h.1.2.2.0 r h.1.2.2.1 (rw h.1.2.2.2 k))))
 
   choices_read : (cs : Choices) (g : StrategyGroup) (S : List ParserFrame) (x y : List Token) (r : Strategy) → ReadsChoices cs (closing g) x y
-      → Accepts (behind (grouped g (strategy_list (core_all cs))) S) y r → Accepts (first_strategy g S) x r
+      → Accepts (after (grouped g (strategy_list (core_all cs))) S) y r → Accepts (first_strategy g S) x r
   choices_read no_choices g S x y r h k = subst (λ l. Accepts (first_strategy g S) l r) (sym h) (closes_first g S y r k)
   choices_read (and_choice a cs) g S x y r h k =
       first_in g S x r (choice_reads a (ForStrategy (Strategies g []) ∷ S) x h.0 r h.1 (more_choices_read cs g (core a ∷ []) S h.0 y r h.2 k))
@@ -236,22 +236,22 @@ mutual
       first_in (Arguments f) S x r (choice_reads a (ForStrategy (Strategies (Arguments f) []) ∷ S) x h.0 r h.1 (arguments_bar_read cs f (core a ∷ []) S h.0 y r h.2 k))
 
   more_choices_read : (cs : Choices) (g : StrategyGroup) (done : List Strategy) (S : List ParserFrame) (x y : List Token) (r : Strategy) → ReadsMoreChoices cs (closing g) x y
-      → Accepts (behind (grouped g (done ++ strategy_list (core_all cs))) S) y r → Accepts (behind_element g done S) x r
+      → Accepts (after (grouped g (done ++ strategy_list (core_all cs))) S) y r → Accepts (after_element g done S) x r
   more_choices_read no_choices g done S x y r h k =
-      subst (λ l. Accepts (behind_element g done S) l r) (sym h) (closes_more g done S y r (subst (λ l. Accepts (behind (grouped g l) S) y r) (append-nil done) k))
+      subst (λ l. Accepts (after_element g done S) l r) (sym h) (closes_more g done S y r (subst (λ l. Accepts (after (grouped g l) S) y r) (append-nil done) k))
   more_choices_read (and_choice a cs) g done S x y r h k =
       rw h.1 (choice_reads a (ForStrategy (Strategies g done) ∷ S) h.0 h.2.0 r h.2.1
-      (more_choices_read cs g (done ++ core a ∷ []) S h.2.0 y r h.2.2 (subst (λ l. Accepts (behind (grouped g l) S) y r) (sym (append_assoc done (core a ∷ []) (strategy_list (core_all cs)))) k)))
+      (more_choices_read cs g (done ++ core a ∷ []) S h.2.0 y r h.2.2 (subst (λ l. Accepts (after (grouped g l) S) y r) (sym (append_assoc done (core a ∷ []) (strategy_list (core_all cs)))) k)))
 
   square_bar_reads : (cs : Choices) (done : List Strategy) (S : List ParserFrame) (x y : List Token) (r : Strategy) → ReadsMoreChoices cs Bar x y
-      → Accepts (begin (ForStrategy (SquareTail (done ++ strategy_list (core_all cs))) ∷ S)) y r → Accepts (behind_element Square done S) x r
+      → Accepts (begin (ForStrategy (SquareTail (done ++ strategy_list (core_all cs))) ∷ S)) y r → Accepts (after_element Square done S) x r
   square_bar_reads no_choices done S x y r h k = rw h (subst (λ l. Accepts (begin (ForStrategy (SquareTail l) ∷ S)) y r) (append-nil done) k)
   square_bar_reads (and_choice a cs) done S x y r h k =
       rw h.1 (choice_reads a (ForStrategy (Strategies Square done) ∷ S) h.0 h.2.0 r h.2.1
       (square_bar_reads cs (done ++ core a ∷ []) S h.2.0 y r h.2.2 (subst (λ l. Accepts (begin (ForStrategy (SquareTail l) ∷ S)) y r) (sym (append_assoc done (core a ∷ []) (strategy_list (core_all cs)))) k)))
 
   arguments_bar_read : (cs : Choices) (f : Symbol) (done : List Strategy) (S : List ParserFrame) (x y : List Token) (r : Strategy) → ReadsMoreChoices cs Bar x y
-      → Accepts (first_pattern (Terms f (done ++ strategy_list (core_all cs))) S) y r → Accepts (behind_element (Arguments f) done S) x r
+      → Accepts (first_pattern (Terms f (done ++ strategy_list (core_all cs))) S) y r → Accepts (after_element (Arguments f) done S) x r
   arguments_bar_read no_choices f done S x y r h k = rw h (subst (λ l. Accepts (first_pattern (Terms f l) S) y r) (append-nil done) k)
   arguments_bar_read (and_choice a cs) f done S x y r h k =
       rw h.1 (choice_reads a (ForStrategy (Strategies (Arguments f) done) ∷ S) h.0 h.2.0 r h.2.1

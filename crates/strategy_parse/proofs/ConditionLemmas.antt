@@ -9,7 +9,7 @@ use Rattle.strategy_tokens.specs.declared.token.Token.{Token}
 use Rattle.strategy_tokens.specs.declared.token.Token.TheVariants.{Bad}
 use Rattle.strategy_tokens.specs.declared.token.Sign.TheVariants.{OpenRound, OpenCurly, Semicolon, FatArrow, Less, LeftChoice, At}
 use Rattle.strategy_parse.specs.declared.parser.state.ParserState.{ParserState}
-use Rattle.strategy_parse.specs.declared.parser.state.ParserState.TheVariants.{Strategy as ToStrategy, FirstStrategy, Read, Used, Opening, Rec as BehindRec, Prim as BehindPrim, PrimOpen, PrimNamed, ScopeOpen, ScopeComma, ScopeNamed, Pattern as ToPattern, FirstPattern, Named, Base, Whole}
+use Rattle.strategy_parse.specs.declared.parser.state.ParserState.TheVariants.{Strategy as ToStrategy, FirstStrategy, Read, Used, Opening, Rec as AfterRec, Prim as AfterPrim, PrimOpen, PrimNamed, ScopeOpen, ScopeComma, ScopeNamed, Pattern as ToPattern, FirstPattern, Named, Base, Whole}
 use Rattle.strategy_parse.specs.declared.parser.state.ParserFrame.{ParserFrame}
 use Rattle.strategy_tokens.specs.Marks.{is_mark}
 use Rattle.strategy_parse.specs.inside.Parser.{Next, goes, ends, stuck, step, begin, front, front_of}
@@ -17,7 +17,7 @@ use Rattle.strategy_parse.specs.Grammar.{Reading, ReadsChoice}
 use Rattle.strategy_parse.specs.Core.{core, free_in_choice}
 use Rattle.strategy_parse.specs.Written.{Choice}
 use Rattle.strategy_parse.specs.inside.Fronts.{Stops}
-use Rattle.strategy_parse.specs.inside.FreeNames.{seen, next_token, seen_behind, names_seen}
+use Rattle.strategy_parse.specs.inside.FreeNames.{seen, next_token, seen_after, names_seen}
 use Rattle.strategy_parse.proofs.Frames.{Front, Framed, choice_framed}
 use Rattle.strategy_parse.proofs.FrontGives.{front-gives, choice-front}
 use Rattle.strategy_parse.proofs.SeenStrategies.{names_free, ChoiceEnds}
@@ -43,8 +43,8 @@ seen-end (FirstStrategy g) S t s e = refl
 seen-end (Read r) S t s e = refl
 seen-end (Used f) S t s e = refl
 seen-end (Opening F) S t s e = refl
-seen-end BehindRec S t s e = refl
-seen-end BehindPrim S t s e = refl
+seen-end AfterRec S t s e = refl
+seen-end AfterPrim S t s e = refl
 seen-end PrimOpen S t s e = refl
 seen-end (PrimNamed f) S t s e = refl
 seen-end ScopeOpen S t s e = refl
@@ -66,7 +66,7 @@ Rest k x n s y = front_of k x n ≡ Some (s, y)
 
 module _ (q : ParserState) (S : List ParserFrame) (t : Token) (ts : List Token) (s : Strategy) (y : List Token) where
   abbrev Names : Next → List Symbol
-  Names n = seen_behind (λ r R. SeenFrom r R ts) n
+  Names n = seen_after (λ r R. SeenFrom r R ts) n
 
   at_step : (n : Next) → step q S t ≡ n → ((r : ParserState) (R : List ParserFrame) → front (step r R) ts ≡ Some (s, y) → Cut r R ts y)
       → Rest (λ r R. front (step r R) ts) (t ∷ ts) n s y → Cut q S (t ∷ ts) y
@@ -75,7 +75,7 @@ module _ (q : ParserState) (S : List ParserFrame) (t : Token) (ts : List Token) 
       record {
         taken = t ∷ c.taken;
         splits = ap (λ l. t ∷ l) c.splits;
-        same = ap (λ l. seen q S t ++ l) (ap Names e ∙ c.same ∙ ap (λ n. seen_behind (λ p P. SeenFrom p P c.taken) n) (sym e));
+        same = ap (λ l. seen q S t ++ l) (ap Names e ∙ c.same ∙ ap (λ n. seen_after (λ p P. SeenFrom p P c.taken) n) (sym e));
       }
   at_step (ends r) e more h = record {
     taken = [];

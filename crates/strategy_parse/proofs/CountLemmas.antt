@@ -1,9 +1,10 @@
 -- How often names occur in lists and among those that the open forms bind.
 use Rattle.std.proofs.Common.{◌≡◌, ℕ, zero, suc, ◌+◌, ◌<◌, ◌||◌, Bool, true, false, List, [], ◌∷◌, ◌++◌, length, take, get_or, refl, sym, ap, ◌∙◌, arith, add-one}
-use Rattle.std.specs.Prelude.{cond, reverse}
+use Rattle.std.specs.Prelude.{cond, reverse, unwrap_or, Some}
+use Rattle.std.specs.HashMap.{get}
 use Rattle.std.proofs.Math.Seq.{take-suc}
 use Rattle.term_core.specs.Tree.{Symbol, same_name}
-use Rattle.term_core.proofs.SameName.{same_name-sym}
+use Rattle.term_core.proofs.SameName.{same_name-sym, same_name-true}
 use Rattle.strategy_parse.specs.declared.parser.state.ParserFrame.{ParserFrame}
 use Rattle.strategy_parse.specs.declared.parser.state.ParserFrame.TheVariants.{Operand, At, Strategy as ForStrategy, Pattern as ForPattern}
 use Rattle.strategy_parse.specs.declared.parser.state.StrategyFrame.TheVariants.{Operator as Operated, Rec, Child, Scope, Application, If, Then, Else, Where, List as Strategies, Tail as SquareTail}
@@ -21,6 +22,34 @@ occurrences-append f (x ∷ xs) ys = let more = occurrences-append f xs ys in om
 occurrences-next : (f : Symbol) (xs : List Symbol) (i : ℕ) (x : Symbol) → i < length xs → x ≡ get_or xs i x → occurrences f (take (i + 1) xs) ≡ occurrences f (take i xs) + occurrences f (x ∷ [])
 occurrences-next f xs i x lt at =
     rw add-one (ap (occurrences f) (take-suc xs i x lt ∙ ap (λ y. take i xs ++ y ∷ []) (sym at)) ∙ occurrences-append f (take i xs) (x ∷ []))
+
+-- n has this number for y, and for each other name what m has
+abbrev Puts : Counts → Counts → Symbol → ℕ → Type 0
+Puts m n y k = (f : Symbol) → get same_name n f ≡ cond (same_name y f) (Some k) (get same_name m f)
+
+count-put : (m n : Counts) (x y : Symbol) (k : ℕ) → y ≡ x → Puts m n y k → (f : Symbol) (b : Bool) → same_name x f ≡ b → count n f ≡ cond b k (count m f)
+count-put m n x y k is put f b e =
+    ap (λ o. unwrap_or o 0) (put f)
+    ∙ ap (λ (z : Symbol). unwrap_or (cond (same_name z f) (Some k) (get same_name m f)) 0) is
+    ∙ ap (λ c. unwrap_or (cond c (Some k) (get same_name m f)) 0) e ∙ chosen b
+  where
+    chosen : (c : Bool) → unwrap_or (cond c (Some k) (get same_name m f)) 0 ≡ cond c k (count m f)
+    chosen true = refl
+    chosen false = refl
+
+-- a name is counted once more
+pub raised-one : (m n : Counts) (x y : Symbol) (k : ℕ) → y ≡ x → k ≡ count m x + 1 → Puts m n y k → Raised m n (x ∷ [])
+raised-one m n x y k is e put = λ f. by f (same_name x f) refl where
+  by : (f : Symbol) (b : Bool) → same_name x f ≡ b → count n f ≡ count m f + occurrences f (x ∷ [])
+  by f true h = omega (arith, count-put m n x y k is put f true h, e, ap {B = ℕ} (λ c. cond c 1 0) h, ap (count m) (same_name-true x f h))
+  by f false h = omega (arith, count-put m n x y k is put f false h, ap {B = ℕ} (λ c. cond c 1 0) h)
+
+-- a name is counted once less
+pub lowered-one : (m n : Counts) (x y : Symbol) (k : ℕ) → y ≡ x → k + 1 ≡ count m x → Puts m n y k → Raised n m (x ∷ [])
+lowered-one m n x y k is e put = λ f. by f (same_name x f) refl where
+  by : (f : Symbol) (b : Bool) → same_name x f ≡ b → count m f ≡ count n f + occurrences f (x ∷ [])
+  by f true h = omega (arith, count-put m n x y k is put f true h, e, ap {B = ℕ} (λ c. cond c 1 0) h, ap (count m) (same_name-true x f h))
+  by f false h = omega (arith, count-put m n x y k is put f false h, ap {B = ℕ} (λ c. cond c 1 0) h)
 
 -- one more name is counted
 pub raised-next : (k m n : Counts) (xs : List Symbol) (i : ℕ) (x : Symbol) → i < length xs → x ≡ get_or xs i x → Raised k m (take i xs) → Raised m n (x ∷ []) → Raised k n (take (i + 1) xs)

@@ -13,7 +13,7 @@ use Rattle.strategy_tokens.specs.declared.token.Token.TheVariants.{Ident, Wildca
 use Rattle.strategy_tokens.specs.declared.token.Keyword.TheVariants.{Id as KId, Then as KThen, End as KEnd}
 use Rattle.strategy_tokens.specs.declared.token.Sign.TheVariants.{OpenRound, CloseRound, CloseSquare, CloseCurly, Colon, Arrow as RightArrow, Greater, Plus, Backslash}
 use Rattle.strategy_parse.specs.declared.parser.state.ParserState.{ParserState}
-use Rattle.strategy_parse.specs.declared.parser.state.ParserState.TheVariants.{Strategy as ToStrategy, FirstStrategy, Read, Used, Opening, Rec as BehindRec, Prim as BehindPrim, PrimOpen, PrimNamed, ScopeOpen, ScopeComma, ScopeNamed, Pattern as ToPattern, FirstPattern, Named, Base, Whole}
+use Rattle.strategy_parse.specs.declared.parser.state.ParserState.TheVariants.{Strategy as ToStrategy, FirstStrategy, Read, Used, Opening, Rec as AfterRec, Prim as AfterPrim, PrimOpen, PrimNamed, ScopeOpen, ScopeComma, ScopeNamed, Pattern as ToPattern, FirstPattern, Named, Base, Whole}
 use Rattle.strategy_parse.specs.declared.parser.state.ParserFrame.{ParserFrame}
 use Rattle.strategy_parse.specs.declared.parser.state.ParserFrame.TheVariants.{Operand, At, Strategy as ForStrategy, Pattern as ForPattern}
 use Rattle.strategy_parse.specs.declared.parser.state.Infix.TheVariants.{Before, Guarded, Otherwise}
@@ -25,7 +25,7 @@ use Rattle.strategy_parse.specs.declared.parser.state.StrategyGroup.{StrategyGro
 use Rattle.strategy_parse.specs.declared.parser.state.PatternGroup.{PatternGroup}
 use Rattle.strategy_parse.specs.declared.parser.state.PatternGroup.TheVariants.{Application as PApplication, List as PList, Tuple as PTuple, Annotations, Terms, Prim}
 use Rattle.strategy_parse.specs.Core.{operated, rewrite, rewrite_where}
-use Rattle.strategy_parse.specs.inside.Parser.{Next, goes, ends, stuck, closing, grouped, behind_element, in_frame, behind_choice, behind_seq, behind_arrow, behind, closing_sign, close_patterns, behind_one, pattern_in_frame, behind_pattern, behind_base, step}
+use Rattle.strategy_parse.specs.inside.Parser.{Next, goes, ends, stuck, closing, grouped, after_element, in_frame, after_choice, after_seq, after_arrow, after, closing_sign, close_patterns, after_one, pattern_in_frame, after_pattern, after_base, step}
 use Rattle.strategy_parse.specs.Stuck.{Begin, StuckAt}
 use Rattle.strategy_parse.specs.inside.StuckPlaces.{or_later, stuck_at}
 use Rattle.strategy_parse.proofs.Runs.{Accepts, resume, go_on}
@@ -48,25 +48,25 @@ by_token t f q S e more = (t ∷ more.0, more.1, ap (go_on (λ p R. resume (step
 
 -- what is to be shown of the open forms below
 abbrev Finish : Position → List ParserFrame → Type 0
-Finish sequences S = (s : Strategy) → Ends (behind_arrow s S)
-Finish choices S = (s : Strategy) → Ends (behind_choice s S)
-Finish others S = (b s : Strategy) → Ends (behind_choice s (Operand Otherwise b ∷ S))
-Finish patterns S = (p : Pattern) → Ends (behind_pattern p S)
+Finish sequences S = (s : Strategy) → Ends (after_arrow s S)
+Finish choices S = (s : Strategy) → Ends (after_choice s S)
+Finish others S = (b s : Strategy) → Ends (after_choice s (Operand Otherwise b ∷ S))
+Finish patterns S = (p : Pattern) → Ends (after_pattern p S)
 
 -- ---- after a strategy
 
-read_ends : (S : List ParserFrame) → Finish sequences S → (s : Strategy) → Ends (behind s S)
-read_ends S E s = lifted (behind_arrow s S) (behind s S) (λ y r k. arrow_in s S y r k) (E s)
+read_ends : (S : List ParserFrame) → Finish sequences S → (s : Strategy) → Ends (after s S)
+read_ends S E s = lifted (after_arrow s S) (after s S) (λ y r k. arrow_in s S y r k) (E s)
 
-seq_ends : (S : List ParserFrame) (s : Strategy) → Ends (behind_choice s S) → Ends (behind_seq s S)
-seq_ends S s e = lifted (behind_choice s S) (behind_seq s S) (λ y r k. choice_in s S y r k) e
+seq_ends : (S : List ParserFrame) (s : Strategy) → Ends (after_choice s S) → Ends (after_seq s S)
+seq_ends S s e = lifted (after_choice s S) (after_seq s S) (λ y r k. choice_in s S y r k) e
 
-base_ends : (S : List ParserFrame) (p : Pattern) → Ends (behind_pattern p S) → Ends (behind_base p S)
-base_ends S p e = lifted (behind_pattern p S) (behind_base p S) (λ y r k. base_in p S y r k) e
+base_ends : (S : List ParserFrame) (p : Pattern) → Ends (after_pattern p S) → Ends (after_base p S)
+base_ends S p e = lifted (after_pattern p S) (after_base p S) (λ y r k. base_in p S y r k) e
 
-element_ends : (g : StrategyGroup) (done : List Strategy) (S : List ParserFrame) → Finish sequences S → Ends (behind_element g done S)
+element_ends : (g : StrategyGroup) (done : List Strategy) (S : List ParserFrame) → Finish sequences S → Ends (after_element g done S)
 element_ends g done S E =
-    let e : Ends (behind (grouped g done) S) = read_ends S E (grouped g done) in
+    let e : Ends (after (grouped g done) S) = read_ends S E (grouped g done) in
     (ASign (closing g) ∷ e.0, e.1, closes_more g done S e.0 e.1 e.2)
 
 then_ends : (a : Strategy) (S : List ParserFrame) → Finish sequences S → (s : Strategy) → Ends (in_frame s (Then a) S)
@@ -107,7 +107,7 @@ closed_ends (Annotations p) ps S E = E (annotated p (patterns_of ps))
 closed_ends (Terms f ss) ps S E = read_ends S E _
 closed_ends (Prim f) ps S E = read_ends S E _
 
-group_ends : (g : PatternGroup) (ps : List Pattern) (S : List ParserFrame) → Finish (below_group g) S → Ends (behind_one g ps S)
+group_ends : (g : PatternGroup) (ps : List Pattern) (S : List ParserFrame) → Finish (below_group g) S → Ends (after_one g ps S)
 group_ends g ps S E =
     let e = closed_ends g (ps ++ []) S E in
     (ASign (closing_sign g) ∷ e.0, e.1, rest_in no_patterns g ps S (ASign (closing_sign g) ∷ e.0) e.0 e.1 refl e.2)
@@ -145,9 +145,9 @@ finish (Operand Before r ∷ S) others h = absurd h
 finish (Operand Before r ∷ S) patterns h = absurd h
 finish (Operand Guarded a ∷ S) sequences h = λ s.
     let R : List ParserFrame = Operand Otherwise s ∷ (Operand Guarded a ∷ S) in
-    by_token (ASign Plus) (behind_arrow s (Operand Guarded a ∷ S)) ToStrategy R refl
+    by_token (ASign Plus) (after_arrow s (Operand Guarded a ∷ S)) ToStrategy R refl
     (by_token (Reserved KId) (step ToStrategy R) (Read syntax.id) R refl
-    (lifted (behind_arrow syntax.id R) (behind syntax.id R) (λ y r k. arrow_in syntax.id R y r k)
+    (lifted (after_arrow syntax.id R) (after syntax.id R) (λ y r k. arrow_in syntax.id R y r k)
     (seq_ends R syntax.id (finish S choices h (syntax.guard a s syntax.id)))))
 finish (Operand Guarded a ∷ S) choices h = absurd h
 finish (Operand Guarded a ∷ S) others h = λ b s. finish S choices h (syntax.guard a b s)
@@ -176,7 +176,7 @@ some_name = record { text = codes "x"; is_quoted = false }
 
 module _ (S : List ParserFrame) where
   module _ (h : Fits sequences S) where
-    read_at : (s : Strategy) → Ends (behind s S)
+    read_at : (s : Strategy) → Ends (after s S)
     read_at s = read_ends S (finish S sequences h) s
 
     opened_ends : (F : StrategyFrame) → Ends (step ToStrategy (ForStrategy F ∷ S))
@@ -198,7 +198,7 @@ module _ (S : List ParserFrame) where
 
     first_ends : (g : StrategyGroup) → Ends (step (FirstStrategy g) S)
     first_ends g =
-        let e : Ends (behind (grouped g []) S) = read_at (grouped g []) in
+        let e : Ends (after (grouped g []) S) = read_at (grouped g []) in
         (ASign (closing g) ∷ e.0, e.1, closes_first g S e.0 e.1 e.2)
 
   patterns_ends : (g : PatternGroup) → Fits (below_group g) S → Ends (step (FirstPattern g) S)
@@ -214,11 +214,11 @@ module _ (S : List ParserFrame) where
   state_ends (FirstStrategy g) h = first_ends h g
   state_ends (Read s) h = read_at h s
   state_ends (Used f) h =
-      lifted (behind (syntax.uses f syntax.no_strategies no_patterns) S) (step (Used f) S) (λ y r k. used_in f S y r k)
+      lifted (after (syntax.uses f syntax.no_strategies no_patterns) S) (step (Used f) S) (λ y r k. used_in f S y r k)
       (read_at h (syntax.uses f syntax.no_strategies no_patterns))
   state_ends (Opening F) h = opening_ends h F
-  state_ends BehindRec h = by_token (Ident some_name) (step BehindRec S) (Opening (Rec some_name)) S refl (opening_ends h (Rec some_name))
-  state_ends BehindPrim h = by_token (ASign OpenRound) (step BehindPrim S) PrimOpen S refl (prim_open_ends h)
+  state_ends AfterRec h = by_token (Ident some_name) (step AfterRec S) (Opening (Rec some_name)) S refl (opening_ends h (Rec some_name))
+  state_ends AfterPrim h = by_token (ASign OpenRound) (step AfterPrim S) PrimOpen S refl (prim_open_ends h)
   state_ends PrimOpen h = prim_open_ends h
   state_ends (PrimNamed f) h = prim_ends h f
   state_ends ScopeOpen h = by_token (ASign Colon) (step ScopeOpen S) ToStrategy (ForStrategy (Scope []) ∷ S) refl (opened_ends h (Scope []))
@@ -227,7 +227,7 @@ module _ (S : List ParserFrame) where
   state_ends ToPattern h = by_token Wildcard (step ToPattern S) (Base wildcard) S refl (base_at h wildcard)
   state_ends (FirstPattern g) h = patterns_ends g h
   state_ends (Named f) h =
-      lifted (behind_base (variable f) S) (step (Named f) S) (λ y r k. named_in f S y r k) (base_at h (variable f))
+      lifted (after_base (variable f) S) (step (Named f) S) (λ y r k. named_in f S y r k) (base_at h (variable f))
   state_ends (Base p) h = base_at h p
   state_ends (Whole p) h = finish S patterns h p
 

@@ -11,7 +11,7 @@ use Rattle.strategy_tokens.specs.declared.token.Keyword.TheVariants.{Id as KId, 
 use Rattle.strategy_tokens.specs.declared.token.Sign.{Sign}
 use Rattle.strategy_tokens.specs.declared.token.Sign.TheVariants.{OpenRound, CloseRound, OpenSquare, CloseSquare, OpenCurly, CloseCurly, Comma, Semicolon, Colon, Bar, FatArrow, Arrow as RightArrow, Less, Greater, LeftChoice, Plus, Question, Exclamation, At as AtSign, Backslash}
 use Rattle.strategy_parse.specs.declared.parser.state.ParserState.{ParserState}
-use Rattle.strategy_parse.specs.declared.parser.state.ParserState.TheVariants.{Strategy as ToStrategy, FirstStrategy, Read, Used, Opening, Rec as BehindRec, Prim as BehindPrim, PrimOpen, PrimNamed, ScopeOpen, ScopeComma, ScopeNamed, Pattern as ToPattern, FirstPattern, Named, Base, Whole}
+use Rattle.strategy_parse.specs.declared.parser.state.ParserState.TheVariants.{Strategy as ToStrategy, FirstStrategy, Read, Used, Opening, Rec as AfterRec, Prim as AfterPrim, PrimOpen, PrimNamed, ScopeOpen, ScopeComma, ScopeNamed, Pattern as ToPattern, FirstPattern, Named, Base, Whole}
 use Rattle.strategy_parse.specs.declared.parser.state.ParserFrame.{ParserFrame}
 use Rattle.strategy_parse.specs.declared.parser.state.ParserFrame.TheVariants.{Operand, At, Strategy as ForStrategy, Pattern as ForPattern}
 use Rattle.strategy_parse.specs.declared.parser.state.Infix.TheVariants.{Before, Guarded, Otherwise}
@@ -24,7 +24,7 @@ use Rattle.strategy_parse.specs.declared.parser.state.StrategyGroup.TheVariants.
 use Rattle.strategy_parse.specs.declared.parser.state.PatternGroup.{PatternGroup}
 use Rattle.strategy_parse.specs.declared.parser.state.PatternGroup.TheVariants.{Application as PApplication, List as PList, Tuple as PTuple, Annotations, Terms, Prim}
 use Rattle.strategy_tokens.specs.Marks.{is_mark, is_word}
-use Rattle.strategy_parse.specs.inside.Parser.{Next, goes, ends, stuck, begin, begin_sign, begin_word, begin_child, begin_pattern, open_pattern, closing, behind_bar, behind_element, in_frame, behind_choice, behind_seq, behind_arrow, behind, closing_sign, close_patterns, pattern_bar, behind_one, pattern_in_frame, behind_pattern, behind_base, empty_bar, rec_name, prim_name, scope_name, step}
+use Rattle.strategy_parse.specs.inside.Parser.{Next, goes, ends, stuck, begin, begin_sign, begin_word, begin_child, begin_pattern, open_pattern, closing, after_bar, after_element, in_frame, after_choice, after_seq, after_arrow, after, closing_sign, close_patterns, pattern_bar, after_one, pattern_in_frame, after_pattern, after_base, empty_bar, rec_name, prim_name, scope_name, step}
 
 -- What is on top of the open forms: a strategy, which may be part of a sequence; a whole choice; the second part
 -- of a guarded choice; a pattern.
@@ -88,8 +88,8 @@ stands (FirstStrategy g) = sequences
 stands (Read s) = sequences
 stands (Used f) = sequences
 stands (Opening F) = sequences
-stands BehindRec = sequences
-stands BehindPrim = sequences
+stands AfterRec = sequences
+stands AfterPrim = sequences
 stands PrimOpen = sequences
 stands (PrimNamed f) = sequences
 stands ScopeOpen = sequences
@@ -166,12 +166,12 @@ pattern-fits Bad S h = tt
 
 -- ---- after a strategy
 
-bar-fits : (g : StrategyGroup) (done : List Strategy) (S : List ParserFrame) → Fits sequences S → FitsNext (behind_bar g done S)
+bar-fits : (g : StrategyGroup) (done : List Strategy) (S : List ParserFrame) → Fits sequences S → FitsNext (after_bar g done S)
 bar-fits Round done S h = tt
 bar-fits Square done S h = h
 bar-fits (Arguments f) done S h = h
 
-element-fits : (g : StrategyGroup) (done : List Strategy) (S : List ParserFrame) (t : Token) → Fits sequences S → FitsNext (behind_element g done S t)
+element-fits : (g : StrategyGroup) (done : List Strategy) (S : List ParserFrame) (t : Token) → Fits sequences S → FitsNext (after_element g done S t)
 element-fits g done S t h =
     either (is_mark Comma t) _ _ h (either (is_mark Bar t) _ _ (bar-fits g done S h) (either (is_mark (closing g) t) _ _ h tt))
 
@@ -188,7 +188,7 @@ frame-fits (Where p q) s S t h = either (is_mark Backslash t) _ _ h tt
 frame-fits (Strategies g done) s S t h = element-fits g (done ++ s ∷ []) S t h
 frame-fits (SquareTail done) s S t h = either (is_mark CloseSquare t) _ _ h tt
 
-choice-fits : (S : List ParserFrame) (s : Strategy) (t : Token) → Fits choices S → FitsNext (behind_choice s S t)
+choice-fits : (S : List ParserFrame) (s : Strategy) (t : Token) → Fits choices S → FitsNext (after_choice s S t)
 choice-fits [] s t h = tt
 choice-fits (Operand Otherwise b ∷ []) s t h = absurd h
 choice-fits (Operand Otherwise b ∷ (Operand Guarded a ∷ S)) s t h = choice-fits S (syntax.guard a b s) t h
@@ -203,10 +203,10 @@ choice-fits (Operand Guarded a ∷ S) s t h = absurd h
 choice-fits (At x ∷ S) s t h = absurd h
 choice-fits (ForPattern F ∷ S) s t h = absurd h
 
-seq-fits : (S : List ParserFrame) (s : Strategy) (t : Token) → Fits choices S → FitsNext (behind_seq s S t)
+seq-fits : (S : List ParserFrame) (s : Strategy) (t : Token) → Fits choices S → FitsNext (after_seq s S t)
 seq-fits S s t h = either (is_mark LeftChoice t) _ _ h (either (is_mark Less t) _ _ h (choice-fits S s t h))
 
-arrow-fits : (S : List ParserFrame) (s : Strategy) (t : Token) → Fits sequences S → FitsNext (behind_arrow s S t)
+arrow-fits : (S : List ParserFrame) (s : Strategy) (t : Token) → Fits sequences S → FitsNext (after_arrow s S t)
 arrow-fits [] s t h = seq-fits [] s t h
 arrow-fits (Operand Before r ∷ S) s t h = arrow-fits S (syntax.seq r s) t h
 arrow-fits (Operand Guarded a ∷ S) s t h = either (is_mark Plus t) _ _ h tt
@@ -215,8 +215,8 @@ arrow-fits (ForStrategy F ∷ S) s t h = seq-fits (ForStrategy F ∷ S) s t h
 arrow-fits (At x ∷ S) s t h = absurd h
 arrow-fits (ForPattern F ∷ S) s t h = absurd h
 
-behind-fits : (S : List ParserFrame) (s : Strategy) (t : Token) → Fits sequences S → FitsNext (behind s S t)
-behind-fits S s t h = either (is_mark FatArrow t) _ _ h (either (is_mark Semicolon t) _ _ h (arrow-fits S s t h))
+after-fits : (S : List ParserFrame) (s : Strategy) (t : Token) → Fits sequences S → FitsNext (after s S t)
+after-fits S s t h = either (is_mark FatArrow t) _ _ h (either (is_mark Semicolon t) _ _ h (arrow-fits S s t h))
 
 -- ---- after a pattern
 
@@ -236,30 +236,30 @@ pattern_bar-fits (Annotations p) ps S h = tt
 pattern_bar-fits (Terms f ss) ps S h = tt
 pattern_bar-fits (Prim f) ps S h = tt
 
-one-fits : (g : PatternGroup) (ps : List Pattern) (S : List ParserFrame) (t : Token) → Fits (below_group g) S → FitsNext (behind_one g ps S t)
+one-fits : (g : PatternGroup) (ps : List Pattern) (S : List ParserFrame) (t : Token) → Fits (below_group g) S → FitsNext (after_one g ps S t)
 one-fits g ps S t h =
     either (is_mark Comma t) _ _ h (either (is_mark (closing_sign g) t) _ _ (closed-fits g ps S h)
     (either (is_mark Bar t) _ _ (pattern_bar-fits g ps S h) tt))
 
 pattern_frame-fits : (F : PatternFrame) (p : Pattern) (S : List ParserFrame) (t : Token) → Fits (below F) S → FitsNext (pattern_in_frame p F S t)
-pattern_frame-fits Match p S t h = behind-fits S (syntax.matches p) t h
-pattern_frame-fits Build p S t h = behind-fits S (syntax.builds p) t h
-pattern_frame-fits (Applied s) p S t h = behind-fits S (syntax.seq (syntax.builds p) s) t h
-pattern_frame-fits (Matched s) p S t h = behind-fits S (syntax.seq s (syntax.matches p)) t h
+pattern_frame-fits Match p S t h = after-fits S (syntax.matches p) t h
+pattern_frame-fits Build p S t h = after-fits S (syntax.builds p) t h
+pattern_frame-fits (Applied s) p S t h = after-fits S (syntax.seq (syntax.builds p) s) t h
+pattern_frame-fits (Matched s) p S t h = after-fits S (syntax.seq s (syntax.matches p)) t h
 pattern_frame-fits ClosureLeft p S t h = either (is_mark RightArrow t) _ _ h tt
 pattern_frame-fits (ClosureRight l) p S t h = either (is_mark Backslash t) _ _ h (either (is_word KWhere t) _ _ h tt)
 pattern_frame-fits (Patterns g ps) p S t h = one-fits g (ps ++ p ∷ []) S t h
 pattern_frame-fits (PatternTail ps) p S t h = either (is_mark CloseSquare t) _ _ h tt
 
-behind_pattern-fits : (S : List ParserFrame) (p : Pattern) (t : Token) → Fits patterns S → FitsNext (behind_pattern p S t)
-behind_pattern-fits [] p t h = absurd h
-behind_pattern-fits (At x ∷ S) p t h = behind_pattern-fits S (syntax.at x p) t h
-behind_pattern-fits (ForPattern F ∷ S) p t h = pattern_frame-fits F p S t h
-behind_pattern-fits (Operand i s ∷ S) p t h = absurd h
-behind_pattern-fits (ForStrategy F ∷ S) p t h = absurd h
+after_pattern-fits : (S : List ParserFrame) (p : Pattern) (t : Token) → Fits patterns S → FitsNext (after_pattern p S t)
+after_pattern-fits [] p t h = absurd h
+after_pattern-fits (At x ∷ S) p t h = after_pattern-fits S (syntax.at x p) t h
+after_pattern-fits (ForPattern F ∷ S) p t h = pattern_frame-fits F p S t h
+after_pattern-fits (Operand i s ∷ S) p t h = absurd h
+after_pattern-fits (ForStrategy F ∷ S) p t h = absurd h
 
-base-fits : (S : List ParserFrame) (p : Pattern) (t : Token) → Fits patterns S → FitsNext (behind_base p S t)
-base-fits S p t h = either (is_mark OpenCurly t) _ _ h (behind_pattern-fits S p t h)
+base-fits : (S : List ParserFrame) (p : Pattern) (t : Token) → Fits patterns S → FitsNext (after_base p S t)
+base-fits S p t h = either (is_mark OpenCurly t) _ _ h (after_pattern-fits S p t h)
 
 -- ---- one token
 
@@ -284,11 +284,11 @@ pub step-fits : (q : ParserState) (S : List ParserFrame) (t : Token) → Fits (s
 step-fits ToStrategy S t h = begin-fits t S h
 step-fits (FirstStrategy g) S t h =
     either (is_mark (closing g) t) _ _ h (either (is_mark Bar t) _ _ (empty_bar-fits g S h) (begin-fits t (ForStrategy (Strategies g []) ∷ S) h))
-step-fits (Read s) S t h = behind-fits S s t h
-step-fits (Used f) S t h = either (is_mark OpenRound t) _ _ h (behind-fits S (syntax.uses f syntax.no_strategies syntax.no_patterns) t h)
+step-fits (Read s) S t h = after-fits S s t h
+step-fits (Used f) S t h = either (is_mark OpenRound t) _ _ h (after-fits S (syntax.uses f syntax.no_strategies syntax.no_patterns) t h)
 step-fits (Opening F) S t h = either (is_mark OpenRound t) _ _ h tt
-step-fits BehindRec S t h = rec-fits t S h
-step-fits BehindPrim S t h = either (is_mark OpenRound t) _ _ h tt
+step-fits AfterRec S t h = rec-fits t S h
+step-fits AfterPrim S t h = either (is_mark OpenRound t) _ _ h tt
 step-fits PrimOpen S t h = prim-fits t S h
 step-fits (PrimNamed f) S t h = either (is_mark Comma t) _ _ h (either (is_mark CloseRound t) _ _ h tt)
 step-fits ScopeOpen S t h = either (is_mark Colon t) _ _ h (scope-fits t [] S h)
@@ -298,4 +298,4 @@ step-fits ToPattern S t h = pattern-fits t S h
 step-fits (FirstPattern g) S t h = either (is_mark (closing_sign g) t) _ _ (closed-fits g [] S h) (pattern-fits t (ForPattern (Patterns g []) ∷ S) h)
 step-fits (Named f) S t h = either (is_mark OpenRound t) _ _ h (either (is_mark AtSign t) _ _ h (base-fits S (syntax.variable f) t h))
 step-fits (Base p) S t h = base-fits S p t h
-step-fits (Whole p) S t h = behind_pattern-fits S p t h
+step-fits (Whole p) S t h = after_pattern-fits S p t h

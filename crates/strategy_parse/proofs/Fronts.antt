@@ -12,7 +12,7 @@ use Rattle.strategy_tokens.specs.declared.token.Keyword.TheVariants.{Id as KId, 
 use Rattle.strategy_tokens.specs.declared.token.Sign.{Sign}
 use Rattle.strategy_tokens.specs.declared.token.Sign.TheVariants.{OpenRound, CloseRound, OpenSquare, CloseSquare, OpenCurly, CloseCurly, Comma, Semicolon, Colon, Bar, FatArrow, Arrow as RightArrow, Less, Greater, LeftChoice, Plus, Question, Exclamation, At as AtSign, Backslash}
 use Rattle.strategy_parse.specs.declared.parser.state.ParserState.{ParserState}
-use Rattle.strategy_parse.specs.declared.parser.state.ParserState.TheVariants.{Strategy as ToStrategy, FirstStrategy, Read, Used, Opening, Rec as BehindRec, Prim as BehindPrim, PrimOpen, PrimNamed, ScopeOpen, ScopeComma, ScopeNamed, Pattern as ToPattern, FirstPattern, Named, Base, Whole}
+use Rattle.strategy_parse.specs.declared.parser.state.ParserState.TheVariants.{Strategy as ToStrategy, FirstStrategy, Read, Used, Opening, Rec as AfterRec, Prim as AfterPrim, PrimOpen, PrimNamed, ScopeOpen, ScopeComma, ScopeNamed, Pattern as ToPattern, FirstPattern, Named, Base, Whole}
 use Rattle.strategy_parse.specs.declared.parser.state.ParserFrame.{ParserFrame}
 use Rattle.strategy_parse.specs.declared.parser.state.ParserFrame.TheVariants.{Operand, At, Strategy as ForStrategy, Pattern as ForPattern}
 use Rattle.strategy_parse.specs.declared.parser.state.Infix.TheVariants.{Before, Guarded, Otherwise}
@@ -25,7 +25,7 @@ use Rattle.strategy_parse.specs.declared.parser.state.StrategyGroup.TheVariants.
 use Rattle.strategy_parse.specs.declared.parser.state.PatternGroup.{PatternGroup}
 use Rattle.strategy_parse.specs.declared.parser.state.PatternGroup.TheVariants.{Application as PApplication, List as PList, Tuple as PTuple, Annotations, Terms, Prim}
 use Rattle.strategy_tokens.specs.Marks.{is_mark, is_word}
-use Rattle.strategy_parse.specs.inside.Parser.{Next, goes, ends, stuck, begin, begin_sign, begin_word, begin_child, begin_pattern, open_pattern, behind, behind_arrow, behind_seq, behind_choice, in_frame, behind_element, behind_bar, close_strategies, closing, grouped, behind_pattern, behind_base, pattern_in_frame, behind_one, pattern_bar, closing_sign, close_patterns, first_strategy, empty_bar, rec_name, prim_name, scope_name, begin_scope, step, front, front_of}
+use Rattle.strategy_parse.specs.inside.Parser.{Next, goes, ends, stuck, begin, begin_sign, begin_word, begin_child, begin_pattern, open_pattern, after, after_arrow, after_seq, after_choice, in_frame, after_element, after_bar, close_strategies, closing, grouped, after_pattern, after_base, pattern_in_frame, after_one, pattern_bar, closing_sign, close_patterns, first_strategy, empty_bar, rec_name, prim_name, scope_name, begin_scope, step, front, front_of}
 use Rattle.strategy_parse.proofs.Runs.{resume, at_end, go_on}
 use Rattle.strategy_parse.specs.inside.Fronts.{goes_on, Stops}
 
@@ -82,11 +82,11 @@ or-right true b e = absurd (cc)
 or-right false b e = e
 
 module _ (t u : Token) (k : Quiet u) where
-  element-no : (g : StrategyGroup) (done : List Strategy) (S : List ParserFrame) → NoEnd (behind_element g done S t)
+  element-no : (g : StrategyGroup) (done : List Strategy) (S : List ParserFrame) → NoEnd (after_element g done S t)
   element-no g done S =
       if-no (is_mark Comma t) (goes ToStrategy (ForStrategy (Strategies g done) ∷ S)) _ (goes-no ToStrategy (ForStrategy (Strategies g done) ∷ S))
-      (if-no (is_mark Bar t) (behind_bar g done S) (close_strategies g done S t) (bar-no g) (only-no (is_mark (closing g) t) (Read (grouped g done)) S)) where
-        bar-no : (h : StrategyGroup) → NoEnd (behind_bar h done S)
+      (if-no (is_mark Bar t) (after_bar g done S) (close_strategies g done S t) (bar-no g) (only-no (is_mark (closing g) t) (Read (grouped g done)) S)) where
+        bar-no : (h : StrategyGroup) → NoEnd (after_bar h done S)
         bar-no Round = stuck-no
         bar-no Square = goes-no ToStrategy (ForStrategy (SquareTail done) ∷ S)
         bar-no (Arguments f) = goes-no (FirstPattern (Terms f done)) S
@@ -104,7 +104,7 @@ module _ (t u : Token) (k : Quiet u) where
   frame-no (Strategies g done) s S = element-no g (done ++ s ∷ []) S
   frame-no (SquareTail done) s S = only-no (is_mark CloseSquare t) _ S
 
-  choice-ends : (S : List ParserFrame) (s r : Strategy) → behind_choice s S t ≡ ends r → behind_choice s S u ≡ ends r
+  choice-ends : (S : List ParserFrame) (s r : Strategy) → after_choice s S t ≡ ends r → after_choice s S u ≡ ends r
   choice-ends [] s r e = e
   choice-ends (Operand Otherwise b ∷ []) s r e = absurd (cc)
   choice-ends (Operand Otherwise b ∷ (Operand Guarded a ∷ S)) s r e = choice-ends S (syntax.guard a b s) r e
@@ -119,13 +119,13 @@ module _ (t u : Token) (k : Quiet u) where
   choice-ends (At x ∷ S) s r e = absurd (cc)
   choice-ends (ForPattern F ∷ S) s r e = absurd (cc)
 
-  seq-ends : (S : List ParserFrame) (s r : Strategy) → behind_seq s S t ≡ ends r → behind_seq s S u ≡ ends r
+  seq-ends : (S : List ParserFrame) (s r : Strategy) → after_seq s S t ≡ ends r → after_seq s S u ≡ ends r
   seq-ends S s r e =
       rw (k.choice, k.less) (choice-ends S s r
-      (past (is_mark Less t) (goes ToStrategy (Operand Guarded s ∷ S)) (behind_choice s S t) r (goes-no ToStrategy (Operand Guarded s ∷ S))
+      (past (is_mark Less t) (goes ToStrategy (Operand Guarded s ∷ S)) (after_choice s S t) r (goes-no ToStrategy (Operand Guarded s ∷ S))
       (past (is_mark LeftChoice t) (goes ToStrategy (Operand Otherwise syntax.id ∷ (Operand Guarded s ∷ S))) _ r (goes-no ToStrategy (Operand Otherwise syntax.id ∷ (Operand Guarded s ∷ S))) e)))
 
-  arrow-ends : (S : List ParserFrame) (s r : Strategy) → behind_arrow s S t ≡ ends r → behind_arrow s S u ≡ ends r
+  arrow-ends : (S : List ParserFrame) (s r : Strategy) → after_arrow s S t ≡ ends r → after_arrow s S u ≡ ends r
   arrow-ends [] s r e = seq-ends [] s r e
   arrow-ends (Operand Before a ∷ S) s r e = arrow-ends S (syntax.seq a s) r e
   arrow-ends (Operand Guarded a ∷ S) s r e = absurd (only-no (is_mark Plus t) _ _ r e)
@@ -134,13 +134,13 @@ module _ (t u : Token) (k : Quiet u) where
   arrow-ends (At x ∷ S) s r e = seq-ends (At x ∷ S) s r e
   arrow-ends (ForPattern F ∷ S) s r e = seq-ends (ForPattern F ∷ S) s r e
 
-  behind-ends : (S : List ParserFrame) (s r : Strategy) → behind s S t ≡ ends r → behind s S u ≡ ends r
-  behind-ends S s r e =
+  after-ends : (S : List ParserFrame) (s r : Strategy) → after s S t ≡ ends r → after s S u ≡ ends r
+  after-ends S s r e =
       rw (k.fat, k.semicolon) (arrow-ends S s r
-      (past (is_mark Semicolon t) (goes ToStrategy (Operand Before s ∷ S)) (behind_arrow s S t) r (goes-no ToStrategy (Operand Before s ∷ S))
+      (past (is_mark Semicolon t) (goes ToStrategy (Operand Before s ∷ S)) (after_arrow s S t) r (goes-no ToStrategy (Operand Before s ∷ S))
       (past (is_mark FatArrow t) (goes ToPattern (ForPattern (Matched s) ∷ S)) _ r (goes-no ToPattern (ForPattern (Matched s) ∷ S)) e)))
 
-  one-no : (g : PatternGroup) (ps : List Pattern) (S : List ParserFrame) → NoEnd (behind_one g ps S t)
+  one-no : (g : PatternGroup) (ps : List Pattern) (S : List ParserFrame) → NoEnd (after_one g ps S t)
   one-no g ps S =
       if-no (is_mark Comma t) (goes ToPattern (ForPattern (Patterns g ps) ∷ S)) _ (goes-no ToPattern (ForPattern (Patterns g ps) ∷ S))
       (if-no (is_mark (closing_sign g) t) (goes (close_patterns g ps) S) _ (goes-no (close_patterns g ps) S)
@@ -154,16 +154,16 @@ module _ (t u : Token) (k : Quiet u) where
         bar-no (Prim f) = stuck-no
 
   pattern_frame-ends : (F : PatternFrame) (p : Pattern) (S : List ParserFrame) (r : Strategy) → pattern_in_frame p F S t ≡ ends r → pattern_in_frame p F S u ≡ ends r
-  pattern_frame-ends Match p S r e = behind-ends S (syntax.matches p) r e
-  pattern_frame-ends Build p S r e = behind-ends S (syntax.builds p) r e
-  pattern_frame-ends (Applied s) p S r e = behind-ends S (syntax.seq (syntax.builds p) s) r e
-  pattern_frame-ends (Matched s) p S r e = behind-ends S (syntax.seq s (syntax.matches p)) r e
+  pattern_frame-ends Match p S r e = after-ends S (syntax.matches p) r e
+  pattern_frame-ends Build p S r e = after-ends S (syntax.builds p) r e
+  pattern_frame-ends (Applied s) p S r e = after-ends S (syntax.seq (syntax.builds p) s) r e
+  pattern_frame-ends (Matched s) p S r e = after-ends S (syntax.seq s (syntax.matches p)) r e
   pattern_frame-ends ClosureLeft p S r e = absurd (only-no (is_mark RightArrow t) _ _ r e)
   pattern_frame-ends (ClosureRight l) p S r e = absurd (if-no (is_mark Backslash t) _ _ (goes-no _ _) (only-no (is_word KWhere t) _ _) r e)
   pattern_frame-ends (Patterns g ps) p S r e = absurd (one-no g (ps ++ p ∷ []) S r e)
   pattern_frame-ends (PatternTail ps) p S r e = absurd (only-no (is_mark CloseSquare t) _ _ r e)
 
-  pattern-ends : (S : List ParserFrame) (p : Pattern) (r : Strategy) → behind_pattern p S t ≡ ends r → behind_pattern p S u ≡ ends r
+  pattern-ends : (S : List ParserFrame) (p : Pattern) (r : Strategy) → after_pattern p S t ≡ ends r → after_pattern p S u ≡ ends r
   pattern-ends [] p r e = absurd (cc)
   pattern-ends (At x ∷ S) p r e = pattern-ends S (syntax.at x p) r e
   pattern-ends (ForPattern F ∷ S) p r e = pattern_frame-ends F p S r e
@@ -172,8 +172,8 @@ module _ (t u : Token) (k : Quiet u) where
   pattern-ends (Operand Otherwise b ∷ S) p r e = absurd (cc)
   pattern-ends (ForStrategy F ∷ S) p r e = absurd (cc)
 
-  base-ends : (S : List ParserFrame) (p : Pattern) (r : Strategy) → behind_base p S t ≡ ends r → behind_base p S u ≡ ends r
-  base-ends S p r e = rw k.curly (pattern-ends S p r (past (is_mark OpenCurly t) (goes (FirstPattern (Annotations p)) S) (behind_pattern p S t) r (goes-no (FirstPattern (Annotations p)) S) e))
+  base-ends : (S : List ParserFrame) (p : Pattern) (r : Strategy) → after_base p S t ≡ ends r → after_base p S u ≡ ends r
+  base-ends S p r e = rw k.curly (pattern-ends S p r (past (is_mark OpenCurly t) (goes (FirstPattern (Annotations p)) S) (after_pattern p S t) r (goes-no (FirstPattern (Annotations p)) S) e))
 
 -- ---- a beginning never ends
 
@@ -244,11 +244,11 @@ module _ (t u : Token) (k : Quiet u) where
 
     first-no : NoEnd (first_strategy g S t)
     first-no = if-no (is_mark (closing g) t) (goes (Read (grouped g [])) S) _ (goes-no (Read (grouped g [])) S) (if-no (is_mark Bar t) (empty_bar g S) _ (bar-no g) (begin-no t (ForStrategy (Strategies g []) ∷ S)))
-  step-ends (Read s) S r e = behind-ends t u k S s r e
-  step-ends (Used f) S r e = rw k.round (behind-ends t u k S (syntax.uses f syntax.no_strategies syntax.no_patterns) r (past (is_mark OpenRound t) (goes (FirstStrategy (Arguments f)) S) (behind (syntax.uses f syntax.no_strategies syntax.no_patterns) S t) r (goes-no (FirstStrategy (Arguments f)) S) e))
+  step-ends (Read s) S r e = after-ends t u k S s r e
+  step-ends (Used f) S r e = rw k.round (after-ends t u k S (syntax.uses f syntax.no_strategies syntax.no_patterns) r (past (is_mark OpenRound t) (goes (FirstStrategy (Arguments f)) S) (after (syntax.uses f syntax.no_strategies syntax.no_patterns) S t) r (goes-no (FirstStrategy (Arguments f)) S) e))
   step-ends (Opening F) S r e = absurd (only-no (is_mark OpenRound t) _ _ r e)
-  step-ends BehindRec S r e = absurd (rec-no t S r e)
-  step-ends BehindPrim S r e = absurd (only-no (is_mark OpenRound t) _ _ r e)
+  step-ends AfterRec S r e = absurd (rec-no t S r e)
+  step-ends AfterPrim S r e = absurd (only-no (is_mark OpenRound t) _ _ r e)
   step-ends PrimOpen S r e = absurd (prim-no t S r e)
   step-ends (PrimNamed f) S r e = absurd (if-no (is_mark Comma t) _ _ (goes-no _ _) (only-no (is_mark CloseRound t) _ _) r e)
   step-ends ScopeOpen S r e = absurd (if-no (is_mark Colon t) (begin_scope [] S) _ (goes-no _ _) (scope-no t [] S) r e)
@@ -257,7 +257,7 @@ module _ (t u : Token) (k : Quiet u) where
   step-ends ToPattern S r e = absurd (begin_pattern-no t S r e)
   step-ends (FirstPattern g) S r e = absurd (if-no (is_mark (closing_sign g) t) (goes (close_patterns g []) S) _ (goes-no (close_patterns g []) S) (begin_pattern-no t (ForPattern (Patterns g []) ∷ S)) r e)
   step-ends (Named f) S r e = rw (k.round, k.at) (base-ends t u k S (syntax.variable f) r
-      (past (is_mark AtSign t) (goes ToPattern (At f ∷ S)) (behind_base (syntax.variable f) S t) r (goes-no ToPattern (At f ∷ S))
+      (past (is_mark AtSign t) (goes ToPattern (At f ∷ S)) (after_base (syntax.variable f) S t) r (goes-no ToPattern (At f ∷ S))
       (past (is_mark OpenRound t) (goes (FirstPattern (PApplication f)) S) _ r (goes-no (FirstPattern (PApplication f)) S) e)))
   step-ends (Base p) S r e = base-ends t u k S p r e
   step-ends (Whole p) S r e = pattern-ends t u k S p r e

@@ -11,18 +11,18 @@ use Rattle.strategy_tokens.specs.Marks.{is_mark}
 use Rattle.strategy_parse.specs.Written.{Header}
 use Rattle.strategy_parse.specs.Grammar.{◌▸◌, Mark, ReadsNames, ReadsMoreNames}
 use Rattle.strategy_parse.specs.GrammarModules.{ReadsParameters, ReadsHeader}
-use Rattle.strategy_parse.specs.inside.ModuleFronts.{behind_mark, NamesLeft, more_names, names_at, HeaderLeft, make_header, close_header, behind_terms, behind_bar, without_terms, behind_strategies, parameters_at, behind_name, header_at}
+use Rattle.strategy_parse.specs.inside.ModuleFronts.{after_mark, NamesLeft, more_names, names_at, HeaderLeft, make_header, close_header, after_terms, after_bar, without_terms, after_strategies, parameters_at, after_name, header_at}
 use Rattle.strategy_tokens.proofs.MarkLemmas.{mark_self, mark_is}
 use Rattle.strategy_parse.proofs.SeenPatterns.{NoMark}
 
 -- ---- a sign that comes first
 
-pub behind_found : (m : Sign) (y : List Token) → behind_mark m (ASign m ∷ y) ≡ Some y
-behind_found m y = rw (mark_self m) refl
+pub after_found : (m : Sign) (y : List Token) → after_mark m (ASign m ∷ y) ≡ Some y
+after_found m y = rw (mark_self m) refl
 
-pub behind_none : (m : Sign) (x : List Token) → NoMark m x → behind_mark m x ≡ None
-behind_none m [] e = refl
-behind_none m (t ∷ ts) e = rw e refl
+pub after_none : (m : Sign) (x : List Token) → NoMark m x → after_mark m x ≡ None
+after_none m [] e = refl
+after_none m (t ∷ ts) e = rw e refl
 
 some-is : (x y : List Token) → ◌≡◌ {A = Option (List Token)} (Some x) (Some y) → x ≡ y
 some-is x y e = cc
@@ -31,7 +31,7 @@ by_test : (m : Sign) (t : Token) (ts y : List Token) (b : Bool) → is_mark m t 
 by_test m t ts y true e h = λ i. mark_is m t e i ∷ some-is ts y h i
 by_test m t ts y false e h = absurd (cc)
 
-pub mark_found : (m : Sign) (x y : List Token) → behind_mark m x ≡ Some y → x ≡ ASign m ∷ y
+pub mark_found : (m : Sign) (x y : List Token) → after_mark m x ≡ Some y → x ≡ ASign m ∷ y
 mark_found m [] y h = absurd (cc)
 mark_found m (t ∷ ts) y h = by_test m t ts y (is_mark m t) refl h
 
@@ -123,25 +123,25 @@ names_found (Bad ∷ ts) fs y z m h e = no_names (Bad ∷ ts) fs y z m h e
 -- from the grammar to the functions
 parameters_named : (h : Header) (x y : List Token) → ReadsParameters h.strategies h.terms x y → parameters_at h.name x ≡ Some (h, y)
 parameters_named h x y (inl (none, reads)) =
-    ap (behind_strategies h.name) (names_named h.strategies CloseRound x y refl reads)
-    ∙ ap (without_terms h.name h.strategies (ASign CloseRound ∷ y)) (behind_found CloseRound y)
+    ap (after_strategies h.name) (names_named h.strategies CloseRound x y refl reads)
+    ∙ ap (without_terms h.name h.strategies (ASign CloseRound ∷ y)) (after_found CloseRound y)
     ∙ ap (λ l. Some (make_header h.name h.strategies l, y)) (sym none)
 parameters_named h x y (inr r) =
-    ap (behind_strategies h.name) (names_named h.strategies Bar x r.0 refl r.1)
-    ∙ ap (without_terms h.name h.strategies (ASign Bar ∷ r.0)) (behind_none CloseRound (ASign Bar ∷ r.0) refl)
-    ∙ ap (behind_bar h.name h.strategies) (behind_found Bar r.0)
-    ∙ ap (behind_terms h.name h.strategies) (names_named h.terms CloseRound r.0 y refl r.2)
-    ∙ ap (close_header (make_header h.name h.strategies h.terms)) (behind_found CloseRound y)
+    ap (after_strategies h.name) (names_named h.strategies Bar x r.0 refl r.1)
+    ∙ ap (without_terms h.name h.strategies (ASign Bar ∷ r.0)) (after_none CloseRound (ASign Bar ∷ r.0) refl)
+    ∙ ap (after_bar h.name h.strategies) (after_found Bar r.0)
+    ∙ ap (after_terms h.name h.strategies) (names_named h.terms CloseRound r.0 y refl r.2)
+    ∙ ap (close_header (make_header h.name h.strategies h.terms)) (after_found CloseRound y)
 
 pub header_named : (h : Header) (x y : List Token) → ReadsHeader h x y → NoMark OpenRound y → header_at x ≡ Some (h, y)
-header_named h x y r e = rw r.1 (behind r.2) where
-  behind : ((Mark OpenRound ▸ ReadsParameters h.strategies h.terms) r.0 y ⊎ ((y ≡ r.0) × (h.strategies ≡ []) × (h.terms ≡ []))) → behind_name h.name r.0 (behind_mark OpenRound r.0) ≡ Some (h, y)
-  behind (inl p) =
-      ap (λ l. behind_name h.name l (behind_mark OpenRound l)) p.1
-      ∙ ap (behind_name h.name (ASign OpenRound ∷ p.0)) (behind_found OpenRound p.0)
+header_named h x y r e = rw r.1 (after r.2) where
+  after : ((Mark OpenRound ▸ ReadsParameters h.strategies h.terms) r.0 y ⊎ ((y ≡ r.0) × (h.strategies ≡ []) × (h.terms ≡ []))) → after_name h.name r.0 (after_mark OpenRound r.0) ≡ Some (h, y)
+  after (inl p) =
+      ap (λ l. after_name h.name l (after_mark OpenRound l)) p.1
+      ∙ ap (after_name h.name (ASign OpenRound ∷ p.0)) (after_found OpenRound p.0)
       ∙ parameters_named h p.0 y p.2
-  behind (inr p) =
-      ap (behind_name h.name r.0) (behind_none OpenRound r.0 (subst (NoMark OpenRound) p.0 e))
+  after (inr p) =
+      ap (after_name h.name r.0) (after_none OpenRound r.0 (subst (NoMark OpenRound) p.0 e))
       ∙ (λ i. Some (make_header h.name (sym p.1 i) (sym p.2 i), sym p.0 i))
 
 -- from the functions to the grammar
@@ -157,7 +157,7 @@ record ParametersFound (f : Symbol) (x : List Token) (h : Header) (y : List Toke
   pub reads : ReadsParameters h.strategies h.terms x y
 
 terms_closed : (f : Symbol) (ss ts : List Symbol) (x a b : List Token) (h : Header) (y : List Token) → ReadsNames ss Bar x a → names_at a ≡ Some (ts, b)
-    → (c : Option (List Token)) → behind_mark CloseRound b ≡ c → close_header (make_header f ss ts) c ≡ Some (h, y) → ParametersFound f x h y
+    → (c : Option (List Token)) → after_mark CloseRound b ≡ c → close_header (make_header f ss ts) c ≡ Some (h, y) → ParametersFound f x h y
 terms_closed f ss ts x a b h y reads e None m k = absurd (cc)
 terms_closed f ss ts x a b h y reads e (Some z) m k =
     let same : make_header f ss ts ≡ h = header-left (make_header f ss ts) h z y k in
@@ -168,17 +168,17 @@ terms_closed f ss ts x a b h y reads e (Some z) m k =
     })
 
 terms_found : (f : Symbol) (ss : List Symbol) (x a : List Token) (h : Header) (y : List Token) → ReadsNames ss Bar x a
-    → (n : NamesLeft) → names_at a ≡ n → behind_terms f ss n ≡ Some (h, y) → ParametersFound f x h y
+    → (n : NamesLeft) → names_at a ≡ n → after_terms f ss n ≡ Some (h, y) → ParametersFound f x h y
 terms_found f ss x a h y reads None e k = absurd (cc)
-terms_found f ss x a h y reads (Some (ts, b)) e k = terms_closed f ss ts x a b h y reads e (behind_mark CloseRound b) refl k
+terms_found f ss x a h y reads (Some (ts, b)) e k = terms_closed f ss ts x a b h y reads e (after_mark CloseRound b) refl k
 
 bar_found : (f : Symbol) (ss : List Symbol) (x b : List Token) (h : Header) (y : List Token) → names_at x ≡ Some (ss, b)
-    → (c : Option (List Token)) → behind_mark Bar b ≡ c → behind_bar f ss c ≡ Some (h, y) → ParametersFound f x h y
+    → (c : Option (List Token)) → after_mark Bar b ≡ c → after_bar f ss c ≡ Some (h, y) → ParametersFound f x h y
 bar_found f ss x b h y e None m k = absurd (cc)
 bar_found f ss x b h y e (Some z) m k = terms_found f ss x z h y (names_found x ss b z Bar e (mark_found Bar b z m)) (names_at z) refl k
 
 closed_found : (f : Symbol) (ss : List Symbol) (x b : List Token) (h : Header) (y : List Token) → names_at x ≡ Some (ss, b)
-    → (c : Option (List Token)) → behind_mark CloseRound b ≡ c → without_terms f ss b c ≡ Some (h, y) → ParametersFound f x h y
+    → (c : Option (List Token)) → after_mark CloseRound b ≡ c → without_terms f ss b c ≡ Some (h, y) → ParametersFound f x h y
 closed_found f ss x b h y e (Some z) m k =
     let same : make_header f ss [] ≡ h = header-left (make_header f ss []) h z y k in
     let end : z ≡ y = header-right (make_header f ss []) h z y k in
@@ -186,13 +186,13 @@ closed_found f ss x b h y e (Some z) m k =
       name = refl;
       reads = inl (refl, names_found x ss b y CloseRound e (mark_found CloseRound b z m ∙ ap (λ l. ASign CloseRound ∷ l) end));
     })
-closed_found f ss x b h y e None m k = bar_found f ss x b h y e (behind_mark Bar b) refl k
+closed_found f ss x b h y e None m k = bar_found f ss x b h y e (after_mark Bar b) refl k
 
-parameters_found : (f : Symbol) (x : List Token) (h : Header) (y : List Token) → (n : NamesLeft) → names_at x ≡ n → behind_strategies f n ≡ Some (h, y) → ParametersFound f x h y
+parameters_found : (f : Symbol) (x : List Token) (h : Header) (y : List Token) → (n : NamesLeft) → names_at x ≡ n → after_strategies f n ≡ Some (h, y) → ParametersFound f x h y
 parameters_found f x h y None e k = absurd (cc)
-parameters_found f x h y (Some (ss, b)) e k = closed_found f ss x b h y e (behind_mark CloseRound b) refl k
+parameters_found f x h y (Some (ss, b)) e k = closed_found f ss x b h y e (after_mark CloseRound b) refl k
 
-name_found : (f : Symbol) (ts : List Token) (h : Header) (y : List Token) → (c : Option (List Token)) → behind_mark OpenRound ts ≡ c → behind_name f ts c ≡ Some (h, y) → ReadsHeader h (Ident f ∷ ts) y
+name_found : (f : Symbol) (ts : List Token) (h : Header) (y : List Token) → (c : Option (List Token)) → after_mark OpenRound ts ≡ c → after_name f ts c ≡ Some (h, y) → ReadsHeader h (Ident f ∷ ts) y
 name_found f ts h y (Some z) m k =
     let found : ParametersFound f z h y = parameters_found f z h y (names_at z) refl k in
     (ts, ap (λ l. Ident l ∷ ts) found.name, inl (z, mark_found OpenRound ts z m, found.reads))
@@ -203,7 +203,7 @@ name_found f ts h y None m k =
 
 pub header_found : (x : List Token) (h : Header) (y : List Token) → header_at x ≡ Some (h, y) → ReadsHeader h x y
 header_found [] h y k = absurd (cc)
-header_found (Ident f ∷ ts) h y k = name_found f ts h y (behind_mark OpenRound ts) refl k
+header_found (Ident f ∷ ts) h y k = name_found f ts h y (after_mark OpenRound ts) refl k
 header_found (Wildcard ∷ ts) h y k = absurd (cc)
 header_found (Reserved w ∷ ts) h y k = absurd (cc)
 header_found (Integer z ∷ ts) h y k = absurd (cc)
@@ -212,11 +212,11 @@ header_found (ASign s ∷ ts) h y k = absurd (cc)
 header_found (Bad ∷ ts) h y k = absurd (cc)
 
 -- one more name after a comma
-pub more_step : (done : List Symbol) (x rest : List Token) (f : Symbol) (ts : List Token) → behind_mark Comma x ≡ Some rest → rest ≡ Ident f ∷ ts → more_names (done ++ f ∷ []) ts ≡ more_names done x
+pub more_step : (done : List Symbol) (x rest : List Token) (f : Symbol) (ts : List Token) → after_mark Comma x ≡ Some rest → rest ≡ Ident f ∷ ts → more_names (done ++ f ∷ []) ts ≡ more_names done x
 more_step done x rest f ts e h = sym (ap (more_names done) (mark_found Comma x rest e ∙ ap (λ l. ASign Comma ∷ l) h))
 
 -- no name after a comma
-pub more_stop : (done : List Symbol) (x rest : List Token) → behind_mark Comma x ≡ Some rest → ((f : Symbol) (ts : List Token) → rest ≡ Ident f ∷ ts → ⊥) → more_names done x ≡ None
+pub more_stop : (done : List Symbol) (x rest : List Token) → after_mark Comma x ≡ Some rest → ((f : Symbol) (ts : List Token) → rest ≡ Ident f ∷ ts → ⊥) → more_names done x ≡ None
 more_stop done x rest e h = ap (more_names done) (mark_found Comma x rest e) ∙ stop rest h where
   stop : (rest : List Token) → ((f : Symbol) (ts : List Token) → rest ≡ Ident f ∷ ts → ⊥) → more_names done (ASign Comma ∷ rest) ≡ None
   stop [] h = refl
@@ -229,7 +229,7 @@ more_stop done x rest e h = ap (more_names done) (mark_found Comma x rest e) ∙
   stop (Bad ∷ ts) h = refl
 
 -- no comma
-pub more_end : (done : List Symbol) (x : List Token) → behind_mark Comma x ≡ None → more_names done x ≡ Some (done, x)
+pub more_end : (done : List Symbol) (x : List Token) → after_mark Comma x ≡ None → more_names done x ≡ Some (done, x)
 more_end done [] e = refl
 more_end done (t ∷ ts) e = at_end (is_mark Comma t) refl e ts where
   at_end : (b : Bool) → is_mark Comma t ≡ b → ◌≡◌ {A = Option (List Token)} (if b then Some ts else None) None → (us : List Token) → more_names done (t ∷ us) ≡ Some (done, t ∷ us)

@@ -13,15 +13,15 @@ use Rattle.strategy_parse.specs.declared.parser.state.Infix.TheVariants.{Before,
 use Rattle.strategy_parse.specs.declared.parser.state.PatternGroup.TheVariants.{Prim}
 use Rattle.strategy_tokens.specs.Marks.{is_mark}
 use Rattle.strategy_parse.specs.Core.{in_brackets}
-use Rattle.strategy_parse.specs.inside.Parser.{goes, stuck, behind_arrow, behind_seq, behind_choice, behind_pattern, no_operand, HasOperand}
+use Rattle.strategy_parse.specs.inside.Parser.{goes, stuck, after_arrow, after_seq, after_choice, after_pattern, no_operand, HasOperand}
 
-pub arrow-before : (s r : Strategy) (S R : List ParserFrame) (t : Token) → S ≡ Operand Before r ∷ R → behind_arrow (syntax.seq r s) R t ≡ behind_arrow s S t
+pub arrow-before : (s r : Strategy) (S R : List ParserFrame) (t : Token) → S ≡ Operand Before r ∷ R → after_arrow (syntax.seq r s) R t ≡ after_arrow s S t
 arrow-before s r S R t e = rw e refl
 
-pub arrow-guarded : (s : Strategy) (S : List ParserFrame) (t : Token) → HasOperand Guarded S → behind_arrow s S t ≡ (if (is_mark Plus t) then goes ToStrategy (Operand Otherwise s ∷ S) else stuck)
+pub arrow-guarded : (s : Strategy) (S : List ParserFrame) (t : Token) → HasOperand Guarded S → after_arrow s S t ≡ (if (is_mark Plus t) then goes ToStrategy (Operand Otherwise s ∷ S) else stuck)
 arrow-guarded s S t h = rw h.2 refl
 
-pub arrow-bare : (s : Strategy) (S : List ParserFrame) (t : Token) → no_operand Before S → no_operand Guarded S → behind_arrow s S t ≡ behind_seq s S t
+pub arrow-bare : (s : Strategy) (S : List ParserFrame) (t : Token) → no_operand Before S → no_operand Guarded S → after_arrow s S t ≡ after_seq s S t
 arrow-bare s [] t h k = refl
 arrow-bare s (Operand Before r ∷ S) t h k = absurd (h r S refl)
 arrow-bare s (Operand Guarded r ∷ S) t h k = absurd (k r S refl)
@@ -30,10 +30,10 @@ arrow-bare s (At x ∷ S) t h k = refl
 arrow-bare s (ForStrategy F ∷ S) t h k = refl
 arrow-bare s (ForPattern F ∷ S) t h k = refl
 
-pub choice-guard : (s a b : Strategy) (S R Q : List ParserFrame) (t : Token) → S ≡ Operand Otherwise b ∷ R → R ≡ Operand Guarded a ∷ Q → behind_choice (syntax.guard a b s) Q t ≡ behind_choice s S t
+pub choice-guard : (s a b : Strategy) (S R Q : List ParserFrame) (t : Token) → S ≡ Operand Otherwise b ∷ R → R ≡ Operand Guarded a ∷ Q → after_choice (syntax.guard a b s) Q t ≡ after_choice s S t
 choice-guard s a b S R Q t e h = rw (e, h) refl
 
-pub pattern-at : (p : Pattern) (x : Symbol) (S R : List ParserFrame) (t : Token) → S ≡ At x ∷ R → behind_pattern (at x p) R t ≡ behind_pattern p S t
+pub pattern-at : (p : Pattern) (x : Symbol) (S R : List ParserFrame) (t : Token) → S ≡ At x ∷ R → after_pattern (at x p) R t ≡ after_pattern p S t
 pattern-at p x S R t e = rw e refl
 
 pub brackets-many : (ss : List Strategy) → (length ss ≡ 1 → ⊥) → syntax.congruence tuple (strategies_of ss) ≡ in_brackets (strategies_of ss)

@@ -21,11 +21,11 @@ use Rattle.strategy_parse.specs.Core.{core, core_definition, defined, declared, 
 use Rattle.strategy_parse.specs.inside.Fronts.{Stops}
 use Rattle.strategy_parse.specs.inside.FreeNames.{names_seen}
 use Rattle.strategy_parse.specs.inside.Parser.{begin}
-use Rattle.strategy_parse.specs.inside.ModuleFronts.{behind_mark, header_at, DeclaredLeft}
+use Rattle.strategy_parse.specs.inside.ModuleFronts.{after_mark, header_at, DeclaredLeft}
 use Rattle.strategy_parse.specs.inside.Definitions.{DefinitionEnds}
 use Rattle.strategy_parse.specs.Gives.{GivesModule}
 use Rattle.strategy_parse.specs.inside.Sections.{IsItem, joined, SectionsLeft, SortsLeft, DeclarationsLeft, DefinitionsLeft, Left}
-use Rattle.strategy_parse.proofs.HeaderLemmas.{behind_found, header_named}
+use Rattle.strategy_parse.proofs.HeaderLemmas.{after_found, header_named}
 use Rattle.strategy_parse.proofs.SortLemmas.{sort_alone}
 use Rattle.strategy_parse.proofs.DeclarationLemmas.{declaration_named}
 use Rattle.strategy_parse.proofs.FrontGives.{choice-front, pattern-front}
@@ -67,7 +67,7 @@ definition_one : (v : Defined) (x y : List Token) → ReadsDefined v x y → Def
 definition_one (definition h u) x y r e =
     let t : Headed (definition h u) x y = headed (definition h u) x y r in
     let header : header_at x ≡ Some (h, r.0) = header_named h x r.0 r.1 t.ends in
-    let sign : behind_mark Equals r.0 ≡ Some r.2.0 = ap (behind_mark Equals) r.2.1 ∙ behind_found Equals r.2.0 in
+    let sign : after_mark Equals r.0 ≡ Some r.2.0 = ap (after_mark Equals) r.2.1 ∙ after_found Equals r.2.0 in
     record {
       definition = defined h (core u);
       rest = y;
@@ -77,9 +77,9 @@ definition_one (definition h u) x y r e =
 definition_one (rule h p q) x y r e =
     let t : Headed (rule h p q) x y = headed (rule h p q) x y r in
     let header : header_at x ≡ Some (h, r.0) = header_named h x r.0 r.1 t.ends in
-    let plain : behind_mark Equals r.0 ≡ None = ap (behind_mark Equals) r.2.1 in
-    let colon : behind_mark Colon r.0 ≡ Some r.2.0 = ap (behind_mark Colon) r.2.1 ∙ behind_found Colon r.2.0 in
-    let arrow : behind_mark RightArrow r.2.2.0 ≡ Some r.2.2.2.0 = ap (behind_mark RightArrow) r.2.2.2.1 ∙ behind_found RightArrow r.2.2.2.0 in
+    let plain : after_mark Equals r.0 ≡ None = ap (after_mark Equals) r.2.1 in
+    let colon : after_mark Colon r.0 ≡ Some r.2.0 = ap (after_mark Colon) r.2.1 ∙ after_found Colon r.2.0 in
+    let arrow : after_mark RightArrow r.2.2.0 ≡ Some r.2.2.2.0 = ap (after_mark RightArrow) r.2.2.2.1 ∙ after_found RightArrow r.2.2.2.0 in
     let d : Definition = defined h (scope (first_ones same_name h.terms (variables p ++ variables q)) (rewrite p q)) in
     record {
       definition = d;
@@ -91,9 +91,9 @@ definition_one (rule h p q) x y r e =
 definition_one (rule_where h p q u) x y r e =
     let t : Headed (rule_where h p q u) x y = headed (rule_where h p q u) x y r in
     let header : header_at x ≡ Some (h, r.0) = header_named h x r.0 r.1 t.ends in
-    let plain : behind_mark Equals r.0 ≡ None = ap (behind_mark Equals) r.2.1 in
-    let colon : behind_mark Colon r.0 ≡ Some r.2.0 = ap (behind_mark Colon) r.2.1 ∙ behind_found Colon r.2.0 in
-    let arrow : behind_mark RightArrow r.2.2.0 ≡ Some r.2.2.2.0 = ap (behind_mark RightArrow) r.2.2.2.1 ∙ behind_found RightArrow r.2.2.2.0 in
+    let plain : after_mark Equals r.0 ≡ None = ap (after_mark Equals) r.2.1 in
+    let colon : after_mark Colon r.0 ≡ Some r.2.0 = ap (after_mark Colon) r.2.1 ∙ after_found Colon r.2.0 in
+    let arrow : after_mark RightArrow r.2.2.0 ≡ Some r.2.2.2.0 = ap (after_mark RightArrow) r.2.2.2.1 ∙ after_found RightArrow r.2.2.2.0 in
     let names : List Symbol = (variables p ++ variables q) ++ names_seen (begin []) r.2.2.2.2.2.0 in
     let d : Definition = defined h (scope (first_ones same_name h.terms names) (rewrite_where p q (core u))) in
     record {
@@ -141,8 +141,8 @@ module _ (n : ℕ) (one : LeftOne n) where
       declared-pair (declared t.declaration) (declared s.declaration) t.rest s.rest
       (sym (declaration_named t.declaration x t.rest t.reads t.ends) ∙ declaration_named s.declaration x s.rest s.reads s.ends) in
       let less : length s.rest < length x = declaration_shorter s.declaration x s.rest s.reads in
-      let same : s.behind ≡ t.behind = one Constructors s.rest s.behind t.behind (omega arith) s.left (subst (λ l. DeclarationsLeft l t.behind) (ap (λ (q : List Constructor × List Token). q.1) both) t.left) in
-      sym s.gives ∙ ap (joined (declared s.declaration) []) same ∙ ap (λ l. joined l [] t.behind) (sym (ap (λ (q : List Constructor × List Token). q.0) both)) ∙ t.gives
+      let same : s.after ≡ t.after = one Constructors s.rest s.after t.after (omega arith) s.left (subst (λ l. DeclarationsLeft l t.after) (ap (λ (q : List Constructor × List Token). q.1) both) t.left) in
+      sym s.gives ∙ ap (joined (declared s.declaration) []) same ∙ ap (λ l. joined l [] t.after) (sym (ap (λ (q : List Constructor × List Token). q.0) both)) ∙ t.gives
 
   definitions_one : (x : List Token) (m r : Module) → length x ≤ suc n → IsItem x → DefinitionsLeft x m → DefinitionsLeft x r → m ≡ r
   definitions_one x m r le i a b =
@@ -152,8 +152,8 @@ module _ (n : ℕ) (one : LeftOne n) where
       let first = o.only s.definition s.rest s.reads s.ends in
       let second = o.only t.definition t.rest t.reads t.ends in
       let less : length s.rest < length x = defined_shorter s.definition x s.rest s.reads in
-      let same : s.behind ≡ t.behind = one Definitions s.rest s.behind t.behind (omega arith) s.left (subst (λ l. DefinitionsLeft l t.behind) (second.1 ∙ sym first.1) t.left) in
-      sym s.gives ∙ ap (joined [] (core_definition s.definition ∷ [])) same ∙ ap (λ l. joined [] (l ∷ []) t.behind) (first.0 ∙ sym second.0) ∙ t.gives
+      let same : s.after ≡ t.after = one Definitions s.rest s.after t.after (omega arith) s.left (subst (λ l. DefinitionsLeft l t.after) (second.1 ∙ sym first.1) t.left) in
+      sym s.gives ∙ ap (joined [] (core_definition s.definition ∷ [])) same ∙ ap (λ l. joined [] (l ∷ []) t.after) (first.0 ∙ sym second.0) ∙ t.gives
 
   item_one : (p : Part) (x : List Token) (m r : Module) → length x ≤ suc n → IsItem x → Left p x m → Left p x r → m ≡ r
   item_one Outside x m r le i a b = absurd (outside_item x m a i)

@@ -19,10 +19,10 @@ use Rattle.strategy_parse.specs.Core.{core, core_definition, defined, rewrite, r
 use Rattle.strategy_parse.specs.inside.Fronts.{FrontGives, Stops}
 use Rattle.strategy_parse.specs.inside.FreeNames.{next_token, names_seen}
 use Rattle.strategy_parse.specs.inside.Parser.{begin, front}
-use Rattle.strategy_parse.specs.inside.ModuleFronts.{behind_mark, header_at, HeaderLeft}
+use Rattle.strategy_parse.specs.inside.ModuleFronts.{after_mark, header_at, HeaderLeft}
 use Rattle.strategy_parse.specs.inside.Definitions.{DefinitionEnds, DefinitionGives, header_of, ReadsRule, RuleGives}
 use Rattle.strategy_parse.proofs.SeenPatterns.{NoMark}
-use Rattle.strategy_parse.proofs.HeaderLemmas.{behind_found, mark_found, header_named, header_found}
+use Rattle.strategy_parse.proofs.HeaderLemmas.{after_found, mark_found, header_named, header_found}
 use Rattle.strategy_parse.proofs.ConditionLemmas.{ConditionGives, condition_gives, condition_only, condition_none, names_only}
 
 -- ---- a pattern at the start of x, and the rest
@@ -37,46 +37,46 @@ arrow_stops y z e = subst Stops (sym e) refl
 where_stops : (y z : List Token) → y ≡ Reserved Where ∷ z → Stops y
 where_stops y z e = subst Stops (sym e) refl
 
-no_behind : (m : Sign) (x y : List Token) → behind_mark m x ≡ None → x ≡ ASign m ∷ y → ⊥
-no_behind m x y e h = let no : ◌≡◌ {A = Option (List Token)} None (Some y) = sym e ∙ ap (behind_mark m) h ∙ behind_found m y in cc
+no_after : (m : Sign) (x y : List Token) → after_mark m x ≡ None → x ≡ ASign m ∷ y → ⊥
+no_after m x y e h = let no : ◌≡◌ {A = Option (List Token)} None (Some y) = sym e ∙ ap (after_mark m) h ∙ after_found m y in cc
 
-same_behind : (m : Sign) (x y z : List Token) → behind_mark m x ≡ Some z → x ≡ ASign m ∷ y → y ≡ z
-same_behind m x y z e h = let same : ◌≡◌ {A = Option (List Token)} (Some y) (Some z) = sym (behind_found m y) ∙ ap (behind_mark m) (sym h) ∙ e in cc
+same_after : (m : Sign) (x y z : List Token) → after_mark m x ≡ Some z → x ≡ ASign m ∷ y → y ≡ z
+same_after m x y z e h = let same : ◌≡◌ {A = Option (List Token)} (Some y) (Some z) = sym (after_found m y) ∙ ap (after_mark m) (sym h) ∙ e in cc
 
 -- ---- the patterns of a rule, and the rest
 
 record Patterns (w : Defined) (x y : List Token) : Type 0 where
   pub left : Pattern
-  pub behind_left : List Token
-  pub reads_left : ReadsPattern left x behind_left
+  pub after_left : List Token
+  pub reads_left : ReadsPattern left x after_left
   pub right_at : List Token
-  pub arrow : behind_left ≡ ASign RightArrow ∷ right_at
+  pub arrow : after_left ≡ ASign RightArrow ∷ right_at
   pub right : Pattern
-  pub behind_right : List Token
-  pub reads_right : ReadsPattern right right_at behind_right
-  pub stops : Stops behind_right
+  pub after_right : List Token
+  pub reads_right : ReadsPattern right right_at after_right
+  pub stops : Stops after_right
 
 abbrev patterns_of : (w : Defined) (x y : List Token) → ReadsRule w x y → DefinitionEnds y → Patterns w x y
 patterns_of (definition h a) x y r e = absurd r
 patterns_of (rule h p q) x y r e = record {
   left = p;
-  behind_left = r.0;
+  after_left = r.0;
   reads_left = r.1;
   right_at = r.2.0;
   arrow = r.2.1;
   right = q;
-  behind_right = y;
+  after_right = y;
   reads_right = r.2.2;
   stops = e.stops;
 }
 patterns_of (rule_where h p q a) x y r e = record {
   left = p;
-  behind_left = r.0;
+  after_left = r.0;
   reads_left = r.1;
   right_at = r.2.0;
   arrow = r.2.1;
   right = q;
-  behind_right = r.2.2.0;
+  after_right = r.2.2.0;
   reads_right = r.2.2.1;
   stops = where_stops r.2.2.0 r.2.2.2.0 r.2.2.2.1;
 }
@@ -85,16 +85,16 @@ abbrev pub NoRule : List Token → Type 0
 NoRule x = (w : Defined) (y : List Token) → ReadsRule w x y → DefinitionEnds y → ⊥
 
 module _ (x : List Token) (p : Pattern) (a : List Token) (at_left : PatternAt x p a) where
-  left_is : (w : Defined) (y : List Token) → (t : Patterns w x y) → (t.left ≡ p) × (t.behind_left ≡ a)
-  left_is w y t = at_left.only t.left t.behind_left t.reads_left (arrow_stops t.behind_left t.right_at t.arrow)
+  left_is : (w : Defined) (y : List Token) → (t : Patterns w x y) → (t.left ≡ p) × (t.after_left ≡ a)
+  left_is w y t = at_left.only t.left t.after_left t.reads_left (arrow_stops t.after_left t.right_at t.arrow)
 
-  module _ (b : List Token) (arrow : behind_mark RightArrow a ≡ Some b) where
+  module _ (b : List Token) (arrow : after_mark RightArrow a ≡ Some b) where
     right_is : (w : Defined) (y : List Token) → (t : Patterns w x y) → t.right_at ≡ b
-    right_is w y t = same_behind RightArrow a t.right_at b arrow (sym (left_is w y t).1 ∙ t.arrow)
+    right_is w y t = same_after RightArrow a t.right_at b arrow (sym (left_is w y t).1 ∙ t.arrow)
 
     module _ (q : Pattern) (c : List Token) (at_right : PatternAt b q c) where
-      both_are : (w : Defined) (y : List Token) → (t : Patterns w x y) → (t.right ≡ q) × (t.behind_right ≡ c)
-      both_are w y t = at_right.only t.right t.behind_right (subst (λ l. ReadsPattern t.right l t.behind_right) (right_is w y t) t.reads_right) t.stops
+      both_are : (w : Defined) (y : List Token) → (t : Patterns w x y) → (t.right ≡ q) × (t.after_right ≡ c)
+      both_are w y t = at_right.only t.right t.after_right (subst (λ l. ReadsPattern t.right l t.after_right) (right_is w y t) t.reads_right) t.stops
 
       -- both patterns were read, and no condition follows
       pub rule_gives : (h : Header) (d : Definition) → d ≡ defined h (scope (first_ones same_name h.terms (variables p ++ variables q)) (rewrite p q)) → RuleGives h x d c
@@ -195,38 +195,38 @@ NoDefinition x = (w : Defined) (y : List Token) → ReadsDefined w x y → Defin
 
 -- the header of a definition, and the sign after it
 pub record Headed (w : Defined) (x y : List Token) : Type 0 where
-  pub behind : List Token
-  pub reads : ReadsHeader (header_of w) x behind
-  pub ends : NoMark OpenRound behind
+  pub after : List Token
+  pub reads : ReadsHeader (header_of w) x after
+  pub ends : NoMark OpenRound after
 
 abbrev pub headed : (w : Defined) (x y : List Token) → ReadsDefined w x y → Headed w x y
-headed (definition h a) x y r = record { behind = r.0; reads = r.1; ends = header_stops Equals r.0 r.2.0 r.2.1 refl }
-headed (rule h p q) x y r = record { behind = r.0; reads = r.1; ends = header_stops Colon r.0 r.2.0 r.2.1 refl }
-headed (rule_where h p q a) x y r = record { behind = r.0; reads = r.1; ends = header_stops Colon r.0 r.2.0 r.2.1 refl }
+headed (definition h a) x y r = record { after = r.0; reads = r.1; ends = header_stops Equals r.0 r.2.0 r.2.1 refl }
+headed (rule h p q) x y r = record { after = r.0; reads = r.1; ends = header_stops Colon r.0 r.2.0 r.2.1 refl }
+headed (rule_where h p q a) x y r = record { after = r.0; reads = r.1; ends = header_stops Colon r.0 r.2.0 r.2.1 refl }
 
 pub no_header : (x : List Token) → header_at x ≡ None → NoDefinition x
 no_header x none w y r e =
     let t : Headed w x y = headed w x y r in
-    let no : ◌≡◌ {A = HeaderLeft} None (Some (header_of w, t.behind)) = sym none ∙ header_named (header_of w) x t.behind t.reads t.ends in
+    let no : ◌≡◌ {A = HeaderLeft} None (Some (header_of w, t.after)) = sym none ∙ header_named (header_of w) x t.after t.reads t.ends in
     cc
 
 module _ (x : List Token) (h : Header) (a : List Token) (at_header : header_at x ≡ Some (h, a)) where
-  both : (w : Defined) (y : List Token) → (t : Headed w x y) → ◌≡◌ {A = Header × List Token} (header_of w, t.behind) (h, a)
-  both w y t = let same : ◌≡◌ {A = HeaderLeft} (Some (header_of w, t.behind)) (Some (h, a)) = sym (header_named (header_of w) x t.behind t.reads t.ends) ∙ at_header in cc
+  both : (w : Defined) (y : List Token) → (t : Headed w x y) → ◌≡◌ {A = Header × List Token} (header_of w, t.after) (h, a)
+  both w y t = let same : ◌≡◌ {A = HeaderLeft} (Some (header_of w, t.after)) (Some (h, a)) = sym (header_named (header_of w) x t.after t.reads t.ends) ∙ at_header in cc
 
   header_is : (w : Defined) (y : List Token) → (t : Headed w x y) → header_of w ≡ h
   header_is w y t = ap (λ (q : Header × List Token). q.0) (both w y t)
 
-  behind_is : (w : Defined) (y : List Token) → (t : Headed w x y) → t.behind ≡ a
-  behind_is w y t = ap (λ (q : Header × List Token). q.1) (both w y t)
+  after_is : (w : Defined) (y : List Token) → (t : Headed w x y) → t.after ≡ a
+  after_is w y t = ap (λ (q : Header × List Token). q.1) (both w y t)
 
   -- a `=` follows
-  module _ (b : List Token) (sign : behind_mark Equals a ≡ Some b) where
+  module _ (b : List Token) (sign : after_mark Equals a ≡ Some b) where
     equals_is : a ≡ ASign Equals ∷ b
     equals_is = mark_found Equals a b sign
 
-    no_rule : (w : Defined) (z y : List Token) → (t : Headed w x y) → t.behind ≡ ASign Colon ∷ z → ⊥
-    no_rule w z y t e = let no : ASign Equals ∷ b ≡ ASign Colon ∷ z = sym equals_is ∙ sym (behind_is w y t) ∙ e in cc
+    no_rule : (w : Defined) (z y : List Token) → (t : Headed w x y) → t.after ≡ ASign Colon ∷ z → ⊥
+    no_rule w z y t e = let no : ASign Equals ∷ b ≡ ASign Colon ∷ z = sym equals_is ∙ sym (after_is w y t) ∙ e in cc
 
     pub body_gives : (s : Strategy) (y : List Token) (d : Definition) → FrontGives b s y → d ≡ defined h s → DefinitionGives x d y
     body_gives s y d g e = record {
@@ -239,7 +239,7 @@ module _ (x : List Token) (h : Header) (a : List Token) (at_header : header_at x
         → (w : Defined) (y : List Token) → ReadsDefined w x y → DefinitionEnds y → (core_definition w ≡ d) × (y ≡ v)
     body_only s v d only e (definition k u) y r ends =
         let t : Headed (definition k u) x y = headed (definition k u) x y r in
-        let at_b : r.2.0 ≡ b = same_behind Equals a r.2.0 b sign (sym (behind_is (definition k u) y t) ∙ r.2.1) in
+        let at_b : r.2.0 ≡ b = same_after Equals a r.2.0 b sign (sym (after_is (definition k u) y t) ∙ r.2.1) in
         let o = only u y (subst (λ l. ReadsChoice u l y) at_b r.2.2) ends.stops in
         ((λ i. defined (header_is (definition k u) y t i) (o.0 i)) ∙ sym e, o.1)
     body_only s v d only e (rule k p q) y r ends = absurd (no_rule (rule k p q) r.2.0 y (headed (rule k p q) x y r) r.2.1)
@@ -248,22 +248,22 @@ module _ (x : List Token) (h : Header) (a : List Token) (at_header : header_at x
     pub no_body : ((u : Choice) (y : List Token) → ReadsChoice u b y → Stops y → ⊥) → NoDefinition x
     no_body none (definition k u) y r ends =
         let t : Headed (definition k u) x y = headed (definition k u) x y r in
-        let at_b : r.2.0 ≡ b = same_behind Equals a r.2.0 b sign (sym (behind_is (definition k u) y t) ∙ r.2.1) in
+        let at_b : r.2.0 ≡ b = same_after Equals a r.2.0 b sign (sym (after_is (definition k u) y t) ∙ r.2.1) in
         none u y (subst (λ l. ReadsChoice u l y) at_b r.2.2) ends.stops
     no_body none (rule k p q) y r ends = no_rule (rule k p q) r.2.0 y (headed (rule k p q) x y r) r.2.1
     no_body none (rule_where k p q u) y r ends = no_rule (rule_where k p q u) r.2.0 y (headed (rule_where k p q u) x y r) r.2.1
 
   -- no `=` follows
-  module _ (plain : behind_mark Equals a ≡ None) where
-    no_equals : (w : Defined) (z y : List Token) → (t : Headed w x y) → t.behind ≡ ASign Equals ∷ z → ⊥
-    no_equals w z y t e = no_behind Equals a z plain (sym (behind_is w y t) ∙ e)
+  module _ (plain : after_mark Equals a ≡ None) where
+    no_equals : (w : Defined) (z y : List Token) → (t : Headed w x y) → t.after ≡ ASign Equals ∷ z → ⊥
+    no_equals w z y t e = no_after Equals a z plain (sym (after_is w y t) ∙ e)
 
-    pub no_colon : behind_mark Colon a ≡ None → NoDefinition x
+    pub no_colon : after_mark Colon a ≡ None → NoDefinition x
     no_colon none (definition k u) y r ends = no_equals (definition k u) r.2.0 y (headed (definition k u) x y r) r.2.1
-    no_colon none (rule k p q) y r ends = no_behind Colon a r.2.0 none (sym (behind_is (rule k p q) y (headed (rule k p q) x y r)) ∙ r.2.1)
-    no_colon none (rule_where k p q u) y r ends = no_behind Colon a r.2.0 none (sym (behind_is (rule_where k p q u) y (headed (rule_where k p q u) x y r)) ∙ r.2.1)
+    no_colon none (rule k p q) y r ends = no_after Colon a r.2.0 none (sym (after_is (rule k p q) y (headed (rule k p q) x y r)) ∙ r.2.1)
+    no_colon none (rule_where k p q u) y r ends = no_after Colon a r.2.0 none (sym (after_is (rule_where k p q u) y (headed (rule_where k p q u) x y r)) ∙ r.2.1)
 
-    module _ (b : List Token) (colon : behind_mark Colon a ≡ Some b) where
+    module _ (b : List Token) (colon : after_mark Colon a ≡ Some b) where
       -- the rule after the colon
       record Ruled (w : Defined) (y : List Token) : Type 0 where
         pub header : header_of w ≡ h
@@ -275,13 +275,13 @@ module _ (x : List Token) (h : Header) (a : List Token) (at_header : header_at x
           let t : Headed (rule k p q) x y = headed (rule k p q) x y r in
           record {
             header = header_is (rule k p q) y t;
-            reads = subst (λ l. ReadsRule (rule k p q) l y) (same_behind Colon a r.2.0 b colon (sym (behind_is (rule k p q) y t) ∙ r.2.1)) r.2.2;
+            reads = subst (λ l. ReadsRule (rule k p q) l y) (same_after Colon a r.2.0 b colon (sym (after_is (rule k p q) y t) ∙ r.2.1)) r.2.2;
           }
       ruled (rule_where k p q u) y r =
           let t : Headed (rule_where k p q u) x y = headed (rule_where k p q u) x y r in
           record {
             header = header_is (rule_where k p q u) y t;
-            reads = subst (λ l. ReadsRule (rule_where k p q u) l y) (same_behind Colon a r.2.0 b colon (sym (behind_is (rule_where k p q u) y t) ∙ r.2.1)) r.2.2;
+            reads = subst (λ l. ReadsRule (rule_where k p q u) l y) (same_after Colon a r.2.0 b colon (sym (after_is (rule_where k p q u) y t) ∙ r.2.1)) r.2.2;
           }
 
       defined_by : (w : Defined) (y : List Token) → header_of w ≡ h → ReadsRule w b y → ReadsDefined w x y

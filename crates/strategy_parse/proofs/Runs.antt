@@ -23,7 +23,7 @@ use Rattle.strategy_parse.specs.declared.parser.state.StrategyGroup.TheVariants.
 use Rattle.strategy_parse.specs.declared.parser.state.PatternGroup.{PatternGroup}
 use Rattle.strategy_parse.specs.declared.parser.state.PatternGroup.TheVariants.{Application as PApplication, List as PList, Tuple as PTuple, Annotations, Terms, Prim}
 use Rattle.strategy_tokens.specs.Marks.{is_mark, is_word}
-use Rattle.strategy_parse.specs.inside.Parser.{Next, stuck, behind, behind_arrow, behind_choice, in_frame, behind_element, behind_pattern, pattern_in_frame, behind_one, step, goes, ends}
+use Rattle.strategy_parse.specs.inside.Parser.{Next, stuck, after, after_arrow, after_choice, in_frame, after_element, after_pattern, pattern_in_frame, after_one, step, goes, ends}
 use Rattle.strategy_tokens.proofs.MarkLemmas.{mark_is, word_is}
 
 abbrev pub at_end : Next → Option Strategy
@@ -115,7 +115,7 @@ abbrev pub Refuses : Next → Type 0
 Refuses n = (K : ParserState → List ParserFrame → Option Strategy) → go_on K n ≡ None
 
 module _ (t : Token) (h : NoEnd t) where
-  group-stuck : (g : StrategyGroup) (done : List Strategy) (S : List ParserFrame) → Refuses (behind_element g done S t)
+  group-stuck : (g : StrategyGroup) (done : List Strategy) (S : List ParserFrame) → Refuses (after_element g done S t)
   group-stuck Round done S K = rw (h.comma, h.bar, h.round) refl
   group-stuck Square done S K = rw (h.comma, h.bar, h.square) refl
   group-stuck (Arguments f) done S K = rw (h.comma, h.bar, h.round) refl
@@ -133,7 +133,7 @@ module _ (t : Token) (h : NoEnd t) where
   frame-stuck (Strategies g done) s S K = group-stuck g (done ++ s ∷ []) S K
   frame-stuck (SquareTail done) s S K = rw h.square refl
 
-  pub choice-stuck : (S : List ParserFrame) (s : Strategy) → Refuses (behind_choice s S t)
+  pub choice-stuck : (S : List ParserFrame) (s : Strategy) → Refuses (after_choice s S t)
   choice-stuck [] s K = refl
   choice-stuck (Operand Otherwise b ∷ []) s K = refl
   choice-stuck (Operand Otherwise b ∷ (Operand Guarded a ∷ S)) s K = choice-stuck S (syntax.guard a b s) K
@@ -149,7 +149,7 @@ module _ (t : Token) (h : NoEnd t) where
   choice-stuck (ForPattern F ∷ S) s K = refl
 
   module _ (choice : is_mark LeftChoice t ≡ false) (lesser : is_mark Less t ≡ false) where
-    pub arrow-stuck : (S : List ParserFrame) (s : Strategy) → Refuses (behind_arrow s S t)
+    pub arrow-stuck : (S : List ParserFrame) (s : Strategy) → Refuses (after_arrow s S t)
     arrow-stuck [] s K = rw (choice, lesser) refl
     arrow-stuck (Operand Before a ∷ S) s K = arrow-stuck S (syntax.seq a s) K
     arrow-stuck (Operand Guarded a ∷ S) s K = rw h.plus refl
@@ -159,10 +159,10 @@ module _ (t : Token) (h : NoEnd t) where
     arrow-stuck (ForPattern F ∷ S) s K = rw (choice, lesser) refl
 
     module _ (fat : is_mark FatArrow t ≡ false) (semi : is_mark Semicolon t ≡ false) where
-      pub behind-stuck : (S : List ParserFrame) (s : Strategy) → Refuses (behind s S t)
-      behind-stuck S s K = rw (fat, semi) (arrow-stuck S s K)
+      pub after-stuck : (S : List ParserFrame) (s : Strategy) → Refuses (after s S t)
+      after-stuck S s K = rw (fat, semi) (arrow-stuck S s K)
 
-      one-stuck : (g : PatternGroup) (ps : List Pattern) (S : List ParserFrame) → Refuses (behind_one g ps S t)
+      one-stuck : (g : PatternGroup) (ps : List Pattern) (S : List ParserFrame) → Refuses (after_one g ps S t)
       one-stuck (PApplication f) ps S K = rw (h.comma, h.round, h.bar) refl
       one-stuck PList ps S K = rw (h.comma, h.square, h.bar) refl
       one-stuck PTuple ps S K = rw (h.comma, h.round, h.bar) refl
@@ -171,16 +171,16 @@ module _ (t : Token) (h : NoEnd t) where
       one-stuck (Prim f) ps S K = rw (h.comma, h.round, h.bar) refl
 
       pattern_frame-stuck : (F : PatternFrame) (p : Pattern) (S : List ParserFrame) → Refuses (pattern_in_frame p F S t)
-      pattern_frame-stuck Match p S K = behind-stuck S (syntax.matches p) K
-      pattern_frame-stuck Build p S K = behind-stuck S (syntax.builds p) K
-      pattern_frame-stuck (Applied s) p S K = behind-stuck S (syntax.seq (syntax.builds p) s) K
-      pattern_frame-stuck (Matched s) p S K = behind-stuck S (syntax.seq s (syntax.matches p)) K
+      pattern_frame-stuck Match p S K = after-stuck S (syntax.matches p) K
+      pattern_frame-stuck Build p S K = after-stuck S (syntax.builds p) K
+      pattern_frame-stuck (Applied s) p S K = after-stuck S (syntax.seq (syntax.builds p) s) K
+      pattern_frame-stuck (Matched s) p S K = after-stuck S (syntax.seq s (syntax.matches p)) K
       pattern_frame-stuck ClosureLeft p S K = rw h.arrow refl
       pattern_frame-stuck (ClosureRight l) p S K = rw (h.backslash, h.where_word) refl
       pattern_frame-stuck (Patterns g ps) p S K = one-stuck g (ps ++ p ∷ []) S K
       pattern_frame-stuck (PatternTail ps) p S K = rw h.square refl
 
-      pub pattern-stuck : (S : List ParserFrame) (p : Pattern) → Refuses (behind_pattern p S t)
+      pub pattern-stuck : (S : List ParserFrame) (p : Pattern) → Refuses (after_pattern p S t)
       pattern-stuck [] p K = refl
       pattern-stuck (At x ∷ S) p K = pattern-stuck S (at x p) K
       pattern-stuck (ForPattern F ∷ S) p K = pattern_frame-stuck F p S K

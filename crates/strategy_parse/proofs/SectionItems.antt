@@ -32,7 +32,7 @@ signatures_item (sorts ss ∷ ps) x y m r l i = item_is x r.1.0 KSorts r.1.1 i
 signatures_item (constructors ds ∷ ps) x y m r l i = item_is x r.1.0 KConstructors r.1.1 i
 
 pub signature_item : (x : List Token) (m : Module) → SignatureLeft x m → IsItem x → ⊥
-signature_item x m l i = signatures_item l.parts x l.rest l.behind l.reads l.left i
+signature_item x m l i = signatures_item l.parts x l.rest l.after l.reads l.left i
 
 -- what comes next in a module: an identifier, a reserved word that begins a part, or the end
 abbrev WordOrEnd : List Token → Type 0
@@ -72,11 +72,11 @@ apart_end x (inl h) = subst DeclarationEnds (sym h.2) (record { round = refl; st
 apart_end x (inr h) = subst DeclarationEnds (sym h) (record { round = refl; star = refl; arrow = refl })
 
 declarations_apart : (ds : List Declaration) (x y : List Token) (m : Module) → ReadsDeclarations ds x y → SignatureLeft y m → DeclarationEnds x
-declarations_apart [] x y m r l = subst DeclarationEnds r (apart_end y (signature_front l.parts y l.rest l.behind l.reads l.left))
+declarations_apart [] x y m r l = subst DeclarationEnds r (apart_end y (signature_front l.parts y l.rest l.after l.reads l.left))
 declarations_apart (d ∷ ds) x y m r l = apart_colon x (declaration_front d x r.0 r.1)
 
 sorts_apart : (ss : List Sort) (x y : List Token) (m : Module) → ReadsSorts ss x y → SignatureLeft y m → DeclarationEnds x
-sorts_apart [] x y m r l = subst DeclarationEnds r (apart_end y (signature_front l.parts y l.rest l.behind l.reads l.left))
+sorts_apart [] x y m r l = subst DeclarationEnds r (apart_end y (signature_front l.parts y l.rest l.after l.reads l.left))
 sorts_apart (s ∷ ss) x y m r l = apart_named x (sort_named s x r.0 r.1)
 
 -- an item comes: the item and the rest after it
@@ -85,9 +85,9 @@ pub record DefinitionStep (x : List Token) (m : Module) : Type 0 where
   pub rest : List Token
   pub reads : ReadsDefined definition x rest
   pub ends : DefinitionEnds rest
-  pub behind : Module
-  pub left : DefinitionsLeft rest behind
-  pub gives : joined [] (core_definition definition ∷ []) behind ≡ m
+  pub after : Module
+  pub left : DefinitionsLeft rest after
+  pub gives : joined [] (core_definition definition ∷ []) after ≡ m
 
 definitions_items : (ds : List Defined) (x y : List Token) (m : Module) → ReadsDefinitions ds x y → (k : Module) → SectionsLeft y k → joined [] (core_definitions ds) k ≡ m → IsItem x → DefinitionStep x m
 definitions_items [] x y m r k l e i = absurd (outside_item y k l (subst IsItem (sym r) i))
@@ -96,20 +96,20 @@ definitions_items (d ∷ ds) x y m r k l e i = record {
   rest = r.0;
   reads = r.1;
   ends = definitions_end_at ds r.0 y k r.2 l;
-  behind = joined [] (core_definitions ds) k;
-  left = record { definitions = ds; rest = y; reads = r.2; behind = k; left = l; gives = refl };
+  after = joined [] (core_definitions ds) k;
+  left = record { definitions = ds; rest = y; reads = r.2; after = k; left = l; gives = refl };
   gives = e;
 }
 
 pub definition_step : (x : List Token) (m : Module) → DefinitionsLeft x m → IsItem x → DefinitionStep x m
-definition_step x m l i = definitions_items l.definitions x l.rest m l.reads l.behind l.left l.gives i
+definition_step x m l i = definitions_items l.definitions x l.rest m l.reads l.after l.left l.gives i
 
 pub definition_back : (d : Defined) (x y : List Token) (m : Module) → ReadsDefined d x y → DefinitionsLeft y m → DefinitionsLeft x (joined [] (core_definition d ∷ []) m)
 definition_back d x y m r l = record {
   definitions = d ∷ l.definitions;
   rest = l.rest;
   reads = (y, r, l.reads);
-  behind = l.behind;
+  after = l.after;
   left = l.left;
   gives = ap (joined [] (core_definition d ∷ [])) l.gives;
 }
@@ -119,9 +119,9 @@ pub record DeclarationStep (x : List Token) (m : Module) : Type 0 where
   pub rest : List Token
   pub reads : ReadsDeclaration declaration x rest
   pub ends : DeclarationEnds rest
-  pub behind : Module
-  pub left : DeclarationsLeft rest behind
-  pub gives : joined (declared declaration) [] behind ≡ m
+  pub after : Module
+  pub left : DeclarationsLeft rest after
+  pub gives : joined (declared declaration) [] after ≡ m
 
 declarations_items : (ds : List Declaration) (x y : List Token) (m : Module) → ReadsDeclarations ds x y → (k : Module) → SignatureLeft y k → joined (flat_map declared ds) [] k ≡ m → IsItem x → DeclarationStep x m
 declarations_items [] x y m r k l e i = absurd (signature_item y k l (subst IsItem (sym r) i))
@@ -130,22 +130,22 @@ declarations_items (d ∷ ds) x y m r k l e i = record {
   rest = r.0;
   reads = r.1;
   ends = declarations_apart ds r.0 y k r.2 l;
-  behind = joined (flat_map declared ds) [] k;
-  left = record { declarations = ds; rest = y; reads = r.2; behind = k; left = l; gives = refl };
+  after = joined (flat_map declared ds) [] k;
+  left = record { declarations = ds; rest = y; reads = r.2; after = k; left = l; gives = refl };
   gives = joined-joined (declared d) (flat_map declared ds) [] [] k ∙ e;
 }
 
 pub declaration_step : (x : List Token) (m : Module) → DeclarationsLeft x m → IsItem x → DeclarationStep x m
-declaration_step x m l i = declarations_items l.declarations x l.rest m l.reads l.behind l.left l.gives i
+declaration_step x m l i = declarations_items l.declarations x l.rest m l.reads l.after l.left l.gives i
 
 pub declaration_back : (d : Declaration) (x y : List Token) (m : Module) → ReadsDeclaration d x y → DeclarationsLeft y m → DeclarationsLeft x (joined (declared d) [] m)
 declaration_back d x y m r l = record {
   declarations = d ∷ l.declarations;
   rest = l.rest;
   reads = (y, r, l.reads);
-  behind = l.behind;
+  after = l.after;
   left = l.left;
-  gives = sym (joined-joined (declared d) (flat_map declared l.declarations) [] [] l.behind) ∙ ap (joined (declared d) []) l.gives;
+  gives = sym (joined-joined (declared d) (flat_map declared l.declarations) [] [] l.after) ∙ ap (joined (declared d) []) l.gives;
 }
 
 pub record SortStep (x : List Token) (m : Module) : Type 0 where

@@ -26,28 +26,28 @@ use Rattle.strategy_parse.proofs.SectionItems.{outside_item, signature_item, Def
 module _ (p : Part) (cs : List Constructor) (ds : List Definition) (m : Module) where
   pub word_forth : (w : Keyword) (q : Part) (x : List Token) → next_part p w ≡ Some q → SectionStands p cs ds (Reserved w ∷ x) m → SectionStands q cs ds x m
   word_forth w q x e s =
-      let t : WordStep p w x s.behind = word_step p w x s.behind s.left in
-      record { behind = s.behind; left = subst (λ r. Left r x s.behind) (some-is t.part q (sym t.is ∙ e)) t.left; gives = s.gives }
+      let t : WordStep p w x s.after = word_step p w x s.after s.left in
+      record { after = s.after; left = subst (λ r. Left r x s.after) (some-is t.part q (sym t.is ∙ e)) t.left; gives = s.gives }
 
-  pub word_behind : (w : Keyword) (q : Part) (x : List Token) → next_part p w ≡ Some q → SectionStands q cs ds x m → SectionStands p cs ds (Reserved w ∷ x) m
-  word_behind w q x e s = record { behind = s.behind; left = word_back p w q x s.behind e s.left; gives = s.gives }
+  pub word_after : (w : Keyword) (q : Part) (x : List Token) → next_part p w ≡ Some q → SectionStands q cs ds x m → SectionStands p cs ds (Reserved w ∷ x) m
+  word_after w q x e s = record { after = s.after; left = word_back p w q x s.after e s.left; gives = s.gives }
 
   pub word_none : (w : Keyword) (x : List Token) → next_part p w ≡ None → SectionStands p cs ds (Reserved w ∷ x) m → ⊥
   word_none w x e s =
-      let t : WordStep p w x s.behind = word_step p w x s.behind s.left in
+      let t : WordStep p w x s.after = word_step p w x s.after s.left in
       let no : ◌≡◌ {A = Option Part} None (Some t.part) = sym e ∙ t.is in
       cc
 
   pub end_forth : SectionStands p cs ds [] m → m ≡ record { constructors = cs; definitions = ds }
   unfolding nothing
   end_forth s =
-      sym s.gives ∙ ap (joined cs ds) (sym (left_end p s.behind s.left))
+      sym s.gives ∙ ap (joined cs ds) (sym (left_end p s.after s.left))
       ∙ (λ i. record { constructors = append-nil cs i; definitions = append-nil ds i })
 
-  pub end_behind : m ≡ record { constructors = cs; definitions = ds } → SectionStands p cs ds [] m
+  pub end_after : m ≡ record { constructors = cs; definitions = ds } → SectionStands p cs ds [] m
   unfolding nothing
-  end_behind e = record {
-    behind = nothing;
+  end_after e = record {
+    after = nothing;
     left = left_nothing p;
     gives = (λ i. record { constructors = append-nil cs i; definitions = append-nil ds i }) ∙ sym e;
   }
@@ -57,14 +57,14 @@ module _ (p : Part) (cs : List Constructor) (ds : List Definition) (m : Module) 
 module _ (cs : List Constructor) (ds : List Definition) (x : List Token) (m : Module) (item : IsItem x) where
   pub sort_forth : (y : List Token) → sort_at x ≡ Some y → SectionStands Sorts cs ds x m → SectionStands Sorts cs ds y m
   sort_forth y h s =
-      let t : SortStep x s.behind = sort_step x s.behind s.left item in
+      let t : SortStep x s.after = sort_step x s.after s.left item in
       let same : ◌≡◌ {A = Option (List Token)} (Some t.rest) (Some y) = sym (sort_alone t.sort x t.rest t.reads t.ends.round t.ends.star) ∙ h in
       let rest : t.rest ≡ y = cc in
-      record { behind = s.behind; left = subst (λ l. SortsLeft l s.behind) rest t.left; gives = s.gives }
+      record { after = s.after; left = subst (λ l. SortsLeft l s.after) rest t.left; gives = s.gives }
 
   pub sort_none : sort_at x ≡ None → SectionStands Sorts cs ds x m → ⊥
   sort_none h s =
-      let t : SortStep x s.behind = sort_step x s.behind s.left item in
+      let t : SortStep x s.after = sort_step x s.after s.left item in
       let no : ◌≡◌ {A = Option (List Token)} None (Some t.rest) = sym h ∙ sort_alone t.sort x t.rest t.reads t.ends.round t.ends.star in
       cc
 
@@ -73,76 +73,76 @@ module _ (cs : List Constructor) (ds : List Definition) (x : List Token) (m : Mo
 
   pub declaration_forth : (es : List Constructor) (y : List Token) → declaration_at x ≡ Some (es, y) → SectionStands Constructors cs ds x m → SectionStands Constructors (cs ++ es) ds y m
   declaration_forth es y h s =
-      let t : DeclarationStep x s.behind = declaration_step x s.behind s.left item in
+      let t : DeclarationStep x s.after = declaration_step x s.after s.left item in
       let pair : ◌≡◌ {A = List Constructor × List Token} (declared t.declaration, t.rest) (es, y) = declared-same t.declaration es y t.rest (sym (declaration_named t.declaration x t.rest t.reads t.ends) ∙ h) in
       record {
-        behind = t.behind;
-        left = subst (λ l. DeclarationsLeft l t.behind) (ap (λ (q : List Constructor × List Token). q.1) pair) t.left;
+        after = t.after;
+        left = subst (λ l. DeclarationsLeft l t.after) (ap (λ (q : List Constructor × List Token). q.1) pair) t.left;
         gives =
-            ap (λ l. joined (cs ++ l) ds t.behind) (sym (ap (λ (q : List Constructor × List Token). q.0) pair))
-            ∙ ap (λ l. joined (cs ++ declared t.declaration) l t.behind) (sym (append-nil ds))
-            ∙ sym (joined-joined cs (declared t.declaration) ds [] t.behind)
+            ap (λ l. joined (cs ++ l) ds t.after) (sym (ap (λ (q : List Constructor × List Token). q.0) pair))
+            ∙ ap (λ l. joined (cs ++ declared t.declaration) l t.after) (sym (append-nil ds))
+            ∙ sym (joined-joined cs (declared t.declaration) ds [] t.after)
             ∙ ap (joined cs ds) t.gives ∙ s.gives;
       }
 
   pub declaration_none : declaration_at x ≡ None → SectionStands Constructors cs ds x m → ⊥
   declaration_none h s =
-      let t : DeclarationStep x s.behind = declaration_step x s.behind s.left item in
+      let t : DeclarationStep x s.after = declaration_step x s.after s.left item in
       let no : ◌≡◌ {A = DeclaredLeft} None (Some (declared t.declaration, t.rest)) = sym h ∙ declaration_named t.declaration x t.rest t.reads t.ends in
       cc
 
   pub definition_forth : (d : Definition) (y : List Token) → ((w : Defined) (z : List Token) → ReadsDefined w x z → DefinitionEnds z → (core_definition w ≡ d) × (z ≡ y))
       → SectionStands Definitions cs ds x m → SectionStands Definitions cs (ds ++ d ∷ []) y m
   definition_forth d y only s =
-      let t : DefinitionStep x s.behind = definition_step x s.behind s.left item in
+      let t : DefinitionStep x s.after = definition_step x s.after s.left item in
       let same = only t.definition t.rest t.reads t.ends in
       record {
-        behind = t.behind;
-        left = subst (λ l. DefinitionsLeft l t.behind) same.1 t.left;
+        after = t.after;
+        left = subst (λ l. DefinitionsLeft l t.after) same.1 t.left;
         gives =
-            ap (λ l. joined cs (ds ++ l ∷ []) t.behind) (sym same.0)
-            ∙ ap (λ l. joined l (ds ++ core_definition t.definition ∷ []) t.behind) (sym (append-nil cs))
-            ∙ sym (joined-joined cs [] ds (core_definition t.definition ∷ []) t.behind)
+            ap (λ l. joined cs (ds ++ l ∷ []) t.after) (sym same.0)
+            ∙ ap (λ l. joined l (ds ++ core_definition t.definition ∷ []) t.after) (sym (append-nil cs))
+            ∙ sym (joined-joined cs [] ds (core_definition t.definition ∷ []) t.after)
             ∙ ap (joined cs ds) t.gives ∙ s.gives;
       }
 
   pub definition_none : ((w : Defined) (z : List Token) → ReadsDefined w x z → DefinitionEnds z → ⊥) → SectionStands Definitions cs ds x m → ⊥
   definition_none none s =
-      let t : DefinitionStep x s.behind = definition_step x s.behind s.left item in
+      let t : DefinitionStep x s.after = definition_step x s.after s.left item in
       none t.definition t.rest t.reads t.ends
 
   pub no_outside : SectionStands Outside cs ds x m → ⊥
-  no_outside s = outside_item x s.behind s.left item
+  no_outside s = outside_item x s.after s.left item
 
   pub no_signature : SectionStands InSignature cs ds x m → ⊥
-  no_signature s = signature_item x s.behind s.left item
+  no_signature s = signature_item x s.after s.left item
 
 module _ (cs : List Constructor) (ds : List Definition) (x y : List Token) (m : Module) where
-  pub sort_behind : sort_at x ≡ Some y → SectionStands Sorts cs ds y m → SectionStands Sorts cs ds x m
-  sort_behind h s =
+  pub sort_after : sort_at x ≡ Some y → SectionStands Sorts cs ds y m → SectionStands Sorts cs ds x m
+  sort_after h s =
       let found = sort_found x y h in
-      record { behind = s.behind; left = sort_back found.0 x y s.behind found.1 s.left; gives = s.gives }
+      record { after = s.after; left = sort_back found.0 x y s.after found.1 s.left; gives = s.gives }
 
-  pub declaration_behind : (es : List Constructor) → declaration_at x ≡ Some (es, y) → SectionStands Constructors (cs ++ es) ds y m → SectionStands Constructors cs ds x m
-  declaration_behind es h s =
+  pub declaration_after : (es : List Constructor) → declaration_at x ≡ Some (es, y) → SectionStands Constructors (cs ++ es) ds y m → SectionStands Constructors cs ds x m
+  declaration_after es h s =
       let found : DeclarationFound x es y = declaration_found x es y h in
       record {
-        behind = joined (declared found.declaration) [] s.behind;
-        left = declaration_back found.declaration x y s.behind found.reads s.left;
+        after = joined (declared found.declaration) [] s.after;
+        left = declaration_back found.declaration x y s.after found.reads s.left;
         gives =
-            joined-joined cs (declared found.declaration) ds [] s.behind
-            ∙ ap (λ l. joined (cs ++ declared found.declaration) l s.behind) (append-nil ds)
-            ∙ ap (λ l. joined (cs ++ l) ds s.behind) found.is ∙ s.gives;
+            joined-joined cs (declared found.declaration) ds [] s.after
+            ∙ ap (λ l. joined (cs ++ declared found.declaration) l s.after) (append-nil ds)
+            ∙ ap (λ l. joined (cs ++ l) ds s.after) found.is ∙ s.gives;
       }
 
-  pub definition_behind : (d : Definition) → DefinitionGives x d y → SectionStands Definitions cs (ds ++ d ∷ []) y m → SectionStands Definitions cs ds x m
-  definition_behind d g s = record {
-    behind = joined [] (core_definition g.written ∷ []) s.behind;
-    left = definition_back g.written x y s.behind g.reads s.left;
+  pub definition_after : (d : Definition) → DefinitionGives x d y → SectionStands Definitions cs (ds ++ d ∷ []) y m → SectionStands Definitions cs ds x m
+  definition_after d g s = record {
+    after = joined [] (core_definition g.written ∷ []) s.after;
+    left = definition_back g.written x y s.after g.reads s.left;
     gives =
-        joined-joined cs [] ds (core_definition g.written ∷ []) s.behind
-        ∙ ap (λ l. joined l (ds ++ core_definition g.written ∷ []) s.behind) (append-nil cs)
-        ∙ ap (λ l. joined cs (ds ++ l ∷ []) s.behind) g.is ∙ s.gives;
+        joined-joined cs [] ds (core_definition g.written ∷ []) s.after
+        ∙ ap (λ l. joined l (ds ++ core_definition g.written ∷ []) s.after) (append-nil cs)
+        ∙ ap (λ l. joined cs (ds ++ l ∷ []) s.after) g.is ∙ s.gives;
   }
 
 -- ---- as the code has it
@@ -155,7 +155,7 @@ module _ (cs ks : List Constructor) (ds : List Definition) (x : List Token) (m :
   declaration_taken i s = subst (λ l. SectionStands Constructors l ds y m) (sym all) (declaration_forth cs ds x m i (listed found) y h s)
 
   pub declaration_given : SectionStands Constructors ks ds y m → SectionStands Constructors cs ds x m
-  declaration_given s = declaration_behind cs ds x y m (listed found) h (subst (λ l. SectionStands Constructors l ds y m) all s)
+  declaration_given s = declaration_after cs ds x y m (listed found) h (subst (λ l. SectionStands Constructors l ds y m) all s)
 
 pub none_listed : (cs : List Constructor) (found : Option Constructor) → found ≡ None → cs ≡ cs ++ listed found
 none_listed cs found e = sym (ap (λ o. cs ++ listed o) e ∙ append-nil cs)
@@ -170,7 +170,7 @@ pub word_goes : (p : Part) (cs : List Constructor) (ds : List Definition) (m : M
 word_goes p cs ds m x rest t w e h s = subst (λ l. SectionStands p cs ds l m) (sym (e ∙ ap (λ u. u ∷ rest) h)) s
 
 pub all_read : (p : Part) (cs : List Constructor) (ds : List Definition) (m : Module) (x : List Token) → x ≡ [] → m ≡ record { constructors = cs; definitions = ds } → SectionStands p cs ds x m
-all_read p cs ds m x e h = subst (λ l. SectionStands p cs ds l m) (sym e) (end_behind p cs ds m h)
+all_read p cs ds m x e h = subst (λ l. SectionStands p cs ds l m) (sym e) (end_after p cs ds m h)
 
 pub read_all : (p : Part) (cs : List Constructor) (ds : List Definition) (m r : Module) (x : List Token) → x ≡ [] → m ≡ record { constructors = cs; definitions = ds } → SectionStands p cs ds x r → r ≡ m
 read_all p cs ds m r x e h s = end_forth p cs ds r (subst (λ l. SectionStands p cs ds l r) e s) ∙ sym h

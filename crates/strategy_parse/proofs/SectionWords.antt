@@ -100,13 +100,13 @@ outside_step : (ss : List Section) (w : Keyword) (x : List Token) (m : Module) �
 outside_step [] w x m r e = absurd (cc)
 outside_step (signature ps ∷ ss) w x m r e =
     to_part KSignature InSignature w x r.1.0 m (λ p. refl) r.1.1
-    (record { parts = ps; rest = r.0; reads = r.1.2; behind = core_module ss; left = record { sections = ss; reads = r.2; gives = refl }; gives = e })
+    (record { parts = ps; rest = r.0; reads = r.1.2; after = core_module ss; left = record { sections = ss; reads = r.2; gives = refl }; gives = e })
 outside_step (definitions ds ∷ ss) w x m (v, (a, (inl k), reads), rest) e =
     to_part Rules Definitions w x a m (λ p. refl) k
-    (record { definitions = ds; rest = v; reads = reads; behind = core_module ss; left = record { sections = ss; reads = rest; gives = refl }; gives = e })
+    (record { definitions = ds; rest = v; reads = reads; after = core_module ss; left = record { sections = ss; reads = rest; gives = refl }; gives = e })
 outside_step (definitions ds ∷ ss) w x m (v, (a, (inr k), reads), rest) e =
     to_part Strategies Definitions w x a m (λ p. refl) k
-    (record { definitions = ds; rest = v; reads = reads; behind = core_module ss; left = record { sections = ss; reads = rest; gives = refl }; gives = e })
+    (record { definitions = ds; rest = v; reads = reads; after = core_module ss; left = record { sections = ss; reads = rest; gives = refl }; gives = e })
 
 from_any : (p : Part) (w : Keyword) (x : List Token) (m : Module) → AnyStep w x m → WordStep p w x m
 from_any p w x m s = record { part = s.part; is = s.is p; left = s.left }
@@ -124,7 +124,7 @@ signature_step p h (sorts ss ∷ ps) w x y m r k l e = record {
   part = Sorts;
   is = ap (next_part p) (word-is w KSorts x r.1.0 r.1.1) ∙ h Sorts;
   left = subst (λ z. SortsLeft z m) (sym (rest-is w KSorts x r.1.0 r.1.1))
-      (record { sorts = ss; rest = r.0; reads = r.1.2; left = record { parts = ps; rest = y; reads = r.2; behind = k; left = l; gives = e } });
+      (record { sorts = ss; rest = r.0; reads = r.1.2; left = record { parts = ps; rest = y; reads = r.2; after = k; left = l; gives = e } });
 }
 signature_step p h (constructors ds ∷ ps) w x y m r k l e = record {
   part = Constructors;
@@ -134,14 +134,14 @@ signature_step p h (constructors ds ∷ ps) w x y m r k l e = record {
         declarations = ds;
         rest = r.0;
         reads = r.1.2;
-        behind = joined (flat_map declared_in_part ps) [] k;
-        left = record { parts = ps; rest = y; reads = r.2; behind = k; left = l; gives = refl };
+        after = joined (flat_map declared_in_part ps) [] k;
+        left = record { parts = ps; rest = y; reads = r.2; after = k; left = l; gives = refl };
         gives = joined-joined (flat_map declared ds) (flat_map declared_in_part ps) [] [] k ∙ e;
       });
 }
 
 in_signature_step : (p : Part) → IsInSignature p → (w : Keyword) (x y : List Token) (m : Module) → y ≡ Reserved w ∷ x → SignatureLeft y m → WordStep p w x m
-in_signature_step p h w x y m e l = signature_step p h l.parts w x l.rest m (subst (λ z. ReadsSignatureParts l.parts z l.rest) e l.reads) l.behind l.left l.gives
+in_signature_step p h w x y m e l = signature_step p h l.parts w x l.rest m (subst (λ z. ReadsSignatureParts l.parts z l.rest) e l.reads) l.after l.left l.gives
 
 sorts_step : (ss : List Sort) (w : Keyword) (x y : List Token) (m : Module) → ReadsSorts ss (Reserved w ∷ x) y → SignatureLeft y m → WordStep Sorts w x m
 sorts_step [] w x y m r l = in_signature_step Sorts (λ q. refl) w x y m r l
@@ -159,8 +159,8 @@ pub word_step : (p : Part) (w : Keyword) (x : List Token) (m : Module) → Left 
 word_step Outside w x m l = sections_step Outside w x (Reserved w ∷ x) m refl l
 word_step InSignature w x m l = in_signature_step InSignature (λ q. refl) w x (Reserved w ∷ x) m refl l
 word_step Sorts w x m l = sorts_step l.sorts w x l.rest m l.reads l.left
-word_step Constructors w x m l = declarations_step l.declarations w x l.rest m l.reads l.behind l.left l.gives
-word_step Definitions w x m l = definitions_step l.definitions w x l.rest m l.reads l.behind l.left l.gives
+word_step Constructors w x m l = declarations_step l.declarations w x l.rest m l.reads l.after l.left l.gives
+word_step Definitions w x m l = definitions_step l.definitions w x l.rest m l.reads l.after l.left l.gives
 
 -- ... and back
 outside_signature : (x : List Token) (m : Module) → SignatureLeft x m → SectionsLeft (Reserved KSignature ∷ x) m
@@ -185,21 +185,21 @@ outside_strategies x m l = record {
 }
 
 signature_of : (x : List Token) (m : Module) → SectionsLeft x m → SignatureLeft x m
-signature_of x m l = record { parts = []; rest = x; reads = refl; behind = m; left = l; gives = refl }
+signature_of x m l = record { parts = []; rest = x; reads = refl; after = m; left = l; gives = refl }
 
 from_outside : (p : Part) (x : List Token) (m : Module) → SectionsLeft x m → Left p x m
 from_outside Outside x m l = l
 from_outside InSignature x m l = signature_of x m l
 from_outside Sorts x m l = record { sorts = []; rest = x; reads = refl; left = signature_of x m l }
-from_outside Constructors x m l = record { declarations = []; rest = x; reads = refl; behind = m; left = signature_of x m l; gives = refl }
-from_outside Definitions x m l = record { definitions = []; rest = x; reads = refl; behind = m; left = l; gives = refl }
+from_outside Constructors x m l = record { declarations = []; rest = x; reads = refl; after = m; left = signature_of x m l; gives = refl }
+from_outside Definitions x m l = record { definitions = []; rest = x; reads = refl; after = m; left = l; gives = refl }
 
 signature_sorts : (x : List Token) (m : Module) → SortsLeft x m → SignatureLeft (Reserved KSorts ∷ x) m
 signature_sorts x m l = record {
   parts = sorts l.sorts ∷ l.left.parts;
   rest = l.left.rest;
   reads = (l.rest, (x, refl, l.reads), l.left.reads);
-  behind = l.left.behind;
+  after = l.left.after;
   left = l.left.left;
   gives = l.left.gives;
 }
@@ -209,10 +209,10 @@ signature_constructors x m l = record {
   parts = constructors l.declarations ∷ l.left.parts;
   rest = l.left.rest;
   reads = (l.rest, (x, refl, l.reads), l.left.reads);
-  behind = l.left.behind;
+  after = l.left.after;
   left = l.left.left;
   gives =
-      sym (joined-joined (flat_map declared l.declarations) (flat_map declared_in_part l.left.parts) [] [] l.left.behind)
+      sym (joined-joined (flat_map declared l.declarations) (flat_map declared_in_part l.left.parts) [] [] l.left.after)
       ∙ ap (joined (flat_map declared l.declarations) []) l.left.gives ∙ l.gives;
 }
 
@@ -220,7 +220,7 @@ from_signature : (p q : Part) (x : List Token) (m : Module) → in_signature p q
 from_signature Outside q x m e l = absurd (cc)
 from_signature InSignature q x m e l = l
 from_signature Sorts q x m e l = record { sorts = []; rest = x; reads = refl; left = l }
-from_signature Constructors q x m e l = record { declarations = []; rest = x; reads = refl; behind = m; left = l; gives = refl }
+from_signature Constructors q x m e l = record { declarations = []; rest = x; reads = refl; after = m; left = l; gives = refl }
 from_signature Definitions q x m e l = absurd (cc)
 
 in_signature-is : (p q r : Part) → in_signature p q ≡ Some r → q ≡ r
@@ -263,7 +263,7 @@ signature_end (sorts ss ∷ ps) y m r k l e = let no : ◌≡◌ {A = List Token
 signature_end (constructors ds ∷ ps) y m r k l e = let no : ◌≡◌ {A = List Token} [] (Reserved KConstructors ∷ r.1.0) = r.1.1 in absurd (cc)
 
 signature_done : (x : List Token) (m : Module) → x ≡ [] → SignatureLeft x m → nothing ≡ m
-signature_done x m e l = signature_end l.parts l.rest m (subst (λ z. ReadsSignatureParts l.parts z l.rest) e l.reads) l.behind l.left l.gives
+signature_done x m e l = signature_end l.parts l.rest m (subst (λ z. ReadsSignatureParts l.parts z l.rest) e l.reads) l.after l.left l.gives
 
 sorts_end : (ss : List Sort) (y : List Token) (m : Module) → ReadsSorts ss [] y → SignatureLeft y m → nothing ≡ m
 sorts_end [] y m r l = signature_done y m r l
@@ -279,10 +279,10 @@ definitions_end (d ∷ ds) y m r k l e = absurd (no_end [] refl (defined_named d
 
 pub left_end : (p : Part) (m : Module) → Left p [] m → nothing ≡ m
 left_end Outside m l = sections_end l.sections m l.reads l.gives
-left_end InSignature m l = signature_end l.parts l.rest m l.reads l.behind l.left l.gives
+left_end InSignature m l = signature_end l.parts l.rest m l.reads l.after l.left l.gives
 left_end Sorts m l = sorts_end l.sorts l.rest m l.reads l.left
-left_end Constructors m l = declarations_end l.declarations l.rest m l.reads l.behind l.left l.gives
-left_end Definitions m l = definitions_end l.definitions l.rest m l.reads l.behind l.left l.gives
+left_end Constructors m l = declarations_end l.declarations l.rest m l.reads l.after l.left l.gives
+left_end Definitions m l = definitions_end l.definitions l.rest m l.reads l.after l.left l.gives
 
 pub left_nothing : (p : Part) → Left p [] nothing
 unfolding nothing

@@ -16,14 +16,14 @@ use Rattle.strategy_parse.specs.declared.parser.state.PatternFrame.TheVariants.{
 use Rattle.strategy_parse.specs.declared.parser.state.PatternGroup.{PatternGroup}
 use Rattle.strategy_parse.specs.declared.parser.state.PatternGroup.TheVariants.{Application as PApplication, List as PList, Tuple as PTuple, Annotations, Terms, Prim}
 use Rattle.strategy_tokens.specs.Marks.{is_mark}
-use Rattle.strategy_parse.specs.inside.Parser.{Next, goes, begin_pattern, behind_pattern, behind_base, behind_one, closing_sign, close_patterns, first_pattern, step}
+use Rattle.strategy_parse.specs.inside.Parser.{Next, goes, begin_pattern, after_pattern, after_base, after_one, closing_sign, close_patterns, first_pattern, step}
 use Rattle.strategy_parse.specs.Grammar.{IsBase, ReadsPattern, ReadsPatterns, ReadsSomePatterns, ReadsMorePatterns}
 use Rattle.strategy_tokens.proofs.MarkLemmas.{mark_self}
 use Rattle.strategy_parse.specs.inside.FreeNames.{is_hidden, shown, seen, next_token, names_seen}
 use Rattle.strategy_syntax.specs.Variables.{variables, variables_of_all}
 use Rattle.strategy_syntax.specs.Lists.{is_among, without}
 use Rattle.strategy_parse.proofs.CompletePatterns.{patterns_of-list}
-unfoldable use Rattle.strategy_parse.proofs.CompletePatterns.{behind_read}
+unfoldable use Rattle.strategy_parse.proofs.CompletePatterns.{after_read}
 
 -- ---- the names that no open form binds
 
@@ -132,17 +132,17 @@ no_closing (Prim f) x b = b.round
 
 -- ---- what is seen
 
-named_seen : (f : Symbol) (S : List ParserFrame) (y : List Token) → NameEnds y → names_seen (step (Named f) S) y ≡ names_seen (behind_base (variable f) S) y
+named_seen : (f : Symbol) (S : List ParserFrame) (y : List Token) → NameEnds y → names_seen (step (Named f) S) y ≡ names_seen (after_base (variable f) S) y
 named_seen f S y e =
     names_pass OpenRound (goes (FirstPattern (PApplication f)) S)
-    (λ t. if (is_mark AtSign t) then goes ToPattern (At f ∷ S) else behind_base (variable f) S t) y e.round
-    ∙ names_pass AtSign (goes ToPattern (At f ∷ S)) (behind_base (variable f) S) y e.at_sign
+    (λ t. if (is_mark AtSign t) then goes ToPattern (At f ∷ S) else after_base (variable f) S t) y e.round
+    ∙ names_pass AtSign (goes ToPattern (At f ∷ S)) (after_base (variable f) S) y e.at_sign
 
-base_seen : (p : Pattern) (S : List ParserFrame) (y : List Token) → NoMark OpenCurly y → names_seen (behind_base p S) y ≡ names_seen (behind_pattern p S) y
-base_seen p S y e = names_pass OpenCurly (goes (FirstPattern (Annotations p)) S) (behind_pattern p S) y e
+base_seen : (p : Pattern) (S : List ParserFrame) (y : List Token) → NoMark OpenCurly y → names_seen (after_base p S) y ≡ names_seen (after_pattern p S) y
+base_seen p S y e = names_pass OpenCurly (goes (FirstPattern (Annotations p)) S) (after_pattern p S) y e
 
-whole_seen : (p : Pattern) (S : List ParserFrame) (y : List Token) → NoMark OpenCurly y → names_seen (behind_read p S) y ≡ names_seen (behind_pattern p S) y
-unfolding behind_read
+whole_seen : (p : Pattern) (S : List ParserFrame) (y : List Token) → NoMark OpenCurly y → names_seen (after_read p S) y ≡ names_seen (after_pattern p S) y
+unfolding after_read
 whole_seen (at x p) S y e = refl
 whole_seen (annotated p ps) S y e = refl
 whole_seen wildcard S y e = base_seen wildcard S y e
@@ -151,8 +151,8 @@ whole_seen (number z) S y e = base_seen (number z) S y e
 whole_seen (compound h ps) S y e = base_seen (compound h ps) S y e
 whole_seen (with_tail ps p) S y e = base_seen (with_tail ps p) S y e
 
-read_base : (p : Pattern) (S : List ParserFrame) (y : List Token) → IsBase p → names_seen (behind_read p S) y ≡ names_seen (behind_base p S) y
-unfolding behind_read
+read_base : (p : Pattern) (S : List ParserFrame) (y : List Token) → IsBase p → names_seen (after_read p S) y ≡ names_seen (after_base p S) y
+unfolding after_read
 read_base (at x p) S y b = absurd b
 read_base (annotated p ps) S y b = absurd b
 read_base wildcard S y b = refl
@@ -187,7 +187,7 @@ seen_closed (Prim f) ps S t = refl
 closes_first : (g : PatternGroup) (S : List ParserFrame) (x y : List Token) → x ≡ ASign (closing_sign g) ∷ y → names_seen (first_pattern g S) x ≡ names_seen (step (close_patterns g []) S) y
 closes_first g S x y h = rw h (rw (mark_self (closing_sign g)) (ap (λ l. l ++ names_seen (step (close_patterns g []) S) y) (seen_closed g [] S (next_token y))))
 
-closes_more : (g : PatternGroup) (done : List Pattern) (S : List ParserFrame) (x y : List Token) → x ≡ ASign (closing_sign g) ∷ y → names_seen (behind_one g done S) x ≡ names_seen (step (close_patterns g done) S) y
+closes_more : (g : PatternGroup) (done : List Pattern) (S : List ParserFrame) (x y : List Token) → x ≡ ASign (closing_sign g) ∷ y → names_seen (after_one g done S) x ≡ names_seen (step (close_patterns g done) S) y
 closes_more g done S x y h = rw h (rw (comma-closing g, mark_self (closing_sign g)) (ap (λ l. l ++ names_seen (step (close_patterns g done) S) y) (seen_closed g done S (next_token y))))
 
 more_end : (ps : syntax.Patterns) (g : PatternGroup) (x y : List Token) → ReadsMorePatterns ps (closing_sign g) x y → NameEnds x × NoMark OpenCurly x
@@ -205,54 +205,54 @@ bar_end : (ps : syntax.Patterns) (x y : List Token) → ReadsMorePatterns ps Bar
 bar_end no_patterns x y h = (name_ends Bar x y h refl refl, no_mark OpenCurly Bar x y h refl)
 bar_end (and_pattern p ps) x y h = (name_ends Comma x h.0 h.1 refl refl, no_mark OpenCurly Comma x h.0 h.1 refl)
 
-variable_seen : (f : Symbol) (S : List ParserFrame) (y : List Token) → NameEnds y → shown f S ++ names_seen (step (Named f) S) y ≡ (shown f S ++ []) ++ names_seen (behind_base (variable f) S) y
+variable_seen : (f : Symbol) (S : List ParserFrame) (y : List Token) → NameEnds y → shown f S ++ names_seen (step (Named f) S) y ≡ (shown f S ++ []) ++ names_seen (after_base (variable f) S) y
 variable_seen f S y n =
-    ap (λ l. shown f S ++ l) (named_seen f S y n) ∙ ap (λ l. l ++ names_seen (behind_base (variable f) S) y) (sym (append-nil (shown f S)))
+    ap (λ l. shown f S ++ l) (named_seen f S y n) ∙ ap (λ l. l ++ names_seen (after_base (variable f) S) y) (sym (append-nil (shown f S)))
 
 mutual
-  unfolding behind_read
+  unfolding after_read
 
-  front_seen : (p : Pattern) (S : List ParserFrame) (x y : List Token) → ReadsPattern p x y → NameEnds y → CurlyOrEnds p y → names_seen (begin_pattern S) x ≡ free S (variables p) ++ names_seen (behind_read p S) y
+  front_seen : (p : Pattern) (S : List ParserFrame) (x y : List Token) → ReadsPattern p x y → NameEnds y → CurlyOrEnds p y → names_seen (begin_pattern S) x ≡ free S (variables p) ++ names_seen (after_read p S) y
   front_seen wildcard S x y h n c = rw h refl
   front_seen (variable f) S x y h n c = rw h (rw n.round (variable_seen f S y n))
   front_seen (at f p) S x y h n (inl c) = absurd c
   front_seen (at f p) S x y h n (inr c) =
       rw h.1 (rw h.2.1 (ap (λ l. shown f S ++ l)
       (front_seen p (At f ∷ S) h.2.0 y h.2.2 n (inr c) ∙ ap (λ l. free S (variables p) ++ l) (whole_seen p (At f ∷ S) y c))
-      ∙ sym (append_assoc (shown f S) (free S (variables p)) (names_seen (behind_pattern (at f p) S) y))))
+      ∙ sym (append_assoc (shown f S) (free S (variables p)) (names_seen (after_pattern (at f p) S) y))))
   front_seen (number z) S x y h n c = rw h refl
   front_seen (compound (applied f) ps) S x y (inl h) n c = rw h.0 (rw h.1 refl)
   front_seen (compound (applied f) ps) S x y (inr h) n c =
       rw h.1 (rw h.2.1 (patterns_seen ps (PApplication f) S h.2.0 y h.2.2
-      ∙ ap (λ l. free S (variables_of_all ps) ++ names_seen (behind_base (compound (applied f) l) S) y) (patterns_of-list ps)))
+      ∙ ap (λ l. free S (variables_of_all ps) ++ names_seen (after_base (compound (applied f) l) S) y) (patterns_of-list ps)))
   front_seen (compound list ps) S x y h n c =
       rw h.1 (patterns_seen ps PList S h.0 y h.2
-      ∙ ap (λ l. free S (variables_of_all ps) ++ names_seen (behind_base (compound list l) S) y) (patterns_of-list ps))
+      ∙ ap (λ l. free S (variables_of_all ps) ++ names_seen (after_base (compound list l) S) y) (patterns_of-list ps))
   front_seen (compound tuple ps) S x y h n c =
       rw h.1 (patterns_seen ps PTuple S h.0 y h.2
-      ∙ ap (λ l. free S (variables_of_all ps) ++ names_seen (behind_base (compound tuple l) S) y) (patterns_of-list ps))
+      ∙ ap (λ l. free S (variables_of_all ps) ++ names_seen (after_base (compound tuple l) S) y) (patterns_of-list ps))
   front_seen (with_tail ps p) S x y h n c =
       rw h.1 (chain S (variables_of_all ps) (variables p) (names_seen (first_pattern PList S) h.0)
-      (names_seen (begin_pattern (ForPattern (PatternTail (pattern_list ps)) ∷ S)) h.2.0) (names_seen (behind_base (with_tail ps p) S) y)
+      (names_seen (begin_pattern (ForPattern (PatternTail (pattern_list ps)) ∷ S)) h.2.0) (names_seen (after_base (with_tail ps p) S) y)
       (some_seen ps S h.0 h.2.0 h.2.1)
       (front_seen p (ForPattern (PatternTail (pattern_list ps)) ∷ S) h.2.0 h.2.2.0 h.2.2.1
       (name_ends CloseSquare h.2.2.0 y h.2.2.2 refl refl) (inr (no_mark OpenCurly CloseSquare h.2.2.0 y h.2.2.2 refl))
       ∙ ap (λ l. free S (variables p) ++ l)
       (whole_seen p (ForPattern (PatternTail (pattern_list ps)) ∷ S) h.2.2.0 (no_mark OpenCurly CloseSquare h.2.2.0 y h.2.2.2 refl)
-      ∙ rw h.2.2.2 (ap (λ l. names_seen (behind_base (with_tail l p) S) y) (patterns_of-list ps)))))
+      ∙ rw h.2.2.2 (ap (λ l. names_seen (after_base (with_tail l p) S) y) (patterns_of-list ps)))))
   front_seen (annotated p ps) S x y h n c =
-      chain S (variables p) (variables_of_all ps) (names_seen (begin_pattern S) x) (names_seen (behind_base p S) h.1.0) (names_seen (behind_pattern (annotated p ps) S) y)
+      chain S (variables p) (variables_of_all ps) (names_seen (begin_pattern S) x) (names_seen (after_base p S) h.1.0) (names_seen (after_pattern (annotated p ps) S) y)
       (front_seen p S x h.1.0 h.1.1 (name_ends OpenCurly h.1.0 h.1.2.0 h.1.2.1 refl refl) (inl h.0)
       ∙ ap (λ l. free S (variables p) ++ l) (read_base p S h.1.0 h.0))
       (rw h.1.2.1 (patterns_seen ps (Annotations p) S h.1.2.0 y h.1.2.2
-      ∙ ap (λ l. free S (variables_of_all ps) ++ names_seen (behind_pattern (annotated p l) S) y) (patterns_of-list ps)))
+      ∙ ap (λ l. free S (variables_of_all ps) ++ names_seen (after_pattern (annotated p l) S) y) (patterns_of-list ps)))
 
   patterns_seen : (ps : syntax.Patterns) (g : PatternGroup) (S : List ParserFrame) (x y : List Token) → ReadsPatterns ps (closing_sign g) x y
       → names_seen (first_pattern g S) x ≡ free S (variables_of_all ps) ++ names_seen (step (close_patterns g (pattern_list ps)) S) y
   patterns_seen no_patterns g S x y h = closes_first g S x y h
   patterns_seen (and_pattern p ps) g S x y h =
       first_seen g S x (pattern_begins p x h.0 h.1)
-      ∙ chain S (variables p) (variables_of_all ps) (names_seen (begin_pattern (ForPattern (Patterns g []) ∷ S)) x) (names_seen (behind_one g (p ∷ []) S) h.0)
+      ∙ chain S (variables p) (variables_of_all ps) (names_seen (begin_pattern (ForPattern (Patterns g []) ∷ S)) x) (names_seen (after_one g (p ∷ []) S) h.0)
       (names_seen (step (close_patterns g (p ∷ pattern_list ps)) S) y)
       (front_seen p (ForPattern (Patterns g []) ∷ S) x h.0 h.1 (more_end ps g h.0 y h.2).0 (inr (more_end ps g h.0 y h.2).1)
       ∙ ap (λ l. free S (variables p) ++ l) (whole_seen p (ForPattern (Patterns g []) ∷ S) h.0 (more_end ps g h.0 y h.2).1))
@@ -263,18 +263,18 @@ mutual
   some_seen no_patterns S x y h = absurd h
   some_seen (and_pattern p ps) S x y h =
       first_seen PList S x (pattern_begins p x h.0 h.1)
-      ∙ chain S (variables p) (variables_of_all ps) (names_seen (begin_pattern (ForPattern (Patterns PList []) ∷ S)) x) (names_seen (behind_one PList (p ∷ []) S) h.0)
+      ∙ chain S (variables p) (variables_of_all ps) (names_seen (begin_pattern (ForPattern (Patterns PList []) ∷ S)) x) (names_seen (after_one PList (p ∷ []) S) h.0)
       (names_seen (begin_pattern (ForPattern (PatternTail (p ∷ pattern_list ps)) ∷ S)) y)
       (front_seen p (ForPattern (Patterns PList []) ∷ S) x h.0 h.1 (bar_end ps h.0 y h.2).0 (inr (bar_end ps h.0 y h.2).1)
       ∙ ap (λ l. free S (variables p) ++ l) (whole_seen p (ForPattern (Patterns PList []) ∷ S) h.0 (bar_end ps h.0 y h.2).1))
       (bar_seen ps (p ∷ []) S h.0 y h.2)
 
   more_seen : (ps : syntax.Patterns) (g : PatternGroup) (done : List Pattern) (S : List ParserFrame) (x y : List Token) → ReadsMorePatterns ps (closing_sign g) x y
-      → names_seen (behind_one g done S) x ≡ free S (variables_of_all ps) ++ names_seen (step (close_patterns g (done ++ pattern_list ps)) S) y
+      → names_seen (after_one g done S) x ≡ free S (variables_of_all ps) ++ names_seen (step (close_patterns g (done ++ pattern_list ps)) S) y
   more_seen no_patterns g done S x y h =
       closes_more g done S x y h ∙ ap (λ l. names_seen (step (close_patterns g l) S) y) (sym (append-nil done))
   more_seen (and_pattern p ps) g done S x y h =
-      rw h.1 (chain S (variables p) (variables_of_all ps) (names_seen (begin_pattern (ForPattern (Patterns g done) ∷ S)) h.0) (names_seen (behind_one g (done ++ p ∷ []) S) h.2.0)
+      rw h.1 (chain S (variables p) (variables_of_all ps) (names_seen (begin_pattern (ForPattern (Patterns g done) ∷ S)) h.0) (names_seen (after_one g (done ++ p ∷ []) S) h.2.0)
       (names_seen (step (close_patterns g (done ++ p ∷ pattern_list ps)) S) y)
       (front_seen p (ForPattern (Patterns g done) ∷ S) h.0 h.2.0 h.2.1 (more_end ps g h.2.0 y h.2.2).0 (inr (more_end ps g h.2.0 y h.2.2).1)
       ∙ ap (λ l. free S (variables p) ++ l) (whole_seen p (ForPattern (Patterns g done) ∷ S) h.2.0 (more_end ps g h.2.0 y h.2.2).1))
@@ -282,11 +282,11 @@ mutual
       ∙ ap (λ l. free S (variables_of_all ps) ++ names_seen (step (close_patterns g l) S) y) (append_assoc done (p ∷ []) (pattern_list ps))))
 
   bar_seen : (ps : syntax.Patterns) (done : List Pattern) (S : List ParserFrame) (x y : List Token) → ReadsMorePatterns ps Bar x y
-      → names_seen (behind_one PList done S) x ≡ free S (variables_of_all ps) ++ names_seen (begin_pattern (ForPattern (PatternTail (done ++ pattern_list ps)) ∷ S)) y
+      → names_seen (after_one PList done S) x ≡ free S (variables_of_all ps) ++ names_seen (begin_pattern (ForPattern (PatternTail (done ++ pattern_list ps)) ∷ S)) y
   bar_seen no_patterns done S x y h =
       rw h (ap (λ l. names_seen (begin_pattern (ForPattern (PatternTail l) ∷ S)) y) (sym (append-nil done)))
   bar_seen (and_pattern p ps) done S x y h =
-      rw h.1 (chain S (variables p) (variables_of_all ps) (names_seen (begin_pattern (ForPattern (Patterns PList done) ∷ S)) h.0) (names_seen (behind_one PList (done ++ p ∷ []) S) h.2.0)
+      rw h.1 (chain S (variables p) (variables_of_all ps) (names_seen (begin_pattern (ForPattern (Patterns PList done) ∷ S)) h.0) (names_seen (after_one PList (done ++ p ∷ []) S) h.2.0)
       (names_seen (begin_pattern (ForPattern (PatternTail (done ++ p ∷ pattern_list ps)) ∷ S)) y)
       (front_seen p (ForPattern (Patterns PList done) ∷ S) h.0 h.2.0 h.2.1 (bar_end ps h.2.0 y h.2.2).0 (inr (bar_end ps h.2.0 y h.2.2).1)
       ∙ ap (λ l. free S (variables p) ++ l) (whole_seen p (ForPattern (Patterns PList done) ∷ S) h.2.0 (bar_end ps h.2.0 y h.2.2).1))
@@ -295,7 +295,7 @@ mutual
 
 -- the names that are seen up to the end of a pattern
 pub pattern_seen : (p : Pattern) (S : List ParserFrame) (x y : List Token) → ReadsPattern p x y → NameEnds y → NoMark OpenCurly y
-    → names_seen (begin_pattern S) x ≡ free S (variables p) ++ names_seen (behind_pattern p S) y
+    → names_seen (begin_pattern S) x ≡ free S (variables p) ++ names_seen (after_pattern p S) y
 pattern_seen p S x y h n c = front_seen p S x y h n (inr c) ∙ ap (λ l. free S (variables p) ++ l) (whole_seen p S y c)
 
 -- ... of a list of patterns, after its first sign, and after one of them
@@ -304,5 +304,5 @@ pub list_seen : (ps : syntax.Patterns) (g : PatternGroup) (S : List ParserFrame)
 list_seen ps g S x y h = patterns_seen ps g S x y h
 
 pub rest_seen : (ps : syntax.Patterns) (g : PatternGroup) (done : List Pattern) (S : List ParserFrame) (x y : List Token) → ReadsMorePatterns ps (closing_sign g) x y
-    → names_seen (behind_one g done S) x ≡ free S (variables_of_all ps) ++ names_seen (step (close_patterns g (done ++ pattern_list ps)) S) y
+    → names_seen (after_one g done S) x ≡ free S (variables_of_all ps) ++ names_seen (step (close_patterns g (done ++ pattern_list ps)) S) y
 rest_seen ps g done S x y h = more_seen ps g done S x y h

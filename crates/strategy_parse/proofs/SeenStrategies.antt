@@ -22,10 +22,10 @@ use Rattle.strategy_parse.specs.declared.parser.state.StrategyGroup.{StrategyGro
 use Rattle.strategy_parse.specs.declared.parser.state.StrategyGroup.TheVariants.{Round, Square, Arguments}
 use Rattle.strategy_parse.specs.declared.parser.state.PatternGroup.TheVariants.{Terms, Prim}
 use Rattle.strategy_tokens.specs.Marks.{is_mark}
-use Rattle.strategy_parse.specs.inside.Parser.{Next, goes, begin, begin_pattern, behind, behind_arrow, behind_seq, behind_choice, in_frame, behind_element, closing, grouped, pattern_in_frame, behind_one, first_strategy, first_pattern, empty_bar, step}
+use Rattle.strategy_parse.specs.inside.Parser.{Next, goes, begin, begin_pattern, after, after_arrow, after_seq, after_choice, in_frame, after_element, closing, grouped, pattern_in_frame, after_one, first_strategy, first_pattern, empty_bar, step}
 use Rattle.strategy_parse.specs.Grammar.{ReadsPattern, ReadsMorePatterns, ReadsArrows, ReadsMoreNames, ReadsNames, word_of, ReadsChoice, ReadsSeq, ReadsArrow, ReadsPrefix, ReadsChoices, ReadsSomeChoices, ReadsMoreChoices}
 use Rattle.strategy_tokens.proofs.MarkLemmas.{mark_self}
-use Rattle.strategy_parse.specs.inside.FreeNames.{is_hidden, seen, next_token, seen_behind, names_seen}
+use Rattle.strategy_parse.specs.inside.FreeNames.{is_hidden, seen, next_token, seen_after, names_seen}
 use Rattle.strategy_parse.specs.Written.{Choice, sequence, left_choice, guarded_choice, Seq, last, before, Arrow, arrow, Prefix, question, exclamation, application, identity, failure, operator, if_then, if_then_else, recursion, primitive, local, closure, closure_where, round, square, square_with_tail, name, call, call_with_terms, child, Choices, no_choices, and_choice}
 use Rattle.strategy_syntax.specs.Variables.{variables, variables_of_all}
 use Rattle.strategy_syntax.specs.Lists.{without}
@@ -156,21 +156,21 @@ no_closing (Arguments f) x b = b.round
 
 same_names : (f g : Token → Next) (x : List Token) → ((t : Token) → f t ≡ g t) → names_seen f x ≡ names_seen g x
 same_names f g [] h = refl
-same_names f g (t ∷ ts) h = ap (λ n. seen_behind (λ q S. seen q S (next_token ts) ++ names_seen (step q S) ts) n) (h t)
+same_names f g (t ∷ ts) h = ap (λ n. seen_after (λ q S. seen q S (next_token ts) ++ names_seen (step q S) ts) n) (h t)
 
-arrow_in : (s : Strategy) (S : List ParserFrame) (y : List Token) → NoMark FatArrow y → NoMark Semicolon y → names_seen (behind s S) y ≡ names_seen (behind_arrow s S) y
+arrow_in : (s : Strategy) (S : List ParserFrame) (y : List Token) → NoMark FatArrow y → NoMark Semicolon y → names_seen (after s S) y ≡ names_seen (after_arrow s S) y
 arrow_in s S y a b =
-    names_pass FatArrow (goes ToPattern (ForPattern (Matched s) ∷ S)) (λ t. if (is_mark Semicolon t) then goes ToStrategy (Operand Before s ∷ S) else behind_arrow s S t) y a
-    ∙ names_pass Semicolon (goes ToStrategy (Operand Before s ∷ S)) (behind_arrow s S) y b
+    names_pass FatArrow (goes ToPattern (ForPattern (Matched s) ∷ S)) (λ t. if (is_mark Semicolon t) then goes ToStrategy (Operand Before s ∷ S) else after_arrow s S t) y a
+    ∙ names_pass Semicolon (goes ToStrategy (Operand Before s ∷ S)) (after_arrow s S) y b
 
-choice_in : (s : Strategy) (S : List ParserFrame) (y : List Token) → Bare S → NoMark LeftChoice y → NoMark Less y → names_seen (behind_arrow s S) y ≡ names_seen (behind_choice s S) y
+choice_in : (s : Strategy) (S : List ParserFrame) (y : List Token) → Bare S → NoMark LeftChoice y → NoMark Less y → names_seen (after_arrow s S) y ≡ names_seen (after_choice s S) y
 choice_in s S y bare a b =
-    same_names (behind_arrow s S) (behind_seq s S) y (bare s)
-    ∙ names_pass LeftChoice (goes ToStrategy (Operand Otherwise syntax.id ∷ (Operand Guarded s ∷ S))) (λ t. if (is_mark Less t) then goes ToStrategy (Operand Guarded s ∷ S) else behind_choice s S t) y a
-    ∙ names_pass Less (goes ToStrategy (Operand Guarded s ∷ S)) (behind_choice s S) y b
+    same_names (after_arrow s S) (after_seq s S) y (bare s)
+    ∙ names_pass LeftChoice (goes ToStrategy (Operand Otherwise syntax.id ∷ (Operand Guarded s ∷ S))) (λ t. if (is_mark Less t) then goes ToStrategy (Operand Guarded s ∷ S) else after_choice s S t) y a
+    ∙ names_pass Less (goes ToStrategy (Operand Guarded s ∷ S)) (after_choice s S) y b
 
-used_in : (f : Symbol) (S : List ParserFrame) (y : List Token) → NoMark OpenRound y → names_seen (step (Used f) S) y ≡ names_seen (behind (syntax.uses f syntax.no_strategies syntax.no_patterns) S) y
-used_in f S y e = names_pass OpenRound (goes (FirstStrategy (Arguments f)) S) (behind (syntax.uses f syntax.no_strategies syntax.no_patterns) S) y e
+used_in : (f : Symbol) (S : List ParserFrame) (y : List Token) → NoMark OpenRound y → names_seen (step (Used f) S) y ≡ names_seen (after (syntax.uses f syntax.no_strategies syntax.no_patterns) S) y
+used_in f S y e = names_pass OpenRound (goes (FirstStrategy (Arguments f)) S) (after (syntax.uses f syntax.no_strategies syntax.no_patterns) S) y e
 
 first_in : (g : StrategyGroup) (S : List ParserFrame) (x : List Token) → Begins x → names_seen (first_strategy g S) x ≡ names_seen (begin (ForStrategy (Strategies g []) ∷ S)) x
 first_in g S x b =
@@ -187,10 +187,10 @@ bar-closing Round = refl
 bar-closing Square = refl
 bar-closing (Arguments f) = refl
 
-closes_first : (g : StrategyGroup) (S : List ParserFrame) (x y : List Token) → x ≡ ASign (closing g) ∷ y → names_seen (first_strategy g S) x ≡ names_seen (behind (grouped g []) S) y
+closes_first : (g : StrategyGroup) (S : List ParserFrame) (x y : List Token) → x ≡ ASign (closing g) ∷ y → names_seen (first_strategy g S) x ≡ names_seen (after (grouped g []) S) y
 closes_first g S x y h = rw h (rw (mark_self (closing g)) refl)
 
-closes_more : (g : StrategyGroup) (done : List Strategy) (S : List ParserFrame) (x y : List Token) → x ≡ ASign (closing g) ∷ y → names_seen (behind_element g done S) x ≡ names_seen (behind (grouped g done) S) y
+closes_more : (g : StrategyGroup) (done : List Strategy) (S : List ParserFrame) (x y : List Token) → x ≡ ASign (closing g) ∷ y → names_seen (after_element g done S) x ≡ names_seen (after (grouped g done) S) y
 closes_more g done S x y h = rw h (rw (comma-closing g, bar-closing g, mark_self (closing g)) refl)
 
 -- ---- names
@@ -206,12 +206,12 @@ names_in [] S x y h = rw h refl
 names_in (f ∷ fs) S x y h = rw h.1 (names_more fs (f ∷ []) S h.0 y h.2)
 
 arrows_seen : (ps : syntax.Patterns) (s : Strategy) (S : List ParserFrame) (x y : List Token) → ReadsArrows ps x y → ArrowEnds y
-    → names_seen (behind s S) x ≡ free S (variables_of_all ps) ++ names_seen (behind (then_matched s ps) S) y
+    → names_seen (after s S) x ≡ free S (variables_of_all ps) ++ names_seen (after (then_matched s ps) S) y
 arrows_seen no_patterns s S x y h e = rw h refl
 arrows_seen (and_pattern p ps) s S x y h e =
     let end : PrefixEnds h.2.0 = arrows_end ps h.2.0 y h.2.2 e in
-    rw h.1 (chain S (variables p) (variables_of_all ps) (names_seen (begin_pattern (ForPattern (Matched s) ∷ S)) h.0) (names_seen (behind (syntax.seq s (syntax.matches p)) S) h.2.0)
-    (names_seen (behind (then_matched (syntax.seq s (syntax.matches p)) ps) S) y)
+    rw h.1 (chain S (variables p) (variables_of_all ps) (names_seen (begin_pattern (ForPattern (Matched s) ∷ S)) h.0) (names_seen (after (syntax.seq s (syntax.matches p)) S) h.2.0)
+    (names_seen (after (then_matched (syntax.seq s (syntax.matches p)) ps) S) y)
     (pattern_seen p (ForPattern (Matched s) ∷ S) h.0 h.2.0 h.2.1 end.name end.curly)
     (arrows_seen ps (syntax.seq s (syntax.matches p)) S h.2.0 y h.2.2 e))
 
@@ -232,15 +232,15 @@ patterns_end no_patterns x y h = prefix_ends CloseRound x y h refl refl refl
 patterns_end (and_pattern p ps) x y h = prefix_ends Comma x h.0 h.1 refl refl refl
 
 prim_seen : (ps : syntax.Patterns) (n : Symbol) (S : List ParserFrame) (x y : List Token) → ReadsMorePatterns ps CloseRound x y
-    → names_seen (step (PrimNamed n) S) x ≡ free S (variables_of_all ps) ++ names_seen (behind (syntax.prim n ps) S) y
+    → names_seen (step (PrimNamed n) S) x ≡ free S (variables_of_all ps) ++ names_seen (after (syntax.prim n ps) S) y
 prim_seen no_patterns n S x y h = rw h refl
 prim_seen (and_pattern p ps) n S x y h =
     let end : PrefixEnds h.2.0 = patterns_end ps h.2.0 y h.2.2 in
-    rw h.1 (chain S (variables p) (variables_of_all ps) (names_seen (begin_pattern (ForPattern (Patterns (Prim n) []) ∷ S)) h.0) (names_seen (behind_one (Prim n) (p ∷ []) S) h.2.0)
-    (names_seen (behind (syntax.prim n (and_pattern p ps)) S) y)
+    rw h.1 (chain S (variables p) (variables_of_all ps) (names_seen (begin_pattern (ForPattern (Patterns (Prim n) []) ∷ S)) h.0) (names_seen (after_one (Prim n) (p ∷ []) S) h.2.0)
+    (names_seen (after (syntax.prim n (and_pattern p ps)) S) y)
     (pattern_seen p (ForPattern (Patterns (Prim n) []) ∷ S) h.0 h.2.0 h.2.1 end.name end.curly)
     (rest_seen ps (Prim n) (p ∷ []) S h.2.0 y h.2.2
-    ∙ ap (λ l. free S (variables_of_all ps) ++ names_seen (behind (syntax.prim n (and_pattern p l)) S) y) (patterns_of-list ps)))
+    ∙ ap (λ l. free S (variables_of_all ps) ++ names_seen (after (syntax.prim n (and_pattern p l)) S) y) (patterns_of-list ps)))
 
 -- in the left side of a closure nothing is seen, and in its right side nothing that the left side
 -- binds
@@ -258,42 +258,42 @@ right_sees p q S x y h e = pattern_seen q (ForPattern (ClosureRight p) ∷ S) x 
 -- ---- the productions
 
 mutual
-  choice_sees : (a : Choice) (S : List ParserFrame) (x y : List Token) → ReadsChoice a x y → Bare S → ChoiceEnds y → names_seen (begin S) x ≡ free S (free_in_choice a) ++ names_seen (behind_choice (core a) S) y
+  choice_sees : (a : Choice) (S : List ParserFrame) (x y : List Token) → ReadsChoice a x y → Bare S → ChoiceEnds y → names_seen (begin S) x ≡ free S (free_in_choice a) ++ names_seen (after_choice (core a) S) y
   choice_sees (sequence a) S x y h bare e =
       seq_sees a S x y h e.seq ∙ ap (λ l. free S (free_in_seq a) ++ l) (choice_in (core_seq a) S y bare e.choice e.less)
   choice_sees (left_choice a b) S x y h bare e =
-      chain S (free_in_seq a) (free_in_choice b) (names_seen (begin S) x) (names_seen (behind_arrow (core_seq a) S) h.0) (names_seen (behind_choice (syntax.guard (core_seq a) syntax.id (core b)) S) y)
+      chain S (free_in_seq a) (free_in_choice b) (names_seen (begin S) x) (names_seen (after_arrow (core_seq a) S) h.0) (names_seen (after_choice (syntax.guard (core_seq a) syntax.id (core b)) S) y)
       (seq_sees a S x h.0 h.1 (seq_ends LeftChoice h.0 h.2.0 h.2.1 refl refl refl refl refl))
-      (same_names (behind_arrow (core_seq a) S) (behind_seq (core_seq a) S) h.0 (bare (core_seq a))
+      (same_names (after_arrow (core_seq a) S) (after_seq (core_seq a) S) h.0 (bare (core_seq a))
       ∙ rw h.2.1 (choice_sees b (Operand Otherwise syntax.id ∷ (Operand Guarded (core_seq a) ∷ S)) h.2.0 y h.2.2 (λ s t. refl) e))
   choice_sees (guarded_choice a b c) S x y h bare e =
-      chain S (free_in_seq a) (free_in_seq b ++ free_in_choice c) (names_seen (begin S) x) (names_seen (behind_arrow (core_seq a) S) h.0) (names_seen (behind_choice (syntax.guard (core_seq a) (core_seq b) (core c)) S) y)
+      chain S (free_in_seq a) (free_in_seq b ++ free_in_choice c) (names_seen (begin S) x) (names_seen (after_arrow (core_seq a) S) h.0) (names_seen (after_choice (syntax.guard (core_seq a) (core_seq b) (core c)) S) y)
       (seq_sees a S x h.0 h.1 (seq_ends Less h.0 h.2.0 h.2.1 refl refl refl refl refl))
-      (same_names (behind_arrow (core_seq a) S) (behind_seq (core_seq a) S) h.0 (bare (core_seq a))
-      ∙ rw h.2.1 (chain S (free_in_seq b) (free_in_choice c) (names_seen (begin (Operand Guarded (core_seq a) ∷ S)) h.2.0) (names_seen (behind_arrow (core_seq b) (Operand Guarded (core_seq a) ∷ S)) h.2.2.0)
-      (names_seen (behind_choice (syntax.guard (core_seq a) (core_seq b) (core c)) S) y)
+      (same_names (after_arrow (core_seq a) S) (after_seq (core_seq a) S) h.0 (bare (core_seq a))
+      ∙ rw h.2.1 (chain S (free_in_seq b) (free_in_choice c) (names_seen (begin (Operand Guarded (core_seq a) ∷ S)) h.2.0) (names_seen (after_arrow (core_seq b) (Operand Guarded (core_seq a) ∷ S)) h.2.2.0)
+      (names_seen (after_choice (syntax.guard (core_seq a) (core_seq b) (core c)) S) y)
       (seq_sees b (Operand Guarded (core_seq a) ∷ S) h.2.0 h.2.2.0 h.2.2.1 (seq_ends Plus h.2.2.0 h.2.2.2.0 h.2.2.2.1 refl refl refl refl refl))
       (rw h.2.2.2.1 (choice_sees c (Operand Otherwise (core_seq b) ∷ (Operand Guarded (core_seq a) ∷ S)) h.2.2.2.0 y h.2.2.2.2 (λ s t. refl) e))))
 
-  seq_sees : (a : Seq) (S : List ParserFrame) (x y : List Token) → ReadsSeq a x y → SeqEnds y → names_seen (begin S) x ≡ free S (free_in_seq a) ++ names_seen (behind_arrow (core_seq a) S) y
+  seq_sees : (a : Seq) (S : List ParserFrame) (x y : List Token) → ReadsSeq a x y → SeqEnds y → names_seen (begin S) x ≡ free S (free_in_seq a) ++ names_seen (after_arrow (core_seq a) S) y
   seq_sees (last a) S x y h e =
       arrow_sees a S x y h e.arrow ∙ ap (λ l. free S (free_in_arrow a) ++ l) (arrow_in (core_arrow a) S y e.arrow.arrow e.semicolon)
   seq_sees (before a b) S x y h e =
-      chain S (free_in_arrow a) (free_in_seq b) (names_seen (begin S) x) (names_seen (behind (core_arrow a) S) h.0) (names_seen (behind_arrow (syntax.seq (core_arrow a) (core_seq b)) S) y)
+      chain S (free_in_arrow a) (free_in_seq b) (names_seen (begin S) x) (names_seen (after (core_arrow a) S) h.0) (names_seen (after_arrow (syntax.seq (core_arrow a) (core_seq b)) S) y)
       (arrow_sees a S x h.0 h.1 (semicolon_ends h.0 h.2.0 h.2.1))
       (rw h.2.1 (seq_sees b (Operand Before (core_arrow a) ∷ S) h.2.0 y h.2.2 e))
 
-  arrow_sees : (a : Arrow) (S : List ParserFrame) (x y : List Token) → ReadsArrow a x y → ArrowEnds y → names_seen (begin S) x ≡ free S (free_in_arrow a) ++ names_seen (behind (core_arrow a) S) y
+  arrow_sees : (a : Arrow) (S : List ParserFrame) (x y : List Token) → ReadsArrow a x y → ArrowEnds y → names_seen (begin S) x ≡ free S (free_in_arrow a) ++ names_seen (after (core_arrow a) S) y
   arrow_sees (arrow a ps) S x y h e =
-      chain S (free_in_prefix a) (variables_of_all ps) (names_seen (begin S) x) (names_seen (behind (core_prefix a) S) h.0) (names_seen (behind (then_matched (core_prefix a) ps) S) y)
+      chain S (free_in_prefix a) (variables_of_all ps) (names_seen (begin S) x) (names_seen (after (core_prefix a) S) h.0) (names_seen (after (then_matched (core_prefix a) ps) S) y)
       (prefix_sees a S x h.0 h.1 (arrows_end ps h.0 y h.2 e))
       (arrows_seen ps (core_prefix a) S h.0 y h.2 e)
 
-  prefix_sees : (a : Prefix) (S : List ParserFrame) (x y : List Token) → ReadsPrefix a x y → PrefixEnds y → names_seen (begin S) x ≡ free S (free_in_prefix a) ++ names_seen (behind (core_prefix a) S) y
+  prefix_sees : (a : Prefix) (S : List ParserFrame) (x y : List Token) → ReadsPrefix a x y → PrefixEnds y → names_seen (begin S) x ≡ free S (free_in_prefix a) ++ names_seen (after (core_prefix a) S) y
   prefix_sees (question p) S x y h e = rw h.1 (pattern_seen p (ForPattern Match ∷ S) h.0 y h.2 e.name e.curly)
   prefix_sees (exclamation p) S x y h e = rw h.1 (pattern_seen p (ForPattern Build ∷ S) h.0 y h.2 e.name e.curly)
   prefix_sees (application a p) S x y h e =
-      rw h.1 (chain S (free_in_choice a) (variables p) (names_seen (begin (ForStrategy Application ∷ S)) h.0) (names_seen (in_frame (core a) Application S) h.2.0) (names_seen (behind (syntax.seq (syntax.builds p) (core a)) S) y)
+      rw h.1 (chain S (free_in_choice a) (variables p) (names_seen (begin (ForStrategy Application ∷ S)) h.0) (names_seen (in_frame (core a) Application S) h.2.0) (names_seen (after (syntax.seq (syntax.builds p) (core a)) S) y)
       (choice_sees a (ForStrategy Application ∷ S) h.0 h.2.0 h.2.1 (λ s t. refl) (choice_ends Greater h.2.0 h.2.2.0 h.2.2.1 refl refl refl refl refl refl refl))
       (rw h.2.2.1 (pattern_seen p (ForPattern (Applied (core a)) ∷ S) h.2.2.0 y h.2.2.2 e.name e.curly)))
   prefix_sees identity S x y h e = rw h refl
@@ -303,14 +303,14 @@ mutual
       ∙ choice_sees a (ForStrategy (Operated o) ∷ S) h.2.0 h.2.2.0 h.2.2.1 (λ s t. refl) (round_ends h.2.2.0 y h.2.2.2)
       ∙ ap (λ l. free S (free_in_choice a) ++ names_seen (in_frame (core a) (Operated o) S) l) h.2.2.2))
   prefix_sees (if_then a b) S x y h e =
-      rw h.1 (chain S (free_in_choice a) (free_in_choice b) (names_seen (begin (ForStrategy If ∷ S)) h.0) (names_seen (in_frame (core a) If S) h.2.0) (names_seen (behind (syntax.guard (syntax.test (core a)) (core b) syntax.id) S) y)
+      rw h.1 (chain S (free_in_choice a) (free_in_choice b) (names_seen (begin (ForStrategy If ∷ S)) h.0) (names_seen (in_frame (core a) If S) h.2.0) (names_seen (after (syntax.guard (syntax.test (core a)) (core b) syntax.id) S) y)
       (choice_sees a (ForStrategy If ∷ S) h.0 h.2.0 h.2.1 (λ s t. refl) (word_ends KThen h.2.0 h.2.2.0 h.2.2.1))
       (rw h.2.2.1 (choice_sees b (ForStrategy (Then (core a)) ∷ S) h.2.2.0 h.2.2.2.0 h.2.2.2.1 (λ s t. refl) (word_ends KEnd h.2.2.2.0 y h.2.2.2.2)
       ∙ ap (λ l. free S (free_in_choice b) ++ names_seen (in_frame (core b) (Then (core a)) S) l) h.2.2.2.2)))
   prefix_sees (if_then_else a b c) S x y h e =
-      rw h.1 (chain S (free_in_choice a) (free_in_choice b ++ free_in_choice c) (names_seen (begin (ForStrategy If ∷ S)) h.0) (names_seen (in_frame (core a) If S) h.2.0) (names_seen (behind (syntax.guard (syntax.test (core a)) (core b) (core c)) S) y)
+      rw h.1 (chain S (free_in_choice a) (free_in_choice b ++ free_in_choice c) (names_seen (begin (ForStrategy If ∷ S)) h.0) (names_seen (in_frame (core a) If S) h.2.0) (names_seen (after (syntax.guard (syntax.test (core a)) (core b) (core c)) S) y)
       (choice_sees a (ForStrategy If ∷ S) h.0 h.2.0 h.2.1 (λ s t. refl) (word_ends KThen h.2.0 h.2.2.0 h.2.2.1))
-      (rw h.2.2.1 (chain S (free_in_choice b) (free_in_choice c) (names_seen (begin (ForStrategy (Then (core a)) ∷ S)) h.2.2.0) (names_seen (in_frame (core b) (Then (core a)) S) h.2.2.2.0) (names_seen (behind (syntax.guard (syntax.test (core a)) (core b) (core c)) S) y)
+      (rw h.2.2.1 (chain S (free_in_choice b) (free_in_choice c) (names_seen (begin (ForStrategy (Then (core a)) ∷ S)) h.2.2.0) (names_seen (in_frame (core b) (Then (core a)) S) h.2.2.2.0) (names_seen (after (syntax.guard (syntax.test (core a)) (core b) (core c)) S) y)
       (choice_sees b (ForStrategy (Then (core a)) ∷ S) h.2.2.0 h.2.2.2.0 h.2.2.2.1 (λ s t. refl) (word_ends KElse h.2.2.2.0 h.2.2.2.2.0 h.2.2.2.2.1))
       (rw h.2.2.2.2.1 (choice_sees c (ForStrategy (Else (core a) (core b)) ∷ S) h.2.2.2.2.0 h.2.2.2.2.2.0 h.2.2.2.2.2.1 (λ s t. refl) (word_ends KEnd h.2.2.2.2.2.0 y h.2.2.2.2.2.2)
       ∙ ap (λ l. free S (free_in_choice c) ++ names_seen (in_frame (core c) (Else (core a) (core b)) S) l) h.2.2.2.2.2.2)))))
@@ -337,34 +337,34 @@ mutual
       ∙ ap (λ l. l ++ names_seen (in_frame (core a) (Where p q) S) h.2.2.2.2.2.0) (sym (keep-without (variables p) (λ f. is_hidden f S) (variables q ++ free_in_choice a)))
       ∙ ap (λ l. free S (without same_name (variables p) (variables q ++ free_in_choice a)) ++ names_seen (in_frame (core a) (Where p q) S) l) h.2.2.2.2.2.2)
   prefix_sees (round cs) S x y h e =
-      rw h.1 (choices_see cs Round S h.0 y h.2 ∙ ap (λ l. free S (free_in_choices cs) ++ names_seen (behind (in_brackets l) S) y) (strategies_of-list (core_all cs)))
+      rw h.1 (choices_see cs Round S h.0 y h.2 ∙ ap (λ l. free S (free_in_choices cs) ++ names_seen (after (in_brackets l) S) y) (strategies_of-list (core_all cs)))
   prefix_sees (square cs) S x y h e =
-      rw h.1 (choices_see cs Square S h.0 y h.2 ∙ ap (λ l. free S (free_in_choices cs) ++ names_seen (behind (syntax.congruence list l) S) y) (strategies_of-list (core_all cs)))
+      rw h.1 (choices_see cs Square S h.0 y h.2 ∙ ap (λ l. free S (free_in_choices cs) ++ names_seen (after (syntax.congruence list l) S) y) (strategies_of-list (core_all cs)))
   prefix_sees (square_with_tail cs a) S x y h e =
-      rw h.1 (chain S (free_in_choices cs) (free_in_choice a) (names_seen (first_strategy Square S) h.0) (names_seen (begin (ForStrategy (SquareTail (strategy_list (core_all cs))) ∷ S)) h.2.0) (names_seen (behind (syntax.tail_congruence (core_all cs) (core a)) S) y)
+      rw h.1 (chain S (free_in_choices cs) (free_in_choice a) (names_seen (first_strategy Square S) h.0) (names_seen (begin (ForStrategy (SquareTail (strategy_list (core_all cs))) ∷ S)) h.2.0) (names_seen (after (syntax.tail_congruence (core_all cs) (core a)) S) y)
       (some_choices_see cs S h.0 h.2.0 h.2.1)
       (choice_sees a (ForStrategy (SquareTail (strategy_list (core_all cs))) ∷ S) h.2.0 h.2.2.0 h.2.2.1 (λ s t. refl) (choice_ends CloseSquare h.2.2.0 y h.2.2.2 refl refl refl refl refl refl refl)
-      ∙ ap (λ l. free S (free_in_choice a) ++ l) (rw h.2.2.2 (ap (λ l. names_seen (behind (syntax.tail_congruence l (core a)) S) y) (strategies_of-list (core_all cs))))))
+      ∙ ap (λ l. free S (free_in_choice a) ++ l) (rw h.2.2.2 (ap (λ l. names_seen (after (syntax.tail_congruence l (core a)) S) y) (strategies_of-list (core_all cs))))))
   prefix_sees (name f) S x y h e = rw h (used_in f S y e.name.round)
   prefix_sees (call f cs) S x y h e =
-      rw h.1 (rw h.2.1 (choices_see cs (Arguments f) S h.2.0 y h.2.2 ∙ ap (λ l. free S (free_in_choices cs) ++ names_seen (behind (syntax.uses f l no_patterns) S) y) (strategies_of-list (core_all cs))))
+      rw h.1 (rw h.2.1 (choices_see cs (Arguments f) S h.2.0 y h.2.2 ∙ ap (λ l. free S (free_in_choices cs) ++ names_seen (after (syntax.uses f l no_patterns) S) y) (strategies_of-list (core_all cs))))
   prefix_sees (call_with_terms f cs ps) S x y h e =
-      rw h.1 (rw h.2.1 (chain S (free_in_choices cs) (variables_of_all ps) (names_seen (first_strategy (Arguments f) S) h.2.0) (names_seen (first_pattern (Terms f (strategy_list (core_all cs))) S) h.2.2.0) (names_seen (behind (syntax.uses f (core_all cs) ps) S) y)
+      rw h.1 (rw h.2.1 (chain S (free_in_choices cs) (variables_of_all ps) (names_seen (first_strategy (Arguments f) S) h.2.0) (names_seen (first_pattern (Terms f (strategy_list (core_all cs))) S) h.2.2.0) (names_seen (after (syntax.uses f (core_all cs) ps) S) y)
       (arguments_see cs f S h.2.0 h.2.2.0 h.2.2.1)
       (list_seen ps (Terms f (strategy_list (core_all cs))) S h.2.2.0 y h.2.2.2
-      ∙ ap (λ l. free S (variables_of_all ps) ++ names_seen (behind (syntax.uses f l (patterns_of (pattern_list ps))) S) y) (strategies_of-list (core_all cs))
-      ∙ ap (λ l. free S (variables_of_all ps) ++ names_seen (behind (syntax.uses f (core_all cs) l) S) y) (patterns_of-list ps))))
+      ∙ ap (λ l. free S (variables_of_all ps) ++ names_seen (after (syntax.uses f l (patterns_of (pattern_list ps))) S) y) (strategies_of-list (core_all cs))
+      ∙ ap (λ l. free S (variables_of_all ps) ++ names_seen (after (syntax.uses f (core_all cs) l) S) y) (patterns_of-list ps))))
   prefix_sees (child i a) S x y h e =
       rw h.1.1 (rw h.1.2.1 (child_begins i S h.1.2.0 h.0
       ∙ choice_sees a (ForStrategy (Child i) ∷ S) h.1.2.0 h.1.2.2.0 h.1.2.2.1 (λ s t. refl) (round_ends h.1.2.2.0 y h.1.2.2.2)
       ∙ ap (λ l. free S (free_in_choice a) ++ names_seen (in_frame (core a) (Child i) S) l) h.1.2.2.2))
 
   choices_see : (cs : Choices) (g : StrategyGroup) (S : List ParserFrame) (x y : List Token) → ReadsChoices cs (closing g) x y
-      → names_seen (first_strategy g S) x ≡ free S (free_in_choices cs) ++ names_seen (behind (grouped g (strategy_list (core_all cs))) S) y
+      → names_seen (first_strategy g S) x ≡ free S (free_in_choices cs) ++ names_seen (after (grouped g (strategy_list (core_all cs))) S) y
   choices_see no_choices g S x y h = closes_first g S x y h
   choices_see (and_choice a cs) g S x y h =
       first_in g S x (choice_begins a x h.0 h.1)
-      ∙ chain S (free_in_choice a) (free_in_choices cs) (names_seen (begin (ForStrategy (Strategies g []) ∷ S)) x) (names_seen (behind_element g (core a ∷ []) S) h.0) (names_seen (behind (grouped g (core a ∷ strategy_list (core_all cs))) S) y)
+      ∙ chain S (free_in_choice a) (free_in_choices cs) (names_seen (begin (ForStrategy (Strategies g []) ∷ S)) x) (names_seen (after_element g (core a ∷ []) S) h.0) (names_seen (after (grouped g (core a ∷ strategy_list (core_all cs))) S) y)
       (choice_sees a (ForStrategy (Strategies g []) ∷ S) x h.0 h.1 (λ s t. refl) (more_ends cs g h.0 y h.2))
       (more_choices_see cs g (core a ∷ []) S h.0 y h.2)
 
@@ -373,7 +373,7 @@ mutual
   some_choices_see no_choices S x y h = absurd h
   some_choices_see (and_choice a cs) S x y h =
       first_in Square S x (choice_begins a x h.0 h.1)
-      ∙ chain S (free_in_choice a) (free_in_choices cs) (names_seen (begin (ForStrategy (Strategies Square []) ∷ S)) x) (names_seen (behind_element Square (core a ∷ []) S) h.0) (names_seen (begin (ForStrategy (SquareTail (core a ∷ strategy_list (core_all cs))) ∷ S)) y)
+      ∙ chain S (free_in_choice a) (free_in_choices cs) (names_seen (begin (ForStrategy (Strategies Square []) ∷ S)) x) (names_seen (after_element Square (core a ∷ []) S) h.0) (names_seen (begin (ForStrategy (SquareTail (core a ∷ strategy_list (core_all cs))) ∷ S)) y)
       (choice_sees a (ForStrategy (Strategies Square []) ∷ S) x h.0 h.1 (λ s t. refl) (bar_ends cs h.0 y h.2))
       (square_bar_sees cs (core a ∷ []) S h.0 y h.2)
 
@@ -382,39 +382,39 @@ mutual
   arguments_see no_choices f S x y h = rw h refl
   arguments_see (and_choice a cs) f S x y h =
       first_in (Arguments f) S x (choice_begins a x h.0 h.1)
-      ∙ chain S (free_in_choice a) (free_in_choices cs) (names_seen (begin (ForStrategy (Strategies (Arguments f) []) ∷ S)) x) (names_seen (behind_element (Arguments f) (core a ∷ []) S) h.0) (names_seen (first_pattern (Terms f (core a ∷ strategy_list (core_all cs))) S) y)
+      ∙ chain S (free_in_choice a) (free_in_choices cs) (names_seen (begin (ForStrategy (Strategies (Arguments f) []) ∷ S)) x) (names_seen (after_element (Arguments f) (core a ∷ []) S) h.0) (names_seen (first_pattern (Terms f (core a ∷ strategy_list (core_all cs))) S) y)
       (choice_sees a (ForStrategy (Strategies (Arguments f) []) ∷ S) x h.0 h.1 (λ s t. refl) (bar_ends cs h.0 y h.2))
       (arguments_bar_see cs f (core a ∷ []) S h.0 y h.2)
 
   more_choices_see : (cs : Choices) (g : StrategyGroup) (done : List Strategy) (S : List ParserFrame) (x y : List Token) → ReadsMoreChoices cs (closing g) x y
-      → names_seen (behind_element g done S) x ≡ free S (free_in_choices cs) ++ names_seen (behind (grouped g (done ++ strategy_list (core_all cs))) S) y
+      → names_seen (after_element g done S) x ≡ free S (free_in_choices cs) ++ names_seen (after (grouped g (done ++ strategy_list (core_all cs))) S) y
   more_choices_see no_choices g done S x y h =
-      closes_more g done S x y h ∙ ap (λ l. names_seen (behind (grouped g l) S) y) (sym (append-nil done))
+      closes_more g done S x y h ∙ ap (λ l. names_seen (after (grouped g l) S) y) (sym (append-nil done))
   more_choices_see (and_choice a cs) g done S x y h =
-      rw h.1 (chain S (free_in_choice a) (free_in_choices cs) (names_seen (begin (ForStrategy (Strategies g done) ∷ S)) h.0) (names_seen (behind_element g (done ++ core a ∷ []) S) h.2.0) (names_seen (behind (grouped g (done ++ core a ∷ strategy_list (core_all cs))) S) y)
+      rw h.1 (chain S (free_in_choice a) (free_in_choices cs) (names_seen (begin (ForStrategy (Strategies g done) ∷ S)) h.0) (names_seen (after_element g (done ++ core a ∷ []) S) h.2.0) (names_seen (after (grouped g (done ++ core a ∷ strategy_list (core_all cs))) S) y)
       (choice_sees a (ForStrategy (Strategies g done) ∷ S) h.0 h.2.0 h.2.1 (λ s t. refl) (more_ends cs g h.2.0 y h.2.2))
       (more_choices_see cs g (done ++ core a ∷ []) S h.2.0 y h.2.2
-      ∙ ap (λ l. free S (free_in_choices cs) ++ names_seen (behind (grouped g l) S) y) (append_assoc done (core a ∷ []) (strategy_list (core_all cs)))))
+      ∙ ap (λ l. free S (free_in_choices cs) ++ names_seen (after (grouped g l) S) y) (append_assoc done (core a ∷ []) (strategy_list (core_all cs)))))
 
   square_bar_sees : (cs : Choices) (done : List Strategy) (S : List ParserFrame) (x y : List Token) → ReadsMoreChoices cs Bar x y
-      → names_seen (behind_element Square done S) x ≡ free S (free_in_choices cs) ++ names_seen (begin (ForStrategy (SquareTail (done ++ strategy_list (core_all cs))) ∷ S)) y
+      → names_seen (after_element Square done S) x ≡ free S (free_in_choices cs) ++ names_seen (begin (ForStrategy (SquareTail (done ++ strategy_list (core_all cs))) ∷ S)) y
   square_bar_sees no_choices done S x y h = rw h (ap (λ l. names_seen (begin (ForStrategy (SquareTail l) ∷ S)) y) (sym (append-nil done)))
   square_bar_sees (and_choice a cs) done S x y h =
-      rw h.1 (chain S (free_in_choice a) (free_in_choices cs) (names_seen (begin (ForStrategy (Strategies Square done) ∷ S)) h.0) (names_seen (behind_element Square (done ++ core a ∷ []) S) h.2.0) (names_seen (begin (ForStrategy (SquareTail (done ++ core a ∷ strategy_list (core_all cs))) ∷ S)) y)
+      rw h.1 (chain S (free_in_choice a) (free_in_choices cs) (names_seen (begin (ForStrategy (Strategies Square done) ∷ S)) h.0) (names_seen (after_element Square (done ++ core a ∷ []) S) h.2.0) (names_seen (begin (ForStrategy (SquareTail (done ++ core a ∷ strategy_list (core_all cs))) ∷ S)) y)
       (choice_sees a (ForStrategy (Strategies Square done) ∷ S) h.0 h.2.0 h.2.1 (λ s t. refl) (bar_ends cs h.2.0 y h.2.2))
       (square_bar_sees cs (done ++ core a ∷ []) S h.2.0 y h.2.2
       ∙ ap (λ l. free S (free_in_choices cs) ++ names_seen (begin (ForStrategy (SquareTail l) ∷ S)) y) (append_assoc done (core a ∷ []) (strategy_list (core_all cs)))))
 
   arguments_bar_see : (cs : Choices) (f : Symbol) (done : List Strategy) (S : List ParserFrame) (x y : List Token) → ReadsMoreChoices cs Bar x y
-      → names_seen (behind_element (Arguments f) done S) x ≡ free S (free_in_choices cs) ++ names_seen (first_pattern (Terms f (done ++ strategy_list (core_all cs))) S) y
+      → names_seen (after_element (Arguments f) done S) x ≡ free S (free_in_choices cs) ++ names_seen (first_pattern (Terms f (done ++ strategy_list (core_all cs))) S) y
   arguments_bar_see no_choices f done S x y h = rw h (ap (λ l. names_seen (first_pattern (Terms f l) S) y) (sym (append-nil done)))
   arguments_bar_see (and_choice a cs) f done S x y h =
-      rw h.1 (chain S (free_in_choice a) (free_in_choices cs) (names_seen (begin (ForStrategy (Strategies (Arguments f) done) ∷ S)) h.0) (names_seen (behind_element (Arguments f) (done ++ core a ∷ []) S) h.2.0) (names_seen (first_pattern (Terms f (done ++ core a ∷ strategy_list (core_all cs))) S) y)
+      rw h.1 (chain S (free_in_choice a) (free_in_choices cs) (names_seen (begin (ForStrategy (Strategies (Arguments f) done) ∷ S)) h.0) (names_seen (after_element (Arguments f) (done ++ core a ∷ []) S) h.2.0) (names_seen (first_pattern (Terms f (done ++ core a ∷ strategy_list (core_all cs))) S) y)
       (choice_sees a (ForStrategy (Strategies (Arguments f) done) ∷ S) h.0 h.2.0 h.2.1 (λ s t. refl) (bar_ends cs h.2.0 y h.2.2))
       (arguments_bar_see cs f (done ++ core a ∷ []) S h.2.0 y h.2.2
       ∙ ap (λ l. free S (free_in_choices cs) ++ names_seen (first_pattern (Terms f l) S) y) (append_assoc done (core a ∷ []) (strategy_list (core_all cs)))))
 
-ended : (s : Strategy) (y : List Token) → names_seen (behind_choice s []) y ≡ []
+ended : (s : Strategy) (y : List Token) → names_seen (after_choice s []) y ≡ []
 ended s [] = refl
 ended s (t ∷ ts) = refl
 

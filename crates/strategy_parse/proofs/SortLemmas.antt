@@ -14,7 +14,7 @@ use Rattle.strategy_parse.specs.Written.{Sort, sort, Sorts, no_sorts, and_sort}
 use Rattle.strategy_parse.specs.Grammar.{Reading, Mark}
 use Rattle.strategy_parse.specs.GrammarModules.{ReadsSort, ReadsMoreSorts}
 use Rattle.strategy_parse.specs.Core.{sort_count}
-use Rattle.strategy_parse.specs.inside.ModuleFronts.{SortsLeft, behind_sort, begin_sort, sort_step, sort_goes, sorts_from, sorts_at, sort_at, one_sort}
+use Rattle.strategy_parse.specs.inside.ModuleFronts.{SortsLeft, after_sort, begin_sort, sort_step, sort_goes, sorts_from, sorts_at, sort_at, one_sort}
 use Rattle.strategy_tokens.proofs.MarkLemmas.{mark_is}
 use Rattle.strategy_parse.proofs.SeenPatterns.{NoMark, no_mark}
 
@@ -86,7 +86,7 @@ abbrev Closes : ℕ → Reading
 Closes zero u v = v ≡ u
 Closes (suc d) u v = (a : List Token) × (ss : Sorts) × ReadsMoreSorts ss Comma (Mark CloseRound) u a × Closes d a v
 
-record Behind (d n : ℕ) (x : List Token) (k : ℕ) (y : List Token) : Type 0 where
+record After (d n : ℕ) (x : List Token) (k : ℕ) (y : List Token) : Type 0 where
   pub closed : List Token
   pub closes : Closes d x closed
   pub sorts : Sorts
@@ -97,12 +97,12 @@ record Begun (d n : ℕ) (x : List Token) (k : ℕ) (y : List Token) : Type 0 wh
   pub sort : Sort
   pub rest : List Token
   pub reads : ReadsSort sort x rest
-  pub behind : Behind d n rest k y
+  pub after : After d n rest k y
 
 record Sound (x : List Token) : Type 0 where
   pub begins : (d n k : ℕ) (y : List Token) → sorts_from Begins d n x ≡ Some (k, y) → Begun d n x k y
   pub named : (f : Symbol) (d n k : ℕ) (y : List Token) → sorts_from Named d n x ≡ Some (k, y) → Begun d n (Ident f ∷ x) k y
-  pub closed : (d n k : ℕ) (y : List Token) → sorts_from Closed d n x ≡ Some (k, y) → Behind d n x k y
+  pub closed : (d n k : ℕ) (y : List Token) → sorts_from Closed d n x ≡ Some (k, y) → After d n x k y
 
 some-left : (a b : ℕ) (x y : List Token) → ◌≡◌ {A = SortsLeft} (Some (a, x)) (Some (b, y)) → a ≡ b
 some-left a b x y e = let pair : ◌≡◌ {A = ℕ × List Token} (a, x) (b, y) = cc in ap (λ (q : ℕ × List Token). q.0) pair
@@ -110,14 +110,14 @@ some-left a b x y e = let pair : ◌≡◌ {A = ℕ × List Token} (a, x) (b, y)
 some-right : (a b : ℕ) (x y : List Token) → ◌≡◌ {A = SortsLeft} (Some (a, x)) (Some (b, y)) → x ≡ y
 some-right a b x y e = let pair : ◌≡◌ {A = ℕ × List Token} (a, x) (b, y) = cc in ap (λ (q : ℕ × List Token). q.1) pair
 
-nothing_more : (n k : ℕ) (x y : List Token) → ◌≡◌ {A = SortsLeft} (Some (n, x)) (Some (k, y)) → Behind 0 n x k y
+nothing_more : (n k : ℕ) (x y : List Token) → ◌≡◌ {A = SortsLeft} (Some (n, x)) (Some (k, y)) → After 0 n x k y
 nothing_more n k x y e =
     let same : n ≡ k = some-left n k x y e in
     record { closed = x; closes = refl; sorts = no_sorts; reads = sym (some-right n k x y e); count = omega arith }
 
-one_more : (n k : ℕ) (ts y : List Token) → Begun 0 (suc n) ts k y → Behind 0 n (ASign Star ∷ ts) k y
+one_more : (n k : ℕ) (ts y : List Token) → Begun 0 (suc n) ts k y → After 0 n (ASign Star ∷ ts) k y
 one_more n k ts y h =
-    let b : Behind 0 (suc n) h.rest k y = h.behind in
+    let b : After 0 (suc n) h.rest k y = h.after in
     let c : k ≡ sort_count b.sorts + suc n = b.count in
     record {
       closed = ASign Star ∷ ts;
@@ -127,9 +127,9 @@ one_more n k ts y h =
       count = omega arith;
     }
 
-and_comma : (d n k : ℕ) (ts y : List Token) → Begun (suc d) n ts k y → Behind (suc d) n (ASign Comma ∷ ts) k y
+and_comma : (d n k : ℕ) (ts y : List Token) → Begun (suc d) n ts k y → After (suc d) n (ASign Comma ∷ ts) k y
 and_comma d n k ts y h =
-    let b : Behind (suc d) n h.rest k y = h.behind in
+    let b : After (suc d) n h.rest k y = h.after in
     record {
       closed = b.closed;
       closes = (b.closes.0, and_sort h.sort b.closes.1, (ts, refl, (h.rest, h.reads, b.closes.2)), b.closes.3);
@@ -138,7 +138,7 @@ and_comma d n k ts y h =
       count = b.count;
     }
 
-and_close : (d n k : ℕ) (ts y : List Token) → Behind d n ts k y → Behind (suc d) n (ASign CloseRound ∷ ts) k y
+and_close : (d n k : ℕ) (ts y : List Token) → After d n ts k y → After (suc d) n (ASign CloseRound ∷ ts) k y
 and_close d n k ts y b = record {
   closed = b.closed;
   closes = (ts, no_sorts, refl, b.closes);
@@ -147,42 +147,42 @@ and_close d n k ts y b = record {
   count = b.count;
 }
 
-and_named : (f : Symbol) (d n k : ℕ) (x y : List Token) → Behind d n x k y → Begun d n (Ident f ∷ x) k y
-and_named f d n k x y b = record { sort = sort f no_sorts; rest = x; reads = refl; behind = b }
+and_named : (f : Symbol) (d n k : ℕ) (x y : List Token) → After d n x k y → Begun d n (Ident f ∷ x) k y
+and_named f d n k x y b = record { sort = sort f no_sorts; rest = x; reads = refl; after = b }
 
 and_open : (f : Symbol) (d n k : ℕ) (ts y : List Token) → Begun (suc d) n ts k y → Begun d n (Ident f ∷ (ASign OpenRound ∷ ts)) k y
 and_open f d n k ts y h =
-    let b : Behind (suc d) n h.rest k y = h.behind in
+    let b : After (suc d) n h.rest k y = h.after in
     record {
       sort = sort f (and_sort h.sort b.closes.1);
       rest = b.closes.0;
       reads = (ASign OpenRound ∷ ts, refl, (ts, refl, (h.rest, h.reads, b.closes.2)));
-      behind = record { closed = b.closed; closes = b.closes.3; sorts = b.sorts; reads = b.reads; count = b.count };
+      after = record { closed = b.closed; closes = b.closes.3; sorts = b.sorts; reads = b.reads; count = b.count };
     }
 
 module _ (t : Token) (ts : List Token) (more : Sound ts) where
-  at_star : (b : Bool) (n k : ℕ) (y : List Token) → is_mark Star t ≡ b → (if b then sorts_from Begins 0 (suc n) ts else Some (n, t ∷ ts)) ≡ Some (k, y) → Behind 0 n (t ∷ ts) k y
-  at_star true n k y e h = subst (λ u. Behind 0 n (u ∷ ts) k y) (sym (mark_is Star t e)) (one_more n k ts y (more.begins 0 (suc n) k y h))
+  at_star : (b : Bool) (n k : ℕ) (y : List Token) → is_mark Star t ≡ b → (if b then sorts_from Begins 0 (suc n) ts else Some (n, t ∷ ts)) ≡ Some (k, y) → After 0 n (t ∷ ts) k y
+  at_star true n k y e h = subst (λ u. After 0 n (u ∷ ts) k y) (sym (mark_is Star t e)) (one_more n k ts y (more.begins 0 (suc n) k y h))
   at_star false n k y e h = nothing_more n k (t ∷ ts) y h
 
   abbrev Goes : ℕ → Turn → SortsLeft
   Goes n u = sort_goes (λ q e. sorts_from q e n ts) (if (is_mark Star t) then sorts_from Begins 0 (suc n) ts else Some (n, t ∷ ts)) u
 
-  at_close : (b : Bool) (d n k : ℕ) (y : List Token) → is_mark CloseRound t ≡ b → Goes n (if b then Reads Closed d else Stuck) ≡ Some (k, y) → Behind (suc d) n (t ∷ ts) k y
-  at_close true d n k y e h = subst (λ u. Behind (suc d) n (u ∷ ts) k y) (sym (mark_is CloseRound t e)) (and_close d n k ts y (more.closed d n k y h))
+  at_close : (b : Bool) (d n k : ℕ) (y : List Token) → is_mark CloseRound t ≡ b → Goes n (if b then Reads Closed d else Stuck) ≡ Some (k, y) → After (suc d) n (t ∷ ts) k y
+  at_close true d n k y e h = subst (λ u. After (suc d) n (u ∷ ts) k y) (sym (mark_is CloseRound t e)) (and_close d n k ts y (more.closed d n k y h))
   at_close false d n k y e h = absurd (cc)
 
-  at_comma : (b : Bool) (d n k : ℕ) (y : List Token) → is_mark Comma t ≡ b → Goes n (if b then Reads Begins (suc d) else (if (is_mark CloseRound t) then Reads Closed d else Stuck)) ≡ Some (k, y) → Behind (suc d) n (t ∷ ts) k y
-  at_comma true d n k y e h = subst (λ u. Behind (suc d) n (u ∷ ts) k y) (sym (mark_is Comma t e)) (and_comma d n k ts y (more.begins (suc d) n k y h))
+  at_comma : (b : Bool) (d n k : ℕ) (y : List Token) → is_mark Comma t ≡ b → Goes n (if b then Reads Begins (suc d) else (if (is_mark CloseRound t) then Reads Closed d else Stuck)) ≡ Some (k, y) → After (suc d) n (t ∷ ts) k y
+  at_comma true d n k y e h = subst (λ u. After (suc d) n (u ∷ ts) k y) (sym (mark_is Comma t e)) (and_comma d n k ts y (more.begins (suc d) n k y h))
   at_comma false d n k y e h = at_close (is_mark CloseRound t) d n k y refl h
 
-  behind_is : (d n k : ℕ) (y : List Token) → Goes n (behind_sort d t) ≡ Some (k, y) → Behind d n (t ∷ ts) k y
-  behind_is zero n k y h = at_star (is_mark Star t) n k y refl h
-  behind_is (suc d) n k y h = at_comma (is_mark Comma t) d n k y refl h
+  after_is : (d n k : ℕ) (y : List Token) → Goes n (after_sort d t) ≡ Some (k, y) → After d n (t ∷ ts) k y
+  after_is zero n k y h = at_star (is_mark Star t) n k y refl h
+  after_is (suc d) n k y h = at_comma (is_mark Comma t) d n k y refl h
 
-  at_open : (f : Symbol) (b : Bool) (d n k : ℕ) (y : List Token) → is_mark OpenRound t ≡ b → Goes n (if b then Reads Begins (suc d) else behind_sort d t) ≡ Some (k, y) → Begun d n (Ident f ∷ (t ∷ ts)) k y
+  at_open : (f : Symbol) (b : Bool) (d n k : ℕ) (y : List Token) → is_mark OpenRound t ≡ b → Goes n (if b then Reads Begins (suc d) else after_sort d t) ≡ Some (k, y) → Begun d n (Ident f ∷ (t ∷ ts)) k y
   at_open f true d n k y e h = subst (λ u. Begun d n (Ident f ∷ (u ∷ ts)) k y) (sym (mark_is OpenRound t e)) (and_open f d n k ts y (more.begins (suc d) n k y h))
-  at_open f false d n k y e h = and_named f d n k (t ∷ ts) y (behind_is d n k y h)
+  at_open f false d n k y e h = and_named f d n k (t ∷ ts) y (after_is d n k y h)
 
 begins_is : (t : Token) (ts : List Token) → Sound ts → (d n k : ℕ) (y : List Token) → sorts_from Begins d n (t ∷ ts) ≡ Some (k, y) → Begun d n (t ∷ ts) k y
 begins_is (Ident f) ts more d n k y h = more.named f d n k y h
@@ -193,11 +193,11 @@ begins_is (Text f) ts more d n k y h = absurd (cc)
 begins_is (ASign s) ts more d n k y h = absurd (cc)
 begins_is Bad ts more d n k y h = absurd (cc)
 
-end_is : (d n k : ℕ) (y : List Token) → sorts_from Closed d n [] ≡ Some (k, y) → Behind d n [] k y
+end_is : (d n k : ℕ) (y : List Token) → sorts_from Closed d n [] ≡ Some (k, y) → After d n [] k y
 end_is zero n k y h = nothing_more n k [] y h
 end_is (suc d) n k y h = absurd (cc)
 
-end_named : (d n k : ℕ) (y : List Token) → sorts_from Named d n [] ≡ Some (k, y) → Behind d n [] k y
+end_named : (d n k : ℕ) (y : List Token) → sorts_from Named d n [] ≡ Some (k, y) → After d n [] k y
 end_named zero n k y h = nothing_more n k [] y h
 end_named (suc d) n k y h = absurd (cc)
 
@@ -210,26 +210,26 @@ sound [] = record {
 sound (t ∷ ts) = record {
   begins = λ d n k y h. begins_is t ts (sound ts) d n k y h;
   named = λ f d n k y h. at_open t ts (sound ts) f (is_mark OpenRound t) d n k y refl h;
-  closed = λ d n k y h. behind_is t ts (sound ts) d n k y h;
+  closed = λ d n k y h. after_is t ts (sound ts) d n k y h;
 }
 
 -- sorts separated by `*`
 pub record SortsFound (x : List Token) (n : ℕ) (y : List Token) : Type 0 where
   pub first : Sort
-  pub behind : List Token
-  pub reads : ReadsSort first x behind
+  pub after : List Token
+  pub reads : ReadsSort first x after
   pub more : Sorts
-  pub reads_more : ReadsMoreSorts more Star Nothing behind y
+  pub reads_more : ReadsMoreSorts more Star Nothing after y
   pub count : n ≡ sort_count (and_sort first more)
 
 pub sorts_found : (x : List Token) (n : ℕ) (y : List Token) → sorts_at x ≡ Some (n, y) → SortsFound x n y
 sorts_found x n y h =
     let b : Begun 0 1 x n y = (sound x).begins 0 1 n y h in
-    let r : Behind 0 1 b.rest n y = b.behind in
+    let r : After 0 1 b.rest n y = b.after in
     let c : n ≡ sort_count r.sorts + 1 = r.count in
     record {
       first = b.sort;
-      behind = b.rest;
+      after = b.rest;
       reads = b.reads;
       more = r.sorts;
       reads_more = subst (λ l. ReadsMoreSorts r.sorts Star Nothing l y) r.closes r.reads;
@@ -250,7 +250,7 @@ only_first s (and_sort r ss) x a y c h k = absurd (omega arith)
 pub sort_found : (x y : List Token) → sort_at x ≡ Some y → (s : Sort) × ReadsSort s x y
 sort_found x y h =
     let found : SortsFound x 1 y = sorts_found x 1 y (one_is (sorts_at x) y h) in
-    (found.first, only_first found.first found.more x found.behind y found.count found.reads found.reads_more)
+    (found.first, only_first found.first found.more x found.after y found.count found.reads found.reads_more)
 
 -- ---- the loop over sorts
 
@@ -268,9 +268,9 @@ sorts_stuck p d n x t ts h k =
     ap (sorts_from p d n) h
     ∙ ap (sort_goes (λ r f. sorts_from r f n ts) (if (is_mark Star t) then sorts_from Begins 0 (suc n) ts else Some (n, t ∷ ts))) (sym k)
 
-ends_behind : (d : ℕ) (t : Token) → Ends ≡ behind_sort d t → d ≡ 0
-ends_behind zero t e = refl
-ends_behind (suc d) t e = absurd (at_comma (is_mark Comma t) (is_mark CloseRound t) e) where
+ends_after : (d : ℕ) (t : Token) → Ends ≡ after_sort d t → d ≡ 0
+ends_after zero t e = refl
+ends_after (suc d) t e = absurd (at_comma (is_mark Comma t) (is_mark CloseRound t) e) where
   at_comma : (b c : Bool) → Ends ≡ (if b then Reads Begins (suc d) else (if c then Reads Closed d else Stuck)) → ⊥
   at_comma true c e = cc
   at_comma false true e = cc
@@ -287,11 +287,11 @@ begin-ends d Bad e = cc
 
 ends-at : (p : SortState) (d : ℕ) (t : Token) → Ends ≡ sort_step p d t → d ≡ 0
 ends-at Begins d t e = absurd (begin-ends d t e)
-ends-at Closed d t e = ends_behind d t e
+ends-at Closed d t e = ends_after d t e
 ends-at Named d t e = at_open (is_mark OpenRound t) e where
-  at_open : (b : Bool) → Ends ≡ (if b then Reads Begins (suc d) else behind_sort d t) → d ≡ 0
+  at_open : (b : Bool) → Ends ≡ (if b then Reads Begins (suc d) else after_sort d t) → d ≡ 0
   at_open true e = absurd (cc)
-  at_open false e = ends_behind d t e
+  at_open false e = ends_after d t e
 
 pub sorts_star : (p : SortState) (d n k : ℕ) (x : List Token) (t : Token) (ts : List Token) → x ≡ t ∷ ts → Ends ≡ sort_step p d t → is_mark Star t ≡ true → k ≡ n + 1 → sorts_from Begins d k ts ≡ sorts_from p d n x
 sorts_star p d n k x t ts h e m s =
@@ -311,9 +311,9 @@ sorts_over p d n x h k = ap (sorts_from p d n) h ∙ over (sort_step p d Bad) k 
   over Ends k = absurd (k refl)
   over Stuck k = refl
 
-depth_behind : (d e : ℕ) (q : SortState) (t : Token) → Reads q e ≡ behind_sort d t → e ≤ d
-depth_behind zero e q t h = absurd (cc)
-depth_behind (suc d) e q t h = at_comma (is_mark Comma t) (is_mark CloseRound t) h where
+depth_after : (d e : ℕ) (q : SortState) (t : Token) → Reads q e ≡ after_sort d t → e ≤ d
+depth_after zero e q t h = absurd (cc)
+depth_after (suc d) e q t h = at_comma (is_mark Comma t) (is_mark CloseRound t) h where
   depth-of : (p r : SortState) (a b : ℕ) → Reads p a ≡ Reads r b → a ≡ b
   depth-of p r a b h = cc
 
@@ -323,7 +323,7 @@ depth_behind (suc d) e q t h = at_comma (is_mark Comma t) (is_mark CloseRound t)
   at_comma false false h = absurd (cc)
 
 pub sorts_depth : (p q : SortState) (d e : ℕ) (t : Token) → Reads q e ≡ sort_step p d t → e ≤ d + 1
-sorts_depth Closed q d e t h = let less : e ≤ d = depth_behind d e q t h in omega arith
+sorts_depth Closed q d e t h = let less : e ≤ d = depth_after d e q t h in omega arith
 sorts_depth Begins q d e (Ident f) h = let same : e ≡ d = cc in omega arith
 sorts_depth Begins q d e Wildcard h = absurd (cc)
 sorts_depth Begins q d e (Reserved w) h = absurd (cc)
@@ -332,9 +332,9 @@ sorts_depth Begins q d e (Text f) h = absurd (cc)
 sorts_depth Begins q d e (ASign s) h = absurd (cc)
 sorts_depth Begins q d e Bad h = absurd (cc)
 sorts_depth Named q d e t h = at_open (is_mark OpenRound t) h where
-  at_open : (b : Bool) → Reads q e ≡ (if b then Reads Begins (suc d) else behind_sort d t) → e ≤ d + 1
+  at_open : (b : Bool) → Reads q e ≡ (if b then Reads Begins (suc d) else after_sort d t) → e ≤ d + 1
   at_open true h = let same : e ≡ suc d = cc in omega arith
-  at_open false h = let less : e ≤ d = depth_behind d e q t h in omega arith
+  at_open false h = let less : e ≤ d = depth_after d e q t h in omega arith
 
 pub one_sort-is : (r : SortsLeft) (n : ℕ) (y : List Token) → r ≡ Some (n, y) → n ≡ 1 → one_sort r ≡ Some y
 one_sort-is r n y e h = ap one_sort (e ∙ ap (λ k. Some (k, y)) h)

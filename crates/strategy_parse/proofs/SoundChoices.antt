@@ -15,7 +15,7 @@ use Rattle.strategy_parse.specs.declared.parser.state.StrategyFrame.TheVariants.
 use Rattle.strategy_parse.specs.declared.parser.state.StrategyGroup.{StrategyGroup}
 use Rattle.strategy_parse.specs.declared.parser.state.PatternGroup.TheVariants.{Prim}
 use Rattle.strategy_tokens.specs.Marks.{is_mark}
-use Rattle.strategy_parse.specs.inside.Parser.{goes, begin, behind, behind_arrow, behind_seq, behind_choice, behind_element, behind_bar, close_strategies, closing, grouped, first_strategy, empty_bar}
+use Rattle.strategy_parse.specs.inside.Parser.{goes, begin, after, after_arrow, after_seq, after_choice, after_element, after_bar, close_strategies, closing, grouped, first_strategy, empty_bar}
 use Rattle.strategy_parse.specs.Written.{sequence, left_choice, guarded_choice, last, before, arrow, no_choices, and_choice}
 use Rattle.strategy_parse.specs.Core.{then_matched, core, core_seq, core_prefix, core_all}
 use Rattle.strategy_parse.proofs.Runs.{Accepts, Goes, at_mark, only_mark}
@@ -30,7 +30,7 @@ module _ (n : ℕ) (P : PrefixesTo n) where
       let lt : length found.rest < length x = found.shorter in
       let arrows : FoundArrows (core_prefix found.prefix) S found.rest r = arrows_found (length found.rest) (core_prefix found.prefix) S found.rest r (omega arith) found.accepts in
       let la : length arrows.rest ≤ length found.rest = arrows.shorter in
-      elim (at_mark Semicolon (goes ToStrategy (Operand Before (then_matched (core_prefix found.prefix) arrows.patterns) ∷ S)) (behind_arrow (then_matched (core_prefix found.prefix) arrows.patterns) S) arrows.rest r arrows.accepts) [
+      elim (at_mark Semicolon (goes ToStrategy (Operand Before (then_matched (core_prefix found.prefix) arrows.patterns) ∷ S)) (after_arrow (then_matched (core_prefix found.prefix) arrows.patterns) S) arrows.rest r arrows.accepts) [
         | inl next ↦
             let l : length arrows.rest ≡ suc (length next.0) = ap length next.1 in
             let more : FoundSeq (Operand Before (then_matched (core_prefix found.prefix) arrows.patterns) ∷ S) next.0 r = seq_found m (omega arith) (Operand Before (then_matched (core_prefix found.prefix) arrows.patterns) ∷ S) next.0 r (omega arith) next.2 in
@@ -56,8 +56,8 @@ module _ (n : ℕ) (P : PrefixesTo n) where
   choice_found (suc m) le S x r bare lx k =
       let a : FoundSeq S x r = seq_found (suc m) le S x r lx k in
       let la : length a.rest < length x = a.shorter in
-      elim (at_mark LeftChoice (goes ToStrategy (Operand Otherwise syntax.id ∷ (Operand Guarded (core_seq a.seq) ∷ S))) (λ t. if (is_mark Less t) then goes ToStrategy (Operand Guarded (core_seq a.seq) ∷ S) else behind_choice (core_seq a.seq) S t) a.rest r
-      (same_accepts (behind_seq (core_seq a.seq) S) (behind_arrow (core_seq a.seq) S) a.rest r (λ t. sym (bare (core_seq a.seq) t)) a.accepts)) [
+      elim (at_mark LeftChoice (goes ToStrategy (Operand Otherwise syntax.id ∷ (Operand Guarded (core_seq a.seq) ∷ S))) (λ t. if (is_mark Less t) then goes ToStrategy (Operand Guarded (core_seq a.seq) ∷ S) else after_choice (core_seq a.seq) S t) a.rest r
+      (same_accepts (after_seq (core_seq a.seq) S) (after_arrow (core_seq a.seq) S) a.rest r (λ t. sym (bare (core_seq a.seq) t)) a.accepts)) [
         | inl next ↦
             let l : length a.rest ≡ suc (length next.0) = ap length next.1 in
             let b : FoundChoice (Operand Otherwise syntax.id ∷ (Operand Guarded (core_seq a.seq) ∷ S)) next.0 r = choice_found m (omega arith) (Operand Otherwise syntax.id ∷ (Operand Guarded (core_seq a.seq) ∷ S)) next.0 r (λ s t. refl) (omega arith) next.2 in
@@ -69,7 +69,7 @@ module _ (n : ℕ) (P : PrefixesTo n) where
               accepts = b.accepts;
               shorter = omega arith;
             }
-        | inr other ↦ elim (at_mark Less (goes ToStrategy (Operand Guarded (core_seq a.seq) ∷ S)) (behind_choice (core_seq a.seq) S) a.rest r other) [
+        | inr other ↦ elim (at_mark Less (goes ToStrategy (Operand Guarded (core_seq a.seq) ∷ S)) (after_choice (core_seq a.seq) S) a.rest r other) [
           | inl next ↦
               let l : length a.rest ≡ suc (length next.0) = ap length next.1 in
               let b : FoundSeq (Operand Guarded (core_seq a.seq) ∷ S) next.0 r = seq_found m (omega arith) (Operand Guarded (core_seq a.seq) ∷ S) next.0 r (omega arith) next.2 in
@@ -105,7 +105,7 @@ module _ (n : ℕ) (P : PrefixesTo n) where
         choices = and_choice a.choice more.choices;
         rest = more.rest;
         reads = (z, e, (a.rest, a.reads, more.reads));
-        accepts = subst (λ l. Accepts (behind (grouped g l) S) more.rest r) (append_assoc done (core a.choice ∷ []) (strategy_list (core_all more.choices))) more.accepts;
+        accepts = subst (λ l. Accepts (after (grouped g l) S) more.rest r) (append_assoc done (core a.choice ∷ []) (strategy_list (core_all more.choices))) more.accepts;
         shorter = omega arith;
       })
   and_more g done S x z r e a (inr more) =
@@ -116,19 +116,19 @@ module _ (n : ℕ) (P : PrefixesTo n) where
         choices = and_choice a.choice more.choices;
         rest = more.rest;
         reads = (z, e, (a.rest, a.reads, more.reads));
-        goes_on = subst (λ l. Goes (behind_bar g l S) more.rest r) (append_assoc done (core a.choice ∷ []) (strategy_list (core_all more.choices))) more.goes_on;
+        goes_on = subst (λ l. Goes (after_bar g l S) more.rest r) (append_assoc done (core a.choice ∷ []) (strategy_list (core_all more.choices))) more.goes_on;
         shorter = omega arith;
       })
 
-  more_ends : (g : StrategyGroup) (done : List Strategy) (S : List ParserFrame) (x : List Token) (r : Strategy) → Accepts (λ t. if (is_mark Bar t) then behind_bar g done S else close_strategies g done S t) x r → MoreOf g done S x r
-  more_ends g done S x r k = elim (at_mark Bar (behind_bar g done S) (close_strategies g done S) x r k) [
+  more_ends : (g : StrategyGroup) (done : List Strategy) (S : List ParserFrame) (x : List Token) (r : Strategy) → Accepts (λ t. if (is_mark Bar t) then after_bar g done S else close_strategies g done S t) x r → MoreOf g done S x r
+  more_ends g done S x r k = elim (at_mark Bar (after_bar g done S) (close_strategies g done S) x r k) [
     | inl bar ↦
         let l : length x ≡ suc (length bar.0) = ap length bar.1 in
         inr (record {
           choices = no_choices;
           rest = bar.0;
           reads = bar.1;
-          goes_on = subst (λ l. Goes (behind_bar g l S) bar.0 r) (sym (append-nil done)) bar.2;
+          goes_on = subst (λ l. Goes (after_bar g l S) bar.0 r) (sym (append-nil done)) bar.2;
           shorter = omega arith;
         })
     | inr other ↦
@@ -138,17 +138,17 @@ module _ (n : ℕ) (P : PrefixesTo n) where
           choices = no_choices;
           rest = end.0;
           reads = end.1;
-          accepts = subst (λ l. Accepts (behind (grouped g l) S) end.0 r) (sym (append-nil done)) end.2;
+          accepts = subst (λ l. Accepts (after (grouped g l) S) end.0 r) (sym (append-nil done)) end.2;
           shorter = omega arith;
         })
   ]
 
-  more_found_in : (m : ℕ) → m ≤ n → (g : StrategyGroup) (done : List Strategy) (S : List ParserFrame) (x : List Token) (r : Strategy) → length x ≤ m → Accepts (behind_element g done S) x r → MoreOf g done S x r
-  more_found_in zero le g done S x r lx k = elim (at_mark Comma (goes ToStrategy (ForStrategy (Strategies g done) ∷ S)) (λ t. if (is_mark Bar t) then behind_bar g done S else close_strategies g done S t) x r k) [
+  more_found_in : (m : ℕ) → m ≤ n → (g : StrategyGroup) (done : List Strategy) (S : List ParserFrame) (x : List Token) (r : Strategy) → length x ≤ m → Accepts (after_element g done S) x r → MoreOf g done S x r
+  more_found_in zero le g done S x r lx k = elim (at_mark Comma (goes ToStrategy (ForStrategy (Strategies g done) ∷ S)) (λ t. if (is_mark Bar t) then after_bar g done S else close_strategies g done S t) x r k) [
     | inl next ↦ let l : length x ≡ suc (length next.0) = ap length next.1 in absurd (omega arith)
     | inr other ↦ more_ends g done S x r other
   ]
-  more_found_in (suc m) le g done S x r lx k = elim (at_mark Comma (goes ToStrategy (ForStrategy (Strategies g done) ∷ S)) (λ t. if (is_mark Bar t) then behind_bar g done S else close_strategies g done S t) x r k) [
+  more_found_in (suc m) le g done S x r lx k = elim (at_mark Comma (goes ToStrategy (ForStrategy (Strategies g done) ∷ S)) (λ t. if (is_mark Bar t) then after_bar g done S else close_strategies g done S t) x r k) [
     | inl next ↦
         let l : length x ≡ suc (length next.0) = ap length next.1 in
         let a : FoundChoice (ForStrategy (Strategies g done) ∷ S) next.0 r = framed (Strategies g done) S next.0 r (omega arith) next.2 in

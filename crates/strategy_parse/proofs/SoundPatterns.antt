@@ -15,7 +15,7 @@ use Rattle.strategy_parse.specs.declared.parser.state.PatternFrame.TheVariants.{
 use Rattle.strategy_parse.specs.declared.parser.state.PatternGroup.{PatternGroup}
 use Rattle.strategy_parse.specs.declared.parser.state.PatternGroup.TheVariants.{Application as PApplication, List as PList, Tuple as PTuple, Annotations, Terms, Prim}
 use Rattle.strategy_tokens.specs.Marks.{is_mark}
-use Rattle.strategy_parse.specs.inside.Parser.{Next, goes, stuck, begin_pattern, open_pattern, behind_pattern, behind_base, behind_one, pattern_bar, closing_sign, close_patterns, first_pattern, step}
+use Rattle.strategy_parse.specs.inside.Parser.{Next, goes, stuck, begin_pattern, open_pattern, after_pattern, after_base, after_one, pattern_bar, closing_sign, close_patterns, first_pattern, step}
 use Rattle.strategy_parse.specs.Grammar.{IsBase, ReadsPattern, ReadsPatterns, ReadsSomePatterns, ReadsMorePatterns}
 use Rattle.strategy_parse.proofs.Runs.{Accepts, Goes, at_mark, only_mark}
 use Rattle.strategy_parse.proofs.CompletePatterns.{patterns_of-list}
@@ -25,7 +25,7 @@ pub record FoundPattern (S : List ParserFrame) (x : List Token) (r : Strategy) :
   pub pattern : Pattern
   pub rest : List Token
   pub reads : ReadsPattern pattern x rest
-  pub accepts : Accepts (behind_pattern pattern S) rest r
+  pub accepts : Accepts (after_pattern pattern S) rest r
   pub shorter : length rest < length x
 
 -- patterns at the start of x, up to the sign that closes their list
@@ -54,7 +54,7 @@ pub record FoundTail (S : List ParserFrame) (x : List Token) (r : Strategy) : Ty
   pub reads : ReadsSomePatterns patterns Bar x bar
   pub reads_last : ReadsPattern last bar square
   pub closes : square ≡ ASign CloseSquare ∷ rest
-  pub accepts : Accepts (behind_base (with_tail patterns last) S) rest r
+  pub accepts : Accepts (after_base (with_tail patterns last) S) rest r
   pub shorter : length rest < length x
 
 pub record FoundBar (done : List Pattern) (S : List ParserFrame) (x : List Token) (r : Strategy) : Type 0 where
@@ -66,7 +66,7 @@ pub record FoundBar (done : List Pattern) (S : List ParserFrame) (x : List Token
   pub reads : ReadsMorePatterns patterns Bar x bar
   pub reads_last : ReadsPattern last bar square
   pub closes : square ≡ ASign CloseSquare ∷ rest
-  pub accepts : Accepts (behind_base (with_tail (patterns_of (done ++ pattern_list patterns)) last) S) rest r
+  pub accepts : Accepts (after_base (with_tail (patterns_of (done ++ pattern_list patterns)) last) S) rest r
   pub shorter : length rest < length x
 
 -- patterns are found in up to n tokens
@@ -101,7 +101,7 @@ module _ (n : ℕ) (P : PatternsTo n) where
           reads = e;
           reads_last = found.reads;
           closes = end.1;
-          accepts = subst (λ l. Accepts (behind_base (with_tail (patterns_of l) found.pattern) S) end.0 r) (sym (append-nil done)) end.2;
+          accepts = subst (λ l. Accepts (after_base (with_tail (patterns_of l) found.pattern) S) end.0 r) (sym (append-nil done)) end.2;
           shorter = omega arith;
         },
       )
@@ -139,7 +139,7 @@ module _ (n : ℕ) (P : PatternsTo n) where
           reads = (z, e, (found.rest, found.reads, more.reads));
           reads_last = more.reads_last;
           closes = more.closes;
-          accepts = subst (λ l. Accepts (behind_base (with_tail (patterns_of l) more.last) S) more.rest r) (append_assoc done (found.pattern ∷ []) (pattern_list more.patterns)) more.accepts;
+          accepts = subst (λ l. Accepts (after_base (with_tail (patterns_of l) more.last) S) more.rest r) (append_assoc done (found.pattern ∷ []) (pattern_list more.patterns)) more.accepts;
           shorter = omega arith;
         },
       )
@@ -159,7 +159,7 @@ module _ (n : ℕ) (P : PatternsTo n) where
   ]
 
   -- after one pattern of a list
-  pub more_found : (m : ℕ) → m ≤ n → (g : PatternGroup) (done : List Pattern) (S : List ParserFrame) (x : List Token) (r : Strategy) → length x ≤ m → Accepts (behind_one g done S) x r → More g done S x r
+  pub more_found : (m : ℕ) → m ≤ n → (g : PatternGroup) (done : List Pattern) (S : List ParserFrame) (x : List Token) (r : Strategy) → length x ≤ m → Accepts (after_one g done S) x r → More g done S x r
   more_found zero le g done S x r lx k = elim (at_mark Comma (goes ToPattern (ForPattern (Patterns g done) ∷ S)) (Closing g done S) x r k) [
     | inl next ↦ let l : length x ≡ suc (length next.0) = ap length next.1 in absurd (omega arith)
     | inr other ↦ more_ends g done S x r (omega arith) other
@@ -198,7 +198,7 @@ module _ (n : ℕ) (P : PatternsTo n) where
           reads = (found.rest, found.reads, more.reads);
           reads_last = more.reads_last;
           closes = more.closes;
-          accepts = subst (λ l. Accepts (behind_base (with_tail (and_pattern found.pattern l) more.last) S) more.rest r) (patterns_of-list more.patterns) more.accepts;
+          accepts = subst (λ l. Accepts (after_base (with_tail (and_pattern found.pattern l) more.last) S) more.rest r) (patterns_of-list more.patterns) more.accepts;
           shorter = omega arith;
         },
       )
@@ -225,13 +225,13 @@ module _ (n : ℕ) (P : PatternsTo n) where
         pattern = annotated p found.patterns;
         rest = found.rest;
         reads = (base, (y, reads, (z, e, found.reads)));
-        accepts = subst (λ l. Accepts (behind_pattern (annotated p l) S) found.rest r) (patterns_of-list found.patterns) found.accepts;
+        accepts = subst (λ l. Accepts (after_pattern (annotated p l) S) found.rest r) (patterns_of-list found.patterns) found.accepts;
         shorter = omega arith;
       }
   annotated_found p S x y z r base reads e le (inr (same, found)) = absurd (cc)
 
-  pub based : (p : Pattern) (S : List ParserFrame) (x y : List Token) (r : Strategy) → IsBase p → ReadsPattern p x y → length y ≤ n → length y < length x → Accepts (behind_base p S) y r → FoundPattern S x r
-  based p S x y r base reads ly lt k = elim (at_mark OpenCurly (goes (FirstPattern (Annotations p)) S) (behind_pattern p S) y r k) [
+  pub based : (p : Pattern) (S : List ParserFrame) (x y : List Token) (r : Strategy) → IsBase p → ReadsPattern p x y → length y ≤ n → length y < length x → Accepts (after_base p S) y r → FoundPattern S x r
+  based p S x y r base reads ly lt k = elim (at_mark OpenCurly (goes (FirstPattern (Annotations p)) S) (after_pattern p S) y r k) [
     | inl opened ↦
         let l : length y ≡ suc (length opened.0) = ap length opened.1 in
         annotated_found p S x y opened.0 r base reads opened.1 lt (list_found (Annotations p) S opened.0 r (omega arith) opened.2)
@@ -245,15 +245,15 @@ module _ (n : ℕ) (P : PatternsTo n) where
       let l : length ts ≡ suc (length z) = ap length e in
       let s : length found.rest < length z = found.shorter in
       based (compound (applied f) found.patterns) S (Ident f ∷ ts) found.rest r tt (inr (ts, refl, (z, e, found.reads))) (omega arith) (omega arith)
-      (subst (λ l. Accepts (behind_base (compound (applied f) l) S) found.rest r) (patterns_of-list found.patterns) found.accepts)
+      (subst (λ l. Accepts (after_base (compound (applied f) l) S) found.rest r) (patterns_of-list found.patterns) found.accepts)
   application_found f S ts z r e le (inr (same, found)) = absurd (cc)
 
   named_found : (f : Symbol) (S : List ParserFrame) (ts : List Token) (r : Strategy) → length ts ≤ n → Accepts (step (Named f) S) ts r → FoundPattern S (Ident f ∷ ts) r
-  named_found f S ts r le k = elim (at_mark OpenRound (goes (FirstPattern (PApplication f)) S) (λ t. if (is_mark AtSign t) then goes ToPattern (At f ∷ S) else behind_base (variable f) S t) ts r k) [
+  named_found f S ts r le k = elim (at_mark OpenRound (goes (FirstPattern (PApplication f)) S) (λ t. if (is_mark AtSign t) then goes ToPattern (At f ∷ S) else after_base (variable f) S t) ts r k) [
     | inl opened ↦
         let l : length ts ≡ suc (length opened.0) = ap length opened.1 in
         application_found f S ts opened.0 r opened.1 le (list_found (PApplication f) S opened.0 r (omega arith) opened.2)
-    | inr other ↦ elim (at_mark AtSign (goes ToPattern (At f ∷ S)) (behind_base (variable f) S) ts r other) [
+    | inr other ↦ elim (at_mark AtSign (goes ToPattern (At f ∷ S)) (after_base (variable f) S) ts r other) [
       | inl found_at ↦
           let l : length ts ≡ suc (length found_at.0) = ap length found_at.1 in
           let found : FoundPattern (At f ∷ S) found_at.0 r = P (At f ∷ S) found_at.0 r (omega arith) found_at.2 in
@@ -273,7 +273,7 @@ module _ (n : ℕ) (P : PatternsTo n) where
   square_found S ts r le (inl found) =
       let s : length found.rest < length ts = found.shorter in
       based (compound list found.patterns) S (ASign OpenSquare ∷ ts) found.rest r tt (ts, refl, found.reads) (omega arith) (omega arith)
-      (subst (λ l. Accepts (behind_base (compound list l) S) found.rest r) (patterns_of-list found.patterns) found.accepts)
+      (subst (λ l. Accepts (after_base (compound list l) S) found.rest r) (patterns_of-list found.patterns) found.accepts)
   square_found S ts r le (inr (same, found)) =
       let s : length found.rest < length ts = found.shorter in
       based (with_tail found.patterns found.last) S (ASign OpenSquare ∷ ts) found.rest r tt
@@ -283,7 +283,7 @@ module _ (n : ℕ) (P : PatternsTo n) where
   round_found S ts r le (inl found) =
       let s : length found.rest < length ts = found.shorter in
       based (compound tuple found.patterns) S (ASign OpenRound ∷ ts) found.rest r tt (ts, refl, found.reads) (omega arith) (omega arith)
-      (subst (λ l. Accepts (behind_base (compound tuple l) S) found.rest r) (patterns_of-list found.patterns) found.accepts)
+      (subst (λ l. Accepts (after_base (compound tuple l) S) found.rest r) (patterns_of-list found.patterns) found.accepts)
   round_found S ts r le (inr (same, found)) = absurd (cc)
 
   sign_found : (s : Sign) (S : List ParserFrame) (ts : List Token) (r : Strategy) → length ts ≤ n → Goes (open_pattern S s) ts r → FoundPattern S (ASign s ∷ ts) r

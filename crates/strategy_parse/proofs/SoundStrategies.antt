@@ -10,7 +10,7 @@ use Rattle.strategy_tokens.specs.declared.token.Keyword.{Keyword}
 use Rattle.strategy_tokens.specs.declared.token.Keyword.TheVariants.{Id as KId, Fail as KFail, All as KAll, One as KOne, Some as KSome, Not as KNot, Where as KWhere, Test as KTest, If as KIf, Then as KThen, Else as KElse, End as KEnd, Rec as KRec, Prim as KPrim}
 use Rattle.strategy_tokens.specs.declared.token.Sign.{Sign}
 use Rattle.strategy_tokens.specs.declared.token.Sign.TheVariants.{OpenRound, CloseRound, OpenSquare, CloseSquare, OpenCurly, CloseCurly, Comma, Bar, Arrow as RightArrow, Less, Greater, Question, Exclamation, Backslash}
-use Rattle.strategy_parse.specs.declared.parser.state.ParserState.TheVariants.{Strategy as ToStrategy, FirstStrategy, Read, Used, Opening, Prim as BehindPrim, PrimOpen, PrimNamed, ScopeOpen, Pattern as ToPattern}
+use Rattle.strategy_parse.specs.declared.parser.state.ParserState.TheVariants.{Strategy as ToStrategy, FirstStrategy, Read, Used, Opening, Prim as AfterPrim, PrimOpen, PrimNamed, ScopeOpen, Pattern as ToPattern}
 use Rattle.strategy_parse.specs.declared.parser.state.ParserFrame.{ParserFrame}
 use Rattle.strategy_parse.specs.declared.parser.state.ParserFrame.TheVariants.{Strategy as ForStrategy, Pattern as ForPattern}
 use Rattle.strategy_parse.specs.declared.parser.state.StrategyFrame.{StrategyFrame}
@@ -22,7 +22,7 @@ use Rattle.strategy_parse.specs.declared.parser.state.StrategyGroup.TheVariants.
 use Rattle.strategy_parse.specs.declared.parser.state.PatternGroup.{PatternGroup}
 use Rattle.strategy_parse.specs.declared.parser.state.PatternGroup.TheVariants.{Terms, Prim}
 use Rattle.strategy_tokens.specs.Marks.{is_mark, is_word}
-use Rattle.strategy_parse.specs.inside.Parser.{goes, stuck, begin, begin_sign, begin_word, begin_child, begin_pattern, behind, behind_choice, first_pattern, rec_name, prim_name, step}
+use Rattle.strategy_parse.specs.inside.Parser.{goes, stuck, begin, begin_sign, begin_word, begin_child, begin_pattern, after, after_choice, first_pattern, rec_name, prim_name, step}
 use Rattle.strategy_parse.specs.Grammar.{word_of, ReadsChoice, ReadsChoices}
 use Rattle.strategy_parse.specs.Written.{Choice, question, exclamation, application, identity, failure, operator, if_then, if_then_else, recursion, primitive, local, closure, closure_where, round, square, square_with_tail, name, call, call_with_terms, child, Choices, no_choices, and_choice}
 use Rattle.strategy_syntax.specs.Variables.{variables}
@@ -91,7 +91,7 @@ module _ (n : ℕ) (P : PrefixesTo n) where
         prefix = primitive f (and_pattern p.pattern more.patterns);
         rest = more.rest;
         reads = (x, refl, (y, ex, (z, ey, (w, ez, (p.rest, p.reads, more.reads)))));
-        accepts = subst (λ l. Accepts (behind (syntax.prim f (and_pattern p.pattern l)) S) more.rest r) (patterns_of-list more.patterns) more.accepts;
+        accepts = subst (λ l. Accepts (after (syntax.prim f (and_pattern p.pattern l)) S) more.rest r) (patterns_of-list more.patterns) more.accepts;
         shorter = omega arith;
       }
   prim_more f S x y z w r ex ey ez p (inr (same, more)) = absurd (cc)
@@ -119,7 +119,7 @@ module _ (n : ℕ) (P : PrefixesTo n) where
   prim_opened S x (ASign s ∷ z) r e k = absurd (cc)
   prim_opened S x (Bad ∷ z) r e k = absurd (cc)
 
-  prim_found : (S : List ParserFrame) (ts : List Token) (r : Strategy) → Accepts (step BehindPrim S) ts r → FoundPrefix S (Reserved KPrim ∷ ts) r
+  prim_found : (S : List ParserFrame) (ts : List Token) (r : Strategy) → Accepts (step AfterPrim S) ts r → FoundPrefix S (Reserved KPrim ∷ ts) r
   prim_found S ts r k = let open_at = only_mark OpenRound (goes PrimOpen S) ts r k in prim_opened S ts open_at.0 r open_at.1 open_at.2
 
   -- ---- conditions
@@ -227,7 +227,7 @@ module _ (n : ℕ) (P : PrefixesTo n) where
         prefix = round found.choices;
         rest = found.rest;
         reads = (ts, refl, found.reads);
-        accepts = subst (λ l. Accepts (behind (in_brackets l) S) found.rest r) (strategies_of-list (core_all found.choices)) found.accepts;
+        accepts = subst (λ l. Accepts (after (in_brackets l) S) found.rest r) (strategies_of-list (core_all found.choices)) found.accepts;
         shorter = omega arith;
       }
   round_found S ts r (inr (inl found)) = let refused = found.goes_on in absurd (cc)
@@ -240,7 +240,7 @@ module _ (n : ℕ) (P : PrefixesTo n) where
         prefix = square found.choices;
         rest = found.rest;
         reads = (ts, refl, found.reads);
-        accepts = subst (λ l. Accepts (behind (syntax.congruence list l) S) found.rest r) (strategies_of-list (core_all found.choices)) found.accepts;
+        accepts = subst (λ l. Accepts (after (syntax.congruence list l) S) found.rest r) (strategies_of-list (core_all found.choices)) found.accepts;
         shorter = omega arith;
       }
   square_found S ts r le (inr (inl found)) =
@@ -254,7 +254,7 @@ module _ (n : ℕ) (P : PrefixesTo n) where
         prefix = square_with_tail (and_choice found.first found.choices) a.choice;
         rest = end.0;
         reads = (ts, refl, (found.rest, found.reads, (a.rest, a.reads, end.1)));
-        accepts = subst (λ l. Accepts (behind (syntax.tail_congruence (syntax.and_strategy (core found.first) l) (core a.choice)) S) end.0 r) (strategies_of-list (core_all found.choices)) end.2;
+        accepts = subst (λ l. Accepts (after (syntax.tail_congruence (syntax.and_strategy (core found.first) l) (core a.choice)) S) end.0 r) (strategies_of-list (core_all found.choices)) end.2;
         shorter = omega arith;
       }
   square_found S ts r le (inr (inr found)) = let refused = found.goes_on in absurd (cc)
@@ -267,8 +267,8 @@ module _ (n : ℕ) (P : PrefixesTo n) where
         prefix = call_with_terms f cs found.patterns;
         rest = found.rest;
         reads = (ts, refl, (z, e, (y, reads, found.reads)));
-        accepts = subst (λ l. Accepts (behind (syntax.uses f (core_all cs) l) S) found.rest r) (patterns_of-list found.patterns)
-            (subst (λ l. Accepts (behind (syntax.uses f l (patterns_of (pattern_list found.patterns))) S) found.rest r) (strategies_of-list (core_all cs)) found.accepts);
+        accepts = subst (λ l. Accepts (after (syntax.uses f (core_all cs) l) S) found.rest r) (patterns_of-list found.patterns)
+            (subst (λ l. Accepts (after (syntax.uses f l (patterns_of (pattern_list found.patterns))) S) found.rest r) (strategies_of-list (core_all cs)) found.accepts);
         shorter = omega arith;
       }
   terms_found f cs S ts z y r e reads ly (inr (same, found)) = absurd (cc)
@@ -284,7 +284,7 @@ module _ (n : ℕ) (P : PrefixesTo n) where
         prefix = call f found.choices;
         rest = found.rest;
         reads = (ts, refl, (z, e, found.reads));
-        accepts = subst (λ l. Accepts (behind (syntax.uses f l no_patterns) S) found.rest r) (strategies_of-list (core_all found.choices)) found.accepts;
+        accepts = subst (λ l. Accepts (after (syntax.uses f l no_patterns) S) found.rest r) (strategies_of-list (core_all found.choices)) found.accepts;
         shorter = omega arith;
       }
   call_found f S ts z r e (inr (inl found)) =
@@ -293,7 +293,7 @@ module _ (n : ℕ) (P : PrefixesTo n) where
       terms_found f no_choices S ts z found.rest r e found.reads found.shorter (patterns_at (Terms f []) S found.rest r found.goes_on)
 
   used_found : (f : Symbol) (S : List ParserFrame) (ts : List Token) (r : Strategy) → length ts ≤ n → Accepts (step (Used f) S) ts r → FoundPrefix S (Ident f ∷ ts) r
-  used_found f S ts r le k = elim (at_mark OpenRound (goes (FirstStrategy (Arguments f)) S) (behind (syntax.uses f syntax.no_strategies no_patterns) S) ts r k) [
+  used_found f S ts r le k = elim (at_mark OpenRound (goes (FirstStrategy (Arguments f)) S) (after (syntax.uses f syntax.no_strategies no_patterns) S) ts r k) [
     | inl open_at ↦
         let l : length ts ≡ suc (length open_at.0) = ap length open_at.1 in
         call_found f S ts open_at.0 r open_at.1 (list_of n P (Arguments f) S open_at.0 r (omega arith) open_at.2)
@@ -349,7 +349,7 @@ prefix_found (suc n) S (t ∷ ts) r le k = begun n (prefix_found n) t S ts r (om
 pub choice_at : (S : List ParserFrame) (x : List Token) (r : Strategy) → Bare S → Accepts (begin S) x r → FoundChoice S x r
 choice_at S x r bare k = choice_found (length x) (prefix_found (length x)) (length x) (omega arith) S x r bare (omega arith) k
 
-ended : (s : Strategy) (y : List Token) (r : Strategy) → Accepts (behind_choice s []) y r → (y ≡ []) × (s ≡ r)
+ended : (s : Strategy) (y : List Token) (r : Strategy) → Accepts (after_choice s []) y r → (y ≡ []) × (s ≡ r)
 ended s [] r k = (refl, (cc))
 ended s (t ∷ ts) r k = absurd (cc)
 

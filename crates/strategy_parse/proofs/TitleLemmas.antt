@@ -10,7 +10,7 @@ use Rattle.strategy_parse.specs.declared.modules.sections.Part.TheVariants.{Outs
 use Rattle.strategy_parse.specs.Written.{Section, signature, definitions}
 use Rattle.strategy_parse.specs.GrammarModules.{ReadsSections}
 use Rattle.strategy_tokens.specs.Marks.{is_word}
-use Rattle.strategy_parse.specs.inside.ModuleFronts.{behind_ident}
+use Rattle.strategy_parse.specs.inside.ModuleFronts.{after_ident}
 use Rattle.strategy_parse.specs.inside.FreeNames.{next_token}
 use Rattle.strategy_parse.specs.Gives.{GivesModule}
 use Rattle.strategy_parse.specs.inside.Sections.{SectionsLeft, Left}
@@ -41,7 +41,7 @@ untitled_forth x m other (ss, (v, (inr same), reads), is) = record { sections = 
 
 -- ---- as the code has it
 
-ident_found : (y z : List Token) → behind_ident y ≡ Some z → (f : Symbol) × (y ≡ Ident f ∷ z)
+ident_found : (y z : List Token) → after_ident y ≡ Some z → (f : Symbol) × (y ≡ Ident f ∷ z)
 ident_found [] z e = absurd (cc)
 ident_found (Ident f ∷ ts) z e = let same : ts ≡ z = cc in (f, ap (λ l. Ident f ∷ l) same)
 ident_found (Wildcard ∷ ts) z e = absurd (cc)
@@ -51,7 +51,7 @@ ident_found (Text f ∷ ts) z e = absurd (cc)
 ident_found (ASign s ∷ ts) z e = absurd (cc)
 ident_found (Bad ∷ ts) z e = absurd (cc)
 
-pub title_to : (x y z : List Token) → x ≡ Reserved KModule ∷ y → behind_ident y ≡ Some z → (m : Module) → GivesModule x m → Left Outside z m
+pub title_to : (x y z : List Token) → x ≡ Reserved KModule ∷ y → after_ident y ≡ Some z → (m : Module) → GivesModule x m → Left Outside z m
 title_to x y z e h m g =
     let t = title_forth x y m e g in
     let i = ident_found y z h in
@@ -59,15 +59,15 @@ title_to x y z e h m g =
     let same : t.1 ≡ z = cc in
     subst (λ l. SectionsLeft l m) same t.3
 
-pub title_back : (x y z : List Token) → x ≡ Reserved KModule ∷ y → behind_ident y ≡ Some z → (m : Module) → Left Outside z m → GivesModule x m
+pub title_back : (x y z : List Token) → x ≡ Reserved KModule ∷ y → after_ident y ≡ Some z → (m : Module) → Left Outside z m → GivesModule x m
 title_back x y z e h m l =
     let i = ident_found y z h in
     subst (λ k. GivesModule k m) (sym (e ∙ ap (λ k. Reserved KModule ∷ k) i.1)) (titled i.0 z m l)
 
-pub title_none : (x y : List Token) → x ≡ Reserved KModule ∷ y → behind_ident y ≡ None → (m : Module) → GivesModule x m → ⊥
+pub title_none : (x y : List Token) → x ≡ Reserved KModule ∷ y → after_ident y ≡ None → (m : Module) → GivesModule x m → ⊥
 title_none x y e h m g =
     let t = title_forth x y m e g in
-    let no : ◌≡◌ {A = Option (List Token)} None (Some t.1) = sym h ∙ ap behind_ident t.2 in
+    let no : ◌≡◌ {A = Option (List Token)} None (Some t.1) = sym h ∙ ap after_ident t.2 in
     cc
 
 pub plain_to : (x : List Token) → is_word KModule (next_token x) ≡ false → (m : Module) → GivesModule x m → Left Outside x m

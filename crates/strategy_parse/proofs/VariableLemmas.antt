@@ -6,8 +6,8 @@ use Rattle.strategy_syntax.specs.Syntax.{Pattern, patterns_of}
 use Rattle.strategy_syntax.specs.inside.PatternDepth.{pattern_depth, patterns_depth}
 use Rattle.strategy_syntax.specs.Variables.{variables, variables_of_all}
 
-pub behind_one_name : (names : List Symbol) (x : Symbol) (rest : List Symbol) → (names ++ x ∷ []) ++ rest ≡ names ++ x ∷ rest
-behind_one_name names x rest = append_assoc names (x ∷ []) rest
+pub after_one_name : (names : List Symbol) (x : Symbol) (rest : List Symbol) → (names ++ x ∷ []) ++ rest ≡ names ++ x ∷ rest
+after_one_name names x rest = append_assoc names (x ∷ []) rest
 
 -- a part of a list of patterns is at most as deep
 pub item-depth : (ps : List Pattern) (i : ℕ) (p : Pattern) → i < length ps → p ≡ get_or ps i p → pattern_depth p ≤ patterns_depth (patterns_of ps)
@@ -28,4 +28,4 @@ variables-next ps i p lt at =
     ∙ variables-append (take i ps) (p ∷ [])
     ∙ ap (λ l. variables_of_all (patterns_of (take i ps)) ++ l) (append-nil (variables p)))
 
-pub ruleset variable_rules = (behind_one_name)
+pub ruleset variable_rules = (after_one_name)

@@ -9,7 +9,7 @@ use Rattle.term_core.specs.declared.TheConstants.{MAX_HEIGHT}
 use Rattle.term_core.proofs.TreeLemmas.{child-lower}
 use Rattle.term_paths.specs.Paths.{at, set_at}
 use Rattle.term_paths.proofs.PathLemmas.{at-child, at-no_child}
-use Rattle.term_paths.specs.Edits.{Edits, behind, Replaces}
+use Rattle.term_paths.specs.Edits.{Edits, prefixed, Replaces}
 use Rattle.term_paths.proofs.EditLemmas.{edits_of_a_subterm}
 use Rattle.term_changes.specs.Slots.{Store, content, with_content}
 use Rattle.term_changes.specs.Entries.{Entry, slot_tree, subterm_in, put, before, after, flipped_forward, Fits, FitsForward}
@@ -87,7 +87,7 @@ pub finds : (listing : Listing) (W : World) (p : Standing) (path : List ℕ) (es
     → content s.trees slot ≡ Some t → FindsAll listing s slot (applied W path r b t) es
 finds Outermost W p path es t u r b S s slot k d l h =
     let c = standing_change p in
-    let all = behind path (places c) in
+    let all = prefixed path (places c) in
     let v = standing_tree p in
     let made : after (entries_at slot all) s ≡ put (slot_tree slot (Some (set_at t path v))) s =
     places_put_the_change c u slot path s (at_place s slot t u path h k)
@@ -95,7 +95,7 @@ finds Outermost W p path es t u r b S s slot k d l h =
     ∙ ap (λ x. put (slot_tree slot (Some (set_at t path x))) s) (followers_are_the_change u p d.leads.follows) in
     let there = places_are_there c u slot path s (at_place s slot t u path h k) (l.1 u d.leads.follows) in (
       set_at t path v,
-      behind path d.edits,
+      prefixed path d.edits,
       applied_there W path r b t u _ k d.is,
       all,
       outermost path u d.edits p d.leads,
@@ -106,12 +106,12 @@ finds Each W p path es t u r b S s slot k d l h =
     let v = standing_tree p in
     let is = l d.edits d.shows in (
       set_at t path v,
-      behind path d.edits,
+      prefixed path d.edits,
       applied_there W path r b t u _ k d.is,
-      behind path d.edits,
+      prefixed path d.edits,
       refl,
       is,
-      edits_make (behind path d.edits) t (set_at t path v) slot s h (edits_of_a_subterm d.edits t u v path k d.leads.made),
+      edits_make (prefixed path d.edits) t (set_at t path v) slot s h (edits_of_a_subterm d.edits t u v path k d.leads.made),
     )
 
 -- ---- the outcome is put in place
@@ -132,7 +132,7 @@ puts listing whole es slot s t log longer f te le back fit =
         f.4,
         record {
           tree = store ∙ f.6.tree;
-          behind = le ∙ ap (λ x. log ++ flipped_forward x s) is;
+          after = le ∙ ap (λ x. log ++ flipped_forward x s) is;
           back = ap (before (flipped_forward (entries_at slot ps) s)) store ∙ store_from_before (entries_at slot ps) s;
           fits = subst (Fits (flipped_forward (entries_at slot ps) s)) (sym store) (flipped_forward_fits (entries_at slot ps) s f.6.places);
           log_back = back;

@@ -2,7 +2,7 @@
 use Rattle.std.proofs.Common.{◌≡◌, ◌-◌, ℕ, List, [], ◌∷◌, length, Some, refl, ap, subst, ◌∙◌}
 use Rattle.term_core.specs.Tree.{Tree, children}
 use Rattle.term_paths.specs.Paths.{at, set_at}
-use Rattle.term_paths.specs.Edits.{Edits, Replaces, behind, edited}
+use Rattle.term_paths.specs.Edits.{Edits, Replaces, prefixed, edited}
 use Rattle.term_paths.proofs.EditLemmas.{edits_of_a_subterm}
 use Rattle.term_changes.specs.Slots.{Store, content}
 use Rattle.term_changes.specs.Entries.{slot_tree, put, after, FitsForward}
@@ -36,9 +36,9 @@ has_places t (unchanged u) s h = tt
 has_places t (altered a) s h = subst (λ x. HaveAllPlaces (children x) a.changes) s h
 has_places t (fresh u) s h = tt
 
-behind_root : (e : Edits) → behind [] e ≡ e
-behind_root [] = refl
-behind_root (x ∷ e) = ap (λ l. x ∷ l) (behind_root e)
+prefixed_root : (e : Edits) → prefixed [] e ≡ e
+prefixed_root [] = refl
+prefixed_root (x ∷ e) = ap (λ l. x ∷ l) (prefixed_root e)
 
 pub part_gives : (t : Tree) (b : ℕ) (whole : Answer) (S : State) (p : Standing) (taken : ℕ) → IsDone (unchanged t) whole S p → taken ≡ b - S.steps
     → (ps : Edits) × StandsFor t ps p × Gives t b whole ps taken
@@ -54,8 +54,8 @@ part_gives t b whole S p taken d took =
         edits = d.edits;
         is = d.is;
         outermost =
-            subst (λ x. AreOutermost ps x) (behind_root d.edits)
-            (subst (λ x. AreOutermost x (behind [] d.edits)) (behind_root ps) (outermost [] t d.edits p d.leads));
+            subst (λ x. AreOutermost ps x) (prefixed_root d.edits)
+            (subst (λ x. AreOutermost x (prefixed [] d.edits)) (prefixed_root ps) (outermost [] t d.edits p d.leads));
         made =
             replaces ps t (standing_tree p) (all_there c t (has_places t p d.leads.follows d.leads.has))
             (places_make_the_change c t ∙ followers_are_the_change t p d.leads.follows);
@@ -67,11 +67,11 @@ part_gives t b whole S p taken d took =
 
 -- There, the outcome is the tree with the resulting term at the path.
 pub gives_there : (W : World) (path : List ℕ) (r : Resolved) (b : ℕ) (t u : Tree) (ps : Edits) (taken : ℕ) → at t path ≡ Some u
-    → (g : Gives u b (run_whole W (length path) r b u) ps taken) → applied W path r b t ≡ gives (set_at t path g.after) (behind path g.edits)
+    → (g : Gives u b (run_whole W (length path) r b u) ps taken) → applied W path r b t ≡ gives (set_at t path g.after) (prefixed path g.edits)
 gives_there W path r b t u ps taken k g = applied_there W path r b t u _ k g.is
 
 -- Setting the places there makes it.
 pub makes_there : (slot : ℕ) (s : Store) (path : List ℕ) (b : ℕ) (whole : Answer) (t u : Tree) (ps : Edits) (taken : ℕ) → content s.trees slot ≡ Some t → at t path ≡ Some u
-    → (g : Gives u b whole ps taken) → Makes slot (behind path ps) (set_at t path g.after) s
+    → (g : Gives u b whole ps taken) → Makes slot (prefixed path ps) (set_at t path g.after) s
 makes_there slot s path b whole t u ps taken h k g =
-    edits_make (behind path ps) t (set_at t path g.after) slot s h (edits_of_a_subterm ps t u g.after path k g.made)
+    edits_make (prefixed path ps) t (set_at t path g.after) slot s h (edits_of_a_subterm ps t u g.after path k g.made)

@@ -2,7 +2,7 @@
 use Rattle.std.specs.Prelude.{◌≡◌, ℕ, List, ◌++◌, Some}
 use Rattle.std.specs.Option.{option_map_or}
 use Rattle.term_core.specs.Tree.{Tree}
-use Rattle.term_paths.specs.Edits.{Edits, behind}
+use Rattle.term_paths.specs.Edits.{Edits, prefixed}
 use Rattle.term_changes.specs.Slots.{Slots, Store, content}
 use Rattle.term_changes.specs.Entries.{Entry, slot_tree, put, before, flipped_forward, Fits}
 use Rattle.term_changes.specs.Change.{places}
@@ -24,7 +24,7 @@ applied_in W slots i p r b = option_map_or (applied W p r b) (content slots i) f
 -- same store, and fits if it did.
 pub record PutsAll (slot : ℕ) (e : Edits) (u : Tree) (s : Store) (log : List Entry) (t : Store) (longer : List Entry) : Type 0 where
   pub tree : t ≡ put (slot_tree slot (Some u)) s
-  pub behind : longer ≡ log ++ flipped_forward (entries_at slot e) s
+  pub after : longer ≡ log ++ flipped_forward (entries_at slot e) s
   pub back : before (flipped_forward (entries_at slot e) s) t ≡ s
   pub fits : Fits (flipped_forward (entries_at slot e) s) t
   pub log_back : before longer t ≡ before log s

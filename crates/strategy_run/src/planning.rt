@@ -2,7 +2,7 @@
 
 ghost use Rattle.std.specs.Prelude.{◌≡◌, ◌≤◌, ◌+◌, length, IfOk};
 ghost use Rattle.term_core.specs.Size.{height};
-ghost use Rattle.term_paths.specs.Edits.{behind};
+ghost use Rattle.term_paths.specs.Edits.{prefixed};
 ghost use Rattle.term_changes.specs.Change.{places};
 ghost use Rattle.term_changes.specs.Putting.{entries_at};
 ghost use Rattle.strategy_meaning.specs.Meaning.{run_whole};
@@ -82,7 +82,7 @@ pub fn plan_entries<M: Meaning>(
     steps: u64,
 ) -> Result<Planned<Plan>, NoMemory>
     requires low { length path.now + height term.now ≤ MAX_HEIGHT }
-    ensures { IfOk result (Plans (λ ps plan. plan ≡ entries_at slot (behind path.now ps)) term.now steps
+    ensures { IfOk result (Plans (λ ps plan. plan ≡ entries_at slot (prefixed path.now ps)) term.now steps
         (run_whole (world_of M.meaning program.now.bodies primitives.now) (length path.now) strategy.now steps term.now)) }
 {
     let level = path.len() as u64;

@@ -11,9 +11,9 @@ use Rattle.aterm_text.specs.Tokens.{is_blank}
 use Rattle.strategy_tokens.specs.declared.token.Token.{Token}
 use Rattle.strategy_tokens.specs.declared.token.Token.TheVariants.{Sign as ASign, Bad}
 use Rattle.strategy_tokens.specs.declared.token.Sign.TheVariants.{Arrow}
-use Rattle.strategy_tokens.specs.Tokens.{Lexeme, white, token_of, is_no_line_feed, begins_with, comment_len, closed_comment, comment_piece, begins_ident, continues_ident, ident_len, ident_token, integer_token, minus_piece, quote_at, quote_behind, unescaped, text_or_bad, closed_string, sign_piece, piece_at, and_token, tokens_behind, tokens}
+use Rattle.strategy_tokens.specs.Tokens.{Lexeme, white, token_of, is_no_line_feed, begins_with, comment_len, closed_comment, comment_piece, begins_ident, continues_ident, ident_len, ident_token, integer_token, minus_piece, quote_at, quote_after, unescaped, text_or_bad, closed_string, sign_piece, piece_at, and_token, tokens_after, tokens}
 use Rattle.strategy_tokens.specs.declared.place.TokenPlace.{TokenPlace}
-use Rattle.strategy_tokens.specs.Places.{and_place, place_at, places_behind, places}
+use Rattle.strategy_tokens.specs.Places.{and_place, place_at, places_after, places}
 
 -- ---- one more than a number, if there is one
 
@@ -86,12 +86,12 @@ mutual
   quote-local : (u v w : List ℕ) (n : ℕ) → quote_at (u ++ v) ≡ Some n → n < length u → quote_at (u ++ w) ≡ Some n
   quote-local [] v w n e lt = absurd (omega arith)
   quote-local (b ∷ u) v w n e lt =
-      quote-step (b == quote) (b == backslash) (quote_behind (u ++ v)) (quote_behind (u ++ w)) (quote_at (u ++ v)) (quote_at (u ++ w)) n (length u) e lt
-      (λ j at below. behind-local u v w j at below) (λ j at below. quote-local u v w j at below)
+      quote-step (b == quote) (b == backslash) (quote_after (u ++ v)) (quote_after (u ++ w)) (quote_at (u ++ v)) (quote_at (u ++ w)) n (length u) e lt
+      (λ j at below. after-local u v w j at below) (λ j at below. quote-local u v w j at below)
 
-  behind-local : (u v w : List ℕ) (n : ℕ) → quote_behind (u ++ v) ≡ Some n → n < length u → quote_behind (u ++ w) ≡ Some n
-  behind-local [] v w n e lt = absurd (omega arith)
-  behind-local (b ∷ u) v w n e lt = up (quote_at (u ++ v)) (quote_at (u ++ w)) n e (λ j at is. quote-local u v w j at (omega arith))
+  after-local : (u v w : List ℕ) (n : ℕ) → quote_after (u ++ v) ≡ Some n → n < length u → quote_after (u ++ w) ≡ Some n
+  after-local [] v w n e lt = absurd (omega arith)
+  after-local (b ∷ u) v w n e lt = up (quote_at (u ++ v)) (quote_at (u ++ w)) n e (λ j at is. quote-local u v w j at (omega arith))
 
 -- ---- pieces
 
@@ -137,13 +137,13 @@ negatives-local b u v w le =
     (prefix-local is_ascii_digit u v w (omega arith)) (omega arith)
 
 -- after a `-`
-abbrev behind_minus : ℕ → List ℕ → Lexeme
-behind_minus b bs = if (is_ascii_digit b) then negatives b bs else token_of Bad 0
+abbrev after_minus : ℕ → List ℕ → Lexeme
+after_minus b bs = if (is_ascii_digit b) then negatives b bs else token_of Bad 0
 
 minus-local : Local 2 minus_piece
 minus-local [] v w le = absurd (omega arith)
 minus-local (b ∷ u) v w le =
-    local_if 1 (b == 62) (λ bs. token_of (ASign Arrow) 1) (behind_minus b) (λ x y z h. refl)
+    local_if 1 (b == 62) (λ bs. token_of (ASign Arrow) 1) (after_minus b) (λ x y z h. refl)
     (local_if 1 (is_ascii_digit b) (negatives b) (λ bs. token_of Bad 0) (negatives-local b) (λ x y z h. refl)) u v w (omega arith)
 
 -- comments
@@ -167,13 +167,13 @@ long_comment-local u v w le =
     closed_comment-step (comment_len (u ++ v)) (comment_len (u ++ w)) (length (u ++ v)) (length (u ++ w)) (length u)
     (λ n e below. comment-local u v w n e below) (omega arith) le
 
-abbrev behind_slash : ℕ → List ℕ → Lexeme
-behind_slash b bs = if (b == 42) then long_comment bs else token_of Bad 0
+abbrev after_slash : ℕ → List ℕ → Lexeme
+after_slash b bs = if (b == 42) then long_comment bs else token_of Bad 0
 
 comment_piece-local : Local 2 comment_piece
 comment_piece-local [] v w le = absurd (omega arith)
 comment_piece-local (b ∷ u) v w le =
-    local_if 1 (b == 47) line_comment (behind_slash b) line_comment-local
+    local_if 1 (b == 47) line_comment (after_slash b) line_comment-local
     (local_if 1 (b == 42) long_comment (λ bs. token_of Bad 0) long_comment-local (λ x y z h. refl)) u v w (omega arith)
 
 -- strings
@@ -234,13 +234,13 @@ end-step None at k q p xs got lt h = h k got
 end-step (Some t) at zero q p xs got lt h = let is = same_place q p got in omega arith
 end-step (Some t) at (suc k) q p xs got lt h = h k got
 
-end_behind : (x : List ℕ) (n at k : ℕ) (p : TokenPlace) → slice_get (places_behind at n x) k ≡ Some p → at + n < p.end
-end_behind [] n at k p got = let no : ◌≡◌ {A = Option TokenPlace} None (Some p) = got in absurd (cc)
-end_behind (b ∷ bs) (suc n) at k p got = let more : suc at + n < p.end = end_behind bs n (suc at) k p got in omega arith
-end_behind (b ∷ bs) zero at k p got =
+end_after : (x : List ℕ) (n at k : ℕ) (p : TokenPlace) → slice_get (places_after at n x) k ≡ Some p → at + n < p.end
+end_after [] n at k p got = let no : ◌≡◌ {A = Option TokenPlace} None (Some p) = got in absurd (cc)
+end_after (b ∷ bs) (suc n) at k p got = let more : suc at + n < p.end = end_after bs n (suc at) k p got in omega arith
+end_after (b ∷ bs) zero at k p got =
     let m = piece_at b bs in
-    end-step m.token (at + 0) k (place_at at m.more) p (places_behind (suc at) m.more bs) got (omega arith)
-    (λ j g. let more : suc at + m.more < p.end = end_behind bs m.more (suc at) j p g in omega arith)
+    end-step m.token (at + 0) k (place_at at m.more) p (places_after (suc at) m.more bs) got (omega arith)
+    (λ j g. let more : suc at + m.more < p.end = end_after bs m.more (suc at) j p g in omega arith)
 
 -- the first k + 1 tokens of two texts are the same
 abbrev Same : ℕ → List Token → List Token → Type 0
@@ -258,16 +258,16 @@ local-step None at n k p xs got h = let more : suc at + n < p.end = h k got in o
 local-step (Some t) at n zero p xs got h = let is : at + 1 + n ≡ p.end = same_place (place_at at n) p got in omega arith
 local-step (Some t) at n (suc k) p xs got h = let more : suc at + n < p.end = h k got in omega arith
 
-same_from : (u v w : List ℕ) (n at k : ℕ) (p : TokenPlace) → slice_get (places_behind at n (u ++ v)) k ≡ Some p → p.end + 2 ≤ at + length u
-    → Same k (tokens_behind n (u ++ w)) (tokens_behind n (u ++ v))
-same_from [] v w n at k p got le = let more = end_behind v n at k p got in absurd (omega arith)
+same_from : (u v w : List ℕ) (n at k : ℕ) (p : TokenPlace) → slice_get (places_after at n (u ++ v)) k ≡ Some p → p.end + 2 ≤ at + length u
+    → Same k (tokens_after n (u ++ w)) (tokens_after n (u ++ v))
+same_from [] v w n at k p got le = let more = end_after v n at k p got in absurd (omega arith)
 same_from (b ∷ u) v w (suc n) at k p got le = same_from u v w n (suc at) k p got (omega arith)
 same_from (b ∷ u) v w zero at k p got le =
     let m = piece_at b (u ++ v) in
-    let within : suc at + m.more ≤ p.end = local-step m.token at m.more k p (places_behind (suc at) m.more (u ++ v)) got (λ j g. end_behind (u ++ v) m.more (suc at) j p g) in
+    let within : suc at + m.more ≤ p.end = local-step m.token at m.more k p (places_after (suc at) m.more (u ++ v)) got (λ j g. end_after (u ++ v) m.more (suc at) j p g) in
     let same : piece_at b (u ++ w) ≡ m = piece-local b u v w (omega arith) in
-    subst (λ q. Same k (and_token q.token (tokens_behind q.more (u ++ w))) (and_token m.token (tokens_behind m.more (u ++ v)))) (sym same)
-    (same-step m.token k (place_at at m.more) p (places_behind (suc at) m.more (u ++ v)) (tokens_behind m.more (u ++ w)) (tokens_behind m.more (u ++ v)) got
+    subst (λ q. Same k (and_token q.token (tokens_after q.more (u ++ w))) (and_token m.token (tokens_after m.more (u ++ v)))) (sym same)
+    (same-step m.token k (place_at at m.more) p (places_after (suc at) m.more (u ++ v)) (tokens_after m.more (u ++ w)) (tokens_after m.more (u ++ v)) got
     (λ j g. same_from u v w m.more (suc at) j p g (omega arith)))
 
 -- texts that agree up to two bytes after a token have the same tokens up to that one

@@ -4,46 +4,46 @@ use Rattle.std.specs.declared.option.Option.{Option}
 use Rattle.std.specs.List.{slice_get}
 use Rattle.strategy_tokens.specs.declared.token.Token.{Token}
 use Rattle.strategy_tokens.specs.declared.place.TokenPlace.{TokenPlace}
-use Rattle.strategy_tokens.specs.Tokens.{tokens_behind, tokens, and_token, piece_at}
-use Rattle.strategy_tokens.specs.Places.{and_place, place_at, places_behind, places}
+use Rattle.strategy_tokens.specs.Tokens.{tokens_after, tokens, and_token, piece_at}
+use Rattle.strategy_tokens.specs.Places.{and_place, place_at, places_after, places}
 use Rattle.strategy_tokens.specs.inside.Pieces.{piece_token}
 use Rattle.strategy_tokens.specs.declared.scan.Scanned.{Scanned}
 use Rattle.strategy_tokens.specs.declared.scan.Scanned.TheVariants.{White, Word, Integer as PInteger, Text as PText, Sign as PSign, Bad as PBad}
 use Rattle.strategy_tokens.proofs.ScanLemmas.{drop-rest}
 
-places_behind-drop : (n at : ℕ) (x : List ℕ) → places_behind at n x ≡ places_behind (at + n) 0 (drop n x)
-places_behind-drop zero at [] = refl
-places_behind-drop zero at (b ∷ bs) =
-    let same : at ≡ at + 0 = omega arith in ap (λ k. places_behind k 0 (b ∷ bs)) same
-places_behind-drop (suc n) at [] = refl
-places_behind-drop (suc n) at (b ∷ bs) =
+places_after-drop : (n at : ℕ) (x : List ℕ) → places_after at n x ≡ places_after (at + n) 0 (drop n x)
+places_after-drop zero at [] = refl
+places_after-drop zero at (b ∷ bs) =
+    let same : at ≡ at + 0 = omega arith in ap (λ k. places_after k 0 (b ∷ bs)) same
+places_after-drop (suc n) at [] = refl
+places_after-drop (suc n) at (b ∷ bs) =
     let same : suc at + n ≡ at + suc n = omega arith in
-    places_behind-drop n (suc at) bs ∙ ap (λ k. places_behind k 0 (drop n bs)) same
+    places_after-drop n (suc at) bs ∙ ap (λ k. places_after k 0 (drop n bs)) same
 
 -- one piece of a text: the place of its token, and those after it
 pub places_step : (left rest : List ℕ) (b k at : ℕ) (t : Option Token)
     → left ≡ b ∷ rest → t ≡ (piece_at b rest).token → k ≡ (piece_at b rest).more → k ≤ length rest
-    → places_behind at 0 left ≡ and_place t (place_at at k) (places_behind (at + 1 + k) 0 (take (length rest - k) (drop k rest)))
+    → places_after at 0 left ≡ and_place t (place_at at k) (places_after (at + 1 + k) 0 (take (length rest - k) (drop k rest)))
 places_step left rest b k at t e token more bound =
     let same : suc at + k ≡ at + 1 + k = omega arith in
-    let behind : places_behind (suc at) k rest ≡ places_behind (at + 1 + k) 0 (take (length rest - k) (drop k rest)) =
-    places_behind-drop k (suc at) rest
-    ∙ (ap (λ n. places_behind n 0 (drop k rest)) same
-    ∙ ap (places_behind (at + 1 + k) 0) (sym (drop-rest k rest bound))) in
-    ap (places_behind at 0) e ∙ (ap (λ o. and_place o (place_at at (piece_at b rest).more) (places_behind (suc at) (piece_at b rest).more rest)) (sym token)
-    ∙ (ap (λ n. and_place t (place_at at n) (places_behind (suc at) n rest)) (sym more)
-    ∙ ap (and_place t (place_at at k)) behind))
+    let after : places_after (suc at) k rest ≡ places_after (at + 1 + k) 0 (take (length rest - k) (drop k rest)) =
+    places_after-drop k (suc at) rest
+    ∙ (ap (λ n. places_after n 0 (drop k rest)) same
+    ∙ ap (places_after (at + 1 + k) 0) (sym (drop-rest k rest bound))) in
+    ap (places_after at 0) e ∙ (ap (λ o. and_place o (place_at at (piece_at b rest).more) (places_after (suc at) (piece_at b rest).more rest)) (sym token)
+    ∙ (ap (λ n. and_place t (place_at at n) (places_after (suc at) n rest)) (sym more)
+    ∙ ap (and_place t (place_at at k)) after))
 
 -- each token has its place
 and_lengths : (t : Option Token) (p : TokenPlace) (places : List TokenPlace) (ts : List Token) → length places ≡ length ts → length (and_place t p places) ≡ length (and_token t ts)
 and_lengths None p places ts e = e
 and_lengths (Some t) p places ts e = ap suc e
 
-lengths : (x : List ℕ) (n at : ℕ) → length (places_behind at n x) ≡ length (tokens_behind n x)
+lengths : (x : List ℕ) (n at : ℕ) → length (places_after at n x) ≡ length (tokens_after n x)
 lengths [] n at = refl
 lengths (b ∷ bs) (suc n) at = lengths bs n (suc at)
 lengths (b ∷ bs) zero at =
-    and_lengths (piece_at b bs).token (place_at at (piece_at b bs).more) (places_behind (suc at) (piece_at b bs).more bs) (tokens_behind (piece_at b bs).more bs)
+    and_lengths (piece_at b bs).token (place_at at (piece_at b bs).more) (places_after (suc at) (piece_at b bs).more bs) (tokens_after (piece_at b bs).more bs)
     (lengths bs (piece_at b bs).more (suc at))
 
 past : (xs : List TokenPlace) (k : ℕ) → slice_get xs k ≡ None → length xs ≤ k
@@ -79,6 +79,6 @@ token-here (PText x) at n xs token is = ap (slice_get (at ∷ xs)) is
 token-here (PSign s) at n xs token is = ap (slice_get (at ∷ xs)) is
 token-here PBad at n xs token is = ap (slice_get (at ∷ xs)) is
 
-pub nothing-left : (at k : ℕ) (xs : List ℕ) → length xs ≡ 0 → slice_get (places_behind at 0 xs) k ≡ None
+pub nothing-left : (at k : ℕ) (xs : List ℕ) → length xs ≡ 0 → slice_get (places_after at 0 xs) k ≡ None
 nothing-left at k [] e = refl
 nothing-left at k (b ∷ bs) e = absurd (omega arith)

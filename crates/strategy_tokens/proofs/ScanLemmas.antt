@@ -9,7 +9,7 @@ use Rattle.std.proofs.lemmas.Grind.{common_steps}
 use Rattle.std.proofs.lemmas.Bool.Decides.{nat_tests}
 use Rattle.term_core.specs.Word.{is_word, continues_word}
 use Rattle.strategy_tokens.specs.declared.token.Token.{Token}
-use Rattle.strategy_tokens.specs.Tokens.{tokens_behind, tokens, and_token, piece_at, begins_ident, continues_ident, begins_with, ident_len}
+use Rattle.strategy_tokens.specs.Tokens.{tokens_after, tokens, and_token, piece_at, begins_ident, continues_ident, begins_with, ident_len}
 
 pub drop-rest : {X : Type 0} (n : ℕ) (xs : List X) → n ≤ length xs → take (length xs - n) (drop n xs) ≡ drop n xs
 drop-rest n xs h = grind (arith, common_steps)
@@ -62,10 +62,10 @@ later-suc k None = refl
 later-suc k (Some n) = let e : k + suc n ≡ k + 1 + n = omega arith in ap (λ m. Some m) e
 
 -- the tokens after the first n bytes are those of the rest
-pub tokens_behind-drop : (n : ℕ) (x : List ℕ) → tokens_behind n x ≡ tokens (drop n x)
-tokens_behind-drop zero x = refl
-tokens_behind-drop (suc n) [] = refl
-tokens_behind-drop (suc n) (b ∷ bs) = tokens_behind-drop n bs
+pub tokens_after-drop : (n : ℕ) (x : List ℕ) → tokens_after n x ≡ tokens (drop n x)
+tokens_after-drop zero x = refl
+tokens_after-drop (suc n) [] = refl
+tokens_after-drop (suc n) (b ∷ bs) = tokens_after-drop n bs
 
 and_token-append : (t : Option Token) (found ts : List Token)
     → (found ++ and_token t []) ++ ts ≡ found ++ and_token t ts
@@ -78,11 +78,11 @@ pub tokens_step : (text left rest : List ℕ) (b k : ℕ) (found found' : List T
     → k ≡ (piece_at b rest).more → k ≤ length rest → found' ≡ found ++ and_token t []
     → found' ++ tokens (take (length rest - k) (drop k rest)) ≡ tokens text
 tokens_step text left rest b k found found' t so_far e token more bound added =
-    let behind : tokens_behind (piece_at b rest).more rest ≡ tokens (drop k rest) =
-    tokens_behind-drop (piece_at b rest).more rest ∙ ap (λ n. tokens (drop n rest)) (sym more) in
+    let after : tokens_after (piece_at b rest).more rest ≡ tokens (drop k rest) =
+    tokens_after-drop (piece_at b rest).more rest ∙ ap (λ n. tokens (drop n rest)) (sym more) in
     let here : tokens left ≡ and_token t (tokens (drop k rest)) =
-    ap tokens e ∙ (ap (λ o. and_token o (tokens_behind (piece_at b rest).more rest)) (sym token)
-    ∙ ap (and_token t) behind) in
+    ap tokens e ∙ (ap (λ o. and_token o (tokens_after (piece_at b rest).more rest)) (sym token)
+    ∙ ap (and_token t) after) in
     ap (λ l. found' ++ tokens l) (drop-rest k rest bound)
     ∙ (ap (λ l. l ++ tokens (drop k rest)) added ∙ (and_token-append t found (tokens (drop k rest))
     ∙ (ap (λ l. found ++ l) (sym here) ∙ so_far)))
@@ -127,4 +127,4 @@ negative_numeral k b x bs e f d = subst (λ l. IsNumeral 10 (without_leading_sig
     (sym (first_two_and k (prefix_len is_ascii_digit bs) 45 b x bs e f))
     (omega arith, (digit_below b d, all_digits bs))
 
-pub ruleset scan_parts = (drop-rest, later-zero, later-suc, tokens_behind-drop)
+pub ruleset scan_parts = (drop-rest, later-zero, later-suc, tokens_after-drop)

@@ -15,13 +15,13 @@ abbrev pub place_at : ℕ → ℕ → TokenPlace
 place_at at n = record { start = at; end = at + 1 + n }
 
 -- the places of the tokens after the first n bytes, if `at` bytes come before these
-abbrev pub places_behind : ℕ → ℕ → List ℕ → List TokenPlace
-places_behind at n [] = []
-places_behind at (suc n) (b ∷ bs) = places_behind (suc at) n bs
-places_behind at zero (b ∷ bs) =
+abbrev pub places_after : ℕ → ℕ → List ℕ → List TokenPlace
+places_after at n [] = []
+places_after at (suc n) (b ∷ bs) = places_after (suc at) n bs
+places_after at zero (b ∷ bs) =
     let piece = piece_at b bs in
-    and_place piece.token (place_at at piece.more) (places_behind (suc at) piece.more bs)
+    and_place piece.token (place_at at piece.more) (places_after (suc at) piece.more bs)
 
 -- the place of each token of a text
 abbrev pub places : List ℕ → List TokenPlace
-places x = places_behind 0 0 x
+places x = places_after 0 0 x

@@ -149,16 +149,16 @@ short_or None bytes other = other
 abbrev mutual
   pub unescaped : List ℕ → Option (List ℕ)
   unescaped [] = Some []
-  unescaped (b ∷ bs) = if (b == backslash) then behind_backslash bs else and_byte b (unescaped bs)
+  unescaped (b ∷ bs) = if (b == backslash) then after_backslash bs else and_byte b (unescaped bs)
 
-  pub behind_backslash : List ℕ → Option (List ℕ)
-  behind_backslash [] = None
-  behind_backslash (b ∷ bs) = short_or (short_escape b) (unescaped bs) (behind_octal b bs)
+  pub after_backslash : List ℕ → Option (List ℕ)
+  after_backslash [] = None
+  after_backslash (b ∷ bs) = short_or (short_escape b) (unescaped bs) (after_octal b bs)
 
-  pub behind_octal : ℕ → List ℕ → Option (List ℕ)
-  behind_octal a [] = None
-  behind_octal a (b ∷ []) = None
-  behind_octal a (b ∷ (c ∷ bs)) = and_found (octal_byte a b c) (unescaped bs)
+  pub after_octal : ℕ → List ℕ → Option (List ℕ)
+  after_octal a [] = None
+  after_octal a (b ∷ []) = None
+  after_octal a (b ∷ (c ∷ bs)) = and_found (octal_byte a b c) (unescaped bs)
 
 -- the number of bytes before the next `"` that isn't escaped, if there is one
 abbrev mutual
@@ -166,11 +166,11 @@ abbrev mutual
   quote_at [] = None
   quote_at (b ∷ bs) =
       if (b == quote) then Some 0 else
-      if (b == backslash) then option_map suc (quote_behind bs) else option_map suc (quote_at bs)
+      if (b == backslash) then option_map suc (quote_after bs) else option_map suc (quote_at bs)
 
-  pub quote_behind : List ℕ → Option ℕ
-  quote_behind [] = None
-  quote_behind (b ∷ bs) = option_map suc (quote_at bs)
+  pub quote_after : List ℕ → Option ℕ
+  quote_after [] = None
+  quote_after (b ∷ bs) = option_map suc (quote_at bs)
 
 abbrev pub text_or_bad : Option (List ℕ) → Token
 text_or_bad None = Bad
@@ -225,11 +225,11 @@ and_token None ts = ts
 and_token (Some t) ts = t ∷ ts
 
 -- the tokens after the first n bytes
-abbrev pub tokens_behind : ℕ → List ℕ → List Token
-tokens_behind n [] = []
-tokens_behind (suc n) (b ∷ bs) = tokens_behind n bs
-tokens_behind zero (b ∷ bs) =
-    let piece = piece_at b bs in and_token piece.token (tokens_behind piece.more bs)
+abbrev pub tokens_after : ℕ → List ℕ → List Token
+tokens_after n [] = []
+tokens_after (suc n) (b ∷ bs) = tokens_after n bs
+tokens_after zero (b ∷ bs) =
+    let piece = piece_at b bs in and_token piece.token (tokens_after piece.more bs)
 
 abbrev pub tokens : List ℕ → List Token
-tokens x = tokens_behind 0 x
+tokens x = tokens_after 0 x

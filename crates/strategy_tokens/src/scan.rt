@@ -239,16 +239,16 @@ fn number<'a>(text: &'a [u8], first: u8, rest: &'a [u8]) -> (Scanned<'a>, usize)
 }
 
 // The integer that begins with a `-` followed by a digit.
-fn negative<'a>(text: &'a [u8], digit: u8, behind: &'a [u8]) -> (Scanned<'a>, usize)
-    requires front { text.now ≡ minus ∷ (digit ∷ behind.now) }
+fn negative<'a>(text: &'a [u8], digit: u8, after: &'a [u8]) -> (Scanned<'a>, usize)
+    requires front { text.now ≡ minus ∷ (digit ∷ after.now) }
     requires digit { is_ascii_digit digit ≡ true }
     ensures token { piece_token result.0 ≡ Some
-        (integer_token (minus ∷ (digit ∷ take (prefix_len is_ascii_digit behind.now) behind.now))) }
-    ensures more { result.1 ≡ suc (prefix_len is_ascii_digit behind.now) }
-    ensures bound { result.1 ≤ 1 + length behind.now }
+        (integer_token (minus ∷ (digit ∷ take (prefix_len is_ascii_digit after.now) after.now))) }
+    ensures more { result.1 ≡ suc (prefix_len is_ascii_digit after.now) }
+    ensures bound { result.1 ≤ 1 + length after.now }
     ensures word { HoldsWord result.0 }
 {
-    let count = digits_length(behind);
+    let count = digits_length(after);
     (integer(&text[..count + 2]), count + 1)
 }
 
@@ -262,7 +262,7 @@ fn minus<'a>(text: &'a [u8], rest: &'a [u8]) -> (Scanned<'a>, usize)
 {
     match rest.split_first() {
         Some((b'>', _)) => (Scanned::Sign(Sign::Arrow), 1),
-        Some((digit, behind)) if digit.is_ascii_digit() => negative(text, *digit, behind),
+        Some((digit, after)) if digit.is_ascii_digit() => negative(text, *digit, after),
         _ => (Scanned::Bad, 0),
     }
 }

@@ -2,7 +2,7 @@
 
 ghost use Rattle.std.specs.Prelude.{◌≡◌, ◌<◌, ◌≤◌, length, take, drop, IfOk, IfSome, IfNone, MatchOption, Some, None};
 ghost use Rattle.std.specs.List.{prefix_len};
-ghost use Rattle.strategy_tokens.specs.Tokens.{unescaped, behind_backslash, behind_octal, and_byte};
+ghost use Rattle.strategy_tokens.specs.Tokens.{unescaped, after_backslash, after_octal, and_byte};
 ghost use Rattle.strategy_tokens.specs.inside.Pieces.{is_no_backslash};
 
 use aterm_text::{octal_byte, short_escape};
@@ -16,11 +16,11 @@ pub fn unescape(alloc: Global, items: &[u8]) -> Result<Option<Vec<u8>>, NoMemory
 {
     let (run, mut rest) = first_run(items);
     let mut bytes = Vec::from_slice(alloc, run)?;
-    while let Some((_, behind)) = rest.split_first() {
-        let Some((byte, behind)) = escape(behind) else {
+    while let Some((_, after)) = rest.split_first() {
+        let Some((byte, after)) = escape(after) else {
             return Ok(None);
         };
-        let (run, left) = first_run(behind);
+        let (run, left) = first_run(after);
         bytes.push(byte)?;
         bytes.extend_from_slice(run)?;
         rest = left;
@@ -47,8 +47,8 @@ pub fn run_length(items: &[u8]) -> usize
 // The byte that an escape stands for, given what follows the backslash, and the rest of the items.
 fn escape(items: &[u8]) -> Option<(u8, &[u8])>
     ensures some { IfSome result (λ found.
-        behind_backslash items.now ≡ and_byte found.0 (unescaped found.1.now)) }
-    ensures none { IfNone result (behind_backslash items.now ≡ None) }
+        after_backslash items.now ≡ and_byte found.0 (unescaped found.1.now)) }
+    ensures none { IfNone result (after_backslash items.now ≡ None) }
     ensures shorter { IfSome result (λ found. length found.1.now < length items.now) }
 {
     let (first, rest) = items.split_first()?;
@@ -61,12 +61,12 @@ fn escape(items: &[u8]) -> Option<(u8, &[u8])>
 // The byte that three octal digits stand for, and the rest of the items.
 fn octal(first: u8, rest: &[u8]) -> Option<(u8, &[u8])>
     ensures some { IfSome result (λ found.
-        behind_octal first rest.now ≡ and_byte found.0 (unescaped found.1.now)) }
-    ensures none { IfNone result (behind_octal first rest.now ≡ None) }
+        after_octal first rest.now ≡ and_byte found.0 (unescaped found.1.now)) }
+    ensures none { IfNone result (after_octal first rest.now ≡ None) }
     ensures shorter { IfSome result (λ found. length found.1.now < length rest.now) }
 {
     let (second, rest) = rest.split_first()?;
-    let (third, behind) = rest.split_first()?;
+    let (third, after) = rest.split_first()?;
     let byte = octal_byte(first, *second, *third)?;
-    Some((byte, behind))
+    Some((byte, after))
 }

@@ -2,7 +2,7 @@
 use Rattle.std.proofs.Common.{◌≡◌, ℕ, ◌+◌, ◌≤◌, List, [], ◌∷◌, ◌++◌, refl, sym, ap, subst, arith}
 use Rattle.term_paths.specs.Paths.{LiesWithin}
 use Rattle.term_paths.specs.Laws.{AreApart}
-use Rattle.term_paths.specs.Edits.{Edits, behind}
+use Rattle.term_paths.specs.Edits.{Edits, prefixed}
 use Rattle.term_changes.specs.Change.{Change, same, inside, replaced, Changes, no_more, and_then, below, places, places_from}
 use Rattle.term_changes.specs.Putting.{ApartFromAll, AllApart, PlacesLieApart}
 
@@ -23,13 +23,13 @@ all_below i [] h = tt
 all_below i (p ∷ ps) h = (from_all_below i p.path ps h.0, all_below i ps h.1)
 
 -- below a path
-behind_child : (i : ℕ) (q : List ℕ) (ps : Edits) → behind (i ∷ q) ps ≡ below i (behind q ps)
-behind_child i q [] = refl
-behind_child i q (p ∷ ps) = ap (λ l. record { path = i ∷ (q ++ p.path); new = p.new } ∷ l) (behind_child i q ps)
+prefixed_child : (i : ℕ) (q : List ℕ) (ps : Edits) → prefixed (i ∷ q) ps ≡ below i (prefixed q ps)
+prefixed_child i q [] = refl
+prefixed_child i q (p ∷ ps) = ap (λ l. record { path = i ∷ (q ++ p.path); new = p.new } ∷ l) (prefixed_child i q ps)
 
-behind_root : (ps : Edits) → behind [] ps ≡ ps
-behind_root [] = refl
-behind_root (p ∷ ps) = ap (λ l. p ∷ l) (behind_root ps)
+prefixed_root : (ps : Edits) → prefixed [] ps ≡ ps
+prefixed_root [] = refl
+prefixed_root (p ∷ ps) = ap (λ l. p ∷ l) (prefixed_root ps)
 
 -- ---- below different children
 
@@ -84,9 +84,9 @@ mutual
   all_places_apart i (and_then c cs) =
       join_apart i (places c) (places_from (i + 1) cs) (places_apart c) (all_places_apart (i + 1) cs) (heads_places (i + 1) (i + 1) cs (omega arith))
 
-behind_apart : (ps : Edits) (q : List ℕ) → AllApart ps → AllApart (behind q ps)
-behind_apart ps [] h = subst AllApart (sym (behind_root ps)) h
-behind_apart ps (i ∷ q) h = subst AllApart (sym (behind_child i q ps)) (all_below i (behind q ps) (behind_apart ps q h))
+prefixed_apart : (ps : Edits) (q : List ℕ) → AllApart ps → AllApart (prefixed q ps)
+prefixed_apart ps [] h = subst AllApart (sym (prefixed_root ps)) h
+prefixed_apart ps (i ∷ q) h = subst AllApart (sym (prefixed_child i q ps)) (all_below i (prefixed q ps) (prefixed_apart ps q h))
 
 pub places_lie_apart : PlacesLieApart
-places_lie_apart c p = behind_apart (places c) p (places_apart c)
+places_lie_apart c p = prefixed_apart (places c) p (places_apart c)

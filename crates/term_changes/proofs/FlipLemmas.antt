@@ -11,9 +11,9 @@ use Rattle.std.specs.declared.option.Option.{Option}
 use Rattle.term_core.specs.Tree.{Tree}
 use Rattle.term_paths.specs.Paths.{at, set_at}
 use Rattle.term_paths.proofs.PathLemmas.{set_at-changed, changed_at-same, at-append}
-use Rattle.term_paths.proofs.LawLemmas.{set_is_there, set_nowhere, last_set_stays, set_behind}
+use Rattle.term_paths.proofs.LawLemmas.{set_is_there, set_nowhere, last_set_stays, set_after}
 use Rattle.term_paths.proofs.ApartLemmas.{apart_is_left}
-use Rattle.term_paths.specs.Edits.{Edit, Edits, edited, behind}
+use Rattle.term_paths.specs.Edits.{Edit, Edits, edited, prefixed}
 use Rattle.term_changes.specs.Slots.{Slots, Store, content, with_content}
 use Rattle.term_changes.specs.Entries.{slot_tree, subterm, subterm_in, put, before, after, flipped_back, flipped_forward, Fits}
 use Rattle.term_changes.proofs.ContentsLemmas.{subterm_put}
@@ -27,31 +27,31 @@ use Rattle.term_changes.specs.Exchange.{taken, changed_in, taken_in}
 use Rattle.term_changes.specs.PatchLaws.{all_found, edited_back, patch_entries, patched, LeadsBothWays, KeepsBothWays, FitsBothWays, PatchesAreCompact}
 use Rattle.term_changes.proofs.OrderLemmas.{found_forward, found_back, forward_of, back_of, either_order_of, left_apart_back, apart_root, taken_is_there}
 
--- ---- edits behind a path
+-- ---- edits prefixed by a path
 
-edited-behind : (e : Edits) (t u : Tree) (p : List ℕ) → at t p ≡ Some u → edited t (behind p e) ≡ set_at t p (edited u e)
-edited-behind [] t u p k = sym (set_at-changed t u p ∙ changed_at-same (λ _. u) t u p k refl)
-edited-behind (x ∷ e) t u p k =
+edited-after : (e : Edits) (t u : Tree) (p : List ℕ) → at t p ≡ Some u → edited t (prefixed p e) ≡ set_at t p (edited u e)
+edited-after [] t u p k = sym (set_at-changed t u p ∙ changed_at-same (λ _. u) t u p k refl)
+edited-after (x ∷ e) t u p k =
     let v = set_at u x.path x.new in
-    ap (λ s. edited s (behind p e)) (set_behind t u x.new p x.path k)
-    ∙ edited-behind e (set_at t p v) v p (set_is_there t v u p k)
+    ap (λ s. edited s (prefixed p e)) (set_after t u x.new p x.path k)
+    ∙ edited-after e (set_at t p v) v p (set_is_there t v u p k)
     ∙ last_set_stays t v (edited v e) p
 
 at-nowhere : (t : Tree) (p q : List ℕ) → at t p ≡ None → at t (p ++ q) ≡ None
 at-nowhere t p q k = at-append t p q ∙ ap (option_and_then (λ u. at u q)) k
 
-edited-nowhere : (e : Edits) (t : Tree) (p : List ℕ) → at t p ≡ None → edited t (behind p e) ≡ t
+edited-nowhere : (e : Edits) (t : Tree) (p : List ℕ) → at t p ≡ None → edited t (prefixed p e) ≡ t
 edited-nowhere [] t p k = refl
 edited-nowhere (x ∷ e) t p k =
-    ap (λ s. edited s (behind p e)) (set_nowhere t x.new (p ++ x.path) (at-nowhere t p x.path k))
+    ap (λ s. edited s (prefixed p e)) (set_nowhere t x.new (p ++ x.path) (at-nowhere t p x.path k))
     ∙ edited-nowhere e t p k
 
-found-behind : (e : Edits) (t u : Tree) (p : List ℕ) → at t p ≡ Some u → all_found t (behind p e) ≡ behind p (all_found u e)
-found-behind [] t u p k = refl
-found-behind (x ∷ e) t u p k =
-    λ j. record { path = p ++ x.path; new = unwrap_or ((at-append t p x.path ∙ ap (option_and_then (λ w. at w x.path)) k) j) x.new } ∷ found-behind e t u p k j
+found-after : (e : Edits) (t u : Tree) (p : List ℕ) → at t p ≡ Some u → all_found t (prefixed p e) ≡ prefixed p (all_found u e)
+found-after [] t u p k = refl
+found-after (x ∷ e) t u p k =
+    λ j. record { path = p ++ x.path; new = unwrap_or ((at-append t p x.path ∙ ap (option_and_then (λ w. at w x.path)) k) j) x.new } ∷ found-after e t u p k j
 
-found-nowhere : (e : Edits) (t : Tree) (p : List ℕ) → at t p ≡ None → all_found t (behind p e) ≡ behind p e
+found-nowhere : (e : Edits) (t : Tree) (p : List ℕ) → at t p ≡ None → all_found t (prefixed p e) ≡ prefixed p e
 found-nowhere [] t p k = refl
 found-nowhere (x ∷ e) t p k =
     λ j. record { path = p ++ x.path; new = unwrap_or (at-nowhere t p x.path k j) x.new } ∷ found-nowhere e t p k j
@@ -71,27 +71,27 @@ all_in : (e : Edits) (t : Tree) → AllApart e → AllThere e t → AllIn e t
 all_in [] t a h = tt
 all_in (x ∷ e) t a h = (h.0, in_before e x.path t x.new a.0 (all_in e (set_at t x.path x.new) a.1 h.1))
 
-in_behind : (e : Edits) (t u : Tree) (p : List ℕ) → at t p ≡ Some u → AllIn e u → AllIn (behind p e) t
-in_behind [] t u p k h = tt
-in_behind (x ∷ e) t u p k h = (
+in_prefixed : (e : Edits) (t u : Tree) (p : List ℕ) → at t p ≡ Some u → AllIn e u → AllIn (prefixed p e) t
+in_prefixed [] t u p k h = tt
+in_prefixed (x ∷ e) t u p k h = (
   subst (λ o. IsSome o) (sym (at-append t p x.path ∙ ap (option_and_then (λ w. at w x.path)) k)) h.0,
-  in_behind e t u p k h.1,
+  in_prefixed e t u p k h.1,
 )
 
 -- ---- the places of a change
 
-made_in : (c : Change) (t : Tree) (p : List ℕ) → edited t (behind p (places c)) ≡ changed_in c t p
+made_in : (c : Change) (t : Tree) (p : List ℕ) → edited t (prefixed p (places c)) ≡ changed_in c t p
 made_in c t p =
-    elim (at t p) as (λ o. at t p ≡ o → edited t (behind p (places c)) ≡ option_map_or (λ u. set_at t p (changed c u)) o t) [
+    elim (at t p) as (λ o. at t p ≡ o → edited t (prefixed p (places c)) ≡ option_map_or (λ u. set_at t p (changed c u)) o t) [
       | None ↦ λ k. edited-nowhere (places c) t p k
-      | Some u ↦ λ k. edited-behind (places c) t u p k ∙ ap (set_at t p) (put_places c u)
+      | Some u ↦ λ k. edited-after (places c) t u p k ∙ ap (set_at t p) (put_places c u)
     ] refl
 
-found_in : (c : Change) (t : Tree) (p : List ℕ) → all_found t (behind p (places c)) ≡ behind p (places (taken_in c t p))
+found_in : (c : Change) (t : Tree) (p : List ℕ) → all_found t (prefixed p (places c)) ≡ prefixed p (places (taken_in c t p))
 found_in c t p =
-    elim (at t p) as (λ o. at t p ≡ o → all_found t (behind p (places c)) ≡ behind p (places (option_map_or (taken c) o c))) [
+    elim (at t p) as (λ o. at t p ≡ o → all_found t (prefixed p (places c)) ≡ prefixed p (places (option_map_or (taken c) o c))) [
       | None ↦ λ k. found-nowhere (places c) t p k
-      | Some u ↦ λ k. found-behind (places c) t u p k ∙ ap (behind p) (sym (taken_is_there c u))
+      | Some u ↦ λ k. found-after (places c) t u p k ∙ ap (prefixed p) (sym (taken_is_there c u))
     ] refl
 
 -- ---- in a store
@@ -176,7 +176,7 @@ module _ (slot : ℕ) where
 
 pub leads_both_ways : LeadsBothWays
 leads_both_ways c slot p s =
-    let e = behind p (places c) in
+    let e = prefixed p (places c) in
     elim (content s.trees slot) as (λ o. content s.trees slot ≡ o → (after (entries_at slot e) s ≡ patched c slot p s) × (before (entries_at slot e) s ≡ patched c slot p s)) [
       | None ↦ λ h.
           let there = sym (λ i. record s { trees = (ap (λ o. with_content s.trees slot (option_map (λ t. changed_in c t p) o)) h ∙ content_none s.trees slot h) i }) in
@@ -190,7 +190,7 @@ leads_both_ways c slot p s =
 
 pub keeps_both_ways : KeepsBothWays
 keeps_both_ways c slot p s =
-    let e = behind p (places c) in
+    let e = prefixed p (places c) in
     elim (content s.trees slot) as (λ o. content s.trees slot ≡ o
     → (flipped_forward (entries_at slot e) s ≡ patch_entries slot p (option_map_or (λ t. taken_in c t p) o c))
     × (flipped_back (entries_at slot e) s ≡ patch_entries slot p (option_map_or (λ t. taken_in c t p) o c))) [
@@ -210,7 +210,7 @@ pub fits_both_ways : FitsBothWays
 fits_both_ways c u slot p s h g =
     let w = whole (content s.trees slot) p u h in (
       places_are_there c u slot p s h g,
-      fits_tree slot (behind p (places c)) w.0 s w.1 (places_lie_apart c p) (in_behind (places c) w.0 u p w.2 (all_in (places c) u (apart_root c) (all_there c u g))),
+      fits_tree slot (prefixed p (places c)) w.0 s w.1 (places_lie_apart c p) (in_prefixed (places c) w.0 u p w.2 (all_in (places c) u (apart_root c) (all_there c u g))),
     )
 
 -- ---- compact
@@ -228,4 +228,4 @@ compact slot [] h = λ i j d l k. absurd (omega (arith, k))
 compact slot (x ∷ e) h = AllPairs-cons entry.EntriesAreApart (entry_at slot x) (entries_at slot e) (all_entries_apart slot x e h.0) (compact slot e h.1)
 
 pub patches_are_compact : PatchesAreCompact
-patches_are_compact slot p c = compact slot (behind p (places c)) (places_lie_apart c p)
+patches_are_compact slot p c = compact slot (prefixed p (places c)) (places_lie_apart c p)

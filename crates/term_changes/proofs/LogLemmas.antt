@@ -280,11 +280,11 @@ module _ (ps : List ℕ) (old now : List Replaced) (start s next : Store) (r : R
   abbrev pub IsFlippedTo : ℕ → List ℕ → List Replaced → Store → Type 0
   IsFlippedTo n rest rs s = (length rs ≡ length old) × (depths rs ≡ length ps) × (rest ≡ drop (path_begin n rs) ps) × FlippedTo n old rs ps start s
 
-  pub turn_forward : (n : ℕ) (rest behind : List ℕ) → IsFlippedTo n rest now s → slice_get now n ≡ Some r
-      → path ≡ take r.depth rest → behind ≡ drop r.depth rest
+  pub turn_forward : (n : ℕ) (rest later : List ℕ) → IsFlippedTo n rest now s → slice_get now n ≡ Some r
+      → path ≡ take r.depth rest → later ≡ drop r.depth rest
       → entry_of r.slot path kept ≡ found (entry_of r.slot path r.kept) s → next ≡ put (entry_of r.slot path r.kept) s
-      → IsFlippedTo (n + 1) behind (set now n exchanged) next
-  turn_forward n rest behind h g p b k e =
+      → IsFlippedTo (n + 1) later (set now n exchanged) next
+  turn_forward n rest later h g p b k e =
       let more : suc n ≡ n + 1 = omega arith in
       let done = flipped_one_forward n old now ps path start s next r exchanged h.3 g (p ∙ ap (take r.depth) h.2) refl k e in (
         length-set now n exchanged ∙ h.0,

@@ -5,7 +5,7 @@ use Rattle.std.proofs.lemmas.Option.{slice_get_past}
 use Rattle.term_core.specs.Tree.{Tree, children}
 use Rattle.term_paths.specs.Paths.{at, set_at}
 use Rattle.term_paths.proofs.ApartLemmas.{apart_is_left, apart_commute}
-use Rattle.term_paths.specs.Edits.{Edits, behind, edited}
+use Rattle.term_paths.specs.Edits.{Edits, prefixed, edited}
 use Rattle.term_changes.specs.Change.{Change, same, inside, replaced, Changes, no_more, and_then, below, places, places_from}
 use Rattle.term_changes.specs.Putting.{ApartFromAll, AllApart}
 use Rattle.term_changes.proofs.ApartLemmas.{places_lie_apart}
@@ -103,12 +103,12 @@ back_of [] t h = refl
 back_of (x ∷ e) t h =
     λ j. record { path = x.path; new = unwrap_or (left_apart_back e x.path t h.0 j) x.new } ∷ back_of e t h.1 j
 
-behind_root : (e : Edits) → behind [] e ≡ e
-behind_root [] = refl
-behind_root (x ∷ e) = ap (λ l. x ∷ l) (behind_root e)
+prefixed_root : (e : Edits) → prefixed [] e ≡ e
+prefixed_root [] = refl
+prefixed_root (x ∷ e) = ap (λ l. x ∷ l) (prefixed_root e)
 
 pub apart_root : (c : Change) → AllApart (places c)
-apart_root c = subst AllApart (behind_root (places c)) (places_lie_apart c [])
+apart_root c = subst AllApart (prefixed_root (places c)) (places_lie_apart c [])
 
 pub either_order : EitherOrder
 either_order c t = either_order_of (places c) t (apart_root c) ∙ put_places c t

@@ -3,7 +3,7 @@ use Rattle.std.specs.Prelude.{◌≡◌, ℕ, List, [], ◌∷◌, map, Some, un
 use Rattle.std.specs.Option.{option_map_or}
 use Rattle.term_core.specs.Tree.{Tree}
 use Rattle.term_paths.specs.Paths.{at, set_at}
-use Rattle.term_paths.specs.Edits.{Edit, Edits, behind}
+use Rattle.term_paths.specs.Edits.{Edit, Edits, prefixed}
 use Rattle.term_changes.specs.Slots.{Store, content}
 use Rattle.term_changes.specs.Entries.{Entry, subterm_in, changed_tree, before, after, flipped_back, flipped_forward, Fits, FitsForward}
 use Rattle.term_changes.specs.Compact.{IsCompact}
@@ -42,7 +42,7 @@ EitherOrder = (c : Change) (t : Tree) → edited_back t (places c) ≡ changed c
 
 -- the entries of the places of a patch, in the subterm of a slot's tree that the path leads to
 abbrev pub patch_entries : ℕ → List ℕ → Change → List Entry
-patch_entries slot p c = entries_at slot (behind p (places c))
+patch_entries slot p c = entries_at slot (prefixed p (places c))
 
 -- the store with the change made in that subterm; it stays where there is none
 abbrev pub patched : Change → ℕ → List ℕ → Store → Store

@@ -4,7 +4,7 @@ use Rattle.term_core.specs.Tree.{Tree, children}
 use Rattle.term_paths.specs.Laws.{AreApart}
 use Rattle.term_changes.specs.Slots.{Store}
 use Rattle.term_changes.specs.Entries.{Entry, subterm, subterm_in, put, before, after, flipped_forward, Fits, FitsForward}
-use Rattle.term_paths.specs.Edits.{Edit, Edits, edited, behind}
+use Rattle.term_paths.specs.Edits.{Edit, Edits, edited, prefixed}
 use Rattle.term_changes.specs.Change.{Change, same, inside, replaced, Changes, no_more, and_then, changed, places}
 
 -- the entry that puts the new subterm at its place in the tree of a slot
@@ -25,7 +25,7 @@ AllApart (x ∷ e) = ApartFromAll x.path e × AllApart e
 
 -- The places of a change are disjoint.
 abbrev pub PlacesLieApart : Type 0
-PlacesLieApart = (c : Change) (p : List ℕ) → AllApart (behind p (places c))
+PlacesLieApart = (c : Change) (p : List ℕ) → AllApart (prefixed p (places c))
 
 -- Setting them all makes the change.
 abbrev pub PlacesMakeTheChange : Type 0
@@ -35,7 +35,7 @@ PlacesMakeTheChange = (c : Change) (t : Tree) → edited t (places c) ≡ change
 abbrev pub PlacesPutTheChange : Type 0
 PlacesPutTheChange = (c : Change) (u : Tree) (slot : ℕ) (p : List ℕ) (s : Store)
     → subterm_in s.trees slot p ≡ Some u
-    → after (entries_at slot (behind p (places c))) s ≡ put (subterm slot p (changed c u)) s
+    → after (entries_at slot (prefixed p (places c))) s ≡ put (subterm slot p (changed c u)) s
 
 -- ---- the places exist
 
@@ -55,7 +55,7 @@ abbrev mutual
 abbrev pub PlacesAreThere : Type 0
 PlacesAreThere = (c : Change) (u : Tree) (slot : ℕ) (p : List ℕ) (s : Store)
     → subterm_in s.trees slot p ≡ Some u → HasPlaces u c
-    → FitsForward (entries_at slot (behind p (places c))) s
+    → FitsForward (entries_at slot (prefixed p (places c))) s
 
 -- ---- logs of several changes
 

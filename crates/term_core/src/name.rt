@@ -3,7 +3,7 @@
 ghost use Rattle.std.specs.Prelude.{◌≡◌, ◌↔◌, ◌≤◌, ◌⊎◌, IsTrue, IfOk, IfSome, Ok, Some, None, true, false, length};
 ghost use Rattle.std.specs.List.{list_all, prefix_len};
 ghost use Rattle.term_core.specs.Word.{begins_word, continues_word, is_word, first_word};
-ghost use Rattle.term_core.specs.inside.NameView.{spelling_of, IsText};
+ghost use Rattle.term_core.specs.inside.NameView.{spelling_of, stands_in_quotes, IsText};
 
 use crate::NoMemory;
 use std::alloc::Global;
@@ -21,16 +21,23 @@ pub struct Name {
     text: Text,
 }
 
+// Whether the bytes are a word or stand in quotes.
+#[derive(Clone, Copy)]
+enum NameKind {
+    Word,
+    Quoted,
+}
+
 // Short names are stored in the value itself, without an allocation; long ones are shared.
 #[derive(Drop)]
 enum Text {
     Short {
-        quoted: bool,
+        kind: NameKind,
         length: u8,
         bytes: [u8; SHORT],
     },
     Long {
-        quoted: bool,
+        kind: NameKind,
         bytes: Rc<Vec<u8>>,
     },
 }
@@ -126,28 +133,28 @@ fn word_length(rest: &[u8]) -> usize
 
 impl Text {
     // A copy of these bytes.
-    fn new(alloc: Global, quoted: bool, text: &[u8]) -> Result<Text, NoMemory>
+    fn new(alloc: Global, kind: NameKind, text: &[u8]) -> Result<Text, NoMemory>
         ensures value { IfOk result (λ made. spelling_of made
-            ≡ record { text = text.now; is_quoted = quoted }) }
+            ≡ record { text = text.now; is_quoted = stands_in_quotes kind }) }
         ensures short { IfOk result (λ made. IsText made) }
     {
         if text.len() <= SHORT {
-            return Ok(Text::short(quoted, text));
+            return Ok(Text::short(kind, text));
         }
         let bytes = Vec::from_slice(alloc, text)?;
         let bytes = Rc::new(alloc, bytes)?;
-        Ok(Text::Long { quoted, bytes })
+        Ok(Text::Long { kind, bytes })
     }
 
-    fn short(quoted: bool, text: &[u8]) -> Text
+    fn short(kind: NameKind, text: &[u8]) -> Text
         requires { length text.now ≤ SHORT }
-        ensures value { spelling_of result ≡ record { text = text.now; is_quoted = quoted } }
+        ensures value { spelling_of result ≡ record { text = text.now; is_quoted = stands_in_quotes kind } }
         ensures short { IsText result }
     {
         let mut bytes = [0; SHORT];
         bytes[..text.len()].copy_from_slice(text);
         Text::Short {
-            quoted,
+            kind,
             length: text.len() as u8,
             bytes,
         }
@@ -164,7 +171,7 @@ impl Name {
         if !is_word(text) {
             return Ok(None);
         }
-        let text = Text::new(alloc, false, text)?;
+        let text = Text::new(alloc, NameKind::Word, text)?;
         Ok(Some(Name { text }))
     }
 
@@ -173,7 +180,7 @@ impl Name {
         requires { is_word text.now ≡ true }
         ensures { IfOk result (λ name. name ≡ record { text = text.now; is_quoted = false }) }
     {
-        let text = Text::new(alloc, false, text)?;
+        let text = Text::new(alloc, NameKind::Word, text)?;
         Ok(Name { text })
     }
 
@@ -193,7 +200,7 @@ impl Name {
             return Ok(None);
         }
         let (front, rest) = text.split_at(1 + word_length(rest));
-        let text = Text::new(alloc, false, front)?;
+        let text = Text::new(alloc, NameKind::Word, front)?;
         Ok(Some((Name { text }, rest)))
     }
 
@@ -201,7 +208,7 @@ impl Name {
     pub fn quoted(alloc: Global, text: &[u8]) -> Result<Name, NoMemory>
         ensures { IfOk result (λ name. name ≡ record { text = text.now; is_quoted = true }) }
     {
-        let text = Text::new(alloc, true, text)?;
+        let text = Text::new(alloc, NameKind::Quoted, text)?;
         Ok(Name { text })
     }
 
@@ -219,9 +226,10 @@ impl Name {
     pub fn is_quoted(&self) -> bool
         ensures { result ≡ self.now.is_quoted }
     {
-        match &self.text {
-            Text::Short { quoted, .. } | Text::Long { quoted, .. } => *quoted,
-        }
+        let kind = match &self.text {
+            Text::Short { kind, .. } | Text::Long { kind, .. } => *kind,
+        };
+        matches!(kind, NameKind::Quoted)
     }
 
     /// Whether the two names have the same bytes and both are words or both are quoted.
@@ -237,16 +245,16 @@ impl Name {
     {
         let text = match &self.text {
             Text::Short {
-                quoted,
+                kind,
                 length,
                 bytes,
             } => Text::Short {
-                quoted: *quoted,
+                kind: *kind,
                 length: *length,
                 bytes: *bytes,
             },
-            Text::Long { quoted, bytes } => Text::Long {
-                quoted: *quoted,
+            Text::Long { kind, bytes } => Text::Long {
+                kind: *kind,
                 bytes: bytes.clone()?,
             },
         };

@@ -151,9 +151,9 @@ impl<'t> Cells<'t> {
         ensures { IfOk result (λ value. value
             ≡ build_place (with_tail (places_of parts.now) tail.now) (P.places places.now) self.now.bindings) }
     {
-        let behind = self.instance(alloc, places, tail)?;
-        let value = self.in_front(alloc, places, parts, &behind);
-        drop(behind);
+        let after = self.instance(alloc, places, tail)?;
+        let value = self.in_front(alloc, places, parts, &after);
+        drop(after);
         value
     }
 
@@ -243,26 +243,26 @@ impl<'t> Cells<'t> {
         alloc: Global,
         places: &P,
         parts: &'t [Place],
-        behind: &Option<Value<'t>>,
+        after: &Option<Value<'t>>,
     ) -> Result<Option<Value<'t>>, NoMemory>
         ensures { IfOk result (λ value. value ≡ option_and_then (λ us. option_map (λ vs. list_term (us ++ vs))
-            (option_and_then elements behind.now)) (build_places (places_of parts.now) (P.places places.now) self.now.bindings)) }
+            (option_and_then elements after.now)) (build_places (places_of parts.now) (P.places places.now) self.now.bindings)) }
     {
-        let Some(behind) = behind else {
+        let Some(after) = after else {
             return Ok(None);
         };
-        if !is_list(behind) {
+        if !is_list(after) {
             return Ok(None);
         }
         // a list of more elements than `usize` can count would find no memory
-        let _count = behind
+        let _count = after
             .child_count()
             .checked_add(parts.len())
             .ok_or(NoMemory)?;
         if parts.len() == 1 {
-            return one_in_front(alloc, self.instance(alloc, places, &parts[0])?, behind);
+            return one_in_front(alloc, self.instance(alloc, places, &parts[0])?, after);
         }
-        all_in_front(alloc, self.instances(alloc, places, parts)?, behind)
+        all_in_front(alloc, self.instances(alloc, places, parts)?, after)
     }
 
     // The instances of these patterns, if each has one.
@@ -505,14 +505,14 @@ fn over_all<'t>(
 fn one_in_front<'t>(
     alloc: Global,
     first: Option<Value<'t>>,
-    behind: &Value<'t>,
+    after: &Value<'t>,
 ) -> Result<Option<Value<'t>>, NoMemory>
-    requires { length (children behind.now) + 1 < 2 ^ 64 }
-    ensures { IfOk result (λ value. value ≡ option_map (λ u. list_term (u ∷ children behind.now)) first.entry) }
+    requires { length (children after.now) + 1 < 2 ^ 64 }
+    ensures { IfOk result (λ value. value ≡ option_map (λ u. list_term (u ∷ children after.now)) first.entry) }
 {
     match first {
         None => Ok(None),
-        Some(first) => Ok(Some(Value::cons(alloc, first, behind)?)),
+        Some(first) => Ok(Some(Value::cons(alloc, first, after)?)),
     }
 }
 
@@ -521,14 +521,14 @@ fn one_in_front<'t>(
 fn all_in_front<'t>(
     alloc: Global,
     front: Option<Vec<Value<'t>>>,
-    behind: &Value<'t>,
+    after: &Value<'t>,
 ) -> Result<Option<Value<'t>>, NoMemory>
-    requires { IfSome front (λ us. length us.items + length (children behind.now) < 2 ^ 64) }
-    ensures { IfOk result (λ value. value ≡ option_map (λ us. list_term (us.items ++ children behind.now)) front.entry) }
+    requires { IfSome front (λ us. length us.items + length (children after.now) < 2 ^ 64) }
+    ensures { IfOk result (λ value. value ≡ option_map (λ us. list_term (us.items ++ children after.now)) front.entry) }
 {
     match front {
         None => Ok(None),
-        Some(front) => Ok(Some(Value::join(alloc, front, behind)?)),
+        Some(front) => Ok(Some(Value::join(alloc, front, after)?)),
     }
 }
 

@@ -3,7 +3,7 @@ use Rattle.std.proofs.Common.{◌≡◌, ℕ, List, ◌++◌, refl, sym, ap, ◌
 use Rattle.term_core.specs.Tree.{Tree, integer, branch, annotations, with_annotations}
 use Rattle.term_core.proofs.TreeLemmas.{to_list-of_list, of_list-to_list}
 use Rattle.term_paths.specs.Paths.{at, annotations_at, set_at, set_annotations_at}
-use Rattle.term_paths.specs.Laws.{PuttingBack, PuttingAnnotationsBack, SetIsThere, SetAnnotationsAreThere, LastSetStays, LastAnnotationsStay, SubtermAfterAnnotations, swapped, annotations_swapped, SwappingTwiceIsNothing, SwappingAnnotationsTwiceIsNothing, SetBehind, SetAnnotationsBehind}
+use Rattle.term_paths.specs.Laws.{PuttingBack, PuttingAnnotationsBack, SetIsThere, SetAnnotationsAreThere, LastSetStays, LastAnnotationsStay, SubtermAfterAnnotations, swapped, annotations_swapped, SwappingTwiceIsNothing, SwappingAnnotationsTwiceIsNothing, SetAfter, SetAnnotationsAfter}
 use Rattle.term_paths.proofs.PathLemmas.{changed_at, set_at-changed, set_annotations_at-changed, at-changed_at, changed_at-changed_at, changed_at-same, changed_at-nowhere, changed_at-append}
 
 -- ---- subterms
@@ -116,13 +116,13 @@ subterm_after_annotations t u us p =
 
 -- ---- concatenated paths
 
-pub set_behind : SetBehind
-set_behind t u v p q e =
+pub set_after : SetAfter
+set_after t u v p q e =
     set_at-changed t v (p ++ q) ∙ changed_at-append (λ _. v) t u p q e
     ∙ sym (set_at-changed t (changed_at (λ _. v) u q) p) ∙ ap (set_at t p) (sym (set_at-changed u v q))
 
-pub set_annotations_behind : SetAnnotationsBehind
-set_annotations_behind t u notes p q e =
+pub set_annotations_after : SetAnnotationsAfter
+set_annotations_after t u notes p q e =
     set_annotations_at-changed t notes (p ++ q) ∙ changed_at-append (λ w. with_annotations w notes) t u p q e
     ∙ sym (set_at-changed t (changed_at (λ w. with_annotations w notes) u q) p)
     ∙ ap (set_at t p) (sym (set_annotations_at-changed u notes q))

@@ -42,33 +42,33 @@ part_refused ds r d h parsed e = sym (part_of-none ds (OkIff-at_err r _ _ d (par
 -- ---- all parts
 
 -- the parts before these, if these exist
-abbrev pub behind : List ℕ → Option (List ℕ) → Option (List ℕ)
-behind xs None = None
-behind xs (Some ys) = Some (xs ++ ys)
+abbrev pub after : List ℕ → Option (List ℕ) → Option (List ℕ)
+after xs None = None
+after xs (Some ys) = Some (xs ++ ys)
 
-behind-nil : (o : Option (List ℕ)) → behind [] o ≡ o
-behind-nil None = refl
-behind-nil (Some ys) = refl
+after-nil : (o : Option (List ℕ)) → after [] o ≡ o
+after-nil None = refl
+after-nil (Some ys) = refl
 
-pub no_parts_yet : (xs : List ℕ) (pieces : List (List ℕ)) → xs ≡ [] → parts_of pieces ≡ behind xs (parts_of pieces)
-no_parts_yet xs pieces e = sym (ap (λ l. behind l (parts_of pieces)) e ∙ behind-nil (parts_of pieces))
+pub no_parts_yet : (xs : List ℕ) (pieces : List (List ℕ)) → xs ≡ [] → parts_of pieces ≡ after xs (parts_of pieces)
+no_parts_yet xs pieces e = sym (ap (λ l. after l (parts_of pieces)) e ∙ after-nil (parts_of pieces))
 
-add_part : (xs : List ℕ) (part : ℕ) (o : Option (List ℕ)) (piece : List ℕ) (pieces : List (List ℕ)) → part_of piece ≡ Some part → parts_of pieces ≡ o → behind xs (parts_of (piece ∷ pieces)) ≡ behind (xs ++ part ∷ []) o
+add_part : (xs : List ℕ) (part : ℕ) (o : Option (List ℕ)) (piece : List ℕ) (pieces : List (List ℕ)) → part_of piece ≡ Some part → parts_of pieces ≡ o → after xs (parts_of (piece ∷ pieces)) ≡ after (xs ++ part ∷ []) o
 add_part xs part None piece pieces e is = grind arith
 add_part xs part (Some ys) piece pieces e is = grind (arith, append_assoc)
 
-pub one_more_part : (pieces : List (List ℕ)) (k : ℕ) (piece : List ℕ) (xs : List ℕ) (part : ℕ) → (k < length pieces) × (piece ≡ get_or pieces k piece) → part_of piece ≡ Some part → behind xs (parts_of (drop k pieces)) ≡ behind (xs ++ part ∷ []) (parts_of (drop (k + 1) pieces))
+pub one_more_part : (pieces : List (List ℕ)) (k : ℕ) (piece : List ℕ) (xs : List ℕ) (part : ℕ) → (k < length pieces) × (piece ≡ get_or pieces k piece) → part_of piece ≡ Some part → after xs (parts_of (drop k pieces)) ≡ after (xs ++ part ∷ []) (parts_of (drop (k + 1) pieces))
 one_more_part pieces k piece xs part h e =
-    ap (λ l. behind xs (parts_of l)) (drop_more pieces k piece h.0 ∙ ap (λ p. p ∷ drop (k + 1) pieces) (sym h.1))
+    ap (λ l. after xs (parts_of l)) (drop_more pieces k piece h.0 ∙ ap (λ p. p ∷ drop (k + 1) pieces) (sym h.1))
     ∙ add_part xs part (parts_of (drop (k + 1) pieces)) piece (drop (k + 1) pieces) e refl
 
-pub no_part : (pieces : List (List ℕ)) (k : ℕ) (piece : List ℕ) (xs : List ℕ) → (k < length pieces) × (piece ≡ get_or pieces k piece) → part_of piece ≡ None → behind xs (parts_of (drop k pieces)) ≡ None
+pub no_part : (pieces : List (List ℕ)) (k : ℕ) (piece : List ℕ) (xs : List ℕ) → (k < length pieces) × (piece ≡ get_or pieces k piece) → part_of piece ≡ None → after xs (parts_of (drop k pieces)) ≡ None
 no_part pieces k piece xs h e =
-    ap (λ l. behind xs (parts_of l)) (drop_more pieces k piece h.0 ∙ ap (λ p. p ∷ drop (k + 1) pieces) (sym h.1))
+    ap (λ l. after xs (parts_of l)) (drop_more pieces k piece h.0 ∙ ap (λ p. p ∷ drop (k + 1) pieces) (sym h.1))
     ∙ no_part_first xs piece (drop (k + 1) pieces) e
   where
-    no_part_first : (xs piece : List ℕ) (pieces : List (List ℕ)) → part_of piece ≡ None → behind xs (parts_of (piece ∷ pieces)) ≡ None
+    no_part_first : (xs piece : List ℕ) (pieces : List (List ℕ)) → part_of piece ≡ None → after xs (parts_of (piece ∷ pieces)) ≡ None
     no_part_first xs piece pieces e = grind arith
 
-pub all_parts : (pieces : List (List ℕ)) (k : ℕ) (xs : List ℕ) → k ≡ length pieces → behind xs (parts_of (drop k pieces)) ≡ Some xs
-all_parts pieces k xs e = ap (λ l. behind xs (parts_of l)) (drop_all k pieces (omega arith)) ∙ ap Some (append-nil xs)
+pub all_parts : (pieces : List (List ℕ)) (k : ℕ) (xs : List ℕ) → k ≡ length pieces → after xs (parts_of (drop k pieces)) ≡ Some xs
+all_parts pieces k xs e = ap (λ l. after xs (parts_of l)) (drop_all k pieces (omega arith)) ∙ ap Some (append-nil xs)

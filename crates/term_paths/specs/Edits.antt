@@ -16,8 +16,8 @@ abbrev pub paths : Edits → List (List ℕ)
 paths e = map (λ x. x.path) e
 
 -- the edits of the subterm at a path, as seen from the root
-abbrev pub behind : List ℕ → Edits → Edits
-behind p e = map (λ x. record { path = p ++ x.path; new = x.new }) e
+abbrev pub prefixed : List ℕ → Edits → Edits
+prefixed p e = map (λ x. record { path = p ++ x.path; new = x.new }) e
 
 -- the tree after the edits
 abbrev pub edited : Tree → Edits → Tree

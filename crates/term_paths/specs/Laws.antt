@@ -2,7 +2,7 @@
 use Rattle.std.specs.Prelude.{◌≡◌, ℕ, List, ◌∷◌, ◌++◌, reverse, Some, unwrap_or, option_and_then}
 use Rattle.term_core.specs.Tree.{Tree}
 use Rattle.term_paths.specs.Paths.{at, leads, annotations_at, set_at, set_annotations_at, LiesWithin}
-use Rattle.term_paths.specs.Edits.{Edits, paths, behind, edited, Replaces, with_outermost}
+use Rattle.term_paths.specs.Edits.{Edits, paths, prefixed, edited, Replaces, with_outermost}
 
 -- If a path leads to a subterm, putting it back after anything was set there restores the tree.
 abbrev pub PuttingBack : Type 0
@@ -57,15 +57,15 @@ SwappingAnnotationsTwiceIsNothing = (p : List ℕ) (t : Tree) (us : List Tree)
 
 -- A concatenated path leads where its second part leads below the subterm at its first part, and
 -- sets in that subterm.
-abbrev pub AtBehind : Type 0
-AtBehind = (t : Tree) (p q : List ℕ) → at t (p ++ q) ≡ option_and_then (λ u. at u q) (at t p)
+abbrev pub AtAfter : Type 0
+AtAfter = (t : Tree) (p q : List ℕ) → at t (p ++ q) ≡ option_and_then (λ u. at u q) (at t p)
 
-abbrev pub SetBehind : Type 0
-SetBehind = (t u v : Tree) (p q : List ℕ) → at t p ≡ Some u
+abbrev pub SetAfter : Type 0
+SetAfter = (t u v : Tree) (p q : List ℕ) → at t p ≡ Some u
     → set_at t (p ++ q) v ≡ set_at t p (set_at u q v)
 
-abbrev pub SetAnnotationsBehind : Type 0
-SetAnnotationsBehind = (t u : Tree) (notes : List Tree) (p q : List ℕ) → at t p ≡ Some u
+abbrev pub SetAnnotationsAfter : Type 0
+SetAnnotationsAfter = (t u : Tree) (notes : List Tree) (p q : List ℕ) → at t p ≡ Some u
     → set_annotations_at t (p ++ q) notes ≡ set_at t p (set_annotations_at u q notes)
 
 -- ---- disjoint paths
@@ -154,7 +154,7 @@ EditsAfterEdits = (e f : Edits) (t u v : Tree) → Replaces e t u → Replaces f
 
 abbrev pub EditsOfASubterm : Type 0
 EditsOfASubterm = (e : Edits) (whole t u : Tree) (p : List ℕ) → at whole p ≡ Some t
-    → Replaces e t u → Replaces (behind p e) whole (set_at whole p u)
+    → Replaces e t u → Replaces (prefixed p e) whole (set_at whole p u)
 
 -- There are edits at the same places, the last one first, that undo these.
 abbrev pub EditsLeadBack : Type 0

@@ -25,11 +25,11 @@ parts_of (piece ∷ pieces) =
     option_and_then (λ part. option_map (λ parts. part ∷ parts) (parts_of pieces)) (part_of piece)
 
 -- the parts after the first slash, separated by slashes, or none
-abbrev pub parts_behind_slash : List ℕ → Option (List ℕ)
-parts_behind_slash [] = Some []
-parts_behind_slash (b ∷ bs) = parts_of (slice_split is_slash (b ∷ bs))
+abbrev pub parts_after_slash : List ℕ → Option (List ℕ)
+parts_after_slash [] = Some []
+parts_after_slash (b ∷ bs) = parts_of (slice_split is_slash (b ∷ bs))
 
 -- the path that the text spells, if it spells one
 abbrev pub path_of : List ℕ → Option (List ℕ)
 path_of [] = None
-path_of (b ∷ bs) = if is_slash b then parts_behind_slash bs else None
+path_of (b ∷ bs) = if is_slash b then parts_after_slash bs else None

@@ -1,7 +1,7 @@
 //! Laws over the definitions of paths and edits alone. Each is the contract of a function that does
 //! nothing.
 
-ghost use Rattle.term_paths.specs.Laws.{PuttingBack, PuttingAnnotationsBack, SetIsThere, SetAnnotationsAreThere, LastSetStays, LastAnnotationsStay, SubtermAfterAnnotations, SwappingTwiceIsNothing, SwappingAnnotationsTwiceIsNothing, AtBehind, SetBehind, SetAnnotationsBehind, ApartIsLeft, ApartIsLeftByAnnotations, ApartCommute, ApartAnnotationsCommute, ApartMixedCommute, SetAround, SetAroundAnnotations, SetInside, SetAnnotationsInside, LeadsAround, LeadsAroundAnnotations, BelowIsLeftByAnnotations, AnnotationsAndBelowCommute, AnnotationsBelowCommute, EditsMakeTheTree, EditsAfterEdits, EditsOfASubterm, EditsLeadBack, OutermostAreEnough};
+ghost use Rattle.term_paths.specs.Laws.{PuttingBack, PuttingAnnotationsBack, SetIsThere, SetAnnotationsAreThere, LastSetStays, LastAnnotationsStay, SubtermAfterAnnotations, SwappingTwiceIsNothing, SwappingAnnotationsTwiceIsNothing, AtAfter, SetAfter, SetAnnotationsAfter, ApartIsLeft, ApartIsLeftByAnnotations, ApartCommute, ApartAnnotationsCommute, ApartMixedCommute, SetAround, SetAroundAnnotations, SetInside, SetAnnotationsInside, LeadsAround, LeadsAroundAnnotations, BelowIsLeftByAnnotations, AnnotationsAndBelowCommute, AnnotationsBelowCommute, EditsMakeTheTree, EditsAfterEdits, EditsOfASubterm, EditsLeadBack, OutermostAreEnough};
 
 /// Putting back what was there restores the tree.
 pub fn putting_back()
@@ -29,10 +29,10 @@ pub fn swapping_twice_is_nothing()
 {}
 
 /// A concatenated path leads on from the subterm at its first part, and sets in that subterm.
-pub fn one_path_behind_another()
-    ensures at { AtBehind }
-    ensures subterm { SetBehind }
-    ensures annotations { SetAnnotationsBehind }
+pub fn one_path_after_another()
+    ensures at { AtAfter }
+    ensures subterm { SetAfter }
+    ensures annotations { SetAnnotationsAfter }
 {}
 
 /// Setting at a path doesn't change what is at a disjoint path, and the order of the two doesn't

@@ -42,7 +42,7 @@ pub fn read_path(alloc: Global, text: &[u8]) -> Result<Path, PathFault>
 {
     match text.split_first() {
         Some((b'/', [])) => Ok(Path::root(alloc)),
-        Some((b'/', behind)) => read_parts(alloc, behind),
+        Some((b'/', after)) => read_parts(alloc, after),
         _ => Err(PathFault::Line),
     }
 }

@@ -262,6 +262,6 @@ fn laws_are_there() {
     laws::what_was_set_is_there();
     laws::the_last_set_stays();
     laws::swapping_twice_is_nothing();
-    laws::one_path_behind_another();
+    laws::one_path_after_another();
     laws::paths_apart_are_independent();
 }

@@ -91,7 +91,7 @@ fn are_copied(alloc: Global, letters: &[u8]) -> Result<bool, NoMemory> {
 
 fn has_first_word(alloc: Global, text: &[u8], word: &[u8], rest: &[u8]) -> bool {
     match Name::first_word(alloc, text) {
-        Ok(Some((first, behind))) => first.bytes() == word && behind == rest,
+        Ok(Some((first, after))) => first.bytes() == word && after == rest,
         _ => false,
     }
 }

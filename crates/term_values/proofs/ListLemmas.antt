@@ -79,18 +79,18 @@ joined_size us t e = omega (arith, ap size e, sizes-append us (children t))
 pub joined_falls : (us : List Tree) (t whole : Tree) → 0 < length us → t ≡ list_term (children t) → list_term (us ++ children t) ≡ whole → size t < size whole
 joined_falls us t whole h e w = omega (arith, ap size w, joined_size us t e, some_size us h)
 
-pub behind_within : (us vs : List Tree) (t : Tree) (k : ℕ) → list_term (us ++ vs) ≡ t → k ≤ length (children t) → k - length us ≤ length vs
-behind_within us vs t k e h = omega (arith, h, ap length (list_children (us ++ vs) t (sym e)), length-append us vs)
+pub after_within : (us vs : List Tree) (t : Tree) (k : ℕ) → list_term (us ++ vs) ≡ t → k ≤ length (children t) → k - length us ≤ length vs
+after_within us vs t k e h = omega (arith, h, ap length (list_children (us ++ vs) t (sym e)), length-append us vs)
 
-drop_behind : (us vs : List Tree) (k : ℕ) → length us ≤ k → drop (k - length us) vs ≡ drop k (us ++ vs)
-drop_behind [] vs k h = let none : k - length {A = Tree} [] ≡ k = omega arith in ap (λ n. drop n vs) none
-drop_behind (u ∷ us) vs zero h = absurd (omega (arith, h))
-drop_behind (u ∷ us) vs (suc k) h =
+drop_after : (us vs : List Tree) (k : ℕ) → length us ≤ k → drop (k - length us) vs ≡ drop k (us ++ vs)
+drop_after [] vs k h = let none : k - length {A = Tree} [] ≡ k = omega arith in ap (λ n. drop n vs) none
+drop_after (u ∷ us) vs zero h = absurd (omega (arith, h))
+drop_after (u ∷ us) vs (suc k) h =
     let less : suc k - length (u ∷ us) ≡ k - length us = omega arith in
-    ap (λ n. drop n vs) less ∙ drop_behind us vs k (omega (arith, h))
+    ap (λ n. drop n vs) less ∙ drop_after us vs k (omega (arith, h))
 
-pub rest_of_behind : (us vs : List Tree) (t : Tree) (k : ℕ) → list_term (us ++ vs) ≡ t → length us ≤ k → list_term (drop (k - length us) vs) ≡ list_term (drop k (children t))
-rest_of_behind us vs t k e h = ap list_term (drop_behind us vs k h ∙ ap (drop k) (sym (list_children (us ++ vs) t (sym e))))
+pub rest_of_after : (us vs : List Tree) (t : Tree) (k : ℕ) → list_term (us ++ vs) ≡ t → length us ≤ k → list_term (drop (k - length us) vs) ≡ list_term (drop k (children t))
+rest_of_after us vs t k e h = ap list_term (drop_after us vs k h ∙ ap (drop k) (sym (list_children (us ++ vs) t (sym e))))
 
 -- one element in front of a list
 pub one_in_front : (us rest ch : List Tree) (v : Tree) → us ≡ rest ++ v ∷ [] → length us ≡ 1 → list_term (v ∷ ch) ≡ list_term (us ++ ch)

@@ -5,7 +5,7 @@ use Rattle.std.proofs.lemmas.List.{map-append, take_more, drop_more}
 use Rattle.std.proofs.Math.Seq.{take-append_seam}
 use Rattle.term_core.specs.Tree.{Tree, of_list, children, annotations}
 use Rattle.term_core.specs.Size.{height, heights}
-use Rattle.term_paths.specs.Edits.{Edits, behind}
+use Rattle.term_paths.specs.Edits.{Edits, prefixed}
 use Rattle.term_changes.specs.Change.{below, places, places_from, changed_all}
 use Rattle.term_changes.specs.Standing.{Altered, after, Standing, unchanged, Suits, SuitAll, stand_all, standing_tree, standing_change, standing_changes}
 use Rattle.term_changes.specs.Entries.{Entry}
@@ -56,26 +56,26 @@ altered_heights t ps x e h = omega (arith, ap (λ us. heights (of_list us)) (alt
 
 -- ---- places
 
-behind-below : (q : List ℕ) (i : ℕ) (e : Edits) → behind q (below i e) ≡ behind (q ++ i ∷ []) e
-behind-below q i [] = refl
-behind-below q i (x ∷ e) = λ j. record { path = sym (append_assoc q (i ∷ []) x.path) j; new = x.new } ∷ behind-below q i e j
+prefixed-below : (q : List ℕ) (i : ℕ) (e : Edits) → prefixed q (below i e) ≡ prefixed (q ++ i ∷ []) e
+prefixed-below q i [] = refl
+prefixed-below q i (x ∷ e) = λ j. record { path = sym (append_assoc q (i ∷ []) x.path) j; new = x.new } ∷ prefixed-below q i e j
 
-behind-append : (q : List ℕ) (d e : Edits) → behind q (d ++ e) ≡ behind q d ++ behind q e
-behind-append q [] e = refl
-behind-append q (x ∷ d) e = λ j. record { path = q ++ x.path; new = x.new } ∷ behind-append q d e j
+prefixed-append : (q : List ℕ) (d e : Edits) → prefixed q (d ++ e) ≡ prefixed q d ++ prefixed q e
+prefixed-append q [] e = refl
+prefixed-append q (x ∷ d) e = λ j. record { path = q ++ x.path; new = x.new } ∷ prefixed-append q d e j
 
 -- the changes from child k on
 next_places : (q : List ℕ) (k i : ℕ) (ps : List Standing) (p : Standing) → i < length ps → p ≡ get_or ps i p
-    → behind q (places_from k (standing_changes (drop i ps)))
-    ≡ behind (q ++ k ∷ []) (places (standing_change p)) ++ behind q (places_from (k + 1) (standing_changes (drop (suc i) ps)))
+    → prefixed q (places_from k (standing_changes (drop i ps)))
+    ≡ prefixed (q ++ k ∷ []) (places (standing_change p)) ++ prefixed q (places_from (k + 1) (standing_changes (drop (suc i) ps)))
 next_places q k i [] p h e = absurd (omega (arith, h))
 next_places q k zero (x ∷ ps) p h e =
-    behind-append q (below k (places (standing_change x))) (places_from (k + 1) (standing_changes ps))
-    ∙ (λ j. (behind-below q k (places (standing_change x)) ∙ ap (λ y. behind (q ++ k ∷ []) (places (standing_change y))) (sym e)) j ++ behind q (places_from (k + 1) (standing_changes ps)))
+    prefixed-append q (below k (places (standing_change x))) (places_from (k + 1) (standing_changes ps))
+    ∙ (λ j. (prefixed-below q k (places (standing_change x)) ∙ ap (λ y. prefixed (q ++ k ∷ []) (places (standing_change y))) (sym e)) j ++ prefixed q (places_from (k + 1) (standing_changes ps)))
 next_places q k (suc i) (x ∷ ps) p h e = next_places q k i ps p (omega (arith, h)) e
 
 -- none remain after the last child
-pub no_places : (q : List ℕ) (k i : ℕ) (ps : List Standing) → length ps ≤ i → behind q (places_from k (standing_changes (drop i ps))) ≡ []
+pub no_places : (q : List ℕ) (k i : ℕ) (ps : List Standing) → length ps ≤ i → prefixed q (places_from k (standing_changes (drop i ps))) ≡ []
 no_places q k zero [] h = refl
 no_places q k (suc i) [] h = refl
 no_places q k zero (x ∷ ps) h = absurd (omega (arith, h))
@@ -83,15 +83,15 @@ no_places q k (suc i) (x ∷ ps) h = no_places q k i ps (omega (arith, h))
 
 -- one more child
 pub gathered : (slot : ℕ) (q : List ℕ) (i : ℕ) (ps : List Standing) (p : Standing) (all next total : List Entry) → i < length ps → p ≡ get_or ps i p
-    → next ≡ all ++ entries_at slot (behind (q ++ i ∷ []) (places (standing_change p)))
-    → all ++ entries_at slot (behind q (places_from i (standing_changes (drop i ps)))) ≡ total
-    → next ++ entries_at slot (behind q (places_from (i + 1) (standing_changes (drop (i + 1) ps)))) ≡ total
+    → next ≡ all ++ entries_at slot (prefixed (q ++ i ∷ []) (places (standing_change p)))
+    → all ++ entries_at slot (prefixed q (places_from i (standing_changes (drop i ps)))) ≡ total
+    → next ++ entries_at slot (prefixed q (places_from (i + 1) (standing_changes (drop (i + 1) ps)))) ≡ total
 gathered slot q i ps p all next total l e n t =
-    let first = behind (q ++ i ∷ []) (places (standing_change p)) in
-    let others = behind q (places_from (i + 1) (standing_changes (drop (suc i) ps))) in
+    let first = prefixed (q ++ i ∷ []) (places (standing_change p)) in
+    let others = prefixed q (places_from (i + 1) (standing_changes (drop (suc i) ps))) in
     let one : i + 1 ≡ suc i = omega arith in
     let rest = ap (λ k. drop k ps) one in
-    (λ j. n j ++ entries_at slot (behind q (places_from (i + 1) (standing_changes (rest j)))))
+    (λ j. n j ++ entries_at slot (prefixed q (places_from (i + 1) (standing_changes (rest j)))))
     ∙ append_assoc all (entries_at slot first) (entries_at slot others)
     ∙ ap (λ x. all ++ x) (sym (ap (entries_at slot) (next_places q i i ps p l e) ∙ map-append (entry_at slot) first others))
     ∙ t

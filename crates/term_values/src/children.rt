@@ -6,7 +6,7 @@ ghost use Rattle.term_core.specs.Tree.{children, annotations};
 ghost use Rattle.term_values.specs.inside.Bounded.{AllWithin};
 
 use crate::bounds::Bounds;
-use crate::elements::{Elements, terms_behind};
+use crate::elements::{Elements, terms_after};
 use crate::value::{Form, Value};
 use std::alloc::Global;
 use term_core::{NoMemory, Term};
@@ -26,7 +26,7 @@ impl<'t> Value<'t> {
                 Ok(original_at(term.children(), i, self.bounds_below(term.child_count())))
             }
             Form::Rest(term, skipped) => {
-                let left = terms_behind(*term, *skipped);
+                let left = terms_after(*term, *skipped);
                 Ok(original_at(left, i, self.bounds_below(left.len())))
             }
             Form::Built(made) => shared_at(made.items.as_slice(), i),

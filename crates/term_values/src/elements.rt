@@ -37,7 +37,7 @@ pub(crate) enum Run<'a, 't> {
 #[derive(Drop)]
 pub(crate) struct Elements<'a, 't> {
     run: Run<'a, 't>,
-    behind: Option<&'a Value<'t>>,
+    after: Option<&'a Value<'t>>,
 }
 
 impl<'a, 't> Model for Elements<'a, 't> {
@@ -236,7 +236,7 @@ impl<'a, 't> Elements<'a, 't> {
     pub(crate) fn alone(run: Run<'a, 't>) -> Elements<'a, 't>
         ensures { result ≡ run_list run.entry }
     {
-        Elements { run, behind: None }
+        Elements { run, after: None }
     }
 
     /// The number of trees in the first run.
@@ -256,11 +256,11 @@ impl<'a, 't> Elements<'a, 't> {
             if at < count {
                 return left.run.get(at);
             }
-            match left.behind {
+            match left.after {
                 None => return None,
-                Some(behind) => {
+                Some(after) => {
                     at -= count;
-                    left = behind.elements();
+                    left = after.elements();
                 }
             }
         }
@@ -276,9 +276,9 @@ impl<'a, 't> Elements<'a, 't> {
             self.run = others;
             return Some(first);
         }
-        match self.behind {
+        match self.after {
             None => self.run = others,
-            Some(behind) => *self = behind.elements(),
+            Some(after) => *self = after.elements(),
         }
         Some(first)
     }
@@ -335,7 +335,7 @@ impl<'t> Value<'t> {
             Form::Leaf(_) => Run::Empty,
             Form::Original(term) => terms_of(*term),
             Form::Bare(term) => terms_of(*term),
-            Form::Rest(term, skipped) => Run::Terms(terms_behind(*term, *skipped)),
+            Form::Rest(term, skipped) => Run::Terms(terms_after(*term, *skipped)),
             Form::Built(made) => Run::Values(made.items.as_slice()),
             Form::Kept(changed) => changed.run(),
             Form::BareKept(changed) => changed.run(),
@@ -363,11 +363,11 @@ impl<'t> Value<'t> {
 
 fn joined_elements<'a, 't>(joined: &'a Joined<'t>) -> Elements<'a, 't>
     requires { 0 < length (items_list joined.now.front) }
-    ensures { result ≡ items_list joined.now.front ++ children joined.now.behind }
+    ensures { result ≡ items_list joined.now.front ++ children joined.now.after }
 {
     Elements {
         run: Run::Values(joined.front.as_slice()),
-        behind: Some(&joined.behind),
+        after: Some(&joined.after),
     }
 }
 
@@ -378,7 +378,7 @@ fn terms_of<'a, 't>(term: &'t Term) -> Run<'a, 't>
 }
 
 /// The children after the first `skipped`.
-pub(crate) fn terms_behind<'t>(term: &'t Term, skipped: usize) -> &'t [Term]
+pub(crate) fn terms_after<'t>(term: &'t Term, skipped: usize) -> &'t [Term]
     requires { skipped ≤ length (children term.now) }
     ensures { result.now ≡ drop skipped (children term.now) }
 {

@@ -39,7 +39,7 @@ impl<'t> Value<'t> {
         match &self.form {
             Form::Original(term) => Ok(self.rest_of(*term, skipped)),
             Form::Bare(term) => Ok(self.rest_of(*term, skipped)),
-            Form::Rest(term, before) => Ok(self.rest_behind(*term, *before, skipped)),
+            Form::Rest(term, before) => Ok(self.rest_after(*term, *before, skipped)),
             Form::Joined(joined) => {
                 let list: &Joined<'t> = joined.as_ref();
                 let count = list.front.as_slice().len();
@@ -47,7 +47,7 @@ impl<'t> Value<'t> {
                     let rest = joined_rest(alloc, list, skipped)?;
                     Ok(self.bounded_rest(rest, skipped))
                 } else {
-                    let rest = list.behind.rest(alloc, skipped - count)?;
+                    let rest = list.after.rest(alloc, skipped - count)?;
                     Ok(self.bounded_rest(rest, skipped))
                 }
             }
@@ -60,26 +60,26 @@ impl<'t> Value<'t> {
     }
 
     /// The list of an element in front of the children of another value.
-    pub fn cons(alloc: Global, first: Value<'t>, behind: &Value<'t>) -> Result<Value<'t>, NoMemory>
-        requires { length (children behind.now) + 1 < 2 ^ 64 }
-        ensures { IfOk result (λ value. value ≡ list_term (first.entry ∷ children behind.now)) }
+    pub fn cons(alloc: Global, first: Value<'t>, after: &Value<'t>) -> Result<Value<'t>, NoMemory>
+        requires { length (children after.now) + 1 < 2 ^ 64 }
+        ensures { IfOk result (λ value. value ≡ list_term (first.entry ∷ children after.now)) }
     {
-        put_before(alloc, first, behind.as_list(alloc)?)
+        put_before(alloc, first, after.as_list(alloc)?)
     }
 
     /// The same, consuming the other value.
     pub fn cons_owned(
         alloc: Global,
         first: Value<'t>,
-        behind: Value<'t>,
+        after: Value<'t>,
     ) -> Result<Value<'t>, NoMemory>
-        requires { length (children behind) + 1 < 2 ^ 64 }
-        ensures { IfOk result (λ value. value ≡ list_term (first.entry ∷ children behind.entry)) }
+        requires { length (children after) + 1 < 2 ^ 64 }
+        ensures { IfOk result (λ value. value ≡ list_term (first.entry ∷ children after.entry)) }
     {
-        if let Form::Joined(_) = &behind.form {
-            return put_before(alloc, first, behind);
+        if let Form::Joined(_) = &after.form {
+            return put_before(alloc, first, after);
         }
-        put_before(alloc, first, behind.as_list(alloc)?)
+        put_before(alloc, first, after.as_list(alloc)?)
     }
 
     // The list of the children without annotations.
@@ -96,15 +96,15 @@ impl<'t> Value<'t> {
     pub fn join(
         alloc: Global,
         front: Vec<Value<'t>>,
-        behind: &Value<'t>,
+        after: &Value<'t>,
     ) -> Result<Value<'t>, NoMemory>
-        requires { length front.items + length (children behind.now) < 2 ^ 64 }
-        ensures { IfOk result (λ value. value ≡ list_term (front.entry.items ++ children behind.now)) }
+        requires { length front.items + length (children after.now) < 2 ^ 64 }
+        ensures { IfOk result (λ value. value ≡ list_term (front.entry.items ++ children after.now)) }
     {
         if front.len() == 1 {
-            return join_one(alloc, front, behind);
+            return join_one(alloc, front, after);
         }
-        let list = behind.as_list(alloc)?;
+        let list = after.as_list(alloc)?;
         if front.is_empty() {
             return Ok(list);
         }
@@ -153,7 +153,7 @@ impl<'t> Value<'t> {
     }
 
     // The same if this value is a suffix already.
-    fn rest_behind(&self, term: &'t Term, before: usize, skipped: usize) -> Value<'t>
+    fn rest_after(&self, term: &'t Term, before: usize, skipped: usize) -> Value<'t>
         requires rest { self.now ≡ list_term (drop before (children term.now)) }
         requires before { before ≤ length (children term.now) }
         requires within { skipped ≤ length (children self.now) }
@@ -185,14 +185,14 @@ fn put_before<'t>(alloc: Global, first: Value<'t>, list: Value<'t>) -> Result<Va
 // a node already.
 fn joined_rest<'t>(alloc: Global, list: &Joined<'t>, skipped: usize) -> Result<Value<'t>, NoMemory>
     requires within { skipped < length (items_list list.now.front) }
-    requires shape { JoinedShape (items_list list.now.front) list.now.behind list.now.count }
+    requires shape { JoinedShape (items_list list.now.front) list.now.after list.now.count }
     ensures { IfOk result (λ value.
-        value ≡ list_term (drop skipped (items_list list.now.front ++ children list.now.behind))) }
+        value ≡ list_term (drop skipped (items_list list.now.front ++ children list.now.after))) }
 {
     let _count = list.count;
     let front = list.front.as_slice();
     let mut at = front.len();
-    let mut rest = list.behind.try_clone()?;
+    let mut rest = list.after.try_clone()?;
     while at > skipped {
         at -= 1;
         rest = link(alloc, front[at].try_clone()?, rest)?;
@@ -204,16 +204,16 @@ fn joined_rest<'t>(alloc: Global, list: &Joined<'t>, skipped: usize) -> Result<V
 fn join_one<'t>(
     alloc: Global,
     front: Vec<Value<'t>>,
-    behind: &Value<'t>,
+    after: &Value<'t>,
 ) -> Result<Value<'t>, NoMemory>
     requires one { length front.items ≡ 1 }
-    requires room { length (children behind.now) + 1 < 2 ^ 64 }
-    ensures { IfOk result (λ value. value ≡ list_term (front.entry.items ++ children behind.now)) }
+    requires room { length (children after.now) + 1 < 2 ^ 64 }
+    ensures { IfOk result (λ value. value ≡ list_term (front.entry.items ++ children after.now)) }
 {
     let mut left = front;
     match left.pop() {
-        None => behind.as_list(alloc),
-        Some(first) => Value::cons(alloc, first, behind),
+        None => after.as_list(alloc),
+        Some(first) => Value::cons(alloc, first, after),
     }
 }
 
@@ -222,15 +222,15 @@ pub(crate) fn chunked<'t>(
     alloc: Global,
     values: Vec<Value<'t>>,
     skipped: usize,
-    behind: Value<'t>,
+    after: Value<'t>,
 ) -> Result<Value<'t>, NoMemory>
     requires within { skipped ≤ length values.items }
-    requires list { behind ≡ list_term (children behind) }
-    requires room { length values.items + length (children behind) < 2 ^ 64 }
-    ensures { IfOk result (λ value. value ≡ list_term (drop skipped values.entry.items ++ children behind.entry)) }
+    requires list { after ≡ list_term (children after) }
+    requires room { length values.items + length (children after) < 2 ^ 64 }
+    ensures { IfOk result (λ value. value ≡ list_term (drop skipped values.entry.items ++ children after.entry)) }
 {
     let mut left = values;
-    let mut list = behind;
+    let mut list = after;
     while left.len() > skipped {
         let from = left.len().saturating_sub(CHUNK).max(skipped);
         let front = left.split_off(from)?;
@@ -251,17 +251,17 @@ fn gathered<'t>(
     ensures { IfOk result (λ value. value ≡ list_term (front.entry.items ++ children list.now)) }
 {
     let mut all = front;
-    let mut behind = list;
-    'chunks: while let Form::Joined(next) = &behind.form {
+    let mut after = list;
+    'chunks: while let Form::Joined(next) = &after.form {
         let next: &Joined<'t> = next.as_ref();
         let chunk = next.front.as_slice();
         if all.len() + chunk.len() > CHUNK {
             break;
         }
         add_all(&mut all, chunk)?;
-        behind = &next.behind;
+        after = &next.after;
     }
-    joined(alloc, Items::Many(all), behind.try_clone()?, 0)
+    joined(alloc, Items::Many(all), after.try_clone()?, 0)
 }
 
 // Appends holders of the values.
@@ -303,7 +303,7 @@ fn link<'t>(alloc: Global, first: Value<'t>, list: Value<'t>) -> Result<Value<'t
         alloc,
         Joined {
             front: Items::One(Single { items: [element] }),
-            behind: list,
+            after: list,
             count,
             run,
         },
@@ -318,21 +318,21 @@ fn link<'t>(alloc: Global, first: Value<'t>, list: Value<'t>) -> Result<Value<'t
 fn joined<'t>(
     alloc: Global,
     front: Items<'t>,
-    behind: Value<'t>,
+    after: Value<'t>,
     run: usize,
 ) -> Result<Value<'t>, NoMemory>
     requires some { 0 < length (items_list front) }
-    requires list { behind ≡ list_term (children behind) }
-    requires room { length (items_list front) + length (children behind) < 2 ^ 64 }
-    ensures { IfOk result (λ value. value ≡ list_term (items_list front.entry ++ children behind.entry)) }
+    requires list { after ≡ list_term (children after) }
+    requires room { length (items_list front) + length (children after) < 2 ^ 64 }
+    ensures { IfOk result (λ value. value ≡ list_term (items_list front.entry ++ children after.entry)) }
 {
-    let bounds = all_bounds(front.as_slice()).before(behind.bounds);
-    let count = front.as_slice().len() + behind.child_count();
+    let bounds = all_bounds(front.as_slice()).before(after.bounds);
+    let count = front.as_slice().len() + after.child_count();
     let joined = Rc::new(
         alloc,
         Joined {
             front,
-            behind,
+            after,
             count,
             run,
         },

@@ -3,7 +3,7 @@
 
 ghost use Rattle.std.specs.Prelude.{◌≡◌, ◌++◌, [], ◌∷◌, List, IfOk, OnOk};
 ghost use Rattle.term_core.specs.Tree.{Tree, children};
-ghost use Rattle.term_paths.specs.Edits.{behind};
+ghost use Rattle.term_paths.specs.Edits.{prefixed};
 ghost use Rattle.term_changes.specs.Change.{places, places_from};
 ghost use Rattle.term_changes.specs.Putting.{entries_at, HasPlaces, HaveAllPlaces};
 ghost use Rattle.term_changes.specs.Standing.{Suits, SuitAll, standing_change, standing_changes};
@@ -20,7 +20,7 @@ impl<'t> Part<'t> {
     /// left to right. The path leads to this part. The places exist in each subterm whose place
     /// this part can take.
     pub fn replacements(&self, alloc: Global, slot: usize, path: &[usize]) -> Result<Plan, NoMemory>
-        ensures all { IfOk result (λ plan. plan ≡ entries_at slot (behind path.now (places (standing_change self.now)))) }
+        ensures all { IfOk result (λ plan. plan ≡ entries_at slot (prefixed path.now (places (standing_change self.now)))) }
         ensures there { IfOk result (λ _. (t : Tree) → Suits t self.now → HasPlaces t (standing_change self.now)) }
     {
         let mut plan = Plan::new(alloc);
@@ -39,7 +39,7 @@ impl<'t> Part<'t> {
     ) -> Result<(), NoMemory>
         ensures path { OnOk result (path.new.items ≡ path.old.items) }
         ensures plan { OnOk result (plan.new
-            ≡ plan.old ++ entries_at slot (behind path.old.items (places (standing_change self.now)))) }
+            ≡ plan.old ++ entries_at slot (prefixed path.old.items (places (standing_change self.now)))) }
         ensures there { OnOk result ((t : Tree) → Suits t self.now → HasPlaces t (standing_change self.now)) }
     {
         match &self.form {
@@ -65,7 +65,7 @@ impl<'t> Changed<'t> {
     ) -> Result<(), NoMemory>
         ensures path { OnOk result (path.new.items ≡ path.old.items) }
         ensures plan { OnOk result (plan.new
-            ≡ plan.old ++ entries_at slot (behind path.old.items (places_from 0 self.now.changes))) }
+            ≡ plan.old ++ entries_at slot (prefixed path.old.items (places_from 0 self.now.changes))) }
         ensures there { OnOk result (HaveAllPlaces (children self.now.before) self.now.changes) }
     {
         add_all_places(alloc, self.parts.as_slice(), slot, path, plan)
@@ -83,7 +83,7 @@ fn add_all_places<'t>(
 ) -> Result<(), NoMemory>
     ensures path { OnOk result (path.new.items ≡ path.old.items) }
     ensures plan { OnOk result (plan.new
-        ≡ plan.old ++ entries_at slot (behind path.old.items (places_from 0 (standing_changes parts.now)))) }
+        ≡ plan.old ++ entries_at slot (prefixed path.old.items (places_from 0 (standing_changes parts.now)))) }
     ensures there { OnOk result ((us : List Tree) → SuitAll us parts.now → HaveAllPlaces us (standing_changes parts.now)) }
 {
     plan.reserve(count_new(parts))?;
@@ -106,7 +106,7 @@ fn add_child_places<'t>(
 ) -> Result<(), NoMemory>
     ensures path { OnOk result (path.new.items ≡ path.old.items) }
     ensures plan { OnOk result (plan.new
-        ≡ plan.old ++ entries_at slot (behind (path.old.items ++ i ∷ []) (places (standing_change part.now)))) }
+        ≡ plan.old ++ entries_at slot (prefixed (path.old.items ++ i ∷ []) (places (standing_change part.now)))) }
     ensures there { OnOk result ((t : Tree) → Suits t part.now → HasPlaces t (standing_change part.now)) }
 {
     match &part.form {

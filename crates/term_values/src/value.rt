@@ -10,7 +10,7 @@ ghost use Rattle.term_values.specs.inside.Bounded.{Bounded};
 ghost use Rattle.term_values.specs.inside.ValueView.{top_tree, form_tree, form_shape};
 
 use crate::bounds::Bounds;
-use crate::elements::terms_behind;
+use crate::elements::terms_after;
 use crate::part::Changed;
 use std::marker::Model;
 use std::rc::Rc;
@@ -101,7 +101,7 @@ pub(crate) enum Items<'t> {
 #[cycle(value)]
 pub(crate) struct Joined<'t> {
     pub(crate) front: Items<'t>,
-    pub(crate) behind: Value<'t>,
+    pub(crate) after: Value<'t>,
     // the number of elements in all
     pub(crate) count: usize,
     // the number of single elements in a row from here on
@@ -222,7 +222,7 @@ impl<'t> Value<'t> {
             Form::Leaf(_) => 0,
             Form::Original(term) => term.child_count(),
             Form::Bare(term) => term.child_count(),
-            Form::Rest(term, skipped) => terms_behind(*term, *skipped).len(),
+            Form::Rest(term, skipped) => terms_after(*term, *skipped).len(),
             Form::Built(made) => made.items.as_slice().len(),
             Form::Kept(changed) => changed.child_count(),
             Form::BareKept(changed) => changed.child_count(),

@@ -44,7 +44,7 @@ pub fn roles_in_strategy(alloc: Global, tokens: &[Token]) -> Result<Vec<Role>, N
 #[derive(Clone, Copy)]
 struct Form {
     after: Role,
-    behind_bar: Role,
+    after_bar: Role,
 }
 
 // What was read last.
@@ -79,7 +79,7 @@ fn roles_from(alloc: Global, tokens: &[Token], first: Role) -> Result<Vec<Role>,
                 inside
             }
             Effect::Closes => closed(open.pop(), role),
-            Effect::Bar => behind_bar(open.last().copied(), role),
+            Effect::Bar => after_bar(open.last().copied(), role),
         };
         last = Last {
             operand: ends_operand(token, last.operand),
@@ -97,9 +97,9 @@ fn closed(form: Option<Form>, role: Role) -> Role {
     }
 }
 
-fn behind_bar(form: Option<Form>, role: Role) -> Role {
+fn after_bar(form: Option<Form>, role: Role) -> Role {
     match form {
-        Some(form) => form.behind_bar,
+        Some(form) => form.after_bar,
         None => role,
     }
 }
@@ -137,7 +137,7 @@ fn effect_in_names(role: Role, token: &Token) -> Effect {
         Token::Sign(Sign::OpenRound) => Effect::Opens(
             Form {
                 after: Role::Definition,
-                behind_bar: Role::Binding,
+                after_bar: Role::Binding,
             },
             Role::Binding,
         ),
@@ -165,6 +165,6 @@ fn effect_of_sign(role: Role, last: Last, sign: Sign) -> Effect {
     }
 }
 
-fn opens(after: Role, behind_bar: Role, inside: Role) -> Effect {
-    Effect::Opens(Form { after, behind_bar }, inside)
+fn opens(after: Role, after_bar: Role, inside: Role) -> Effect {
+    Effect::Opens(Form { after, after_bar }, inside)
 }

@@ -222,7 +222,7 @@ fn are_deep_with_one_more(alloc: Global, opening: u8, closing: u8) -> Result<boo
 }
 
 // The nesting is tested before anything else, even after what is no term.
-fn are_deep_behind_a_comma(alloc: Global) -> Result<bool, Fail> {
+fn are_deep_after_a_comma(alloc: Global) -> Result<bool, Fail> {
     let mut text = open_brackets(alloc, b'[', 1001)?;
     text.insert(0, b',')?;
     Ok(is_deep(alloc, &text) && are_deep_annotations(alloc, &text))
@@ -239,6 +239,6 @@ fn deep_texts(rt: HostRuntime) -> Result<(), Fail> {
         assert!(rt; are_deep_with_one_more(alloc, opening, closing)?);
     }
     assert!(rt; are_deep_annotations(alloc, &[b'{'; 1001]));
-    assert!(rt; are_deep_behind_a_comma(alloc)?);
+    assert!(rt; are_deep_after_a_comma(alloc)?);
     Ok(())
 }

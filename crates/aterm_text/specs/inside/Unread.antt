@@ -31,47 +31,47 @@ closed components us = base (tuple_term us)
 closed (annotating t) us = whole (with_annotations t us)
 
 -- After a base: optional annotations, and then what R says of the whole term.
-abbrev pub BehindBase : (Tree → List ℕ → Tree → Type 0) → Tree → List ℕ → Tree → Type 0
-BehindBase R t x all =
+abbrev pub AfterBase : (Tree → List ℕ → Tree → Type 0) → Tree → List ℕ → Tree → Type 0
+AfterBase R t x all =
     (notes : Trees) × (y : List ℕ)
     × Optional open_curly (λ u v. ReadsUntil notes close_curly u v) notes x y
     × R (with_annotations t (to_list notes)) y all
 
 -- after the result of closing a bracket
-abbrev pub BehindClosed : (Tree → List ℕ → Tree → Type 0) → Bracket → List Tree → List ℕ → Tree
+abbrev pub AfterClosed : (Tree → List ℕ → Tree → Type 0) → Bracket → List Tree → List ℕ → Tree
     → Type 0
-BehindClosed R (arguments name) us x all = BehindBase R (application_term name us) x all
-BehindClosed R elements us x all = BehindBase R (list_term us) x all
-BehindClosed R components us x all = BehindBase R (tuple_term us) x all
-BehindClosed R (annotating t) us x all = R (with_annotations t us) x all
+AfterClosed R (arguments name) us x all = AfterBase R (application_term name us) x all
+AfterClosed R elements us x all = AfterBase R (list_term us) x all
+AfterClosed R components us x all = AfterBase R (tuple_term us) x all
+AfterClosed R (annotating t) us x all = R (with_annotations t us) x all
 
 -- After a whole term t, inside these levels, x completes the text to one that spells `all`: if no
 -- bracket is open, only white space follows; else more terms and the closing bracket do, and so on
 -- outside.
-abbrev pub BehindWhole : List Level → Tree → List ℕ → Tree → Type 0
-BehindWhole [] t x all = IsBlank x × (all ≡ t)
-BehindWhole (level ∷ levels) t x all =
+abbrev pub AfterWhole : List Level → Tree → List ℕ → Tree → Type 0
+AfterWhole [] t x all = IsBlank x × (all ≡ t)
+AfterWhole (level ∷ levels) t x all =
     (us : Trees) × (y : List ℕ) × ReadsMore us (closing_of level.opened) x y
-    × BehindClosed (λ u v w. BehindWhole levels u v w)
+    × AfterClosed (λ u v w. AfterWhole levels u v w)
     level.opened (level.done ++ t ∷ to_list us) y all
 
 -- where a term has to begin
 abbrev pub BeforeTerm : List Level → List ℕ → Tree → Type 0
-BeforeTerm levels x all = (t : Tree) × (y : List ℕ) × Reads t x y × BehindWhole levels t y all
+BeforeTerm levels x all = (t : Tree) × (y : List ℕ) × Reads t x y × AfterWhole levels t y all
 
 -- right after an opening bracket
-abbrev pub BehindOpening : List Level → List ℕ → Tree → Type 0
-BehindOpening [] x all = ⊥
-BehindOpening (level ∷ levels) x all =
+abbrev pub AfterOpening : List Level → List ℕ → Tree → Type 0
+AfterOpening [] x all = ⊥
+AfterOpening (level ∷ levels) x all =
     (us : Trees) × (y : List ℕ) × ReadsUntil us (closing_of level.opened) x y
-    × BehindClosed (λ u v w. BehindWhole levels u v w) level.opened (level.done ++ to_list us) y all
+    × AfterClosed (λ u v w. AfterWhole levels u v w) level.opened (level.done ++ to_list us) y all
 
 -- what x must still spell, so that the whole text spells `all`
 abbrev pub Unread : Reading → List Level → List ℕ → Tree → Type 0
 Unread expected levels x all = BeforeTerm levels x all
-Unread entered levels x all = BehindOpening levels x all
-Unread (base t) levels x all = BehindBase (λ u v w. BehindWhole levels u v w) t x all
-Unread (whole t) levels x all = BehindWhole levels t x all
+Unread entered levels x all = AfterOpening levels x all
+Unread (base t) levels x all = AfterBase (λ u v w. AfterWhole levels u v w) t x all
+Unread (whole t) levels x all = AfterWhole levels t x all
 
 -- Reading moved from one place to another and lost or added nothing: what the rest had to spell
 -- before is what it has to spell now.

@@ -115,12 +115,12 @@ fn expect_lexeme<'a>(
             stack.push(Term::integer(alloc, value))?;
             Ok(Progress::More(ReaderState::Base, rest))
         }
-        Lexeme::Named(name) => behind_name(alloc, stack, name, rest),
+        Lexeme::Named(name) => after_name(alloc, stack, name, rest),
     }
 }
 
 // After a name: a bracket that comes next holds its arguments.
-fn behind_name<'a>(
+fn after_name<'a>(
     alloc: Global,
     stack: &mut TermStack,
     name: Name,
@@ -168,7 +168,7 @@ fn close(stack: &mut TermStack) -> Result<ReaderState, NoMemory>
 }
 
 // After an opening bracket.
-fn behind_opening<'a>(
+fn after_opening<'a>(
     alloc: Global,
     stack: &mut TermStack,
     text: &'a [u8],
@@ -189,7 +189,7 @@ fn behind_opening<'a>(
 }
 
 // After a base: a bracket that comes next holds its annotations.
-fn behind_base<'a>(stack: &mut TermStack, text: &'a [u8]) -> Result<Progress<'a>, ReadFault>
+fn after_base<'a>(stack: &mut TermStack, text: &'a [u8]) -> Result<Progress<'a>, ReadFault>
     requires { without_blanks text.now ≡ text.now }
     ensures leads { IfOk result (λ step. ReaderLeads ReaderState.Base stack.old text.now step stack.new) }
     ensures none { result ≡ Err ReadFault.Term → IsLost ReaderState.Base stack.old text.now }
@@ -203,12 +203,12 @@ fn behind_base<'a>(stack: &mut TermStack, text: &'a [u8]) -> Result<Progress<'a>
                 Err(fault) => Err(fault),
             }
         }
-        None => behind_whole(stack, text),
+        None => after_whole(stack, text),
     }
 }
 
 // After a whole term: a comma, the closing bracket or the end of the text comes next.
-fn behind_whole<'a>(stack: &mut TermStack, text: &'a [u8]) -> Result<Progress<'a>, ReadFault>
+fn after_whole<'a>(stack: &mut TermStack, text: &'a [u8]) -> Result<Progress<'a>, ReadFault>
     requires { without_blanks text.now ≡ text.now }
     ensures leads { IfOk result (λ step. ReaderLeads ReaderState.Whole stack.old text.now step stack.new) }
     ensures none { result ≡ Err ReadFault.Term → IsLost ReaderState.Whole stack.old text.now }
@@ -245,9 +245,9 @@ fn make_step<'a>(
     let text = after_blanks(text);
     match state {
         ReaderState::Expected => expect_term(alloc, stack, text),
-        ReaderState::Entered => behind_opening(alloc, stack, text),
-        ReaderState::Base => behind_base(stack, text),
-        ReaderState::Whole => behind_whole(stack, text),
+        ReaderState::Entered => after_opening(alloc, stack, text),
+        ReaderState::Base => after_base(stack, text),
+        ReaderState::Whole => after_whole(stack, text),
     }
 }
 

@@ -30,12 +30,12 @@ pub fn after_blanks(text: &[u8]) -> &[u8]
 {
     match text.first() {
         // The first comparison decides for most bytes.
-        Some(first) if *first <= b' ' && is_blank(*first) => behind_blanks(text),
+        Some(first) if *first <= b' ' && is_blank(*first) => skip_blanks(text),
         _ => text,
     }
 }
 
-fn behind_blanks(text: &[u8]) -> &[u8]
+fn skip_blanks(text: &[u8]) -> &[u8]
     ensures value { result.now ≡ without_blanks text.now }
     ensures bound { length result.now ≤ length text.now }
 {
@@ -201,11 +201,11 @@ fn escaped(alloc: Global, text: &[u8], run: usize) -> Result<(Vec<u8>, &[u8]), R
 {
     let (run, mut rest) = text.split_at(run);
     let mut bytes = Vec::from_slice(alloc, run)?;
-    while let Some(behind) = after_byte(b'\\', rest) {
-        let Some((byte, behind)) = escape(behind) else {
+    while let Some(after) = after_byte(b'\\', rest) {
+        let Some((byte, after)) = escape(after) else {
             return Err(ReadFault::Term);
         };
-        let (run, left) = first_run(behind);
+        let (run, left) = first_run(after);
         bytes.push(byte)?;
         bytes.extend_from_slice(run)?;
         rest = left;

@@ -9,9 +9,9 @@ use Rattle.script_core.specs.declared.running.RunFault.{RunFault}
 use Rattle.script_core.specs.declared.running.RunFault.TheVariants.{Read, Write, Turns, Memory}
 use Rattle.script_text.specs.declared.framing.Framing.{Framing}
 use Rattle.script_text.specs.Handed.{Handed, handed, completed}
-use Rattle.script_text.specs.Splitting.{StandsBehind}
+use Rattle.script_text.specs.Splitting.{StandsAfter}
 use Rattle.script_text.specs.Split.{Split}
-use Rattle.script_text.specs.FedRight.{GoesBehind}
+use Rattle.script_text.specs.FedRight.{GoesAfter}
 use Rattle.script_text.specs.Run.{Completes, BreaksOff}
 use Rattle.script_core.specs.Ran.{ByBudget, Streams, Calm}
 
@@ -45,7 +45,7 @@ pub record Underway (Rule : ByBudget) (old new : Running) (h g : History) (held 
   pub taken : List ℕ
   pub all : bytes ≡ taken ++ rest
   pub commands : List Handed
-  pub behind : GoesBehind old.splitter new.splitter taken commands
+  pub after : GoesAfter old.splitter new.splitter taken commands
   pub counts : Counts Rule commands old new h g held held' goes_on
   pub few : length commands ≤ length taken
 
@@ -57,23 +57,23 @@ AnswersBytes Rule old new h g held held' bytes false =
     (rest : List ℕ) × Underway Rule old new h g held held' bytes rest false
 
 -- After what came before, these bytes complete exactly these commands.
-abbrev pub HandsBehind : Split → List ℕ → List Handed → Type 0
-HandsBehind old bytes all =
-    (framing : Framing) (x : List ℕ) (out : List Handed) → StandsBehind framing x out old.left
+abbrev pub HandsAfter : Split → List ℕ → List Handed → Type 0
+HandsAfter old bytes all =
+    (framing : Framing) (x : List ℕ) (out : List Handed) → StandsAfter framing x out old.left
     → handed framing (x ++ bytes) ≡ out ++ all
 
 -- Answering these bytes fails partway.
 pub record Breaks (Rule : ByBudget) (old : Running) (h g : History) (held held' : Option (List ℕ)) (bytes : List ℕ) : Type 0
   where
     pub all : List Handed
-    pub hands : HandsBehind old.splitter bytes all
+    pub hands : HandsAfter old.splitter bytes all
     pub breaks : BreaksOff old.settings.stop (Rule old.settings.steps) all h g held held'
 
 -- Answering these bytes reaches the end.
 pub record Ends (Rule : ByBudget) (old new : Running) (h g : History) (held held' : Option (List ℕ)) (bytes : List ℕ) : Type 0
   where
     pub all : List Handed
-    pub hands : HandsBehind old.splitter bytes all
+    pub hands : HandsAfter old.splitter bytes all
     pub yes : ℕ
     pub no : ℕ
     pub completes : Completes old.settings.stop (Rule old.settings.steps) all h g held held' yes no
@@ -86,7 +86,7 @@ pub record Stops (Rule : ByBudget) (old : Running) (h g : History) (held held' :
   pub stop : old.settings.stop ≡ true
   pub some : 0 < no
   pub all : List Handed
-  pub hands : (framing : Framing) (x : List ℕ) (out : List Handed) → StandsBehind framing x out old.splitter.left
+  pub hands : (framing : Framing) (x : List ℕ) (out : List Handed) → StandsAfter framing x out old.splitter.left
       → completed framing (x ++ bytes) ≡ out ++ all
   pub completes : Completes old.settings.stop (Rule old.settings.steps) all h g held held' yes no
 

@@ -1,7 +1,7 @@
 -- What a run in the tree of a slot leads to.
 use Rattle.std.specs.Prelude.{◌≡◌, ◌⊎◌, ℕ, List, length, Some, None}
 use Rattle.term_core.specs.Tree.{Tree}
-use Rattle.term_paths.specs.Edits.{Edits, behind}
+use Rattle.term_paths.specs.Edits.{Edits, prefixed}
 use Rattle.term_changes.specs.Putting.{entries_at}
 use Rattle.term_changes.specs.Slots.{Store}
 use Rattle.term_changes.specs.Entries.{subterm_in}
@@ -19,7 +19,7 @@ pub record Foresees (W : World) (s : Store) (slot : ℕ) (path : List ℕ) (r : 
   pub part : Tree
   pub there : subterm_in s.trees slot path ≡ Some part
   pub places : Edits
-  pub plan : preview.plan ≡ entries_at slot (behind path places)
+  pub plan : preview.plan ≡ entries_at slot (prefixed path places)
   pub gives : Gives part b (run_whole W (length path) r b part) places preview.steps
 
 -- a run with this answer is refused

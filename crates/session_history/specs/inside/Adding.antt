@@ -16,6 +16,6 @@ pub record AddsStep (logs : List (List Entry)) (log : List Entry) (new : List (L
 -- From one store and log to the other: entries were appended to the log, which lead back and fit.
 pub record AddsEntries (s : Store) (log : List Entry) (t : Store) (longer : List Entry) : Type 0 where
   pub added : List Entry
-  pub behind : longer ≡ log ++ added
+  pub after : longer ≡ log ++ added
   pub back : before added t ≡ s
   pub fits : Fits added t

@@ -1,7 +1,7 @@
 -- Steps of paths.
 use Rattle.std.specs.Prelude.{ℕ, List, [], ◌∷◌}
 use Rattle.strategy_machine.specs.declared.frames.Frame.{Frame}
-use Rattle.strategy_machine.specs.declared.frames.Frame.TheVariants.{Then, Choose, Restore, Each, Leftmost, Those, Tail, Rest, Head, Behind, Leave, Cut}
+use Rattle.strategy_machine.specs.declared.frames.Frame.TheVariants.{Then, Choose, Restore, Each, Leftmost, Those, Tail, Rest, Head, After, Leave, Cut}
 
 -- the child that a frame visits
 abbrev pub step_of : Frame → List ℕ
@@ -14,6 +14,6 @@ step_of (Those s n w m any) = w.index ∷ []
 step_of (Tail s n k) = []
 step_of (Rest p ps n k) = []
 step_of (Head s n w) = w.index ∷ []
-step_of (Behind p first k) = []
+step_of (After p first k) = []
 step_of (Leave n) = []
 step_of (Cut n k) = []

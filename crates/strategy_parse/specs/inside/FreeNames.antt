@@ -44,11 +44,11 @@ next_token [] = Bad
 next_token (t ∷ ts) = t
 
 -- the names seen from the start of the tokens until the machine stops
-abbrev pub seen_behind : (ParserState → List ParserFrame → List Symbol) → Next → List Symbol
-seen_behind k (goes q S) = k q S
-seen_behind k n = []
+abbrev pub seen_after : (ParserState → List ParserFrame → List Symbol) → Next → List Symbol
+seen_after k (goes q S) = k q S
+seen_after k n = []
 
 abbrev pub names_seen : (Token → Next) → List Token → List Symbol
 names_seen f [] = []
 names_seen f (t ∷ ts) =
-    seen_behind (λ q S. seen q S (next_token ts) ++ names_seen (step q S) ts) (f t)
+    seen_after (λ q S. seen q S (next_token ts) ++ names_seen (step q S) ts) (f t)

@@ -16,14 +16,14 @@ use Rattle.strategy_tokens.specs.Marks.{is_mark}
 use Rattle.strategy_parse.specs.Written.{Header}
 
 -- the rest after a sign, if it comes first
-abbrev pub behind_mark : Sign → List Token → Option (List Token)
-behind_mark s [] = None
-behind_mark s (t ∷ ts) = if (is_mark s t) then Some ts else None
+abbrev pub after_mark : Sign → List Token → Option (List Token)
+after_mark s [] = None
+after_mark s (t ∷ ts) = if (is_mark s t) then Some ts else None
 
 -- the rest after an identifier, if one comes first
-abbrev pub behind_ident : List Token → Option (List Token)
-behind_ident (Ident f ∷ ts) = Some ts
-behind_ident x = None
+abbrev pub after_ident : List Token → Option (List Token)
+after_ident (Ident f ∷ ts) = Some ts
+after_ident x = None
 
 -- ---- names and headers
 
@@ -53,40 +53,40 @@ abbrev pub close_header : Header → Option (List Token) → HeaderLeft
 close_header h None = None
 close_header h (Some x) = Some (h, x)
 
-abbrev pub behind_terms : Symbol → List Symbol → NamesLeft → HeaderLeft
-behind_terms f ss None = None
-behind_terms f ss (Some (ts, x)) = close_header (make_header f ss ts) (behind_mark CloseRound x)
+abbrev pub after_terms : Symbol → List Symbol → NamesLeft → HeaderLeft
+after_terms f ss None = None
+after_terms f ss (Some (ts, x)) = close_header (make_header f ss ts) (after_mark CloseRound x)
 
-abbrev pub behind_bar : Symbol → List Symbol → Option (List Token) → HeaderLeft
-behind_bar f ss None = None
-behind_bar f ss (Some x) = behind_terms f ss (names_at x)
+abbrev pub after_bar : Symbol → List Symbol → Option (List Token) → HeaderLeft
+after_bar f ss None = None
+after_bar f ss (Some x) = after_terms f ss (names_at x)
 
 abbrev pub without_terms : Symbol → List Symbol → List Token → Option (List Token) → HeaderLeft
 without_terms f ss x (Some y) = Some (make_header f ss [], y)
-without_terms f ss x None = behind_bar f ss (behind_mark Bar x)
+without_terms f ss x None = after_bar f ss (after_mark Bar x)
 
-abbrev pub behind_strategies : Symbol → NamesLeft → HeaderLeft
-behind_strategies f None = None
-behind_strategies f (Some (ss, x)) = without_terms f ss x (behind_mark CloseRound x)
+abbrev pub after_strategies : Symbol → NamesLeft → HeaderLeft
+after_strategies f None = None
+after_strategies f (Some (ss, x)) = without_terms f ss x (after_mark CloseRound x)
 
 -- the parameters after their opening bracket
 abbrev pub parameters_at : Symbol → List Token → HeaderLeft
-parameters_at f x = behind_strategies f (names_at x)
+parameters_at f x = after_strategies f (names_at x)
 
-abbrev pub behind_name : Symbol → List Token → Option (List Token) → HeaderLeft
-behind_name f x (Some y) = parameters_at f y
-behind_name f x None = Some (make_header f [] [], x)
+abbrev pub after_name : Symbol → List Token → Option (List Token) → HeaderLeft
+after_name f x (Some y) = parameters_at f y
+after_name f x None = Some (make_header f [] [], x)
 
 abbrev pub header_at : List Token → HeaderLeft
-header_at (Ident f ∷ ts) = behind_name f ts (behind_mark OpenRound ts)
+header_at (Ident f ∷ ts) = after_name f ts (after_mark OpenRound ts)
 header_at x = None
 
 -- ---- sorts
 
 -- after a whole sort, with this many open brackets
-abbrev pub behind_sort : ℕ → Token → Turn
-behind_sort zero t = Ends
-behind_sort (suc n) t =
+abbrev pub after_sort : ℕ → Token → Turn
+after_sort zero t = Ends
+after_sort (suc n) t =
     if (is_mark Comma t) then Reads Begins (suc n) else
     if (is_mark CloseRound t) then Reads Closed n else Stuck
 
@@ -96,8 +96,8 @@ begin_sort n t = Stuck
 
 abbrev pub sort_step : SortState → ℕ → Token → Turn
 sort_step Begins n t = begin_sort n t
-sort_step Named n t = if (is_mark OpenRound t) then Reads Begins (suc n) else behind_sort n t
-sort_step Closed n t = behind_sort n t
+sort_step Named n t = if (is_mark OpenRound t) then Reads Begins (suc n) else after_sort n t
+sort_step Closed n t = after_sort n t
 
 abbrev pub SortsLeft : Type 0
 SortsLeft = Option (ℕ × List Token)
@@ -136,30 +136,30 @@ abbrev pub named_constructor : Option Symbol → ℕ → List syntax.Constructor
 named_constructor None n = []
 named_constructor (Some f) n = record { name = f; arity = n } ∷ []
 
-abbrev pub behind_result : List syntax.Constructor → Option (List Token) → DeclaredLeft
-behind_result cs None = None
-behind_result cs (Some x) = Some (cs, x)
+abbrev pub after_result : List syntax.Constructor → Option (List Token) → DeclaredLeft
+after_result cs None = None
+after_result cs (Some x) = Some (cs, x)
 
 -- if no arrow follows, it is a name with one sort
 abbrev pub without_arrow : Option Symbol → ℕ → List Token → DeclaredLeft
 without_arrow (Some f) (suc zero) x = Some (named_constructor (Some f) 0, x)
 without_arrow f n x = None
 
-abbrev pub behind_arrow : Option Symbol → ℕ → List Token → Option (List Token) → DeclaredLeft
-behind_arrow f n x (Some y) = behind_result (named_constructor f n) (sort_at y)
-behind_arrow f n x None = without_arrow f n x
+abbrev pub after_arrow : Option Symbol → ℕ → List Token → Option (List Token) → DeclaredLeft
+after_arrow f n x (Some y) = after_result (named_constructor f n) (sort_at y)
+after_arrow f n x None = without_arrow f n x
 
-abbrev pub behind_arguments : Option Symbol → SortsLeft → DeclaredLeft
-behind_arguments f None = None
-behind_arguments f (Some (n, x)) = behind_arrow f n x (behind_mark RightArrow x)
+abbrev pub after_arguments : Option Symbol → SortsLeft → DeclaredLeft
+after_arguments f None = None
+after_arguments f (Some (n, x)) = after_arrow f n x (after_mark RightArrow x)
 
-abbrev pub behind_colon : Option Symbol → Option (List Token) → DeclaredLeft
-behind_colon f None = None
-behind_colon f (Some x) = behind_arguments f (sorts_at x)
+abbrev pub after_colon : Option Symbol → Option (List Token) → DeclaredLeft
+after_colon f None = None
+after_colon f (Some x) = after_arguments f (sorts_at x)
 
 abbrev pub declaration_at : List Token → DeclaredLeft
-declaration_at (Ident f ∷ ts) = behind_colon (Some f) (behind_mark Colon ts)
-declaration_at x = behind_colon None (behind_mark Colon x)
+declaration_at (Ident f ∷ ts) = after_colon (Some f) (after_mark Colon ts)
+declaration_at x = after_colon None (after_mark Colon x)
 
 -- a constructor, or none, as a list
 abbrev pub listed : Option syntax.Constructor → List syntax.Constructor

@@ -12,7 +12,7 @@ use Rattle.strategy_tokens.specs.declared.token.Keyword.TheVariants.{Id as KId, 
 use Rattle.strategy_tokens.specs.declared.token.Sign.{Sign}
 use Rattle.strategy_tokens.specs.declared.token.Sign.TheVariants.{OpenRound, CloseRound, OpenSquare, CloseSquare, OpenCurly, CloseCurly, Comma, Semicolon, Colon, Bar, FatArrow, Arrow as RightArrow, Less, Greater, LeftChoice, Plus, Question, Exclamation, At as AtSign, Backslash}
 use Rattle.strategy_parse.specs.declared.parser.state.ParserState.{ParserState}
-use Rattle.strategy_parse.specs.declared.parser.state.ParserState.TheVariants.{Strategy as ToStrategy, FirstStrategy, Read, Used, Opening, Rec as BehindRec, Prim as BehindPrim, PrimOpen, PrimNamed, ScopeOpen, ScopeComma, ScopeNamed, Pattern as ToPattern, FirstPattern, Named, Base, Whole}
+use Rattle.strategy_parse.specs.declared.parser.state.ParserState.TheVariants.{Strategy as ToStrategy, FirstStrategy, Read, Used, Opening, Rec as AfterRec, Prim as AfterPrim, PrimOpen, PrimNamed, ScopeOpen, ScopeComma, ScopeNamed, Pattern as ToPattern, FirstPattern, Named, Base, Whole}
 use Rattle.strategy_parse.specs.declared.parser.state.ParserFrame.{ParserFrame}
 use Rattle.strategy_parse.specs.declared.parser.state.ParserFrame.TheVariants.{Operand, At, Strategy as ForStrategy, Pattern as ForPattern}
 use Rattle.strategy_parse.specs.declared.parser.state.Infix.{Infix}
@@ -90,8 +90,8 @@ begin_word S KNot = operate Not S
 begin_word S KWhere = operate WhereOf S
 begin_word S KTest = operate Test S
 begin_word S KIf = goes ToStrategy (ForStrategy If ∷ S)
-begin_word S KRec = goes BehindRec S
-begin_word S KPrim = goes BehindPrim S
+begin_word S KRec = goes AfterRec S
+begin_word S KPrim = goes AfterPrim S
 begin_word S k = stuck
 
 -- children are counted from 1
@@ -127,16 +127,16 @@ close_strategies g done S t =
     if (is_mark (closing g) t) then goes (Read (grouped g done)) S else stuck
 
 -- a `|` after the strategies of a list
-abbrev pub behind_bar : StrategyGroup → List Strategy → List ParserFrame → Next
-behind_bar Round done S = stuck
-behind_bar Square done S = goes ToStrategy (ForStrategy (SquareTail done) ∷ S)
-behind_bar (Arguments f) done S = open_patterns (Terms f done) S
+abbrev pub after_bar : StrategyGroup → List Strategy → List ParserFrame → Next
+after_bar Round done S = stuck
+after_bar Square done S = goes ToStrategy (ForStrategy (SquareTail done) ∷ S)
+after_bar (Arguments f) done S = open_patterns (Terms f done) S
 
 -- after a strategy of a list, which was added to the list
-abbrev pub behind_element : StrategyGroup → List Strategy → List ParserFrame → Token → Next
-behind_element g done S t =
+abbrev pub after_element : StrategyGroup → List Strategy → List ParserFrame → Token → Next
+after_element g done S t =
     if (is_mark Comma t) then goes ToStrategy (ForStrategy (Strategies g done) ∷ S) else
-    if (is_mark Bar t) then behind_bar g done S else close_strategies g done S t
+    if (is_mark Bar t) then after_bar g done S else close_strategies g done S t
 
 -- a whole strategy in an open form
 abbrev pub in_frame : Strategy → StrategyFrame → List ParserFrame → Token → Next
@@ -159,39 +159,39 @@ in_frame s (Else a b) S t =
 in_frame s (Where p q) S t =
     if (is_mark Backslash t)
     then goes (Read (syntax.scope (first_ones same_name [] (variables p)) (rewrite_where p q s))) S else stuck
-in_frame s (Strategies g done) S t = behind_element g (done ++ s ∷ []) S t
+in_frame s (Strategies g done) S t = after_element g (done ++ s ∷ []) S t
 in_frame s (SquareTail done) S t =
     if (is_mark CloseSquare t)
     then goes (Read (syntax.tail_congruence (strategies_of done) s)) S else stuck
 
 -- after the last part of a choice
-abbrev pub behind_choice : Strategy → List ParserFrame → Token → Next
-behind_choice s (Operand Otherwise b ∷ (Operand Guarded a ∷ S)) t =
-    behind_choice (syntax.guard a b s) S t
-behind_choice s [] t = ends s
-behind_choice s (ForStrategy F ∷ S) t = in_frame s F S t
-behind_choice s (F ∷ S) t = stuck
+abbrev pub after_choice : Strategy → List ParserFrame → Token → Next
+after_choice s (Operand Otherwise b ∷ (Operand Guarded a ∷ S)) t =
+    after_choice (syntax.guard a b s) S t
+after_choice s [] t = ends s
+after_choice s (ForStrategy F ∷ S) t = in_frame s F S t
+after_choice s (F ∷ S) t = stuck
 
 -- after a sequence that isn't the second branch of a guarded choice
-abbrev pub behind_seq : Strategy → List ParserFrame → Token → Next
-behind_seq s S t =
+abbrev pub after_seq : Strategy → List ParserFrame → Token → Next
+after_seq s S t =
     if (is_mark LeftChoice t)
     then goes ToStrategy (Operand Otherwise syntax.id ∷ (Operand Guarded s ∷ S)) else
-    if (is_mark Less t) then goes ToStrategy (Operand Guarded s ∷ S) else behind_choice s S t
+    if (is_mark Less t) then goes ToStrategy (Operand Guarded s ∷ S) else after_choice s S t
 
 -- after an arrow form without a `;`; after `s < r` a `+` has to come
-abbrev pub behind_arrow : Strategy → List ParserFrame → Token → Next
-behind_arrow s (Operand Before r ∷ S) t = behind_arrow (syntax.seq r s) S t
-behind_arrow s (Operand Guarded a ∷ S) t =
+abbrev pub after_arrow : Strategy → List ParserFrame → Token → Next
+after_arrow s (Operand Before r ∷ S) t = after_arrow (syntax.seq r s) S t
+after_arrow s (Operand Guarded a ∷ S) t =
     if (is_mark Plus t)
     then goes ToStrategy (Operand Otherwise s ∷ (Operand Guarded a ∷ S)) else stuck
-behind_arrow s S t = behind_seq s S t
+after_arrow s S t = after_seq s S t
 
 -- after a strategy, which may continue
-abbrev pub behind : Strategy → List ParserFrame → Token → Next
-behind s S t =
+abbrev pub after : Strategy → List ParserFrame → Token → Next
+after s S t =
     if (is_mark FatArrow t) then goes ToPattern (ForPattern (Matched s) ∷ S) else
-    if (is_mark Semicolon t) then goes ToStrategy (Operand Before s ∷ S) else behind_arrow s S t
+    if (is_mark Semicolon t) then goes ToStrategy (Operand Before s ∷ S) else after_arrow s S t
 
 -- ---- after a pattern
 
@@ -218,37 +218,37 @@ pattern_bar PList ps S = goes ToPattern (ForPattern (PatternTail ps) ∷ S)
 pattern_bar g ps S = stuck
 
 -- after a pattern of a list, which was added to the list
-abbrev pub behind_one : PatternGroup → List Pattern → List ParserFrame → Token → Next
-behind_one g ps S t =
+abbrev pub after_one : PatternGroup → List Pattern → List ParserFrame → Token → Next
+after_one g ps S t =
     if (is_mark Comma t) then goes ToPattern (ForPattern (Patterns g ps) ∷ S) else
     if (is_mark (closing_sign g) t) then goes (close_patterns g ps) S else
     if (is_mark Bar t) then pattern_bar g ps S else stuck
 
 -- a whole pattern in an open form
 abbrev pub pattern_in_frame : Pattern → PatternFrame → List ParserFrame → Token → Next
-pattern_in_frame p Match S t = behind (syntax.matches p) S t
-pattern_in_frame p Build S t = behind (syntax.builds p) S t
-pattern_in_frame p (Applied s) S t = behind (syntax.seq (syntax.builds p) s) S t
-pattern_in_frame p (Matched s) S t = behind (syntax.seq s (syntax.matches p)) S t
+pattern_in_frame p Match S t = after (syntax.matches p) S t
+pattern_in_frame p Build S t = after (syntax.builds p) S t
+pattern_in_frame p (Applied s) S t = after (syntax.seq (syntax.builds p) s) S t
+pattern_in_frame p (Matched s) S t = after (syntax.seq s (syntax.matches p)) S t
 pattern_in_frame p ClosureLeft S t =
     if (is_mark RightArrow t) then goes ToPattern (ForPattern (ClosureRight p) ∷ S) else stuck
 pattern_in_frame p (ClosureRight l) S t =
     if (is_mark Backslash t)
     then goes (Read (syntax.scope (first_ones same_name [] (variables l)) (rewrite l p))) S else
     if (is_word KWhere t) then goes ToStrategy (ForStrategy (Where l p) ∷ S) else stuck
-pattern_in_frame p (Patterns g ps) S t = behind_one g (ps ++ p ∷ []) S t
+pattern_in_frame p (Patterns g ps) S t = after_one g (ps ++ p ∷ []) S t
 pattern_in_frame p (PatternTail ps) S t =
     if (is_mark CloseSquare t) then goes (Base (syntax.with_tail (patterns_of ps) p)) S else stuck
 
-abbrev pub behind_pattern : Pattern → List ParserFrame → Token → Next
-behind_pattern p (At x ∷ S) t = behind_pattern (syntax.at x p) S t
-behind_pattern p [] t = stuck
-behind_pattern p (ForPattern F ∷ S) t = pattern_in_frame p F S t
-behind_pattern p (F ∷ S) t = stuck
+abbrev pub after_pattern : Pattern → List ParserFrame → Token → Next
+after_pattern p (At x ∷ S) t = after_pattern (syntax.at x p) S t
+after_pattern p [] t = stuck
+after_pattern p (ForPattern F ∷ S) t = pattern_in_frame p F S t
+after_pattern p (F ∷ S) t = stuck
 
-abbrev pub behind_base : Pattern → List ParserFrame → Token → Next
-behind_base p S t =
-    if (is_mark OpenCurly t) then open_patterns (Annotations p) S else behind_pattern p S t
+abbrev pub after_base : Pattern → List ParserFrame → Token → Next
+after_base p S t =
+    if (is_mark OpenCurly t) then open_patterns (Annotations p) S else after_pattern p S t
 
 -- ---- one token
 
@@ -286,13 +286,13 @@ begin_scope xs S = goes ToStrategy (ForStrategy (Scope xs) ∷ S)
 abbrev pub step : ParserState → List ParserFrame → Token → Next
 step ToStrategy S t = begin S t
 step (FirstStrategy g) S t = first_strategy g S t
-step (Read s) S t = behind s S t
+step (Read s) S t = after s S t
 step (Used f) S t =
     if (is_mark OpenRound t) then open_strategies (Arguments f) S
-    else behind (syntax.uses f syntax.no_strategies syntax.no_patterns) S t
+    else after (syntax.uses f syntax.no_strategies syntax.no_patterns) S t
 step (Opening F) S t = if (is_mark OpenRound t) then goes ToStrategy (ForStrategy F ∷ S) else stuck
-step BehindRec S t = rec_name S t
-step BehindPrim S t = if (is_mark OpenRound t) then goes PrimOpen S else stuck
+step AfterRec S t = rec_name S t
+step AfterPrim S t = if (is_mark OpenRound t) then goes PrimOpen S else stuck
 step PrimOpen S t = prim_name S t
 step (PrimNamed f) S t =
     if (is_mark Comma t) then goes ToPattern (ForPattern (Patterns (Prim f) []) ∷ S) else
@@ -306,9 +306,9 @@ step ToPattern S t = begin_pattern S t
 step (FirstPattern g) S t = first_pattern g S t
 step (Named f) S t =
     if (is_mark OpenRound t) then open_patterns (PApplication f) S else
-    if (is_mark AtSign t) then goes ToPattern (At f ∷ S) else behind_base (syntax.variable f) S t
-step (Base p) S t = behind_base p S t
-step (Whole p) S t = behind_pattern p S t
+    if (is_mark AtSign t) then goes ToPattern (At f ∷ S) else after_base (syntax.variable f) S t
+step (Base p) S t = after_base p S t
+step (Whole p) S t = after_pattern p S t
 
 -- ---- the start of a text
 

@@ -53,9 +53,9 @@ pub record SignatureLeft (x : List Token) (m : Module) : Type 0 where
   pub parts : List SignaturePart
   pub rest : List Token
   pub reads : ReadsSignatureParts parts x rest
-  pub behind : Module
-  pub left : SectionsLeft rest behind
-  pub gives : joined (flat_map declared_in_part parts) [] behind ≡ m
+  pub after : Module
+  pub left : SectionsLeft rest after
+  pub gives : joined (flat_map declared_in_part parts) [] after ≡ m
 
 -- sorts, followed by the rest as in a signature
 pub record SortsLeft (x : List Token) (m : Module) : Type 0 where
@@ -69,18 +69,18 @@ pub record DeclarationsLeft (x : List Token) (m : Module) : Type 0 where
   pub declarations : List Declaration
   pub rest : List Token
   pub reads : ReadsDeclarations declarations x rest
-  pub behind : Module
-  pub left : SignatureLeft rest behind
-  pub gives : joined (flat_map declared declarations) [] behind ≡ m
+  pub after : Module
+  pub left : SignatureLeft rest after
+  pub gives : joined (flat_map declared declarations) [] after ≡ m
 
 -- definitions, followed by sections
 pub record DefinitionsLeft (x : List Token) (m : Module) : Type 0 where
   pub definitions : List Defined
   pub rest : List Token
   pub reads : ReadsDefinitions definitions x rest
-  pub behind : Module
-  pub left : SectionsLeft rest behind
-  pub gives : joined [] (core_definitions definitions) behind ≡ m
+  pub after : Module
+  pub left : SectionsLeft rest after
+  pub gives : joined [] (core_definitions definitions) after ≡ m
 
 abbrev pub Left : Part → List Token → Module → Type 0
 Left Outside x m = SectionsLeft x m
@@ -92,6 +92,6 @@ Left Definitions x m = DefinitionsLeft x m
 -- the module is what was read, followed by what the rest gives
 pub record SectionStands (p : Part) (cs : List Constructor) (ds : List Definition) (x : List Token)
     (m : Module) : Type 0 where
-  pub behind : Module
-  pub left : Left p x behind
-  pub gives : joined cs ds behind ≡ m
+  pub after : Module
+  pub left : Left p x after
+  pub gives : joined cs ds after ≡ m

@@ -1,10 +1,10 @@
 //! Declarations of constructors.
 
 ghost use Rattle.std.specs.Prelude.{◌≡◌, [], IfOk, Err, Some, None};
-ghost use Rattle.strategy_parse.specs.inside.ModuleFronts.{sorts_at, listed, behind_arguments, declaration_at};
+ghost use Rattle.strategy_parse.specs.inside.ModuleFronts.{sorts_at, listed, after_arguments, declaration_at};
 
 use crate::modules::sorts::{skip_sort, skip_sorts};
-use crate::modules::tokens::{behind_mark, expect_mark};
+use crate::modules::tokens::{after_mark, expect_mark};
 use crate::parser::SyntaxFault;
 use strategy_syntax::Constructor;
 use strategy_tokens::{Sign, Token};
@@ -38,14 +38,14 @@ fn read_named<'a>(
     tokens: &'a [Token],
 ) -> Result<(Option<Constructor>, &'a [Token]), SyntaxFault>
     ensures ok { IfOk result (λ r.
-        behind_arguments (Some name.now) (sorts_at tokens.now) ≡ Some (listed r.0, r.1.now)) }
+        after_arguments (Some name.now) (sorts_at tokens.now) ≡ Some (listed r.0, r.1.now)) }
     ensures none { result ≡ Err SyntaxFault.Syntax →
-        behind_arguments (Some name.now) (sorts_at tokens.now) ≡ None }
+        after_arguments (Some name.now) (sorts_at tokens.now) ≡ None }
 {
     let (count, left) = skip_sorts(tokens)?;
-    if let Some(rest) = behind_mark(left, Sign::Arrow) {
-        let behind = skip_sort(rest)?;
-        return Ok((Some(Constructor::new(name.try_clone()?, count)), behind));
+    if let Some(rest) = after_mark(left, Sign::Arrow) {
+        let after = skip_sort(rest)?;
+        return Ok((Some(Constructor::new(name.try_clone()?, count)), after));
     }
     if count != 1 {
         return Err(SyntaxFault::Syntax);
@@ -56,8 +56,8 @@ fn read_named<'a>(
 // The sorts of a declaration without a name, which has an arrow.
 fn skip_nameless<'a>(tokens: &'a [Token]) -> Result<&'a [Token], SyntaxFault>
     ensures ok { IfOk result (λ rest.
-        behind_arguments None (sorts_at tokens.now) ≡ Some ([], rest.now)) }
-    ensures none { result ≡ Err SyntaxFault.Syntax → behind_arguments None (sorts_at tokens.now) ≡ None }
+        after_arguments None (sorts_at tokens.now) ≡ Some ([], rest.now)) }
+    ensures none { result ≡ Err SyntaxFault.Syntax → after_arguments None (sorts_at tokens.now) ≡ None }
 {
     let (_, left) = skip_sorts(tokens)?;
     let rest = expect_mark(left, Sign::Arrow)?;

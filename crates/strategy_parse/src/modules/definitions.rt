@@ -9,7 +9,7 @@ ghost use Rattle.strategy_tokens.specs.declared.token.Token.{Token};
 
 use crate::modules::headers::{Header, read_header};
 use crate::modules::rules::{make_definition, read_rule};
-use crate::modules::tokens::{behind_mark, expect_mark};
+use crate::modules::tokens::{after_mark, expect_mark};
 use crate::parser::{SyntaxFault, read_strategy};
 use std::alloc::Global;
 use strategy_syntax::Definition;
@@ -27,9 +27,9 @@ pub fn read_definition<'a>(
         → ReadsDefined w tokens.now y → DefinitionEnds y → ⊥ }
 {
     let (header, left) = read_header(alloc, tokens)?;
-    if let Some(rest) = behind_mark(left, Sign::Equals) {
-        let (body, behind) = read_strategy(alloc, rest)?;
-        return Ok((make_definition(header, body), behind));
+    if let Some(rest) = after_mark(left, Sign::Equals) {
+        let (body, after) = read_strategy(alloc, rest)?;
+        return Ok((make_definition(header, body), after));
     }
     let rest = expect_mark(left, Sign::Colon)?;
     match read_rule(alloc, header, rest) {

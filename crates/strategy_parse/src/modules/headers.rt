@@ -4,7 +4,7 @@
 ghost use Rattle.std.specs.Prelude.{◌≡◌, [], ◌∷◌, IfOk, Err, Some, None};
 ghost use Rattle.strategy_parse.specs.inside.ModuleFronts.{names_at, more_names, make_header, parameters_at, header_at};
 
-use crate::modules::tokens::{behind_mark, expect_mark};
+use crate::modules::tokens::{after_mark, expect_mark};
 use crate::parser::{ItemList, SyntaxFault};
 use std::alloc::Global;
 use strategy_tokens::{Sign, Token, is_mark};
@@ -33,7 +33,7 @@ pub fn read_header<'a>(
         return Err(SyntaxFault::Syntax);
     };
     let name = name.try_clone()?;
-    match behind_mark(left, Sign::OpenRound) {
+    match after_mark(left, Sign::OpenRound) {
         Some(inside) => read_parameters(alloc, name, inside),
         None => {
             let strategies = ItemList::new(alloc);
@@ -61,7 +61,7 @@ fn read_parameters<'a>(
     ensures none { result ≡ Err SyntaxFault.Syntax → parameters_at name tokens.now ≡ None }
 {
     let (strategies, left) = read_names(alloc, tokens)?;
-    if let Some(rest) = behind_mark(left, Sign::CloseRound) {
+    if let Some(rest) = after_mark(left, Sign::CloseRound) {
         let terms = ItemList::new(alloc);
         return Ok((
             Header {
@@ -110,12 +110,12 @@ fn read_more_names<'a>(
 {
     let mut names = first;
     let mut left = tokens;
-    while let Some(rest) = behind_mark(left, Sign::Comma) {
-        let Some((Token::Ident(name), behind)) = rest.split_first() else {
+    while let Some(rest) = after_mark(left, Sign::Comma) {
+        let Some((Token::Ident(name), after)) = rest.split_first() else {
             return Err(SyntaxFault::Syntax);
         };
         names = names.with(name.try_clone()?)?;
-        left = behind;
+        left = after;
     }
     Ok((names, left))
 }

@@ -3,7 +3,7 @@
 ghost use Rattle.std.specs.Prelude.{◌≡◌, ◌↔◌, ◌<◌, length, Err};
 ghost use Rattle.strategy_tokens.specs.Tokens.{tokens};
 
-use crate::modules::parse::behind_title;
+use crate::modules::parse::after_title;
 use crate::modules::sections::{Built, Part, read_next};
 use crate::parser::SyntaxFault;
 use std::alloc::Global;
@@ -41,19 +41,19 @@ fn find_definitions(alloc: Global, tokens: &[Token]) -> Result<Vec<DefinitionTok
         definitions: Vec::new(alloc),
     };
     let mut part = Part::Outside;
-    let mut left = behind_title(tokens).unwrap_or(&[]);
+    let mut left = after_title(tokens).unwrap_or(&[]);
     while let Some((token, rest)) = left.split_first() {
         let before = built.definitions.len();
         match read_next(alloc, part, token, left, rest, &mut built) {
-            Ok((next, behind)) => {
+            Ok((next, after)) => {
                 if built.definitions.len() > before {
                     found.push(DefinitionTokens {
                         first: tokens.len().saturating_sub(left.len()),
-                        end: tokens.len().saturating_sub(behind.len()),
+                        end: tokens.len().saturating_sub(after.len()),
                     })?;
                 }
                 part = next;
-                left = behind;
+                left = after;
             }
             Err(SyntaxFault::Syntax) => return Ok(found),
             Err(SyntaxFault::Memory) => return Err(NoMemory),

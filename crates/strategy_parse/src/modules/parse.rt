@@ -8,7 +8,7 @@ ghost use Rattle.strategy_tokens.specs.Tokens.{tokens};
 
 use crate::ParseFault;
 use crate::modules::sections::{Part, read_sections};
-use crate::modules::tokens::{behind_ident, behind_word};
+use crate::modules::tokens::{after_ident, after_word};
 use crate::parser::SyntaxFault;
 use std::alloc::Global;
 use strategy_syntax::Module;
@@ -28,13 +28,13 @@ pub fn parse_module(alloc: Global, text: &[u8]) -> Result<Module, ParseFault>
         → GivesModule (tokens text.now) r → ⊥ }
 {
     let tokens = read_tokens(alloc, text)?;
-    let sections = behind_title(&tokens)?;
+    let sections = after_title(&tokens)?;
     let module = read_sections(alloc, sections)?;
     Ok(module)
 }
 
 /// The tokens after the word `module` and a name, if they begin with these.
-pub fn behind_title<'a>(tokens: &'a [Token]) -> Result<&'a [Token], SyntaxFault>
+pub fn after_title<'a>(tokens: &'a [Token]) -> Result<&'a [Token], SyntaxFault>
     ensures back { IfOk result (λ rest. (m : syntax.Module) → Left Part.Outside rest.now m
         → GivesModule tokens.now m) }
     ensures forth { IfOk result (λ rest. (m : syntax.Module) → GivesModule tokens.now m
@@ -42,10 +42,10 @@ pub fn behind_title<'a>(tokens: &'a [Token]) -> Result<&'a [Token], SyntaxFault>
     ensures none { result ≡ Err SyntaxFault.Syntax → (m : syntax.Module) → GivesModule tokens.now m → ⊥ }
     ensures memory { result ≡ Err SyntaxFault.Memory → ⊥ }
 {
-    let Some(rest) = behind_word(tokens, Keyword::Module) else {
+    let Some(rest) = after_word(tokens, Keyword::Module) else {
         return Ok(tokens);
     };
-    match behind_ident(rest) {
+    match after_ident(rest) {
         Some(left) => Ok(left),
         None => Err(SyntaxFault::Syntax),
     }

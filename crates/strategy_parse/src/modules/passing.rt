@@ -3,7 +3,7 @@
 
 use crate::modules::sections::Part;
 use crate::modules::sorts::{SortState, Turn, sort_step};
-use crate::modules::tokens::{behind_ident, behind_mark, behind_word};
+use crate::modules::tokens::{after_ident, after_mark, after_word};
 use crate::parser::{Stop, pass_pattern, pass_strategy};
 use std::alloc::Global;
 use strategy_tokens::{Keyword, Sign, Token, is_mark};
@@ -38,14 +38,14 @@ fn pass_item<'a>(alloc: Global, part: Part, tokens: &'a [Token]) -> Result<&'a [
 // ---- single tokens
 
 fn pass_mark<'a>(tokens: &'a [Token], sign: Sign) -> Result<&'a [Token], Stop<'a>> {
-    match behind_mark(tokens, sign) {
+    match after_mark(tokens, sign) {
         Some(rest) => Ok(rest),
         None => Err(Stop::At(tokens)),
     }
 }
 
 fn pass_ident<'a>(tokens: &'a [Token]) -> Result<&'a [Token], Stop<'a>> {
-    match behind_ident(tokens) {
+    match after_ident(tokens) {
         Some(rest) => Ok(rest),
         None => Err(Stop::At(tokens)),
     }
@@ -90,10 +90,10 @@ fn pass_sorts<'a>(tokens: &'a [Token], most: usize) -> Result<(usize, &'a [Token
 }
 
 fn pass_declaration<'a>(tokens: &'a [Token]) -> Result<&'a [Token], Stop<'a>> {
-    let named = behind_ident(tokens);
+    let named = after_ident(tokens);
     let rest = pass_mark(named.unwrap_or(tokens), Sign::Colon)?;
     let (count, left) = pass_sorts(rest, usize::MAX)?;
-    if let Some(rest) = behind_mark(left, Sign::Arrow) {
+    if let Some(rest) = after_mark(left, Sign::Arrow) {
         return pass_sort(rest);
     }
     if named.is_some() && count == 1 {
@@ -106,7 +106,7 @@ fn pass_declaration<'a>(tokens: &'a [Token]) -> Result<&'a [Token], Stop<'a>> {
 
 fn pass_definition<'a>(alloc: Global, tokens: &'a [Token]) -> Result<&'a [Token], Stop<'a>> {
     let left = pass_header(tokens)?;
-    if let Some(rest) = behind_mark(left, Sign::Equals) {
+    if let Some(rest) = after_mark(left, Sign::Equals) {
         return pass_strategy(alloc, rest);
     }
     let rest = pass_mark(left, Sign::Colon)?;
@@ -117,7 +117,7 @@ fn pass_rule<'a>(alloc: Global, tokens: &'a [Token]) -> Result<&'a [Token], Stop
     let left = pass_pattern(alloc, tokens)?;
     let rest = pass_mark(left, Sign::Arrow)?;
     let left = pass_pattern(alloc, rest)?;
-    match behind_word(left, Keyword::Where) {
+    match after_word(left, Keyword::Where) {
         Some(rest) => pass_strategy(alloc, rest),
         None => Ok(left),
     }
@@ -125,11 +125,11 @@ fn pass_rule<'a>(alloc: Global, tokens: &'a [Token]) -> Result<&'a [Token], Stop
 
 fn pass_header<'a>(tokens: &'a [Token]) -> Result<&'a [Token], Stop<'a>> {
     let left = pass_ident(tokens)?;
-    let Some(inside) = behind_mark(left, Sign::OpenRound) else {
+    let Some(inside) = after_mark(left, Sign::OpenRound) else {
         return Ok(left);
     };
     let left = pass_names(inside)?;
-    if let Some(rest) = behind_mark(left, Sign::CloseRound) {
+    if let Some(rest) = after_mark(left, Sign::CloseRound) {
         return Ok(rest);
     }
     let rest = pass_mark(left, Sign::Bar)?;
@@ -139,7 +139,7 @@ fn pass_header<'a>(tokens: &'a [Token]) -> Result<&'a [Token], Stop<'a>> {
 
 // Identifiers separated by commas, or none.
 fn pass_names<'a>(tokens: &'a [Token]) -> Result<&'a [Token], Stop<'a>> {
-    let Some(first) = behind_ident(tokens) else {
+    let Some(first) = after_ident(tokens) else {
         return Ok(tokens);
     };
     let mut left = first;
@@ -147,10 +147,10 @@ fn pass_names<'a>(tokens: &'a [Token]) -> Result<&'a [Token], Stop<'a>> {
         if !is_mark(token, Sign::Comma) {
             return Ok(left);
         }
-        let Some((Token::Ident(_), behind)) = rest.split_first() else {
+        let Some((Token::Ident(_), after)) = rest.split_first() else {
             return Err(Stop::At(rest));
         };
-        left = behind;
+        left = after;
     }
     Ok(left)
 }

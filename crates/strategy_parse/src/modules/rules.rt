@@ -11,7 +11,7 @@ ghost use Rattle.strategy_tokens.specs.declared.token.Token.{Token};
 ghost use Rattle.term_core.specs.Tree.{same_name};
 
 use crate::modules::headers::Header;
-use crate::modules::tokens::{behind_word, expect_mark};
+use crate::modules::tokens::{after_word, expect_mark};
 use crate::parser::{
     Condition, ItemList, SyntaxFault, add_variables, first_ones, make_rewrite, make_rewrite_where,
     make_scope, read_condition, read_pattern,
@@ -36,7 +36,7 @@ pub fn read_rule<'a>(
         → ReadsRule w tokens.now y → DefinitionEnds y → ⊥ }
 {
     match read_body(alloc, &header, tokens) {
-        Ok((body, behind)) => Ok((make_definition(header, body), behind)),
+        Ok((body, later)) => Ok((make_definition(header, body), later)),
         Err(fault) => {
             drop(header);
             Err(fault)
@@ -68,16 +68,16 @@ fn read_body<'a>(
     let (after, left) = read_pattern(alloc, rest)?;
     let names = add_variables(&before, ItemList::new(alloc))?;
     let names = add_variables(&after, names)?;
-    let Some(rest) = behind_word(left, Keyword::Where) else {
+    let Some(rest) = after_word(left, Keyword::Where) else {
         let body = make_rewrite(alloc, before, after)?;
         let body = make_body(alloc, header, &names, body)?;
         return Ok((body, left));
     };
-    let (condition, behind) = read_condition(alloc, names, rest)?;
+    let (condition, later) = read_condition(alloc, names, rest)?;
     let Condition { strategy, names } = condition;
     let body = make_rewrite_where(alloc, before, after, strategy)?;
     let body = make_body(alloc, header, &names, body)?;
-    Ok((body, behind))
+    Ok((body, later))
 }
 
 // The body of a rule: its action in a scope of the names that are no term parameters.

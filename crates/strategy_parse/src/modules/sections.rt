@@ -48,9 +48,9 @@ pub fn read_sections(alloc: Global, tokens: &[Token]) -> Result<Module, SyntaxFa
     let mut part = Part::Outside;
     let mut left = tokens;
     while let Some((token, rest)) = left.split_first() {
-        let (next, behind) = read_next(alloc, part, token, left, rest, &mut built)?;
+        let (next, after) = read_next(alloc, part, token, left, rest, &mut built)?;
         part = next;
-        left = behind;
+        left = after;
     }
     let Built {
         constructors,
@@ -87,7 +87,7 @@ pub fn read_next<'a>(
         };
     }
     match read_item(alloc, part, tokens, built) {
-        Ok(behind) => Ok((part, behind)),
+        Ok(after) => Ok((part, after)),
         Err(fault) => Err(fault),
     }
 }

@@ -2,7 +2,7 @@
 #![tactic(auto, using(crate::proofs::SortLemmas::sort_rules))]
 
 ghost use Rattle.std.specs.Prelude.{◌≡◌, ◌<◌, ◌^◌, length, IfOk, Err, Some, None};
-ghost use Rattle.strategy_parse.specs.inside.ModuleFronts.{sort_step, behind_sort, sorts_at, sort_at};
+ghost use Rattle.strategy_parse.specs.inside.ModuleFronts.{sort_step, after_sort, sorts_at, sort_at};
 
 use crate::parser::SyntaxFault;
 use strategy_tokens::{Sign, Token, is_mark};
@@ -43,15 +43,15 @@ pub fn sort_step(place: SortState, depth: usize, token: &Token) -> Turn
             if is_mark(token, Sign::OpenRound) {
                 return Turn::Reads(SortState::Begins, depth + 1);
             }
-            behind_sort(depth, token)
+            after_sort(depth, token)
         }
-        SortState::Closed => behind_sort(depth, token),
+        SortState::Closed => after_sort(depth, token),
     }
 }
 
 // The token after a whole sort, which may be in brackets.
-fn behind_sort(depth: usize, token: &Token) -> Turn
-    ensures { result ≡ behind_sort depth token.now }
+fn after_sort(depth: usize, token: &Token) -> Turn
+    ensures { result ≡ after_sort depth token.now }
 {
     if depth == 0 {
         return Turn::Ends;

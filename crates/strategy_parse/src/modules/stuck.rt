@@ -4,10 +4,10 @@ ghost use Rattle.std.specs.Prelude.{◌≡◌, ◌↔◌, ◌<◌, ◌≤◌, le
 ghost use Rattle.strategy_parse.specs.StuckModules.{GiveModule, GiveNone};
 ghost use Rattle.strategy_tokens.specs.Tokens.{tokens};
 
-use crate::modules::parse::behind_title;
+use crate::modules::parse::after_title;
 use crate::modules::passing::left_of_item;
 use crate::modules::sections::{Built, Part, read_next, read_sections};
-use crate::modules::tokens::behind_word;
+use crate::modules::tokens::after_word;
 use crate::parser::SyntaxFault;
 use std::alloc::Global;
 use strategy_tokens::{Keyword, MAX_TOKENS, Token, TokensFault, read_tokens};
@@ -55,9 +55,9 @@ fn first_stuck_item(alloc: Global, tokens: &[Token]) -> Result<Option<StuckModul
     if is_module(alloc, tokens)? {
         return Ok(None);
     }
-    let (left, behind) = unread(alloc, tokens)?;
+    let (left, after) = unread(alloc, tokens)?;
     let item = module_front(alloc, tokens, tokens.len().saturating_sub(left.len()))?;
-    let token = tokens.len().saturating_sub(behind.len()).max(item);
+    let token = tokens.len().saturating_sub(after.len()).max(item);
     Ok(Some(StuckModule { item, token }))
 }
 
@@ -67,7 +67,7 @@ fn is_module(alloc: Global, tokens: &[Token]) -> Result<bool, NoMemory>
     ensures yes { IfOk result (λ is. is ≡ true → GiveModule tokens.now) }
     ensures no { IfOk result (λ is. is ≡ false → GiveNone tokens.now) }
 {
-    let sections = match behind_title(tokens) {
+    let sections = match after_title(tokens) {
         Ok(sections) => sections,
         Err(SyntaxFault::Syntax) => return Ok(false),
         Err(SyntaxFault::Memory) => return Err(NoMemory),
@@ -97,13 +97,13 @@ fn module_front(alloc: Global, tokens: &[Token], count: usize) -> Result<usize, 
 
 // The tokens from the item on that can't go on, and from the token on with which it can't.
 fn unread<'a>(alloc: Global, tokens: &'a [Token]) -> Result<(&'a [Token], &'a [Token]), NoMemory> {
-    let Ok(sections) = behind_title(tokens) else {
-        let behind = behind_word(tokens, Keyword::Module).unwrap_or(tokens);
-        return Ok((tokens, behind));
+    let Ok(sections) = after_title(tokens) else {
+        let after = after_word(tokens, Keyword::Module).unwrap_or(tokens);
+        return Ok((tokens, after));
     };
     let (part, left) = read_items(alloc, sections)?;
-    let behind = left_of_item(alloc, part, left)?;
-    Ok((left, behind))
+    let after = left_of_item(alloc, part, left)?;
+    Ok((left, after))
 }
 
 // The part of the module in which the reader stops, and the tokens that it leaves.
@@ -116,9 +116,9 @@ fn read_items<'a>(alloc: Global, tokens: &'a [Token]) -> Result<(Part, &'a [Toke
     let mut left = tokens;
     while let Some((token, rest)) = left.split_first() {
         match read_next(alloc, part, token, left, rest, &mut built) {
-            Ok((next, behind)) => {
+            Ok((next, after)) => {
                 part = next;
-                left = behind;
+                left = after;
             }
             Err(SyntaxFault::Syntax) => return Ok((part, left)),
             Err(SyntaxFault::Memory) => return Err(NoMemory),

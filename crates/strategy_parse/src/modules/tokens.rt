@@ -4,15 +4,15 @@
 ghost use Rattle.std.specs.Prelude.{◌≡◌, ◌∷◌, IfOk, IfSome, IfNone, Err, Some, None, false};
 ghost use Rattle.strategy_parse.specs.inside.FreeNames.{next_token};
 ghost use Rattle.strategy_tokens.specs.Marks.{is_word};
-ghost use Rattle.strategy_parse.specs.inside.ModuleFronts.{behind_ident, behind_mark};
+ghost use Rattle.strategy_parse.specs.inside.ModuleFronts.{after_ident, after_mark};
 
 use crate::parser::SyntaxFault;
 use strategy_tokens::{Keyword, Sign, Token, is_mark, is_word};
 
 /// The tokens after the sign, if it comes first.
-pub fn behind_mark<'a>(tokens: &'a [Token], sign: Sign) -> Option<&'a [Token]>
-    ensures some { IfSome result (λ rest. behind_mark sign tokens.now ≡ Some rest.now) }
-    ensures none { IfNone result (behind_mark sign tokens.now ≡ None) }
+pub fn after_mark<'a>(tokens: &'a [Token], sign: Sign) -> Option<&'a [Token]>
+    ensures some { IfSome result (λ rest. after_mark sign tokens.now ≡ Some rest.now) }
+    ensures none { IfNone result (after_mark sign tokens.now ≡ None) }
 {
     let (token, rest) = tokens.split_first()?;
     if is_mark(token, sign) {
@@ -24,17 +24,17 @@ pub fn behind_mark<'a>(tokens: &'a [Token], sign: Sign) -> Option<&'a [Token]>
 
 /// The tokens after the sign, which has to come first.
 pub fn expect_mark<'a>(tokens: &'a [Token], sign: Sign) -> Result<&'a [Token], SyntaxFault>
-    ensures ok { IfOk result (λ rest. behind_mark sign tokens.now ≡ Some rest.now) }
-    ensures none { result ≡ Err SyntaxFault.Syntax → behind_mark sign tokens.now ≡ None }
+    ensures ok { IfOk result (λ rest. after_mark sign tokens.now ≡ Some rest.now) }
+    ensures none { result ≡ Err SyntaxFault.Syntax → after_mark sign tokens.now ≡ None }
 {
-    match behind_mark(tokens, sign) {
+    match after_mark(tokens, sign) {
         Some(rest) => Ok(rest),
         None => Err(SyntaxFault::Syntax),
     }
 }
 
 /// The tokens after the reserved word, if it comes first.
-pub fn behind_word<'a>(tokens: &'a [Token], word: Keyword) -> Option<&'a [Token]>
+pub fn after_word<'a>(tokens: &'a [Token], word: Keyword) -> Option<&'a [Token]>
     ensures some { IfSome result (λ rest. tokens.now ≡ Token.Reserved word ∷ rest.now) }
     ensures none { IfNone result (is_word word (next_token tokens.now) ≡ false) }
 {
@@ -47,9 +47,9 @@ pub fn behind_word<'a>(tokens: &'a [Token], word: Keyword) -> Option<&'a [Token]
 }
 
 /// The tokens after the identifier, if one comes first.
-pub fn behind_ident<'a>(tokens: &'a [Token]) -> Option<&'a [Token]>
-    ensures some { IfSome result (λ rest. behind_ident tokens.now ≡ Some rest.now) }
-    ensures none { IfNone result (behind_ident tokens.now ≡ None) }
+pub fn after_ident<'a>(tokens: &'a [Token]) -> Option<&'a [Token]>
+    ensures some { IfSome result (λ rest. after_ident tokens.now ≡ Some rest.now) }
+    ensures none { IfNone result (after_ident tokens.now ≡ None) }
 {
     let (token, rest) = tokens.split_first()?;
     match token {

@@ -3,7 +3,7 @@
 //! What was read is passed to `drop` where nothing continues with it: a drop at the end of a scope
 //! is proved anew on each way out.
 
-mod behind;
+mod after;
 mod closure;
 mod condition;
 mod counts;

@@ -7,7 +7,7 @@ ghost use Rattle.strategy_parse.specs.inside.Parser as machine;
 ghost use Rattle.strategy_parse.specs.inside.Parser.{no_at};
 ghost use Rattle.strategy_parse.specs.declared.parser.state.ParserFrame.{ParserFrame};
 
-use crate::parser::behind::behind;
+use crate::parser::after::after;
 use crate::parser::fault::SyntaxFault;
 use crate::parser::group::{close_patterns, closing_sign_of};
 use crate::parser::lists::ItemList;
@@ -79,38 +79,38 @@ pub fn first_pattern(
 }
 
 /// After a pattern that may still get annotations.
-pub fn behind_base(
+pub fn after_base(
     alloc: Global,
     pattern: Pattern,
     stack: &mut ParserStack,
     token: &Token,
 ) -> Result<Effect, SyntaxFault>
     ensures ok { IfOk result (λ o.
-        machine.behind_base pattern (forms stack.old) token.now
+        machine.after_base pattern (forms stack.old) token.now
         ≡ machine.leads o (forms stack.new)) }
     ensures none { result ≡ Err SyntaxFault.Syntax →
-        machine.behind_base pattern (forms stack.old) token.now ≡ machine.stuck }
+        machine.after_base pattern (forms stack.old) token.now ≡ machine.stuck }
 {
     if is_mark(token, Sign::OpenCurly) {
         let group = PatternGroup::Annotations(pattern);
         return Ok(Effect::Goes(ParserState::FirstPattern(group)));
     }
-    behind_pattern(alloc, pattern, stack, token)
+    after_pattern(alloc, pattern, stack, token)
 }
 
 /// After a whole pattern: it belongs to the `x@` before it.
 #[tactic(auto, using(crate::proofs::MachineLemmas::at_rules))]
-pub fn behind_pattern(
+pub fn after_pattern(
     alloc: Global,
     last: Pattern,
     stack: &mut ParserStack,
     token: &Token,
 ) -> Result<Effect, SyntaxFault>
     ensures ok { IfOk result (λ o.
-        machine.behind_pattern last (forms stack.old) token.now
+        machine.after_pattern last (forms stack.old) token.now
         ≡ machine.leads o (forms stack.new)) }
     ensures none { result ≡ Err SyntaxFault.Syntax →
-        machine.behind_pattern last (forms stack.old) token.now ≡ machine.stuck }
+        machine.after_pattern last (forms stack.old) token.now ≡ machine.stuck }
 {
     let mut pattern = last;
     while let Some(name) = stack.pop_at() {
@@ -135,10 +135,10 @@ fn leave_pattern(
 ) -> Result<Effect, SyntaxFault>
     requires { no_at (forms stack.old) }
     ensures ok { IfOk result (λ o.
-        machine.behind_pattern pattern (forms stack.old) token.now
+        machine.after_pattern pattern (forms stack.old) token.now
         ≡ machine.leads o (forms stack.new)) }
     ensures none { result ≡ Err SyntaxFault.Syntax →
-        machine.behind_pattern pattern (forms stack.old) token.now ≡ machine.stuck }
+        machine.after_pattern pattern (forms stack.old) token.now ≡ machine.stuck }
 {
     match stack.pop() {
         Some(ParserFrame::Pattern(frame)) => pattern_in_frame(alloc, pattern, frame, stack, token),
@@ -165,27 +165,27 @@ fn pattern_in_frame(
         machine.pattern_in_frame pattern frame (forms stack.old) token.now ≡ machine.stuck }
 {
     match frame {
-        PatternFrame::Match => behind(alloc, make_match(pattern), stack, token),
-        PatternFrame::Build => behind(alloc, make_build(pattern), stack, token),
+        PatternFrame::Match => after(alloc, make_match(pattern), stack, token),
+        PatternFrame::Build => after(alloc, make_build(pattern), stack, token),
         PatternFrame::Applied(strategy) => {
             let whole = make_seq(alloc, make_build(pattern), strategy)?;
-            behind(alloc, whole, stack, token)
+            after(alloc, whole, stack, token)
         }
         PatternFrame::Matched(strategy) => {
             let whole = make_seq(alloc, strategy, make_match(pattern))?;
-            behind(alloc, whole, stack, token)
+            after(alloc, whole, stack, token)
         }
-        PatternFrame::Left => behind_left(pattern, stack, token),
-        PatternFrame::Right(left) => behind_closure(alloc, left, pattern, stack, token),
+        PatternFrame::Left => after_left(pattern, stack, token),
+        PatternFrame::Right(left) => after_closure(alloc, left, pattern, stack, token),
         PatternFrame::List(group, done) => {
-            behind_one(alloc, group, done.with(pattern)?, stack, token)
+            after_one(alloc, group, done.with(pattern)?, stack, token)
         }
-        PatternFrame::Tail(done) => behind_tail(alloc, done, pattern, token),
+        PatternFrame::Tail(done) => after_tail(alloc, done, pattern, token),
     }
 }
 
 // After the left side of a closure.
-fn behind_left(left: Pattern, stack: &mut ParserStack, token: &Token) -> Result<Effect, SyntaxFault>
+fn after_left(left: Pattern, stack: &mut ParserStack, token: &Token) -> Result<Effect, SyntaxFault>
     ensures ok { IfOk result (λ o.
         machine.pattern_in_frame left PatternFrame.Left (forms stack.old) token.now
         ≡ machine.leads o (forms stack.new)) }
@@ -202,7 +202,7 @@ fn behind_left(left: Pattern, stack: &mut ParserStack, token: &Token) -> Result<
 }
 
 // After the tail of a list.
-fn behind_tail(
+fn after_tail(
     alloc: Global,
     done: ItemList<Pattern>,
     tail: Pattern,
@@ -234,7 +234,7 @@ fn make_with_tail(
 }
 
 // After the right side of a closure.
-fn behind_closure(
+fn after_closure(
     alloc: Global,
     left: Pattern,
     right: Pattern,
@@ -261,7 +261,7 @@ fn behind_closure(
 }
 
 // After a pattern of a list, which was added to the list.
-fn behind_one(
+fn after_one(
     alloc: Global,
     group: PatternGroup,
     done: ItemList<Pattern>,
@@ -269,10 +269,10 @@ fn behind_one(
     token: &Token,
 ) -> Result<Effect, SyntaxFault>
     ensures ok { IfOk result (λ o.
-        machine.behind_one group done (forms stack.old) token.now
+        machine.after_one group done (forms stack.old) token.now
         ≡ machine.leads o (forms stack.new)) }
     ensures none { result ≡ Err SyntaxFault.Syntax →
-        machine.behind_one group done (forms stack.old) token.now ≡ machine.stuck }
+        machine.after_one group done (forms stack.old) token.now ≡ machine.stuck }
 {
     if is_mark(token, Sign::Comma) {
         stack.push(ParserFrame::Pattern(PatternFrame::List(group, done)))?;

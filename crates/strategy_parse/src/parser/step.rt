@@ -6,11 +6,11 @@ ghost use Rattle.strategy_parse.specs.inside.Parser as machine;
 ghost use Rattle.strategy_parse.specs.declared.parser.state.ParserFrame.{ParserFrame};
 ghost use Rattle.strategy_syntax.specs.Syntax as syntax;
 
-use crate::parser::behind::behind;
+use crate::parser::after::after;
 use crate::parser::expect::expect;
 use crate::parser::fault::SyntaxFault;
 use crate::parser::lists::ItemList;
-use crate::parser::patterns::{begin_pattern, behind_base, behind_pattern, first_pattern};
+use crate::parser::patterns::{after_base, after_pattern, begin_pattern, first_pattern};
 use crate::parser::stack::ParserStack;
 use crate::parser::state::{
     Effect, ParserFrame, ParserState, PatternFrame, PatternGroup, StrategyFrame, StrategyGroup,
@@ -36,8 +36,8 @@ pub fn step(
     match state {
         ParserState::Strategy => begin(stack, token),
         ParserState::FirstStrategy(group) => first_strategy(alloc, group, stack, token),
-        ParserState::Read(strategy) => behind(alloc, strategy, stack, token),
-        ParserState::Used(name) => behind_used(alloc, name, stack, token),
+        ParserState::Read(strategy) => after(alloc, strategy, stack, token),
+        ParserState::Used(name) => after_used(alloc, name, stack, token),
         ParserState::Opening(frame) => open_frame(frame, stack, token),
         ParserState::Rec => rec_name(token),
         ParserState::Prim => {
@@ -45,20 +45,20 @@ pub fn step(
             Ok(Effect::Goes(ParserState::PrimOpen))
         }
         ParserState::PrimOpen => prim_name(token),
-        ParserState::PrimNamed(name) => behind_prim(alloc, name, stack, token),
+        ParserState::PrimNamed(name) => after_prim(alloc, name, stack, token),
         ParserState::ScopeOpen => first_scope_name(alloc, stack, token),
         ParserState::ScopeComma(names) => scope_name(names, token),
-        ParserState::ScopeNamed(names) => behind_scope_name(names, stack, token),
+        ParserState::ScopeNamed(names) => after_scope_name(names, stack, token),
         ParserState::Pattern => begin_pattern(alloc, token),
         ParserState::FirstPattern(group) => first_pattern(alloc, group, stack, token),
-        ParserState::Named(name) => behind_named(alloc, name, stack, token),
-        ParserState::Base(pattern) => behind_base(alloc, pattern, stack, token),
-        ParserState::Whole(pattern) => behind_pattern(alloc, pattern, stack, token),
+        ParserState::Named(name) => after_named(alloc, name, stack, token),
+        ParserState::Base(pattern) => after_base(alloc, pattern, stack, token),
+        ParserState::Whole(pattern) => after_pattern(alloc, pattern, stack, token),
     }
 }
 
 // After an identifier that uses a strategy.
-fn behind_used(
+fn after_used(
     alloc: Global,
     name: Name,
     stack: &mut ParserStack,
@@ -74,7 +74,7 @@ fn behind_used(
         return Ok(Effect::Goes(ParserState::FirstStrategy(StrategyGroup::Arguments(name))));
     }
     let form = StrategyForm::Use(name, Vec::new(alloc), Vec::new(alloc));
-    behind(alloc, Strategy::new(form), stack, token)
+    after(alloc, Strategy::new(form), stack, token)
 }
 
 // After a word that comes before a strategy in brackets.
@@ -126,7 +126,7 @@ fn prim_name(token: &Token) -> Result<Effect, SyntaxFault>
 }
 
 // After the name of a primitive.
-fn behind_prim(
+fn after_prim(
     alloc: Global,
     name: Name,
     stack: &mut ParserStack,
@@ -188,7 +188,7 @@ fn scope_name(names: ItemList<Name>, token: &Token) -> Result<Effect, SyntaxFaul
 }
 
 // After a name of a scope.
-fn behind_scope_name(
+fn after_scope_name(
     names: ItemList<Name>,
     stack: &mut ParserStack,
     token: &Token,
@@ -221,7 +221,7 @@ fn begin_scope(names: ItemList<Name>, stack: &mut ParserStack) -> Result<Effect,
 }
 
 // After an identifier in a pattern.
-fn behind_named(
+fn after_named(
     alloc: Global,
     name: Name,
     stack: &mut ParserStack,
@@ -240,7 +240,7 @@ fn behind_named(
         stack.push(ParserFrame::At(name))?;
         return Ok(Effect::Goes(ParserState::Pattern));
     }
-    behind_base(
+    after_base(
         alloc,
         Pattern::new(PatternForm::Variable(name)),
         stack,

@@ -1,7 +1,7 @@
 -- The outcome of applying before anything is put in place.
 use Rattle.std.specs.Prelude.{◌≡◌, ℕ, List, Some}
 use Rattle.term_core.specs.Tree.{Tree}
-use Rattle.term_paths.specs.Edits.{Edits, behind}
+use Rattle.term_paths.specs.Edits.{Edits, prefixed}
 use Rattle.term_changes.specs.Slots.{Store}
 use Rattle.term_changes.specs.Entries.{Entry, slot_tree, put, after, FitsForward}
 use Rattle.term_changes.specs.Change.{places}
@@ -47,5 +47,5 @@ Finds listing s slot whole founds.Big = whole ≡ stops big
 -- The plan for a run that ended with p, at the path in the tree of the slot.
 abbrev pub Lists : Listing → Trail → Standing → ℕ → List ℕ → List Entry → Type 0
 Lists Outermost trail p slot path es =
-    (es ≡ entries_at slot (behind path (places (standing_change p)))) × ((t : Tree) → Suits t p → HasPlaces t (standing_change p))
-Lists Each trail p slot path es = (e : Edits) → Shows trail e → es ≡ entries_at slot (behind path e)
+    (es ≡ entries_at slot (prefixed path (places (standing_change p)))) × ((t : Tree) → Suits t p → HasPlaces t (standing_change p))
+Lists Each trail p slot path es = (e : Edits) → Shows trail e → es ≡ entries_at slot (prefixed path e)

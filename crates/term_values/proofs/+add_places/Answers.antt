@@ -1,7 +1,7 @@
 use Rattle.std.proofs.Common.{arith, [], ◌∷◌, ◌++◌, map, ap, ◌∙◌}
 use Rattle.term_core.specs.Tree.{of_list}
 use Rattle.term_core.specs.Size.{heights}
-use Rattle.term_paths.specs.Edits.{behind}
+use Rattle.term_paths.specs.Edits.{prefixed}
 use Rattle.term_changes.specs.Change.{places}
 use Rattle.term_changes.specs.Putting.{entries_at}
 use Rattle.term_changes.specs.Standing.{standing_tree, standing_change}
@@ -24,7 +24,7 @@ replacements::add_all_places-loop-i-preserved t c = (
   c.in_ok-add_child_places.ensures.path ∙ c.loop-i.invariant.0,
   gathered c.args.slot c.args.path.now.items c.loop-i.i c.args.parts.now c.index-parts-i.result c.loop-i.plan _ _
       c.loop-i-test.true c.index-parts-i.is
-      (c.in_ok-add_child_places.ensures.plan ∙ ap (λ q. c.loop-i.plan ++ entries_at c.args.slot (behind (q ++ c.loop-i.i ∷ []) (places (standing_change c.index-parts-i.result)))) c.loop-i.invariant.0)
+      (c.in_ok-add_child_places.ensures.plan ∙ ap (λ q. c.loop-i.plan ++ entries_at c.args.slot (prefixed (q ++ c.loop-i.i ∷ []) (places (standing_change c.index-parts-i.result)))) c.loop-i.invariant.0)
       c.loop-i.invariant.1,
   all_there_next c.args.parts.now c.loop-i.i c.index-parts-i.result c.loop-i-test.true c.index-parts-i.is c.in_ok-add_child_places.ensures.there c.loop-i.invariant.2,
 )

@@ -1,7 +1,7 @@
 use Rattle.std.proofs.Common.{◌≡◌, ◌+◌, ◌*◌, ◌++◌, drop, map}
 use Rattle.term_core.specs.Tree.{of_list}
 use Rattle.term_core.specs.Size.{height, heights}
-use Rattle.term_paths.specs.Edits.{behind}
+use Rattle.term_paths.specs.Edits.{prefixed}
 use Rattle.term_changes.specs.Change.{places_from}
 use Rattle.term_changes.specs.Putting.{entries_at}
 use Rattle.term_changes.specs.Standing.{after, standing_tree, standing_changes}
@@ -24,6 +24,6 @@ abbrev pub invariant-replacements::add_all_places-loop-i :
     goal.invariant-replacements::add_all_places-loop-i
 invariant-replacements::add_all_places-loop-i l =
     (l.path.items ≡ l.initial.path.items)
-    × (l.plan ++ entries_at l.slot (behind l.initial.path.items (places_from l.i (standing_changes (drop l.i l.parts))))
-    ≡ l.initial.plan ++ entries_at l.slot (behind l.initial.path.items (places_from 0 (standing_changes l.parts))))
+    × (l.plan ++ entries_at l.slot (prefixed l.initial.path.items (places_from l.i (standing_changes (drop l.i l.parts))))
+    ≡ l.initial.plan ++ entries_at l.slot (prefixed l.initial.path.items (places_from 0 (standing_changes l.parts))))
     × (AllThere (drop l.i l.parts) → AllThere l.parts)

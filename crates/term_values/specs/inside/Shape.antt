@@ -12,10 +12,10 @@ kind_shape AList us = Unit {0}
 kind_shape Tuple us = Unit {0}
 
 -- Elements in front of a list without annotations; the count covers both.
-pub record JoinedShape (front : List Tree) (behind : Tree) (count : ℕ) : Type 0 where
+pub record JoinedShape (front : List Tree) (after : Tree) (count : ℕ) : Type 0 where
   pub some : 0 < length front
-  pub list : behind ≡ list_term (children behind)
-  pub counted : count ≡ length (front ++ children behind)
+  pub list : after ≡ list_term (children after)
+  pub counted : count ≡ length (front ++ children after)
 
 -- A node without annotations, given some.
 pub record AnnotatedShape (node : Tree) (notes : List Tree) : Type 0 where

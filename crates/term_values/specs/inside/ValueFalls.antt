@@ -83,9 +83,9 @@ above_form (Joined j) h =
     omega (
       arith,
       above_items j.value.front,
-      sizes-append us (children j.value.behind),
+      sizes-append us (children j.value.after),
       some_size us h.some,
-      bare_size j.value.behind (ap annotations h.list),
+      bare_size j.value.after (ap annotations h.list),
     )
 above_form (Annotated n) h =
     let ns = notes_list n.value.notes in

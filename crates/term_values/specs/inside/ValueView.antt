@@ -48,7 +48,7 @@ form_tree (Rest t k) = list_term (drop k (children t.now))
 form_tree (Built m) = top_tree m.value.top (items_list m.value.items) []
 form_tree (Kept c) = after c.value
 form_tree (BareKept c) = bare (after c.value)
-form_tree (Joined j) = list_term (items_list j.value.front ++ children j.value.behind)
+form_tree (Joined j) = list_term (items_list j.value.front ++ children j.value.after)
 form_tree (Annotated n) = with_annotations n.value.node (notes_list n.value.notes)
 
 abbrev pub form_shape : Form → Type 0
@@ -59,7 +59,7 @@ form_shape (Rest t k) = k ≤ length (children t.now)
 form_shape (Built m) = top_shape m.value.top (items_list m.value.items)
 form_shape (Kept c) = Unit {0}
 form_shape (BareKept c) = Unit {0}
-form_shape (Joined j) = JoinedShape (items_list j.value.front) j.value.behind j.value.count
+form_shape (Joined j) = JoinedShape (items_list j.value.front) j.value.after j.value.count
 form_shape (Annotated n) = AnnotatedShape n.value.node (notes_list n.value.notes)
 
 abbrev pub view_of : ValueFields → Tree

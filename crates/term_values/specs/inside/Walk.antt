@@ -21,13 +21,13 @@ run_list (run.Terms ts) = ts.now
 run_list (run.Values vs) = vs.now
 run_list (run.Parts ps) = map standing_tree ps.now
 
-abbrev pub behind_list : Option (Bor Tree) → List Tree
-behind_list None = []
-behind_list (Some v) = children v.now
+abbrev pub after_list : Option (Bor Tree) → List Tree
+after_list None = []
+after_list (Some v) = children v.now
 
 abbrev pub elements_list : ElementsFields → List Tree
-elements_list a = run_list a.run ++ behind_list a.behind
+elements_list a = run_list a.run ++ after_list a.after
 
 -- an empty run has no value after it
 abbrev pub NoGap : ElementsFields → Type 0
-NoGap a = run_list a.run ≡ [] → a.behind ≡ None
+NoGap a = run_list a.run ≡ [] → a.after ≡ None

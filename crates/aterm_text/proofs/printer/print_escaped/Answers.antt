@@ -3,7 +3,7 @@ use Rattle.std.specs.List.{flat_map}
 use Rattle.std.proofs.lemmas.List.Sums.{prefix_len-le-length}
 use Rattle.aterm_text.specs.Printed.{escaped}
 use Rattle.aterm_text.specs.inside.Printing.{is_plain}
-use Rattle.aterm_text.proofs.PrintLemmas.{escaped-all, escaped-split, escape-behind, extends-append, extends-trans}
+use Rattle.aterm_text.proofs.PrintLemmas.{escaped-all, escaped-split, escape-after, extends-append, extends-trans}
 use Rattle.aterm_text.proofs.printer.print_escaped.Goals as goal
 
 pub split_at-requires : goal.split_at-requires
@@ -16,7 +16,7 @@ returns-in_default-clause-ok c =
 
 pub print_escape-requires : goal.print_escape-requires
 print_escape-requires c =
-    escape-behind c.loop-rest.rest.now c.plain_run_len.result c.in-Some.byte.now c.in-Some.next.now c.plain_run_len.ensures (sym c.split_at.ensures.back ∙ c.in-Some.ensures.cases.0)
+    escape-after c.loop-rest.rest.now c.plain_run_len.result c.in-Some.byte.now c.in-Some.next.now c.plain_run_len.ensures (sym c.split_at.ensures.back ∙ c.in-Some.ensures.cases.0)
 
 pub loop-rest-preserved : goal.loop-rest-preserved
 loop-rest-preserved c =

@@ -3,7 +3,7 @@ use Rattle.term_core.specs.Tree.{list_term}
 use Rattle.aterm_text.specs.Grammar.{SpellsAnnotations}
 use Rattle.aterm_text.specs.inside.Unread.{base}
 use Rattle.aterm_text.proofs.ReadLemmas.{unread-spells_annotations, spells_annotations-unread, only_annotations, stands-bearer}
-use Rattle.aterm_text.proofs.DepthLemmas.{behind_trim, too-deep-after}
+use Rattle.aterm_text.proofs.DepthLemmas.{after_trim, too-deep-after}
 use Rattle.aterm_text.proofs.reader.read_alone.Goals as goal
 
 pub read_from-requires-clause-stands : goal.read_from-requires-clause-stands
@@ -26,7 +26,7 @@ returns-in-Err-clause-no_term c = λ e us h.
     _ (spells_annotations-unread c.args.text.now _ c.after_blanks-text.ensures.value us h)
 
 pub returns-in-Ok-clause-shallow : goal.returns-in-Ok-clause-shallow
-returns-in-Ok-clause-shallow c = omega (arith, behind_trim 0 c.args.text.now _ c.after_blanks-text.ensures.value, c.in-Ok.ensures.shallow)
+returns-in-Ok-clause-shallow c = omega (arith, after_trim 0 c.args.text.now _ c.after_blanks-text.ensures.value, c.in-Ok.ensures.shallow)
 
 pub returns-in-Err-clause-deep : goal.returns-in-Err-clause-deep
-returns-in-Err-clause-deep c = λ e. too-deep-after 0 c.args.text.now c.after_blanks-text.result.now (behind_trim 0 c.args.text.now _ c.after_blanks-text.ensures.value) (c.in-Err.ensures.deep (cc))
+returns-in-Err-clause-deep c = λ e. too-deep-after 0 c.args.text.now c.after_blanks-text.result.now (after_trim 0 c.args.text.now _ c.after_blanks-text.ensures.value) (c.in-Err.ensures.deep (cc))

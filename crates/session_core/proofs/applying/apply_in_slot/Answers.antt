@@ -1,7 +1,7 @@
 use Rattle.std.proofs.Common.{◌≡◌, ◌∙◌, ℕ, List, Some, IfOk, sym, ap, subst, length}
 use Rattle.std.specs.Prelude.{option_copied}
 use Rattle.term_paths.specs.Paths.{at}
-use Rattle.term_paths.specs.Edits.{Edits, behind}
+use Rattle.term_paths.specs.Edits.{Edits, prefixed}
 use Rattle.term_changes.specs.Change.{Change, places}
 use Rattle.term_changes.specs.Putting.{entries_at}
 use Rattle.term_changes.specs.PatchLaws.{patch_entries}
@@ -22,7 +22,7 @@ plan_in_group-requires-clause-places g c =
     let part = c.in-Some-at.part.now in
     let there : content s.trees c.args.slot ≡ Some c.in-Some.tree.now = sym (rw c.store.ensures at c.tree.ensures) ∙ ap (λ o. option_copied o) c.in-Some.is in
     let here : at c.in-Some.tree.now path ≡ Some part = sym c.at.ensures ∙ ap (λ o. option_copied o) c.in-Some-at.is in
-    let plan = planned_there (λ (ps : Edits) (plan : List Entry). plan ≡ entries_at c.args.slot (behind path ps)) part c.args.steps (run_whole W (length path) c.args.strategy.now c.args.steps part) c.plan_entries-planned.result c.in_ok-plan.plan c.in_ok-plan.field-0-1 c.plan_entries-planned.ensures (sym c.in_ok-plan.ensures) in
+    let plan = planned_there (λ (ps : Edits) (plan : List Entry). plan ≡ entries_at c.args.slot (prefixed path ps)) part c.args.steps (run_whole W (length path) c.args.strategy.now c.args.steps part) c.plan_entries-planned.result c.in_ok-plan.plan c.in_ok-plan.field-0-1 c.plan_entries-planned.ensures (sym c.in_ok-plan.ensures) in
     fits_in W s c.args.slot path c.args.strategy.now c.args.steps c.in-Some.tree.now part there here plan.0 c.in_ok-plan.plan c.in_ok-plan.field-0-1 plan.1 plan.2
 
 pub returns-in_err-plan_in_group-clause-err : goal.returns-in_err-plan_in_group-clause-err
@@ -39,7 +39,7 @@ returns-then-in_group-clause-made g c =
     let part = c.in-Some-at.part.now in
     let there : content s.trees c.args.slot ≡ Some c.in-Some.tree.now = sym (rw c.store.ensures at c.tree.ensures) ∙ ap (λ o. option_copied o) c.in-Some.is in
     let here : at c.in-Some.tree.now path ≡ Some part = sym c.at.ensures ∙ ap (λ o. option_copied o) c.in-Some-at.is in
-    let plan = planned_there (λ (ps : Edits) (plan : List Entry). plan ≡ entries_at c.args.slot (behind path ps)) part c.args.steps (run_whole W (length path) c.args.strategy.now c.args.steps part) c.plan_entries-planned.result c.in_ok-plan.plan c.in_ok-plan.field-0-1 c.plan_entries-planned.ensures (sym c.in_ok-plan.ensures) in
+    let plan = planned_there (λ (ps : Edits) (plan : List Entry). plan ≡ entries_at c.args.slot (prefixed path ps)) part c.args.steps (run_whole W (length path) c.args.strategy.now c.args.steps part) c.plan_entries-planned.result c.in_ok-plan.plan c.in_ok-plan.field-0-1 c.plan_entries-planned.ensures (sym c.in_ok-plan.ensures) in
     gives_in W s c.args.slot path c.args.strategy.now c.args.steps c.in-Some.tree.now part there here plan.0 c.in_ok-plan.plan c.in_ok-plan.field-0-1 c.plan_in_group.new.self.store plan.1 plan.2 c.in_ok-plan_in_group.ensures.store
 
 pub patch_as_step-requires-clause-places : goal.patch_as_step-requires-clause-places

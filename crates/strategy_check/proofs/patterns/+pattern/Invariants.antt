@@ -1,6 +1,7 @@
 use Rattle.std.proofs.Common.{◌≡◌, ◌+◌, ◌*◌, drop}
 use Rattle.strategy_syntax.specs.Syntax.{patterns_of}
 use Rattle.strategy_syntax.specs.inside.PatternDepth.{pattern_depth, patterns_depth}
+use Rattle.strategy_check.specs.inside.PatternUses.{is_built}
 use Rattle.strategy_check.specs.inside.FirstFault.{first_in_patterns}
 use Rattle.strategy_check.proofs.patterns.+pattern.Given as goal
 
@@ -13,4 +14,4 @@ decreases-check_patterns l = 2 * patterns_depth (patterns_of l.patterns.now) + 1
 -- the first fault of the rest is that of the whole
 abbrev pub invariant-check_patterns-loop-pattern : goal.invariant-check_patterns-loop-pattern
 invariant-check_patterns-loop-pattern l =
-    first_in_patterns l.table l.building (patterns_of (drop l.pattern-index l.patterns)) ≡ first_in_patterns l.table l.building (patterns_of l.patterns)
+    first_in_patterns l.table (is_built l.used) (patterns_of (drop l.pattern-index l.patterns)) ≡ first_in_patterns l.table (is_built l.used) (patterns_of l.patterns)

@@ -2,7 +2,7 @@ use Rattle.std.proofs.Common.{reverse, subst, sym}
 use Rattle.strategy_machine.specs.Table.{scopes}
 use Rattle.strategy_machine.proofs.GiveLemmas.{st}
 use Rattle.strategy_machine.proofs.ResultLemmas.{ok_map}
-use Rattle.strategy_machine.proofs.FirstLemmas.{fail_head, fail_behind}
+use Rattle.strategy_machine.proofs.FirstLemmas.{fail_head, fail_after}
 use Rattle.strategy_machine.proofs.FailLemmas.{fail_then, fail_choice, fail_test, fail_each, fail_leftmost, fail_those, fail_tail, fail_rest, fail_leave, fail_cut}
 use Rattle.strategy_machine.specs.Turns.{HoldsIn}
 use Rattle.strategy_machine.specs.inside.Turning.{under}
@@ -51,8 +51,8 @@ returns-in-Rest-clause-ok c = λ W. record { keeps = λ sub whole h. c.fails-in-
 pub returns-in-Head-clause-ok : goal.returns-in-Head-clause-ok
 returns-in-Head-clause-ok c = λ W. record { keeps = λ sub whole h. c.fails-in-Head.ensures.keeps W sub whole (fail_head W sub whole _ _ _ _ _ _ _ _ _ c.in-Head.walk c.cut-in-Head.ensures (subst (λ f. HoldsIn W sub whole (under f c.args.m.now) Failed) c.in-Head.is h)) }
 
-pub returns-in-Behind-clause-ok : goal.returns-in-Behind-clause-ok
-returns-in-Behind-clause-ok c = λ W. record { keeps = λ sub whole h. c.fails-in-Behind.ensures.keeps W sub whole (fail_behind W sub whole _ _ _ _ _ _ _ _ _ c.in-Behind.edits c.cut-in-Behind.ensures (subst (λ f. HoldsIn W sub whole (under f c.args.m.now) Failed) c.in-Behind.is h)) }
+pub returns-in-After-clause-ok : goal.returns-in-After-clause-ok
+returns-in-After-clause-ok c = λ W. record { keeps = λ sub whole h. c.fails-in-After.ensures.keeps W sub whole (fail_after W sub whole _ _ _ _ _ _ _ _ _ c.in-After.edits c.cut-in-After.ensures (subst (λ f. HoldsIn W sub whole (under f c.args.m.now) Failed) c.in-After.is h)) }
 
 pub returns-in-Leave-clause-ok : goal.returns-in-Leave-clause-ok
 returns-in-Leave-clause-ok c = λ W. record { keeps = λ sub whole h. c.fails-in-Leave.ensures.keeps W sub whole (fail_leave W sub whole _ _ _ _ _ _ _ c.in-Leave.scopes c.cut-in-Leave.ensures (subst (λ f. HoldsIn W sub whole (under f c.args.m.now) Failed) c.in-Leave.is h)) }

@@ -40,11 +40,11 @@ returns-in-Rest-clause-ok c = λ W. subst (λ f. IfOk c.give_rest.result (λ nex
 pub returns-in-Head-clause-ok : goal.returns-in-Head-clause-ok
 returns-in-Head-clause-ok c = λ W. subst (λ f. IfOk c.give_head.result (λ next. Gives W f c.args.m.now (Done c.args.m.now.part) c.give_head.new.m next)) (sym c.in-Head.is) (c.give_head.ensures.ok W)
 
-pub returns-in-Behind-clause-ok : goal.returns-in-Behind-clause-ok
-returns-in-Behind-clause-ok c = λ W. subst (λ f. IfOk c.give_behind.result (λ next. Gives W f c.args.m.now (Done c.args.m.now.part) c.give_behind.new.m next)) (sym c.in-Behind.is) (c.give_behind.ensures.ok W)
+pub returns-in-After-clause-ok : goal.returns-in-After-clause-ok
+returns-in-After-clause-ok c = λ W. subst (λ f. IfOk c.give_after.result (λ next. Gives W f c.args.m.now (Done c.args.m.now.part) c.give_after.new.m next)) (sym c.in-After.is) (c.give_after.ensures.ok W)
 
-pub give_behind-requires : goal.give_behind-requires
-give_behind-requires c = let r = c.requires in (r.0, r.1, r.2, subst (λ f. HoldsIn r.0 r.1 r.2 (under f c.args.m.now) (Done c.args.m.now.part)) c.in-Behind.is r.3)
+pub give_after-requires : goal.give_after-requires
+give_after-requires c = let r = c.requires in (r.0, r.1, r.2, subst (λ f. HoldsIn r.0 r.1 r.2 (under f c.args.m.now) (Done c.args.m.now.part)) c.in-After.is r.3)
 
 pub returns-in-Leave-clause-ok : goal.returns-in-Leave-clause-ok
 returns-in-Leave-clause-ok c = λ W. record { keeps = λ sub whole h. c.gives-in-Leave.ensures.keeps W sub whole (give_leave W sub whole _ _ _ _ _ _ _ c.in-Leave.scopes c.args.m.now.part c.cut-in-Leave.ensures (subst (λ f. HoldsIn W sub whole (under f c.args.m.now) (Done c.args.m.now.part)) c.in-Leave.is h)) }

@@ -10,7 +10,7 @@ use Rattle.strategy_meaning.specs.Matching.{elements}
 use Rattle.term_core.specs.Tree.{Tree, children, with_children}
 use Rattle.strategy_machine.proofs.lists.give_rest.Goals as goal
 
--- what `behind_those` finds
+-- what `after_those` finds
 abbrev IsFound : Standing → List Standing → ℕ → Tree → Option Tree → Type 0
 IsFound node ps n t found = MatchOption found (elements t ≡ None)
     (λ whole. (elements t ≡ Some (children t)) × (whole ≡ with_children (standing_tree node) (take n (map standing_tree (parts_now node (all_parts node ps))) ++ children t)))

@@ -4,7 +4,7 @@ use Rattle.std.proofs.lemmas.List.{length_push}
 use Rattle.std.proofs.lemmas.Iterator.Consumers.{YieldsList-turn, YieldsList-end}
 use Rattle.std.proofs.lemmas.Iterator.Splits.{YieldsList-from_slice_split}
 use Rattle.term_paths.specs.PathText.{parts_of, is_slash}
-use Rattle.term_paths.proofs.TextLemmas.{behind, no_parts_yet, one_more_part, no_part, all_parts}
+use Rattle.term_paths.proofs.TextLemmas.{after, no_parts_yet, one_more_part, no_part, all_parts}
 use Rattle.term_paths.proofs.text.read_parts.Goals as goal
 
 pub loop-piece-init : goal.loop-piece-init
@@ -16,8 +16,8 @@ loop-piece-preserved c =
     let pieces = slice_split is_slash c.args.text.now in
     c.loop-piece.invariant
     ∙ one_more_part pieces (length c.loop-piece.yielded) c.in-Some.piece.now c.loop-piece.parts.items c.in-Some-read_number.part turn (sym c.in-Some-read_number.ensures)
-    ∙ ap (λ xs. behind xs (parts_of (drop (length c.loop-piece.yielded + 1) pieces))) (sym c.in_ok-push-in-Some-read_number.ensures.items)
-    ∙ ap (λ n. behind c.push.new.self.items (parts_of (drop n pieces))) (sym (length_push c.loop-piece.yielded c.in-Some.piece))
+    ∙ ap (λ xs. after xs (parts_of (drop (length c.loop-piece.yielded + 1) pieces))) (sym c.in_ok-push-in-Some-read_number.ensures.items)
+    ∙ ap (λ n. after c.push.new.self.items (parts_of (drop n pieces))) (sym (length_push c.loop-piece.yielded c.in-Some.piece))
 
 pub returns-in-None-read_number-clause-line : goal.returns-in-None-read_number-clause-line
 returns-in-None-read_number-clause-line c =

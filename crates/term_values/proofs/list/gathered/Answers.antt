@@ -13,15 +13,15 @@ chunks-preserved c =
     let all = c.chunks.all.items in
     let m = c.in-Joined.next.value in
     let e = c.as_ref-next.ensures in
-    let shape = subst (λ (f : Form). form_shape f) c.in-Joined.is c.behind.invariant.shape in
-    let whole = ap form_tree (sym c.in-Joined.is) ∙ c.behind.view_is in
-    let kids = list_children (items_list m.front ++ children m.behind) c.chunks.behind.now (sym whole) in
+    let shape = subst (λ (f : Form). form_shape f) c.in-Joined.is c.after.invariant.shape in
+    let whole = ap form_tree (sym c.in-Joined.is) ∙ c.after.view_is in
+    let kids = list_children (items_list m.front ++ children m.after) c.chunks.after.now (sym whole) in
     let mine = c.as_slice-chunk.ensures ∙ ap (λ (x : Joined). items_list x.front) e in
     let more = c.in_ok-add_all.ensures ∙ ap (λ l. all ++ l) mine in
-    let behind = ap (λ (x : Joined). children x.behind) e in (
+    let after = ap (λ (x : Joined). children x.after) e in (
       omega (arith, ap length more, length-append all (items_list m.front), done.0),
-      subst (λ (x : Joined). x.behind ≡ list_term (children x.behind)) (sym e) shape.list,
-      (λ i. more i ++ behind i) ∙ append_assoc all (items_list m.front) (children m.behind) ∙ ap (λ l. all ++ l) (sym kids) ∙ done.2,
+      subst (λ (x : Joined). x.after ≡ list_term (children x.after)) (sym e) shape.list,
+      (λ i. more i ++ after i) ∙ append_assoc all (items_list m.front) (children m.after) ∙ ap (λ l. all ++ l) (sym kids) ∙ done.2,
     )
 
 pub joined-requires-clause-room : goal.joined-requires-clause-room
@@ -30,7 +30,7 @@ joined-requires-clause-room c =
     omega (
       arith,
       ap length done.2,
-      length-append c.chunks.all.items (children c.chunks.behind.now),
+      length-append c.chunks.all.items (children c.chunks.after.now),
       length-append c.args.front.items (children c.args.list.now),
       ap (λ (t : Tree). length (children t)) c.in_ok-try_clone.ensures,
       c.requires.room,

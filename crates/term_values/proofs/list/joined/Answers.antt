@@ -12,18 +12,18 @@ use Rattle.term_values.proofs.list.joined.Goals as goal
 pub invariant_of-result : goal.invariant_of-result
 invariant_of-result c =
     let b = c.before-bounds.result in
-    let t = c.args.behind in
+    let t = c.args.after in
     let us = items_list c.args.front in
-    let mine = bounded_along _ t c.behind.inside.bounds c.behind.view_is c.behind.invariant.bounded in
+    let mine = bounded_along _ t c.after.inside.bounds c.after.view_is c.after.invariant.bounded in
     let front = subst (λ (l : List Tree). AllBounded l c.all_bounds.result) c.as_slice.ensures c.all_bounds.ensures in
     let both = c.before-bounds.ensures (sizes (of_list us)) (heights (of_list us)) (size t) (height t) front mine in
     record {
       shape =
-          subst (λ (x : Joined). JoinedShape (items_list x.front) x.behind x.count) (sym c.in_ok-joined.ensures.ok)
+          subst (λ (x : Joined). JoinedShape (items_list x.front) x.after x.count) (sym c.in_ok-joined.ensures.ok)
           (record {
             some = c.requires.some;
             list = c.requires.list;
             counted = omega (arith, length-append us (children t), ap length c.as_slice-2.ensures, c.child_count.ensures);
           });
-      bounded = subst (λ (x : Joined). Bounded (list_term (items_list x.front ++ children x.behind)) b) (sym c.in_ok-joined.ensures.ok) (joined_bounded us t b c.requires.list both);
+      bounded = subst (λ (x : Joined). Bounded (list_term (items_list x.front ++ children x.after)) b) (sym c.in_ok-joined.ensures.ok) (joined_bounded us t b c.requires.list both);
     }

@@ -10,7 +10,7 @@ link-requires-clause-room c =
     let done = c.loop-at.invariant in
     let front = c.as_slice-front.result.now in
     let at = c.loop-at.at in
-    let ch = children c.args.list.now.behind in
+    let ch = children c.args.list.now.after in
     let kids = list_children (drop at front ++ ch) c.loop-at.rest done.2 in
     omega (
       arith,
@@ -29,7 +29,7 @@ loop-at-preserved c =
     let done = c.loop-at.invariant in
     let front = c.as_slice-front.result.now in
     let at = c.loop-at.at in
-    let ch = children c.args.list.now.behind in
+    let ch = children c.args.list.now.after in
     let v = c.index-front-at.result in
     let one : at ≡ at - 1 + 1 = omega (arith, c.loop-at-test.true) in
     let rest = done.2 ∙ ap (λ k. list_term (drop k front ++ ch)) one in

@@ -22,11 +22,11 @@ invariant_of-result c =
     let whole = covers_along _ _ _ _ b s h both in
     record {
       shape =
-          subst (λ (x : Joined). JoinedShape (items_list x.front) x.behind x.count) (sym c.in_ok-joined.ensures.ok)
+          subst (λ (x : Joined). JoinedShape (items_list x.front) x.after x.count) (sym c.in_ok-joined.ensures.ok)
           (record {
             some = omega arith;
             list = c.requires.list;
             counted = omega (arith, c.child_count-count.ensures);
           });
-      bounded = subst (λ (x : Joined). Bounded (list_term (items_list x.front ++ children x.behind)) b) (sym c.in_ok-joined.ensures.ok) (joined_bounded us t b c.requires.list whole);
+      bounded = subst (λ (x : Joined). Bounded (list_term (items_list x.front ++ children x.after)) b) (sym c.in_ok-joined.ensures.ok) (joined_bounded us t b c.requires.list whole);
     }

@@ -2,7 +2,7 @@ use Rattle.std.proofs.Common.{sym, ◌∙◌}
 use Rattle.aterm_text.proofs.TokenLemmas.{no_term-other}
 use Rattle.aterm_text.proofs.GoesLemmas.{lost-no_term, leads-list, leads-tuple}
 use Rattle.aterm_text.specs.inside.Depth.{depth}
-use Rattle.aterm_text.proofs.DepthLemmas.{behind_round, behind_square, too-deep}
+use Rattle.aterm_text.proofs.DepthLemmas.{after_round, after_square, too-deep}
 use Rattle.aterm_text.proofs.reader.machine.expect_term.Goals as goal
 
 pub returns-in-Ok-clause-leads : goal.returns-in-Ok-clause-leads
@@ -10,7 +10,7 @@ returns-in-Ok-clause-leads c = leads-list _ _ _ _ c.in-Some.ensures.shorter c.li
 
 pub returns-in-Err-clause-deep : goal.returns-in-Err-clause-deep
 returns-in-Err-clause-deep c = λ e.
-    too-deep (depth c.args.stack.now) c.args.text.now c.in-Some.rest.now (behind_square (depth c.args.stack.now) c.args.text.now c.in-Some.rest.now c.in-Some.ensures.some) (c.in-Err.ensures.deep (cc))
+    too-deep (depth c.args.stack.now) c.args.text.now c.in-Some.rest.now (after_square (depth c.args.stack.now) c.args.text.now c.in-Some.rest.now c.in-Some.ensures.some) (c.in-Err.ensures.deep (cc))
 
 pub returns-in-Ok-open-clause-leads : goal.returns-in-Ok-open-clause-leads
 returns-in-Ok-open-clause-leads c =
@@ -20,7 +20,7 @@ returns-in-Ok-open-clause-leads c =
 pub returns-in-Err-open-clause-deep : goal.returns-in-Err-open-clause-deep
 returns-in-Err-open-clause-deep c = λ e.
     too-deep (depth c.args.stack.now) c.args.text.now c.in-Some-after_byte.rest.now
-    (behind_round (depth c.args.stack.now) c.args.text.now _ c.in-Some-after_byte.rest.now (sym c.requires) c.in-Some-after_byte.ensures.some) (c.in-Err-open.ensures.deep (cc))
+    (after_round (depth c.args.stack.now) c.args.text.now _ c.in-Some-after_byte.rest.now (sym c.requires) c.in-Some-after_byte.ensures.some) (c.in-Err-open.ensures.deep (cc))
 
 pub returns-clause-none : goal.returns-clause-none
 returns-clause-none c = λ e.

@@ -1,12 +1,12 @@
 use Rattle.std.proofs.Common.{◌+◌, ◌<◌, ◌≤◌, length, refl, arith}
-use Rattle.script_text.proofs.SplitLemmas.{StandsBehind-nil, StandsBehind-open, StandsBehind-goes, StandsBehind-completes, StandsBehind-all, command_there}
-use Rattle.script_text.proofs.SplitRunLemmas.{StandsBehind-runs, run_within}
+use Rattle.script_text.proofs.SplitLemmas.{StandsAfter-nil, StandsAfter-open, StandsAfter-goes, StandsAfter-completes, StandsAfter-all, command_there}
+use Rattle.script_text.proofs.SplitRunLemmas.{StandsAfter-runs, run_within}
 use Rattle.script_text.proofs.splitter.Splitter.feed.Goals as goal
 
 pub loop-at-init : goal.loop-at-init
 loop-at-init c = record {
   none = refl;
-  stands = λ framing x out h. StandsBehind-nil framing x out _ (StandsBehind-open framing x out _ _ _ c.self.view_is c.go_on_behind.ensures h);
+  stands = λ framing x out h. StandsAfter-nil framing x out _ (StandsAfter-open framing x out _ _ _ c.self.view_is c.go_on_after.ensures h);
   in_range = omega arith;
 }
 
@@ -20,8 +20,8 @@ returns-in-Some c =
       there.0,
       there.1,
       λ framing x out h.
-          StandsBehind-completes framing x c.args.bytes.now (c.loop-at.at + c.take_run-at.result) here out c.take_run-at.new.self
-          (StandsBehind-runs framing x c.args.bytes.now _ _ out _ _ (c.loop-at.invariant.stands framing x out h) c.take_run-at.ensures.none c.take_run-at.ensures.left)
+          StandsAfter-completes framing x c.args.bytes.now (c.loop-at.at + c.take_run-at.result) here out c.take_run-at.new.self
+          (StandsAfter-runs framing x c.args.bytes.now _ _ out _ _ (c.loop-at.invariant.stands framing x out h) c.take_run-at.ensures.none c.take_run-at.ensures.left)
           there.0 _ _ c.in-Some.ensures.completes there.1,
     )
 
@@ -31,17 +31,17 @@ loop-at-preserved c =
     let here : c.loop-at.at + c.take_run-at.result < length c.args.bytes.now = omega (arith, within, c.if-at-bytes.false) in
     record {
       none = c.loop-at.invariant.none;
-      stands = λ framing x out h. StandsBehind-goes framing x c.args.bytes.now (c.loop-at.at + c.take_run-at.result) here out c.take_run-at.new.self
-          (StandsBehind-runs framing x c.args.bytes.now _ _ out _ _ (c.loop-at.invariant.stands framing x out h) c.take_run-at.ensures.none c.take_run-at.ensures.left)
+      stands = λ framing x out h. StandsAfter-goes framing x c.args.bytes.now (c.loop-at.at + c.take_run-at.result) here out c.take_run-at.new.self
+          (StandsAfter-runs framing x c.args.bytes.now _ _ out _ _ (c.loop-at.invariant.stands framing x out h) c.take_run-at.ensures.none c.take_run-at.ensures.left)
           _ c.in_default.ensures.goes;
       in_range = omega (arith, here);
     }
 
 pub returns-after-loop-at : goal.returns-after-loop-at
 returns-after-loop-at c framing x out h =
-    rw c.loop-at.invariant.none (StandsBehind-all framing x c.args.bytes.now c.loop-at.at (omega (arith, c.loop-at-test.false)) out c.loop-at.self-inside.open (c.loop-at.invariant.stands framing x out h))
+    rw c.loop-at.invariant.none (StandsAfter-all framing x c.args.bytes.now c.loop-at.at (omega (arith, c.loop-at-test.false)) out c.loop-at.self-inside.open (c.loop-at.invariant.stands framing x out h))
 
 pub returns-then-at-bytes : goal.returns-then-at-bytes
 returns-then-at-bytes c framing x out h =
-    rw c.loop-at.invariant.none (StandsBehind-all framing x c.args.bytes.now (c.loop-at.at + c.take_run-at.result) (omega (arith, c.if-at-bytes.true)) out c.take_run-at.new.self
-    (StandsBehind-runs framing x c.args.bytes.now _ _ out _ _ (c.loop-at.invariant.stands framing x out h) c.take_run-at.ensures.none c.take_run-at.ensures.left))
+    rw c.loop-at.invariant.none (StandsAfter-all framing x c.args.bytes.now (c.loop-at.at + c.take_run-at.result) (omega (arith, c.if-at-bytes.true)) out c.take_run-at.new.self
+    (StandsAfter-runs framing x c.args.bytes.now _ _ out _ _ (c.loop-at.invariant.stands framing x out h) c.take_run-at.ensures.none c.take_run-at.ensures.left))

@@ -1,5 +1,5 @@
-use Rattle.script_text.proofs.SplitLemmas.{StandsBehind-none}
+use Rattle.script_text.proofs.SplitLemmas.{StandsAfter-none}
 use Rattle.script_text.proofs.splitter.Splitter.new.Goals as goal
 
 pub returns : goal.returns
-returns c = rw c.in_ok-command.ensures (StandsBehind-none _)
+returns c = rw c.in_ok-command.ensures (StandsAfter-none _)

@@ -19,13 +19,13 @@ pub returns-in-Some-clause-given : goal.returns-in-Some-clause-given
 returns-in-Some-clause-given c =
     let header = make_header c.in_ok-header.header.name c.in_ok-header.header.strategies c.in_ok-header.header.terms in
     body_gives c.args.tokens.now header c.in_ok-header.left.now c.in_ok-header.ensures.ok c.in-Some.rest.now c.in-Some.ensures.some
-    c.in_ok-body.body c.in_ok-body.behind.now c.make_definition.result c.in_ok-body.ensures.given c.make_definition.ensures
+    c.in_ok-body.body c.in_ok-body.after.now c.make_definition.result c.in_ok-body.ensures.given c.make_definition.ensures
 
 pub returns-in-Some-clause-only : goal.returns-in-Some-clause-only
 returns-in-Some-clause-only c =
     let header = make_header c.in_ok-header.header.name c.in_ok-header.header.strategies c.in_ok-header.header.terms in
     body_only c.args.tokens.now header c.in_ok-header.left.now c.in_ok-header.ensures.ok c.in-Some.rest.now c.in-Some.ensures.some
-    c.in_ok-body.body c.in_ok-body.behind.now c.make_definition.result c.in_ok-body.ensures.only c.make_definition.ensures
+    c.in_ok-body.body c.in_ok-body.after.now c.make_definition.result c.in_ok-body.ensures.only c.make_definition.ensures
 
 pub returns-in_err-rest-clause-none : goal.returns-in_err-rest-clause-none
 returns-in_err-rest-clause-none c = λ e.

@@ -31,7 +31,7 @@ returns-clause-given c =
     (record { given = c.in_ok-before.ensures.given; only = c.in_ok-before.ensures.only })
     c.in_ok-rest.rest.now c.in_ok-rest.ensures.ok c.in_ok-after.after c.in_ok-after.left.now
     (record { given = c.in_ok-after.ensures.given; only = c.in_ok-after.ensures.only })
-    c.in-Some.rest.now c.in-Some.ensures.some c.in_ok-condition.condition.strategy c.in_ok-condition.behind.now c.in_ok-condition.ensures.ok
+    c.in-Some.rest.now c.in-Some.ensures.some c.in_ok-condition.condition.strategy c.in_ok-condition.later.now c.in_ok-condition.ensures.ok
     header c.in_ok-condition.condition.names (defined header c.in_ok-body-4.body)
     (seen_built c.in_ok-before.before c.in_ok-after.after c.new.result c.in_ok-names.names c.in_ok-names-2.names c.in_ok-condition.condition.names _
     c.new.ensures c.in_ok-names.ensures c.in_ok-names-2.ensures c.in_ok-condition.ensures.names)
@@ -45,7 +45,7 @@ returns-clause-only c =
     (record { given = c.in_ok-before.ensures.given; only = c.in_ok-before.ensures.only })
     c.in_ok-rest.rest.now c.in_ok-rest.ensures.ok c.in_ok-after.after c.in_ok-after.left.now
     (record { given = c.in_ok-after.ensures.given; only = c.in_ok-after.ensures.only })
-    c.in-Some.rest.now c.in-Some.ensures.some c.in_ok-condition.condition.strategy c.in_ok-condition.behind.now c.in_ok-condition.ensures.ok
+    c.in-Some.rest.now c.in-Some.ensures.some c.in_ok-condition.condition.strategy c.in_ok-condition.later.now c.in_ok-condition.ensures.ok
     header c.in_ok-condition.condition.names (defined header c.in_ok-body-4.body)
     (seen_built c.in_ok-before.before c.in_ok-after.after c.new.result c.in_ok-names.names c.in_ok-names-2.names c.in_ok-condition.condition.names _
     c.new.ensures c.in_ok-names.ensures c.in_ok-names-2.ensures c.in_ok-condition.ensures.names)

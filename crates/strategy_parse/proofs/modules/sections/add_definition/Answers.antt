@@ -4,7 +4,7 @@ use Rattle.strategy_parse.specs.declared.parser.fault.SyntaxFault.TheVariants.{S
 use Rattle.strategy_parse.specs.inside.Definitions.{DefinitionGives}
 use Rattle.strategy_parse.specs.inside.Sections.{SectionStands}
 use Rattle.strategy_parse.proofs.ModuleFrames.{defined_shorter}
-use Rattle.strategy_parse.proofs.SectionLemmas.{err_is, definition_forth, definition_behind, definition_none}
+use Rattle.strategy_parse.proofs.SectionLemmas.{err_is, definition_forth, definition_after, definition_none}
 use Rattle.strategy_parse.proofs.modules.sections.add_definition.Goals as goal
 
 pub returns-in-Err-clause-none : goal.returns-in-Err-clause-none
@@ -18,7 +18,7 @@ returns-clause-forth c = λ m s.
 
 pub returns-clause-back : goal.returns-clause-back
 returns-clause-back c = λ m s.
-    definition_behind c.args.built.now.constructors.items c.args.built.now.definitions.items c.args.tokens.now c.in-Ok.read.1.now m c.in-Ok.read.0 c.in-Ok.ensures.given
+    definition_after c.args.built.now.constructors.items c.args.built.now.definitions.items c.args.tokens.now c.in-Ok.read.1.now m c.in-Ok.read.0 c.in-Ok.ensures.given
     (subst (λ l. SectionStands Definitions c.args.built.now.constructors.items l c.in-Ok.read.1.now m) c.in_ok-push.ensures.items s)
 
 pub returns-clause-shorter : goal.returns-clause-shorter

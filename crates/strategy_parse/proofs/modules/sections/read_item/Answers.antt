@@ -1,6 +1,6 @@
 use Rattle.strategy_parse.proofs.SortLemmas.{sort_found}
 use Rattle.strategy_parse.proofs.ModuleFrames.{sort_shorter}
-use Rattle.strategy_parse.proofs.SectionLemmas.{sort_forth, sort_behind, sort_none, no_item}
+use Rattle.strategy_parse.proofs.SectionLemmas.{sort_forth, sort_after, sort_none, no_item}
 use Rattle.strategy_parse.proofs.modules.sections.read_item.Goals as goal
 
 pub returns-in-Ok-clause-forth : goal.returns-in-Ok-clause-forth
@@ -9,7 +9,7 @@ returns-in-Ok-clause-forth c =
 
 pub returns-in-Ok-clause-back : goal.returns-in-Ok-clause-back
 returns-in-Ok-clause-back c =
-    rw c.in-Sorts.is (λ m. sort_behind c.args.built.now.constructors.items c.args.built.now.definitions.items c.args.tokens.now c.in-Ok.rest.now m c.in-Ok.ensures.ok)
+    rw c.in-Sorts.is (λ m. sort_after c.args.built.now.constructors.items c.args.built.now.definitions.items c.args.tokens.now c.in-Ok.rest.now m c.in-Ok.ensures.ok)
 
 pub returns-in-Ok-clause-shorter : goal.returns-in-Ok-clause-shorter
 returns-in-Ok-clause-shorter c =

@@ -1,6 +1,6 @@
 use Rattle.std.proofs.Common.{ap, sym, Err}
 use Rattle.strategy_parse.specs.declared.parser.fault.SyntaxFault.TheVariants.{Syntax}
-use Rattle.strategy_parse.proofs.SectionLemmas.{err_is, word_comes, word_goes, word_forth, word_behind, word_none}
+use Rattle.strategy_parse.proofs.SectionLemmas.{err_is, word_comes, word_goes, word_forth, word_after, word_none}
 use Rattle.strategy_parse.proofs.modules.sections.read_next.Goals as goal
 
 pub returns-in-Some-clause-forth : goal.returns-in-Some-clause-forth
@@ -11,7 +11,7 @@ returns-in-Some-clause-forth c = λ m s.
 pub returns-in-Some-clause-back : goal.returns-in-Some-clause-back
 returns-in-Some-clause-back c = λ m s.
     word_goes c.args.part c.args.built.now.constructors.items c.args.built.now.definitions.items m c.args.tokens.now c.args.rest.now c.args.token.now c.in-Reserved.word c.requires c.in-Reserved.is
-    (word_behind c.args.part c.args.built.now.constructors.items c.args.built.now.definitions.items m c.in-Reserved.word c.in-Some.next c.args.rest.now (sym c.in-Some.ensures) s)
+    (word_after c.args.part c.args.built.now.constructors.items c.args.built.now.definitions.items m c.in-Reserved.word c.in-Some.next c.args.rest.now (sym c.in-Some.ensures) s)
 
 pub returns-in-None-clause-none : goal.returns-in-None-clause-none
 returns-in-None-clause-none c = λ e m s.

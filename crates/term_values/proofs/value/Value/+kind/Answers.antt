@@ -34,4 +34,4 @@ pub returns-in-Joined : goal.returns-in-Joined
 returns-in-Joined t c =
     let j = c.in-Joined.field-0.value in
     kind_along AList _ c.args.self.now (ap form_tree (sym c.in-Joined.is) ∙ c.self.view_is)
-    (kind-made_of AList (items_list j.front ++ children j.behind) [])
+    (kind-made_of AList (items_list j.front ++ children j.after) [])

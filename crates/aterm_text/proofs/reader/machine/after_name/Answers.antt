@@ -1,0 +1,29 @@
+use Rattle.std.proofs.Common.{arith}
+use Rattle.aterm_text.specs.inside.Depth.{depth}
+use Rattle.aterm_text.proofs.GoesLemmas.{leads-arguments, leads-constant}
+use Rattle.aterm_text.proofs.DepthLemmas.{after_round, after_trim, keeps-open, keeps-push, too-deep}
+use Rattle.aterm_text.proofs.reader.machine.after_name.Goals as goal
+
+pub returns-in-Ok-clause-leads : goal.returns-in-Ok-clause-leads
+returns-in-Ok-clause-leads c = λ x h shorter.
+    leads-arguments _ _ _ x _ _ h c.after_blanks-text.ensures.value c.application-term.result c.new.result.items _ (omega (arith, c.in-Some.ensures.shorter)) c.in-Some.ensures.some c.application-term.ensures
+    c.new.ensures.items c.in-Ok.ensures.ok
+
+pub returns-in_ok-push-in-None-clause-leads : goal.returns-in_ok-push-in-None-clause-leads
+returns-in_ok-push-in-None-clause-leads c = λ x h shorter.
+    leads-constant _ _ _ x _ _ h c.after_blanks-text.ensures.value c.application-term.result c.new.result.items (omega arith) c.in-None.ensures.none c.application-term.ensures c.new.ensures.items
+    c.in_ok-push-in-None.ensures.ok
+
+pub returns-in-Err-clause-deep : goal.returns-in-Err-clause-deep
+returns-in-Err-clause-deep c = λ e.
+    too-deep (depth c.args.stack.now) c.args.text.now c.in-Some.rest.now
+    (after_round (depth c.args.stack.now) c.args.text.now _ c.in-Some.rest.now c.after_blanks-text.ensures.value c.in-Some.ensures.some) (c.in-Err.ensures.deep (cc))
+
+pub returns-in-Ok-clause-nesting : goal.returns-in-Ok-clause-nesting
+returns-in-Ok-clause-nesting c =
+    keeps-open c.args.stack.now _ c.args.text.now c.in-Some.rest.now c.application-term.result _
+    (after_round (depth c.args.stack.now) c.args.text.now _ c.in-Some.rest.now c.after_blanks-text.ensures.value c.in-Some.ensures.some) c.in-Ok.ensures.ok c.in-Ok.ensures.few
+
+pub returns-in_ok-push-in-None-clause-nesting : goal.returns-in_ok-push-in-None-clause-nesting
+returns-in_ok-push-in-None-clause-nesting c =
+    keeps-push c.args.stack.now _ c.args.text.now _ _ (after_trim (depth c.args.stack.now) c.args.text.now _ c.after_blanks-text.ensures.value) c.in_ok-push-in-None.ensures.ok
