@@ -20,6 +20,7 @@ use Rattle.strategy_check.specs.inside.Mentions.{HeadCovered, PatternCovered, Pa
 use Rattle.strategy_check.specs.inside.Mentioned.{with_key, with_constructor, mentioned_by_head, mentioned_in_pattern, mentioned_in_patterns, mentioned_by_name, mentioned_in_strategy, mentioned_in_strategies, mentioned_in_body, mentioned_in_bodies}
 use Rattle.strategy_check.proofs.FaultLemmas.{pattern_count, strategy_count}
 use Rattle.strategy_check.proofs.RangeLemmas.{left-none, right-none}
+use Rattle.strategy_check.proofs.ReplacingLemmas.{same_key-self}
 
 pub ruleset mention_rules = (pattern_count, strategy_count, patterns_depth-item, depths-item)
 
@@ -55,11 +56,6 @@ position-among p xs = by (nat_lt (position_or_len p xs) (length xs)) ∙ found-a
 
 eqb-self : (n : ℕ) → (n == n) ≡ true
 eqb-self n = (Decides-eqb n n).1 refl
-
-same_key-self : (k : DefinitionKey) → same_key k k ≡ true
-same_key-self k =
-    ap (λ b. b && ((k.strategies == k.strategies) && (k.terms == k.terms))) (same_name-self k.name)
-    ∙ ap (λ b. b && (k.terms == k.terms)) (eqb-self k.strategies) ∙ eqb-self k.terms
 
 pub same_constructor-self : (c : Constructor) → same_constructor c c ≡ true
 same_constructor-self c = ap (λ b. b && (c.arity == c.arity)) (same_name-self c.name) ∙ eqb-self c.arity

@@ -18,6 +18,7 @@ use Rattle.strategy_check.specs.Programs.{Program, free_of, scope_of, variable_c
 use Rattle.strategy_check.specs.Ranges.{InRange, IsInRange, BodiesInRange}
 use Rattle.strategy_check.proofs.BinderLemmas.{bound_count}
 use Rattle.strategy_check.proofs.FreeLemmas.{bound_number, among-append, or-false}
+use Rattle.strategy_check.proofs.MentionLemmas.{Faultless}
 use Rattle.strategy_check.proofs.RangeLemmas.{AreBelow, AreBound, below-bound, left-none, right-none, numbered, strategy_range}
 
 -- ---- free variables have binders
@@ -114,10 +115,6 @@ module _ (T : Table) (P : Primitives) where
 
   -- ---- those of one number
 
-  abbrev Faultless : List Definition → Type 0
-  Faultless [] = ⊤
-  Faultless (d ∷ ds) = (strategy_faults T P (parameter_names d) d.body ≡ []) × Faultless ds
-
   same_some : {X : Type 0} {x y : X} → Some x ≡ Some y → x ≡ y
   same_some e = cc
 
@@ -131,7 +128,7 @@ module _ (T : Table) (P : Primitives) where
       subst (λ o. IsSomeAnd o (λ k. (k.strategies ≡ length d.strategy_parameters) × (k.terms ≡ length d.term_parameters))) (ap (slice_get T.definitions) (sym same) ∙ there) found in
       record { strategies = at.0; terms = at.1; faultless = none }
 
-  all_suit : (k : DefinitionKey) (i : ℕ) (ds : List Definition) → slice_get T.definitions i ≡ Some k → Faultless ds → AllSuit k (of_number T ds i)
+  all_suit : (k : DefinitionKey) (i : ℕ) (ds : List Definition) → slice_get T.definitions i ≡ Some k → Faultless T P ds → AllSuit k (of_number T ds i)
   all_suit k i [] there none = tt
   all_suit k i (d ∷ ds) there none = by (is_number i (definition_number T d.name (length d.strategy_parameters) (length d.term_parameters))) refl (all_suit k i ds there none.1) where
     by : (b : Bool) → is_number i (definition_number T d.name (length d.strategy_parameters) (length d.term_parameters)) ≡ b → AllSuit k (of_number T ds i)
@@ -147,18 +144,18 @@ module _ (T : Table) (P : Primitives) where
   at_number Q ds i zero (h ∷ ks) k e q = subst (λ n. Q (joined_definition T P (of_number T ds n))) (omega arith) q
   at_number Q ds i (suc f) (h ∷ ks) k e q = at_number Q ds (i + 1) f ks k e (subst (λ n. Q (joined_definition T P (of_number T ds n))) (omega arith) q)
 
-  faultless-append : (ds es : List Definition) → Faultless ds → Faultless es → Faultless (ds ++ es)
+  faultless-append : (ds es : List Definition) → Faultless T P ds → Faultless T P es → Faultless T P (ds ++ es)
   faultless-append [] es h k = k
   faultless-append (d ∷ ds) es h k = (h.0, faultless-append ds es h.1 k)
 
-  faultless_definitions : (earlier : List DefinitionKey) (ds : List Definition) → flat_map (definition_faults T P earlier) ds ≡ [] → Faultless ds
+  faultless_definitions : (earlier : List DefinitionKey) (ds : List Definition) → flat_map (definition_faults T P earlier) ds ≡ [] → Faultless T P ds
   faultless_definitions earlier [] e = tt
   faultless_definitions earlier (d ∷ ds) e = (
     right-none (header_faults T earlier d) (strategy_faults T P (parameter_names d) d.body) (left-none (definition_faults T P earlier d) (flat_map (definition_faults T P earlier) ds) e),
     faultless_definitions earlier ds (right-none (definition_faults T P earlier d) (flat_map (definition_faults T P earlier) ds) e),
   )
 
-  faultless_modules : (earlier : List DefinitionKey) (ms : Modules) → faults_from T P earlier ms ≡ [] → Faultless (definitions_of ms)
+  faultless_modules : (earlier : List DefinitionKey) (ms : Modules) → faults_from T P earlier ms ≡ [] → Faultless T P (definitions_of ms)
   faultless_modules earlier [] e = tt
   faultless_modules earlier (m ∷ ms) e =
       let rest = faults_from T P (with_new same_key earlier (keys_of m.1.definitions)) ms in

@@ -48,10 +48,8 @@ impl Checked {
         ensures checked { IfOk result (IsChecked primitives.now) }
         ensures fault { IfErr result (λ told. IsTold told (first (faults modules.items primitives.now))) }
     {
-        match check(alloc, &modules, primitives) {
-            Ok(program) => Ok(Checked { modules, program }),
-            Err(fault) => Err(fault),
-        }
+        let program = check(alloc, &modules, primitives)?;
+        Ok(Checked { modules, program })
     }
 
     /// The modules, in the order of their names.
