@@ -24,12 +24,15 @@ MOST = 2**20
 TIMES = 2
 
 LIBRARY = """m signature constructors A : t  B : t  C : t  Z : t  F : t * t -> t  G : t -> t  S : t -> t
-  Plus : t * t -> t  Num : t -> t  strategies try(s) = s <+ id  topdown(s) = s; all(topdown(s))  bottomup(s) = all(bottomup(s)); s
+  Plus : t * t -> t  Num : t -> t  Not : t -> t  And : t * t -> t  Or : t * t -> t  T : t  U : t  strategies try(s) = s <+ id  topdown(s) = s; all(topdown(s))  bottomup(s) = all(bottomup(s)); s
   oncetd(s) = s <+ one(oncetd(s))  innermost(s) = bottomup(try(s; innermost(s)))
   outermost(s) = try(oncetd(s); outermost(s))  map(s) = [] <+ [s|map(s)]
   reverse = \\ xs -> (xs,[]) \\; rec r(\\ ([x|xs],ys) -> (xs,[x|ys]) \\; r <+ \\ ([],ys) -> ys \\)
   alltd(s) = s <+ all(alltd(s))  I = {i, j: ?Num(i); where(prim("addi",i,1); ?j); !Num(j)}
-  W = \\ F(x,y) -> F(y,x) \\  P = \\ Plus(Z(),x) -> x \\ <+ \\ Plus(S(x),y) -> S(Plus(x,y)) \\""".replace("\n", " ")
+  W = \\ F(x,y) -> F(y,x) \\  P = \\ Plus(Z(),x) -> x \\ <+ \\ Plus(S(x),y) -> S(Plus(x,y)) \\
+  E = \\ Not(Not(x)) -> x \\ <+ \\ Not(And(x,y)) -> Or(Not(x),Not(y)) \\ <+ \\ Not(Or(x,y)) -> And(Not(x),Not(y)) \\
+  <+ \\ Not(T()) -> U() \\ <+ \\ Not(U()) -> T() \\ <+ \\ And(T(),x) -> x \\ <+ \\ And(x,T()) -> x \\ <+ \\ And(U(),x) -> U() \\
+  <+ \\ And(x,U()) -> U() \\ <+ \\ Or(T(),x) -> T() \\ <+ \\ Or(x,T()) -> T() \\ <+ \\ Or(U(),x) -> x \\""".replace("\n", " ")
 
 
 def balanced(leaves, leaf="A"):
@@ -46,6 +49,10 @@ def numbers(count):
 
 def number(n):
     return "S(" * n + "Z" + ")" * n
+
+
+def logic(n):
+    return "A" if n == 1 else f"Not(And({logic(n // 2)},Or(T,{logic(n // 2)})))"
 
 
 def deep(n):
@@ -66,6 +73,7 @@ SHAPES = {
     "`oncetd` to the last leaf": ("oncetd(?B(); !C())", lambda n: last(n), 2**8),
     "failing": ("(bottomup(try(?A(); !B())); fail) <+ id", balanced, 2**8),
     "`where(..)`": ("where(bottomup(try(?A(); !B())))", balanced, 2**8),
+    "`innermost(E)`, twelve rules": ("innermost(E)", logic, 2**5),
     "deep": ("topdown(try(?G(x); !G(x)))", deep, 60),
 }
 

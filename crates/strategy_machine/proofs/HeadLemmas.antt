@@ -12,7 +12,7 @@ use Rattle.strategy_meaning.specs.Answer.{Answer, failed, either, if_done, with_
 use Rattle.strategy_meaning.specs.Meaning.{World, run, form, with_some, cut, is_over, is_list_from, enter}
 use Rattle.strategy_machine.specs.Table.{scope_at, closure_of}
 use Rattle.strategy_machine.specs.declared.scopes.Closure.{Closure as TableClosure}
-use Rattle.strategy_machine.specs.inside.Missing.{Misses, HasNames, FailsAhead}
+use Rattle.strategy_machine.specs.inside.Missing.{Misses, HasNames, FailsAhead, Passes}
 use Rattle.strategy_machine.specs.Turns.{State, HoldsIn}
 use Rattle.strategy_machine.specs.inside.Taking.{FormIn}
 use Rattle.strategy_machine.specs.Hands.{Begin}
@@ -76,6 +76,13 @@ fails_param ds known n x t k b c d e is h = ahead ds known (Some n) t (param x) 
     ap (λ (o : Option Closure). with_some o c (λ z. run W z.written_in l z.strategy c B t)) (names x ∙ is)
     ∙ h.fails W i (scope_at known k.written_in) (λ y. refl) l B)
 
+pub rule_fails : (ds : List Resolved) (known : List Scope) (n : Option ℕ) (t : Tree) (x : ℕ) (p : Place) (then : ResolvedStrategy) (b c : ℕ) → b ≡ c + 3 → Misses p t
+    → FailsAhead ds known n (scope x (seq (matches p) then)) b t c
+rule_fails ds known n t x p then b c e m =
+    fails_scope ds known n t x (seq (matches p) then) b (c + 2) c (omega (arith, e))
+    (fails_seq ds known n t (matches p) then (c + 2) (c + 1) c (omega arith)
+    (fails_match ds known n t p (c + 1) c (omega arith) m))
+
 -- ---- a choice whose first branch fails ahead
 
 pub take_other : (W : World) (sub : Standing) (whole : Answer) (S : State) (ds : List Resolved) (s1 s2 s3 : Bor ResolvedStrategy) (n : ℕ) (p : Standing) (c : ℕ)
@@ -88,6 +95,41 @@ take_other W sub whole S ds s1 s2 s3 n p c i f h = record {
   in_hand = (h.there, refl);
   opens = opens_along _ _ (ap (λ (a : Answer). either a (λ t1 B1 b e. with_edits e (run W (scope_at S.scopes n) S.level s2.now b B1 t1))
       (λ b. run W (scope_at S.scopes n) S.level s3.now b S.cells.bindings (standing_tree p))) (f.fails W i (scope_at S.scopes n) (λ x. refl) S.level S.cells.bindings)) h.opens;
+}
+
+-- ---- alternatives passed over
+
+pub passes_none : (s : ResolvedStrategy) (b : ℕ) (t : Tree) → Passes s b t s b
+passes_none s b t = record { same = λ W E l B. refl }
+
+pub passes_as : (s r q o : ResolvedStrategy) (b c : ℕ) (t : Tree) → s ≡ r → q ≡ o → Passes r b t q c → Passes s b t o c
+passes_as s r q o b c t e f h = record { same = λ W E l B. ap (λ (x : ResolvedStrategy). run W E l x b B t) e ∙ h.same W E l B ∙ ap (λ (x : ResolvedStrategy). run W E l x c B t) f }
+
+pub passes_more : (s r q : ResolvedStrategy) (b c d : ℕ) (t : Tree) → Passes s b t r c → Passes r c t q d → Passes s b t q d
+passes_more s r q b c d t h g = record { same = λ W E l B. h.same W E l B ∙ g.same W E l B }
+
+-- a rule for another root, with the choice around it
+pub passes_rule : (s s2 s3 then : ResolvedStrategy) (n : ℕ) (p : Place) (b c : ℕ) (t : Tree) → s ≡ scope n (seq (matches p) then) → b ≡ c + 4 → Misses p t
+    → Passes (guard s s2 s3) b t s3 c
+passes_rule s s2 s3 then n p b c t is e m = record {
+  same = λ W E l B.
+      run_step W E l (guard s s2 s3) b (c + 3) B t (omega (arith, e))
+      ∙ ap (λ (a : Answer). either a (λ t1 B1 x y. with_edits y (run W E l s2 x B1 t1)) (λ x. run W E l s3 x B t))
+      (ap (λ (r : ResolvedStrategy). run W E l r (c + 3) B t) is ∙ (rule_fails W.bodies [] None t n p then (c + 3) c (omega arith) m).fails W refl E tt l B);
+}
+
+pub passed_fails : (ds : List Resolved) (known : List Scope) (n : Option ℕ) (s r : ResolvedStrategy) (b c : ℕ) (t : Tree) (d : ℕ) → Passes s b t r c
+    → FailsAhead ds known n r c t d → FailsAhead ds known n s b t d
+passed_fails ds known n s r b c t d h g = record { fails = λ W i E k l B. h.same W E l B ∙ g.fails W i E k l B }
+
+pub take_passed : (W : World) (sub : Standing) (whole : Answer) (S : State) (s r : Bor ResolvedStrategy) (n : ℕ) (p : Standing) (c d : ℕ)
+    → Passes s.now c (standing_tree p) r.now d → HoldsIn W sub whole (paid S c) (Begin s n p) → HoldsIn W sub whole (paid S d) (Begin r n p)
+take_passed W sub whole S s r n p c d h g = record {
+  now = g.now;
+  edits = g.edits;
+  shows = g.shows;
+  in_hand = g.in_hand;
+  opens = opens_along _ _ (h.same W (scope_at S.scopes n) S.level S.cells.bindings) g.opens;
 }
 
 -- ---- on the way inward

@@ -6,6 +6,7 @@ ghost use Rattle.strategy_meaning.specs.Meaning.{World};
 ghost use Rattle.strategy_machine.specs.Turns.{world_of};
 ghost use Rattle.strategy_machine.specs.inside.Taking.{Takes, TakeFalls, Replaced};
 
+use crate::alternatives::after_rules;
 use crate::choices::rewrite_or;
 use crate::frames::{Frame, Turned, drop_value, put, wait};
 use crate::heads::{MOST, left_by_failure};
@@ -183,7 +184,7 @@ fn match_first<'t>(
 
 /// A guarded choice. If its first branch is a match and a build, they are done at once, with no
 /// frame. If the root symbol rules out another first branch, its steps are charged and the machine
-/// goes straight to the other.
+/// goes straight to the other; if that is a choice among rules, to the first that may match.
 #[inline(always)]
 pub(crate) fn take_guard<'t, M: Meaning>(
     alloc: Global,
@@ -215,8 +216,9 @@ pub(crate) fn take_guard<'t, M: Meaning>(
         MOST,
     );
     if let Some(left) = ahead {
-        m.steps = left;
-        return Ok(m.begins(other, scope));
+        let passed = after_rules(other, &m.part, left);
+        m.steps = passed.1;
+        return Ok(m.begins(passed.0, scope));
     }
     let start = m.part.try_clone()?;
     let mark = m.cells.mark();

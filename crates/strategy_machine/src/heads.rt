@@ -1,7 +1,8 @@
 //! Failures that the root of a term shows before any frame is pushed.
 
 ghost use Rattle.std.specs.Prelude.{◌≡◌, ◌<◌, cond, Some, None, IfSome};
-ghost use Rattle.term_core.specs.Tree.{children};
+ghost use Rattle.term_core.specs.Tree.{Tree, children, annotations};
+ghost use Rattle.term_core.specs.Kind.{made_of};
 ghost use Rattle.std.specs.Bool.{OnTrue};
 ghost use Rattle.term_changes.specs.Standing.{standing_tree};
 ghost use Rattle.strategy_machine.specs.Table.{scopes as scopes_of};
@@ -9,6 +10,7 @@ ghost use Rattle.strategy_syntax.specs.Heads.{head_of};
 ghost use Rattle.strategy_meaning.specs.Matching.{is_integer as is_this_integer, is_headed as has_head, elements};
 ghost use Rattle.strategy_machine.specs.inside.Missing.{Misses, FailsAhead};
 
+use crate::alternatives::{after_rules, left_side};
 use crate::congruence::{is_list_from, is_over};
 use crate::scopes::Scopes;
 use strategy_syntax::{Head, Place, PlaceForm, Resolved, ResolvedForm as Form, ResolvedStrategy};
@@ -64,10 +66,20 @@ pub(crate) fn left_by_failure<'t>(
                 return Some(left);
             }
             Form::Seq(parts) => strategy = &parts.0,
-            Form::Guard(parts) => {
-                left = left_by_failure(definitions, scopes, &parts.0, scope, part, left, most)?;
-                strategy = &parts.2;
-            }
+            Form::Guard(parts) => match left_side(&parts.0) {
+                Some(pattern) => {
+                    if left < 3 || !misses(pattern, part) {
+                        return None;
+                    }
+                    let passed = after_rules(&parts.2, part, left - 3);
+                    strategy = passed.0;
+                    left = passed.1;
+                }
+                None => {
+                    left = left_by_failure(definitions, scopes, &parts.0, scope, part, left, most)?;
+                    strategy = &parts.2;
+                }
+            },
             Form::Test(inner) => strategy = inner,
             Form::Scope(_, inner) => strategy = inner,
             Form::Param(name) => {
@@ -99,36 +111,50 @@ pub(crate) fn left_by_failure<'t>(
 pub(crate) fn misses(pattern: &Place, part: &Part<'_>) -> bool
     ensures { OnTrue result (Misses pattern.now (standing_tree part.now)) }
 {
+    rules_out(pattern, part.kind())
+}
+
+/// Whether this kind shows that the pattern can't match a term of this kind.
+#[inline(always)]
+pub(crate) fn rules_out(pattern: &Place, kind: Kind<'_>) -> bool
+    ensures { (t : Tree) → t ≡ made_of kind.entry (children t) (annotations t) → OnTrue result (Misses pattern.now t) }
+{
     match pattern.form() {
-        PlaceForm::Integer(number) => !is_integer(*number, part),
-        PlaceForm::Compound(head, _) => !is_headed(head, part),
-        PlaceForm::WithTail(_, _) => !is_list(part),
+        PlaceForm::Integer(number) => !is_integer(*number, kind),
+        PlaceForm::Compound(head, _) => !is_headed(head, kind),
+        PlaceForm::WithTail(_, _) => !is_list_kind(kind),
         _ => false,
     }
 }
 
-// Whether the part is this integer, whatever its annotations.
-fn is_integer(number: i64, part: &Part<'_>) -> bool
-    ensures { result ≡ is_this_integer number (standing_tree part.now) }
+// Whether a term of this kind is this integer, whatever its annotations.
+fn is_integer(number: i64, kind: Kind<'_>) -> bool
+    ensures { (t : Tree) → t ≡ made_of kind.entry (children t) (annotations t) → result ≡ is_this_integer number t }
 {
-    match part.kind() {
+    match kind {
         Kind::Integer(same) => same == number,
         _ => false,
     }
 }
 
-// Whether the part has this head.
-fn is_headed(head: &Head, part: &Part<'_>) -> bool
-    ensures { result ≡ has_head (head_of head.now) (standing_tree part.now) }
+// Whether a term of this kind has this head.
+fn is_headed(head: &Head, kind: Kind<'_>) -> bool
+    ensures { (t : Tree) → t ≡ made_of kind.entry (children t) (annotations t) → result ≡ has_head (head_of head.now) t }
 {
-    head.is_head_of(part.kind())
+    head.is_head_of(kind)
+}
+
+fn is_list_kind(kind: Kind<'_>) -> bool
+    ensures { (t : Tree) → t ≡ made_of kind.entry (children t) (annotations t) → elements t ≡ cond result (Some (children t)) None }
+{
+    match kind {
+        Kind::List => true,
+        _ => false,
+    }
 }
 
 pub(crate) fn is_list(part: &Part<'_>) -> bool
     ensures { elements (standing_tree part.now) ≡ cond result (Some (children (standing_tree part.now))) None }
 {
-    match part.kind() {
-        Kind::List => true,
-        _ => false,
-    }
+    is_list_kind(part.kind())
 }

@@ -2,6 +2,7 @@
 //! and names stand for. Each turn starts a form, goes on to a child, or gives an answer to a frame.
 #![tactic(auto)]
 
+mod alternatives;
 mod arguments;
 mod begin;
 mod calls;

@@ -23,3 +23,7 @@ HasNames known (Some n) E = (x : ℕ) → stands_for E x ≡ stands_for (scope_a
 -- each scope with these names.
 pub record FailsAhead (ds : List Resolved) (known : List Scope) (n : Option ℕ) (s : ResolvedStrategy) (b : ℕ) (t : Tree) (c : ℕ) : Type 0 where
   pub fails : (W : World) → W.bodies ≡ ds → (E : Scope) → HasNames known n E → (l : ℕ) (B : Bindings) → run W E l s b B t ≡ failed c
+
+-- With b steps s has the answer on the term that r has with c steps, wherever it is run.
+pub record Passes (s : ResolvedStrategy) (b : ℕ) (t : Tree) (r : ResolvedStrategy) (c : ℕ) : Type 0 where
+  pub same : (W : World) (E : Scope) (l : ℕ) (B : Bindings) → run W E l s b B t ≡ run W E l r c B t

@@ -1,6 +1,6 @@
 use Rattle.std.proofs.Common.{refl, sym, ap, ◌∙◌, ◌∷◌, reverse}
 use Rattle.strategy_machine.proofs.TakeLemmas.{with_frames, take_choice}
-use Rattle.strategy_machine.proofs.HeadLemmas.{take_other}
+use Rattle.strategy_machine.proofs.HeadLemmas.{take_other, take_passed}
 use Rattle.strategy_machine.specs.Turns.{state_of}
 use Rattle.strategy_machine.proofs.OpenLemmas.{pushed}
 use Rattle.strategy_machine.specs.declared.frames.Frame.TheVariants.{Choose}
@@ -15,5 +15,6 @@ returns-clause-ok g c = record {
 
 pub returns-in-Some-clause-ok : goal.returns-in-Some-clause-ok
 returns-in-Some-clause-ok g c = record {
-  keeps = λ sub whole h. c.begins.ensures.keeps _ sub whole (take_other _ sub whole (state_of c.args.m.now) c.args.host.now.definitions.now c.args.first c.args.second c.args.other c.args.scope c.args.m.now.part c.in-Some.left refl c.in-Some.ensures.fails h);
+  keeps = λ sub whole h. c.begins.ensures.keeps _ sub whole (take_passed _ sub whole (state_of c.args.m.now) c.args.other _ c.args.scope c.args.m.now.part c.in-Some.left _ c.after_rules-passed.ensures.same
+      (take_other _ sub whole (state_of c.args.m.now) c.args.host.now.definitions.now c.args.first c.args.second c.args.other c.args.scope c.args.m.now.part c.in-Some.left refl c.in-Some.ensures.fails h));
 }

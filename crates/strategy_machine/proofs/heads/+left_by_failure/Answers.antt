@@ -9,7 +9,7 @@ use Rattle.strategy_meaning.specs.Meaning.{is_over, is_list_from}
 use Rattle.strategy_machine.specs.Table.{scopes}
 use Rattle.strategy_machine.specs.inside.Missing.{FailsAhead}
 use Rattle.strategy_machine.proofs.CallLemmas.{slice_there}
-use Rattle.strategy_machine.proofs.HeadLemmas.{fails_fail, fails_match, fails_seq, fails_guard, fails_test, fails_over, fails_tail, fails_scope, fails_call, fails_param, ahead_is, not_over_many, not_list_many, no_patterns}
+use Rattle.strategy_machine.proofs.HeadLemmas.{rule_fails, passed_fails, fails_fail, fails_match, fails_seq, fails_guard, fails_test, fails_over, fails_tail, fails_scope, fails_call, fails_param, ahead_is, not_over_many, not_list_many, no_patterns}
 use Rattle.strategy_machine.proofs.heads.+left_by_failure.Goals as goal
 
 pub returns-in-Fail-clause-fails : goal.returns-in-Fail-clause-fails
@@ -46,14 +46,29 @@ inward-preserved-in-Seq t c =
           (fails_seq c.args.definitions.now (scopes c.args.scopes.now) c.inward.scope u _ _ c.inward.left (c.inward.left - 1) d (omega (arith, c.if-left-eq0.false)) (ahead_is _ _ _ _ _ _ u _ (ap (λ x. x.0) (sym c.deref.ensures)) h)));
     }
 
-pub inward-preserved-in-Guard : goal.inward-preserved-in-Guard
-inward-preserved-in-Guard t c =
+pub inward-preserved-in-Some : goal.inward-preserved-in-Some
+inward-preserved-in-Some t c =
     let u = standing_tree c.args.part.now in
+    let rule = c.in-Some.ensures in
     record {
-      less = omega (arith, c.inward.invariant.less, c.in_ok-left-in-Guard.ensures.less);
+      less = omega (arith, c.inward.invariant.less, c.after_rules-passed.ensures.less);
       most = omega (arith, c.inward.invariant.most);
       whole = λ d h. c.inward.invariant.whole d (ahead_is _ _ _ _ _ _ u _ (c.form.ensures ∙ ap resolved_of c.in-Guard.is)
-          (fails_guard c.args.definitions.now (scopes c.args.scopes.now) c.inward.scope u _ _ _ c.inward.left (c.inward.left - 1) c.in_ok-left-in-Guard.left d (omega (arith, c.if-left-eq0.false)) (ahead_is _ _ _ _ _ _ u _ (ap (λ x. x.0) (sym c.deref-in-Guard.ensures)) c.in_ok-left-in-Guard.ensures.fails) (ahead_is _ _ _ _ _ _ u _ (ap (λ x. x.2) (sym c.deref-in-Guard-2.ensures)) h)));
+          (fails_guard c.args.definitions.now (scopes c.args.scopes.now) c.inward.scope u _ _ _ c.inward.left (c.inward.left - 1) (c.inward.left - 1 - 3) d (omega (arith, c.if-left-eq0.false))
+          (ahead_is _ _ _ _ _ _ u _ (ap (λ x. x.0) (sym c.deref-in-Guard.ensures) ∙ rule.2)
+          (rule_fails c.args.definitions.now (scopes c.args.scopes.now) c.inward.scope u rule.0 c.in-Some.pattern.now rule.1 (c.inward.left - 1) (c.inward.left - 1 - 3) (omega (arith, c.if-left-lt3.false)) c.if-not-misses-2.ensures))
+          (ahead_is _ _ _ _ _ _ u _ (ap (λ x. x.2) (sym c.deref-in-Some.ensures))
+          (passed_fails c.args.definitions.now (scopes c.args.scopes.now) c.inward.scope _ _ _ _ u d c.after_rules-passed.ensures.same h))));
+    }
+
+pub inward-preserved-in-None : goal.inward-preserved-in-None
+inward-preserved-in-None t c =
+    let u = standing_tree c.args.part.now in
+    record {
+      less = omega (arith, c.inward.invariant.less, c.in_ok-left-in-None.ensures.less);
+      most = omega (arith, c.inward.invariant.most);
+      whole = λ d h. c.inward.invariant.whole d (ahead_is _ _ _ _ _ _ u _ (c.form.ensures ∙ ap resolved_of c.in-Guard.is)
+          (fails_guard c.args.definitions.now (scopes c.args.scopes.now) c.inward.scope u _ _ _ c.inward.left (c.inward.left - 1) c.in_ok-left-in-None.left d (omega (arith, c.if-left-eq0.false)) (ahead_is _ _ _ _ _ _ u _ (ap (λ x. x.0) (sym c.deref-in-None.ensures)) c.in_ok-left-in-None.ensures.fails) (ahead_is _ _ _ _ _ _ u _ (ap (λ x. x.2) (sym c.deref-in-None-2.ensures)) h)));
     }
 
 pub inward-preserved-in-Test : goal.inward-preserved-in-Test
@@ -83,7 +98,7 @@ inward-preserved-in-Param t c =
       less = omega (arith, c.inward.invariant.less);
       most = omega (arith, c.inward.invariant.most);
       whole = λ d h. c.inward.invariant.whole d (ahead_is _ _ _ _ _ _ u _ (c.form.ensures ∙ ap resolved_of c.in-Param.is)
-          (subst (λ (n : Option ℕ). FailsAhead c.args.definitions.now (scopes c.args.scopes.now) n (param c.in-Param.name) c.inward.left u d) (sym c.in-Some.is) (fails_param c.args.definitions.now (scopes c.args.scopes.now) c.in-Some.inside c.in-Param.name u c.in-Some-named.known c.inward.left (c.inward.left - 1) d (omega (arith, c.if-left-eq0.false)) c.in-Some-named.ensures.1 h)));
+          (subst (λ (n : Option ℕ). FailsAhead c.args.definitions.now (scopes c.args.scopes.now) n (param c.in-Param.name) c.inward.left u d) (sym c.in-Some-scope.is) (fails_param c.args.definitions.now (scopes c.args.scopes.now) c.in-Some-scope.inside c.in-Param.name u c.in-Some-named.known c.inward.left (c.inward.left - 1) d (omega (arith, c.if-left-eq0.false)) c.in-Some-named.ensures.1 h)));
     }
 
 pub inward-preserved : goal.inward-preserved
