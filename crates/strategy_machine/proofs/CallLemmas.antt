@@ -39,8 +39,8 @@ entered W sub whole m new f ss ps d s n inner k e se en h =
     let us = m.arguments.items in
     subst (λ (q : Standing). HoldsIn W sub whole (state_of new) (Begin s inner q)) (sym en.part) (
     subst (λ (S : State). HoldsIn W sub whole S (Begin s inner p))
-    (λ i. record { cells = new.cells; scopes = scopes new.scopes; trail = sym en.rest.0 i; level = sym en.rest.1 i; frames = reverse new.frames.items; steps = sym en.rest.2 i })
-    (take_opened W sub whole (state_of m) (call f ss ps) s n inner p (inside (numbers_from (length m.cells.bindings) (length us + d.variables)) (arguments E ss)) (map Some us ++ replicate d.variables None) new.cells (scopes new.scopes) (reverse new.frames.items)
+    (λ i. record { cells = new.cells; scopes = scopes new.scopes; trail = sym en.rest.0 i; level = sym en.rest.1 i; frames = reverse new.frames; steps = sym en.rest.2 i })
+    (take_opened W sub whole (state_of m) (call f ss ps) s n inner p (inside (numbers_from (length m.cells.bindings) (length us + d.variables)) (arguments E ss)) (map Some us ++ replicate d.variables None) new.cells (scopes new.scopes) (reverse new.frames)
     (k m.steps _ ∙ some_is (slice_get W.bodies f) d m.steps (λ x. enter (run W) ss E us x m.level m.steps m.cells.bindings (standing_tree p)) e
     ∙ ap (λ (r : ResolvedStrategy). opened (run W) (inside (numbers_from (length m.cells.bindings) (length us + d.variables)) (arguments E ss)) (map Some us ++ replicate d.variables None) m.level r m.steps m.cells.bindings (standing_tree p)) (sym se))
     en.there en.scope (en.cells ∙ append_assoc m.cells.bindings (map Some us) (replicate d.variables None)) (en.room W sub whole p) h))

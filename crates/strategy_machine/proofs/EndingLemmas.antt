@@ -1,8 +1,6 @@
 -- Where scopes and cells that a strategy adds end.
-use Rattle.std.proofs.Common.{◌≡◌, ◌<◌, ◌≤◌, ℕ, ◌-◌, zero, suc, List, [], ◌∷◌, ◌++◌, length, take, reverse, refl, sym, ap, ◌∙◌, subst, arith, get_or, slice_get, Some, Bor}
-use Rattle.std.proofs.lemmas.List.{length-take, take_all, get_or-take}
-use Rattle.std.proofs.lemmas.Option.{slice_get_within, get_or_from_slice_get}
-use Rattle.std.proofs.Math.Seq.{take-suc}
+use Rattle.std.proofs.Common.{◌≡◌, ◌<◌, ◌≤◌, ℕ, ◌-◌, zero, suc, List, [], ◌∷◌, length, take, reverse, refl, sym, ap, ◌∙◌, subst, arith, Bor}
+use Rattle.std.proofs.lemmas.List.{length-take, get_or-take}
 use Rattle.term_paths.specs.Edits.{Edits}
 use Rattle.term_changes.specs.Standing.{Standing, standing_tree}
 use Rattle.strategy_syntax.specs.Resolved.{ResolvedStrategy}
@@ -18,29 +16,22 @@ use Rattle.strategy_machine.specs.inside.Taking.{FormIn}
 use Rattle.strategy_machine.specs.inside.Endings.{LeavesScopes, LeavesCells, AnswersIn, with_those}
 use Rattle.strategy_machine.specs.declared.frames.Frame.{Frame}
 use Rattle.strategy_machine.specs.declared.frames.Frame.TheVariants.{Then, Choose, Restore, Each, Leftmost, Those, Tail, Rest, Head, After, Leave, Cut}
+use Rattle.strategy_machine.specs.declared.stack.Slot.TheVariants as slots
+use Rattle.strategy_machine.specs.inside.Slots.{EndsWith}
+use Rattle.strategy_machine.proofs.SlotLemmas.{leave_is, cut_is, ends_reversed}
 use Rattle.strategy_machine.specs.Hands.{Begin}
-use Rattle.strategy_machine.proofs.OpenLemmas.{with_edits-cut, opens_along, opens_through, meets_kept, pushed}
+use Rattle.strategy_machine.proofs.OpenLemmas.{with_edits-cut, opens_along, opens_through, meets_kept}
 
 -- ---- the innermost frame
 
--- it is the last of the stack
-pub last_is : (fs : List Frame) (f : Frame) → slice_get fs (length fs - 1) ≡ Some f → reverse fs ≡ f ∷ reverse (take (length fs - 1) fs)
-last_is fs f e =
-    let i = length fs - 1 in
-    let lt : i < length fs = slice_get_within fs i f e in
-    let is : get_or fs i f ≡ f = get_or_from_slice_get fs i f f e in
-    let n : suc i ≡ length fs = omega (arith, lt) in
-    let whole : take (suc i) fs ≡ fs = take_all (suc i) fs (omega (arith, n)) in
-    pushed (take i fs) fs f (sym whole ∙ take-suc fs i f lt ∙ ap (λ x. take i fs ++ x ∷ []) is)
+pub leaves_leave : (gs : List Frame) (k : ℕ) → EndsWith (slots.Leave k) gs → LeavesScopes (reverse gs) k
+leaves_leave gs k h = subst (λ (l : List Frame). LeavesScopes l k) (sym (ends_reversed gs (slots.Leave k) (Leave k) h (leave_is h.1 k h.3))) refl
 
-pub leaves_leave : (fs : List Frame) (k : ℕ) → slice_get fs (length fs - 1) ≡ Some (Leave k) → LeavesScopes (reverse fs) k
-leaves_leave fs k e = subst (λ (l : List Frame). LeavesScopes l k) (sym (last_is fs (Leave k) e)) refl
+pub leaves_cut : (gs : List Frame) (n k : ℕ) → EndsWith (slots.Cut n k) gs → LeavesScopes (reverse gs) k
+leaves_cut gs n k h = subst (λ (l : List Frame). LeavesScopes l k) (sym (ends_reversed gs (slots.Cut n k) (Cut n k) h (cut_is h.1 n k h.3))) refl
 
-pub leaves_cut : (fs : List Frame) (n k : ℕ) → slice_get fs (length fs - 1) ≡ Some (Cut n k) → LeavesScopes (reverse fs) k
-leaves_cut fs n k e = subst (λ (l : List Frame). LeavesScopes l k) (sym (last_is fs (Cut n k) e)) refl
-
-pub leaves_cells : (fs : List Frame) (n k : ℕ) → slice_get fs (length fs - 1) ≡ Some (Cut n k) → LeavesCells (reverse fs) k
-leaves_cells fs n k e = subst (λ (l : List Frame). LeavesCells l k) (sym (last_is fs (Cut n k) e)) refl
+pub leaves_cells : (gs : List Frame) (n k : ℕ) → EndsWith (slots.Cut n k) gs → LeavesCells (reverse gs) k
+leaves_cells gs n k h = subst (λ (l : List Frame). LeavesCells l k) (sym (ends_reversed gs (slots.Cut n k) (Cut n k) h (cut_is h.1 n k h.3))) refl
 
 -- ---- scopes
 

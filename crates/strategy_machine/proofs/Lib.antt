@@ -11,6 +11,7 @@ pub mod ChildLemmas
 pub mod GiveLemmas
 pub mod FailLemmas
 pub mod FirstLemmas
+pub mod SlotLemmas
 pub mod EndingLemmas
 pub mod ScopeLemmas
 pub mod TrailLemmas

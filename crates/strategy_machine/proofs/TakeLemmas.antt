@@ -394,6 +394,6 @@ pub replaced_in : (W : World) (sub : Standing) (whole : Answer) (m0 m new : Mach
     → FormIn W sub whole (state_of m0) r n p → HoldsIn W sub whole (state_of new) (Done q)
 replaced_in W sub whole m0 m new r n p q o u fe se te le pe ce a e f k h =
     subst (λ (S : State). HoldsIn W sub whole S (Done q))
-    (λ i. record { cells = sym (k.rest.1 ∙ ce) i; scopes = scopes (sym (k.rest.2 ∙ se) i); trail = new.trail; level = sym (k.rest.3 ∙ le) i; frames = reverse (sym (k.rest.0 ∙ fe) i).items; steps = sym (k.rest.4 ∙ pe) i })
+    (λ i. record { cells = sym (k.rest.1 ∙ ce) i; scopes = scopes (sym (k.rest.2 ∙ se) i); trail = new.trail; level = sym (k.rest.3 ∙ le) i; frames = reverse (sym (k.rest.0 ∙ fe) i); steps = sym (k.rest.4 ∙ pe) i })
     (take_built W sub whole (state_of m0) r n p q o u new.trail a e f k.part
-    (λ T sh. subst (λ (fs : Vec Frame Global). Shows new.trail (T ++ record { path = path_of (reverse fs.items); new = u } ∷ [])) fe (k.shows T (subst (λ t. Shows t T) (sym te) sh))) h)
+    (λ T sh. subst (λ (fs : List Frame). Shows new.trail (T ++ record { path = path_of (reverse fs); new = u } ∷ [])) fe (k.shows T (subst (λ t. Shows t T) (sym te) sh))) h)

@@ -1,5 +1,5 @@
 -- The invariant of a turn of the machine, and termination.
-use Rattle.std.specs.Prelude.{◌≡◌, ◌<◌, ℕ, ◌+◌, ◌-◌, ◌*◌, List, [], length, reverse, vec_len}
+use Rattle.std.specs.Prelude.{◌≡◌, ◌<◌, ℕ, ◌+◌, ◌-◌, ◌*◌, List, [], length, reverse}
 use Rattle.std.specs.declared.option.Option.{Option}
 use Rattle.term_core.specs.Tree.{Tree, children}
 use Rattle.term_paths.specs.Edits.{Edits}
@@ -38,7 +38,7 @@ state_of m = record {
   scopes = scopes m.scopes;
   trail = m.trail;
   level = m.level;
-  frames = reverse m.frames.items;
+  frames = reverse m.frames;
   steps = m.steps;
 }
 
@@ -114,7 +114,7 @@ weight (Those s n p i any parts) = 3
 
 -- a bound on what is left to do
 abbrev pub load : Machine → Hand → ℕ
-load m hand = 7 * m.steps + 2 * vec_len m.frames + weight hand
+load m hand = 7 * m.steps + 2 * length m.frames + weight hand
 
 -- less is left to do
 abbrev pub Falls : Machine → Hand → Machine → Turned → Type 0

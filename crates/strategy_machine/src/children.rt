@@ -11,7 +11,7 @@ ghost use Rattle.strategy_machine.specs.Hands.{Each, Leftmost, Those};
 ghost use Rattle.strategy_machine.specs.Turns.{Turn, Falls};
 ghost use Rattle.strategy_machine.specs.inside.Turning.{EndFalls};
 
-use crate::frames::{Acts, Frame, Turned, Walk, drop_part, wait};
+use crate::frames::{Acts, Frame, Turned, Walk, drop_part};
 use crate::lists::end_each;
 use crate::machine::Machine;
 use std::alloc::Global;
@@ -227,25 +227,23 @@ fn go_down<'t>(
     let node = mem::replace(&mut m.part, child);
     let parts = mem::replace(&mut m.parts, Vec::new(alloc));
     let edits = m.trail.count;
-    wait(
-        &mut m.frames,
-        Frame::Each {
-            acts: others,
-            scope,
-            walk: Walk {
-                node,
-                parts,
-                index,
-                level,
-                edits,
-            },
+    m.frames.wait(Frame::Each {
+        acts: others,
+        scope,
+        walk: Walk {
+            node,
+            parts,
+            index,
+            level,
+            edits,
         },
-    )?;
+    })?;
     m.level += 1;
     Ok(m.begins(strategy, scope))
 }
 
 /// Tries the children from this index on until the strategy succeeds on one.
+#[inline(always)]
 pub(crate) fn try_on<'t>(
     alloc: Global,
     m: &mut Machine<'t>,
@@ -267,21 +265,18 @@ pub(crate) fn try_on<'t>(
     let mark = m.cells.mark();
     let node = mem::replace(&mut m.part, child);
     let edits = m.trail.count;
-    wait(
-        &mut m.frames,
-        Frame::Leftmost {
-            strategy,
-            scope,
-            walk: Walk {
-                node,
-                parts: Vec::new(alloc),
-                index,
-                level,
-                edits,
-            },
-            mark,
+    m.frames.wait(Frame::Leftmost {
+        strategy,
+        scope,
+        walk: Walk {
+            node,
+            parts: Vec::new(alloc),
+            index,
+            level,
+            edits,
         },
-    )?;
+        mark,
+    })?;
     m.level += 1;
     Ok(m.begins(strategy, scope))
 }
@@ -315,22 +310,19 @@ pub(crate) fn go_over<'t>(
     let node = mem::replace(&mut m.part, child);
     let parts = mem::replace(&mut m.parts, Vec::new(alloc));
     let edits = m.trail.count;
-    wait(
-        &mut m.frames,
-        Frame::Those {
-            strategy,
-            scope,
-            walk: Walk {
-                node,
-                parts,
-                index,
-                level,
-                edits,
-            },
-            mark,
-            any,
+    m.frames.wait(Frame::Those {
+        strategy,
+        scope,
+        walk: Walk {
+            node,
+            parts,
+            index,
+            level,
+            edits,
         },
-    )?;
+        mark,
+        any,
+    })?;
     m.level += 1;
     Ok(m.begins(strategy, scope))
 }

@@ -1,6 +1,6 @@
 //! Congruences, and the selection of a child.
 
-ghost use Rattle.std.specs.Prelude.{◌≡◌, ◌<◌, length, true, IfOk};
+ghost use Rattle.std.specs.Prelude.{◌≡◌, ◌<◌, true, IfOk};
 ghost use Rattle.term_core.specs.Tree.{children};
 ghost use Rattle.strategy_syntax.specs.Heads.{head_of};
 ghost use Rattle.strategy_meaning.specs.Matching.{elements};
@@ -11,7 +11,7 @@ ghost use Rattle.strategy_machine.specs.Leading.{Has};
 ghost use Rattle.strategy_machine.specs.inside.Taking.{Takes, TakeFalls};
 
 use crate::children::go_on;
-use crate::frames::{Acts, Frame, Turned, Walk, wait};
+use crate::frames::{Acts, Frame, Turned, Walk};
 use crate::machine::Machine;
 use std::alloc::Global;
 use std::mem;
@@ -74,7 +74,7 @@ pub(crate) fn take_tail<'t>(
     if count == 1 {
         return take_head(alloc, m, &strategies[0], tail, scope);
     }
-    wait(&mut m.frames, Frame::Tail { tail, scope, count })?;
+    m.frames.wait(Frame::Tail { tail, scope, count })?;
     m.parts.clear();
     go_on(alloc, m, Acts::List(strategies), scope, 0)
 }
@@ -101,20 +101,17 @@ fn take_head<'t>(
     }
     let node = mem::replace(&mut m.part, child);
     let edits = m.trail.count;
-    wait(
-        &mut m.frames,
-        Frame::Head {
-            tail,
-            scope,
-            walk: Walk {
-                node,
-                parts: Vec::new(alloc),
-                index: 0,
-                level,
-                edits,
-            },
+    m.frames.wait(Frame::Head {
+        tail,
+        scope,
+        walk: Walk {
+            node,
+            parts: Vec::new(alloc),
+            index: 0,
+            level,
+            edits,
         },
-    )?;
+    })?;
     m.level += 1;
     Ok(m.begins(first, scope))
 }

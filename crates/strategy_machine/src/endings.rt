@@ -3,31 +3,32 @@
 //! then reuses that frame, and the scopes that it doesn't need end at once. So a tail-recursive
 //! loop, by `rec` or by calls that pass all names on, takes constant space.
 
-ghost use Rattle.std.specs.Prelude.{◌≡◌, ◌<◌, ◌≤◌, ◌-◌, ◌^◌, length, reverse, IfSome, OnOk};
+ghost use Rattle.std.specs.Prelude.{◌<◌, ◌≤◌, ◌-◌, ◌^◌, length, reverse, IfSome, OnOk};
 ghost use Rattle.strategy_machine.specs.Table.{scopes as scopes_of};
 ghost use Rattle.strategy_machine.specs.inside.Endings.{LeavesScopes, LeavesCells, ScopesEnd, CellsEnd};
 
-use crate::frames::{Frame, wait};
+use crate::frames::Frame;
 use crate::machine::Machine;
+use crate::stack::{Frames, Slot};
 use term_core::NoMemory;
 
 // How many scopes the innermost frame keeps, if it ends any.
-fn scopes_left(frames: &[Frame<'_>]) -> Option<usize>
+fn scopes_left(frames: &Frames<'_>) -> Option<usize>
     ensures { IfSome result (λ k. LeavesScopes (reverse frames.now) k) }
 {
     match frames.last()? {
-        Frame::Leave { scopes } => Some(*scopes),
-        Frame::Cut { scopes, .. } => Some(*scopes),
+        Slot::Leave { scopes } => Some(scopes),
+        Slot::Cut { scopes, .. } => Some(scopes),
         _ => None,
     }
 }
 
 // How many scopes the innermost frame keeps, if it ends cells too.
-fn scopes_left_with_cells(frames: &[Frame<'_>]) -> Option<usize>
+fn scopes_left_with_cells(frames: &Frames<'_>) -> Option<usize>
     ensures { IfSome result (λ k. LeavesCells (reverse frames.now) k) }
 {
     match frames.last()? {
-        Frame::Cut { scopes, .. } => Some(*scopes),
+        Slot::Cut { scopes, .. } => Some(scopes),
         _ => None,
     }
 }
@@ -53,7 +54,7 @@ pub(crate) fn end_scopes<'t>(m: &mut Machine<'t>, scope: usize) -> Result<(), No
             Ok(())
         }
         None => {
-            wait(&mut m.frames, Frame::Leave { scopes })?;
+            m.frames.wait(Frame::Leave { scopes })?;
             Ok(())
         }
     }
@@ -73,7 +74,7 @@ pub(crate) fn end_cells<'t>(m: &mut Machine<'t>, scope: usize) -> Result<(), NoM
             Ok(())
         }
         None => {
-            wait(&mut m.frames, Frame::Cut { cells, scopes })?;
+            m.frames.wait(Frame::Cut { cells, scopes })?;
             Ok(())
         }
     }

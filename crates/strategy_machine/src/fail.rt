@@ -1,18 +1,24 @@
 //! Giving failures to frames.
 
-ghost use Rattle.std.specs.Prelude.{◌≡◌, IfOk};
+ghost use Rattle.std.specs.Prelude.{◌≡◌, ℕ, IfOk};
+ghost use Rattle.std.specs.Borrow.{Bor};
+ghost use Rattle.strategy_syntax.specs.Resolved.{ResolvedStrategy as Resolving};
+ghost use Rattle.strategy_machine.specs.declared.frames.Acts.{Acts};
 ghost use Rattle.strategy_meaning.specs.Answer.{Answer};
 ghost use Rattle.strategy_meaning.specs.Meaning.{World};
 ghost use Rattle.term_changes.specs.Standing.{Standing};
 ghost use Rattle.strategy_machine.specs.Hands.{Failed};
 ghost use Rattle.strategy_machine.specs.Turns.{Turn, Falls, Holds};
-ghost use Rattle.strategy_machine.specs.inside.Turning.{Gives, IsOfRun, GiveFalls};
+ghost use Rattle.strategy_machine.specs.inside.Slots.{EndsWith};
 
 use crate::children::{go_over, try_on};
-use crate::frames::{Frame, Turned, drop_changed, drop_part, drop_parts, drop_walk, put};
+use crate::frames::{Turned, drop_changed, drop_part, drop_parts, drop_walk, put};
 use crate::machine::Machine;
+use crate::stack::{First, Front, Slot, Start};
 use std::alloc::Global;
+use strategy_syntax::ResolvedStrategy;
 use term_core::NoMemory;
+use term_match::Mark;
 use term_values::Part;
 
 /// Gives a failure to the innermost frame.
@@ -21,9 +27,9 @@ pub(crate) fn give_failed<'t>(alloc: Global, m: &mut Machine<'t>) -> Result<Turn
     ensures ok { (W : World) → IfOk result (λ next. Turn W m.old Failed m.new next) }
     ensures less { IfOk result (λ next. Falls m.old Failed m.new next) }
 {
-    match m.frames.pop() {
+    match m.frames.last() {
         None => Ok(Turned::Failed),
-        Some(frame) => fail(alloc, m, frame),
+        Some(slot) => fail(alloc, m, slot),
     }
 }
 
@@ -35,105 +41,199 @@ fn put_parts<'t>(place: &mut Vec<Part<'t>>, parts: Vec<Part<'t>>)
     *place = parts;
 }
 
+// By the kind of the innermost frame.
 #[inline(always)]
-fn fail<'t>(alloc: Global, m: &mut Machine<'t>, frame: Frame<'t>) -> Result<Turned, NoMemory>
-    requires { IsOfRun frame m.old Failed }
-    ensures ok { (W : World) → IfOk result (λ next. Gives W frame.entry m.old Failed m.new next) }
-    ensures less { IfOk result (λ next. GiveFalls m.old m.new next) }
+fn fail<'t>(alloc: Global, m: &mut Machine<'t>, slot: Slot<'t>) -> Result<Turned, NoMemory>
+    requires run { (W : World) × (sub : Standing) × (whole : Answer) × Holds W sub whole m.old Failed }
+    requires last { EndsWith slot m.old.frames }
+    ensures ok { (W : World) → IfOk result (λ next. Turn W m.old Failed m.new next) }
+    ensures less { IfOk result (λ next. Falls m.old Failed m.new next) }
 {
-    match frame {
-        Frame::Then { .. } => Ok(m.fails()),
-        Frame::Choose {
+    match slot {
+        Slot::Then { .. } => {
+            m.frames.pop();
+            Ok(m.fails())
+        }
+        Slot::Choose {
             otherwise,
             scope,
-            start,
-            edits,
             mark,
             ..
-        } => {
-            m.trail.cut(edits);
-            m.cells.back_to(mark);
-            put(&mut m.part, start);
-            Ok(m.begins(otherwise, scope))
-        }
-        Frame::Restore { start, edits } => {
-            drop_part(start);
-            m.trail.cut(edits);
-            Ok(m.fails())
-        }
-        Frame::Each { walk, .. } => {
-            m.trail.cut(walk.edits);
-            m.level = walk.level;
-            drop_walk(walk);
-            Ok(m.fails())
-        }
-        Frame::Leftmost {
+        } => fail_choice(m, otherwise, scope, mark),
+        Slot::Restore => fail_test(m),
+        Slot::Each { .. } => fail_each(m),
+        Slot::Leftmost {
             strategy,
             scope,
-            walk,
             mark,
-        } => {
-            let Some(next) = walk.index.checked_add(1) else {
-                drop_walk(walk);
-                return Err(NoMemory);
-            };
-            m.trail.cut(walk.edits);
-            m.level = walk.level;
-            m.cells.back_to(mark);
-            drop_parts(walk.parts);
-            put(&mut m.part, walk.node);
-            try_on(alloc, m, strategy, scope, next)
-        }
-        Frame::Those {
+        } => fail_leftmost(alloc, m, strategy, scope, mark),
+        Slot::Those {
             strategy,
             scope,
-            walk,
             mark,
             any,
-        } => {
-            let Some(next) = walk.index.checked_add(1) else {
-                drop_walk(walk);
-                return Err(NoMemory);
-            };
-            m.trail.cut(walk.edits);
-            m.level = walk.level;
-            m.cells.back_to(mark);
-            put(&mut m.part, walk.node);
-            put_parts(&mut m.parts, walk.parts);
-            go_over(alloc, m, strategy, scope, next, any)
-        }
-        Frame::Tail { .. } => Ok(m.fails()),
-        Frame::Rest {
-            node,
-            parts,
-            edits,
-            ..
-        } => {
-            drop_parts(parts);
-            drop_part(node);
-            m.trail.cut(edits);
+        } => fail_those(alloc, m, strategy, scope, mark, any),
+        Slot::Tail { .. } => {
+            m.frames.pop();
             Ok(m.fails())
         }
-        Frame::Head { walk, .. } => {
-            m.trail.cut(walk.edits);
-            m.level = walk.level;
-            drop_walk(walk);
-            Ok(m.fails())
-        }
-        Frame::After { node, first, edits } => {
-            drop_changed(first);
-            drop_part(node);
-            m.trail.cut(edits);
-            Ok(m.fails())
-        }
-        Frame::Leave { scopes } => {
+        Slot::Rest { edits, .. } => fail_rest(m, edits),
+        Slot::Head { .. } => fail_head(m),
+        Slot::After { edits } => fail_after(m, edits),
+        Slot::Leave { scopes } => {
+            m.frames.pop();
             m.scopes.cut(scopes);
             Ok(m.fails())
         }
-        Frame::Cut { cells, scopes } => {
+        Slot::Cut { cells, scopes } => {
+            m.frames.pop();
             m.cells.close_to(cells);
             m.scopes.cut(scopes);
             Ok(m.fails())
         }
     }
+}
+
+// Goes back to the start, and on to the last branch.
+#[inline(always)]
+fn fail_choice<'t>(
+    m: &mut Machine<'t>,
+    otherwise: &'t ResolvedStrategy,
+    scope: usize,
+    mark: Mark,
+) -> Result<Turned, NoMemory>
+    requires run { (W : World) × (sub : Standing) × (whole : Answer) × Holds W sub whole m.old Failed }
+    requires last { (then : Bor Resolving) × EndsWith (Slot.Choose then otherwise scope mark) m.old.frames }
+    ensures ok { (W : World) → IfOk result (λ next. Turn W m.old Failed m.new next) }
+    ensures less { IfOk result (λ next. Falls m.old Failed m.new next) }
+{
+    let Start { part, edits } = m.frames.pop_start();
+    m.trail.cut(edits);
+    m.cells.back_to(mark);
+    put(&mut m.part, part);
+    Ok(m.begins(otherwise, scope))
+}
+
+// A test fails, and its edits are forgotten; so too in the functions below.
+#[inline(always)]
+fn fail_test<'t>(m: &mut Machine<'t>) -> Result<Turned, NoMemory>
+    requires { EndsWith Slot.Restore m.old.frames }
+    ensures ok { (W : World) → IfOk result (λ next. Turn W m.old Failed m.new next) }
+    ensures less { IfOk result (λ next. Falls m.old Failed m.new next) }
+{
+    let Start { part, edits } = m.frames.pop_start();
+    drop_part(part);
+    m.trail.cut(edits);
+    Ok(m.fails())
+}
+
+// A child failed, so the node fails.
+#[inline(always)]
+fn fail_each<'t>(m: &mut Machine<'t>) -> Result<Turned, NoMemory>
+    requires { (acts : Acts) × (scope : ℕ) × EndsWith (Slot.Each acts scope) m.old.frames }
+    ensures ok { (W : World) → IfOk result (λ next. Turn W m.old Failed m.new next) }
+    ensures less { IfOk result (λ next. Falls m.old Failed m.new next) }
+{
+    let walk = m.frames.pop_walk();
+    m.trail.cut(walk.edits);
+    m.level = walk.level;
+    drop_walk(walk);
+    Ok(m.fails())
+}
+
+// The first element failed, so the list fails.
+#[inline(always)]
+fn fail_head<'t>(m: &mut Machine<'t>) -> Result<Turned, NoMemory>
+    requires { (tail : Bor Resolving) × (scope : ℕ) × EndsWith (Slot.Head tail scope) m.old.frames }
+    ensures ok { (W : World) → IfOk result (λ next. Turn W m.old Failed m.new next) }
+    ensures less { IfOk result (λ next. Falls m.old Failed m.new next) }
+{
+    let walk = m.frames.pop_walk();
+    m.trail.cut(walk.edits);
+    m.level = walk.level;
+    drop_walk(walk);
+    Ok(m.fails())
+}
+
+// Tries the next child.
+#[inline(always)]
+fn fail_leftmost<'t>(
+    alloc: Global,
+    m: &mut Machine<'t>,
+    strategy: &'t ResolvedStrategy,
+    scope: usize,
+    mark: Mark,
+) -> Result<Turned, NoMemory>
+    requires run { (W : World) × (sub : Standing) × (whole : Answer) × Holds W sub whole m.old Failed }
+    requires last { EndsWith (Slot.Leftmost strategy scope mark) m.old.frames }
+    ensures ok { (W : World) → IfOk result (λ next. Turn W m.old Failed m.new next) }
+    ensures less { IfOk result (λ next. Falls m.old Failed m.new next) }
+{
+    let walk = m.frames.pop_walk();
+    let Some(next) = walk.index.checked_add(1) else {
+        drop_walk(walk);
+        return Err(NoMemory);
+    };
+    m.trail.cut(walk.edits);
+    m.level = walk.level;
+    m.cells.back_to(mark);
+    drop_parts(walk.parts);
+    put(&mut m.part, walk.node);
+    try_on(alloc, m, strategy, scope, next)
+}
+
+// Continues with the next child after a failure.
+#[inline(always)]
+fn fail_those<'t>(
+    alloc: Global,
+    m: &mut Machine<'t>,
+    strategy: &'t ResolvedStrategy,
+    scope: usize,
+    mark: Mark,
+    any: bool,
+) -> Result<Turned, NoMemory>
+    requires run { (W : World) × (sub : Standing) × (whole : Answer) × Holds W sub whole m.old Failed }
+    requires last { EndsWith (Slot.Those strategy scope mark any) m.old.frames }
+    ensures ok { (W : World) → IfOk result (λ next. Turn W m.old Failed m.new next) }
+    ensures less { IfOk result (λ next. Falls m.old Failed m.new next) }
+{
+    let walk = m.frames.pop_walk();
+    let Some(next) = walk.index.checked_add(1) else {
+        drop_walk(walk);
+        return Err(NoMemory);
+    };
+    m.trail.cut(walk.edits);
+    m.level = walk.level;
+    m.cells.back_to(mark);
+    put(&mut m.part, walk.node);
+    put_parts(&mut m.parts, walk.parts);
+    go_over(alloc, m, strategy, scope, next, any)
+}
+
+// The rest of a list failed, so the list fails.
+#[inline(always)]
+fn fail_rest<'t>(m: &mut Machine<'t>, edits: usize) -> Result<Turned, NoMemory>
+    requires { (count : ℕ) × EndsWith (Slot.Rest count edits) m.old.frames }
+    ensures ok { (W : World) → IfOk result (λ next. Turn W m.old Failed m.new next) }
+    ensures less { IfOk result (λ next. Falls m.old Failed m.new next) }
+{
+    let Front { node, parts } = m.frames.pop_front();
+    drop_parts(parts);
+    drop_part(node);
+    m.trail.cut(edits);
+    Ok(m.fails())
+}
+
+// The same for the rest after the first element.
+#[inline(always)]
+fn fail_after<'t>(m: &mut Machine<'t>, edits: usize) -> Result<Turned, NoMemory>
+    requires { EndsWith (Slot.After edits) m.old.frames }
+    ensures ok { (W : World) → IfOk result (λ next. Turn W m.old Failed m.new next) }
+    ensures less { IfOk result (λ next. Falls m.old Failed m.new next) }
+{
+    let First { node, part } = m.frames.pop_first();
+    drop_changed(part);
+    drop_part(node);
+    m.trail.cut(edits);
+    Ok(m.fails())
 }

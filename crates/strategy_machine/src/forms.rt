@@ -1,6 +1,6 @@
 //! Matching, building, sequences, choices and tests.
 
-ghost use Rattle.std.specs.Prelude.{◌≡◌, IfOk, OnOk};
+ghost use Rattle.std.specs.Prelude.{IfOk, OnOk};
 ghost use Rattle.strategy_syntax.specs.Resolved.{matches, builds, param, seq, guard, test};
 ghost use Rattle.strategy_meaning.specs.Meaning.{World};
 ghost use Rattle.strategy_machine.specs.Turns.{world_of};
@@ -8,7 +8,7 @@ ghost use Rattle.strategy_machine.specs.inside.Taking.{Takes, TakeFalls, Replace
 
 use crate::alternatives::after_rules;
 use crate::choices::rewrite_or;
-use crate::frames::{Frame, Turned, drop_value, put, wait};
+use crate::frames::{Frame, Turned, drop_value, put};
 use crate::heads::{MOST, left_by_failure};
 use crate::machine::{Host, InTable, Machine};
 use prim_core::Meaning;
@@ -104,13 +104,10 @@ pub(crate) fn take_seq<'t>(
         Form::Match(pattern) => match_first(alloc, m, pattern, second, scope),
         Form::Param(name) => named_first(m, *name, second, scope),
         _ => {
-            wait(
-                &mut m.frames,
-                Frame::Then {
-                    strategy: second,
-                    scope,
-                },
-            )?;
+            m.frames.wait(Frame::Then {
+                strategy: second,
+                scope,
+            })?;
             Ok(m.begins(first, scope))
         }
     }
@@ -142,13 +139,10 @@ fn named_first<'t>(
         m.steps -= 1;
         return Ok(m.begins(second, scope));
     }
-    wait(
-        &mut m.frames,
-        Frame::Then {
-            strategy: second,
-            scope,
-        },
-    )?;
+    m.frames.wait(Frame::Then {
+        strategy: second,
+        scope,
+    })?;
     Ok(m.begins(known.strategy, known.written_in))
 }
 
@@ -223,17 +217,14 @@ pub(crate) fn take_guard<'t, M: Meaning>(
     let start = m.part.try_clone()?;
     let mark = m.cells.mark();
     let edits = m.trail.count;
-    wait(
-        &mut m.frames,
-        Frame::Choose {
-            then: second,
-            otherwise: other,
-            scope,
-            start,
-            edits,
-            mark,
-        },
-    )?;
+    m.frames.wait(Frame::Choose {
+        then: second,
+        otherwise: other,
+        scope,
+        start,
+        edits,
+        mark,
+    })?;
     Ok(m.begins(first, scope))
 }
 
@@ -248,6 +239,6 @@ pub(crate) fn take_test<'t>(
 {
     let start = m.part.try_clone()?;
     let edits = m.trail.count;
-    wait(&mut m.frames, Frame::Restore { start, edits })?;
+    m.frames.wait(Frame::Restore { start, edits })?;
     Ok(m.begins(inner, scope))
 }

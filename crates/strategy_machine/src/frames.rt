@@ -1,9 +1,8 @@
 //! Frames, which wait for an answer, and what to do next.
 
-ghost use Rattle.std.specs.Prelude.{◌≡◌, ◌+◌, ◌++◌, ◌∷◌, [], vec_len, OnOk};
+ghost use Rattle.std.specs.Prelude.{◌≡◌};
 
 use strategy_syntax::ResolvedStrategy;
-use term_core::NoMemory;
 use term_match::Mark;
 use term_values::{Part, Value};
 
@@ -157,49 +156,10 @@ pub(crate) fn drop_walk(walk: Walk<'_>) {
     drop_part(node);
 }
 
-fn drop_frame(frame: Frame<'_>) {
-    match frame {
-        Frame::Choose { start, .. } => drop_part(start),
-        Frame::Restore { start, .. } => drop_part(start),
-        Frame::Each { walk, .. } => drop_walk(walk),
-        Frame::Leftmost { walk, .. } => drop_walk(walk),
-        Frame::Those { walk, .. } => drop_walk(walk),
-        Frame::Rest { node, parts, .. } => {
-            drop_parts(parts);
-            drop_part(node);
-        }
-        Frame::Head { walk, .. } => drop_walk(walk),
-        Frame::After { node, first, .. } => {
-            drop_changed(first);
-            drop_part(node);
-        }
-        Frame::Then { .. } | Frame::Tail { .. } | Frame::Leave { .. } | Frame::Cut { .. } => (),
-    }
-}
-
 /// Replaces a part, and drops the old one here.
 #[inline(always)]
 pub(crate) fn put<'t>(place: &mut Part<'t>, part: Part<'t>)
     ensures { place.new ≡ part.entry }
 {
     *place = part;
-}
-
-/// Pushes a frame.
-#[inline(always)]
-pub(crate) fn wait<'t>(frames: &mut Vec<Frame<'t>>, frame: Frame<'t>) -> Result<(), NoMemory>
-    ensures items { OnOk result (frames.new.items ≡ frames.old.items ++ frame.entry ∷ []) }
-    ensures len { OnOk result (vec_len frames.new ≡ vec_len frames.old + 1) }
-{
-    // a refused push would hand the frame back, which costs a copy
-    match frames.reserve(1) {
-        Ok(()) => {
-            frames.push_reserved(frame);
-            Ok(())
-        }
-        Err(_) => {
-            drop_frame(frame);
-            Err(NoMemory)
-        }
-    }
 }

@@ -1,21 +1,24 @@
 //! Lists whose first elements and whose rest have strategies of their own.
 
-ghost use Rattle.std.specs.Prelude.{◌≡◌, ◌≤◌, ◌++◌, cond, length, map, reverse, slice_get, take, Some, None, IfOk, IfSome, MatchOption};
+ghost use Rattle.std.specs.Prelude.{◌≡◌, ◌≤◌, ◌++◌, cond, length, map, slice_get, take, Some, None, IfOk, IfSome, MatchOption};
 ghost use Rattle.term_core.specs.Tree.{children, with_children};
 ghost use Rattle.strategy_meaning.specs.Matching.{elements};
+ghost use Rattle.strategy_meaning.specs.Answer.{Answer};
 ghost use Rattle.strategy_meaning.specs.Meaning.{World};
-ghost use Rattle.term_changes.specs.Standing.{standing_tree};
+ghost use Rattle.term_changes.specs.Standing.{Standing, standing_tree};
 ghost use Rattle.strategy_machine.specs.Hands.{Done};
 ghost use Rattle.strategy_machine.specs.Leading.{PartsStand, parts_now, all_parts, node_with};
 ghost use Rattle.strategy_machine.specs.Frames.{first_part};
-ghost use Rattle.strategy_machine.specs.Turns.{Turn};
-ghost use Rattle.strategy_machine.specs.inside.Turning.{Gives, IsOfRun, GiveFalls, EndFalls, Waits};
+ghost use Rattle.strategy_machine.specs.Turns.{Turn, Falls, Holds};
+ghost use Rattle.strategy_machine.specs.inside.Slots.{EndsWith};
+ghost use Rattle.strategy_machine.specs.inside.Turning.{Gives, GiveFalls, EndFalls};
 
 use crate::children::finish;
 use crate::forms::replace;
-use crate::frames::{Frame, Turned, Walk, drop_changed, drop_part, drop_parts, drop_value, wait};
+use crate::frames::{Frame, Turned, Walk, drop_changed, drop_part, drop_parts, drop_value};
 use crate::heads::is_list as is_list_part;
 use crate::machine::Machine;
+use crate::stack::{First, Frames, Front, Slot};
 use crate::tails::{first_values, in_front, rest_after, rest_of_part, with_rest_after};
 use std::alloc::Global;
 use std::mem;
@@ -33,21 +36,23 @@ pub(crate) fn give_tail<'t>(
     scope: usize,
     count: usize,
 ) -> Result<Turned, NoMemory>
-    requires { IsOfRun (Frame.Tail tail scope count) m.old (Done m.old.part) }
-    ensures ok { (W : World) → IfOk result (λ next. Gives W (Frame.Tail tail.entry scope count) m.old (Done m.old.part) m.new next) }
-    ensures less { IfOk result (λ next. GiveFalls m.old m.new next) }
+    requires run { (W : World) × (sub : Standing) × (whole : Answer) × Holds W sub whole m.old (Done m.old.part) }
+    requires last { EndsWith (Slot.Tail tail scope count) m.old.frames }
+    ensures ok { (W : World) → IfOk result (λ next. Turn W m.old (Done m.old.part) m.new next) }
+    ensures less { IfOk result (λ next. Falls m.old (Done m.old.part) m.new next) }
 {
+    m.frames.pop();
     m.parts = Vec::new(alloc);
     begin_tail(alloc, m, tail, scope, count)
 }
 
 // If the innermost frame waits for the first elements of a list: the strategy for the rest, its
 // scope, and the number of elements before the rest.
-fn waiting_tail<'t>(frames: &[Frame<'t>]) -> Option<(&'t ResolvedStrategy, usize, usize)>
-    ensures { IfSome result (λ w. Waits (reverse frames.now) w.0 w.1 w.2) }
+fn waiting_tail<'t>(frames: &Frames<'t>) -> Option<(&'t ResolvedStrategy, usize, usize)>
+    ensures { IfSome result (λ w. EndsWith (Slot.Tail w.0 w.1 w.2) frames.now) }
 {
     match frames.last()? {
-        Frame::Tail { tail, scope, count } => Some((*tail, *scope, *count)),
+        Slot::Tail { tail, scope, count } => Some((tail, scope, count)),
         _ => None,
     }
 }
@@ -61,7 +66,7 @@ pub(crate) fn end_each<'t>(alloc: Global, m: &mut Machine<'t>) -> Result<Turned,
 {
     if let Some((tail, scope, count)) = waiting_tail(&m.frames) {
         if m.parts.len() <= count {
-            m.frames.truncate(m.frames.len() - 1);
+            m.frames.pop();
             return begin_tail(alloc, m, tail, scope, count);
         }
     }
@@ -90,15 +95,12 @@ fn begin_tail<'t>(
     let node = mem::replace(&mut m.part, Part::new(rest));
     let parts = mem::replace(&mut m.parts, Vec::new(alloc));
     let edits = m.trail.count;
-    wait(
-        &mut m.frames,
-        Frame::Rest {
-            node,
-            parts,
-            count,
-            edits,
-        },
-    )?;
+    m.frames.wait(Frame::Rest {
+        node,
+        parts,
+        count,
+        edits,
+    })?;
     Ok(m.begins(tail, scope))
 }
 
@@ -106,14 +108,14 @@ fn begin_tail<'t>(
 pub(crate) fn give_rest<'t>(
     alloc: Global,
     m: &mut Machine<'t>,
-    node: Part<'t>,
-    parts: Vec<Part<'t>>,
     count: usize,
     edits: usize,
 ) -> Result<Turned, NoMemory>
-    ensures ok { (W : World) → IfOk result (λ next. Gives W (Frame.Rest node.entry parts.entry count edits) m.old (Done m.old.part) m.new next) }
-    ensures less { IfOk result (λ next. GiveFalls m.old m.new next) }
+    requires { EndsWith (Slot.Rest count edits) m.old.frames }
+    ensures ok { (W : World) → IfOk result (λ next. Turn W m.old (Done m.old.part) m.new next) }
+    ensures less { IfOk result (λ next. Falls m.old (Done m.old.part) m.new next) }
 {
+    let Front { node, parts } = m.frames.pop_front();
     m.trail.cut(edits);
     let found = after_those(alloc, &node, &parts, count, &m.part);
     drop_parts(parts);
@@ -190,30 +192,27 @@ pub(crate) fn give_head<'t>(
     m: &mut Machine<'t>,
     tail: &'t ResolvedStrategy,
     scope: usize,
-    walk: Walk<'t>,
 ) -> Result<Turned, NoMemory>
-    ensures ok { (W : World) → IfOk result (λ next. Gives W (Frame.Head tail.entry scope walk.entry) m.old (Done m.old.part) m.new next) }
-    ensures less { IfOk result (λ next. GiveFalls m.old m.new next) }
+    requires { EndsWith (Slot.Head tail scope) m.old.frames }
+    ensures ok { (W : World) → IfOk result (λ next. Turn W m.old (Done m.old.part) m.new next) }
+    ensures less { IfOk result (λ next. Falls m.old (Done m.old.part) m.new next) }
 {
     let Walk {
         node,
         level,
         edits,
         ..
-    } = walk;
+    } = m.frames.pop_walk();
     m.level = level;
     let rest = rest_of_part(alloc, &node, 1)?;
     let child = mem::replace(&mut m.part, Part::new(rest));
     let now = m.trail.count;
     let first = where_changed(child, now != edits);
-    wait(
-        &mut m.frames,
-        Frame::After {
-            node,
-            first,
-            edits: now,
-        },
-    )?;
+    m.frames.wait(Frame::After {
+        node,
+        first,
+        edits: now,
+    })?;
     Ok(m.begins(tail, scope))
 }
 
@@ -267,14 +266,14 @@ fn after_first<'t>(
 pub(crate) fn give_after<'t>(
     alloc: Global,
     m: &mut Machine<'t>,
-    node: Part<'t>,
-    first: Option<Part<'t>>,
     edits: usize,
 ) -> Result<Turned, NoMemory>
-    requires { IsOfRun (Frame.After node first edits) m.old (Done m.old.part) }
-    ensures ok { (W : World) → IfOk result (λ next. Gives W (Frame.After node.entry first.entry edits) m.old (Done m.old.part) m.new next) }
-    ensures less { IfOk result (λ next. GiveFalls m.old m.new next) }
+    requires run { (W : World) × (sub : Standing) × (whole : Answer) × Holds W sub whole m.old (Done m.old.part) }
+    requires last { EndsWith (Slot.After edits) m.old.frames }
+    ensures ok { (W : World) → IfOk result (λ next. Turn W m.old (Done m.old.part) m.new next) }
+    ensures less { IfOk result (λ next. Falls m.old (Done m.old.part) m.new next) }
 {
+    let First { node, part: first } = m.frames.pop_first();
     m.trail.cut(edits);
     let rest = mem::replace(&mut m.part, node);
     if !is_list_part(&rest) {

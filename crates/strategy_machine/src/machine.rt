@@ -1,6 +1,6 @@
 //! The state of a run.
 
-ghost use Rattle.std.specs.Prelude.{◌≡◌, [], slice_get};
+ghost use Rattle.std.specs.Prelude.{◌≡◌, []};
 ghost use Rattle.strategy_meaning.specs.Scopes.{cells_in};
 ghost use Rattle.strategy_machine.specs.Table.{scopes as scopes_of, scope_at};
 ghost use Rattle.strategy_meaning.specs.Answer.{Answer};
@@ -10,8 +10,9 @@ ghost use Rattle.strategy_machine.specs.Hands.{Begin, Done, Failed};
 ghost use Rattle.strategy_machine.specs.Turns.{Holds, After};
 ghost use Rattle.strategy_machine.specs.inside.Turning.{with_next};
 
-use crate::frames::{Frame, Next, Turned};
+use crate::frames::{Next, Turned};
 use crate::scopes::Scopes;
+use crate::stack::Frames;
 use crate::trail::Trail;
 use prim_core::{Meaning, Primitives};
 use std::alloc::Global;
@@ -36,7 +37,7 @@ pub struct Machine<'t> {
     /// Parts in the places of the first children of the focus, up to the last changed one. They
     /// count if its children are visited next.
     pub parts: Vec<Part<'t>>,
-    pub frames: Vec<Frame<'t>>,
+    pub frames: Frames<'t>,
     pub cells: Cells<'t>,
     pub scopes: Scopes<'t>,
     pub trail: Trail<'t>,
@@ -55,7 +56,7 @@ impl<'t> Machine<'t> {
         level: u64,
         steps: u64,
     ) -> Machine<'t>
-        ensures frames { result.frames.items ≡ [] }
+        ensures frames { result.frames ≡ [] }
         ensures cells { result.cells.bindings ≡ [] }
         ensures scopes { scopes_of result.scopes ≡ [] }
         ensures trail { result.trail ≡ trail.entry }
@@ -66,7 +67,7 @@ impl<'t> Machine<'t> {
             next: Next::Done,
             part: Part::original(term),
             parts: Vec::new(alloc),
-            frames: Vec::new(alloc),
+            frames: Frames::new(alloc),
             cells: Cells::new(alloc),
             scopes: Scopes::new(alloc),
             trail,

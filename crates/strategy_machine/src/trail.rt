@@ -4,9 +4,8 @@ ghost use Rattle.std.specs.Prelude.{◌≡◌, ◌++◌, ◌∷◌, [], length, 
 ghost use Rattle.term_paths.specs.Edits.{Edits, prefixed};
 ghost use Rattle.term_changes.specs.Putting.{entry_at, entries_at};
 ghost use Rattle.strategy_machine.specs.Trails.{Shows, path_of};
-ghost use Rattle.strategy_machine.specs.inside.Steps.{step_of};
 
-use crate::frames::Frame;
+use crate::stack::Frames;
 use std::alloc::Global;
 use std::marker::Model;
 use term_changes::{Entry, Plan};
@@ -91,7 +90,7 @@ impl<'t> Trail<'t> {
     pub(crate) fn push(
         &mut self,
         alloc: Global,
-        frames: &[Frame<'t>],
+        frames: &Frames<'t>,
         value: &Value<'t>,
     ) -> Result<(), NoMemory>
         ensures { OnOk result ((T : Edits) → Shows self.old T
@@ -128,40 +127,15 @@ impl<'t> Trail<'t> {
 fn keep<'t>(
     alloc: Global,
     made: &mut Vec<Made<'t>>,
-    frames: &[Frame<'t>],
+    frames: &Frames<'t>,
     value: &Value<'t>,
 ) -> Result<(), NoMemory>
     ensures { OnOk result (made.new.items ≡ made.old.items ++ record { path = path_of (reverse frames.now); new = value.now } ∷ []) }
 {
-    let path = path_through(alloc, frames)?;
+    let path = frames.path(alloc)?;
     made.push(Made {
         path,
         value: value.try_clone()?,
     })?;
-    Ok(())
-}
-
-// The path that the frames lead to, the outermost frame first.
-fn path_through(alloc: Global, frames: &[Frame<'_>]) -> Result<Vec<usize>, NoMemory>
-    ensures { IfOk result (λ path. path.items ≡ path_of (reverse frames.now)) }
-{
-    let mut path = Vec::new(alloc);
-    'outermost: for i in 0..frames.len() {
-        add_step(&mut path, &frames[i])?;
-    }
-    Ok(path)
-}
-
-// The child that the frame visits, if it visits one.
-fn add_step(path: &mut Vec<usize>, frame: &Frame<'_>) -> Result<(), NoMemory>
-    ensures { OnOk result (path.new.items ≡ path.old.items ++ step_of frame.now) }
-{
-    match frame {
-        Frame::Each { walk, .. } => path.push(walk.index)?,
-        Frame::Leftmost { walk, .. } => path.push(walk.index)?,
-        Frame::Those { walk, .. } => path.push(walk.index)?,
-        Frame::Head { walk, .. } => path.push(walk.index)?,
-        _ => (),
-    }
     Ok(())
 }

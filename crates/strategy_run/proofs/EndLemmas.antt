@@ -25,7 +25,7 @@ pub starts : (W : World) (m : Machine) (D : CellContents) (bs es : List Scope) (
     → IsEmpty m → D.bindings ≡ m.cells.bindings ++ replicate r.variables None → n ≡ length bs
     → es ≡ bs ++ with_variables nowhere 0 r.variables ∷ [] → p ≡ unchanged t → s.now ≡ r.strategy
     → HoldsIn W (unchanged t) (run_whole W m.level r m.steps t)
-    (record { cells = D; scopes = es; trail = m.trail; level = m.level; frames = reverse m.frames.items; steps = m.steps }) (Begin s n p)
+    (record { cells = D; scopes = es; trail = m.trail; level = m.level; frames = reverse m.frames; steps = m.steps }) (Begin s n p)
 starts W m D bs es r s t n p k de ne ee pe se =
     let E = inside (numbers_from 0 r.variables) no_closures in
     let there = one_more_is bs es (with_variables nowhere 0 r.variables) ne ee in

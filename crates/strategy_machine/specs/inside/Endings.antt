@@ -1,5 +1,5 @@
 -- Where scopes and cells that a strategy adds end.
-use Rattle.std.specs.Prelude.{◌≡◌, ◌<◌, ◌≤◌, ℕ, ◌+◌, List, [], ◌∷◌, ◌++◌, length, map, replicate, reverse, vec_len, Some, None}
+use Rattle.std.specs.Prelude.{◌≡◌, ◌<◌, ◌≤◌, ℕ, ◌+◌, List, [], ◌∷◌, ◌++◌, length, map, replicate, reverse, Some, None}
 use Rattle.term_paths.specs.Edits.{Edits}
 use Rattle.term_changes.specs.Standing.{Standing}
 use Rattle.strategy_syntax.specs.Resolved.{ResolvedStrategies}
@@ -45,7 +45,7 @@ abbrev pub with_those : State → CellContents → List Scope → List Frame →
 with_those S C es fs = record { cells = C; scopes = es; trail = S.trail; level = S.level; frames = fs; steps = S.steps }
 
 abbrev pub frames_of : Machine → List Frame
-frames_of m = reverse m.frames.items
+frames_of m = reverse m.frames
 
 -- The frames end scopes that are added from now on, and scope n still exists.
 pub record ScopesEnd (m : Machine) (n : ℕ) (new : Machine) : Type 0 where
@@ -55,7 +55,7 @@ pub record ScopesEnd (m : Machine) (n : ℕ) (new : Machine) : Type 0 where
       → (es : List Scope) → Starts (scopes new.scopes) es → AnswersIn W sub whole (with_those (state_of m) m.cells es (frames_of new)) p a
   pub part : new.part ≡ m.part
   pub rest : (new.cells ≡ m.cells) × (new.trail ≡ m.trail) × (new.arguments ≡ m.arguments) × (new.level ≡ m.level) × (new.steps ≡ m.steps)
-  pub frames : vec_len new.frames ≤ vec_len m.frames + 1
+  pub frames : length new.frames ≤ length m.frames + 1
 
 -- The same for cells and scopes: the answer is cut to the current cells.
 pub record CellsEnd (m : Machine) (n : ℕ) (new : Machine) : Type 0 where
@@ -66,7 +66,7 @@ pub record CellsEnd (m : Machine) (n : ℕ) (new : Machine) : Type 0 where
       → AnswersIn W sub whole (with_those (state_of m) D es (frames_of new)) p a
   pub part : new.part ≡ m.part
   pub rest : (new.cells ≡ m.cells) × (new.trail ≡ m.trail) × (new.arguments ≡ m.arguments) × (new.level ≡ m.level) × (new.steps ≡ m.steps)
-  pub frames : vec_len new.frames ≤ vec_len m.frames + 1
+  pub frames : length new.frames ≤ length m.frames + 1
 
 -- The body of a definition was entered, with strategies that belong to scope n: cells hold the
 -- arguments, the others are empty, and the frames end cells and scopes, if there are new ones.
@@ -80,4 +80,4 @@ pub record Enters (m : Machine) (ss : ResolvedStrategies) (d : Resolved) (n : �
       → AnswersIn W sub whole (with_those (state_of m) new.cells (scopes new.scopes) (frames_of new)) p a
   pub part : new.part ≡ m.part
   pub rest : (new.trail ≡ m.trail) × (new.level ≡ m.level) × (new.steps ≡ m.steps)
-  pub frames : vec_len new.frames ≤ vec_len m.frames + 1
+  pub frames : length new.frames ≤ length m.frames + 1

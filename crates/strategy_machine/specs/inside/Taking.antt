@@ -1,5 +1,5 @@
 -- What starting a form keeps, once its step is charged.
-use Rattle.std.specs.Prelude.{◌≡◌, ◌<◌, ℕ, ◌+◌, ◌*◌, [], ◌∷◌, ◌++◌, length, reverse, vec_len}
+use Rattle.std.specs.Prelude.{◌≡◌, ◌<◌, ℕ, ◌+◌, ◌*◌, [], ◌∷◌, ◌++◌, length, reverse}
 use Rattle.term_core.specs.Tree.{Tree}
 use Rattle.term_paths.specs.Edits.{Edits}
 use Rattle.term_changes.specs.Standing.{Standing, fresh, standing_tree}
@@ -30,7 +30,7 @@ pub record Takes (W : World) (m : Machine) (r : ResolvedStrategy) (n : ℕ) (p :
   pub keeps : (sub : Standing) (whole : Answer) → FormIn W sub whole (state_of m) r n p → After W sub whole new next
 
 abbrev pub TakeFalls : Machine → Machine → Turned → Type 0
-TakeFalls m new turns.On = load new (in_hand new) < 7 * (m.steps + 1) + 2 * vec_len m.frames
+TakeFalls m new turns.On = load new (in_hand new) < 7 * (m.steps + 1) + 2 * length m.frames
 TakeFalls m new turns.Done = Unit {0}
 TakeFalls m new turns.Failed = Unit {0}
 TakeFalls m new turns.Spent = Unit {0}
@@ -40,5 +40,5 @@ TakeFalls m new turns.Big = Unit {0}
 pub record Replaced (m : Machine) (u : Tree) (new : Machine) (p : Standing) : Type 0 where
   pub part : p ≡ fresh u
   pub shows : (T : Edits) → Shows m.trail T
-      → Shows new.trail (T ++ record { path = path_of (reverse m.frames.items); new = u } ∷ [])
+      → Shows new.trail (T ++ record { path = path_of (reverse m.frames); new = u } ∷ [])
   pub rest : (new.frames ≡ m.frames) × (new.cells ≡ m.cells) × (new.scopes ≡ m.scopes) × (new.level ≡ m.level) × (new.steps ≡ m.steps)

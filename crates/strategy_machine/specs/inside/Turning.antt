@@ -1,9 +1,7 @@
 -- What giving an answer to a frame keeps, and that less is left to do after it.
-use Rattle.std.specs.Prelude.{◌≡◌, ◌<◌, ℕ, ◌+◌, ◌*◌, ◌==◌, not, cond, List, [], ◌∷◌, reverse, slice_set, vec_len, Vec}
-use Rattle.std.specs.Borrow.{Bor}
+use Rattle.std.specs.Prelude.{◌≡◌, ◌<◌, ◌+◌, ◌*◌, ◌==◌, not, cond, ◌∷◌, length, reverse, slice_set, Vec}
 use Rattle.std.specs.Global.{Global}
 use Rattle.term_changes.specs.Standing.{Standing}
-use Rattle.strategy_syntax.specs.Resolved.{ResolvedStrategy}
 use Rattle.strategy_meaning.specs.Answer.{Answer}
 use Rattle.strategy_meaning.specs.Meaning.{World}
 use Rattle.strategy_machine.specs.Table.{scopes}
@@ -11,7 +9,6 @@ use Rattle.strategy_machine.specs.Leading.{parts_now, all_parts}
 use Rattle.strategy_machine.specs.Frames.{walk_parts}
 use Rattle.strategy_machine.specs.declared.frames.Walk.{Walk}
 use Rattle.strategy_machine.specs.declared.frames.Frame.{Frame}
-use Rattle.strategy_machine.specs.declared.frames.Frame.TheVariants.{Tail}
 use Rattle.strategy_machine.specs.Hands.{Hand, in_hand}
 use Rattle.strategy_machine.specs.declared.frames.Turned.{Turned}
 use Rattle.strategy_machine.specs.declared.frames.Turned.TheVariants as turns
@@ -40,7 +37,7 @@ under f m = record {
   scopes = scopes m.scopes;
   trail = m.trail;
   level = m.level;
-  frames = f ∷ reverse m.frames.items;
+  frames = f ∷ reverse m.frames;
   steps = m.steps;
 }
 
@@ -48,26 +45,16 @@ under f m = record {
 pub record Gives (W : World) (f : Frame) (m : Machine) (hand : Hand) (new : Machine) (next : Turned) : Type 0 where
   pub keeps : (sub : Standing) (whole : Answer) → HoldsIn W sub whole (under f m) hand → After W sub whole new next
 
--- There is such a run.
-abbrev pub IsOfRun : Frame → Machine → Hand → Type 0
-IsOfRun f m hand = (W : World) × (sub : Standing) × (whole : Answer) × HoldsIn W sub whole (under f m) hand
-
 abbrev pub GiveFalls : Machine → Machine → Turned → Type 0
-GiveFalls m new turns.On = load new (in_hand new) < 7 * m.steps + 2 * vec_len m.frames + 4
+GiveFalls m new turns.On = load new (in_hand new) < 7 * m.steps + 2 * length m.frames + 4
 GiveFalls m new turns.Done = Unit {0}
 GiveFalls m new turns.Failed = Unit {0}
 GiveFalls m new turns.Spent = Unit {0}
 GiveFalls m new turns.Big = Unit {0}
 
--- the innermost frame waits for the first elements of a list
-abbrev pub Waits : List Frame → Bor ResolvedStrategy → ℕ → ℕ → Type 0
-Waits [] s n k = ⊥
-Waits (Tail t m j ∷ fs) s n k = (t ≡ s) × (m ≡ n) × (j ≡ k)
-Waits (f ∷ fs) s n k = ⊥
-
 -- less is left to do than before the next child's turn
 abbrev pub EndFalls : Machine → Machine → Turned → Type 0
-EndFalls m new turns.On = load new (in_hand new) < 7 * m.steps + 2 * vec_len m.frames + 3
+EndFalls m new turns.On = load new (in_hand new) < 7 * m.steps + 2 * length m.frames + 3
 EndFalls m new turns.Done = Unit {0}
 EndFalls m new turns.Failed = Unit {0}
 EndFalls m new turns.Spent = Unit {0}

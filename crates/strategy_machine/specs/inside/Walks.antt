@@ -1,5 +1,5 @@
 -- How the walk of a frame moves on to the next child.
-use Rattle.std.specs.Prelude.{◌≡◌, ℕ, suc, ◌+◌, ◌==◌, not, cond, ◌∷◌, slice_get, slice_set, Some}
+use Rattle.std.specs.Prelude.{◌≡◌, ℕ, suc, ◌+◌, ◌==◌, not, cond, List, [], ◌∷◌, ◌++◌, slice_get, slice_set, Some}
 use Rattle.std.specs.Borrow.{Bor}
 use Rattle.term_changes.specs.Standing.{Standing}
 use Rattle.strategy_syntax.specs.Resolved.{ResolvedStrategy}
@@ -38,3 +38,8 @@ with_acts f others = f
 abbrev pub GoesOn : Frame → Standing → ℕ → Bor ResolvedStrategy → ℕ → Frame → Standing → Type 0
 GoesOn f p edits s m g q =
     (others : Acts) × (h : Frame) × HasNext f s m others × WalksOn f p edits h q × (g ≡ with_acts h others)
+
+-- the same for the innermost of these frames
+abbrev pub LastGoesOn : List Frame → Standing → ℕ → Bor ResolvedStrategy → ℕ → List Frame → Standing → Type 0
+LastGoesOn fs p edits s m gs q =
+    (front : List Frame) × (f : Frame) × (g : Frame) × (fs ≡ front ++ f ∷ []) × (gs ≡ front ++ g ∷ []) × GoesOn f p edits s m g q

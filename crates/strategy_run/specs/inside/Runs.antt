@@ -12,7 +12,7 @@ use Rattle.strategy_run.specs.declared.evaluation.Evaluated.TheVariants.{Done, F
 
 -- no frame is left, and nothing was done
 pub record IsEmpty (m : Machine) : Type 0 where
-  pub frames : m.frames.items ≡ []
+  pub frames : m.frames ≡ []
   pub cells : m.cells.bindings ≡ []
   pub scopes : scopes m.scopes ≡ []
   pub trail : Shows m.trail []

@@ -21,10 +21,10 @@ returns-clause-ok c = λ W. record {
       let mid = c.end_cells.new.m in
       let es = scopes c.add_variables.new.self in
       let D = c.open_cells.new.self in
-      let there : State = record { cells = D; scopes = es; trail = mid.trail; level = mid.level; frames = reverse mid.frames.items; steps = mid.steps } in
+      let there : State = record { cells = D; scopes = es; trail = mid.trail; level = mid.level; frames = reverse mid.frames; steps = mid.steps } in
       subst (λ (q : Standing). HoldsIn W sub whole there (Begin c.args.strategy c.in_ok-inner.inner q)) (sym r.part) (
       subst (λ (S : State). HoldsIn W sub whole S (Begin c.args.strategy c.in_ok-inner.inner c.args.m.now.part))
-      (λ i. record { cells = D; scopes = es; trail = sym r.rest.1 i; level = sym r.rest.3 i; frames = reverse mid.frames.items; steps = sym r.rest.4 i })
+      (λ i. record { cells = D; scopes = es; trail = sym r.rest.1 i; level = sym r.rest.3 i; frames = reverse mid.frames; steps = sym r.rest.4 i })
       (take_opened W sub whole (state_of c.args.m.now) _ c.args.strategy c.args.scope c.in_ok-inner.inner c.args.m.now.part (with_variables (scope_at (scopes c.args.m.now.scopes) c.args.scope) (length c.args.m.now.cells.bindings) c.args.count) (replicate c.args.count None)
       D es (frames_of mid) refl
       (one_more_there _ _ _ c.in_ok-inner.ensures.number c.in_ok-inner.ensures.ok)

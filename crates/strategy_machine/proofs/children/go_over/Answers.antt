@@ -20,7 +20,7 @@ returns-in_default-clause-ok c = λ W. record { keeps = λ sub whole h. c.gives.
 
 pub returns-clause-ok : goal.returns-clause-ok
 returns-clause-ok c = λ W. record {
-  keeps = λ sub whole h. c.begins.ensures.keeps W sub whole (with_frames W sub whole (st c.args.m.now.cells (scopes c.args.m.now.scopes) c.args.m.now.trail (c.args.m.now.level + 1) c.args.m.now.steps (reverse c.args.m.now.frames.items)) _ _ _ (pushed _ _ _ c.in_ok-wait.ensures.items)
+  keeps = λ sub whole h. c.begins.ensures.keeps W sub whole (with_frames W sub whole (st c.args.m.now.cells (scopes c.args.m.now.scopes) c.args.m.now.trail (c.args.m.now.level + 1) c.args.m.now.steps (reverse c.args.m.now.frames)) _ _ _ (pushed _ _ _ c.in_ok-wait.ensures.items)
       (below_as W sub whole (state_of c.args.m.now)
       (Those c.args.strategy c.args.scope (record { node = c.args.m.now.part; parts = c.args.m.now.parts; index = c.args.index; level = c.args.m.now.level; edits = c.args.m.now.trail.count }) (mark_of c.args.m.now.cells) c.args.any) _
       (Begin c.args.strategy c.args.scope c.in-Some.child) _

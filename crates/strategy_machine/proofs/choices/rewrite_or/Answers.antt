@@ -1,7 +1,7 @@
 use Rattle.std.proofs.Common.{refl, sym, ap, ◌∙◌, ◌-◌, arith, subst, Bool, cond, reverse, Some, None}
 use Rattle.term_match.specs.Building.{Builds}
 use Rattle.term_match.specs.CellContents.{CellContents}
-use Rattle.term_match.specs.Marks.{mark_of, Before, Stays}
+use Rattle.term_match.specs.Marks.{mark_of, Stays}
 use Rattle.term_match.specs.declared.building.Built.{Built}
 use Rattle.strategy_meaning.specs.Matching.{match_place, build_place}
 use Rattle.strategy_meaning.specs.Scopes.{cells_in}
@@ -59,6 +59,6 @@ returns-in_ok-replace-in-Value-clause-ok c =
     let mid = c.matches-found.new.self in
     λ W. record {
       keeps = λ sub whole h. c.begins-in-Value.ensures.keeps W sub whole (subst (λ (S : State). HoldsIn W sub whole S (Begin c.args.second c.args.scope c.replace.new.m.part))
-          (λ i. record { cells = sym (k.rest.1 ∙ c.build.ensures.same) i; scopes = scopes (sym k.rest.2 i); trail = c.replace.new.m.trail; level = sym k.rest.3 i; frames = reverse (sym k.rest.0 i).items; steps = sym k.rest.4 i })
+          (λ i. record { cells = sym (k.rest.1 ∙ c.build.ensures.same) i; scopes = scopes (sym k.rest.2 i); trail = c.replace.new.m.trail; level = sym k.rest.3 i; frames = reverse (sym k.rest.0 i); steps = sym k.rest.4 i })
           (choice_built W sub whole (state_of c.args.m.now) c.args.left.now c.args.right.now c.args.second c.args.other c.args.scope c.args.m.now.part mid (c.args.m.now.steps - 2 - 1) c.in-Value.value c.replace.new.m.part c.replace.new.m.trail c.matches-found.ensures.later c.matches-found.ensures.stays (omega (arith, c.if-m-lt2.false, c.if-m-eq0.false)) found is.0 is.1 k.part k.shows h));
     }

@@ -1,7 +1,7 @@
 use Rattle.std.proofs.Common.{refl, sym, ◌∙◌, ◌∷◌, subst, reverse, arith, List}
 use Rattle.strategy_machine.specs.Table.{scopes}
 use Rattle.strategy_machine.specs.Turns.{state_of}
-use Rattle.strategy_machine.specs.inside.Endings.{LeavesCells, AnswersIn, with_those}
+use Rattle.strategy_machine.specs.inside.Endings.{AnswersIn, with_those}
 use Rattle.strategy_machine.specs.declared.frames.Frame.{Frame}
 use Rattle.strategy_machine.specs.declared.frames.Frame.TheVariants.{Cut}
 use Rattle.strategy_machine.proofs.OpenLemmas.{pushed}
@@ -15,7 +15,7 @@ returns-in-Some c =
       there = still_there c.args.scope c.needed.result (scopes m.scopes) (scopes c.cut.new.self) c.requires c.needed.ensures.scope c.cut.ensures;
       same = still_same c.args.scope c.needed.result (scopes m.scopes) (scopes c.cut.new.self) c.needed.ensures.scope c.cut.ensures;
       room = λ W sub whole p a h D es st b sy. cut_kept W sub whole (state_of m) p a c.in-Some.left c.needed.result (scopes c.cut.new.self) es D
-          (subst (λ (fs : List Frame). LeavesCells (reverse fs) c.in-Some.left) c.deref.ensures.value c.in-Some.ensures) c.needed.ensures.left c.cut.ensures st b sy h;
+          c.in-Some.ensures c.needed.ensures.left c.cut.ensures st b sy h;
       part = refl;
       rest = (refl, refl, refl, refl, refl);
       frames = omega arith;
@@ -29,7 +29,7 @@ returns-in_ok-wait-in-None c =
       same = refl;
       room = λ W sub whole p a h D es st b sy.
           subst (λ (fs : List Frame). AnswersIn W sub whole (with_those (state_of m) D es fs) p a)
-          (sym (pushed _ _ _ c.in_ok-wait-in-None.ensures.items ∙ (λ i. Cut (c.count-cells.ensures i) (c.count-scopes.ensures i) ∷ reverse m.frames.items)))
+          (sym (pushed _ _ _ c.in_ok-wait-in-None.ensures.items ∙ (λ i. Cut (c.count-cells.ensures i) (c.count-scopes.ensures i) ∷ reverse m.frames)))
           (cut_pushed W sub whole (state_of m) p a D es st b sy h);
       part = refl;
       rest = (refl, refl, refl, refl, refl);

@@ -1,7 +1,7 @@
 use Rattle.std.proofs.Common.{refl, sym, ◌∙◌, ◌∷◌, subst, reverse, arith, List}
 use Rattle.strategy_machine.specs.Table.{scopes}
 use Rattle.strategy_machine.specs.Turns.{state_of}
-use Rattle.strategy_machine.specs.inside.Endings.{LeavesScopes, AnswersIn, with_those}
+use Rattle.strategy_machine.specs.inside.Endings.{AnswersIn, with_those}
 use Rattle.strategy_machine.specs.declared.frames.Frame.{Frame}
 use Rattle.strategy_machine.specs.declared.frames.Frame.TheVariants.{Leave}
 use Rattle.strategy_machine.proofs.OpenLemmas.{pushed}
@@ -15,7 +15,7 @@ returns-in-Some c =
       there = still_there c.args.scope c.needed.result (scopes m.scopes) (scopes c.cut.new.self) c.requires c.needed.ensures.scope c.cut.ensures;
       same = still_same c.args.scope c.needed.result (scopes m.scopes) (scopes c.cut.new.self) c.needed.ensures.scope c.cut.ensures;
       room = λ W sub whole p a h es st. leave_kept W sub whole (state_of m) p a c.in-Some.left c.needed.result (scopes c.cut.new.self) es
-          (subst (λ (fs : List Frame). LeavesScopes (reverse fs) c.in-Some.left) c.deref.ensures.value c.in-Some.ensures) c.needed.ensures.left c.cut.ensures st h;
+          c.in-Some.ensures c.needed.ensures.left c.cut.ensures st h;
       part = refl;
       rest = (refl, refl, refl, refl, refl);
       frames = omega arith;
@@ -29,7 +29,7 @@ returns-in_ok-wait-in-None c =
       same = refl;
       room = λ W sub whole p a h es st.
           subst (λ (fs : List Frame). AnswersIn W sub whole (with_those (state_of m) m.cells es fs) p a)
-          (sym (pushed _ _ _ c.in_ok-wait-in-None.ensures.items ∙ (λ i. Leave (c.count-scopes.ensures i) ∷ reverse m.frames.items)))
+          (sym (pushed _ _ _ c.in_ok-wait-in-None.ensures.items ∙ (λ i. Leave (c.count-scopes.ensures i) ∷ reverse m.frames)))
           (leave_pushed W sub whole (state_of m) p a es st h);
       part = refl;
       rest = (refl, refl, refl, refl, refl);

@@ -23,7 +23,7 @@ returns-then-not-matched-clause-ok c =
     c.matches-found.ensures.later c.matches-found.ensures.stays c.close_to.ensures.later c.close_to.ensures.stays in
     let cut = scopes_end (scopes c.args.m.now.scopes) (scopes c.add_variables.new.self) (scopes c.cut.new.self) _ c.count-scopes.result c.in_ok-inner.ensures.ok c.count-scopes.ensures c.cut.ensures in
     λ W. record {
-      keeps = λ sub whole h. c.fails.ensures.keeps W sub whole (subst (λ (es : List Scope). HoldsIn W sub whole (record { cells = c.close_to.new.self; scopes = es; trail = c.args.m.now.trail; level = c.args.m.now.level; frames = reverse c.args.m.now.frames.items; steps = c.args.m.now.steps - 2 }) Failed) (sym cut)
+      keeps = λ sub whole h. c.fails.ensures.keeps W sub whole (subst (λ (es : List Scope). HoldsIn W sub whole (record { cells = c.close_to.new.self; scopes = es; trail = c.args.m.now.trail; level = c.args.m.now.level; frames = reverse c.args.m.now.frames; steps = c.args.m.now.steps - 2 }) Failed) (sym cut)
           (rule_unmatched W sub whole (state_of c.args.m.now) c.args.count c.args.left.now c.args.right.now c.args.scope c.args.m.now.part c.close_to.new.self (c.args.m.now.steps - 2) ended.0 ended.1 (omega (arith, c.if-m-lt2.false)) found h));
     }
 
@@ -44,7 +44,7 @@ returns-in-Nothing-clause-ok c =
     (subst (λ (C : CellContents). Before (mark_of c.open_cells.new.self) (mark_of C)) (sym same) c.matches-found.ensures.later) (subst (λ (C : CellContents). Stays (mark_of c.open_cells.new.self) c.open_cells.new.self C) (sym same) c.matches-found.ensures.stays) c.close_to-2.ensures.later c.close_to-2.ensures.stays in
     let cut = scopes_end (scopes c.args.m.now.scopes) (scopes c.add_variables.new.self) (scopes c.cut-2.new.self) _ c.count-scopes.result c.in_ok-inner.ensures.ok c.count-scopes.ensures c.cut-2.ensures in
     λ W. record {
-      keeps = λ sub whole h. c.fails-in-Nothing.ensures.keeps W sub whole (subst (λ (es : List Scope). HoldsIn W sub whole (record { cells = c.close_to-2.new.self; scopes = es; trail = c.args.m.now.trail; level = c.args.m.now.level; frames = reverse c.args.m.now.frames.items; steps = c.args.m.now.steps - 2 - 1 }) Failed) (sym cut)
+      keeps = λ sub whole h. c.fails-in-Nothing.ensures.keeps W sub whole (subst (λ (es : List Scope). HoldsIn W sub whole (record { cells = c.close_to-2.new.self; scopes = es; trail = c.args.m.now.trail; level = c.args.m.now.level; frames = reverse c.args.m.now.frames; steps = c.args.m.now.steps - 2 - 1 }) Failed) (sym cut)
           (rule_unbuilt W sub whole (state_of c.args.m.now) c.args.count c.args.left.now c.args.right.now c.args.scope c.args.m.now.part c.matches-found.new.self.bindings found c.close_to-2.new.self (c.args.m.now.steps - 2 - 1) ended.0 ended.1 (omega (arith, c.if-m-lt2.false, c.if-m-eq0.false)) (other ∙ is) h));
     }
 
@@ -70,7 +70,7 @@ returns-in_ok-replace-in-Value-clause-ok c =
     let k = c.in_ok-replace-in-Value.ensures in
     λ W. record {
       keeps = λ sub whole h. c.gives.ensures.keeps W sub whole (subst (λ (S : State). HoldsIn W sub whole S (Done c.replace.new.m.part))
-          (λ i. record { cells = sym k.rest.1 i; scopes = (sym cut ∙ ap scopes (sym k.rest.2)) i; trail = c.replace.new.m.trail; level = sym k.rest.3 i; frames = reverse (sym k.rest.0 i).items; steps = sym k.rest.4 i })
+          (λ i. record { cells = sym k.rest.1 i; scopes = (sym cut ∙ ap scopes (sym k.rest.2)) i; trail = c.replace.new.m.trail; level = sym k.rest.3 i; frames = reverse (sym k.rest.0 i); steps = sym k.rest.4 i })
           (rule_built W sub whole (state_of c.args.m.now) c.args.count c.args.left.now c.args.right.now c.args.scope c.args.m.now.part c.matches-found.new.self.bindings found c.close_to-2.new.self (c.args.m.now.steps - 2 - 1) c.in-Value.value c.replace.new.m.part c.replace.new.m.trail ended.0 ended.1
           (c.close_to-2.ensures.cells ∙ (λ i. take (c.count-first.ensures i) (same i).bindings)) (omega (arith, c.if-m-lt2.false, c.if-m-eq0.false)) (other ∙ is.0) is.1 k.part k.shows h));
     }

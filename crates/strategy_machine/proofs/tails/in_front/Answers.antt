@@ -1,6 +1,6 @@
 use Rattle.std.proofs.Common.{sym, ◌∙◌, ◌∷◌}
 use Rattle.strategy_machine.proofs.TailLemmas.{relisted, relisted_bare}
-use Rattle.strategy_machine.proofs.WalkLemmas.{nil_of}
+use Rattle.strategy_machine.proofs.SlotLemmas.{nil_of}
 use Rattle.strategy_machine.proofs.ResultLemmas.{ok_map}
 use Rattle.term_changes.specs.Standing.{standing_tree}
 use Rattle.term_core.specs.Tree.{children, annotations, with_annotations, list_term}

@@ -1,0 +1,405 @@
+//! The frames of a machine, as slots of at most 48 bytes. What is large stands beside them, on a
+//! stack for each sort, in the order of the slots that use it.
+//!
+//! Functions that take a frame off are small and hold it alone: each value that a function may hold
+//! is cleared where it starts.
+
+ghost use Rattle.std.specs.Prelude.{◌≡◌, ◌+◌, [], ◌∷◌, ◌++◌, length, reverse, true, IfOk, OnOk, MatchOption};
+ghost use Rattle.strategy_machine.specs.Trails.{path_of};
+ghost use Rattle.strategy_machine.specs.inside.Slots.{EndsWith, EndsIn, has_walk, has_start, has_front, has_first, is_alone, alone, with_walk, with_start, with_front, with_first};
+ghost use Rattle.strategy_machine.specs.inside.Walks.{LastGoesOn};
+
+use crate::children::first_act;
+use crate::frames::{Acts, Frame, Walk, drop_changed, drop_part, drop_parts, drop_walk};
+use crate::give::to_next;
+use std::alloc::Global;
+use std::marker::Model;
+use strategy_syntax::ResolvedStrategy;
+use term_core::NoMemory;
+use term_match::Mark;
+use term_values::Part;
+
+/// A frame without what is large.
+#[derive(Clone, Copy)]
+pub(crate) enum Slot<'t> {
+    Then {
+        strategy: &'t ResolvedStrategy,
+        scope: usize,
+    },
+    Choose {
+        then: &'t ResolvedStrategy,
+        otherwise: &'t ResolvedStrategy,
+        scope: usize,
+        mark: Mark,
+    },
+    Restore,
+    Each {
+        acts: Acts<'t>,
+        scope: usize,
+    },
+    Leftmost {
+        strategy: &'t ResolvedStrategy,
+        scope: usize,
+        mark: Mark,
+    },
+    Those {
+        strategy: &'t ResolvedStrategy,
+        scope: usize,
+        mark: Mark,
+        any: bool,
+    },
+    Tail {
+        tail: &'t ResolvedStrategy,
+        scope: usize,
+        count: usize,
+    },
+    Rest {
+        count: usize,
+        edits: usize,
+    },
+    Head {
+        tail: &'t ResolvedStrategy,
+        scope: usize,
+    },
+    After {
+        edits: usize,
+    },
+    Leave {
+        scopes: usize,
+    },
+    Cut {
+        cells: usize,
+        scopes: usize,
+    },
+}
+
+/// The focus that a choice or a test started with, and how many edits there were.
+#[derive(Drop)]
+pub(crate) struct Start<'t> {
+    pub part: Part<'t>,
+    pub edits: usize,
+}
+
+/// A list whose rest is the focus, with the parts in the places of its first elements.
+#[derive(Drop)]
+pub(crate) struct Front<'t> {
+    pub node: Part<'t>,
+    pub parts: Vec<Part<'t>>,
+}
+
+/// A list whose rest is the focus, with the part in the place of its first element if that has
+/// changed.
+#[derive(Drop)]
+pub(crate) struct First<'t> {
+    pub node: Part<'t>,
+    pub part: Option<Part<'t>>,
+}
+
+/// Frames, the outermost first.
+#[derive(Drop)]
+pub struct Frames<'t> {
+    slots: Vec<Slot<'t>>,
+    walks: Vec<Walk<'t>>,
+    starts: Vec<Start<'t>>,
+    fronts: Vec<Front<'t>>,
+    firsts: Vec<First<'t>>,
+}
+
+impl<'t> Model for Frames<'t> {
+    ghost use Rattle.std.specs.Prelude.{List};
+    ghost use Rattle.strategy_machine.specs.declared.frames.Frame.{Frame};
+    ghost use Rattle.std.specs.Coded.{codes};
+    ghost use Rattle.strategy_syntax.specs.inside.ResolvedCodes.{resolved_code};
+    ghost use Rattle.term_changes.specs.inside.StandingCodes.{standing_code};
+
+    ghost Value = { List Frame };
+
+    ghost coded = { Prim.hlevel (codes, resolved_code, standing_code) };
+
+    ghost use Rattle.strategy_machine.specs.inside.Slots.{frames_of, Fits};
+
+    ghost view = { λ a. frames_of a.slots.items a.walks.items a.starts.items a.fronts.items a.firsts.items };
+
+    ghost invariant = { λ a. Fits a.slots.items a.walks.items a.starts.items a.fronts.items a.firsts.items };
+}
+
+impl<'t> Frames<'t> {
+    /// No frames. It takes no memory.
+    pub(crate) fn new(alloc: Global) -> Frames<'t>
+        ensures { result ≡ [] }
+    {
+        Frames {
+            slots: Vec::new(alloc),
+            walks: Vec::new(alloc),
+            starts: Vec::new(alloc),
+            fronts: Vec::new(alloc),
+            firsts: Vec::new(alloc),
+        }
+    }
+
+    /// Adds an innermost frame.
+    #[inline(always)]
+    pub(crate) fn wait(&mut self, frame: Frame<'t>) -> Result<(), NoMemory>
+        ensures items { OnOk result (self.new ≡ self.old ++ frame.entry ∷ []) }
+        ensures len { OnOk result (length self.new ≡ length self.old + 1) }
+    {
+        match frame {
+            Frame::Then { strategy, scope } => self.wait_alone(Slot::Then { strategy, scope }),
+            Frame::Choose {
+                then,
+                otherwise,
+                scope,
+                start,
+                edits,
+                mark,
+            } => self.wait_with_start(
+                Slot::Choose {
+                    then,
+                    otherwise,
+                    scope,
+                    mark,
+                },
+                Start { part: start, edits },
+            ),
+            Frame::Restore { start, edits } => {
+                self.wait_with_start(Slot::Restore, Start { part: start, edits })
+            }
+            Frame::Each { acts, scope, walk } => {
+                self.wait_with_walk(Slot::Each { acts, scope }, walk)
+            }
+            Frame::Leftmost {
+                strategy,
+                scope,
+                walk,
+                mark,
+            } => self.wait_with_walk(
+                Slot::Leftmost {
+                    strategy,
+                    scope,
+                    mark,
+                },
+                walk,
+            ),
+            Frame::Those {
+                strategy,
+                scope,
+                walk,
+                mark,
+                any,
+            } => self.wait_with_walk(
+                Slot::Those {
+                    strategy,
+                    scope,
+                    mark,
+                    any,
+                },
+                walk,
+            ),
+            Frame::Tail { tail, scope, count } => {
+                self.wait_alone(Slot::Tail { tail, scope, count })
+            }
+            Frame::Rest {
+                node,
+                parts,
+                count,
+                edits,
+            } => self.wait_with_front(Slot::Rest { count, edits }, Front { node, parts }),
+            Frame::Head { tail, scope, walk } => {
+                self.wait_with_walk(Slot::Head { tail, scope }, walk)
+            }
+            Frame::After { node, first, edits } => {
+                self.wait_with_first(Slot::After { edits }, First { node, part: first })
+            }
+            Frame::Leave { scopes } => self.wait_alone(Slot::Leave { scopes }),
+            Frame::Cut { cells, scopes } => self.wait_alone(Slot::Cut { cells, scopes }),
+        }
+    }
+
+    // A slot that needs nothing else.
+    #[inline(always)]
+    fn wait_alone(&mut self, slot: Slot<'t>) -> Result<(), NoMemory>
+        requires { is_alone slot ≡ true }
+        ensures items { OnOk result (self.new ≡ self.old ++ alone slot.entry) }
+        ensures len { OnOk result (length self.new ≡ length self.old + 1) }
+    {
+        self.slots.reserve(1)?;
+        self.slots.push_reserved(slot);
+        Ok(())
+    }
+
+    // Each stack grows before either is written, so a refused growth changes nothing.
+    #[inline(always)]
+    fn wait_with_walk(&mut self, slot: Slot<'t>, walk: Walk<'t>) -> Result<(), NoMemory>
+        requires { has_walk slot ≡ true }
+        ensures items { OnOk result (self.new ≡ self.old ++ with_walk slot.entry walk.entry) }
+        ensures len { OnOk result (length self.new ≡ length self.old + 1) }
+    {
+        if self.slots.reserve(1).is_ok() && self.walks.reserve(1).is_ok() {
+            self.slots.push_reserved(slot);
+            self.walks.push_reserved(walk);
+            return Ok(());
+        }
+        drop_walk(walk);
+        Err(NoMemory)
+    }
+
+    #[inline(always)]
+    fn wait_with_start(&mut self, slot: Slot<'t>, start: Start<'t>) -> Result<(), NoMemory>
+        requires { has_start slot ≡ true }
+        ensures items { OnOk result (self.new ≡ self.old ++ with_start slot.entry start.entry) }
+        ensures len { OnOk result (length self.new ≡ length self.old + 1) }
+    {
+        if self.slots.reserve(1).is_ok() && self.starts.reserve(1).is_ok() {
+            self.slots.push_reserved(slot);
+            self.starts.push_reserved(start);
+            return Ok(());
+        }
+        drop_part(start.part);
+        Err(NoMemory)
+    }
+
+    #[inline(always)]
+    fn wait_with_front(&mut self, slot: Slot<'t>, front: Front<'t>) -> Result<(), NoMemory>
+        requires { has_front slot ≡ true }
+        ensures items { OnOk result (self.new ≡ self.old ++ with_front slot.entry front.entry) }
+        ensures len { OnOk result (length self.new ≡ length self.old + 1) }
+    {
+        if self.slots.reserve(1).is_ok() && self.fronts.reserve(1).is_ok() {
+            self.slots.push_reserved(slot);
+            self.fronts.push_reserved(front);
+            return Ok(());
+        }
+        let Front { node, parts } = front;
+        drop_parts(parts);
+        drop_part(node);
+        Err(NoMemory)
+    }
+
+    #[inline(always)]
+    fn wait_with_first(&mut self, slot: Slot<'t>, first: First<'t>) -> Result<(), NoMemory>
+        requires { has_first slot ≡ true }
+        ensures items { OnOk result (self.new ≡ self.old ++ with_first slot.entry first.entry) }
+        ensures len { OnOk result (length self.new ≡ length self.old + 1) }
+    {
+        if self.slots.reserve(1).is_ok() && self.firsts.reserve(1).is_ok() {
+            self.slots.push_reserved(slot);
+            self.firsts.push_reserved(first);
+            return Ok(());
+        }
+        let First { node, part } = first;
+        drop_changed(part);
+        drop_part(node);
+        Err(NoMemory)
+    }
+
+    /// The slot of the innermost frame.
+    #[inline(always)]
+    pub(crate) fn last(&self) -> Option<Slot<'t>>
+        ensures { MatchOption result (self.now ≡ []) (λ x. EndsWith x self.now) }
+    {
+        self.slots.last().copied()
+    }
+
+    /// Takes off the innermost frame, which has only a slot.
+    #[inline(always)]
+    pub(crate) fn pop(&mut self)
+        requires { EndsIn is_alone self.old }
+        ensures items { (x : Slot) → EndsWith x self.old → self.old ≡ self.new ++ alone x }
+        ensures len { length self.new + 1 ≡ length self.old }
+    {
+        let _ = self.slots.take_last();
+    }
+
+    /// Takes off the innermost frame, which has a walk.
+    #[inline(always)]
+    pub(crate) fn pop_walk(&mut self) -> Walk<'t>
+        requires { EndsIn has_walk self.old }
+        ensures items { (x : Slot) → EndsWith x self.old → self.old ≡ self.new ++ with_walk x result }
+        ensures len { length self.new + 1 ≡ length self.old }
+    {
+        let _ = self.slots.take_last();
+        self.walks.take_last()
+    }
+
+    /// Takes off the innermost frame, which has a start.
+    #[inline(always)]
+    pub(crate) fn pop_start(&mut self) -> Start<'t>
+        requires { EndsIn has_start self.old }
+        ensures items { (x : Slot) → EndsWith x self.old → self.old ≡ self.new ++ with_start x result }
+        ensures len { length self.new + 1 ≡ length self.old }
+    {
+        let _ = self.slots.take_last();
+        self.starts.take_last()
+    }
+
+    /// The same, and drops the start.
+    #[inline(always)]
+    pub(crate) fn drop_start(&mut self)
+        requires { EndsIn has_start self.old }
+        ensures items { (x : Slot) → EndsWith x self.old → (p : Start) × (self.old ≡ self.new ++ with_start x p) }
+        ensures len { length self.new + 1 ≡ length self.old }
+    {
+        drop_part(self.pop_start().part);
+    }
+
+    /// Takes off the innermost frame, which has the front of a list.
+    #[inline(always)]
+    pub(crate) fn pop_front(&mut self) -> Front<'t>
+        requires { EndsIn has_front self.old }
+        ensures items { (x : Slot) → EndsWith x self.old → self.old ≡ self.new ++ with_front x result }
+        ensures len { length self.new + 1 ≡ length self.old }
+    {
+        let _ = self.slots.take_last();
+        self.fronts.take_last()
+    }
+
+    /// Takes off the innermost frame, which has the first element of a list.
+    #[inline(always)]
+    pub(crate) fn pop_first(&mut self) -> First<'t>
+        requires { EndsIn has_first self.old }
+        ensures items { (x : Slot) → EndsWith x self.old → self.old ≡ self.new ++ with_first x result }
+        ensures len { length self.new + 1 ≡ length self.old }
+    {
+        let _ = self.slots.take_last();
+        self.firsts.take_last()
+    }
+
+    /// If the innermost frame has a strategy for a next child, that child becomes the focus in
+    /// place of the finished one; else nothing changes.
+    #[inline(always)]
+    pub(crate) fn walk_on(
+        &mut self,
+        part: &mut Part<'t>,
+        edits: usize,
+    ) -> Result<Option<(&'t ResolvedStrategy, usize)>, NoMemory>
+        ensures { IfOk result (λ next. MatchOption next ((self.new ≡ self.old) × (part.new ≡ part.old)) (λ x. LastGoesOn self.old part.old edits x.0 x.1 self.new part.new)) }
+    {
+        let Some(Slot::Each { acts, scope }) = self.last() else {
+            return Ok(None);
+        };
+        let Some((strategy, others)) = first_act(acts) else {
+            return Ok(None);
+        };
+        let walk = self.walks.len() - 1;
+        if !to_next(&mut self.walks[walk], part, edits)? {
+            return Ok(None);
+        }
+        let slot = self.slots.len() - 1;
+        self.slots[slot] = Slot::Each {
+            acts: others,
+            scope,
+        };
+        Ok(Some((strategy, scope)))
+    }
+
+    /// The path that the frames lead to, the outermost frame first.
+    pub(crate) fn path(&self, alloc: Global) -> Result<Vec<usize>, NoMemory>
+        ensures { IfOk result (λ path. path.items ≡ path_of (reverse self.now)) }
+    {
+        let mut path = Vec::with_capacity(alloc, self.walks.len())?;
+        for walk in &self.walks {
+            path.push(walk.index)?;
+        }
+        Ok(path)
+    }
+}
