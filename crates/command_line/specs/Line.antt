@@ -4,7 +4,7 @@ use Rattle.std.specs.Prelude.{◌≡◌, ◌&&◌, ◌==◌, ℕ, Bool, true, Li
 use Rattle.std.specs.List.{list_all, list_any, before_first}
 use Rattle.std.specs.Str.Parse.{IsNumeral, digits_value, without_leading_plus}
 use Rattle.term_core.specs.Word.{label_of}
-use Rattle.session_history.specs.Steps.{AreSteps}
+use Rattle.session_history.specs.Budget.{IsBudget}
 use Rattle.clap.specs.Words.{App, Kinds, Row, Rule, Text, all_of, fault_of, matches_of, new_app, new_rule, with_rule}
 use Rattle.clap.specs.Simple.{on_top}
 use Rattle.clap.specs.Kinds.{or_else}
@@ -52,11 +52,11 @@ line = fold with_rule named_app
 abbrev pub given : List Text → List Row
 given words = matches_of line words
 
--- n is the number that a text spells, if that is a number of steps
-abbrev pub IsNumberIfSteps : List ℕ → ℕ → Type 0
-IsNumberIfSteps text n =
+-- n is the number that a text spells, if that is a budget
+abbrev pub IsNumberIfBudget : List ℕ → ℕ → Type 0
+IsNumberIfBudget text n =
     let digits = without_leading_plus text in
-    IsNumeral 10 digits → AreSteps (digits_value 10 digits) → n ≡ digits_value 10 digits
+    IsNumeral 10 digits → IsBudget (digits_value 10 digits) → n ≡ digits_value 10 digits
 
 -- ---- NAME=FILE
 

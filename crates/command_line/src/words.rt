@@ -4,21 +4,21 @@ ghost use Rattle.std.specs.Prelude.{◌≡◌, ◌≤◌, ◌||◌, ℕ, List, I
 ghost use Rattle.clap.specs.Words.{FailsBy, app_of, first_of, found_of, kind_of, one_of, one_text, rows_of, rule_of};
 ghost use Rattle.clap.specs.Takes.{is_given};
 ghost use Rattle.script_text.specs.declared.framing.Framing.TheVariants.{Continued, Lines};
-ghost use Rattle.session_history.specs.Steps.{AreSteps};
+ghost use Rattle.session_history.specs.Budget.{IsBudget};
 ghost use Rattle.clap.specs.declared.error.kind.ErrorKind.TheVariants.{ValueValidation};
-ghost use Rattle.command_line.specs.Line.{IsNumberIfSteps, are_named_all, as_given, file_name, files_option, flag_of, given, interactive_flag, line, line_fault, modules_of, steps_option, trees_of, values};
+ghost use Rattle.command_line.specs.Line.{IsNumberIfBudget, are_named_all, as_given, file_name, files_option, flag_of, given, interactive_flag, line, line_fault, modules_of, steps_option, trees_of, values};
 ghost use Rattle.command_line.specs.inside.Malformed.{IfMalformed};
 
 use crate::named::{Load, Named, Untaken, in_order, read_all};
 use clap::error::ErrorKind;
 use clap::{Arg, ArgAction, ArgMatches, Command, Error, value_parser};
 use script_text::Framing;
-use session_history::MAX_STEPS;
+use session_history::MAX_BUDGET;
 use std::alloc::{AllocError, Global};
 use std::convert::AsStr;
 
 /// The budget of a command that names none, if the command line names none either.
-pub const DEFAULT_STEPS: u32 = 100_000;
+pub const DEFAULT_BUDGET: u32 = 100_000;
 
 /// The version of the program.
 pub const VERSION: &str = "1.0.0";
@@ -38,7 +38,7 @@ pub struct CommandLine<'a> {
     /// Whether the library's definitions are loaded before the script.
     pub library: bool,
     /// The budget of commands that name none, from 1 to 1,000,000.
-    pub steps: u32,
+    pub budget: u32,
     /// Whether the run ends after the first refused command.
     pub stop: bool,
     /// Whether each line of the script is a command.
@@ -80,12 +80,12 @@ impl CommandLine<'_> {
 ///
 /// Errors: those of `clap`, which include a request for the help text and want of memory.
 pub fn arguments<'a, S: AsStr>(alloc: Global, words: &'a [S]) -> Result<CommandLine<'a>, Error>
-    ensures steps { IfOk result (λ arguments. AreSteps arguments.steps) }
+    ensures budget { IfOk result (λ arguments. IsBudget arguments.budget) }
 
     // What `clap` finds in the words for this command line, by the names of its arguments.
     ensures number { IfOk result (λ arguments. (text : List ℕ)
         → one_of (codes "steps") (given (map S.text words.now)) ≡ Some text
-        → IsNumberIfSteps text arguments.steps) }
+        → IsNumberIfBudget text arguments.budget) }
     ensures file { IfOk result (λ arguments. option_map (λ name. name.now) arguments.file
         ≡ first_of (codes "file") (given (map S.text words.now))) }
     ensures library { IfOk result (λ arguments. arguments.library
@@ -116,7 +116,7 @@ pub fn arguments<'a, S: AsStr>(alloc: Global, words: &'a [S]) -> Result<CommandL
     match read_files(alloc, &matches) {
         Ok((loads, writes)) => Ok(CommandLine {
             library: matches.get_flag("library"),
-            steps: steps(&matches),
+            budget: budget(&matches),
             stop: matches.get_flag("stop"),
             lines: matches.get_flag("lines"),
             explain: matches.get_flag("explain"),
@@ -251,7 +251,7 @@ fn steps_option<'a>(alloc: Global) -> Arg<'a>
     Arg::new(alloc, "steps")
         .long("steps")
         .value_name("N")
-        .value_parser(value_parser!(u32).range(1..=MAX_STEPS as i64))
+        .value_parser(value_parser!(u32).range(1..=MAX_BUDGET as i64))
         .default_value("100000")
         .help("The steps that a strategy may take where `apply` names none, from 1 to 1,000,000")
 }
@@ -276,14 +276,14 @@ fn file_name<'a>(alloc: Global) -> Arg<'a>
         .help("The script, or standard input where there is none")
 }
 
-// The number of steps, which the parser keeps in range.
-fn steps(matches: &ArgMatches<'_>) -> u32
-    ensures within { AreSteps result }
+// The budget, which the parser keeps in range.
+fn budget(matches: &ArgMatches<'_>) -> u32
+    ensures within { IsBudget result }
     ensures number { (text : List ℕ) → one_text (found_of matches.now) (codes "steps") ≡ Some text
-        → IsNumberIfSteps text result }
+        → IsNumberIfBudget text result }
 {
     match matches.get_one::<u32>("steps") {
-        Some(steps) if steps >= 1 && steps <= MAX_STEPS => steps,
-        _ => DEFAULT_STEPS,
+        Some(budget) if budget >= 1 && budget <= MAX_BUDGET => budget,
+        _ => DEFAULT_BUDGET,
     }
 }

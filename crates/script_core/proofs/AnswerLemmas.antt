@@ -143,7 +143,7 @@ leaving : (group : Option HistoryGroup) (next : HistoryGroup → History) (outco
 leaving None next outcome p = same_told outcome (Err NoGroup) p refl
 leaving (Some g) next outcome p = same_told outcome (Ok (next g)) p refl
 
-module _ (meaning : Meaning) (steps : ℕ) (h : History) (reply : Reply) where
+module _ (meaning : Meaning) (budget : ℕ) (h : History) (reply : Reply) where
   abbrev Says : Option Form → Type 0
   Says form = MatchResult (checked form) (λ f. Replies meaning f h reply) (λ refusal. reply ≡ Err refusal)
 
@@ -163,9 +163,9 @@ module _ (meaning : Meaning) (steps : ℕ) (h : History) (reply : Reply) where
   abandon_said true m = ap tells_fault m
   abandon_said false m = ap tells_fault m.2 ∙ leaving h.group (λ g. record h { now = g.begun; group = None }) m.0 m.1
 
-  module _ (keyword rest : List ℕ) (m : Says (form_with steps keyword rest)) where
-    said_as : (word : List ℕ) → true ≡ is_same keyword word → Says (form_with steps word rest)
-    said_as word e = let P : List ℕ → Type 0 = λ w. Says (form_with steps w rest) in subst P (same_text keyword word e) m
+  module _ (keyword rest : List ℕ) (m : Says (form_with budget keyword rest)) where
+    said_as : (word : List ℕ) → true ≡ is_same keyword word → Says (form_with budget word rest)
+    said_as word e = let P : List ℕ → Type 0 = λ w. Says (form_with budget w rest) in subst P (same_text keyword word e) m
 
     by_word : (a b c d : Bool) → a ≡ is_same keyword (codes "undo") → b ≡ is_same keyword (codes "redo") → c ≡ is_same keyword (codes "begin") → d ≡ is_same keyword (codes "abandon") →
         (a || b || c || d) ≡ true → tells_fault reply ≡ false
@@ -178,15 +178,15 @@ module _ (meaning : Meaning) (steps : ℕ) (h : History) (reply : Reply) where
     said_shortly : takes_no_memory_with keyword ≡ true → tells_fault reply ≡ false
     said_shortly = by_word (is_same keyword (codes "undo")) (is_same keyword (codes "redo")) (is_same keyword (codes "begin")) (is_same keyword (codes "abandon")) refl refl refl refl
 
-told_shortly : (meaning : Meaning) (steps : ℕ) (command : Handed) (h : History) (refusal : Refusal) → is_fault refusal ≡ true → ReplyTo meaning steps command h (Err refusal) → takes_none command ≡ false
-told_shortly meaning steps (handed_text c) h refusal fault reply = at (takes_no_memory c) refl
+told_shortly : (meaning : Meaning) (budget : ℕ) (command : Handed) (h : History) (refusal : Refusal) → is_fault refusal ≡ true → ReplyTo meaning budget command h (Err refusal) → takes_none command ≡ false
+told_shortly meaning budget (handed_text c) h refusal fault reply = at (takes_no_memory c) refl
   where
     at : (b : Bool) → takes_no_memory c ≡ b → takes_no_memory c ≡ false
     at false e = e
     at true e =
-        let short : is_fault refusal ≡ false = said_shortly meaning steps h (Err refusal) (front_word (without_end is_blank c)) (after_word (without_end is_blank c)) reply e in
+        let short : is_fault refusal ≡ false = said_shortly meaning budget h (Err refusal) (front_word (without_end is_blank c)) (after_word (without_end is_blank c)) reply e in
         absurd (cc)
-told_shortly meaning steps long h refusal fault reply = let short : is_fault refusal ≡ false = ap tells_fault reply in absurd (cc)
+told_shortly meaning budget long h refusal fault reply = let short : is_fault refusal ≡ false = ap tells_fault reply in absurd (cc)
 
 -- ---- a command in a run
 
@@ -199,20 +199,20 @@ pub told : (Rule : Reply → Type 0) (none : Bool) (outcome : Result (Unit {0}) 
 told Rule none (Ok x) h g before answer verdict p is same refused = subst (λ (b : Bool). ToldRight Rule none h g answer b) (sym is) (subst (λ (bytes : List ℕ). Rule (Ok (told_of g bytes))) (sym same) p.ok)
 told Rule none (Err refusal) h g before answer verdict p is same refused = refusal_told Rule none refusal h g answer verdict p.refused p.err refused is
 
-pub answered : (meaning : Meaning) (steps : ℕ) (command : Handed) (h g : History) (answer : List ℕ) (verdict : Bool) → ToldRight (ReplyTo meaning steps command h) (takes_none command) h g answer verdict →
-    Answered (ReplyInRun meaning steps) command h g answer verdict
-answered meaning steps command h g answer true t = record { flag = false; reply = Ok (told_of g answer); replied = t; history = refl; written = refl; accepted = refl }
-answered meaning steps command h g answer false (refusal, inl memory, same, inl text) = record { flag = true; reply = Err refusal; replied = (memory.1, ap Err memory.0); history = same; written = text; accepted = refl }
-answered meaning steps command h g answer false (refusal, inr reply, same, inl text) = record { flag = false; reply = Err refusal; replied = reply; history = same; written = text; accepted = refl }
-answered meaning steps command h g answer false (refusal, inl memory, same, inr wanting) = record { flag = true; reply = Err Memory; replied = (memory.1, refl); history = same; written = wanting.1; accepted = refl }
-answered meaning steps command h g answer false (refusal, inr reply, same, inr wanting) = record { flag = true; reply = Err Memory; replied = (told_shortly meaning steps command h refusal wanting.0 reply, refl); history = same; written = wanting.1; accepted = refl }
+pub answered : (meaning : Meaning) (budget : ℕ) (command : Handed) (h g : History) (answer : List ℕ) (verdict : Bool) → ToldRight (ReplyTo meaning budget command h) (takes_none command) h g answer verdict →
+    Answered (ReplyInRun meaning budget) command h g answer verdict
+answered meaning budget command h g answer true t = record { flag = false; reply = Ok (told_of g answer); replied = t; history = refl; written = refl; accepted = refl }
+answered meaning budget command h g answer false (refusal, inl memory, same, inl text) = record { flag = true; reply = Err refusal; replied = (memory.1, ap Err memory.0); history = same; written = text; accepted = refl }
+answered meaning budget command h g answer false (refusal, inr reply, same, inl text) = record { flag = false; reply = Err refusal; replied = reply; history = same; written = text; accepted = refl }
+answered meaning budget command h g answer false (refusal, inl memory, same, inr wanting) = record { flag = true; reply = Err Memory; replied = (memory.1, refl); history = same; written = wanting.1; accepted = refl }
+answered meaning budget command h g answer false (refusal, inr reply, same, inr wanting) = record { flag = true; reply = Err Memory; replied = (told_shortly meaning budget command h refusal wanting.0 reply, refl); history = same; written = wanting.1; accepted = refl }
 
 -- a command that is answered by its form
-pub by_form : (meaning : Meaning) (steps : ℕ) (command : Handed) (text : List ℕ) (keyword known : Keyword) (rest : List ℕ) (h g : History) (answer : List ℕ) (verdict : Bool) →
-    command ≡ handed_text text → form_of steps text ≡ form_after keyword steps rest → takes_no_memory text ≡ is_without_memory_after keyword → keyword ≡ known →
-    ToldRight (ReplyToForm meaning (form_after known steps rest) h) (is_without_memory_after known) h g answer verdict → Answered (ReplyInRun meaning steps) command h g answer verdict
-by_form meaning steps command text keyword known rest h g answer verdict is same quiet e t =
-    answered meaning steps command h g answer verdict
-    (subst (λ (c : Handed). ToldRight (ReplyTo meaning steps c h) (takes_none c) h g answer verdict) (sym is)
-    (subst (λ (none : Bool). ToldRight (ReplyToText meaning steps text h) none h g answer verdict) (sym (quiet ∙ ap is_without_memory_after e))
-    (subst (λ (asked : Option Form). ToldRight (ReplyToForm meaning asked h) (is_without_memory_after known) h g answer verdict) (sym (same ∙ ap (λ k. form_after k steps rest) e)) t)))
+pub by_form : (meaning : Meaning) (budget : ℕ) (command : Handed) (text : List ℕ) (keyword known : Keyword) (rest : List ℕ) (h g : History) (answer : List ℕ) (verdict : Bool) →
+    command ≡ handed_text text → form_of budget text ≡ form_after keyword budget rest → takes_no_memory text ≡ is_without_memory_after keyword → keyword ≡ known →
+    ToldRight (ReplyToForm meaning (form_after known budget rest) h) (is_without_memory_after known) h g answer verdict → Answered (ReplyInRun meaning budget) command h g answer verdict
+by_form meaning budget command text keyword known rest h g answer verdict is same quiet e t =
+    answered meaning budget command h g answer verdict
+    (subst (λ (c : Handed). ToldRight (ReplyTo meaning budget c h) (takes_none c) h g answer verdict) (sym is)
+    (subst (λ (none : Bool). ToldRight (ReplyToText meaning budget text h) none h g answer verdict) (sym (quiet ∙ ap is_without_memory_after e))
+    (subst (λ (asked : Option Form). ToldRight (ReplyToForm meaning asked h) (is_without_memory_after known) h g answer verdict) (sym (same ∙ ap (λ k. form_after k budget rest) e)) t)))

@@ -42,7 +42,7 @@ goes_by false false goes_on e = subst (GoesOnBy false 1) (sym e) (λ f. absurd (
 
 module _ (Rule : ByBudget) where
   pub ready_answered : (old new : Running) (command : Handed) (h g : History) (held held' : Option (List ℕ)) (verdict goes_on : Bool) → old.splitter.to_hand_out ≡ Some command →
-      Completes old.settings.stop (Rule old.settings.steps) (command ∷ []) h g held held' (one_if verdict) (one_if (not verdict)) →
+      Completes old.settings.stop (Rule old.settings.budget) (command ∷ []) h g held held' (one_if verdict) (one_if (not verdict)) →
       new.summary.accepted ≡ old.summary.accepted + one_if verdict → new.summary.refused ≡ old.summary.refused + one_if (not verdict) → new.settings ≡ old.settings →
       goes_on ≡ (verdict || not old.settings.stop) → AnswersReady Rule old new h g held held' goes_on
   ready_answered old new command h g held held' verdict goes_on ready completes accepted refused settings goes = (
@@ -92,7 +92,7 @@ module _ (Rule : ByBudget) where
   Counts-none s h a = record {
     yes = 0;
     no = 0;
-    completes = Completes-none s.settings.stop (Rule s.settings.steps) h a;
+    completes = Completes-none s.settings.stop (Rule s.settings.budget) h a;
     accepted = omega arith;
     refused = omega arith;
     total = omega arith;
@@ -108,7 +108,7 @@ module _ (Rule : ByBudget) where
       record {
         yes = p.yes + q.yes;
         no = p.no + q.no;
-        completes = Completes-append old.settings.stop (Rule old.settings.steps) cs ds h g k a b c p.yes p.no q.yes q.no p.goes p.completes (subst (λ (x : Settings). Completes x.stop (Rule x.steps) ds g k b c q.yes q.no) same q.completes);
+        completes = Completes-append old.settings.stop (Rule old.settings.budget) cs ds h g k a b c p.yes p.no q.yes q.no p.goes p.completes (subst (λ (x : Settings). Completes x.stop (Rule x.budget) ds g k b c q.yes q.no) same q.completes);
         accepted = omega (arith, p.accepted, q.accepted, ap (λ x. x.accepted) summary);
         refused = omega (arith, p.refused, q.refused, ap (λ x. x.refused) summary);
         total = omega (arith, p.total, q.total, length-append cs ds);
@@ -139,17 +139,17 @@ module _ (Rule : ByBudget) where
       few = omega (arith, u.few, length-append u.commands (fed.2 ∷ []), length-append u.taken (take n rest), length-take n rest, fed.0, fed.1);
     }
 
-    pub Breaks-more : (command : Handed) → t.splitter.to_hand_out ≡ Some command → BreaksOff t.settings.stop (Rule t.settings.steps) (command ∷ []) g k b c → Breaks Rule old h k a c bytes
+    pub Breaks-more : (command : Handed) → t.splitter.to_hand_out ≡ Some command → BreaksOff t.settings.stop (Rule t.settings.budget) (command ∷ []) g k b c → Breaks Rule old h k a c bytes
     Breaks-more command ready broken =
         let same : command ≡ fed.2 = some_same _ command fed.2 ready fed.3 in
-        let one : BreaksOff old.settings.stop (Rule old.settings.steps) (fed.2 ∷ []) g k b c = subst (λ (x : Settings). BreaksOff x.stop (Rule x.steps) (fed.2 ∷ []) g k b c) (settings ∙ u.counts.settings) (subst (λ (x : Handed). BreaksOff t.settings.stop (Rule t.settings.steps) (x ∷ []) g k b c) same broken) in
+        let one : BreaksOff old.settings.stop (Rule old.settings.budget) (fed.2 ∷ []) g k b c = subst (λ (x : Settings). BreaksOff x.stop (Rule x.budget) (fed.2 ∷ []) g k b c) (settings ∙ u.counts.settings) (subst (λ (x : Handed). BreaksOff t.settings.stop (Rule t.settings.budget) (x ∷ []) g k b c) same broken) in
         let goes = GoesAfter-trans old.splitter s.splitter t.splitter u.taken (take n rest) u.commands (fed.2 ∷ []) u.after fed.4 in
         record {
           all = (u.commands ++ fed.2 ∷ []) ++ rest_of t.splitter.left after;
           hands = subst (λ (xs : List ℕ). HandsAfter old.splitter xs ((u.commands ++ fed.2 ∷ []) ++ rest_of t.splitter.left after)) (sym split)
               (hands_after old.splitter t.splitter (u.taken ++ take n rest) after (u.commands ++ fed.2 ∷ []) goes);
-          breaks = BreaksOff-longer old.settings.stop (Rule old.settings.steps) (u.commands ++ fed.2 ∷ []) _ h k a c
-              (BreaksOff-append old.settings.stop (Rule old.settings.steps) u.commands (fed.2 ∷ []) h g k a b c u.counts.yes u.counts.no u.counts.goes u.counts.completes one);
+          breaks = BreaksOff-longer old.settings.stop (Rule old.settings.budget) (u.commands ++ fed.2 ∷ []) _ h k a c
+              (BreaksOff-append old.settings.stop (Rule old.settings.budget) u.commands (fed.2 ∷ []) h g k a b c u.counts.yes u.counts.no u.counts.goes u.counts.completes one);
         }
 
   -- No command is complete in the rest.
@@ -184,18 +184,18 @@ module _ (Rule : ByBudget) where
     hands = λ framing x out s. ap (handed framing) (append-nil x) ∙ all framing x out s ∙ ap (λ (o : Option Handed). out ++ option_to_list o) r.1;
     yes = r.2.yes;
     no = r.2.no;
-    completes = subst (λ (s : Settings). Completes s.stop (Rule s.steps) (r.0 ∷ []) h g a b r.2.yes r.2.no) settings r.2.completes;
+    completes = subst (λ (s : Settings). Completes s.stop (Rule s.budget) (r.0 ∷ []) h g a b r.2.yes r.2.no) settings r.2.completes;
     accepted = omega (arith, r.2.accepted, ap (λ x. x.accepted) summary);
     refused = omega (arith, r.2.refused, ap (λ x. x.refused) summary);
   }
 
   pub Breaks-ready : (old mid : Running) (command : Handed) (h g : History) (a b : Option (List ℕ)) →
       ((framing : Framing) (x : List ℕ) (out : List Handed) → StandsAfter framing x out old.splitter.left → handed framing x ≡ out ++ option_to_list mid.splitter.to_hand_out) →
-      mid.settings ≡ old.settings → mid.splitter.to_hand_out ≡ Some command → BreaksOff mid.settings.stop (Rule mid.settings.steps) (command ∷ []) h g a b → Breaks Rule old h g a b []
+      mid.settings ≡ old.settings → mid.splitter.to_hand_out ≡ Some command → BreaksOff mid.settings.stop (Rule mid.settings.budget) (command ∷ []) h g a b → Breaks Rule old h g a b []
   Breaks-ready old mid command h g a b all settings ready broken = record {
     all = command ∷ [];
     hands = λ framing x out s. ap (handed framing) (append-nil x) ∙ all framing x out s ∙ ap (λ (o : Option Handed). out ++ option_to_list o) ready;
-    breaks = subst (λ (s : Settings). BreaksOff s.stop (Rule s.steps) (command ∷ []) h g a b) settings broken;
+    breaks = subst (λ (s : Settings). BreaksOff s.stop (Rule s.budget) (command ∷ []) h g a b) settings broken;
   }
 
   -- there is no command at the end
@@ -207,7 +207,7 @@ module _ (Rule : ByBudget) where
     hands = λ framing x out s. ap (handed framing) (append-nil x) ∙ all framing x out s ∙ ap (λ (hs : List Handed). out ++ hs) (nothing mid.splitter.to_hand_out none);
     yes = 0;
     no = 0;
-    completes = Completes-none old.settings.stop (Rule old.settings.steps) h a;
+    completes = Completes-none old.settings.stop (Rule old.settings.budget) h a;
     accepted = omega (arith, ap (λ x. x.accepted) summary);
     refused = omega (arith, ap (λ x. x.refused) summary);
   }
@@ -223,12 +223,12 @@ module _ (Rule : ByBudget) where
   Breaks-flush old h a b k = record {
     all = option_to_list old.splitter.left.command;
     hands = λ framing x out s. ap (handed framing) (append-nil x) ∙ StandsAfter-end framing x out old.splitter.left s;
-    breaks = BreaksOff-longer old.settings.stop (Rule old.settings.steps) [] (option_to_list old.splitter.left.command) h h a b (BreaksOff-flush old.settings.stop (Rule old.settings.steps) [] h h a a b 0 0 (Completes-none old.settings.stop (Rule old.settings.steps) h a) k);
+    breaks = BreaksOff-longer old.settings.stop (Rule old.settings.budget) [] (option_to_list old.splitter.left.command) h h a b (BreaksOff-flush old.settings.stop (Rule old.settings.budget) [] h h a a b 0 0 (Completes-none old.settings.stop (Rule old.settings.budget) h a) k);
   }
 
   -- what comes after a flush
   pub Breaks-after : (old : Running) (h g : History) (a b c : Option (List ℕ)) (bytes : List ℕ) → Keeps a b → Breaks Rule old h g b c bytes → Breaks Rule old h g a c bytes
-  Breaks-after old h g a b c bytes k p = record { all = p.all; hands = p.hands; breaks = BreaksOff-after old.settings.stop (Rule old.settings.steps) p.all h g a b c k p.breaks }
+  Breaks-after old h g a b c bytes k p = record { all = p.all; hands = p.hands; breaks = BreaksOff-after old.settings.stop (Rule old.settings.budget) p.all h g a b c k p.breaks }
 
   pub Ends-after : (old new : Running) (h g : History) (a b c : Option (List ℕ)) (bytes : List ℕ) → Keeps a b → Ends Rule old new h g b c bytes → Ends Rule old new h g a c bytes
   Ends-after old new h g a b c bytes k p = record {
@@ -236,7 +236,7 @@ module _ (Rule : ByBudget) where
     hands = p.hands;
     yes = p.yes;
     no = p.no;
-    completes = Completes-after old.settings.stop (Rule old.settings.steps) p.all h g a b c p.yes p.no k p.completes;
+    completes = Completes-after old.settings.stop (Rule old.settings.budget) p.all h g a b c p.yes p.no k p.completes;
     accepted = p.accepted;
     refused = p.refused;
   }
@@ -251,7 +251,7 @@ module _ (Rule : ByBudget) where
     counts = record {
       yes = u.counts.yes;
       no = u.counts.no;
-      completes = Completes-after old.settings.stop (Rule old.settings.steps) u.commands h g a b c u.counts.yes u.counts.no k u.counts.completes;
+      completes = Completes-after old.settings.stop (Rule old.settings.budget) u.commands h g a b c u.counts.yes u.counts.no k u.counts.completes;
       accepted = u.counts.accepted;
       refused = u.counts.refused;
       total = u.counts.total;
@@ -269,7 +269,7 @@ module _ (Rule : ByBudget) where
         (hands_after old.splitter new.splitter u.taken rest u.commands u.after);
     yes = u.counts.yes;
     no = u.counts.no;
-    completes = Completes-stopped old.settings.stop (Rule old.settings.steps) u.commands (rest_of new.splitter.left rest) h g a b u.counts.yes u.counts.no u.counts.goes.0 u.counts.goes.1 u.counts.completes;
+    completes = Completes-stopped old.settings.stop (Rule old.settings.budget) u.commands (rest_of new.splitter.left rest) h g a b u.counts.yes u.counts.no u.counts.goes.0 u.counts.goes.1 u.counts.completes;
     accepted = u.counts.accepted;
     refused = u.counts.refused;
   }
@@ -281,7 +281,7 @@ module _ (Rule : ByBudget) where
     all = u.commands ++ out_of new.splitter.left rest;
     hands = λ framing x out s. ap (λ (xs : List ℕ). completed framing (x ++ xs)) u.all ∙ sym (ap (completed framing) (append_assoc x u.taken rest))
         ∙ StandsAfter-out framing rest (x ++ u.taken) (out ++ u.commands) new.splitter.left (u.after framing x out s) ∙ append_assoc out u.commands (out_of new.splitter.left rest);
-    completes = Completes-stopped old.settings.stop (Rule old.settings.steps) u.commands (out_of new.splitter.left rest) h g a b u.counts.yes u.counts.no u.counts.goes.0 u.counts.goes.1 u.counts.completes;
+    completes = Completes-stopped old.settings.stop (Rule old.settings.budget) u.commands (out_of new.splitter.left rest) h g a b u.counts.yes u.counts.no u.counts.goes.0 u.counts.goes.1 u.counts.completes;
   }
 
   -- bytes that were read and answered
@@ -347,9 +347,9 @@ module _ (Rule : ByBudget) where
         read = Consumes-kept a.left b.left c.left p.script p.read kept;
         yes = p.counts.yes;
         no = p.counts.no;
-        completes = subst (λ (cs : List Handed). Completes old.settings.stop (Rule old.settings.steps) cs h k a.held c.held p.counts.yes p.counts.no) p.stands.complete
-            (subst (λ (x : History). Completes old.settings.stop (Rule old.settings.steps) p.done h x a.held c.held p.counts.yes p.counts.no) (sym same)
-            (Completes-flushed old.settings.stop (Rule old.settings.steps) p.done h g a.held b.held c.held p.counts.yes p.counts.no p.counts.completes held));
+        completes = subst (λ (cs : List Handed). Completes old.settings.stop (Rule old.settings.budget) cs h k a.held c.held p.counts.yes p.counts.no) p.stands.complete
+            (subst (λ (x : History). Completes old.settings.stop (Rule old.settings.budget) p.done h x a.held c.held p.counts.yes p.counts.no) (sym same)
+            (Completes-flushed old.settings.stop (Rule old.settings.budget) p.done h g a.held b.held c.held p.counts.yes p.counts.no p.counts.completes held));
         goes_on = p.counts.goes;
         long = omega arith;
       },
@@ -360,9 +360,9 @@ module _ (Rule : ByBudget) where
       record {
         part = p.script ++ bytes;
         read = Consumes-trans a.left b.left c.left p.script bytes p.read read;
-        breaks = subst (λ (cs : List Handed). BreaksOff old.settings.stop (Rule old.settings.steps) cs h k a.held c.held) (sym (broken.hands old.settings.framing p.script p.done p.stands))
-            (BreaksOff-append old.settings.stop (Rule old.settings.steps) p.done broken.all h g k a.held b.held c.held p.counts.yes p.counts.no p.counts.goes p.counts.completes
-            (subst (λ (x : Settings). BreaksOff x.stop (Rule x.steps) broken.all g k b.held c.held) p.counts.settings broken.breaks));
+        breaks = subst (λ (cs : List Handed). BreaksOff old.settings.stop (Rule old.settings.budget) cs h k a.held c.held) (sym (broken.hands old.settings.framing p.script p.done p.stands))
+            (BreaksOff-append old.settings.stop (Rule old.settings.budget) p.done broken.all h g k a.held b.held c.held p.counts.yes p.counts.no p.counts.goes p.counts.completes
+            (subst (λ (x : Settings). BreaksOff x.stop (Rule x.budget) broken.all g k b.held c.held) p.counts.settings broken.breaks));
       },
     )
     Progress-fault t k c most Turns r = absurd r
@@ -376,10 +376,10 @@ module _ (Rule : ByBudget) where
       record {
         part = p.script ++ [];
         read = Consumes-trans a.left b.left c.left p.script [] p.read read;
-        breaks = subst (λ (cs : List Handed). BreaksOff old.settings.stop (Rule old.settings.steps) cs h g a.held c.held)
+        breaks = subst (λ (cs : List Handed). BreaksOff old.settings.stop (Rule old.settings.budget) cs h g a.held c.held)
             (sym (ap (handed old.settings.framing) (append-nil p.script) ∙ StandsAfter-end old.settings.framing p.script p.done s.splitter.left p.stands))
-            (BreaksOff-longer old.settings.stop (Rule old.settings.steps) p.done (option_to_list s.splitter.left.command) h g a.held c.held
-            (BreaksOff-flush old.settings.stop (Rule old.settings.steps) p.done h g a.held b.held c.held p.counts.yes p.counts.no p.counts.completes held));
+            (BreaksOff-longer old.settings.stop (Rule old.settings.budget) p.done (option_to_list s.splitter.left.command) h g a.held c.held
+            (BreaksOff-flush old.settings.stop (Rule old.settings.budget) p.done h g a.held b.held c.held p.counts.yes p.counts.no p.counts.completes held));
       },
     )
 
@@ -392,8 +392,8 @@ module _ (Rule : ByBudget) where
         read = Consumes-trans a.left b.left c.left p.script [] p.read read;
         yes = p.counts.yes;
         no = p.counts.no;
-        completes = subst (λ (cs : List Handed). Completes old.settings.stop (Rule old.settings.steps) cs h g a.held c.held p.counts.yes p.counts.no) (p.stands.complete ∙ ap (completed old.settings.framing) (sym (append-nil p.script)))
-            (Completes-flushed old.settings.stop (Rule old.settings.steps) p.done h g a.held b.held c.held p.counts.yes p.counts.no p.counts.completes held);
+        completes = subst (λ (cs : List Handed). Completes old.settings.stop (Rule old.settings.budget) cs h g a.held c.held p.counts.yes p.counts.no) (p.stands.complete ∙ ap (completed old.settings.framing) (sym (append-nil p.script)))
+            (Completes-flushed old.settings.stop (Rule old.settings.budget) p.done h g a.held b.held c.held p.counts.yes p.counts.no p.counts.completes held);
         goes_on = p.counts.goes;
         long = omega (arith, bound, p.least, ap length (append-nil p.script));
       },
@@ -407,9 +407,9 @@ module _ (Rule : ByBudget) where
       abbrev ends : Ends Rule s t g k b.held c.held bytes
       ends = r.1.2.0
 
-      whole : Completes old.settings.stop (Rule old.settings.steps) (p.done ++ ends.all) h k a.held c.held (p.counts.yes + ends.yes) (p.counts.no + ends.no)
-      whole = Completes-append old.settings.stop (Rule old.settings.steps) p.done ends.all h g k a.held b.held c.held p.counts.yes p.counts.no ends.yes ends.no p.counts.goes p.counts.completes
-          (subst (λ (x : Settings). Completes x.stop (Rule x.steps) ends.all g k b.held c.held ends.yes ends.no) p.counts.settings ends.completes)
+      whole : Completes old.settings.stop (Rule old.settings.budget) (p.done ++ ends.all) h k a.held c.held (p.counts.yes + ends.yes) (p.counts.no + ends.no)
+      whole = Completes-append old.settings.stop (Rule old.settings.budget) p.done ends.all h g k a.held b.held c.held p.counts.yes p.counts.no ends.yes ends.no p.counts.goes p.counts.completes
+          (subst (λ (x : Settings). Completes x.stop (Rule x.budget) ends.all g k b.held c.held ends.yes ends.no) p.counts.settings ends.completes)
 
       all_read : Consumes a.left d.left ((p.script ++ bytes) ++ [])
       all_read = Consumes-trans a.left c.left d.left (p.script ++ bytes) [] (Consumes-trans a.left b.left c.left p.script bytes p.read r.1.1) read
@@ -424,8 +424,8 @@ module _ (Rule : ByBudget) where
         record {
           part = (p.script ++ bytes) ++ [];
           read = all_read;
-          breaks = subst (λ (cs : List Handed). BreaksOff old.settings.stop (Rule old.settings.steps) cs h k a.held d.held) (sym script_is)
-              (BreaksOff-flush old.settings.stop (Rule old.settings.steps) (p.done ++ ends.all) h k a.held c.held d.held _ _ whole held);
+          breaks = subst (λ (cs : List Handed). BreaksOff old.settings.stop (Rule old.settings.budget) cs h k a.held d.held) (sym script_is)
+              (BreaksOff-flush old.settings.stop (Rule old.settings.budget) (p.done ++ ends.all) h k a.held c.held d.held _ _ whole held);
         },
       )
 
@@ -435,10 +435,10 @@ module _ (Rule : ByBudget) where
         record {
           script = (p.script ++ bytes) ++ [];
           read = all_read;
-          completes = subst (λ (cs : List Handed). Completes old.settings.stop (Rule old.settings.steps) cs h k a.held d.held t.summary.accepted t.summary.refused) (sym script_is)
-              (subst (λ (y : ℕ). Completes old.settings.stop (Rule old.settings.steps) (p.done ++ ends.all) h k a.held d.held y t.summary.refused) (sym accepted)
-              (subst (λ (n : ℕ). Completes old.settings.stop (Rule old.settings.steps) (p.done ++ ends.all) h k a.held d.held (p.counts.yes + ends.yes) n) (sym refused)
-              (Completes-flushed old.settings.stop (Rule old.settings.steps) (p.done ++ ends.all) h k a.held c.held d.held _ _ whole held)));
+          completes = subst (λ (cs : List Handed). Completes old.settings.stop (Rule old.settings.budget) cs h k a.held d.held t.summary.accepted t.summary.refused) (sym script_is)
+              (subst (λ (y : ℕ). Completes old.settings.stop (Rule old.settings.budget) (p.done ++ ends.all) h k a.held d.held y t.summary.refused) (sym accepted)
+              (subst (λ (n : ℕ). Completes old.settings.stop (Rule old.settings.budget) (p.done ++ ends.all) h k a.held d.held (p.counts.yes + ends.yes) n) (sym refused)
+              (Completes-flushed old.settings.stop (Rule old.settings.budget) (p.done ++ ends.all) h k a.held c.held d.held _ _ whole held)));
           end = end r.1.2.1;
         },
       )
@@ -450,19 +450,19 @@ module _ (Rule : ByBudget) where
           refused = omega (arith, zero_refused, ends.refused, p.counts.refused)
 
           end : IsAtEnd c.left ⊎ Stops Rule s g k b.held c.held bytes ends.yes ends.no →
-              IsAtEnd d.left ⊎ ((old.settings.stop ≡ true) × (0 < t.summary.refused) × Completes old.settings.stop (Rule old.settings.steps) (completed old.settings.framing ((p.script ++ bytes) ++ [])) h k a.held d.held t.summary.accepted t.summary.refused)
+              IsAtEnd d.left ⊎ ((old.settings.stop ≡ true) × (0 < t.summary.refused) × Completes old.settings.stop (Rule old.settings.budget) (completed old.settings.framing ((p.script ++ bytes) ++ [])) h k a.held d.held t.summary.accepted t.summary.refused)
           end (inl e) = inl (at_end e)
           end (inr e) =
-              let both = Completes-append old.settings.stop (Rule old.settings.steps) p.done e.all h g k a.held b.held c.held p.counts.yes p.counts.no ends.yes ends.no p.counts.goes p.counts.completes
-              (subst (λ (x : Settings). Completes x.stop (Rule x.steps) e.all g k b.held c.held ends.yes ends.no) p.counts.settings e.completes) in
+              let both = Completes-append old.settings.stop (Rule old.settings.budget) p.done e.all h g k a.held b.held c.held p.counts.yes p.counts.no ends.yes ends.no p.counts.goes p.counts.completes
+              (subst (λ (x : Settings). Completes x.stop (Rule x.budget) e.all g k b.held c.held ends.yes ends.no) p.counts.settings e.completes) in
               let whole_is : completed old.settings.framing ((p.script ++ bytes) ++ []) ≡ p.done ++ e.all = ap (completed old.settings.framing) (append-nil (p.script ++ bytes)) ∙ e.hands old.settings.framing p.script p.done p.stands in
               inr (
                 sym (ap (λ (x : Settings). x.stop) p.counts.settings) ∙ e.stop,
                 omega (arith, e.some, refused),
-                subst (λ (cs : List Handed). Completes old.settings.stop (Rule old.settings.steps) cs h k a.held d.held t.summary.accepted t.summary.refused) (sym whole_is)
-                    (subst (λ (y : ℕ). Completes old.settings.stop (Rule old.settings.steps) (p.done ++ e.all) h k a.held d.held y t.summary.refused) (sym accepted)
-                    (subst (λ (n : ℕ). Completes old.settings.stop (Rule old.settings.steps) (p.done ++ e.all) h k a.held d.held (p.counts.yes + ends.yes) n) (sym refused)
-                    (Completes-flushed old.settings.stop (Rule old.settings.steps) (p.done ++ e.all) h k a.held c.held d.held _ _ both held))),
+                subst (λ (cs : List Handed). Completes old.settings.stop (Rule old.settings.budget) cs h k a.held d.held t.summary.accepted t.summary.refused) (sym whole_is)
+                    (subst (λ (y : ℕ). Completes old.settings.stop (Rule old.settings.budget) (p.done ++ e.all) h k a.held d.held y t.summary.refused) (sym accepted)
+                    (subst (λ (n : ℕ). Completes old.settings.stop (Rule old.settings.budget) (p.done ++ e.all) h k a.held d.held (p.counts.yes + ends.yes) n) (sym refused)
+                    (Completes-flushed old.settings.stop (Rule old.settings.budget) (p.done ++ e.all) h k a.held c.held d.held _ _ both held))),
               )
 
   pub turn_is : (x y : Bool) (s t : Running) (g k : History) (b c : Streams) (most : ℕ) → x ≡ y → TurnRight Rule (Ok x) s t g k b c most → TurnRight Rule (Ok y) s t g k b c most

@@ -4,7 +4,7 @@ ghost use Rattle.std.specs.Prelude.{◌≡◌, ◌⊎◌, Ok, Err, OnOk, IfOk, I
 ghost use Rattle.aterm_text.specs.Grammar.{Spells, SpellsAnnotations};
 ghost use Rattle.term_core.specs.Tree.{Tree};
 ghost use Rattle.session_history.specs.Acts.{place_of};
-ghost use Rattle.session_history.specs.Steps.{AreSteps};
+ghost use Rattle.session_history.specs.Budget.{IsBudget};
 ghost use Rattle.script_text.specs.Form.{tree, put, annotate, tree_form, put_form, HasBudget, is_without_memory};
 ghost use Rattle.script_text.specs.FedRight.{handed_out};
 ghost use Rattle.script_text.specs.Replies.{ReadAs, Replies, line};
@@ -26,18 +26,18 @@ use term_paths::{Path, at};
 
 /// Writes the answer of a command, in place of what was in the buffer, and returns whether the
 /// command was accepted. If memory can't grow, the answer is `refused 1 memory` and the session
-/// stays as it was. `steps`, from 1 to 1,000,000, is the budget of a command that names none.
+/// stays as it was. `budget`, from 1 to 1,000,000, is that of a command that names none.
 pub fn answer_text<M: Meaning>(
     alloc: Global,
     session: &mut Session<M>,
     command: Piece<'_>,
-    steps: u32,
+    budget: u32,
     answer: &mut Answer,
 ) -> bool
-    requires { AreSteps steps }
-    ensures { Answered (ReplyInRun M.meaning steps) (handed_out command.entry) session.old session.new answer.new result }
+    requires { IsBudget budget }
+    ensures { Answered (ReplyInRun M.meaning budget) (handed_out command.entry) session.old session.new answer.new result }
 {
-    answer_watched(alloc, session, command, steps, answer, &mut Unwatched)
+    answer_watched(alloc, session, command, budget, answer, &mut Unwatched)
 }
 
 // Answers a command, and shows it to the observer.
@@ -45,12 +45,12 @@ pub(crate) fn answer_watched<M: Meaning, W: Watch<M>>(
     alloc: Global,
     session: &mut Session<M>,
     command: Piece<'_>,
-    steps: u32,
+    budget: u32,
     answer: &mut Answer,
     watch: &mut W,
 ) -> bool
-    requires { AreSteps steps }
-    ensures { Answered (ReplyInRun M.meaning steps) (handed_out command.entry) session.old session.new answer.new result }
+    requires { IsBudget budget }
+    ensures { Answered (ReplyInRun M.meaning budget) (handed_out command.entry) session.old session.new answer.new result }
 {
     match command {
         Piece::Text(text) => {
@@ -58,7 +58,7 @@ pub(crate) fn answer_watched<M: Meaning, W: Watch<M>>(
             match keyword {
                 Keyword::Tree => answer_tree(alloc, session, text, rest, answer, watch),
                 Keyword::Put => answer_put(alloc, session, text, rest, answer, watch),
-                _ => answer_form(alloc, session, text, keyword, rest, steps, answer, watch),
+                _ => answer_form(alloc, session, text, keyword, rest, budget, answer, watch),
             }
         }
         Piece::Long => refuse(session, command, &Refusal::Long, answer, watch),
@@ -155,15 +155,15 @@ fn answer_form<M: Meaning, W: Watch<M>>(
     command: &[u8],
     keyword: Keyword,
     rest: &[u8],
-    steps: u32,
+    budget: u32,
     answer: &mut Answer,
     watch: &mut W,
 ) -> bool
-    requires { AreSteps steps }
-    ensures { ToldRight (ReplyToForm M.meaning (form_after keyword steps rest.now) session.old) (is_without_memory_after keyword)
+    requires { IsBudget budget }
+    ensures { ToldRight (ReplyToForm M.meaning (form_after keyword budget rest.now) session.old) (is_without_memory_after keyword)
         session.old session.new answer.new result }
 {
-    match Command::read_form(alloc, keyword, rest, steps) {
+    match Command::read_form(alloc, keyword, rest, budget) {
         Ok(read) => match perform(alloc, session, &read, answer) {
             Ok(()) => {
                 watch.accepted(session, Piece::Text(command));
@@ -196,11 +196,11 @@ fn perform<M: Meaning>(
         }
         Command::Module(name, text) => say_ok(session.set_module(name, text), answer),
         Command::Unload(name) => say_ok(session.unload(name), answer),
-        Command::Apply(name, path, steps, text) => {
-            say_ok(session.apply(name, path, *steps, text), answer)
+        Command::Apply(name, path, budget, text) => {
+            say_ok(session.apply(name, path, *budget, text), answer)
         }
-        Command::Preview(name, path, steps, text) => {
-            show_preview(session, name, path, *steps, text, answer)
+        Command::Preview(name, path, budget, text) => {
+            show_preview(session, name, path, *budget, text, answer)
         }
         Command::Undo(n) => say_ok(session.undo(*n), answer),
         Command::Redo(n) => say_ok(session.redo(*n), answer),

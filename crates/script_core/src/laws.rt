@@ -5,7 +5,7 @@ ghost use Rattle.term_core.specs.Word.{is_word, label_of};
 ghost use Rattle.term_core.specs.declared.TheConstants.{MAX_HEIGHT, MAX_SIZE};
 ghost use Rattle.aterm_text.specs.declared.TheConstants.{MAX_NESTING};
 ghost use Rattle.strategy_tokens.specs.declared.TheConstants.{MAX_TOKENS};
-ghost use Rattle.session_history.specs.declared.TheConstants.{MAX_STEPS};
+ghost use Rattle.session_history.specs.declared.TheConstants.{MAX_BUDGET, MAX_STEPS};
 ghost use Rattle.script_text.specs.declared.TheConstants.{MAX_COMMAND};
 ghost use Rattle.script_core.specs.declared.buffer.TheConstants.{ANSWER_ROOM};
 ghost use Rattle.script_core.specs.declared.running.TheConstants.{MAX_READS};
@@ -47,8 +47,8 @@ pub fn dump_reads_back()
 
 /// The values of the bounds that definitions name: the height and the size of terms, the bytes of
 /// names, the open brackets in a term's text, the tokens of a strategy's or module's text, the
-/// bytes of commands, the steps of `undo` and `redo`, the reads of a run, and the least capacity of an
-/// answer's buffer.
+/// bytes of commands, the steps of `undo` and `redo`, budgets, the reads of a run, and the least
+/// capacity of an answer's buffer.
 pub fn bounds()
     ensures height { MAX_HEIGHT ≡ 1000 }
     ensures size { MAX_SIZE ≡ 100000 }
@@ -58,6 +58,7 @@ pub fn bounds()
     ensures tokens { MAX_TOKENS ≡ 4000 }
     ensures command { MAX_COMMAND ≡ 65536 }
     ensures steps { MAX_STEPS ≡ 1000000 }
+    ensures budget { MAX_BUDGET ≡ 1000000 }
     ensures reads { MAX_READS ≡ 1000000000 }
     ensures room { ANSWER_ROOM ≡ 128 }
 {}

@@ -2,7 +2,7 @@
 
 ghost use Rattle.std.specs.Prelude.{◌≡◌, ◌++◌, length, false, OnOk};
 ghost use Rattle.std.specs.List.{flat_map};
-ghost use Rattle.session_history.specs.Steps.{AreSteps};
+ghost use Rattle.session_history.specs.Budget.{IsBudget};
 ghost use Rattle.script_text.specs.Form.{preview as preview_form};
 ghost use Rattle.script_text.specs.Replies.{Replies, path_text, preview_line, replacement_line};
 ghost use Rattle.script_core.specs.inside.Performing.{PerformedRight};
@@ -19,15 +19,15 @@ pub(crate) fn show_preview<M: Meaning>(
     session: &mut Session<M>,
     name: &Label,
     path: &Path,
-    steps: u32,
+    budget: u32,
     text: &[u8],
     answer: &mut Answer,
 ) -> Result<(), Refusal>
-    requires { AreSteps steps }
-    ensures { PerformedRight (Replies M.meaning (preview_form name.now path.now steps text.now) session.old) false result
+    requires { IsBudget budget }
+    ensures { PerformedRight (Replies M.meaning (preview_form name.now path.now budget text.now) session.old) false result
         session.old session.new answer.new }
 {
-    let preview = session.preview(name, path, steps, text)?;
+    let preview = session.preview(name, path, budget, text)?;
     let Some(tree) = session.tree(name) else {
         unreachable!()
     };

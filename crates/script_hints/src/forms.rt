@@ -7,7 +7,7 @@ use crate::parts::{split_option, split_word, without_last_blanks};
 use crate::seen::{Before, Seen};
 use crate::terms::BEGINS_WITH_MARK;
 use script_text::Framing;
-use session_history::MAX_STEPS;
+use session_history::{MAX_BUDGET, MAX_STEPS};
 use std::alloc::Global;
 use term_core::NoMemory;
 use term_paths::read_number;
@@ -211,7 +211,7 @@ fn say_fault_of_apply(hint: &mut Hint, name: &[u8], rest: &[u8]) {
     if keyword != b"do".as_slice() {
         match (name, path, budget) {
             (b"at" | b"within" | b"do", None, None) => say_read_as_name(hint, name),
-            (_, _, Some(b"do")) => say_number_fault(hint, b"do".as_slice()),
+            (_, _, Some(b"do")) => say_number_fault(hint, b"do".as_slice(), MAX_BUDGET),
             (_, Some(b"do"), _) => say_path_fault(hint, b"do".as_slice()),
             _ => say_no_do(hint, path, budget, keyword),
         }
@@ -223,7 +223,7 @@ fn say_fault_of_apply(hint: &mut Hint, name: &[u8], rest: &[u8]) {
         say_path_fault(hint, path);
         return;
     }
-    say_number_fault(hint, budget.unwrap_or(&[]));
+    say_number_fault(hint, budget.unwrap_or(&[]), MAX_BUDGET);
 }
 
 fn say_no_do(hint: &mut Hint, path: Option<&[u8]>, budget: Option<&[u8]>, keyword: &[u8]) {
@@ -261,17 +261,17 @@ fn say_steps_fault(hint: &mut Hint, rest: &[u8]) {
         say_more(hint, rest);
         return;
     }
-    say_number_fault(hint, number);
+    say_number_fault(hint, number, MAX_STEPS);
 }
 
-fn say_number_fault(hint: &mut Hint, word: &[u8]) {
+fn say_number_fault(hint: &mut Hint, word: &[u8], most: u32) {
     if word.is_empty() {
         hint.say("the number is missing");
         return;
     }
     hint.quote(word);
     hint.say(" is no number from 1 to ");
-    hint.number(u64::from(MAX_STEPS));
+    hint.number(u64::from(most));
 }
 
 fn is_path(word: &[u8]) -> bool {

@@ -6,7 +6,7 @@ use crate::places::{say_place, show_place};
 use crate::seen::Seen;
 use aterm_text::{MAX_NESTING, nesting, read, read_annotations};
 use script_text::MAX_COMMAND;
-use session_history::MAX_STEPS;
+use session_history::MAX_BUDGET;
 use std::alloc::Global;
 use strategy_tokens::{MAX_TOKENS, token_count, token_place};
 use term_core::{MAX_HEIGHT, MAX_SIZE, NoMemory, Term};
@@ -164,15 +164,15 @@ fn say_built(hint: &mut Hint) {
 /// Refusal 13: the budget.
 pub fn explain_spent(hint: &mut Hint, seen: &Seen<'_>, parts: &Parts<'_>) {
     let budget = match read_number(parts.budget) {
-        Some(steps) => steps as u64,
-        None => u64::from(seen.steps),
+        Some(budget) => budget as u64,
+        None => u64::from(seen.budget),
     };
     hint.say(": the ");
     hint.count(budget, "step");
     hint.say(" of the budget are used up");
     hint.line();
     hint.say("`within K` takes K up to ");
-    hint.number(u64::from(MAX_STEPS));
+    hint.number(u64::from(MAX_BUDGET));
 }
 
 /// Refusals 15 and 16: how many steps there are.

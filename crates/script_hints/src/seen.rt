@@ -68,7 +68,7 @@ pub struct Seen<'a> {
     /// Its bytes; none if it is longer than 65,536.
     pub text: &'a [u8],
     /// The budget of a command that names none, from 1 to 1,000,000.
-    pub steps: u32,
+    pub budget: u32,
     /// Where a command ends.
     pub framing: Framing,
     /// What is kept of the commands before it.

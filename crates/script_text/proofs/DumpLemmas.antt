@@ -134,18 +134,18 @@ abbrev falses : List (List ℕ) → List Bool
 falses [] = []
 falses (c ∷ cs) = false ∷ falses cs
 
-module _ (meaning : Meaning) (steps : ℕ) where
+module _ (meaning : Meaning) (budget : ℕ) where
   -- the commands lead from one history to another, and each is answered with `ok`
   abbrev Oks : List (List ℕ) → History → History → Type 0
   Oks [] h g = h ≡ g
-  Oks (c ∷ cs) h g = (k : History) × ReplyTo meaning steps (text c) h (Ok (ok_with k)) × Oks cs k g
+  Oks (c ∷ cs) h g = (k : History) × ReplyTo meaning budget (text c) h (Ok (ok_with k)) × Oks cs k g
 
   oks-append : (cs ds : List (List ℕ)) (h k g : History) → Oks cs h k → Oks ds k g → Oks (cs ++ ds) h g
   oks-append [] ds h k g e p = subst (λ (x : History). Oks ds x g) (sym e) p
   oks-append (c ∷ cs) ds h k g o p = (o.0, o.1, oks-append cs ds o.0 k g o.2 p)
 
   -- a command of this form
-  said : (command : List ℕ) (form : Form) (h : History) (reply : Reply) → command_of steps command ≡ Ok form → Replies meaning form h reply → ReplyTo meaning steps (text command) h reply
+  said : (command : List ℕ) (form : Form) (h : History) (reply : Reply) → command_of budget command ≡ Ok form → Replies meaning form h reply → ReplyTo meaning budget (text command) h reply
   said command form h reply is replies = subst (λ (form : Result Form Refusal). MatchResult form (λ form. Replies meaning form h reply) (λ refusal. reply ≡ Err refusal)) (sym is) replies
 
   abbrev replies_of : (cs : List (List ℕ)) (h g : History) → Oks cs h g → List Reply
@@ -183,9 +183,9 @@ module _ (meaning : Meaning) (steps : ℕ) where
         let within : size e.1 ≤ length (tree_command e.0 (print e.1)) = omega (arith, lengthy e.1 g.term, length-append (codes "tree ") (e.0 ++ 32 ∷ print e.1), length-append e.0 (32 ∷ print e.1)) in
         both_true (le-leb (0 + height e.1) MAX_HEIGHT (omega (arith, g.low))) (le-leb (size e.1) MAX_SIZE (omega (arith, within, short)))
 
-    tree_said : (e : TreeEntry) → IsGiven e → IsShort (tree_command e.0 (print e.1)) → (h : History) → ReplyTo meaning steps (text (tree_command e.0 (print e.1))) h (Ok (ok_with (changed (with_tree h.now e.0 e.1) h)))
+    tree_said : (e : TreeEntry) → IsGiven e → IsShort (tree_command e.0 (print e.1)) → (h : History) → ReplyTo meaning budget (text (tree_command e.0 (print e.1))) h (Ok (ok_with (changed (with_tree h.now e.0 e.1) h)))
     tree_said e g short h =
-        said (tree_command e.0 (print e.1)) (tree e.0 (print e.1)) h (Ok (ok_with (changed (with_tree h.now e.0 e.1) h))) (command-is steps e.0 (print e.1) (is_dumped e g)) (
+        said (tree_command e.0 (print e.1)) (tree e.0 (print e.1)) h (Ok (ok_with (changed (with_tree h.now e.0 e.1) h))) (command-is budget e.0 (print e.1) (is_dumped e g)) (
           Ok (changed (with_tree h.now e.0 e.1) h),
           (
             Ok e.1,
@@ -208,10 +208,10 @@ module _ (meaning : Meaning) (steps : ℕ) where
   abbrev module_commands : List TextEntry → List (List ℕ)
   module_commands es = map (λ e. module_command e.0 e.1) es
 
-  module_said : (framing : Framing) (e : TextEntry) → IsTold framing e → (h : History) (g : HistoryGroup) → h.group ≡ Some g → ReplyTo meaning steps (text (module_command e.0 e.1)) h (Ok (ok_with (changed (with_module h.now e.0 e.1) h)))
+  module_said : (framing : Framing) (e : TextEntry) → IsTold framing e → (h : History) (g : HistoryGroup) → h.group ≡ Some g → ReplyTo meaning budget (text (module_command e.0 e.1)) h (Ok (ok_with (changed (with_module h.now e.0 e.1) h)))
   module_said framing e t h g some =
       let k : History = changed (with_module h.now e.0 e.1) h in
-      said (module_command e.0 e.1) (set_module e.0 e.1) h (Ok (ok_with k)) (module_command-is framing steps e.0 e.1 t.label t.text)
+      said (module_command e.0 e.1) (set_module e.0 e.1) h (Ok (ok_with k)) (module_command-is framing budget e.0 e.1 t.label t.text)
       (Ok k, (Ok t.reads.0, t.reads.1, subst (λ (o : Option HistoryGroup). ChangesModules o (with_module h.now e.0 e.1) h (Ok k)) (sym some) refl), refl)
 
   modules_said : (framing : Framing) (es : List TextEntry) → AllByRecursion (IsTold framing) es → (h : History) (g : HistoryGroup) → h.group ≡ Some g → Oks (module_commands es) h (modules_after h es)
@@ -220,12 +220,12 @@ module _ (meaning : Meaning) (steps : ℕ) where
       let c : Contents = with_module h.now e.0 e.1 in
       (changed c h, module_said framing e t.0 h g some, modules_said framing es t.1 (changed c h) (record g { changed = true }) (inside-changed c h g some))
 
-  begin_said : (h : History) → h.group ≡ None → ReplyTo meaning steps (text (codes "begin")) h (Ok (ok_with (record h { group = Some (record { begun = h.now; changed = false }) })))
+  begin_said : (h : History) → h.group ≡ None → ReplyTo meaning budget (text (codes "begin")) h (Ok (ok_with (record h { group = Some (record { begun = h.now; changed = false }) })))
   begin_said h none =
       let k : History = record h { group = Some (record { begun = h.now; changed = false }) } in
       said (codes "begin") begin h (Ok (ok_with k)) refl (Ok k, subst (λ (o : Option HistoryGroup). Holding (is_none o) Group (Leaves k) (Ok k)) (sym none) refl, refl)
 
-  commit_said : (h : History) (g : HistoryGroup) → h.group ≡ Some g → Finds h.primitives h.now.modules None → ReplyTo meaning steps (text (codes "commit")) h (Ok (ok_with (committed g h)))
+  commit_said : (h : History) (g : HistoryGroup) → h.group ≡ Some g → Finds h.primitives h.now.modules None → ReplyTo meaning budget (text (codes "commit")) h (Ok (ok_with (committed g h)))
   commit_said h g some finds =
       let k : History = committed g h in
       let checked = gives h.primitives h.now.modules finds in
@@ -275,32 +275,32 @@ first_of_list : List Reply → Reply → Reply
 first_of_list [] r = r
 first_of_list (r ∷ rs) s = r
 
-module _ (one : OneRun) (stop : Bool) (meaning : Meaning) (steps : ℕ) where
-  one_reply : (c : List ℕ) (h : History) (r s : Reply) → ReplyInRun meaning steps (text c) false h r → ReplyInRun meaning steps (text c) false h s → r ≡ s
+module _ (one : OneRun) (stop : Bool) (meaning : Meaning) (budget : ℕ) where
+  one_reply : (c : List ℕ) (h : History) (r s : Reply) → ReplyInRun meaning budget (text c) false h r → ReplyInRun meaning budget (text c) false h s → r ≡ s
   one_reply c h r s p q =
       let singles : r ∷ [] ≡ s ∷ [] =
-      one meaning stop steps (text c ∷ []) (false ∷ []) h (r ∷ []) (s ∷ []) (p, end_of_one (stop && is_err r)) (q, end_of_one (stop && is_err s)) in
+      one meaning stop budget (text c ∷ []) (false ∷ []) h (r ∷ []) (s ∷ []) (p, end_of_one (stop && is_err r)) (q, end_of_one (stop && is_err s)) in
       cc
 
-  only : (cs : List (List ℕ)) (h g : History) (o : Oks meaning steps cs h g) (flags : List Bool) → AreClear flags → (rs : List Reply) → Replied stop (ReplyInRun meaning steps) (map (λ c. text c) cs) flags h rs → rs ≡ replies_of meaning steps cs h g o
+  only : (cs : List (List ℕ)) (h g : History) (o : Oks meaning budget cs h g) (flags : List Bool) → AreClear flags → (rs : List Reply) → Replied stop (ReplyInRun meaning budget) (map (λ c. text c) cs) flags h rs → rs ≡ replies_of meaning budget cs h g o
   only [] h g o [] clear [] p = refl
   only (c ∷ cs) h g o (flag ∷ flags) clear (r ∷ rs) p =
-      let first : r ≡ Ok (ok_with o.0) = one_reply c h r (Ok (ok_with o.0)) (subst (λ (f : Bool). ReplyInRun meaning steps (text c) f h r) clear.0 p.0) o.1 in
-      let rest : Replied stop (ReplyInRun meaning steps) (map (λ c. text c) cs) flags o.0 rs =
-      subst (λ (b : Bool). MatchBool b ((flags ≡ []) × (rs ≡ [])) (Replied stop (ReplyInRun meaning steps) (map (λ c. text c) cs) flags o.0 rs)) (stays stop)
-      (subst (λ (x : Reply). MatchBool (stop && is_err x) ((flags ≡ []) × (rs ≡ [])) (Replied stop (ReplyInRun meaning steps) (map (λ c. text c) cs) flags (history_after h x) rs)) first p.1) in
+      let first : r ≡ Ok (ok_with o.0) = one_reply c h r (Ok (ok_with o.0)) (subst (λ (f : Bool). ReplyInRun meaning budget (text c) f h r) clear.0 p.0) o.1 in
+      let rest : Replied stop (ReplyInRun meaning budget) (map (λ c. text c) cs) flags o.0 rs =
+      subst (λ (b : Bool). MatchBool b ((flags ≡ []) × (rs ≡ [])) (Replied stop (ReplyInRun meaning budget) (map (λ c. text c) cs) flags o.0 rs)) (stays stop)
+      (subst (λ (x : Reply). MatchBool (stop && is_err x) ((flags ≡ []) × (rs ≡ [])) (Replied stop (ReplyInRun meaning budget) (map (λ c. text c) cs) flags (history_after h x) rs)) first p.1) in
       λ i. first i ∷ only cs o.0 g o.2 flags clear.1 rs rest i
   only [] h g o [] clear (r ∷ rs) p = absurd p
   only [] h g o (flag ∷ flags) clear rs p = absurd p
   only (c ∷ cs) h g o [] clear rs p = absurd p
   only (c ∷ cs) h g o (flag ∷ flags) clear [] p = absurd p
 
-answered : (stop : Bool) (meaning : Meaning) (steps : ℕ) (cs : List (List ℕ)) (h g : History) (o : Oks meaning steps cs h g) → Replied stop (ReplyInRun meaning steps) (map (λ c. text c) cs) (falses cs) h (replies_of meaning steps cs h g o)
-answered stop meaning steps [] h g o = tt
-answered stop meaning steps (c ∷ cs) h g o = (
+answered : (stop : Bool) (meaning : Meaning) (budget : ℕ) (cs : List (List ℕ)) (h g : History) (o : Oks meaning budget cs h g) → Replied stop (ReplyInRun meaning budget) (map (λ c. text c) cs) (falses cs) h (replies_of meaning budget cs h g o)
+answered stop meaning budget [] h g o = tt
+answered stop meaning budget (c ∷ cs) h g o = (
   o.1,
-  subst (λ (b : Bool). MatchBool b ((falses cs ≡ []) × (replies_of meaning steps cs o.0 g o.2 ≡ [])) (Replied stop (ReplyInRun meaning steps) (map (λ c. text c) cs) (falses cs) o.0 (replies_of meaning steps cs o.0 g o.2)))
-      (sym (stays stop)) (answered stop meaning steps cs o.0 g o.2),
+  subst (λ (b : Bool). MatchBool b ((falses cs ≡ []) × (replies_of meaning budget cs o.0 g o.2 ≡ [])) (Replied stop (ReplyInRun meaning budget) (map (λ c. text c) cs) (falses cs) o.0 (replies_of meaning budget cs o.0 g o.2)))
+      (sym (stays stop)) (answered stop meaning budget cs o.0 g o.2),
 )
 
 all-clear : (cs : List (List ℕ)) → AreClear (falses cs)
@@ -327,9 +327,9 @@ modules_script : (es : List TextEntry) → flat_map (λ e. module_line e.0 e.1) 
 modules_script [] = refl
 modules_script (e ∷ es) = λ i. module_line-is e.0 e.1 i ++ modules_script es i
 
-group_script : (meaning : Meaning) (steps : ℕ) (es : List TextEntry) → group_text es ≡ script_of (group_commands meaning steps es)
-group_script meaning steps [] = refl
-group_script meaning steps (e ∷ es) =
+group_script : (meaning : Meaning) (budget : ℕ) (es : List TextEntry) → group_text es ≡ script_of (group_commands meaning budget es)
+group_script meaning budget [] = refl
+group_script meaning budget (e ∷ es) =
     ap (λ (x : List ℕ). (codes "begin" ++ 10 ∷ []) ++ x) (ap (λ (x : List ℕ). x ++ (codes "commit" ++ 10 ∷ [])) (modules_script (e ∷ es))
     ∙ sym (script-append (map (λ e. module_command e.0 e.1) (e ∷ es)) (codes "commit" ∷ [])))
 
@@ -345,9 +345,9 @@ modules_whole : (framing : Framing) (es : List TextEntry) → AllByRecursion (Is
 modules_whole framing [] t = tt
 modules_whole framing (e ∷ es) t = (module_whole framing e.0 e.1 t.0.label t.0.text, modules_whole framing es t.1)
 
-group_whole : (framing : Framing) (meaning : Meaning) (steps : ℕ) (es : List TextEntry) → AllByRecursion (IsTold framing) es → AllByRecursion (IsWhole framing) (group_commands meaning steps es)
-group_whole framing meaning steps [] t = tt
-group_whole framing meaning steps (e ∷ es) t =
+group_whole : (framing : Framing) (meaning : Meaning) (budget : ℕ) (es : List TextEntry) → AllByRecursion (IsTold framing) es → AllByRecursion (IsWhole framing) (group_commands meaning budget es)
+group_whole framing meaning budget [] t = tt
+group_whole framing meaning budget (e ∷ es) t =
     (begin_whole framing, All-append-rec (IsWhole framing) (map (λ e. module_command e.0 e.1) (e ∷ es)) (codes "commit" ∷ []) (modules_whole framing (e ∷ es) t) (commit_whole framing, tt))
 
 as_text : (x : List ℕ) → IsShort x → handed_as x ≡ text x
@@ -362,9 +362,9 @@ module _ (back : PrintedTextReadsBack) (oneline : PrintedTextIsOneLine) (nests :
   trees_whole framing [] g = tt
   trees_whole framing (e ∷ es) g = (tree_whole framing e.0 (print e.1) (record { label = g.0.label; line = oneline e.1 g.0.term }), trees_whole framing es g.1)
 
-  module _ (meaning : Meaning) (framing : Framing) (steps : ℕ) (c : Contents) (h : History) (can : CanBeGiven framing h.primitives c) where
+  module _ (meaning : Meaning) (framing : Framing) (budget : ℕ) (c : Contents) (h : History) (can : CanBeGiven framing h.primitives c) where
     abbrev all_commands : List (List ℕ)
-    all_commands = map (λ e. tree_command e.0 (print e.1)) (entries c.trees) ++ group_commands meaning steps (entries c.modules)
+    all_commands = map (λ e. tree_command e.0 (print e.1)) (entries c.trees) ++ group_commands meaning budget (entries c.modules)
 
     trees : AllByRecursion IsGiven (entries c.trees)
     trees = trees_given c can.named.0 can.sound.0.0
@@ -374,15 +374,15 @@ module _ (back : PrintedTextReadsBack) (oneline : PrintedTextIsOneLine) (nests :
 
     text-is : dumped c ≡ script_of all_commands
     text-is =
-        dumped-is c ∙ (λ i. trees_script (entries c.trees) i ++ group_script meaning steps (entries c.modules) i)
-        ∙ sym (script-append (map (λ e. tree_command e.0 (print e.1)) (entries c.trees)) (group_commands meaning steps (entries c.modules)))
+        dumped-is c ∙ (λ i. trees_script (entries c.trees) i ++ group_script meaning budget (entries c.modules) i)
+        ∙ sym (script-append (map (λ e. tree_command e.0 (print e.1)) (entries c.trees)) (group_commands meaning budget (entries c.modules)))
 
     commands-are : commands framing (dumped c) ≡ all_commands
     commands-are =
         ap (commands framing) text-is
         ∙ commands-script framing all_commands
-        (All-append-rec (IsWhole framing) (map (λ e. tree_command e.0 (print e.1)) (entries c.trees)) (group_commands meaning steps (entries c.modules)) (trees_whole framing (entries c.trees) trees)
-        (group_whole framing meaning steps (entries c.modules) modules))
+        (All-append-rec (IsWhole framing) (map (λ e. tree_command e.0 (print e.1)) (entries c.trees)) (group_commands meaning budget (entries c.modules)) (trees_whole framing (entries c.trees) trees)
+        (group_whole framing meaning budget (entries c.modules) modules))
 
     short : AllByRecursion IsShort all_commands
     short = subst (λ (cs : List (List ℕ)). AllByRecursion IsShort cs) commands-are can.short
@@ -393,7 +393,7 @@ module _ (back : PrintedTextReadsBack) (oneline : PrintedTextIsOneLine) (nests :
     -- the outcome of the commands
     record IsLed : Type 0 where
       last : History
-      oks : Oks meaning steps all_commands h last
+      oks : Oks meaning budget all_commands h last
       now : last.now ≡ c
 
     led : IsBare h → IsLed
@@ -403,36 +403,36 @@ module _ (back : PrintedTextReadsBack) (oneline : PrintedTextIsOneLine) (nests :
         let bare_now : k.now ≡ record { trees = c.trees; modules = finmap.empty } =
         left.now ∙ ap (λ (d : Contents). record d { trees = inserted d.trees (entries c.trees) }) bare.contents ∙ ap (λ m. record { trees = m; modules = finmap.empty }) (inserted-all c.trees) in
         let all : inserted k.now.modules (entries c.modules) ≡ c.modules = ap (λ (d : Contents). inserted d.modules (entries c.modules)) bare_now ∙ inserted-all c.modules in
-        let grouped = group_said meaning steps framing (entries c.modules) modules k left.group
+        let grouped = group_said meaning budget framing (entries c.modules) modules k left.group
         (subst (λ (ps : Primitives). Finds ps (inserted k.now.modules (entries c.modules)) None) (sym left.primitives) (subst (λ m. Finds h.primitives m None) (sym all) can.sound.1)) in
         record {
           last = grouped.last;
-          oks = oks-append meaning steps (map (λ e. tree_command e.0 (print e.1)) (entries c.trees)) (group_commands meaning steps (entries c.modules)) h k grouped.last
-              (trees_said meaning steps back oneline nests lengthy (entries c.trees) trees (All-front IsShort (map (λ e. tree_command e.0 (print e.1)) (entries c.trees)) (group_commands meaning steps (entries c.modules)) short) h) grouped.oks;
+          oks = oks-append meaning budget (map (λ e. tree_command e.0 (print e.1)) (entries c.trees)) (group_commands meaning budget (entries c.modules)) h k grouped.last
+              (trees_said meaning budget back oneline nests lengthy (entries c.trees) trees (All-front IsShort (map (λ e. tree_command e.0 (print e.1)) (entries c.trees)) (group_commands meaning budget (entries c.modules)) short) h) grouped.oks;
           now = grouped.now ∙ (λ i. record { trees = (bare_now i).trees; modules = all i });
         }
 
   pub dump_read_back : OneRun → DumpReadsBack
-  dump_read_back one meaning framing stop steps c h g flags replies can bare clear leads =
-      let there = led meaning framing steps c h can bare in
-      let cs : List (List ℕ) = all_commands meaning framing steps c h can in
-      let count = ap length (commands-are meaning framing steps c h can) in
-      let are : replies ≡ replies_of meaning steps cs h there.last there.oks =
-      only one stop meaning steps cs h there.last there.oks flags clear replies (subst (λ (cs : List Handed). Replied stop (ReplyInRun meaning steps) cs flags h replies) (handed-are meaning framing steps c h can) leads.replied) in
+  dump_read_back one meaning framing stop budget c h g flags replies can bare clear leads =
+      let there = led meaning framing budget c h can bare in
+      let cs : List (List ℕ) = all_commands meaning framing budget c h can in
+      let count = ap length (commands-are meaning framing budget c h can) in
+      let are : replies ≡ replies_of meaning budget cs h there.last there.oks =
+      only one stop meaning budget cs h there.last there.oks flags clear replies (subst (λ (cs : List Handed). Replied stop (ReplyInRun meaning budget) cs flags h replies) (handed-are meaning framing budget c h can) leads.replied) in
       record {
-        contents = ap (λ (x : History). x.now) leads.history ∙ ap (λ (rs : List Reply). (history_after_all h rs).now) are ∙ ap (λ (x : History). x.now) (history-is meaning steps cs h there.last there.oks) ∙ there.now;
-        answers = ap out are ∙ out-is meaning steps cs h there.last there.oks ∙ ap (λ (n : ℕ). repeat n (line (codes "ok"))) (sym count);
-        accepted = ap (count_by is_ok) are ∙ accepted-is meaning steps cs h there.last there.oks ∙ sym count;
-        refused = ap (count_by is_err) are ∙ refused-is meaning steps cs h there.last there.oks;
+        contents = ap (λ (x : History). x.now) leads.history ∙ ap (λ (rs : List Reply). (history_after_all h rs).now) are ∙ ap (λ (x : History). x.now) (history-is meaning budget cs h there.last there.oks) ∙ there.now;
+        answers = ap out are ∙ out-is meaning budget cs h there.last there.oks ∙ ap (λ (n : ℕ). repeat n (line (codes "ok"))) (sym count);
+        accepted = ap (count_by is_ok) are ∙ accepted-is meaning budget cs h there.last there.oks ∙ sym count;
+        refused = ap (count_by is_err) are ∙ refused-is meaning budget cs h there.last there.oks;
       }
 
   pub dump_answered : DumpIsAnswered
-  dump_answered meaning framing stop steps c h can bare =
-      let there = led meaning framing steps c h can bare in
-      let cs : List (List ℕ) = all_commands meaning framing steps c h can in (
+  dump_answered meaning framing stop budget c h can bare =
+      let there = led meaning framing budget c h can bare in
+      let cs : List (List ℕ) = all_commands meaning framing budget c h can in (
         falses cs,
-        replies_of meaning steps cs h there.last there.oks,
+        replies_of meaning budget cs h there.last there.oks,
         all-clear cs,
-        subst (λ (cs : List Handed). Replied stop (ReplyInRun meaning steps) cs (falses (all_commands meaning framing steps c h can)) h (replies_of meaning steps (all_commands meaning framing steps c h can) h there.last there.oks)) (sym (handed-are meaning framing steps c h can))
-            (answered stop meaning steps cs h there.last there.oks),
+        subst (λ (cs : List Handed). Replied stop (ReplyInRun meaning budget) cs (falses (all_commands meaning framing budget c h can)) h (replies_of meaning budget (all_commands meaning framing budget c h can) h there.last there.oks)) (sym (handed-are meaning framing budget c h can))
+            (answered stop meaning budget cs h there.last there.oks),
       )

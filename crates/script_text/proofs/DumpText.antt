@@ -180,31 +180,31 @@ command_ends keyword name x some end =
     subst (λ (xs : List ℕ). suffix_len is_blank (keyword ++ xs) ≡ 0) (append_assoc name (32 ∷ []) x)
     (subst (λ (xs : List ℕ). suffix_len is_blank xs ≡ 0) (append_assoc keyword (name ++ 32 ∷ []) x) (end-append is_blank (keyword ++ (name ++ 32 ∷ [])) x some end))
 
-form-is : (steps : ℕ) (name x : List ℕ) → IsDumped name x → form_of steps (tree_command name x) ≡ Some (tree name x)
-form-is steps name x h =
-    ap (λ (text : List ℕ). form_with steps (front_word text) (after_word text)) (no_end is_blank (tree_command name x) (command_ends (codes "tree ") name x h.line.some h.line.end))
+form-is : (budget : ℕ) (name x : List ℕ) → IsDumped name x → form_of budget (tree_command name x) ≡ Some (tree name x)
+form-is budget name x h =
+    ap (λ (text : List ℕ). form_with budget (front_word text) (after_word text)) (no_end is_blank (tree_command name x) (command_ends (codes "tree ") name x h.line.some h.line.end))
     ∙ named-is tree name x (label_ink name h.label) h.line.front
 
 -- the command is read as what was dumped
-pub command-is : (steps : ℕ) (name x : List ℕ) → IsDumped name x → command_of steps (tree_command name x) ≡ Ok (tree name x)
-command-is steps name x h =
-    ap checked (form-is steps name x h) ∙ ap (λ (label : Option (List ℕ)). if is_some label then Ok (tree name x) else Err Name) h.label
+pub command-is : (budget : ℕ) (name x : List ℕ) → IsDumped name x → command_of budget (tree_command name x) ≡ Ok (tree name x)
+command-is budget name x h =
+    ap checked (form-is budget name x h) ∙ ap (λ (label : Option (List ℕ)). if is_some label then Ok (tree name x) else Err Name) h.label
 
 -- ---- commands that set a module
 
-module_form-is : (framing : Framing) (steps : ℕ) (name text : List ℕ) → label_of name ≡ Some name → IsCommandText framing text → form_of steps (module_command name text) ≡ Some (set_module name text)
-module_form-is framing steps name [] label h =
+module_form-is : (framing : Framing) (budget : ℕ) (name text : List ℕ) → label_of name ≡ Some name → IsCommandText framing text → form_of budget (module_command name text) ≡ Some (set_module name text)
+module_form-is framing budget name [] label h =
     let word = label_ink name label in
-    ap (λ (rest : List ℕ). form_of steps (codes "module " ++ rest)) (append-nil name)
-    ∙ ap (λ (text : List ℕ). form_with steps (front_word text) (after_word text)) (no_end is_blank (codes "module " ++ name) (end-append is_blank (codes "module ") name word.some (ink_end name word.all)))
+    ap (λ (rest : List ℕ). form_of budget (codes "module " ++ rest)) (append-nil name)
+    ∙ ap (λ (text : List ℕ). form_with budget (front_word text) (after_word text)) (no_end is_blank (codes "module " ++ name) (end-append is_blank (codes "module ") name word.some (ink_end name word.all)))
     ∙ named-alone set_module name word
-module_form-is framing steps name (b ∷ text) label h =
-    ap (λ (text : List ℕ). form_with steps (front_word text) (after_word text)) (no_end is_blank (module_command name (b ∷ text)) (command_ends (codes "module ") name (b ∷ text) (omega arith) h.end))
+module_form-is framing budget name (b ∷ text) label h =
+    ap (λ (text : List ℕ). form_with budget (front_word text) (after_word text)) (no_end is_blank (module_command name (b ∷ text)) (command_ends (codes "module ") name (b ∷ text) (omega arith) h.end))
     ∙ named-is set_module name (b ∷ text) (label_ink name label) h.front
 
-pub module_command-is : (framing : Framing) (steps : ℕ) (name text : List ℕ) → label_of name ≡ Some name → IsCommandText framing text → command_of steps (module_command name text) ≡ Ok (set_module name text)
-module_command-is framing steps name text label h =
-    ap checked (module_form-is framing steps name text label h) ∙ ap (λ (label : Option (List ℕ)). if is_some label then Ok (set_module name text) else Err Name) label
+pub module_command-is : (framing : Framing) (budget : ℕ) (name text : List ℕ) → label_of name ≡ Some name → IsCommandText framing text → command_of budget (module_command name text) ≡ Ok (set_module name text)
+module_command-is framing budget name text label h =
+    ap checked (module_form-is framing budget name text label h) ∙ ap (λ (label : Option (List ℕ)). if is_some label then Ok (set_module name text) else Err Name) label
 
 -- ---- lines
 

@@ -22,17 +22,17 @@ same_bytes (b ∷ bytes) [] e h = absurd (omega (arith, e))
 same_bytes (b ∷ bytes) (x ∷ text) e h =
     let rest : text ≡ bytes = same_bytes bytes text (omega (arith, e)) (HasBytes-rest x text 0 bytes h.1) in (λ i. h.0 i ∷ rest i)
 
-form_if : (b : Bool) (k l : Keyword) (steps : ℕ) (rest : List ℕ) → form_after (if b then k else l) steps rest ≡ (if b then form_after k steps rest else form_after l steps rest)
-form_if true k l steps rest = refl
-form_if false k l steps rest = refl
+form_if : (b : Bool) (k l : Keyword) (budget : ℕ) (rest : List ℕ) → form_after (if b then k else l) budget rest ≡ (if b then form_after k budget rest else form_after l budget rest)
+form_if true k l budget rest = refl
+form_if false k l budget rest = refl
 
-pub form_at : (word : List ℕ) (steps : ℕ) (rest : List ℕ) → form_with steps word rest ≡ form_after (keyword_at word) steps rest
-form_at word steps rest = simp form_if
+pub form_at : (word : List ℕ) (budget : ℕ) (rest : List ℕ) → form_with budget word rest ≡ form_after (keyword_at word) budget rest
+form_at word budget rest = simp form_if
 
 -- a command that is split into its keyword and the rest
-pub split_form : (steps : ℕ) (command text word rest : List ℕ) (keyword : Keyword) → text ≡ without_end is_blank command → word ≡ front_word text → rest ≡ after_word text → keyword_at word ≡ keyword
-    → form_of steps command ≡ form_after keyword steps rest
-split_form steps command text word rest keyword text_is word_is rest_is keyword_is =
+pub split_form : (budget : ℕ) (command text word rest : List ℕ) (keyword : Keyword) → text ≡ without_end is_blank command → word ≡ front_word text → rest ≡ after_word text → keyword_at word ≡ keyword
+    → form_of budget command ≡ form_after keyword budget rest
+split_form budget command text word rest keyword text_is word_is rest_is keyword_is =
     let front : word ≡ front_word (without_end is_blank command) = word_is ∙ ap front_word text_is in
     let after : rest ≡ after_word (without_end is_blank command) = rest_is ∙ ap after_word text_is in
-    sym (λ i. form_with steps (front i) (after i)) ∙ form_at word steps rest ∙ ap (λ k. form_after k steps rest) keyword_is
+    sym (λ i. form_with budget (front i) (after i)) ∙ form_at word budget rest ∙ ap (λ k. form_after k budget rest) keyword_is

@@ -247,25 +247,25 @@ module _ (one : OneTerm) (one_module : OneModule) (one_strategy : OneResult) (me
   read-one (Ok form) h r s p q = Replies-one form h r s p q
   read-one (Err refusal) h r s p q = p ∙ sym q
 
-  ReplyInRun-one : (steps : ℕ) (command : Handed) (flag : Bool) (h : History) (r s : Reply) → ReplyInRun meaning steps command flag h r → ReplyInRun meaning steps command flag h s → r ≡ s
-  ReplyInRun-one steps (text command) false h r s p q = read-one (command_of steps command) h r s p q
-  ReplyInRun-one steps long false h r s p q = p ∙ sym q
-  ReplyInRun-one steps command true h r s p q = p.1 ∙ sym q.1
+  ReplyInRun-one : (budget : ℕ) (command : Handed) (flag : Bool) (h : History) (r s : Reply) → ReplyInRun meaning budget command flag h r → ReplyInRun meaning budget command flag h s → r ≡ s
+  ReplyInRun-one budget (text command) false h r s p q = read-one (command_of budget command) h r s p q
+  ReplyInRun-one budget long false h r s p q = p ∙ sym q
+  ReplyInRun-one budget command true h r s p q = p.1 ∙ sym q.1
 
-  pub Replied-one : (stop : Bool) (steps : ℕ) (commands : List Handed) (flags : List Bool) (h : History) (rs ss : List Reply) → Replied stop (ReplyInRun meaning steps) commands flags h rs → Replied stop (ReplyInRun meaning steps) commands flags h ss → rs ≡ ss
-  Replied-one stop steps [] [] h [] [] p q = refl
-  Replied-one stop steps (c ∷ cs) (f ∷ fs) h (r ∷ rs) (s ∷ ss) p q =
-      let first = ReplyInRun-one steps c f h r s p.0 q.0 in
-      later (stop && is_err r) first p.1 (subst (λ (x : Reply). MatchBool (stop && is_err x) ((fs ≡ []) × (ss ≡ [])) (Replied stop (ReplyInRun meaning steps) cs fs (history_after h x) ss)) (sym first) q.1)
-      (Replied-one stop steps cs fs (history_after h r) rs ss)
+  pub Replied-one : (stop : Bool) (budget : ℕ) (commands : List Handed) (flags : List Bool) (h : History) (rs ss : List Reply) → Replied stop (ReplyInRun meaning budget) commands flags h rs → Replied stop (ReplyInRun meaning budget) commands flags h ss → rs ≡ ss
+  Replied-one stop budget [] [] h [] [] p q = refl
+  Replied-one stop budget (c ∷ cs) (f ∷ fs) h (r ∷ rs) (s ∷ ss) p q =
+      let first = ReplyInRun-one budget c f h r s p.0 q.0 in
+      later (stop && is_err r) first p.1 (subst (λ (x : Reply). MatchBool (stop && is_err x) ((fs ≡ []) × (ss ≡ [])) (Replied stop (ReplyInRun meaning budget) cs fs (history_after h x) ss)) (sym first) q.1)
+      (Replied-one stop budget cs fs (history_after h r) rs ss)
     where
-      later : (b : Bool) → r ≡ s → MatchBool b ((fs ≡ []) × (rs ≡ [])) (Replied stop (ReplyInRun meaning steps) cs fs (history_after h r) rs) → MatchBool b ((fs ≡ []) × (ss ≡ [])) (Replied stop (ReplyInRun meaning steps) cs fs (history_after h r) ss) →
-          (Replied stop (ReplyInRun meaning steps) cs fs (history_after h r) rs → Replied stop (ReplyInRun meaning steps) cs fs (history_after h r) ss → rs ≡ ss) → r ∷ rs ≡ s ∷ ss
+      later : (b : Bool) → r ≡ s → MatchBool b ((fs ≡ []) × (rs ≡ [])) (Replied stop (ReplyInRun meaning budget) cs fs (history_after h r) rs) → MatchBool b ((fs ≡ []) × (ss ≡ [])) (Replied stop (ReplyInRun meaning budget) cs fs (history_after h r) ss) →
+          (Replied stop (ReplyInRun meaning budget) cs fs (history_after h r) rs → Replied stop (ReplyInRun meaning budget) cs fs (history_after h r) ss → rs ≡ ss) → r ∷ rs ≡ s ∷ ss
       later true e a b rest = ap (λ (x : Reply). x ∷ rs) e ∙ ap (λ (xs : List Reply). s ∷ xs) (a.1 ∙ sym b.1)
       later false e a b rest = ap (λ (x : Reply). x ∷ rs) e ∙ ap (λ (xs : List Reply). s ∷ xs) (rest a b)
-  Replied-one stop steps [] [] h (r ∷ rs) ss p q = absurd p
-  Replied-one stop steps [] [] h [] (s ∷ ss) p q = absurd q
-  Replied-one stop steps [] (f ∷ fs) h rs ss p q = absurd p
-  Replied-one stop steps (c ∷ cs) [] h rs ss p q = absurd p
-  Replied-one stop steps (c ∷ cs) (f ∷ fs) h [] ss p q = absurd p
-  Replied-one stop steps (c ∷ cs) (f ∷ fs) h (r ∷ rs) [] p q = absurd q
+  Replied-one stop budget [] [] h (r ∷ rs) ss p q = absurd p
+  Replied-one stop budget [] [] h [] (s ∷ ss) p q = absurd q
+  Replied-one stop budget [] (f ∷ fs) h rs ss p q = absurd p
+  Replied-one stop budget (c ∷ cs) [] h rs ss p q = absurd p
+  Replied-one stop budget (c ∷ cs) (f ∷ fs) h [] ss p q = absurd p
+  Replied-one stop budget (c ∷ cs) (f ∷ fs) h (r ∷ rs) [] p q = absurd q

@@ -16,8 +16,8 @@ takes_none long = true
 -- The reply to a command in a run. If the flag says that memory couldn't grow, it is `refused 1
 -- memory`; a command that takes no memory never has the flag.
 abbrev pub ReplyInRun : Meaning → ℕ → Handed → Bool → History → Reply → Type 0
-ReplyInRun meaning steps command false h reply = ReplyTo meaning steps command h reply
-ReplyInRun meaning steps command true h reply = (takes_none command ≡ false) × (reply ≡ Err Memory)
+ReplyInRun meaning budget command false h reply = ReplyTo meaning budget command h reply
+ReplyInRun meaning budget command true h reply = (takes_none command ≡ false) × (reply ≡ Err Memory)
 
 -- A command is answered.
 pub record Answered (Rule : Replying) (command : Handed) (old new : History) (answer : List ℕ) (verdict : Bool)

@@ -10,10 +10,10 @@ use Rattle.aterm_text.specs.Tokens.{is_blank, without_blanks}
 use Rattle.session_history.specs.declared.refusal.Refusal.{Refusal}
 use Rattle.session_history.specs.declared.refusal.Refusal.TheVariants.{Line, Name}
 use Rattle.script_text.specs.Script.{without_end}
-use Rattle.session_history.specs.Steps.{AreSteps}
-use Rattle.session_history.specs.declared.TheConstants.{MAX_STEPS}
+use Rattle.session_history.specs.Budget.{IsBudget}
+use Rattle.session_history.specs.declared.TheConstants.{MAX_BUDGET, MAX_STEPS}
 
--- The operands are names, paths, numbers of steps and texts, in the order of the command.
+-- The operands are names, paths, budgets, numbers of steps and texts, in the order of the command.
 pub data Form : Type 0 where
   tree : List ℕ → List ℕ → Form  -- sets the tree of the name to the term of the text
   copy : List ℕ → List ℕ → Form  -- sets the tree of the second name to a copy of that of the first
@@ -81,18 +81,16 @@ abbrev pub last_name : List ℕ → Option (List ℕ)
 last_name rest =
     if has_word rest && not (has_word (after_word rest)) then Some (front_word rest) else None
 
--- a number of steps, from 1 to 1,000,000, written as a number in a path is
-abbrev pub within_steps : ℕ → Option ℕ
-within_steps n = if nat_le 1 n && nat_le n MAX_STEPS then Some n else None
+-- a number from 1 to this one, written as a number in a path is
+abbrev pub up_to : ℕ → List ℕ → Option ℕ
+up_to most digits =
+    option_and_then (λ n. if nat_le 1 n && nat_le n most then Some n else None) (part_of digits)
 
-abbrev pub steps_of : List ℕ → Option ℕ
-steps_of digits = option_and_then within_steps (part_of digits)
-
--- A form that ends with a number of steps, which is 1 if it is missing.
+-- A form that ends with a number of steps, up to 1,000,000, which is 1 if it is missing.
 abbrev pub last_steps : List ℕ → Option ℕ
 last_steps rest =
     if has_word rest
-    then (if has_word (after_word rest) then None else steps_of (front_word rest))
+    then (if has_word (after_word rest) then None else up_to MAX_STEPS (front_word rest))
     else Some 1
 
 -- An optional keyword followed by a word: that word, if the keyword comes next, and the rest.
@@ -109,10 +107,10 @@ abbrev pub path_or_root : Option (List ℕ) → Option (List ℕ)
 path_or_root None = Some []
 path_or_root (Some word) = path_of word
 
--- the number of steps of a word, or this one if there is none
-abbrev pub steps_or : ℕ → Option (List ℕ) → Option ℕ
-steps_or steps None = Some steps
-steps_or steps (Some word) = steps_of word
+-- the budget of a word, up to 1,000,000, or this one if there is none
+abbrev pub budget_or : ℕ → Option (List ℕ) → Option ℕ
+budget_or budget None = Some budget
+budget_or budget (Some word) = up_to MAX_BUDGET word
 
 -- A form that ends with `at` and a path, both optional.
 abbrev pub last_place : List ℕ → Option (List ℕ)
@@ -125,12 +123,11 @@ abbrev pub with_do : (List ℕ → Form) → List ℕ → Option Form
 with_do form rest =
     if is_same (front_word rest) (codes "do") then Some (form (last_text (after_word rest))) else None
 
--- A form that continues with `within` and a number of steps, both optional, and ends with `do` and
--- a text.
+-- A form that continues with `within` and a budget, both optional, and ends with `do` and a text.
 abbrev pub with_budget : ℕ → (ℕ → List ℕ → Form) → List ℕ → Option Form
-with_budget steps form rest =
+with_budget budget form rest =
     option_and_then (λ n. with_do (form n) (after_option (codes "within") rest))
-    (steps_or steps (option_word (codes "within") rest))
+    (budget_or budget (option_word (codes "within") rest))
 
 -- ---- forms
 
@@ -158,9 +155,9 @@ unload_form rest = option_map unload (last_name rest)
 
 -- Both `at` and `within`, in this order, are optional.
 abbrev pub strategy_form : (List ℕ → List ℕ → ℕ → List ℕ → Form) → ℕ → List ℕ → Option Form
-strategy_form form steps rest =
+strategy_form form budget rest =
     with_word rest (λ name after. option_and_then
-    (λ path. with_budget steps (form name path) (after_option (codes "at") after))
+    (λ path. with_budget budget (form name path) (after_option (codes "at") after))
     (path_or_root (option_word (codes "at") after)))
 
 abbrev pub text_form : List ℕ → Option Form
@@ -171,7 +168,7 @@ show_form rest = with_word rest (λ name after. option_map (show name) (last_pla
 
 -- the form that a keyword starts, given the budget of a command that names none
 abbrev pub form_with : ℕ → List ℕ → List ℕ → Option Form
-form_with steps keyword rest =
+form_with budget keyword rest =
     if is_same keyword (codes "tree") then tree_form rest else
     if is_same keyword (codes "copy") then copy_form rest else
     if is_same keyword (codes "drop") then drop_form rest else
@@ -179,8 +176,8 @@ form_with steps keyword rest =
     if is_same keyword (codes "annotate") then annotate_form rest else
     if is_same keyword (codes "module") then module_form rest else
     if is_same keyword (codes "unload") then unload_form rest else
-    if is_same keyword (codes "apply") then strategy_form apply steps rest else
-    if is_same keyword (codes "preview") then strategy_form preview steps rest else
+    if is_same keyword (codes "apply") then strategy_form apply budget rest else
+    if is_same keyword (codes "preview") then strategy_form preview budget rest else
     if is_same keyword (codes "undo") then option_map undo (last_steps rest) else
     if is_same keyword (codes "redo") then option_map redo (last_steps rest) else
     if is_same keyword (codes "begin") then ended begin rest else
@@ -195,8 +192,8 @@ form_with steps keyword rest =
 
 -- the form of a command, without the blanks at its end, given that budget
 abbrev pub form_of : ℕ → List ℕ → Option Form
-form_of steps command =
-    let text = without_end is_blank command in form_with steps (front_word text) (after_word text)
+form_of budget command =
+    let text = without_end is_blank command in form_with budget (front_word text) (after_word text)
 
 -- whether the names of a form are labels
 abbrev pub has_labels : Form → Bool
@@ -207,8 +204,8 @@ has_labels (put name path text) = is_some (label_of name)
 has_labels (annotate name path text) = is_some (label_of name)
 has_labels (set_module name text) = is_some (label_of name)
 has_labels (unload name) = is_some (label_of name)
-has_labels (apply name path steps text) = is_some (label_of name)
-has_labels (preview name path steps text) = is_some (label_of name)
+has_labels (apply name path budget text) = is_some (label_of name)
+has_labels (preview name path budget text) = is_some (label_of name)
 has_labels (show name path) = is_some (label_of name)
 has_labels (module_text name) = is_some (label_of name)
 has_labels form = true
@@ -218,14 +215,14 @@ abbrev pub checked : Option Form → Result Form Refusal
 checked None = Err Line
 checked (Some form) = if has_labels form then Ok form else Err Name
 
--- The meaning of a command's bytes. The number of steps is the budget of a command that names none.
+-- The meaning of a command's bytes. The budget is that of a command that names none.
 abbrev pub command_of : ℕ → List ℕ → Result Form Refusal
-command_of steps command = checked (form_of steps command)
+command_of budget command = checked (form_of budget command)
 
--- the budget of a form, if it has one, is a number of steps
+-- the budget of a form, if it has one, is in range
 abbrev pub HasBudget : Form → Type 0
-HasBudget (apply name path steps text) = AreSteps steps
-HasBudget (preview name path steps text) = AreSteps steps
+HasBudget (apply name path budget text) = IsBudget budget
+HasBudget (preview name path budget text) = IsBudget budget
 HasBudget form = Unit {0}
 
 -- ---- commands that take no memory

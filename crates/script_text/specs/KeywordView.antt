@@ -31,27 +31,27 @@ keyword_at word =
 
 -- the form, given the budget of a command that names none and the rest after the word
 abbrev pub form_after : Keyword → ℕ → List ℕ → Option Form
-form_after Tree steps rest = tree_form rest
-form_after Copy steps rest = copy_form rest
-form_after Drop steps rest = drop_form rest
-form_after Put steps rest = put_form rest
-form_after Annotate steps rest = annotate_form rest
-form_after Module steps rest = module_form rest
-form_after Unload steps rest = unload_form rest
-form_after Apply steps rest = strategy_form apply steps rest
-form_after Preview steps rest = strategy_form preview steps rest
-form_after Undo steps rest = option_map undo (last_steps rest)
-form_after Redo steps rest = option_map redo (last_steps rest)
-form_after Begin steps rest = ended begin rest
-form_after Commit steps rest = ended commit rest
-form_after Abandon steps rest = ended abandon rest
-form_after Show steps rest = show_form rest
-form_after Trees steps rest = ended trees rest
-form_after Modules steps rest = ended modules rest
-form_after Text steps rest = text_form rest
-form_after History steps rest = ended history rest
-form_after Dump steps rest = ended dump rest
-form_after Other steps rest = None
+form_after Tree budget rest = tree_form rest
+form_after Copy budget rest = copy_form rest
+form_after Drop budget rest = drop_form rest
+form_after Put budget rest = put_form rest
+form_after Annotate budget rest = annotate_form rest
+form_after Module budget rest = module_form rest
+form_after Unload budget rest = unload_form rest
+form_after Apply budget rest = strategy_form apply budget rest
+form_after Preview budget rest = strategy_form preview budget rest
+form_after Undo budget rest = option_map undo (last_steps rest)
+form_after Redo budget rest = option_map redo (last_steps rest)
+form_after Begin budget rest = ended begin rest
+form_after Commit budget rest = ended commit rest
+form_after Abandon budget rest = ended abandon rest
+form_after Show budget rest = show_form rest
+form_after Trees budget rest = ended trees rest
+form_after Modules budget rest = ended modules rest
+form_after Text budget rest = text_form rest
+form_after History budget rest = ended history rest
+form_after Dump budget rest = ended dump rest
+form_after Other budget rest = None
 
 -- whether it is `undo`, `redo`, `begin` or `abandon`
 abbrev pub is_without_memory_after : Keyword → Bool

@@ -21,9 +21,9 @@ use Rattle.script_text.specs.Run.{Replied, RunLeads, out}
 -- is written and the history after them, given the meaning of primitives.
 abbrev pub OneRun : Type 0
 OneRun =
-    (meaning : Meaning) (stop : Bool) (steps : ℕ) (commands : List Handed) (flags : List Bool) (h : History)
-    (replies others : List Reply) → Replied stop (ReplyInRun meaning steps) commands flags h replies
-    → Replied stop (ReplyInRun meaning steps) commands flags h others → replies ≡ others
+    (meaning : Meaning) (stop : Bool) (budget : ℕ) (commands : List Handed) (flags : List Bool) (h : History)
+    (replies others : List Reply) → Replied stop (ReplyInRun meaning budget) commands flags h replies
+    → Replied stop (ReplyInRun meaning budget) commands flags h others → replies ≡ others
 
 -- ---- dumps
 
@@ -70,15 +70,15 @@ pub record GivesAgain (framing : Framing) (c : Contents) (g : History) (replies 
 -- contents.
 abbrev pub DumpReadsBack : Type 0
 DumpReadsBack =
-    (meaning : Meaning) (framing : Framing) (stop : Bool) (steps : ℕ) (c : Contents) (h g : History) (flags : List Bool)
+    (meaning : Meaning) (framing : Framing) (stop : Bool) (budget : ℕ) (c : Contents) (h g : History) (flags : List Bool)
     (replies : List Reply) → CanBeGiven framing h.primitives c → IsBare h → AreClear flags
-    → RunLeads stop (ReplyInRun meaning steps) (handed framing (dumped c)) h g flags replies → GivesAgain framing c g replies
+    → RunLeads stop (ReplyInRun meaning budget) (handed framing (dumped c)) h g flags replies → GivesAgain framing c g replies
 
 -- Such a run exists on each such session: the dump is answered, and memory can grow in all its
 -- commands.
 abbrev pub DumpIsAnswered : Type 0
 DumpIsAnswered =
-    (meaning : Meaning) (framing : Framing) (stop : Bool) (steps : ℕ) (c : Contents) (h : History)
+    (meaning : Meaning) (framing : Framing) (stop : Bool) (budget : ℕ) (c : Contents) (h : History)
     → CanBeGiven framing h.primitives c → IsBare h
     → (flags : List Bool) × (replies : List Reply)
-    × AreClear flags × Replied stop (ReplyInRun meaning steps) (handed framing (dumped c)) flags h replies
+    × AreClear flags × Replied stop (ReplyInRun meaning budget) (handed framing (dumped c)) flags h replies

@@ -116,10 +116,10 @@ Replies meaning (annotate name path text) h =
     session.Given (ReadAs SpellsAnnotations text) (λ ts. session.AnnotatesAt name path ts h place)))
 Replies meaning (set_module name text) h = Told (session.ComesTo (session.set_module name text) h)
 Replies meaning (unload name) h = Told (session.ComesTo (session.unload name) h)
-Replies meaning (apply name path steps text) h =
-    Told (session.ComesTo (session.apply meaning name path steps text) h)
-Replies meaning (preview name path steps text) h =
-    (λ reply. (shown : Result Preview Refusal) × Previews meaning name path steps text h shown × (reply ≡ previewed h shown))
+Replies meaning (apply name path budget text) h =
+    Told (session.ComesTo (session.apply meaning name path budget text) h)
+Replies meaning (preview name path budget text) h =
+    (λ reply. (shown : Result Preview Refusal) × Previews meaning name path budget text h shown × (reply ≡ previewed h shown))
 Replies meaning (undo n) h = Told (session.ComesTo (session.undo n) h)
 Replies meaning (redo n) h = Told (session.ComesTo (session.redo n) h)
 Replies meaning begin h = Told (session.ComesTo session.begin h)
@@ -132,15 +132,15 @@ Replies meaning (module_text name) h = Is (shown_text h (session.module_text_of 
 Replies meaning history h = Is (told h (counted h))
 Replies meaning dump h = Is (told h (dumped h.now))
 
--- The reply to a text that is a command. The number of steps is its budget if it names none.
+-- The reply to a text that is a command, with this budget if it names none.
 abbrev pub ReplyToText : Meaning → ℕ → List ℕ → History → Reply → Type 0
-ReplyToText meaning steps command h reply =
-    MatchResult (command_of steps command) (λ form. Replies meaning form h reply) (λ refusal. reply ≡ Err refusal)
+ReplyToText meaning budget command h reply =
+    MatchResult (command_of budget command) (λ form. Replies meaning form h reply) (λ refusal. reply ≡ Err refusal)
 
 -- the reply to a command as the splitter gives it
 abbrev pub ReplyTo : Meaning → ℕ → Handed → History → Reply → Type 0
-ReplyTo meaning steps (handed_text command) h reply = ReplyToText meaning steps command h reply
-ReplyTo meaning steps long h reply = reply ≡ Err Long
+ReplyTo meaning budget (handed_text command) h reply = ReplyToText meaning budget command h reply
+ReplyTo meaning budget long h reply = reply ≡ Err Long
 
 -- A condition on each reply of a run: it relates the command as the splitter gives it, whether
 -- memory couldn't grow, and the history before it to the reply.

@@ -5,16 +5,16 @@ ghost use Rattle.std.specs.List.{prefix_len, suffix_len, position_or_len};
 ghost use Rattle.term_core.specs.Word.{label_of};
 ghost use Rattle.term_paths.specs.PathText.{path_of};
 ghost use Rattle.aterm_text.specs.Tokens.{is_blank, without_blanks};
-ghost use Rattle.session_history.specs.Steps.{AreSteps};
+ghost use Rattle.session_history.specs.Budget.{IsBudget};
 ghost use Rattle.script_text.specs.Script.{without_end};
-ghost use Rattle.script_text.specs.Form.{tree, put, annotate, set_module, apply, preview, command_of, form_of, checked, tree_form, copy_form, put_form, annotate_form, module_form, strategy_form, show_form, last_name, last_steps, option_word, after_option, path_or_root, steps_or, steps_of, ended, HasBudget, is_without_memory, takes_no_memory, front_word, after_word, has_word};
+ghost use Rattle.script_text.specs.Form.{tree, put, annotate, set_module, apply, preview, command_of, form_of, checked, tree_form, copy_form, put_form, annotate_form, module_form, strategy_form, show_form, last_name, last_steps, option_word, after_option, path_or_root, budget_or, up_to, ended, HasBudget, is_without_memory, takes_no_memory, front_word, after_word, has_word};
 ghost use Rattle.script_text.specs.CommandView.{form as form_seen};
 ghost use Rattle.script_text.specs.KeywordView.{form_after, is_without_memory_after};
 ghost use Rattle.script_text.specs.Reading.{ReadRight};
 
 use crate::keyword::{Keyword, keyword_of};
 use aterm_text::is_blank;
-use session_history::{MAX_STEPS, Refusal};
+use session_history::{MAX_BUDGET, MAX_STEPS, Refusal};
 use std::alloc::Global;
 use term_core::Label;
 use term_paths::{Path, PathFault, read_number, read_path};
@@ -36,7 +36,7 @@ pub enum Command<'a> {
     Module(Label, &'a [u8]),
     /// Removes the module of the name.
     Unload(Label),
-    /// Applies the strategy of the text at the path, within this many steps, from 1 to 1,000,000.
+    /// Applies the strategy of the text at the path, within this budget, from 1 to 1,000,000.
     Apply(Label, Path, u32, &'a [u8]),
     /// Shows what that would replace, with the same operands.
     Preview(Label, Path, u32, &'a [u8]),
@@ -66,22 +66,22 @@ pub enum Command<'a> {
 
 impl<'a> Command<'a> {
     /// Reads a command. Its form is tested before its names. `undo`, `redo`, `begin` and `abandon`
-    /// take no memory. `steps`, from 1 to 1,000,000, is the budget of a command that names none.
+    /// take no memory. `budget`, from 1 to 1,000,000, is that of a command that names none.
     ///
     /// Errors: `Line` if the command has none of the forms above; `Name` if a name is no word or is
     /// longer than 64 bytes; `Memory` if memory can't grow.
-    pub fn read(alloc: Global, command: &'a [u8], steps: u32) -> Result<Command<'a>, Refusal>
-        requires { AreSteps steps }
-        ensures ok { IfOk result (λ read. command_of steps command.now ≡ Ok (form_seen read)) }
+    pub fn read(alloc: Global, command: &'a [u8], budget: u32) -> Result<Command<'a>, Refusal>
+        requires { IsBudget budget }
+        ensures ok { IfOk result (λ read. command_of budget command.now ≡ Ok (form_seen read)) }
         ensures without_memory { IfOk result (λ read. takes_no_memory command.now
             ≡ is_without_memory (form_seen read)) }
         ensures budget { IfOk result (λ read. HasBudget (form_seen read)) }
         ensures refused { IfErr result (λ refusal. ((refusal ≡ Refusal.Memory)
             × (takes_no_memory command.now ≡ false))
-            ⊎ (command_of steps command.now ≡ Err refusal)) }
+            ⊎ (command_of budget command.now ≡ Err refusal)) }
     {
         let (keyword, rest) = split_keyword(command);
-        Command::read_form(alloc, keyword, rest, steps)
+        Command::read_form(alloc, keyword, rest, budget)
     }
 
     /// Reads the form that this keyword starts, given what follows it in the command.
@@ -91,10 +91,10 @@ impl<'a> Command<'a> {
         alloc: Global,
         keyword: Keyword,
         rest: &'a [u8],
-        steps: u32,
+        budget: u32,
     ) -> Result<Command<'a>, Refusal>
-        requires { AreSteps steps }
-        ensures { ReadRight (form_after keyword steps rest.now) (is_without_memory_after keyword) result }
+        requires { IsBudget budget }
+        ensures { ReadRight (form_after keyword budget rest.now) (is_without_memory_after keyword) result }
     {
         match keyword {
             Keyword::Tree => {
@@ -117,12 +117,12 @@ impl<'a> Command<'a> {
             }
             Keyword::Unload => Ok(Command::Unload(read_last_name(alloc, rest)?)),
             Keyword::Apply => {
-                let (name, path, steps, text) = read_strategy_parts(alloc, rest, steps)?;
-                Ok(Command::Apply(name, path, steps, text))
+                let (name, path, budget, text) = read_strategy_parts(alloc, rest, budget)?;
+                Ok(Command::Apply(name, path, budget, text))
             }
             Keyword::Preview => {
-                let (name, path, steps, text) = read_strategy_parts(alloc, rest, steps)?;
-                Ok(Command::Preview(name, path, steps, text))
+                let (name, path, budget, text) = read_strategy_parts(alloc, rest, budget)?;
+                Ok(Command::Preview(name, path, budget, text))
             }
             Keyword::Undo => Ok(Command::Undo(read_steps(rest)?)),
             Keyword::Redo => Ok(Command::Redo(read_steps(rest)?)),
@@ -143,7 +143,7 @@ impl<'a> Command<'a> {
 /// The keyword of a command, and what follows it without the blanks at the end.
 #[inline(always)]
 pub fn split_keyword(command: &[u8]) -> (Keyword, &[u8])
-    ensures form { (steps : ℕ) → form_of steps command.now ≡ form_after result.0 steps result.1.now }
+    ensures form { (budget : ℕ) → form_of budget command.now ≡ form_after result.0 budget result.1.now }
     ensures without_memory { takes_no_memory command.now ≡ is_without_memory_after result.0 }
 {
     let (word, rest) = split_word(without_last_blanks(command));
@@ -211,29 +211,29 @@ fn read_show<'a>(alloc: Global, rest: &[u8]) -> Result<Command<'a>, Refusal>
 fn read_strategy_parts(
     alloc: Global,
     rest: &[u8],
-    steps: u32,
+    budget: u32,
 ) -> Result<(Label, Path, u32, &[u8]), Refusal>
-    requires { AreSteps steps }
-    ensures apply { IfOk result (λ read. checked (strategy_form apply steps rest.now)
+    requires { IsBudget budget }
+    ensures apply { IfOk result (λ read. checked (strategy_form apply budget rest.now)
         ≡ Ok (apply read.0 read.1 read.2 read.3.now)) }
-    ensures preview { IfOk result (λ read. checked (strategy_form preview steps rest.now)
+    ensures preview { IfOk result (λ read. checked (strategy_form preview budget rest.now)
         ≡ Ok (preview read.0 read.1 read.2 read.3.now)) }
-    ensures budget { IfOk result (λ read. AreSteps read.2) }
+    ensures budget { IfOk result (λ read. IsBudget read.2) }
     ensures refused { IfErr result (λ refusal. (refusal ≡ Refusal.Memory)
-        ⊎ ((checked (strategy_form apply steps rest.now) ≡ Err refusal)
-        × (checked (strategy_form preview steps rest.now) ≡ Err refusal))) }
+        ⊎ ((checked (strategy_form apply budget rest.now) ≡ Err refusal)
+        × (checked (strategy_form preview budget rest.now) ≡ Err refusal))) }
 {
     let (name, rest) = split_name(rest)?;
     let (place, rest) = split_option(b"at", rest);
-    let (budget, rest) = split_option(b"within", rest);
+    let (within, rest) = split_option(b"within", rest);
     let (keyword, text) = split_word(rest);
     if keyword != b"do".as_slice() {
         return Err(Refusal::Line);
     }
     let path = read_place(alloc, place)?;
-    let steps = read_budget(budget, steps)?;
+    let budget = read_budget(within, budget)?;
     let name = read_label(alloc, name)?;
-    Ok((name, path, steps, after_blanks(text)))
+    Ok((name, path, budget, after_blanks(text)))
 }
 
 // A name at the end of a form.
@@ -289,32 +289,32 @@ fn read_steps(rest: &[u8]) -> Result<u32, Refusal>
     if has_more(rest) {
         return Err(Refusal::Line);
     }
-    read_steps_word(word)
+    read_up_to(MAX_STEPS, word)
 }
 
-// The number of steps of a word, or `steps` if there is none.
-fn read_budget(word: Option<&[u8]>, steps: u32) -> Result<u32, Refusal>
-    requires { AreSteps steps }
-    ensures ok { IfOk result (λ n. steps_or steps (option_copied word.entry) ≡ Some n) }
-    ensures steps { IfOk result AreSteps }
+// The budget of a word, or `budget` if there is none.
+fn read_budget(word: Option<&[u8]>, budget: u32) -> Result<u32, Refusal>
+    requires { IsBudget budget }
+    ensures ok { IfOk result (λ n. budget_or budget (option_copied word.entry) ≡ Some n) }
+    ensures budget { IfOk result IsBudget }
     ensures refused { IfErr result (λ refusal. (refusal ≡ Refusal.Line)
-        × (steps_or steps (option_copied word.entry) ≡ None)) }
+        × (budget_or budget (option_copied word.entry) ≡ None)) }
 {
     match word {
-        Some(word) => read_steps_word(word),
-        None => Ok(steps),
+        Some(word) => read_up_to(MAX_BUDGET, word),
+        None => Ok(budget),
     }
 }
 
-// A number of steps, from 1 to 1,000,000.
-fn read_steps_word(word: &[u8]) -> Result<u32, Refusal>
-    ensures ok { IfOk result (λ steps. steps_of word.now ≡ Some steps) }
-    ensures steps { IfOk result AreSteps }
+// The number of a word, from 1 to `most`.
+fn read_up_to(most: u32, word: &[u8]) -> Result<u32, Refusal>
+    ensures ok { IfOk result (λ number. up_to most word.now ≡ Some number) }
+    ensures within { IfOk result (λ number. (1 ≤ number) × (number ≤ most)) }
     ensures refused { IfErr result (λ refusal. (refusal ≡ Refusal.Line)
-        × (steps_of word.now ≡ None)) }
+        × (up_to most word.now ≡ None)) }
 {
     match read_number(word) {
-        Some(steps) if steps >= 1 && steps <= MAX_STEPS as usize => Ok(steps as u32),
+        Some(number) if number >= 1 && number <= most as usize => Ok(number as u32),
         _ => Err(Refusal::Line),
     }
 }

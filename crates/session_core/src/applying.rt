@@ -22,20 +22,20 @@ use strategy_syntax::Resolved;
 use term_core::{Label, MAX_HEIGHT, NoMemory};
 use term_paths::{Path, at};
 
-/// Applies the strategy given as text to the subterm at the path of the name's tree, in at most
-/// `steps` steps. The modules are checked unless they are kept, and are kept then.
+/// Applies the strategy given as text to the subterm at the path of the name's tree, within
+/// this budget. The modules are checked unless they are kept, and are kept then.
 pub(crate) fn apply_strategy<M: Meaning>(
     timeline: &mut Timeline,
     primitives: &Primitives<M>,
     kept: &mut KeptModules,
     name: &Label,
     path: &Path,
-    steps: u32,
+    budget: u32,
     text: &[u8],
 ) -> Result<(), Refusal>
     requires formed { AreFormed (contents timeline.old.store) }
     requires kept { IsKept primitives.now (contents timeline.old.store).modules kept.old }
-    ensures performs { Performs (apply M.meaning name.now path.now steps text.now)
+    ensures performs { Performs (apply M.meaning name.now path.now budget text.now)
         (unfolded primitives.now timeline.old) (unfolded primitives.now timeline.new) result }
     ensures kept { IsKept primitives.now (contents timeline.new.store).modules kept.new }
 {
@@ -46,7 +46,7 @@ pub(crate) fn apply_strategy<M: Meaning>(
     let Some(checked) = kept.program() else {
         unreachable!()
     };
-    let outcome = apply_in_slot(timeline, checked, primitives, slot, path, &whole, steps);
+    let outcome = apply_in_slot(timeline, checked, primitives, slot, path, &whole, budget);
     drop(whole);
     outcome
 }
@@ -59,17 +59,17 @@ fn apply_in_slot<M: Meaning>(
     slot: usize,
     path: &Path,
     strategy: &Resolved,
-    steps: u32,
+    budget: u32,
 ) -> Result<(), Refusal>
     requires low { IfSome (subterm_in timeline.old.store.trees slot path.now)
         (λ u. length path.now + height u ≤ MAX_HEIGHT) }
     ensures ok { OnOk result (unfolded primitives.now timeline.new
         ≡ changed (contents timeline.new.store) (unfolded primitives.now timeline.old)) }
     ensures made { OnOk result (GivesIn (applied_in (world_in M.meaning program.now primitives.now)
-        timeline.old.store.trees slot path.now strategy.now steps) slot timeline.old.store timeline.new.store) }
+        timeline.old.store.trees slot path.now strategy.now budget) slot timeline.old.store timeline.new.store) }
     ensures refused { IfErr result (λ refusal. (refusal ≡ Refusal.Memory)
         ⊎ (given_by (applied_in (world_in M.meaning program.now primitives.now)
-        timeline.old.store.trees slot path.now strategy.now steps) ≡ Err refusal)) }
+        timeline.old.store.trees slot path.now strategy.now budget) ≡ Err refusal)) }
     ensures err { OnErr result (unfolded primitives.now timeline.new
         ≡ unfolded primitives.now timeline.old) }
 {
@@ -89,7 +89,7 @@ fn apply_in_slot<M: Meaning>(
             slot,
             path,
             strategy,
-            steps as u64,
+            budget as u64,
         );
         let (plan, _) = replaced(planned)?;
         timeline.plan_in_group(plan)?;
@@ -103,7 +103,7 @@ fn apply_in_slot<M: Meaning>(
         part,
         level,
         strategy,
-        steps as u64,
+        budget as u64,
     );
     let (patch, _) = replaced(planned)?;
     let Ok(place) = Vec::from_slice(alloc, path.parts()) else {

@@ -9,4 +9,4 @@ mod session;
 
 pub use preview::{Places, Preview};
 pub use session::Session;
-pub use session_history::{MAX_STEPS, Refusal};
+pub use session_history::{MAX_BUDGET, Refusal};

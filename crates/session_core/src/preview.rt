@@ -101,12 +101,12 @@ pub(crate) fn preview_strategy<M: Meaning>(
     kept: &mut KeptModules,
     name: &Label,
     path: &Path,
-    steps: u32,
+    budget: u32,
     text: &[u8],
 ) -> Result<Preview, Refusal>
     requires formed { AreFormed (contents timeline.now.store) }
     requires kept { IsKept primitives.now (contents timeline.now.store).modules kept.old }
-    ensures answers { AnswersPreview M.meaning name.now path.now steps text.now (unfolded primitives.now timeline.now) result }
+    ensures answers { AnswersPreview M.meaning name.now path.now budget text.now (unfolded primitives.now timeline.now) result }
     ensures kept { IsKept primitives.now (contents timeline.now.store).modules kept.new }
 {
     let (slot, whole) = match resolve_at(timeline, primitives, kept, name, path, text) {
@@ -116,7 +116,7 @@ pub(crate) fn preview_strategy<M: Meaning>(
     let Some(checked) = kept.program() else {
         unreachable!()
     };
-    let outcome = preview_in_slot(timeline, checked, primitives, slot, path, &whole, steps);
+    let outcome = preview_in_slot(timeline, checked, primitives, slot, path, &whole, budget);
     drop(whole);
     outcome
 }
@@ -129,15 +129,15 @@ fn preview_in_slot<M: Meaning>(
     slot: usize,
     path: &Path,
     strategy: &Resolved,
-    steps: u32,
+    budget: u32,
 ) -> Result<Preview, Refusal>
     requires low { IfSome (subterm_in timeline.now.store.trees slot path.now)
         (λ u. length path.now + height u ≤ MAX_HEIGHT) }
     ensures ok { IfOk result (λ preview. Foresees (world_in M.meaning program.now primitives.now)
-        timeline.now.store slot path.now strategy.now steps preview) }
+        timeline.now.store slot path.now strategy.now budget preview) }
     ensures refused { IfErr result (λ refusal. (refusal ≡ Refusal.Memory)
         ⊎ ForeseesRefusal (world_in M.meaning program.now primitives.now)
-        timeline.now.store slot path.now strategy.now steps refusal) }
+        timeline.now.store slot path.now strategy.now budget refusal) }
 {
     let Some(tree) = timeline.store().tree(slot) else {
         return Err(Refusal::Fails);
@@ -153,7 +153,7 @@ fn preview_in_slot<M: Meaning>(
         slot,
         path,
         strategy,
-        steps as u64,
+        budget as u64,
     );
     let (plan, taken) = replaced(planned)?;
     Ok(Preview { plan, steps: taken })

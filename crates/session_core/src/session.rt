@@ -4,7 +4,7 @@ ghost use Rattle.std.specs.Prelude.{◌≡◌, ◌≤◌, ◌++◌, vec_capacity
 ghost use Rattle.std.specs.FinMap as finmap;
 ghost use Rattle.session_history.specs.History.{empty_history, HasSoundContents};
 ghost use Rattle.session_history.specs.Acts.{Performs, PerformsSurely, set_tree, copy_tree, drop_tree, put, annotate, set_module, unload, apply, undo, redo, begin, commit, abandon};
-ghost use Rattle.session_history.specs.Steps.{AreSteps};
+ghost use Rattle.session_history.specs.Budget.{IsBudget};
 ghost use Rattle.session_core.specs.Previewing.{AnswersPreview};
 ghost use Rattle.session_history.specs.Dump.{dumped, AreNamedTerms};
 ghost use Rattle.session_history.specs.Unfolded.{unfolded};
@@ -205,7 +205,7 @@ impl<M: Meaning> Session<M> {
     }
 
     /// Replaces the subterm at the path of the name's tree by the result of a strategy, given as
-    /// text, within at most `steps` steps, from 1 to 1,000,000. That is a step, as with `set_tree`,
+    /// text, within a budget of steps, from 1 to 1,000,000. That is a step, as with `set_tree`,
     /// even if the term stays the same. The strategy may call what the current modules define;
     /// their program is cached until they change.
     ///
@@ -219,11 +219,11 @@ impl<M: Meaning> Session<M> {
         &mut self,
         name: &Label,
         path: &Path,
-        steps: u32,
+        budget: u32,
         text: &[u8],
     ) -> Result<(), Refusal>
-        requires { AreSteps steps }
-        ensures { Performs (apply M.meaning name.now path.now steps text.now) self.old self.new result }
+        requires { IsBudget budget }
+        ensures { Performs (apply M.meaning name.now path.now budget text.now) self.old self.new result }
     {
         // Called for its contract: no tree becomes too high.
         heights_are_kept();
@@ -233,7 +233,7 @@ impl<M: Meaning> Session<M> {
             &mut self.kept,
             name,
             path,
-            steps,
+            budget,
             text,
         )
     }
@@ -247,11 +247,11 @@ impl<M: Meaning> Session<M> {
         &mut self,
         name: &Label,
         path: &Path,
-        steps: u32,
+        budget: u32,
         text: &[u8],
     ) -> Result<Preview, Refusal>
-        requires { AreSteps steps }
-        ensures answers { AnswersPreview M.meaning name.now path.now steps text.now self.old result }
+        requires { IsBudget budget }
+        ensures answers { AnswersPreview M.meaning name.now path.now budget text.now self.old result }
         ensures same { self.new ≡ self.old }
     {
         preview_strategy(
@@ -260,7 +260,7 @@ impl<M: Meaning> Session<M> {
             &mut self.kept,
             name,
             path,
-            steps,
+            budget,
             text,
         )
     }

@@ -1,5 +1,5 @@
 pub mod Refusal
-pub mod Steps
+pub mod Budget
 pub mod Modules
 pub mod Applying
 pub mod History

@@ -14,5 +14,8 @@ pub use kept::{KeptModules, keep_modules};
 pub use refusal::Refusal;
 pub use timeline::{OpenGroup, Timeline};
 
-/// The most steps of one `undo` or `redo`, and the greatest budget of an evaluation.
+/// The most steps of one `undo` or `redo`.
 pub const MAX_STEPS: u32 = 1_000_000;
+
+/// The greatest budget of an evaluation: the steps that it may take.
+pub const MAX_BUDGET: u32 = 1_000_000;

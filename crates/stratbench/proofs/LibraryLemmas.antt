@@ -5,7 +5,7 @@ use Rattle.std.specs.Io.KnownBytes.{Consumes, IsAtEnd}
 use Rattle.session_history.specs.Applying.{Meaning}
 use Rattle.session_history.specs.History.{History}
 use Rattle.session_history.specs.Acts.{ComesTo, ActResult, set_module}
-use Rattle.session_history.specs.declared.TheConstants.{MAX_STEPS}
+use Rattle.session_history.specs.declared.TheConstants.{MAX_BUDGET}
 use Rattle.script_text.specs.Form as form
 use Rattle.script_text.specs.declared.framing.Framing.TheVariants.{Continued}
 use Rattle.script_text.specs.Handed.{Handed, handed, completed, text}
@@ -27,7 +27,7 @@ one_command : handed Continued LIBRARY.now ≡ text command ∷ []
 unfolding command
 one_command = refl
 
-sets_module : form.command_of MAX_STEPS command ≡ Ok (form.set_module (codes "library") library_text)
+sets_module : form.command_of MAX_BUDGET command ≡ Ok (form.set_module (codes "library") library_text)
 unfolding command
 sets_module = refl
 
@@ -46,7 +46,7 @@ of_reply h g reply (Ok k) comes is e =
     )
 of_reply h g reply (Err refusal) comes is e = inr (ap (λ (r : Reply). count_by is_ok (r ∷ [])) is, e ∙ ap (history_after h) is)
 
-of_rule : (meaning : Meaning) (h g : History) (flag : Bool) (reply : Reply) → ReplyInRun meaning MAX_STEPS (text command) flag h reply → g ≡ history_after h reply →
+of_rule : (meaning : Meaning) (h g : History) (flag : Bool) (reply : Reply) → ReplyInRun meaning MAX_BUDGET (text command) flag h reply → g ≡ history_after h reply →
     LoadsOrStays (count_by is_ok (reply ∷ [])) h g
 of_rule meaning h g true reply replied e = inr (ap (λ (r : Reply). count_by is_ok (r ∷ [])) replied.1, e ∙ ap (history_after h) replied.1)
 of_rule meaning h g false reply replied e =
@@ -54,7 +54,7 @@ of_rule meaning h g false reply replied e =
     subst (λ (r : _). MatchResult r (λ f. Replies meaning f h reply) (λ refusal. reply ≡ Err refusal)) sets_module replied in
     of_reply h g reply told.0 told.1 told.2 e
 
-of_replies : (meaning : Meaning) (h g : History) (flags : List Bool) (replies : List Reply) → Replied false (ReplyInRun meaning MAX_STEPS) (text command ∷ []) flags h replies → g ≡ history_after_all h replies →
+of_replies : (meaning : Meaning) (h g : History) (flags : List Bool) (replies : List Reply) → Replied false (ReplyInRun meaning MAX_BUDGET) (text command ∷ []) flags h replies → g ≡ history_after_all h replies →
     LoadsOrStays (count_by is_ok replies) h g
 of_replies meaning h g [] replies replied e = absurd replied
 of_replies meaning h g (flag ∷ flags) [] replied e = absurd replied
@@ -69,22 +69,22 @@ read_whole None script read end = absurd read
 read_whole (Some rest) script read end = sym (read ∙ ap (λ (l : List ℕ). script ++ l) end ∙ append-nil script)
 
 -- A run that answers everything loads it, or leaves the history unchanged.
-of_answers : (meaning : Meaning) (h g : History) (given left old new : Option (List ℕ)) (accepted refused : ℕ) → given ≡ Some LIBRARY.now → Answers Continued false (ReplyInRun meaning MAX_STEPS) h g given left old new accepted refused →
+of_answers : (meaning : Meaning) (h g : History) (given left old new : Option (List ℕ)) (accepted refused : ℕ) → given ≡ Some LIBRARY.now → Answers Continued false (ReplyInRun meaning MAX_BUDGET) h g given left old new accepted refused →
     LoadsOrStays accepted h g
 of_answers meaning h g given left old new accepted refused is a = of_end a.end
   where
-    of_end : IsAtEnd left ⊎ ((false ≡ true) × (0 < refused) × Completes false (ReplyInRun meaning MAX_STEPS) (completed Continued a.script) h g old new accepted refused) → LoadsOrStays accepted h g
+    of_end : IsAtEnd left ⊎ ((false ≡ true) × (0 < refused) × Completes false (ReplyInRun meaning MAX_BUDGET) (completed Continued a.script) h g old new accepted refused) → LoadsOrStays accepted h g
     of_end (inl end) =
         let read : Consumes (Some LIBRARY.now) left a.script = subst (λ (it : Option (List ℕ)). Consumes it left a.script) is a.read in
         let all : handed Continued a.script ≡ text command ∷ [] = ap (handed Continued) (read_whole left a.script read end) ∙ one_command in
-        let replied : Replied false (ReplyInRun meaning MAX_STEPS) (text command ∷ []) a.completes.flags h a.completes.replies =
-        subst (λ (cs : List Handed). Replied false (ReplyInRun meaning MAX_STEPS) cs a.completes.flags h a.completes.replies) all a.completes.leads.replied in
+        let replied : Replied false (ReplyInRun meaning MAX_BUDGET) (text command ∷ []) a.completes.flags h a.completes.replies =
+        subst (λ (cs : List Handed). Replied false (ReplyInRun meaning MAX_BUDGET) cs a.completes.flags h a.completes.replies) all a.completes.leads.replied in
         subst (λ (n : ℕ). LoadsOrStays n h g) (sym a.completes.accepted) (of_replies meaning h g a.completes.flags a.completes.replies replied a.completes.leads.history)
     of_end (inr stopped) =
         let never : false ≡ true = stopped.0 in
         absurd (cc)
 
-pub loads : (meaning : Meaning) (h g : History) (given left old new : Option (List ℕ)) (accepted refused : ℕ) → given ≡ Some LIBRARY.now → Answers Continued false (ReplyInRun meaning MAX_STEPS) h g given left old new accepted refused →
+pub loads : (meaning : Meaning) (h g : History) (given left old new : Option (List ℕ)) (accepted refused : ℕ) → given ≡ Some LIBRARY.now → Answers Continued false (ReplyInRun meaning MAX_BUDGET) h g given left old new accepted refused →
     accepted ≡ 1 → LoadsLibrary h g
 loads meaning h g given left old new accepted refused is a one = of_either (of_answers meaning h g given left old new accepted refused is a)
   where
@@ -94,7 +94,7 @@ loads meaning h g given left old new accepted refused is a one = of_either (of_a
         let zero : accepted ≡ 0 = stays.0 in
         absurd (omega arith)
 
-pub stays_else : (meaning : Meaning) (h g : History) (given left old new : Option (List ℕ)) (accepted refused : ℕ) → given ≡ Some LIBRARY.now → Answers Continued false (ReplyInRun meaning MAX_STEPS) h g given left old new accepted refused →
+pub stays_else : (meaning : Meaning) (h g : History) (given left old new : Option (List ℕ)) (accepted refused : ℕ) → given ≡ Some LIBRARY.now → Answers Continued false (ReplyInRun meaning MAX_BUDGET) h g given left old new accepted refused →
     (accepted ≡ 1 → ⊥) → g ≡ h
 stays_else meaning h g given left old new accepted refused is a other = of_either (of_answers meaning h g given left old new accepted refused is a)
   where
@@ -103,7 +103,7 @@ stays_else meaning h g given left old new accepted refused is a other = of_eithe
     of_either (inr stays) = stays.1
 
 -- The bound on reads is not reached.
-not_so_long : (meaning : Meaning) (h g : History) (given left old new : Option (List ℕ)) → given ≡ Some LIBRARY.now → AnswersPart Continued false (ReplyInRun meaning MAX_STEPS) h g given left old new MAX_READS → ⊥
+not_so_long : (meaning : Meaning) (h g : History) (given left old new : Option (List ℕ)) → given ≡ Some LIBRARY.now → AnswersPart Continued false (ReplyInRun meaning MAX_BUDGET) h g given left old new MAX_READS → ⊥
 not_so_long meaning h g given left old new is a = go left a.part (subst (λ (it : Option (List ℕ)). Consumes it left a.part) is a.read) a.long
   where
     go : (left : Option (List ℕ)) (part : List ℕ) → Consumes (Some LIBRARY.now) left part → MAX_READS ≤ length part → ⊥
@@ -115,7 +115,7 @@ not_so_long meaning h g given left old new is a = go left a.part (subst (λ (it 
 
 -- A run that ends with a fault leaves the history unchanged, if neither reads nor writes fail.
 pub stays_at_fault : (meaning : Meaning) (h g : History) (given left old new : Option (List ℕ)) (fault : RunFault) → given ≡ Some LIBRARY.now → (fault ≡ Read → ⊥) → (fault ≡ Write → ⊥) →
-    (fault ≡ Turns → AnswersPart Continued false (ReplyInRun meaning MAX_STEPS) h g given left old new MAX_READS) → (fault ≡ Memory → g ≡ h) → g ≡ h
+    (fault ≡ Turns → AnswersPart Continued false (ReplyInRun meaning MAX_BUDGET) h g given left old new MAX_READS) → (fault ≡ Memory → g ≡ h) → g ≡ h
 stays_at_fault meaning h g given left old new Read is read write turns memory = absurd (read refl)
 stays_at_fault meaning h g given left old new Write is read write turns memory = absurd (write refl)
 stays_at_fault meaning h g given left old new Turns is read write turns memory = absurd (not_so_long meaning h g given left old new is (turns refl))

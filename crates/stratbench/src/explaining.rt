@@ -4,7 +4,7 @@ use command_line::Load;
 use prim_core::Meaning;
 use script_core::{Framing, Piece, Settings, Watch};
 use script_hints::{Numbered, Past, Seen, explain, warn, warn_of_end};
-use session_core::{MAX_STEPS, Refusal, Session};
+use session_core::{MAX_BUDGET, Refusal, Session};
 use std::alloc::{AllocError, Global};
 use std::io::Write;
 
@@ -54,7 +54,7 @@ impl<'a, W: Write> Explaining<'a, W> {
             indent: self.numbered.indent(),
             comments: self.numbered.comments(),
             text: text_of(command),
-            steps: self.settings.steps,
+            budget: self.settings.steps,
             framing: self.settings.framing,
             past: self.past,
             library: self.library,
@@ -144,7 +144,7 @@ fn seen_in_file<'a>(load: &'a Load<'_>, command: &'a [u8]) -> Seen<'a> {
         indent: 0,
         comments: &[],
         text: command,
-        steps: MAX_STEPS,
+        budget: MAX_BUDGET,
         framing: Framing::Continued,
         past: Past::new(),
         library: None,

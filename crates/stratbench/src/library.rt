@@ -5,7 +5,7 @@ ghost use Rattle.stratbench.specs.Library.{LoadsLibrary};
 
 use prim_core::Meaning;
 use script_core::{Bytes, Failed, Framing, RunFault, Settings, Sink, Summary, run};
-use session_core::{MAX_STEPS, Session};
+use session_core::{MAX_BUDGET, Session};
 use std::alloc::Global;
 
 /// The command that loads the library. Its definitions have the names and meanings of the
@@ -68,7 +68,7 @@ pub fn load_library<M: Meaning>(alloc: Global, session: &mut Session<M>) -> Resu
 {
     let mut source = Bytes::new(LIBRARY);
     let settings = Settings {
-        steps: MAX_STEPS,
+        steps: MAX_BUDGET,
         stop: false,
         framing: Framing::Continued,
     };

@@ -2,7 +2,7 @@
 #![tactic(auto)]
 
 ghost use Rattle.std.specs.Prelude.{◌+◌, ◌<◌, ◌^◌};
-ghost use Rattle.session_history.specs.Steps.{AreSteps};
+ghost use Rattle.session_history.specs.Budget.{IsBudget};
 
 mod dialogue;
 mod explaining;
@@ -108,7 +108,7 @@ fn print_refusal(rt: &HostRuntime, file: &str, refusal: &Refusal) -> io::Result<
 
 // Runs a new session with the extended primitives over the script. Returns the exit status.
 fn run_line(rt: &HostRuntime, line: &CommandLine<'_>) -> u8
-    requires { AreSteps line.now.steps }
+    requires { IsBudget line.now.budget }
 {
     match extended_primitives(rt.alloc()) {
         Ok(primitives) => run_with(rt, line, primitives),
@@ -122,7 +122,7 @@ fn run_with<M: Meaning>(
     line: &CommandLine<'_>,
     primitives: Vec<Primitive<M>>,
 ) -> u8
-    requires { AreSteps line.now.steps }
+    requires { IsBudget line.now.budget }
 {
     let mut session = Session::new(rt.alloc(), Primitives::new(primitives));
     run_whole(rt, line, &mut session)
@@ -130,7 +130,7 @@ fn run_with<M: Meaning>(
 
 // Loads what is to be loaded, runs the script, and writes what is to be written.
 fn run_whole<M: Meaning>(rt: &HostRuntime, line: &CommandLine<'_>, session: &mut Session<M>) -> u8
-    requires { AreSteps line.now.steps }
+    requires { IsBudget line.now.budget }
 {
     if line.library {
         if let Err(fault) = load_library(rt.alloc(), session) {
@@ -223,7 +223,7 @@ fn run_session<M: Meaning>(
     line: &CommandLine<'_>,
     session: &mut Session<M>,
 ) -> Result<Summary, RunFault>
-    requires { AreSteps line.now.steps }
+    requires { IsBudget line.now.budget }
 {
     let Ok(writer) = BufWriter::new(rt.alloc(), rt.stdout()) else {
         return Err(RunFault::Memory);
@@ -244,7 +244,7 @@ fn run_input<M: Meaning, W: Write + Drop>(
     line: &CommandLine<'_>,
     writer: W,
 ) -> Result<Summary, RunFault>
-    requires { AreSteps line.now.steps }
+    requires { IsBudget line.now.budget }
 {
     let source = Counted::new(rt.stdin());
     let sink = Counted::new(writer);
@@ -270,12 +270,12 @@ fn run_between<M: Meaning, I: Source + Drop, O: Sink + Drop>(
     mut source: I,
     mut sink: O,
 ) -> Result<Summary, RunFault>
-    requires steps { AreSteps line.now.steps }
+    requires budget { IsBudget line.now.budget }
     requires source { I.failed source + 1 < 2 ^ 64 }
     requires sink { O.failed sink + 1 < 2 ^ 64 }
 {
     let settings = Settings {
-        steps: line.steps,
+        steps: line.budget,
         stop: line.stop,
         framing: line.framing(),
     };

@@ -19,8 +19,8 @@ use term_core::Label;
 // How many names for the new file are tried.
 const MAX_TRIES: u32 = 100;
 
-/// The tree of this name as `show` prints it, and a line feed.
-pub fn shown_tree<M: Meaning>(
+/// The text of the file for the tree of this name, which is the answer of `show`.
+pub fn file_text<M: Meaning>(
     alloc: Global,
     session: &Session<M>,
     name: &Label,
@@ -44,7 +44,7 @@ pub fn write_tree<M: Meaning>(
     session: &Session<M>,
     named: &Named<'_>,
 ) -> Result<(), FileFault> {
-    let text = shown_tree(rt.alloc(), session, &named.name)?;
+    let text = file_text(rt.alloc(), session, &named.name)?;
     match replace(rt, named.file, text.bytes()) {
         Ok(()) => Ok(()),
         Err(error) if error.kind() == ErrorKind::OutOfMemory => Err(FileFault::Memory),

@@ -25,7 +25,7 @@ pub record Counts (Rule : ByBudget) (commands : List Handed) (old new : Running)
     (held held' : Option (List ℕ)) (goes_on : Bool) : Type 0 where
   pub yes : ℕ
   pub no : ℕ
-  pub completes : Completes old.settings.stop (Rule old.settings.steps) commands h g held held' yes no
+  pub completes : Completes old.settings.stop (Rule old.settings.budget) commands h g held held' yes no
   pub accepted : new.summary.accepted ≡ old.summary.accepted + yes
   pub refused : new.summary.refused ≡ old.summary.refused + no
   pub total : yes + no ≤ length commands
@@ -67,7 +67,7 @@ pub record Breaks (Rule : ByBudget) (old : Running) (h g : History) (held held' 
   where
     pub all : List Handed
     pub hands : HandsAfter old.splitter bytes all
-    pub breaks : BreaksOff old.settings.stop (Rule old.settings.steps) all h g held held'
+    pub breaks : BreaksOff old.settings.stop (Rule old.settings.budget) all h g held held'
 
 -- Answering these bytes reaches the end.
 pub record Ends (Rule : ByBudget) (old new : Running) (h g : History) (held held' : Option (List ℕ)) (bytes : List ℕ) : Type 0
@@ -76,7 +76,7 @@ pub record Ends (Rule : ByBudget) (old new : Running) (h g : History) (held held
     pub hands : HandsAfter old.splitter bytes all
     pub yes : ℕ
     pub no : ℕ
-    pub completes : Completes old.settings.stop (Rule old.settings.steps) all h g held held' yes no
+    pub completes : Completes old.settings.stop (Rule old.settings.budget) all h g held held' yes no
     pub accepted : new.summary.accepted ≡ old.summary.accepted + yes
     pub refused : new.summary.refused ≡ old.summary.refused + no
 
@@ -88,7 +88,7 @@ pub record Stops (Rule : ByBudget) (old : Running) (h g : History) (held held' :
   pub all : List Handed
   pub hands : (framing : Framing) (x : List ℕ) (out : List Handed) → StandsAfter framing x out old.splitter.left
       → completed framing (x ++ bytes) ≡ out ++ all
-  pub completes : Completes old.settings.stop (Rule old.settings.steps) all h g held held' yes no
+  pub completes : Completes old.settings.stop (Rule old.settings.budget) all h g held held' yes no
 
 -- One turn of a run: at most this many bytes are read and their commands answered, and the run goes
 -- on; or it reaches the end, or fails.

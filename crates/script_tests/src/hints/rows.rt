@@ -92,7 +92,7 @@ fn after_front<'a>(
         indent: 0,
         comments: &[],
         text: command.as_bytes(),
-        steps: 1_000,
+        budget: 1_000,
         framing: Framing::Continued,
         past: Past::new(),
         library: None,

@@ -55,7 +55,7 @@ fn said_by(alloc: Global, words: &str) -> Result<String, Fail> {
 }
 
 fn shown(alloc: Global, line: &CommandLine<'_>) -> Result<String, Fail> {
-    let mut text = format!(in alloc; "{}", line.steps)?;
+    let mut text = format!(in alloc; "{}", line.budget)?;
     show(&mut text, line)?;
     Ok(text)
 }

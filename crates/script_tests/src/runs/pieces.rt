@@ -1,10 +1,10 @@
 //! Running a script that is read in pieces of a given size.
 
-ghost use Rattle.session_history.specs.Steps.{AreSteps};
+ghost use Rattle.session_history.specs.Budget.{IsBudget};
 
 use prim_core::{NoPrimitives, Primitives};
 use script_core::{Counted, Framing, Held, RunFault, Settings, Summary, run};
-use session_core::{MAX_STEPS, Session};
+use session_core::{MAX_BUDGET, Session};
 use std::alloc::Global;
 use std::io::{self, Error, ErrorKind, Read};
 use std::process::Abort;
@@ -36,10 +36,10 @@ pub fn new_session(alloc: Global) -> Session<NoPrimitives> {
 }
 
 pub fn settings(stop: bool) -> Settings
-    ensures { AreSteps result.steps }
+    ensures { IsBudget result.budget }
 {
     Settings {
-        steps: MAX_STEPS,
+        steps: MAX_BUDGET,
         stop,
         framing: Framing::Continued,
     }
@@ -54,10 +54,10 @@ pub fn ends(accepted: u64, refused: u64) -> Outcome {
 
 /// The same for a script whose lines are its commands.
 pub fn settings_of_lines() -> Settings
-    ensures { AreSteps result.steps }
+    ensures { IsBudget result.budget }
 {
     Settings {
-        steps: MAX_STEPS,
+        steps: MAX_BUDGET,
         stop: false,
         framing: Framing::Lines,
     }
@@ -70,7 +70,7 @@ fn is_answered_by(
     answers: &[u8],
     outcome: Outcome,
 ) -> bool
-    requires { AreSteps settings.steps }
+    requires { IsBudget settings.steps }
 {
     let mut session = new_session(alloc);
     let mut source = Counted::new(reader);
@@ -98,7 +98,7 @@ fn is_row_by(
     answers: &[u8],
     outcome: Outcome,
 ) -> bool
-    requires { AreSteps settings.steps }
+    requires { IsBudget settings.steps }
 {
     for most in [1, 2, 4096] {
         let reader = PieceReader {

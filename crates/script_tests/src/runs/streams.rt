@@ -1,6 +1,6 @@
 //! Readers and writers that fail, and the order of reads and flushes.
 
-ghost use Rattle.session_history.specs.Steps.{AreSteps};
+ghost use Rattle.session_history.specs.Budget.{IsBudget};
 
 use super::pieces::{
     Outcome, PieceReader, ends, is_answered, new_session, settings, settings_of_lines,
@@ -236,7 +236,7 @@ impl Write for SeenWriter<'_> {
 }
 
 fn order_of(alloc: Global, script: &[u8], settings: Settings, early: usize) -> (usize, usize, bool)
-    requires { AreSteps settings.steps }
+    requires { IsBudget settings.steps }
 {
     let order = Order {
         written: Cell::new(0),

@@ -2,7 +2,7 @@
 
 use crate::loading::{load_module, load_tree};
 use crate::module_text::module_text;
-use crate::writing::shown_tree;
+use crate::writing::file_text;
 use prim_core::{Meaning, Primitives, Standard};
 use session_core::{Refusal, Session};
 use std::alloc::Global;
@@ -46,7 +46,7 @@ fn is_loaded<M: Meaning>(alloc: Global) -> Result<bool, Fail> {
     );
     let text_is = session.module_text(&name) == Some(b"strategies\n f = id".as_slice());
     let steps = session.counts() == (2, 0);
-    let tree_is = match shown_tree(alloc, &session, &name) {
+    let tree_is = match file_text(alloc, &session, &name) {
         Ok(text) => text.bytes() == b"f(1,2)\n".as_slice(),
         Err(_) => false,
     };

@@ -1,6 +1,6 @@
 //! Scripts and their answers on a session with the library and the program's primitives, as it makes it for a command line.
 
-ghost use Rattle.session_history.specs.Steps.{AreSteps};
+ghost use Rattle.session_history.specs.Budget.{IsBudget};
 
 use crate::library::load_library;
 use command_line::{CommandLine, arguments};
@@ -35,7 +35,7 @@ fn are_answers<M: Meaning>(
     script: &str,
     answers: &str,
 ) -> bool
-    requires { AreSteps line.now.steps }
+    requires { IsBudget line.now.budget }
 {
     if line.library && load_library(alloc, session).is_err() {
         return false;
@@ -43,7 +43,7 @@ fn are_answers<M: Meaning>(
     let mut source = Bytes::new(script.as_bytes());
     let mut sink = Held::new(alloc);
     let settings = Settings {
-        steps: line.steps,
+        steps: line.budget,
         stop: line.stop,
         framing: line.framing(),
     };

@@ -51,7 +51,7 @@ returns-in-Ok-clause-number g c =
     let words : List Text = map g.S.AsStr.text c.args.words.now in
     let rows = rows_are _ words c.in_ok-matches.matches c.in_ok-matches.ensures.ok.2 c.in_ok-command.ensures in
     let text = one_text-rows (found_of c.in_ok-matches.matches) (codes "steps") ∙ ap (one_of (codes "steps")) rows in
-    λ t e. c.steps.ensures.number t (text ∙ e)
+    λ t e. c.budget.ensures.number t (text ∙ e)
 
 pub returns-in-Ok-clause-file : goal.returns-in-Ok-clause-file
 returns-in-Ok-clause-file g c =

@@ -40,7 +40,7 @@ returns-in-Unload g c =
 pub returns-in-Apply : goal.returns-in-Apply
 returns-in-Apply g c =
     performed g.M.Meaning.meaning c.args.command.now _ c.args.session.now c.apply.new.self c.say_ok-in-Apply.result c.apply.result c.say_ok-in-Apply.new.answer c.in-Apply.is c.say_ok-in-Apply.ensures.same c.say_ok-in-Apply.ensures.ok
-    (acts (apply g.M.Meaning.meaning c.in-Apply.name c.in-Apply.path c.in-Apply.steps c.in-Apply.text.now) c.apply.result c.args.session.now c.apply.new.self c.apply.ensures)
+    (acts (apply g.M.Meaning.meaning c.in-Apply.name c.in-Apply.path c.in-Apply.budget c.in-Apply.text.now) c.apply.result c.args.session.now c.apply.new.self c.apply.ensures)
 
 pub returns-in-Undo : goal.returns-in-Undo
 returns-in-Undo g c =

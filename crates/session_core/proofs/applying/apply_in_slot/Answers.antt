@@ -22,8 +22,8 @@ plan_in_group-requires-clause-places g c =
     let part = c.in-Some-at.part.now in
     let there : content s.trees c.args.slot ≡ Some c.in-Some.tree.now = sym (rw c.store.ensures at c.tree.ensures) ∙ ap (λ o. option_copied o) c.in-Some.is in
     let here : at c.in-Some.tree.now path ≡ Some part = sym c.at.ensures ∙ ap (λ o. option_copied o) c.in-Some-at.is in
-    let plan = planned_there (λ (ps : Edits) (plan : List Entry). plan ≡ entries_at c.args.slot (prefixed path ps)) part c.args.steps (run_whole W (length path) c.args.strategy.now c.args.steps part) c.plan_entries-planned.result c.in_ok-plan.plan c.in_ok-plan.field-0-1 c.plan_entries-planned.ensures (sym c.in_ok-plan.ensures) in
-    fits_in W s c.args.slot path c.args.strategy.now c.args.steps c.in-Some.tree.now part there here plan.0 c.in_ok-plan.plan c.in_ok-plan.field-0-1 plan.1 plan.2
+    let plan = planned_there (λ (ps : Edits) (plan : List Entry). plan ≡ entries_at c.args.slot (prefixed path ps)) part c.args.budget (run_whole W (length path) c.args.strategy.now c.args.budget part) c.plan_entries-planned.result c.in_ok-plan.plan c.in_ok-plan.field-0-1 c.plan_entries-planned.ensures (sym c.in_ok-plan.ensures) in
+    fits_in W s c.args.slot path c.args.strategy.now c.args.budget c.in-Some.tree.now part there here plan.0 c.in_ok-plan.plan c.in_ok-plan.field-0-1 plan.1 plan.2
 
 pub returns-in_err-plan_in_group-clause-err : goal.returns-in_err-plan_in_group-clause-err
 returns-in_err-plan_in_group-clause-err g c = on_err c.from_residual-in_err-plan_in_group.result (c.in_err-plan_in_group.ensures.err c.args.primitives.now)
@@ -39,8 +39,8 @@ returns-then-in_group-clause-made g c =
     let part = c.in-Some-at.part.now in
     let there : content s.trees c.args.slot ≡ Some c.in-Some.tree.now = sym (rw c.store.ensures at c.tree.ensures) ∙ ap (λ o. option_copied o) c.in-Some.is in
     let here : at c.in-Some.tree.now path ≡ Some part = sym c.at.ensures ∙ ap (λ o. option_copied o) c.in-Some-at.is in
-    let plan = planned_there (λ (ps : Edits) (plan : List Entry). plan ≡ entries_at c.args.slot (prefixed path ps)) part c.args.steps (run_whole W (length path) c.args.strategy.now c.args.steps part) c.plan_entries-planned.result c.in_ok-plan.plan c.in_ok-plan.field-0-1 c.plan_entries-planned.ensures (sym c.in_ok-plan.ensures) in
-    gives_in W s c.args.slot path c.args.strategy.now c.args.steps c.in-Some.tree.now part there here plan.0 c.in_ok-plan.plan c.in_ok-plan.field-0-1 c.plan_in_group.new.self.store plan.1 plan.2 c.in_ok-plan_in_group.ensures.store
+    let plan = planned_there (λ (ps : Edits) (plan : List Entry). plan ≡ entries_at c.args.slot (prefixed path ps)) part c.args.budget (run_whole W (length path) c.args.strategy.now c.args.budget part) c.plan_entries-planned.result c.in_ok-plan.plan c.in_ok-plan.field-0-1 c.plan_entries-planned.ensures (sym c.in_ok-plan.ensures) in
+    gives_in W s c.args.slot path c.args.strategy.now c.args.budget c.in-Some.tree.now part there here plan.0 c.in_ok-plan.plan c.in_ok-plan.field-0-1 c.plan_in_group.new.self.store plan.1 plan.2 c.in_ok-plan_in_group.ensures.store
 
 pub patch_as_step-requires-clause-places : goal.patch_as_step-requires-clause-places
 patch_as_step-requires-clause-places g c =
@@ -51,10 +51,10 @@ patch_as_step-requires-clause-places g c =
     let copy = c.in-Ok.place.items in
     let there : content s.trees c.args.slot ≡ Some c.in-Some.tree.now = sym (rw c.store.ensures at c.tree.ensures) ∙ ap (λ o. option_copied o) c.in-Some.is in
     let here : at c.in-Some.tree.now path ≡ Some part = sym c.at.ensures ∙ ap (λ o. option_copied o) c.in-Some-at.is in
-    let plan = planned_there (λ (ps : Edits) (patch : Change). places patch ≡ ps) part c.args.steps (run_whole W (length path) c.args.strategy.now c.args.steps part) c.plan_patch-planned.result c.in_ok-patch.patch c.in_ok-patch.field-0-1
-    (subst (λ (level : ℕ). IfOk c.plan_patch-planned.result (Plans (λ (ps : Edits) (patch : Change). places patch ≡ ps) part c.args.steps (run_whole W level c.args.strategy.now c.args.steps part))) c.len-level.ensures c.plan_patch-planned.ensures) (sym c.in_ok-patch.ensures) in
+    let plan = planned_there (λ (ps : Edits) (patch : Change). places patch ≡ ps) part c.args.budget (run_whole W (length path) c.args.strategy.now c.args.budget part) c.plan_patch-planned.result c.in_ok-patch.patch c.in_ok-patch.field-0-1
+    (subst (λ (level : ℕ). IfOk c.plan_patch-planned.result (Plans (λ (ps : Edits) (patch : Change). places patch ≡ ps) part c.args.budget (run_whole W level c.args.strategy.now c.args.budget part))) c.len-level.ensures c.plan_patch-planned.ensures) (sym c.in_ok-patch.ensures) in
     let are = patch_entries_are c.args.slot path copy c.in_ok-patch.patch (c.in-Ok.ensures.items ∙ c.parts.ensures) plan.0 plan.1 in
-    fits_in W s c.args.slot path c.args.strategy.now c.args.steps c.in-Some.tree.now part there here plan.0 (patch_entries c.args.slot copy c.in_ok-patch.patch) c.in_ok-patch.field-0-1 are plan.2
+    fits_in W s c.args.slot path c.args.strategy.now c.args.budget c.in-Some.tree.now part there here plan.0 (patch_entries c.args.slot copy c.in_ok-patch.patch) c.in_ok-patch.field-0-1 are plan.2
 
 pub returns-in_err-patch_as_step-clause-err : goal.returns-in_err-patch_as_step-clause-err
 returns-in_err-patch_as_step-clause-err g c = on_err c.from_residual-in_err-patch_as_step.result (c.in_err-patch_as_step.ensures.err c.args.primitives.now)
@@ -71,7 +71,7 @@ returns-clause-made g c =
     let copy = c.in-Ok.place.items in
     let there : content s.trees c.args.slot ≡ Some c.in-Some.tree.now = sym (rw c.store.ensures at c.tree.ensures) ∙ ap (λ o. option_copied o) c.in-Some.is in
     let here : at c.in-Some.tree.now path ≡ Some part = sym c.at.ensures ∙ ap (λ o. option_copied o) c.in-Some-at.is in
-    let plan = planned_there (λ (ps : Edits) (patch : Change). places patch ≡ ps) part c.args.steps (run_whole W (length path) c.args.strategy.now c.args.steps part) c.plan_patch-planned.result c.in_ok-patch.patch c.in_ok-patch.field-0-1
-    (subst (λ (level : ℕ). IfOk c.plan_patch-planned.result (Plans (λ (ps : Edits) (patch : Change). places patch ≡ ps) part c.args.steps (run_whole W level c.args.strategy.now c.args.steps part))) c.len-level.ensures c.plan_patch-planned.ensures) (sym c.in_ok-patch.ensures) in
+    let plan = planned_there (λ (ps : Edits) (patch : Change). places patch ≡ ps) part c.args.budget (run_whole W (length path) c.args.strategy.now c.args.budget part) c.plan_patch-planned.result c.in_ok-patch.patch c.in_ok-patch.field-0-1
+    (subst (λ (level : ℕ). IfOk c.plan_patch-planned.result (Plans (λ (ps : Edits) (patch : Change). places patch ≡ ps) part c.args.budget (run_whole W level c.args.strategy.now c.args.budget part))) c.len-level.ensures c.plan_patch-planned.ensures) (sym c.in_ok-patch.ensures) in
     let are = patch_entries_are c.args.slot path copy c.in_ok-patch.patch (c.in-Ok.ensures.items ∙ c.parts.ensures) plan.0 plan.1 in
-    gives_in W s c.args.slot path c.args.strategy.now c.args.steps c.in-Some.tree.now part there here plan.0 (patch_entries c.args.slot copy c.in_ok-patch.patch) c.in_ok-patch.field-0-1 c.patch_as_step.new.self.store are plan.2 c.in_ok-patch_as_step.ensures.store
+    gives_in W s c.args.slot path c.args.strategy.now c.args.budget c.in-Some.tree.now part there here plan.0 (patch_entries c.args.slot copy c.in_ok-patch.patch) c.in_ok-patch.field-0-1 c.patch_as_step.new.self.store are plan.2 c.in_ok-patch_as_step.ensures.store

@@ -9,9 +9,9 @@ apply_in_slot-outcome-requires g c = record { low = is_low c.args.timeline.now c
 
 pub returns-in-Err-clause-performs : goal.returns-in-Err-clause-performs
 returns-in-Err-clause-performs g c =
-    apply_unresolved g.M.Meaning.meaning c.args.primitives.now c.args.timeline.now c.args.name.now c.args.path.now c.args.text.now c.args.steps c.in-Err.refusal c.in-Err.ensures.refused
+    apply_unresolved g.M.Meaning.meaning c.args.primitives.now c.args.timeline.now c.args.name.now c.args.path.now c.args.text.now c.args.budget c.in-Err.refusal c.in-Err.ensures.refused
 
 pub returns-clause-performs : goal.returns-clause-performs
 returns-clause-performs g c =
-    apply_performs g.M.Meaning.meaning c.args.primitives.now c.args.timeline.now c.args.name.now c.args.path.now c.args.text.now c.args.steps (program_in c.resolve_at.new.kept) c.in-Ok.found.0 c.in-Ok.found.1 c.in-Ok.ensures.ok
+    apply_performs g.M.Meaning.meaning c.args.primitives.now c.args.timeline.now c.args.name.now c.args.path.now c.args.text.now c.args.budget (program_in c.resolve_at.new.kept) c.in-Ok.found.0 c.in-Ok.found.1 c.in-Ok.ensures.ok
     c.in-Some.checked.now c.in-Some.ensures c.apply_in_slot-outcome.result c.apply_in_slot-outcome.new.timeline c.apply_in_slot-outcome.ensures.made c.apply_in_slot-outcome.ensures.ok c.apply_in_slot-outcome.ensures.refused c.apply_in_slot-outcome.ensures.err

@@ -9,9 +9,9 @@ preview_in_slot-outcome-requires g c = record { low = is_low c.args.timeline.now
 
 pub returns-in-Err-clause-answers : goal.returns-in-Err-clause-answers
 returns-in-Err-clause-answers g c =
-    preview_unresolved g.M.Meaning.meaning c.args.primitives.now c.args.timeline.now c.args.name.now c.args.path.now c.args.text.now c.args.steps c.in-Err.refusal c.in-Err.ensures.refused
+    preview_unresolved g.M.Meaning.meaning c.args.primitives.now c.args.timeline.now c.args.name.now c.args.path.now c.args.text.now c.args.budget c.in-Err.refusal c.in-Err.ensures.refused
 
 pub returns-clause-answers : goal.returns-clause-answers
 returns-clause-answers g c =
-    preview_answers g.M.Meaning.meaning c.args.primitives.now c.args.timeline.now c.args.name.now c.args.path.now c.args.text.now c.args.steps (program_in c.resolve_at.new.kept) c.in-Ok.found.0 c.in-Ok.found.1 c.in-Ok.ensures.ok
+    preview_answers g.M.Meaning.meaning c.args.primitives.now c.args.timeline.now c.args.name.now c.args.path.now c.args.text.now c.args.budget (program_in c.resolve_at.new.kept) c.in-Ok.found.0 c.in-Ok.found.1 c.in-Ok.ensures.ok
     c.in-Some.checked.now c.in-Some.ensures c.preview_in_slot-outcome.result c.preview_in_slot-outcome.ensures.ok c.preview_in_slot-outcome.ensures.refused
