@@ -14,7 +14,6 @@ use Rattle.session_history.specs.History.{HistoryGroup, History, undone, redone}
 use Rattle.session_history.specs.Acts.{Act, ActResult, Passing, Holding, Given, Leaves, Located, ComesTo, Performs, PerformsSurely}
 use Rattle.session_history.specs.declared.refusal.Refusal.{Refusal}
 use Rattle.session_history.specs.declared.refusal.Refusal.TheVariants.{Memory, NoUndo, NoRedo, Group, NoGroup}
-use Rattle.script_text.specs.declared.command.Command.{Command}
 use Rattle.script_text.specs.declared.keyword.Keyword.{Keyword}
 use Rattle.script_text.specs.Script.{without_end}
 use Rattle.script_text.specs.Handed.{Handed, text as handed_text, long}
@@ -95,17 +94,14 @@ module _ {X : Type 0} (Gives : Result X Refusal → Type 0) (next : Located → 
   told_there (Ok place) x gives reply t = (t.0, (Ok x, gives, t.1), t.2)
   told_there (Err refusal) x gives reply t = t
 
--- a command, and `ok` for its outcome
-pub performed : (meaning : Meaning) (command known : Command) (h g : History) (r outcome : Result (Unit {0}) Refusal) (answer : List ℕ) → command ≡ known → r ≡ outcome → OnOk r (answer ≡ line (codes "ok")) →
-    PerformedRight (Replies meaning (form known) h) (is_without_memory (form known)) outcome h g (line (codes "ok")) → PerformedRight (Replies meaning (form command) h) (is_without_memory (form command)) r h g answer
-performed meaning command known h g r outcome answer is same written p =
-    subst (λ (c : Command). PerformedRight (Replies meaning (form c) h) (is_without_memory (form c)) r h g answer) (sym is)
-    (by r written (subst (λ (x : Result (Unit {0}) Refusal). PerformedRight (Replies meaning (form known) h) (is_without_memory (form known)) x h g (line (codes "ok"))) (sym same) p))
-  where
-    by : (x : Result (Unit {0}) Refusal) → OnOk x (answer ≡ line (codes "ok")) → PerformedRight (Replies meaning (form known) h) (is_without_memory (form known)) x h g (line (codes "ok")) →
-        PerformedRight (Replies meaning (form known) h) (is_without_memory (form known)) x h g answer
-    by (Ok x) e p = record { ok = subst (λ (bytes : List ℕ). Replies meaning (form known) h (Ok (told_of g bytes))) (sym e) p.ok; refused = tt; err = tt }
-    by (Err refusal) e p = record { ok = tt; refused = p.refused; err = p.err }
+-- `ok` for the outcome of an act
+pub told_ok : (Rule : Reply → Type 0) (none : Bool) (r outcome : Result (Unit {0}) Refusal) (h g : History) (answer : List ℕ) → PerformedRight Rule none outcome h g (line (codes "ok")) → r ≡ outcome → OnOk r (answer ≡ line (codes "ok")) → PerformedRight Rule none r h g answer
+told_ok Rule none r (Ok x) h g answer p same written =
+    let is : answer ≡ line (codes "ok") = rw same at written in
+    rw (same, is) (record { ok = p.ok; refused = tt; err = tt })
+told_ok Rule none r (Err refusal) h g answer p same written = rw same (record { ok = tt; refused = p.refused; err = p.err })
+
+pub ruleset by_acts = (acts, acts_surely, told_ok)
 
 -- by a form that was read, or wasn't
 to_form : (meaning : Meaning) (asked : Option Form) (known : Form) (h : History) → checked asked ≡ Ok known → (reply : Reply) → Replies meaning known h reply → ReplyToForm meaning asked h reply

@@ -1,8 +1,8 @@
 //! Running a script: reading it in pieces, answering each command when it is complete, and writing
 //! the answers.
 
-ghost use Rattle.std.specs.Prelude.{◌≡◌, ◌≤◌, ◌<◌, ◌+◌, ◌*◌, ◌^◌, ◌∷◌, [], Ok, Err, OnOk, OnErr, IfOk, true, false, not, is_some, Some, length};
-ghost use Rattle.script_text.specs.Handed.{Handed};
+ghost use Rattle.std.specs.Prelude.{◌≡◌, ◌≤◌, ◌<◌, ◌+◌, ◌*◌, ◌^◌, ◌∷◌, [], Bool, Ok, Err, OnOk, OnErr, IfOk, true, false, not, is_some, Some, length};
+ghost use Rattle.script_text.specs.Handed.{Handed, handed};
 ghost use Rattle.script_text.specs.Splitting.{StandsAfter};
 ghost use Rattle.session_history.specs.Budget.{IsBudget};
 ghost use Rattle.script_text.specs.Answer.{ReplyInRun};
@@ -30,7 +30,7 @@ pub const PIECE: usize = 4096;
 #[derive(Clone, Copy, Debug, PartialEq, Eq)]
 pub struct Settings {
     /// The budget of commands that name none, from 1 to 1,000,000.
-    pub budget: u32,
+    pub steps: u32,
     /// Whether the run ends after the first refused command.
     pub stop: bool,
     /// Where a command ends.
@@ -84,12 +84,12 @@ pub fn run<M: Meaning, I: Source, O: Sink>(
     sink: &mut O,
     settings: Settings,
 ) -> Result<Summary, RunFault>
-    requires budget { IsBudget settings.budget }
+    requires budget { IsBudget settings.steps }
     requires source_counts { I.failed source.old + 1 < 2 ^ 64 }
     requires sink_counts { O.failed sink.old + 1 < 2 ^ 64 }
 
     // Everything read is answered, up to the end of the script; or the run stopped at a refusal.
-    ensures done { IfOk result (λ summary. Answers settings.framing settings.stop (ReplyInRun M.meaning settings.budget) session.old session.new
+    ensures done { IfOk result (λ summary. Answers settings.framing settings.stop (ReplyInRun M.meaning settings.steps) session.old session.new
         (I.left source.old) (I.left source.new) (O.held sink.old) (O.held sink.new)
         summary.accepted summary.refused) }
     ensures calm { OnOk result ((I.failed source.new ≡ I.failed source.old)
@@ -99,17 +99,17 @@ pub fn run<M: Meaning, I: Source, O: Sink>(
     // then at least that many bytes were read.
     ensures read { result ≡ Err RunFault.Read → (I.failed source.new ≡ I.failed source.old + 1)
         × (O.failed sink.new ≡ O.failed sink.old)
-        × AnswersPart settings.framing settings.stop (ReplyInRun M.meaning settings.budget) session.old session.new
+        × AnswersPart settings.framing settings.stop (ReplyInRun M.meaning settings.steps) session.old session.new
         (I.left source.old) (I.left source.new) (O.held sink.old) (O.held sink.new) 0 }
     ensures turns { result ≡ Err RunFault.Turns → ((I.failed source.new ≡ I.failed source.old)
         × (O.failed sink.new ≡ O.failed sink.old))
-        × AnswersPart settings.framing settings.stop (ReplyInRun M.meaning settings.budget) session.old session.new
+        × AnswersPart settings.framing settings.stop (ReplyInRun M.meaning settings.steps) session.old session.new
         (I.left source.old) (I.left source.new) (O.held sink.old) (O.held sink.new) MAX_READS }
 
     // If a write or a flush fails, some first commands of what was read are answered.
     ensures write { result ≡ Err RunFault.Write → (O.failed sink.new ≡ O.failed sink.old + 1)
         × (I.failed source.new ≡ I.failed source.old)
-        × AnswersFirst settings.framing settings.stop (ReplyInRun M.meaning settings.budget) session.old session.new
+        × AnswersFirst settings.framing settings.stop (ReplyInRun M.meaning settings.steps) session.old session.new
         (I.left source.old) (I.left source.new) (O.held sink.old) (O.held sink.new) }
 
     // Without memory nothing happened.
@@ -130,7 +130,7 @@ pub fn run_watched<M: Meaning, I: Source, O: Sink, W: Watch<M>>(
     watch: &mut W,
     settings: Settings,
 ) -> Result<Summary, RunFault>
-    requires budget { IsBudget settings.budget }
+    requires budget { IsBudget settings.steps }
     requires source_counts { I.failed source.old + 1 < 2 ^ 64 }
     requires sink_counts { O.failed sink.old + 1 < 2 ^ 64 }
     ensures right { RunRight (ReplyInRun M.meaning) result settings session.old session.new
@@ -167,14 +167,14 @@ impl Running {
         watch: &mut W,
     ) -> Result<bool, Failed>
         requires ready { is_some self.old.splitter.to_hand_out ≡ true }
-        requires budget { IsBudget self.old.settings.budget }
+        requires budget { IsBudget self.old.settings.steps }
         requires counts { self.old.summary.accepted + self.old.summary.refused + 1 < 2 ^ 64 }
         requires sink { O.failed sink.old + 1 < 2 ^ 64 }
         ensures answers { IfOk result (AnswersReady (ReplyInRun M.meaning) self.old self.new session.old session.new
             (O.held sink.old) (O.held sink.new)) }
         ensures same { OnOk result (O.failed sink.new ≡ O.failed sink.old) }
         ensures breaks { OnErr result ((command : Handed) × (self.old.splitter.to_hand_out ≡ Some command)
-            × BreaksOff self.old.settings.stop (ReplyInRun M.meaning self.old.settings.budget) (command ∷ []) session.old session.new
+            × BreaksOff self.old.settings.stop (ReplyInRun M.meaning self.old.settings.steps) (command ∷ []) session.old session.new
             (O.held sink.old) (O.held sink.new)) }
         ensures count { OnErr result (O.failed sink.new ≡ O.failed sink.old + 1) }
         ensures splitter { self.new.splitter ≡ self.old.splitter }
@@ -183,7 +183,7 @@ impl Running {
             alloc,
             session,
             self.splitter.command(),
-            self.settings.budget,
+            self.settings.steps,
             &mut self.answer,
             watch,
         );
@@ -191,6 +191,7 @@ impl Running {
         self.summary.count(accepted);
         Ok(accepted || !self.settings.stop)
     }
+
     // Answers the commands that these bytes complete, until the run stops, and returns whether it
     // goes on.
     fn answer_bytes<M: Meaning, O: Sink, W: Watch<M>>(
@@ -201,7 +202,7 @@ impl Running {
         bytes: &[u8],
         watch: &mut W,
     ) -> Result<bool, Failed>
-        requires budget { IsBudget self.old.settings.budget }
+        requires budget { IsBudget self.old.settings.steps }
         requires counts { self.old.summary.accepted + self.old.summary.refused + length bytes.now
             < 2 ^ 64 }
         requires sink { O.failed sink.old + 1 < 2 ^ 64 }
@@ -232,11 +233,11 @@ impl Running {
         sink: &mut O,
         watch: &mut W,
     ) -> Result<(), Failed>
-        requires budget { IsBudget self.old.settings.budget }
+        requires budget { IsBudget self.old.settings.steps }
         requires counts { self.old.summary.accepted + self.old.summary.refused + 1 < 2 ^ 64 }
         requires sink { O.failed sink.old + 1 < 2 ^ 64 }
-        ensures ends { OnOk result (Ends (ReplyInRun M.meaning) self.old self.new session.old session.new
-            (O.held sink.old) (O.held sink.new) []) }
+        ensures ends { OnOk result ((goes_on : Bool) × Ends (ReplyInRun M.meaning) handed self.old self.new session.old session.new
+            (O.held sink.old) (O.held sink.new) [] goes_on) }
         ensures same { OnOk result (O.failed sink.new ≡ O.failed sink.old) }
         ensures breaks { OnErr result (Breaks (ReplyInRun M.meaning) self.old session.old session.new
             (O.held sink.old) (O.held sink.new) []) }
@@ -247,6 +248,7 @@ impl Running {
         }
         Ok(())
     }
+
     // Flushes what was written, reads once and answers the commands that are then complete. Returns
     // whether the run goes on.
     fn turn<M: Meaning, I: Source, O: Sink, W: Watch<M>>(
@@ -258,7 +260,7 @@ impl Running {
         piece: &mut [u8],
         watch: &mut W,
     ) -> Result<bool, RunFault>
-        requires budget { IsBudget self.old.settings.budget }
+        requires budget { IsBudget self.old.settings.steps }
         requires piece { 0 < length piece.old }
         requires counts { self.old.summary.accepted + self.old.summary.refused + length piece.old
             < 2 ^ 64 }
@@ -285,6 +287,7 @@ impl Running {
             },
         }
     }
+
     // Reads and answers until the end, or until the run stops.
     fn answer_all<M: Meaning, I: Source, O: Sink, W: Watch<M>>(
         &mut self,
@@ -296,7 +299,7 @@ impl Running {
     ) -> Result<Summary, RunFault>
         requires fresh { StandsAfter self.old.settings.framing [] [] self.old.splitter.left }
         requires zero { (self.old.summary.accepted ≡ 0) × (self.old.summary.refused ≡ 0) }
-        requires budget { IsBudget self.old.settings.budget }
+        requires budget { IsBudget self.old.settings.steps }
         requires source { I.failed source.old + 1 < 2 ^ 64 }
         requires sink { O.failed sink.old + 1 < 2 ^ 64 }
         ensures some { result ≡ Err RunFault.Memory → ⊥ }

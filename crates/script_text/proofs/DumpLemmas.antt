@@ -2,13 +2,13 @@
 use Rattle.std.proofs.Common.{◌≡◌, ◌≤◌, ◌+◌, ℕ, Bool, cond, true, false, ◌&&◌, List, [], ◌∷◌, ◌++◌, length, map, codes, Some, None, Ok, Err, Result, is_none, ok_or, refl, sym, ap, ◌∙◌, subst, arith, append_assoc, if◌then◌else◌}
 use Rattle.std.specs.Prelude.{is_ok, is_err, count_by}
 use Rattle.std.specs.Result.{MatchResult}
-use Rattle.std.specs.Option.{option_map_or}
 use Rattle.std.specs.declared.option.Option.{Option}
 use Rattle.std.specs.List.{AllByRecursion, flat_map, repeat}
 use Rattle.std.specs.Cmp.Derive.{both_true}
 use Rattle.std.specs.FinMap as finmap
 use Rattle.std.specs.FinMap.{entries}
 use Rattle.std.proofs.lemmas.Bool.{le-leb, le-ltb}
+use Rattle.std.proofs.Math.Bool.{and-false}
 use Rattle.std.proofs.lemmas.List.{length-append}
 use Rattle.std.proofs.lemmas.List.Sums.{sum_by-cons}
 use Rattle.std.specs.Bool.{MatchBool}
@@ -20,7 +20,7 @@ use Rattle.strategy_check.specs.Faults.{Fault, Primitives, faults, first}
 use Rattle.strategy_check.specs.Programs.{Program, program}
 use Rattle.term_changes.specs.Contents.{Contents, with_tree, with_module}
 use Rattle.session_history.specs.Modules.{Texts, Finds, GivesProgram, Checks}
-use Rattle.session_history.specs.History.{HistoryGroup, History, changed, stepped}
+use Rattle.session_history.specs.History.{HistoryGroup, History, changed}
 use Rattle.session_history.specs.Acts.{Passing, Holding, Given, Leaves, ChangesTo, ChangesModules, committed}
 use Rattle.session_history.specs.Dump.{tree_line, module_line, dumped}
 use Rattle.session_history.specs.declared.refusal.Refusal.{Refusal}
@@ -35,6 +35,7 @@ use Rattle.script_text.specs.Answer.{ReplyInRun}
 use Rattle.session_history.specs.Applying.{Meaning}
 use Rattle.script_text.specs.Run.{Replied, history_after_all, out}
 use Rattle.script_text.specs.Laws.{OneRun, CanBeGiven, IsBare, AreClear, DumpReadsBack, DumpIsAnswered}
+use Rattle.script_text.proofs.RunLemmas.{end_of_one}
 use Rattle.script_text.proofs.DumpText.{tree_command, module_command, IsDumped, IsWhole, script_of, commands-script, command-is, module_command-is, tree_whole, module_whole, begin_whole, commit_whole}
 use Rattle.script_text.proofs.DumpContents.{TreeEntry, TextEntry, IsGiven, IsTold, inserted, inserted-all, trees_given, modules_told, group_text, dumped-is}
 
@@ -44,26 +45,16 @@ IsShort command = length command ≤ MAX_COMMAND
 -- ---- histories after changes
 
 now-changed : (c : Contents) (h : History) → (changed c h).now ≡ c
-now-changed c h = at h.group
-  where
-    at : (o : Option HistoryGroup) → (option_map_or (λ g. record h { now = c; group = Some (record g { changed = true }) }) o (record (stepped h.now h) { now = c })).now ≡ c
-    at None = refl
-    at (Some g) = refl
+now-changed c h = grind arith
 
 primitives-changed : (c : Contents) (h : History) → (changed c h).primitives ≡ h.primitives
-primitives-changed c h = at h.group
-  where
-    at : (o : Option HistoryGroup) → (option_map_or (λ g. record h { now = c; group = Some (record g { changed = true }) }) o (record (stepped h.now h) { now = c })).primitives ≡ h.primitives
-    at None = refl
-    at (Some g) = refl
+primitives-changed c h = grind arith
 
 outside-changed : (c : Contents) (h : History) → h.group ≡ None → (changed c h).group ≡ None
-outside-changed c h none =
-    ap (λ (o : Option HistoryGroup). (option_map_or (λ g. record h { now = c; group = Some (record g { changed = true }) }) o (record (stepped h.now h) { now = c })).group) none ∙ none
+outside-changed c h none = grind arith
 
 inside-changed : (c : Contents) (h : History) (g : HistoryGroup) → h.group ≡ Some g → (changed c h).group ≡ Some (record g { changed = true })
-inside-changed c h g some =
-    ap (λ (o : Option HistoryGroup). (option_map_or (λ g. record h { now = c; group = Some (record g { changed = true }) }) o (record (stepped h.now h) { now = c })).group) some
+inside-changed c h g some = grind arith
 
 -- the history after the trees, one after another
 abbrev trees_after : History → List TreeEntry → History
@@ -110,11 +101,7 @@ has_modules (e ∷ es) h g some =
     }
 
 now-committed : (g : HistoryGroup) (h : History) → (committed g h).now ≡ h.now
-now-committed g h = at g.changed
-  where
-    at : (b : Bool) → (if b then record (stepped g.begun h) { group = None } else record h { group = None }).now ≡ h.now
-    at true = refl
-    at false = refl
+now-committed g h = grind arith
 
 -- if the checker finds no fault, there is a program
 gives : (primitives : Primitives) (texts : Texts) → Finds primitives texts None → (p : Program) × GivesProgram primitives texts p
@@ -125,10 +112,6 @@ gives primitives texts finds = (program finds.modules primitives, record { modul
     no_fault (f ∷ fs) e = absurd (cc)
 
 -- ---- commands answered with `ok`
-
-stays : (stop : Bool) → (stop && false) ≡ false
-stays true = refl
-stays false = refl
 
 abbrev falses : List (List ℕ) → List Bool
 falses [] = []
@@ -267,14 +250,6 @@ module _ (meaning : Meaning) (budget : ℕ) where
 
 -- ---- runs of such commands
 
-end_of_one : (b : Bool) → MatchBool b ((◌≡◌ {A = List Bool} [] []) × (◌≡◌ {A = List Reply} [] [])) (Unit {0})
-end_of_one true = (refl, refl)
-end_of_one false = tt
-
-first_of_list : List Reply → Reply → Reply
-first_of_list [] r = r
-first_of_list (r ∷ rs) s = r
-
 module _ (one : OneRun) (stop : Bool) (meaning : Meaning) (budget : ℕ) where
   one_reply : (c : List ℕ) (h : History) (r s : Reply) → ReplyInRun meaning budget (text c) false h r → ReplyInRun meaning budget (text c) false h s → r ≡ s
   one_reply c h r s p q =
@@ -287,20 +262,17 @@ module _ (one : OneRun) (stop : Bool) (meaning : Meaning) (budget : ℕ) where
   only (c ∷ cs) h g o (flag ∷ flags) clear (r ∷ rs) p =
       let first : r ≡ Ok (ok_with o.0) = one_reply c h r (Ok (ok_with o.0)) (subst (λ (f : Bool). ReplyInRun meaning budget (text c) f h r) clear.0 p.0) o.1 in
       let rest : Replied stop (ReplyInRun meaning budget) (map (λ c. text c) cs) flags o.0 rs =
-      subst (λ (b : Bool). MatchBool b ((flags ≡ []) × (rs ≡ [])) (Replied stop (ReplyInRun meaning budget) (map (λ c. text c) cs) flags o.0 rs)) (stays stop)
+      subst (λ (b : Bool). MatchBool b ((flags ≡ []) × (rs ≡ [])) (Replied stop (ReplyInRun meaning budget) (map (λ c. text c) cs) flags o.0 rs)) (and-false stop)
       (subst (λ (x : Reply). MatchBool (stop && is_err x) ((flags ≡ []) × (rs ≡ [])) (Replied stop (ReplyInRun meaning budget) (map (λ c. text c) cs) flags (history_after h x) rs)) first p.1) in
       λ i. first i ∷ only cs o.0 g o.2 flags clear.1 rs rest i
-  only [] h g o [] clear (r ∷ rs) p = absurd p
-  only [] h g o (flag ∷ flags) clear rs p = absurd p
-  only (c ∷ cs) h g o [] clear rs p = absurd p
-  only (c ∷ cs) h g o (flag ∷ flags) clear [] p = absurd p
+  only cs h g o flags clear rs p = absurd p
 
 answered : (stop : Bool) (meaning : Meaning) (budget : ℕ) (cs : List (List ℕ)) (h g : History) (o : Oks meaning budget cs h g) → Replied stop (ReplyInRun meaning budget) (map (λ c. text c) cs) (falses cs) h (replies_of meaning budget cs h g o)
 answered stop meaning budget [] h g o = tt
 answered stop meaning budget (c ∷ cs) h g o = (
   o.1,
   subst (λ (b : Bool). MatchBool b ((falses cs ≡ []) × (replies_of meaning budget cs o.0 g o.2 ≡ [])) (Replied stop (ReplyInRun meaning budget) (map (λ c. text c) cs) (falses cs) o.0 (replies_of meaning budget cs o.0 g o.2)))
-      (sym (stays stop)) (answered stop meaning budget cs o.0 g o.2),
+      (sym (and-false stop)) (answered stop meaning budget cs o.0 g o.2),
 )
 
 all-clear : (cs : List (List ℕ)) → AreClear (falses cs)
@@ -343,7 +315,7 @@ All-front P (x ∷ xs) ys h = (h.0, All-front P xs ys h.1)
 
 modules_whole : (framing : Framing) (es : List TextEntry) → AllByRecursion (IsTold framing) es → AllByRecursion (IsWhole framing) (map (λ e. module_command e.0 e.1) es)
 modules_whole framing [] t = tt
-modules_whole framing (e ∷ es) t = (module_whole framing e.0 e.1 t.0.label t.0.text, modules_whole framing es t.1)
+modules_whole framing (e ∷ es) t = (module_whole e.0 t.0.label framing e.1 t.0.text, modules_whole framing es t.1)
 
 group_whole : (framing : Framing) (meaning : Meaning) (budget : ℕ) (es : List TextEntry) → AllByRecursion (IsTold framing) es → AllByRecursion (IsWhole framing) (group_commands meaning budget es)
 group_whole framing meaning budget [] t = tt

@@ -1,23 +1,24 @@
 -- Lemmas on the text of a dump: its lines, its commands and their forms.
-use Rattle.std.proofs.Common.{◌≡◌, ◌≤◌, ◌<◌, ◌+◌, ◌-◌, ℕ, zero, suc, Bool, true, false, not, ◌==◌, ◌&&◌, cond, List, [], ◌∷◌, ◌++◌, length, take, drop, reverse, get_or, codes, Some, None, Ok, Err, is_some, refl, sym, ap, ◌∙◌, subst, arith, append_assoc, append-nil, if◌then◌else◌}
-use Rattle.std.specs.List.{All, AllByRecursion, prefix_len, suffix_len, position_or_len, list_all, slice_split, onto_first, flat_map}
-use Rattle.std.proofs.lemmas.List.Splits.{slice_split-cons_yes, slice_split-cons_no}
-use Rattle.std.proofs.lemmas.List.Elements.{All-append, All-cons}
-use Rattle.std.proofs.lemmas.Bool.{eqb-true, ne_eqb, true≢false}
-use Rattle.std.proofs.lemmas.List.Folds.{prefix_len-append}
+use Rattle.std.proofs.Common.{inl, inr, ◌≡◌, ◌<◌, ◌+◌, ◌-◌, ℕ, Bool, true, false, not, ◌&&◌, cond, List, [], ◌∷◌, ◌++◌, length, take, drop, reverse, get_or, codes, Some, None, Ok, Err, is_some, refl, sym, ap, ◌∙◌, subst, arith, append_assoc, append-nil, if◌then◌else◌}
+use Rattle.std.specs.List.{All, AllByRecursion, prefix_len, suffix_len, position_or_len, list_all, slice_split, onto_first, join_with_byte, flat_map}
+use Rattle.std.proofs.lemmas.List.Splits.{slice_split-cons_yes, slice_split-cons_no, join_with_byte-slice_split}
+use Rattle.std.proofs.lemmas.List.Elements.{All-append, All-cons, All-nil}
+use Rattle.std.proofs.lemmas.Bool.{cases_Bool, false_from_ne_true, true_from_ne_false, true≢false}
+use Rattle.std.proofs.lemmas.Bool.Decides.{nat_tests}
+use Rattle.std.proofs.lemmas.List.Folds.{prefix_len-append, list_all-append, list_all_at}
 use Rattle.std.proofs.lemmas.List.{length-reverse, reverse-append}
-use Rattle.std.proofs.Math.Seq.{take-length, take-append_seam, drop-append_seam, drop-length}
+use Rattle.std.proofs.Math.Seq.{take-length, take-append_seam, drop-append_seam}
 use Rattle.std.specs.declared.option.Option.{Option}
 use Rattle.session_history.specs.declared.refusal.Refusal.TheVariants.{Name}
-use Rattle.term_core.specs.Word.{begins_word, continues_word, is_word, label_of}
+use Rattle.term_core.specs.Word.{continues_word, label_of}
 use Rattle.aterm_text.specs.Tokens.{is_blank, without_blanks}
 use Rattle.aterm_text.specs.Laws.{IsPrinted, IsOneLine}
 use Rattle.session_history.specs.Dump.{after_name}
 use Rattle.script_text.specs.declared.framing.Framing.{Framing}
 use Rattle.script_text.specs.declared.framing.Framing.TheVariants.{Continued, Lines}
 use Rattle.script_text.specs.Script.{is_line_feed, is_carriage_return, without_end, is_comment, lines, begins_command, Cut, cut, commands, without_start, is_command}
-use Rattle.script_text.specs.Laws.{IsCommandText}
-use Rattle.script_text.specs.Form.{Form, tree, set_module, front_word, after_word, has_bytes, form_with, form_of, checked, command_of}
+use Rattle.script_text.specs.Laws.{IsCommandText, GoOn}
+use Rattle.script_text.specs.Form.{Form, tree, set_module, front_word, after_word, has_bytes, with_word, last_text, module_form, form_with, checked, command_of}
 use Rattle.script_text.proofs.LineLemmas.{IsCore, with_line, first_piece, lines-line_feed, lines-kept, kept-core}
 use Rattle.script_text.proofs.OwnLineLemmas.{own_command}
 
@@ -34,133 +35,66 @@ pub record IsDumped (name x : List ℕ) : Type 0 where
   pub label : label_of name ≡ Some name
   pub line : IsOneLine x
 
--- ---- bytes
-
-both : (a b : Bool) → (a && b) ≡ true → (a ≡ true) × (b ≡ true)
-both true b h = (refl, h)
-both false b h = absurd (cc)
-
--- a byte that passes a test differs from one that fails it
-other_byte : (p : ℕ → Bool) (k b : ℕ) → p k ≡ false → p b ≡ true → (b == k) ≡ false
-other_byte p k b fails passes = ne_eqb b k (λ e. true≢false (sym passes ∙ ap p e ∙ fails))
+-- ---- labels
 
 -- a byte that is no white space
-record IsInk (b : ℕ) : Type 0 where
-  no_space : (b == 32) ≡ false
-  no_tab : (b == 9) ≡ false
-  no_feed : (b == 10) ≡ false
-  no_return : (b == 13) ≡ false
-
-not_blank : (b : ℕ) → IsInk b → is_blank b ≡ false
-not_blank b h = rw (h.no_space, h.no_tab, h.no_feed, h.no_return) refl
-
-ink : (p : ℕ → Bool) (b : ℕ) → p 32 ≡ false → p 9 ≡ false → p 10 ≡ false → p 13 ≡ false → p b ≡ true → IsInk b
-ink p b n0 n1 n2 n3 passes =
-    record { no_space = other_byte p 32 b n0 passes; no_tab = other_byte p 9 b n1 passes; no_feed = other_byte p 10 b n2 passes; no_return = other_byte p 13 b n3 passes }
+abbrev IsInk : ℕ → Type 0
+IsInk b = is_blank b ≡ false
 
 all_ink : (s : List ℕ) → list_all continues_word s ≡ true → AllByRecursion IsInk s
 all_ink [] h = tt
-all_ink (b ∷ s) h = let parts = both (continues_word b) (list_all continues_word s) h in (ink continues_word b refl refl refl refl parts.0, all_ink s parts.1)
-
--- ---- labels
+all_ink (b ∷ s) h = (grind (arith, nat_tests), all_ink s (grind (arith, nat_tests)))
 
 record IsInkWord (name : List ℕ) : Type 0 where
   some : 0 < length name
   all : AllByRecursion IsInk name
 
-word_ink : (name : List ℕ) → is_word name ≡ true → IsInkWord name
-word_ink [] h = absurd (cc)
-word_ink (b ∷ s) h =
-    let parts = both (begins_word b) (list_all continues_word s) h in
-    record { some = omega arith; all = (ink begins_word b refl refl refl refl parts.0, all_ink s parts.1) }
-
-passed : (q : Bool) (x : List ℕ) → (if q then Some x else None) ≡ Some x → q ≡ true
-passed true x h = refl
-passed false x h = absurd (cc)
-
 label_ink : (name : List ℕ) → label_of name ≡ Some name → IsInkWord name
-label_ink name h = word_ink name (both (is_word name) _ (passed _ name h)).0
+label_ink [] h = absurd (cc)
+label_ink (b ∷ s) h = record { some = omega arith; all = (grind (arith, nat_tests), all_ink s (grind (arith, nat_tests))) }
 
 -- ---- the words of the command
 
 no_blanks_in_front : (b : ℕ) (x : List ℕ) → IsInk b → prefix_len is_blank (b ∷ x) ≡ 0
-no_blanks_in_front b x h = ap (λ (q : Bool). cond q (1 + prefix_len is_blank x) 0) (not_blank b h)
+no_blanks_in_front b x h = ap (λ (q : Bool). cond q (1 + prefix_len is_blank x) 0) h
 
 after_space : (x : List ℕ) → prefix_len is_blank x ≡ 0 → without_blanks (32 ∷ x) ≡ x
 after_space x h = ap (λ (n : ℕ). drop (1 + n) (32 ∷ x)) h
 
-word_length : (name x : List ℕ) → AllByRecursion IsInk name → position_or_len is_blank (name ++ 32 ∷ x) ≡ length name
-word_length [] x h = refl
-word_length (b ∷ s) x h =
-    ap (λ (q : Bool). cond (not q) (1 + position_or_len is_blank (s ++ 32 ∷ x)) 0) (not_blank b h.0)
-    ∙ omega (arith, word_length s x h.1)
+-- a word, and what follows it: white space, or nothing
+module _ (rest : List ℕ) (ends : position_or_len is_blank rest ≡ 0) where
+  word_length : (name : List ℕ) → AllByRecursion IsInk name → position_or_len is_blank (name ++ rest) ≡ length name
+  word_length [] h = ends
+  word_length (b ∷ s) h =
+      ap (λ (q : Bool). cond (not q) (1 + position_or_len is_blank (s ++ rest)) 0) h.0 ∙ omega (arith, word_length s h.1)
 
-word_starts : (name x : List ℕ) → IsInkWord name → without_blanks (32 ∷ (name ++ 32 ∷ x)) ≡ name ++ 32 ∷ x
-word_starts [] x h = absurd (omega (arith, h.some))
-word_starts (b ∷ s) x h = after_space (b ∷ (s ++ 32 ∷ x)) (no_blanks_in_front b (s ++ 32 ∷ x) h.all.0)
+  word_starts : (name : List ℕ) → IsInkWord name → without_blanks (32 ∷ (name ++ rest)) ≡ name ++ rest
+  word_starts [] h = absurd (omega (arith, h.some))
+  word_starts (b ∷ s) h = after_space (b ∷ (s ++ rest)) (no_blanks_in_front b (s ++ rest) h.all.0)
 
-first-is : (name x : List ℕ) → IsInkWord name → front_word (32 ∷ (name ++ 32 ∷ x)) ≡ name
-first-is name x h =
-    ap (λ (text : List ℕ). take (position_or_len is_blank text) text) (word_starts name x h)
-    ∙ ap (λ (n : ℕ). take n (name ++ 32 ∷ x)) (word_length name x h.all) ∙ take-append_seam name (32 ∷ x)
+  first-is : (name : List ℕ) → IsInkWord name → front_word (32 ∷ (name ++ rest)) ≡ name
+  first-is name h =
+      ap (λ (text : List ℕ). take (position_or_len is_blank text) text) (word_starts name h)
+      ∙ ap (λ (n : ℕ). take n (name ++ rest)) (word_length name h.all) ∙ take-append_seam name rest
 
-after-is : (name x : List ℕ) → IsInkWord name → after_word (32 ∷ (name ++ 32 ∷ x)) ≡ 32 ∷ x
-after-is name x h =
-    ap (λ (text : List ℕ). drop (position_or_len is_blank text) text) (word_starts name x h)
-    ∙ ap (λ (n : ℕ). drop n (name ++ 32 ∷ x)) (word_length name x h.all) ∙ drop-append_seam name (32 ∷ x)
+  after-is : (name : List ℕ) → IsInkWord name → after_word (32 ∷ (name ++ rest)) ≡ rest
+  after-is name h =
+      ap (λ (text : List ℕ). drop (position_or_len is_blank text) text) (word_starts name h)
+      ∙ ap (λ (n : ℕ). drop n (name ++ rest)) (word_length name h.all) ∙ drop-append_seam name rest
 
--- a text that begins with a line feed begins with white space
-blank_front : (b : ℕ) (text : List ℕ) → is_line_feed b ≡ true → prefix_len is_blank (b ∷ text) ≡ 0 → ⊥
-blank_front b text e h =
-    let is : b ≡ 10 = eqb-true b 10 e in
-    let one : 1 + prefix_len is_blank text ≡ 0 = subst (λ (k : ℕ). prefix_len is_blank (k ∷ text) ≡ 0) is h in omega (arith, one)
-
-some_bytes : (name : List ℕ) → IsInkWord name → has_bytes name ≡ true
-some_bytes [] h = absurd (omega (arith, h.some))
-some_bytes (b ∷ s) h = refl
-
--- a name alone
-lone_length : (name : List ℕ) → AllByRecursion IsInk name → position_or_len is_blank name ≡ length name
-lone_length [] h = refl
-lone_length (b ∷ s) h =
-    ap (λ (q : Bool). cond (not q) (1 + position_or_len is_blank s) 0) (not_blank b h.0) ∙ omega (arith, lone_length s h.1)
-
-lone_starts : (name : List ℕ) → IsInkWord name → without_blanks (32 ∷ name) ≡ name
-lone_starts [] h = absurd (omega (arith, h.some))
-lone_starts (b ∷ s) h = after_space (b ∷ s) (no_blanks_in_front b s h.all.0)
-
-lone_first : (name : List ℕ) → IsInkWord name → front_word (32 ∷ name) ≡ name
-lone_first name h =
-    ap (λ (text : List ℕ). take (position_or_len is_blank text) text) (lone_starts name h)
-    ∙ ap (λ (n : ℕ). take n name) (lone_length name h.all) ∙ take-length name
-
-lone_after : (name : List ℕ) → IsInkWord name → after_word (32 ∷ name) ≡ []
-lone_after name h =
-    ap (λ (text : List ℕ). drop (position_or_len is_blank text) text) (lone_starts name h)
-    ∙ ap (λ (n : ℕ). drop n name) (lone_length name h.all) ∙ drop-length name
-
--- the form of a name and what follows it
-abbrev named : (List ℕ → List ℕ → Form) → List ℕ → List ℕ → Option Form
-named form word rest = if has_bytes word then Some (form word (without_blanks rest)) else None
-
-module _ (form : List ℕ → List ℕ → Form) where
-  named-is : (name x : List ℕ) → IsInkWord name → prefix_len is_blank x ≡ 0 → named form (front_word (32 ∷ (name ++ 32 ∷ x))) (after_word (32 ∷ (name ++ 32 ∷ x))) ≡ Some (form name x)
-  named-is name x h front =
-      (λ i. named form (first-is name x h i) (after-is name x h i))
-      ∙ ap (λ (q : Bool). if q then Some (form name (without_blanks (32 ∷ x))) else None) (some_bytes name h)
-      ∙ ap (λ (rest : List ℕ). Some (form name rest)) (after_space x front)
-
-  named-alone : (name : List ℕ) → IsInkWord name → named form (front_word (32 ∷ name)) (after_word (32 ∷ name)) ≡ Some (form name [])
-  named-alone name h =
-      (λ i. named form (lone_first name h i) (lone_after name h i)) ∙ ap (λ (q : Bool). if q then Some (form name []) else None) (some_bytes name h)
+  -- the form of a name and what follows it
+  named-is : (form : List ℕ → List ℕ → Form) (name x : List ℕ) → IsInkWord name → without_blanks rest ≡ x →
+      with_word (32 ∷ (name ++ rest)) (λ word rest. Some (form word (last_text rest))) ≡ Some (form name x)
+  named-is form [] x h is = absurd (omega (arith, h.some))
+  named-is form (b ∷ s) x h is =
+      (λ i. if has_bytes (first-is (b ∷ s) h i) then Some (form (first-is (b ∷ s) h i) (without_blanks (after-is (b ∷ s) h i))) else None)
+      ∙ ap (λ (x : List ℕ). Some (form (b ∷ s) x)) is
 
 -- ---- no white space ends the command
 
 module _ (p : ℕ → Bool) where
   front-append : (x y : List ℕ) → 0 < length x → prefix_len p x ≡ 0 → prefix_len p (x ++ y) ≡ 0
-  front-append x y some h =
-      prefix_len-append p x y
-      ∙ ap (λ (q : Bool). cond q (length x + prefix_len p y) (prefix_len p x)) (ne_eqb (prefix_len p x) (length x) (λ e. omega (arith, some, h, e))) ∙ h
+  front-append x y some h = grind (arith, nat_tests, prefix_len-append p x y)
 
   end-append : (x y : List ℕ) → 0 < length y → suffix_len p y ≡ 0 → suffix_len p (x ++ y) ≡ 0
   end-append x y some h =
@@ -176,85 +110,63 @@ ink_end (b ∷ (d ∷ s)) h = end-append is_blank (b ∷ []) (d ∷ s) (omega ar
 
 -- a keyword, a name and a text
 command_ends : (keyword name x : List ℕ) → 0 < length x → suffix_len is_blank x ≡ 0 → suffix_len is_blank (keyword ++ (name ++ 32 ∷ x)) ≡ 0
-command_ends keyword name x some end =
-    subst (λ (xs : List ℕ). suffix_len is_blank (keyword ++ xs) ≡ 0) (append_assoc name (32 ∷ []) x)
-    (subst (λ (xs : List ℕ). suffix_len is_blank xs ≡ 0) (append_assoc keyword (name ++ 32 ∷ []) x) (end-append is_blank (keyword ++ (name ++ 32 ∷ [])) x some end))
-
-form-is : (budget : ℕ) (name x : List ℕ) → IsDumped name x → form_of budget (tree_command name x) ≡ Some (tree name x)
-form-is budget name x h =
-    ap (λ (text : List ℕ). form_with budget (front_word text) (after_word text)) (no_end is_blank (tree_command name x) (command_ends (codes "tree ") name x h.line.some h.line.end))
-    ∙ named-is tree name x (label_ink name h.label) h.line.front
+command_ends keyword name x some end = rw seam_of (end-append is_blank (keyword ++ (name ++ 32 ∷ [])) x some end)
+  where
+    seam_of : keyword ++ (name ++ 32 ∷ x) ≡ (keyword ++ (name ++ 32 ∷ [])) ++ x
+    seam_of = sym (append_assoc keyword (name ++ 32 ∷ []) x ∙ ap (λ (xs : List ℕ). keyword ++ xs) (append_assoc name (32 ∷ []) x))
 
 -- the command is read as what was dumped
 pub command-is : (budget : ℕ) (name x : List ℕ) → IsDumped name x → command_of budget (tree_command name x) ≡ Ok (tree name x)
 command-is budget name x h =
-    ap checked (form-is budget name x h) ∙ ap (λ (label : Option (List ℕ)). if is_some label then Ok (tree name x) else Err Name) h.label
+    ap (λ (text : List ℕ). checked (form_with budget (front_word text) (after_word text))) (no_end is_blank (tree_command name x) (command_ends (codes "tree ") name x h.line.some h.line.end))
+    ∙ ap checked (named-is (32 ∷ x) refl tree name x (label_ink name h.label) (after_space x h.line.front))
+    ∙ ap (λ (label : Option (List ℕ)). if is_some label then Ok (tree name x) else Err Name) h.label
 
--- ---- commands that set a module
+module_ends : (name text : List ℕ) → IsInkWord name → suffix_len is_blank text ≡ 0 → suffix_len is_blank (module_command name text) ≡ 0
+module_ends name [] word end = rw append-nil (end-append is_blank (codes "module ") name word.some (ink_end name word.all))
+module_ends name (b ∷ text) word end = command_ends (codes "module ") name (b ∷ text) (omega arith) end
 
-module_form-is : (framing : Framing) (budget : ℕ) (name text : List ℕ) → label_of name ≡ Some name → IsCommandText framing text → form_of budget (module_command name text) ≡ Some (set_module name text)
-module_form-is framing budget name [] label h =
-    let word = label_ink name label in
-    ap (λ (rest : List ℕ). form_of budget (codes "module " ++ rest)) (append-nil name)
-    ∙ ap (λ (text : List ℕ). form_with budget (front_word text) (after_word text)) (no_end is_blank (codes "module " ++ name) (end-append is_blank (codes "module ") name word.some (ink_end name word.all)))
-    ∙ named-alone set_module name word
-module_form-is framing budget name (b ∷ text) label h =
-    ap (λ (text : List ℕ). form_with budget (front_word text) (after_word text)) (no_end is_blank (module_command name (b ∷ text)) (command_ends (codes "module ") name (b ∷ text) (omega arith) h.end))
-    ∙ named-is set_module name (b ∷ text) (label_ink name label) h.front
+module_named : (name text : List ℕ) → IsInkWord name → prefix_len is_blank text ≡ 0 → module_form (32 ∷ (name ++ after_name text)) ≡ Some (set_module name text)
+module_named name [] word front = named-is [] refl set_module name [] word refl
+module_named name (b ∷ text) word front = named-is (32 ∷ (b ∷ text)) refl set_module name (b ∷ text) word (after_space (b ∷ text) front)
 
 pub module_command-is : (framing : Framing) (budget : ℕ) (name text : List ℕ) → label_of name ≡ Some name → IsCommandText framing text → command_of budget (module_command name text) ≡ Ok (set_module name text)
 module_command-is framing budget name text label h =
-    ap checked (module_form-is framing budget name text label h) ∙ ap (λ (label : Option (List ℕ)). if is_some label then Ok (set_module name text) else Err Name) label
+    ap (λ (text : List ℕ). checked (form_with budget (front_word text) (after_word text))) (no_end is_blank (module_command name text) (module_ends name text (label_ink name label) h.end))
+    ∙ ap checked (module_named name text (label_ink name label) h.front)
+    ∙ ap (λ (label : Option (List ℕ)). if is_some label then Ok (set_module name text) else Err Name) label
 
 -- ---- lines
 
 -- bytes that don't end a line
-record IsInner (b : ℕ) : Type 0 where
-  no_feed : is_line_feed b ≡ false
-  no_return : is_carriage_return b ≡ false
+abbrev is_inner : ℕ → Bool
+is_inner b = not (is_line_feed b) && not (is_carriage_return b)
 
-inner-append : (x y : List ℕ) → AllByRecursion IsInner x → AllByRecursion IsInner y → AllByRecursion IsInner (x ++ y)
-inner-append [] y h k = k
-inner-append (b ∷ x) y h k = (h.0, inner-append x y h.1 k)
+abbrev AreInner : List ℕ → Type 0
+AreInner x = list_all is_inner x ≡ true
 
-inner-ink : (x : List ℕ) → AllByRecursion IsInk x → AllByRecursion IsInner x
-inner-ink [] h = tt
-inner-ink (b ∷ x) h = (record { no_feed = h.0.no_feed; no_return = h.0.no_return }, inner-ink x h.1)
+inner-append : (x y : List ℕ) → AreInner x → AreInner y → AreInner (x ++ y)
+inner-append x y h k = grind (arith, list_all-append is_inner x y)
 
-inner-high : (b : ℕ) → 32 ≤ b → IsInner b
-inner-high b h = record { no_feed = ne_eqb b 10 (λ e. omega arith); no_return = ne_eqb b 13 (λ e. omega arith) }
+inner-ink : (x : List ℕ) → AllByRecursion IsInk x → AreInner x
+inner-ink [] h = refl
+inner-ink (b ∷ x) h = grind (arith, nat_tests, h.0, inner-ink x h.1)
 
-inner-printed : (x : List ℕ) → AllByRecursion IsPrinted x → AllByRecursion IsInner x
-inner-printed [] h = tt
-inner-printed (b ∷ x) h = (inner-high b h.0.0, inner-printed x h.1)
+inner-printed : (x : List ℕ) → AllByRecursion IsPrinted x → AreInner x
+inner-printed [] h = refl
+inner-printed (b ∷ x) h = grind (arith, nat_tests, h.0.0, inner-printed x h.1)
 
-inner-at : (x : List ℕ) → AllByRecursion IsInner x → (k d : ℕ) → k < length x → IsInner (get_or x k d)
-inner-at [] h k d le = absurd (omega (arith, le))
-inner-at (b ∷ x) h zero d le = h.0
-inner-at (b ∷ x) h (suc k) d le = inner-at x h.1 k d (omega (arith, le))
+inner-at : (x : List ℕ) → AreInner x → (k d : ℕ) → k < length x → is_inner (get_or x k d) ≡ true
+inner-at x h k d below = true_from_ne_false _ (λ e. true≢false (sym h ∙ list_all_at is_inner x k d below e))
 
-inner-core : (x : List ℕ) → AllByRecursion IsInner x → IsCore x
+inner-core : (x : List ℕ) → AreInner x → IsCore x
 inner-core x h = record {
-  last = λ some. (inner-at x h (length x - 1) 0 (omega (arith, some))).no_return;
-  one_line = λ k d le. (inner-at x h k d le).no_feed;
+  last = λ some. let inner = inner-at x h (length x - 1) 0 (omega (arith, some)) in grind (arith, nat_tests, inner);
+  one_line = λ k d below. let inner = inner-at x h k d below in grind (arith, nat_tests, inner);
 }
 
-core-append : (keyword name : List ℕ) → AllByRecursion IsInner keyword → AllByRecursion IsInk name → (x : List ℕ) → AllByRecursion IsInner x → IsCore (keyword ++ (name ++ x))
+core-append : (keyword name : List ℕ) → AreInner keyword → AllByRecursion IsInk name → (x : List ℕ) → AreInner x → IsCore (keyword ++ (name ++ x))
 core-append keyword name h k x l = inner-core (keyword ++ (name ++ x)) (inner-append keyword (name ++ x) h (inner-append name x (inner-ink name k) l))
-
-keyword : AllByRecursion IsInner (codes "tree ")
-keyword = (inner-high 116 (omega arith), (inner-high 114 (omega arith), (inner-high 101 (omega arith), (inner-high 101 (omega arith), (inner-high 32 (omega arith), tt)))))
-
-module_keyword : AllByRecursion IsInner (codes "module ")
-module_keyword =
-    (inner-high 109 (omega arith), (inner-high 111 (omega arith), (inner-high 100 (omega arith), (inner-high 117 (omega arith), (inner-high 108 (omega arith), (inner-high 101 (omega arith), (inner-high 32 (omega arith), tt)))))))
-
-begin_keyword : AllByRecursion IsInner (codes "begin")
-begin_keyword = (inner-high 98 (omega arith), (inner-high 101 (omega arith), (inner-high 103 (omega arith), (inner-high 105 (omega arith), (inner-high 110 (omega arith), tt)))))
-
-commit_keyword : AllByRecursion IsInner (codes "commit")
-commit_keyword =
-    (inner-high 99 (omega arith), (inner-high 111 (omega arith), (inner-high 109 (omega arith), (inner-high 109 (omega arith), (inner-high 105 (omega arith), (inner-high 116 (omega arith), tt))))))
 
 -- ---- lines and commands
 
@@ -281,11 +193,7 @@ cut_by b line rest =
 
 no_comment : (line : List ℕ) → begins_command line ≡ false → is_comment line ≡ false
 no_comment [] h = refl
-no_comment (b ∷ line) h = by (b == 35) refl
-  where
-    by : (q : Bool) → (b == 35) ≡ q → q ≡ false
-    by false e = refl
-    by true e = let is : b ≡ 35 = eqb-true b 35 e in let begins : begins_command (b ∷ line) ≡ true = ap (λ (k : ℕ). begins_command (k ∷ line)) is in absurd (true≢false (sym begins ∙ h))
+no_comment (b ∷ line) h = grind (arith, nat_tests)
 
 -- the lines after the first continue the command
 record IsFurther (line : List ℕ) : Type 0 where
@@ -351,109 +259,85 @@ commands-script Lines cs h = own-script cs h
 
 pub tree_whole : (framing : Framing) (name x : List ℕ) → IsDumped name x → IsWhole framing (tree_command name x)
 tree_whole framing name x h =
-    one_line framing (tree_command name x) (core-append (codes "tree ") name keyword (label_ink name h.label).all (32 ∷ x) (inner-high 32 (omega arith), inner-printed x h.line.bytes)) refl refl refl refl
+    one_line framing (tree_command name x) (core-append (codes "tree ") name refl (label_ink name h.label).all (32 ∷ x) (inner-append (32 ∷ []) x refl (inner-printed x h.line.bytes))) refl refl refl refl
 
 pub begin_whole : (framing : Framing) → IsWhole framing (codes "begin")
-begin_whole framing = one_line framing (codes "begin") (inner-core (codes "begin") begin_keyword) refl refl refl refl
+begin_whole framing = one_line framing (codes "begin") (inner-core (codes "begin") refl) refl refl refl refl
 
 pub commit_whole : (framing : Framing) → IsWhole framing (codes "commit")
-commit_whole framing = one_line framing (codes "commit") (inner-core (codes "commit") commit_keyword) refl refl refl refl
+commit_whole framing = one_line framing (codes "commit") (inner-core (codes "commit") refl) refl refl refl refl
 
 -- ---- the lines of a module's text
 
-abbrev joined : List (List ℕ) → List ℕ
-joined [] = []
-joined (line ∷ others) = line ++ after_feeds others
+abbrev AreLines : List (List ℕ) → Type 0
+AreLines ls = AllByRecursion (λ line. All (λ b. is_line_feed b ≡ false) line) ls
 
--- the parts between line feeds
-record IsParted (text : List ℕ) : Type 0 where
-  same : joined (slice_split is_line_feed text) ≡ text
-  inner : AllByRecursion (λ line. All (λ b. is_line_feed b ≡ false) line) (slice_split is_line_feed text)
+abbrev AreEnded : List (List ℕ) → Type 0
+AreEnded ls = AllByRecursion (λ line. suffix_len is_carriage_return line ≡ 0) ls
 
-parted : (text : List ℕ) → IsParted text
-parted [] = record { same = refl; inner = (λ k d h. absurd (omega (arith, h)), tt) }
-parted (b ∷ text) = by (is_line_feed b) refl (first_piece text) (parted text)
-  where
-    by : (q : Bool) → is_line_feed b ≡ q → ((p : List ℕ) × ((ps : List (List ℕ)) × (slice_split is_line_feed text ≡ p ∷ ps))) → IsParted text → IsParted (b ∷ text)
-    by true e rest h =
-        let split : slice_split is_line_feed (b ∷ text) ≡ [] ∷ (rest.0 ∷ rest.1.0) = slice_split-cons_yes is_line_feed b text e ∙ ap (λ (ps : List (List ℕ)). [] ∷ ps) rest.1.1 in
-        record {
-          same = ap joined split ∙ ap (λ (x : List ℕ). 10 ∷ x) (sym (ap joined rest.1.1) ∙ h.same) ∙ ap (λ (k : ℕ). k ∷ text) (sym (eqb-true b 10 e));
-          inner = subst (AllByRecursion (λ line. All (λ b. is_line_feed b ≡ false) line)) (sym split)
-              (λ k d h. absurd (omega (arith, h)), subst (AllByRecursion (λ line. All (λ b. is_line_feed b ≡ false) line)) rest.1.1 h.inner);
-        }
-    by false e rest h =
-        let split : slice_split is_line_feed (b ∷ text) ≡ (b ∷ rest.0) ∷ rest.1.0 = slice_split-cons_no is_line_feed b text e ∙ ap (onto_first b) rest.1.1 in
-        let inner : AllByRecursion (λ line. All (λ b. is_line_feed b ≡ false) line) (rest.0 ∷ rest.1.0) = subst (AllByRecursion (λ line. All (λ b. is_line_feed b ≡ false) line)) rest.1.1 h.inner in
-        record {
-          same = ap joined split ∙ ap (λ (x : List ℕ). b ∷ x) (sym (ap joined rest.1.1) ∙ h.same);
-          inner = subst (AllByRecursion (λ line. All (λ b. is_line_feed b ≡ false) line)) (sym split) (All-cons (λ b. is_line_feed b ≡ false) b rest.0 e inner.0, inner.1);
-        }
+parts_joined : (first : List ℕ) (others : List (List ℕ)) → join_with_byte 10 (first ∷ others) ≡ first ++ after_feeds others
+parts_joined first [] = sym (append-nil first)
+parts_joined first (next ∷ others) = ap (λ (x : List ℕ). first ++ 10 ∷ x) (parts_joined next others)
+
+parts_are_lines : (text : List ℕ) → AreLines (slice_split is_line_feed text)
+parts_are_lines [] = (All-nil _, tt)
+parts_are_lines (b ∷ text) = elim (cases_Bool (is_line_feed b)) [
+  | inl e ↦ rw (slice_split-cons_yes is_line_feed b text e) (All-nil _, parts_are_lines text)
+  | inr e ↦
+      let rest = first_piece text in
+      let parts = rw rest.1.1 at (parts_are_lines text) in
+      rw (slice_split-cons_no is_line_feed b text e, rest.1.1) (All-cons (λ b. is_line_feed b ≡ false) b rest.0 e parts.0, parts.1)
+]
+
+-- a module's text: its first line, and the lines after it
+record HasLines (framing : Framing) (text : List ℕ) : Type 0 where
+  first : List ℕ
+  others : List (List ℕ)
+  same : first ++ after_feeds others ≡ text
+  some : 0 < length first
+  inner : AreLines (first ∷ others)
+  ended : AreEnded (first ∷ others)
+  goes_on : GoOn framing others
+
+has_lines : (framing : Framing) (b : ℕ) (text : List ℕ) → IsCommandText framing (b ∷ text) → HasLines framing (b ∷ text)
+has_lines framing b text h =
+    let rest = first_piece text in
+    let no_feed : is_line_feed b ≡ false = false_from_ne_true _ (λ e. let blank : is_blank b ≡ true = grind (arith, nat_tests) in absurd (grind (arith, blank, h.front))) in
+    let split : slice_split is_line_feed (b ∷ text) ≡ (b ∷ rest.0) ∷ rest.1.0 = slice_split-cons_no is_line_feed b text no_feed ∙ ap (onto_first b) rest.1.1 in
+    record {
+      first = b ∷ rest.0;
+      others = rest.1.0;
+      same = sym (parts_joined (b ∷ rest.0) rest.1.0) ∙ sym (ap (join_with_byte 10) split) ∙ join_with_byte-slice_split 10 (b ∷ text);
+      some = omega arith;
+      inner = subst AreLines split (parts_are_lines (b ∷ text));
+      ended = subst AreEnded split h.lines;
+      goes_on = subst (λ (ps : List (List ℕ)). GoOn framing (drop 1 ps)) split h.goes_on;
+    }
 
 -- the lines after the first, as a command keeps them
-further_lines : (others : List (List ℕ)) → AllByRecursion (λ line. All (λ b. is_line_feed b ≡ false) line) others → AllByRecursion (λ line. suffix_len is_carriage_return line ≡ 0) others →
-    AllByRecursion (λ line. begins_command line ≡ false) others → AllByRecursion IsFurther others
+further_lines : (others : List (List ℕ)) → AreLines others → AreEnded others → GoOn Continued others → AllByRecursion IsFurther others
 further_lines [] inner end goes_on = tt
 further_lines (line ∷ others) inner end goes_on = (record { whole = kept_line line inner.0 end.0; goes_on = goes_on.0 }, further_lines others inner.1 end.1 goes_on.1)
 
--- the first line, with the keyword and the name before it
-first_line : (name first : List ℕ) → AllByRecursion IsInk name → 0 < length first → All (λ b. is_line_feed b ≡ false) first → suffix_len is_carriage_return first ≡ 0
-    → IsLine (codes "module " ++ (name ++ 32 ∷ first))
-first_line name first ink some inner end =
-    let front : List ℕ = codes "module " ++ (name ++ 32 ∷ []) in
-    let same : codes "module " ++ (name ++ 32 ∷ first) ≡ front ++ first =
-    ap (λ (x : List ℕ). codes "module " ++ x) (sym (append_assoc name (32 ∷ []) first)) ∙ sym (append_assoc (codes "module ") (name ++ 32 ∷ []) first) in
-    subst IsLine (sym same)
-    (kept_line (front ++ first) (All-append (λ b. is_line_feed b ≡ false) front first (core-append (codes "module ") name module_keyword ink (32 ∷ []) (inner-high 32 (omega arith), tt)).one_line inner)
-    (end-append is_carriage_return front first some end))
+-- the keyword and the name, followed by lines
+module _ (name : List ℕ) (label : label_of name ≡ Some name) where
+  abbrev front : List ℕ
+  front = codes "module " ++ (name ++ 32 ∷ [])
 
-module_continued : (name text : List ℕ) → label_of name ≡ Some name → IsCommandText Continued text → IsContinued (module_command name text)
-module_continued name [] label h = continued_line (module_command name []) (core-append (codes "module ") name module_keyword (label_ink name label).all [] tt) refl refl
-module_continued name (b ∷ text) label h = by (is_line_feed b) refl (first_piece text)
-  where
-    by : (q : Bool) → is_line_feed b ≡ q → ((p : List ℕ) × ((ps : List (List ℕ)) × (slice_split is_line_feed text ≡ p ∷ ps))) → IsContinued (module_command name (b ∷ text))
-    by true e rest = absurd (blank_front b text e h.front)
-    by false e rest =
-        let parts = parted (b ∷ text) in
-        let split : slice_split is_line_feed (b ∷ text) ≡ (b ∷ rest.0) ∷ rest.1.0 = slice_split-cons_no is_line_feed b text e ∙ ap (onto_first b) rest.1.1 in
-        let inner : AllByRecursion (λ line. All (λ b. is_line_feed b ≡ false) line) ((b ∷ rest.0) ∷ rest.1.0) = subst (AllByRecursion (λ line. All (λ b. is_line_feed b ≡ false) line)) split parts.inner in
-        let end : AllByRecursion (λ line. suffix_len is_carriage_return line ≡ 0) ((b ∷ rest.0) ∷ rest.1.0) = subst (AllByRecursion (λ line. suffix_len is_carriage_return line ≡ 0)) split h.lines in
-        let goes_on : AllByRecursion (λ line. begins_command line ≡ false) rest.1.0 = subst (λ (ps : List (List ℕ)). AllByRecursion (λ line. begins_command line ≡ false) (drop 1 ps)) split h.goes_on in
-        let first : List ℕ = codes "module " ++ (name ++ 32 ∷ (b ∷ rest.0)) in
-        let same : first ++ after_feeds rest.1.0 ≡ module_command name (b ∷ text) =
-        append_assoc (codes "module ") (name ++ 32 ∷ (b ∷ rest.0)) (after_feeds rest.1.0)
-        ∙ ap (λ (x : List ℕ). codes "module " ++ x) (append_assoc name (32 ∷ (b ∷ rest.0)) (after_feeds rest.1.0) ∙ ap (λ (x : List ℕ). name ++ 32 ∷ x) (sym (ap joined split) ∙ parts.same)) in
-        subst IsContinued same
-        (whole first rest.1.0 (first_line name (b ∷ rest.0) (label_ink name label).all (omega arith) inner.0 end.0) refl refl (further_lines rest.1.0 inner.1 end.1 goes_on))
+  front_append : (x : List ℕ) → codes "module " ++ (name ++ 32 ∷ x) ≡ front ++ x
+  front_append x = ap (λ (xs : List ℕ). codes "module " ++ xs) (sym (append_assoc name (32 ∷ []) x)) ∙ sym (append_assoc (codes "module ") (name ++ 32 ∷ []) x)
 
--- a module's text that is one line, with the keyword and the name before it
-module_own : (name text : List ℕ) → label_of name ≡ Some name → IsCommandText Lines text → IsOwnLine (module_command name text)
-module_own name [] label h y =
-    own_command (module_command name []) y (core-append (codes "module ") name module_keyword (label_ink name label).all [] tt).one_line (kept-core (module_command name []) (core-append (codes "module ") name module_keyword (label_ink name label).all [] tt)) refl refl
-module_own name (b ∷ text) label h y = by (is_line_feed b) refl (first_piece text)
-  where
-    front : List ℕ
-    front = codes "module " ++ (name ++ 32 ∷ [])
+  front_line : (x : List ℕ) → All (λ b. is_line_feed b ≡ false) x → All (λ b. is_line_feed b ≡ false) (front ++ x)
+  front_line x inner = All-append (λ b. is_line_feed b ≡ false) front x (core-append (codes "module ") name refl (label_ink name label).all (32 ∷ []) refl).one_line inner
 
-    same : module_command name (b ∷ text) ≡ front ++ b ∷ text
-    same = ap (λ (x : List ℕ). codes "module " ++ x) (sym (append_assoc name (32 ∷ []) (b ∷ text))) ∙ sym (append_assoc (codes "module ") (name ++ 32 ∷ []) (b ∷ text))
+  module_lines : (framing : Framing) (text : List ℕ) → HasLines framing text → IsWhole framing (front ++ text)
+  module_lines Continued text h =
+      subst IsContinued (append_assoc front h.first (after_feeds h.others) ∙ ap (λ (x : List ℕ). front ++ x) h.same)
+      (whole (front ++ h.first) h.others (kept_line (front ++ h.first) (front_line h.first h.inner.0) (end-append is_carriage_return front h.first h.some h.ended.0)) refl refl (further_lines h.others h.inner.1 h.ended.1 h.goes_on))
+  module_lines Lines text h =
+      let line : text ≡ h.first = sym h.same ∙ ap (λ (ls : List (List ℕ)). h.first ++ after_feeds ls) h.goes_on ∙ append-nil h.first in
+      rw line (λ y. own_command (front ++ h.first) y (front_line h.first h.inner.0) (no_end is_carriage_return (front ++ h.first) (end-append is_carriage_return front h.first h.some h.ended.0)) refl refl)
 
-    by : (q : Bool) → is_line_feed b ≡ q → ((p : List ℕ) × ((ps : List (List ℕ)) × (slice_split is_line_feed text ≡ p ∷ ps))) → commands Lines (module_command name (b ∷ text) ++ 10 ∷ y) ≡ module_command name (b ∷ text) ∷ commands Lines y
-    by true e rest = absurd (blank_front b text e h.front)
-    by false e rest =
-        let parts = parted (b ∷ text) in
-        let split : slice_split is_line_feed (b ∷ text) ≡ (b ∷ rest.0) ∷ rest.1.0 = slice_split-cons_no is_line_feed b text e ∙ ap (onto_first b) rest.1.1 in
-        let none : rest.1.0 ≡ [] = subst (λ (ps : List (List ℕ)). drop 1 ps ≡ []) split h.goes_on in
-        let whole : slice_split is_line_feed (b ∷ text) ≡ (b ∷ rest.0) ∷ [] = split ∙ ap (λ (ps : List (List ℕ)). (b ∷ rest.0) ∷ ps) none in
-        let line : b ∷ rest.0 ≡ b ∷ text = sym (append-nil (b ∷ rest.0)) ∙ sym (ap joined whole) ∙ parts.same in
-        let inner : AllByRecursion (λ line. All (λ b. is_line_feed b ≡ false) line) ((b ∷ rest.0) ∷ []) = subst (AllByRecursion (λ line. All (λ b. is_line_feed b ≡ false) line)) whole parts.inner in
-        let end : AllByRecursion (λ line. suffix_len is_carriage_return line ≡ 0) ((b ∷ rest.0) ∷ []) = subst (AllByRecursion (λ line. suffix_len is_carriage_return line ≡ 0)) whole h.lines in
-        let one : All (λ b. is_line_feed b ≡ false) (b ∷ text) = subst (All (λ b. is_line_feed b ≡ false)) line inner.0 in
-        let ends : suffix_len is_carriage_return (b ∷ text) ≡ 0 = subst (λ (x : List ℕ). suffix_len is_carriage_return x ≡ 0) line end.0 in
-        let ahead : All (λ b. is_line_feed b ≡ false) front = (core-append (codes "module ") name module_keyword (label_ink name label).all (32 ∷ []) (inner-high 32 (omega arith), tt)).one_line in
-        own_command (module_command name (b ∷ text)) y (subst (All (λ b. is_line_feed b ≡ false)) (sym same) (All-append (λ b. is_line_feed b ≡ false) front (b ∷ text) ahead one))
-        (subst (λ (x : List ℕ). without_end is_carriage_return x ≡ x) (sym same) (no_end is_carriage_return (front ++ b ∷ text) (end-append is_carriage_return front (b ∷ text) (omega arith) ends))) refl refl
-
-pub module_whole : (framing : Framing) (name text : List ℕ) → label_of name ≡ Some name → IsCommandText framing text → IsWhole framing (module_command name text)
-module_whole Continued name text label h = module_continued name text label h
-module_whole Lines name text label h = module_own name text label h
+  pub module_whole : (framing : Framing) (text : List ℕ) → IsCommandText framing text → IsWhole framing (module_command name text)
+  module_whole framing [] h = one_line framing (module_command name []) (core-append (codes "module ") name refl (label_ink name label).all [] refl) refl refl refl refl
+  module_whole framing (b ∷ text) h = rw (front_append (b ∷ text)) (module_lines framing (b ∷ text) (has_lines framing b text h))

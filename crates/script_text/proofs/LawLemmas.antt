@@ -37,7 +37,7 @@ use Rattle.session_history.specs.Preview.{Preview, part_at, Foresees, ForeseesAt
 use Rattle.session_history.proofs.OutermostLemmas.{outermost_paths, map_paths}
 use Rattle.session_history.specs.declared.refusal.Refusal.{Refusal}
 use Rattle.session_history.specs.declared.refusal.Refusal.TheVariants.{Deep, Term, Syntax, Big, NoUndo, NoRedo, Group, NoGroup}
-use Rattle.script_text.specs.Form.{Form, tree, copy, drop_tree, put, annotate, set_module, unload, apply, preview, undo, redo, begin, commit, abandon, show, trees, modules, module_text, history, dump, command_of}
+use Rattle.script_text.specs.Form.{Form, tree, copy, drop_tree, put, annotate, set_module, unload, apply, preview, undo, redo, begin, commit, abandon, command_of}
 use Rattle.script_text.specs.Handed.{Handed, text, long}
 use Rattle.script_text.specs.Replies.{ReadAs, Told, done, previewed, Reply, Replies, history_after}
 use Rattle.script_text.specs.Answer.{ReplyInRun}
@@ -56,17 +56,15 @@ module _ {X : Type 0} (Gives : X → Type 0) (n most : ℕ) (over miss : Refusal
   outcome-one (Ok t) (Err r) p (inr none) = absurd (none.2 t p.1)
   outcome-one (Err r) (Ok u) (inl deep) q = absurd (omega (arith, q.0, deep.1))
   outcome-one (Err r) (Ok u) (inr none) q = absurd (none.2 u q.1)
-  outcome-one (Err r) (Err s) (inl a) (inl b) = ap Err (a.0 ∙ sym b.0)
-  outcome-one (Err r) (Err s) (inl a) (inr b) = absurd (omega (arith, a.1, b.1))
-  outcome-one (Err r) (Err s) (inr a) (inl b) = absurd (omega (arith, a.1, b.1))
-  outcome-one (Err r) (Err s) (inr a) (inr b) = ap Err (a.0 ∙ sym b.0)
+  outcome-one (Err r) (Err s) p q = grind arith
 
 module _ {X : Type 0} (Spelled : List ℕ → X → Type 0) (one : (x : List ℕ) (a b : X) → Spelled x a → Spelled x b → a ≡ b) where
   ReadAs-one : (x : List ℕ) (a b : Result X Refusal) → ReadAs Spelled x a → ReadAs Spelled x b → a ≡ b
-  ReadAs-one x (Ok t) (Ok u) p q = outcome-one (Spelled x) (nesting x) MAX_NESTING Deep Term (one x) (Ok t) (Ok u) p q
-  ReadAs-one x (Ok t) (Err r) p q = outcome-one (Spelled x) (nesting x) MAX_NESTING Deep Term (one x) (Ok t) (Err r) p q
-  ReadAs-one x (Err r) (Ok u) p q = outcome-one (Spelled x) (nesting x) MAX_NESTING Deep Term (one x) (Err r) (Ok u) p q
-  ReadAs-one x (Err r) (Err s) p q = outcome-one (Spelled x) (nesting x) MAX_NESTING Deep Term (one x) (Err r) (Err s) p q
+  ReadAs-one x a b p q = outcome-one (Spelled x) (nesting x) MAX_NESTING Deep Term (one x) a b (reading a p) (reading b q)
+    where
+      reading : (r : Result X Refusal) → ReadAs Spelled x r → Reading (Spelled x) (nesting x) MAX_NESTING Deep Term r
+      reading (Ok t) p = p
+      reading (Err refusal) p = p
 
 -- ---- tests in order
 
@@ -109,10 +107,11 @@ module _ {X : Type 0} (Gives : List Token → X → Type 0) (one : (x : List ℕ
   From x m = Gives (tokens x) m
 
   ReadsBy-one : (x : List ℕ) (a b : Result X Refusal) → ReadsBy Gives x a → ReadsBy Gives x b → a ≡ b
-  ReadsBy-one x (Ok m) (Ok n) p q = outcome-one (From x) (length (tokens x)) MAX_TOKENS Deep Syntax (one x) (Ok m) (Ok n) p q
-  ReadsBy-one x (Ok m) (Err r) p q = outcome-one (From x) (length (tokens x)) MAX_TOKENS Deep Syntax (one x) (Ok m) (Err r) p q
-  ReadsBy-one x (Err r) (Ok n) p q = outcome-one (From x) (length (tokens x)) MAX_TOKENS Deep Syntax (one x) (Err r) (Ok n) p q
-  ReadsBy-one x (Err r) (Err s) p q = outcome-one (From x) (length (tokens x)) MAX_TOKENS Deep Syntax (one x) (Err r) (Err s) p q
+  ReadsBy-one x a b p q = outcome-one (From x) (length (tokens x)) MAX_TOKENS Deep Syntax (one x) a b (reading a p) (reading b q)
+    where
+      reading : (r : Result X Refusal) → ReadsBy Gives x r → Reading (From x) (length (tokens x)) MAX_TOKENS Deep Syntax r
+      reading (Ok m) p = p
+      reading (Err refusal) p = p
 
 AppliesAt-one : (meaning : Meaning) (name path : List ℕ) (n : ℕ) (h : History) (place : Located) (program : Program) (strategy : Resolved) (a b : ActResult) → AppliesAt meaning name path n h place program strategy a
     → AppliesAt meaning name path n h place program strategy b → a ≡ b
@@ -140,10 +139,9 @@ module _ (one : OneModule) where
       let named : m.0 ≡ n.0 = p.0 ∙ sym q.0 in
       let read : m.1 ≡ n.1 = read_as-one (finmap.get texts name) m.1 n.1 p.1 q.1 in
       λ i. (named i, read i) ∷ AreRead-one texts names ms ns p.2 q.2 i
-  AreRead-one texts [] (m ∷ ms) ns p q = absurd p
   AreRead-one texts [] [] (n ∷ ns) p q = absurd q
-  AreRead-one texts (name ∷ names) [] ns p q = absurd p
   AreRead-one texts (name ∷ names) (m ∷ ms) [] p q = absurd q
+  AreRead-one texts names ms ns p q = absurd p
 
   pub Finds-one : (primitives : Primitives) (texts : Texts) (a b : Option Fault) → Finds primitives texts a → Finds primitives texts b → a ≡ b
   Finds-one primitives texts a b p q =
@@ -235,12 +233,7 @@ module _ (one : OneTerm) (one_module : OneModule) (one_strategy : OneResult) (me
   Replies-one begin h = Told-one (ComesTo begin_act h) (ComesTo-one one_module one_strategy begin_act h)
   Replies-one commit h = Told-one (ComesTo commit_act h) (ComesTo-one one_module one_strategy commit_act h)
   Replies-one abandon h = Told-one (ComesTo abandon_act h) (ComesTo-one one_module one_strategy abandon_act h)
-  Replies-one (show name path) h = λ r s p q. p ∙ sym q
-  Replies-one trees h = λ r s p q. p ∙ sym q
-  Replies-one modules h = λ r s p q. p ∙ sym q
-  Replies-one (module_text name) h = λ r s p q. p ∙ sym q
-  Replies-one history h = λ r s p q. p ∙ sym q
-  Replies-one dump h = λ r s p q. p ∙ sym q
+  Replies-one form h = λ r s p q. p ∙ sym q
 
   read-one : (read : Result Form Refusal) (h : History) (r s : Reply) → MatchResult read (λ form. Replies meaning form h r) (λ refusal. r ≡ Err refusal) →
       MatchResult read (λ form. Replies meaning form h s) (λ refusal. s ≡ Err refusal) → r ≡ s
@@ -263,9 +256,6 @@ module _ (one : OneTerm) (one_module : OneModule) (one_strategy : OneResult) (me
           (Replied stop (ReplyInRun meaning budget) cs fs (history_after h r) rs → Replied stop (ReplyInRun meaning budget) cs fs (history_after h r) ss → rs ≡ ss) → r ∷ rs ≡ s ∷ ss
       later true e a b rest = ap (λ (x : Reply). x ∷ rs) e ∙ ap (λ (xs : List Reply). s ∷ xs) (a.1 ∙ sym b.1)
       later false e a b rest = ap (λ (x : Reply). x ∷ rs) e ∙ ap (λ (xs : List Reply). s ∷ xs) (rest a b)
-  Replied-one stop budget [] [] h (r ∷ rs) ss p q = absurd p
   Replied-one stop budget [] [] h [] (s ∷ ss) p q = absurd q
-  Replied-one stop budget [] (f ∷ fs) h rs ss p q = absurd p
-  Replied-one stop budget (c ∷ cs) [] h rs ss p q = absurd p
-  Replied-one stop budget (c ∷ cs) (f ∷ fs) h [] ss p q = absurd p
   Replied-one stop budget (c ∷ cs) (f ∷ fs) h (r ∷ rs) [] p q = absurd q
+  Replied-one stop budget cs fs h rs ss p q = absurd p

@@ -1,12 +1,17 @@
 -- Lemmas on the lines of a script: a line as it arrives, byte by byte.
-use Rattle.std.proofs.Common.{◌≡◌, ◌≤◌, ◌<◌, ◌+◌, ◌-◌, ℕ, zero, suc, Bool, true, false, not, List, [], ◌∷◌, ◌++◌, length, take, get_or, map, filter, refl, sym, ap, ◌∙◌, subst, arith, append_assoc, append-nil, if◌then◌else◌}
+use Rattle.std.proofs.Common.{◌≡◌, ◌≤◌, ◌<◌, ◌+◌, ◌-◌, ℕ, zero, suc, true, false, not, ◌==◌, inl, inr, List, [], ◌∷◌, ◌++◌, length, take, get_or, map, filter, refl, sym, ap, ◌∙◌, subst, arith, append_assoc, append-nil, if◌then◌else◌}
 use Rattle.std.specs.List.{All, repeat, suffix_len, slice_split, onto_first}
+use Rattle.std.proofs.lemmas.Bool.{cases_Bool, eqb-true}
 use Rattle.std.proofs.lemmas.List.{length-append, get_or_append_left, get_or-append-add}
 use Rattle.std.proofs.lemmas.List.Sums.{suffix_len_is}
 use Rattle.std.proofs.lemmas.List.Splits.{slice_split_none, slice_split_at, slice_split-cons_yes, slice_split-cons_no}
 use Rattle.std.proofs.lemmas.List.Elements.{All-append, All-cons}
 use Rattle.std.proofs.Math.Seq.{take-append_seam, get_or-append_seam}
 use Rattle.script_text.specs.Script.{is_line_feed, is_carriage_return, without_end, pieces, without_empty_last, is_comment, lines}
+
+-- a byte is this one, or another
+pub this_or : (P : ℕ → Type 0) (k b : ℕ) → P k → ((b == k) ≡ false → P b) → P b
+this_or P k b this other = elim (cases_Bool (b == k)) [ inl e ↦ subst P (sym (eqb-true b k e)) this | inr e ↦ other e ]
 
 abbrev pub returns : ℕ → List ℕ
 returns n = repeat n (13 ∷ [])
@@ -41,6 +46,10 @@ returns-snoc (suc n) x = ap (λ (xs : List ℕ). 13 ∷ xs) (returns-snoc n x)
 
 pub one_more_return : (core x : List ℕ) (n : ℕ) → core ++ (returns n ++ 13 ∷ x) ≡ core ++ (returns (suc n) ++ x)
 one_more_return core x n = ap (λ (xs : List ℕ). core ++ xs) (returns-snoc n x)
+
+-- a byte after them makes them part of the line
+pub longer_append : (core : List ℕ) (n b : ℕ) (x : List ℕ) → (core ++ (returns n ++ b ∷ [])) ++ x ≡ core ++ (returns n ++ b ∷ x)
+longer_append core n b x = append_assoc core (returns n ++ b ∷ []) x ∙ ap (λ (xs : List ℕ). core ++ xs) (append_assoc (returns n) (b ∷ []) x)
 
 -- ---- the line without them
 
@@ -89,12 +98,12 @@ not_empty (b ∷ p) x ls = refl
 -- a list of pieces is never empty
 pub first_piece : (y : List ℕ) → (p : List ℕ) × ((ps : List (List ℕ)) × (slice_split is_line_feed y ≡ p ∷ ps))
 first_piece [] = ([], ([], refl))
-first_piece (b ∷ y) = at (is_line_feed b) refl (first_piece y)
-  where
-    at : (t : Bool) → is_line_feed b ≡ t → ((p : List ℕ) × ((ps : List (List ℕ)) × (slice_split is_line_feed y ≡ p ∷ ps))) →
-        (p : List ℕ) × ((ps : List (List ℕ)) × (slice_split is_line_feed (b ∷ y) ≡ p ∷ ps))
-    at true e rest = ([], (slice_split is_line_feed y, slice_split-cons_yes is_line_feed b y e))
-    at false e rest = (b ∷ rest.0, (rest.1.0, slice_split-cons_no is_line_feed b y e ∙ ap (onto_first b) rest.1.1))
+first_piece (b ∷ y) =
+    let rest = first_piece y in
+    elim (cases_Bool (is_line_feed b)) [
+      | inl e ↦ ([], (slice_split is_line_feed y, slice_split-cons_yes is_line_feed b y e))
+      | inr e ↦ (b ∷ rest.0, (rest.1.0, slice_split-cons_no is_line_feed b y e ∙ ap (onto_first b) rest.1.1))
+    ]
 
 -- what ends at a line feed, without the carriage returns at its end
 lines-ended : (raw core y : List ℕ) → All (λ b. is_line_feed b ≡ false) raw → without_end is_carriage_return raw ≡ core → lines (raw ++ 10 ∷ y) ≡ with_line core (lines y)

@@ -49,10 +49,7 @@ Replied-append stop Rule (c ∷ cs) ds (f ∷ fs) gs h (r ∷ rs) ss g p q =
       subst (λ (b : Bool). MatchBool b ((fs ++ gs ≡ []) × (rs ++ ss ≡ [])) (Replied stop Rule (cs ++ ds) (fs ++ gs) (history_after h r) (rs ++ ss))) (sym goes)
           (Replied-append stop Rule cs ds fs gs (history_after h r) rs ss (goes-rest stop r rs g) rest q),
     )
-Replied-append stop Rule [] ds [] gs h (r ∷ rs) ss g p q = absurd p
-Replied-append stop Rule [] ds (f ∷ fs) gs h rs ss g p q = absurd p
-Replied-append stop Rule (c ∷ cs) ds [] gs h rs ss g p q = absurd p
-Replied-append stop Rule (c ∷ cs) ds (f ∷ fs) gs h [] ss g p q = absurd p
+Replied-append stop Rule cs ds fs gs h rs ss g p q = absurd p
 
 -- if the run stopped, no later command is replied to
 Replied-stopped : (stop : Bool) (Rule : Replying) (cs ds : List Handed) (fs : List Bool) (h : History) (rs : List Reply) → stop ≡ true → 0 < count_by is_err rs → Replied stop Rule cs fs h rs →
@@ -67,10 +64,7 @@ Replied-stopped stop Rule (c ∷ cs) ds (f ∷ fs) h (Ok x ∷ rs) e some p =
 Replied-stopped stop Rule (c ∷ cs) ds (f ∷ fs) h (Err x ∷ rs) e some p =
     let After : Bool → List Handed → Type 0 = λ b commands. MatchBool (b && true) ((fs ≡ []) × (rs ≡ [])) (Replied stop Rule commands fs (history_after h (Err x)) rs) in
     let ends = subst (λ (b : Bool). After b cs) e p.1 in (p.0, subst (λ (b : Bool). After b (cs ++ ds)) (sym e) ends)
-Replied-stopped stop Rule [] ds [] h (r ∷ rs) e some p = absurd p
-Replied-stopped stop Rule [] ds (f ∷ fs) h rs e some p = absurd p
-Replied-stopped stop Rule (c ∷ cs) ds [] h rs e some p = absurd p
-Replied-stopped stop Rule (c ∷ cs) ds (f ∷ fs) h [] e some p = absurd p
+Replied-stopped stop Rule cs ds fs h rs e some p = absurd p
 
 last_answer-append : (rs : List Reply) (s : Reply) (ss : List Reply) → last_answer (rs ++ (s ∷ ss)) ≡ last_answer (s ∷ ss)
 last_answer-append [] s ss = refl
@@ -97,20 +91,20 @@ one_if-total false = refl
 
 -- ---- one command
 
+-- whether or not the run stops at it, nothing is left
+pub end_of_one : (b : Bool) → MatchBool b ((◌≡◌ {A = List Bool} [] []) × (◌≡◌ {A = List Reply} [] [])) (Unit {0})
+end_of_one true = (refl, refl)
+end_of_one false = tt
+
 Replied-one : (stop : Bool) (Rule : Replying) (command : Handed) (flag : Bool) (h : History) (r : Reply) → Rule command flag h r → Replied stop Rule (command ∷ []) (flag ∷ []) h (r ∷ [])
-Replied-one stop Rule command flag h r p = (p, at (stop && is_err r))
-  where
-    at : (b : Bool) → MatchBool b ((◌≡◌ {A = List Bool} [] []) × (◌≡◌ {A = List Reply} [] [])) (Replied stop Rule [] [] (history_after h r) [])
-    at true = (refl, refl)
-    at false = tt
+Replied-one stop Rule command flag h r p = (p, end_of_one (stop && is_err r))
 
 Leads-one : (stop : Bool) (Rule : Replying) (command : Handed) (h g : History) (answer : List ℕ) (verdict : Bool) (a : Answered Rule command h g answer verdict) →
     RunLeads stop Rule (command ∷ []) h g (a.flag ∷ []) (a.reply ∷ [])
 Leads-one stop Rule command h g answer verdict a = record { replied = Replied-one stop Rule command a.flag h a.reply a.replied; history = a.history }
 
 one_ok : (verdict : Bool) (reply : Reply) → verdict ≡ is_ok reply → (one_if verdict ≡ count_by is_ok (reply ∷ [])) × (one_if (not verdict) ≡ count_by is_err (reply ∷ []))
-one_ok verdict (Ok x) e = (ap one_if e, ap (λ (b : Bool). one_if (not b)) e)
-one_ok verdict (Err x) e = (ap one_if e, ap (λ (b : Bool). one_if (not b)) e)
+one_ok verdict reply e = (grind arith, grind arith)
 
 -- a command whose answer is written
 pub Completes-one : (stop : Bool) (Rule : Replying) (command : Handed) (h g : History) (answer sent : List ℕ) (verdict : Bool) (old new : Option (List ℕ)) →
@@ -216,12 +210,13 @@ BreaksOff-longer stop Rule cs ds h g a b p = record {
 
 -- ---- a flush
 
-pub Completes-flushed : (stop : Bool) (Rule : Replying) (cs : List Handed) (h g : History) (a b c : Option (List ℕ)) (y n : ℕ) → Completes stop Rule cs h g a b y n → Keeps b c → Completes stop Rule cs h g a c y n
-Completes-flushed stop Rule cs h g a b c y n p k = record {
+-- what is written, as another writer's state has it
+pub Completes-by : (stop : Bool) (Rule : Replying) (cs : List Handed) (h g : History) (a b c d : Option (List ℕ)) (y n : ℕ) → ((bytes : List ℕ) → Appends a b bytes → Appends c d bytes) → Completes stop Rule cs h g a b y n → Completes stop Rule cs h g c d y n
+Completes-by stop Rule cs h g a b c d y n writes p = record {
   flags = p.flags;
   replies = p.replies;
   leads = p.leads;
-  written = Appends-kept a b c _ p.written k;
+  written = writes _ p.written;
   accepted = p.accepted;
   refused = p.refused;
 }
@@ -238,28 +233,4 @@ BreaksOff-flush stop Rule cs h g a b c y n p k = record {
   written = record { kept = out p.replies; all = sym (append-nil _); written = Appends-kept a b c _ p.written k };
   front = last_answer p.replies;
   last = sym (append-nil _);
-}
-
-pub Completes-after : (stop : Bool) (Rule : Replying) (cs : List Handed) (h g : History) (a b c : Option (List ℕ)) (y n : ℕ) → Keeps a b → Completes stop Rule cs h g b c y n → Completes stop Rule cs h g a c y n
-Completes-after stop Rule cs h g a b c y n k p = record {
-  flags = p.flags;
-  replies = p.replies;
-  leads = p.leads;
-  written = Appends-trans a b c [] (out p.replies) (Appends-none a b k) p.written;
-  accepted = p.accepted;
-  refused = p.refused;
-}
-
-pub BreaksOff-after : (stop : Bool) (Rule : Replying) (cs : List Handed) (h g : History) (a b c : Option (List ℕ)) → Keeps a b → BreaksOff stop Rule cs h g b c → BreaksOff stop Rule cs h g a c
-BreaksOff-after stop Rule cs h g a b c k p = record {
-  first = p.first;
-  others = p.others;
-  split = p.split;
-  flags = p.flags;
-  replies = p.replies;
-  leads = p.leads;
-  lost = p.lost;
-  written = record { kept = p.written.kept; all = p.written.all; written = Appends-trans a b c [] p.written.kept (Appends-none a b k) p.written.written };
-  front = p.front;
-  last = p.last;
 }

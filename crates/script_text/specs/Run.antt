@@ -18,10 +18,7 @@ Replied stop Rule (command ∷ commands) (flag ∷ flags) h (reply ∷ replies) 
     Rule command flag h reply
     × MatchBool (stop && is_err reply) ((flags ≡ []) × (replies ≡ []))
     (Replied stop Rule commands flags (history_after h reply) replies)
-Replied stop Rule [] [] h (reply ∷ replies) = ⊥
-Replied stop Rule [] (flag ∷ flags) h replies = ⊥
-Replied stop Rule (command ∷ commands) [] h replies = ⊥
-Replied stop Rule (command ∷ commands) (flag ∷ flags) h [] = ⊥
+Replied stop Rule commands flags h replies = ⊥
 
 -- the history after all replies
 abbrev pub history_after_all : History → List Reply → History

@@ -14,8 +14,8 @@ ghost use Rattle.script_text.specs.Script.{is_line_feed};
 ghost use Rattle.script_text.specs.declared.framing.Framing.{Framing as AnyFraming};
 ghost use Rattle.script_text.specs.declared.framing.Framing.TheVariants.{Continued, Lines};
 ghost use Rattle.script_text.specs.Splitting.{StandsAfter, taken, taken_in, going, begun, nothing, longer, in_place, hold_return, continued_at, own_line_at, at_start, in_line, in_dropped, at_own_start, in_own_line, in_own_comment, gone_on, with_more};
-ghost use Rattle.script_text.specs.inside.Passing.{passed, out_of, ends_run};
-ghost use Rattle.script_text.specs.inside.SplitView.{begins_with, left_behind};
+ghost use Rattle.script_text.specs.inside.Passing.{Goes, ends_run};
+ghost use Rattle.script_text.specs.inside.SplitView.{Takes, left_behind};
 ghost use Rattle.script_text.specs.FedRight.{FedRight, handed_out};
 
 use crate::MAX_COMMAND;
@@ -188,8 +188,7 @@ impl Unfinished {
     // their number.
     fn take_run(&mut self, bytes: &[u8]) -> usize
         ensures within { result ≤ length bytes.now }
-        ensures none { out_of self.old (take result bytes.now) ≡ [] }
-        ensures left { self.new ≡ passed self.old (take result bytes.now) }
+        ensures goes { Goes self.old (take result bytes.now) [] self.new }
     {
         match self.place {
             LineState::Start => 0,
@@ -208,10 +207,7 @@ impl Unfinished {
     // Consumes a byte. If it completes the pending command, returns what comes after it; the
     // command stays.
     fn take(&mut self, byte: u8) -> Option<Next>
-        ensures goes { IfNone result (taken self.old byte ≡ going self.new) }
-        ensures completes { IfSome result (λ next. taken self.old byte
-            ≡ record { out = self.new.command; left = begins_with self.new.framing next }) }
-        ensures there { IfSome result (λ next. is_some self.new.command ≡ true) }
+        ensures { Takes (taken self.old byte) result self.new }
     {
         match self.framing {
             Framing::Continued => self.take_continued(byte),
@@ -220,10 +216,7 @@ impl Unfinished {
     }
 
     fn take_continued(&mut self, byte: u8) -> Option<Next>
-        ensures goes { IfNone result (continued_at self.old.place self.old byte ≡ going self.new) }
-        ensures completes { IfSome result (λ next. continued_at self.old.place self.old byte
-            ≡ record { out = self.new.command; left = begins_with self.new.framing next }) }
-        ensures there { IfSome result (λ next. is_some self.new.command ≡ true) }
+        ensures { Takes (continued_at self.old.place self.old byte) result self.new }
     {
         match self.place {
             LineState::Start => return self.take_first(byte),
@@ -236,10 +229,7 @@ impl Unfinished {
     // A byte at the start of a line.
     fn take_first(&mut self, byte: u8) -> Option<Next>
         requires { self.old.place ≡ LineState.Start }
-        ensures goes { IfNone result (at_start self.old byte ≡ going self.new) }
-        ensures completes { IfSome result (λ next. at_start self.old byte
-            ≡ record { out = self.new.command; left = begins_with self.new.framing next }) }
-        ensures there { IfSome result (λ next. is_some self.new.command ≡ true) }
+        ensures { Takes (at_start self.old byte) result self.new }
     {
         match byte {
             b'\r' => self.hold_return(),
@@ -288,11 +278,7 @@ impl Unfinished {
 
     // A line begins a command. The one before it, if there is one, is complete.
     fn begin_line(&mut self, byte: u8) -> Option<Next>
-        ensures goes { IfNone result ((self.old.command ≡ None)
-            × (self.new ≡ begun self.old.framing self.old.returns byte)) }
-        ensures completes { IfSome result (λ next. (self.new.command ≡ self.old.command)
-            × (self.new.framing ≡ self.old.framing) × (next ≡ Next.Begun self.old.returns byte)) }
-        ensures there { IfSome result (λ next. is_some self.new.command ≡ true) }
+        ensures { Takes (record { out = self.old.command; left = begun self.old.framing self.old.returns byte }) result self.new }
     {
         let returns = self.returns;
         if self.command.is_there() {
@@ -327,10 +313,7 @@ impl Unfinished {
     }
 
     fn take_own_line(&mut self, byte: u8) -> Option<Next>
-        ensures goes { IfNone result (own_line_at self.old.place self.old byte ≡ going self.new) }
-        ensures completes { IfSome result (λ next. own_line_at self.old.place self.old byte
-            ≡ record { out = self.new.command; left = begins_with self.new.framing next }) }
-        ensures there { IfSome result (λ next. is_some self.new.command ≡ true) }
+        ensures { Takes (own_line_at self.old.place self.old byte) result self.new }
     {
         match self.place {
             LineState::Start => self.take_own_first(byte),
@@ -361,10 +344,7 @@ impl Unfinished {
     // A byte in a line that is a command. The line feed completes it.
     fn take_own_kept(&mut self, byte: u8) -> Option<Next>
         requires { self.old.place ≡ LineState.Kept }
-        ensures goes { IfNone result (in_own_line self.old byte ≡ going self.new) }
-        ensures completes { IfSome result (λ next. in_own_line self.old byte
-            ≡ record { out = self.new.command; left = begins_with self.new.framing next }) }
-        ensures there { IfSome result (λ next. is_some self.new.command ≡ true) }
+        ensures { Takes (in_own_line self.old byte) result self.new }
     {
         match byte {
             b'\r' => self.hold_return(),
@@ -381,6 +361,7 @@ impl Unfinished {
 }
 
 // The number of bytes of a line of the command before the next line feed or carriage return.
+#[tactic(auto, using(crate::proofs::SplitRunLemmas::first_places))]
 fn kept_len(bytes: &[u8]) -> usize
     ensures value { result ≡ position_or_len ends_run bytes.now }
     ensures within { result ≤ length bytes.now }
@@ -392,6 +373,7 @@ fn kept_len(bytes: &[u8]) -> usize
 }
 
 // The number of bytes of a dropped line before its line feed.
+#[tactic(auto, using(crate::proofs::SplitRunLemmas::first_places))]
 fn dropped_len(bytes: &[u8]) -> usize
     ensures value { result ≡ position_or_len is_line_feed bytes.now }
     ensures within { result ≤ length bytes.now }

@@ -25,7 +25,7 @@ pub record Counts (Rule : ByBudget) (commands : List Handed) (old new : Running)
     (held held' : Option (List ℕ)) (goes_on : Bool) : Type 0 where
   pub yes : ℕ
   pub no : ℕ
-  pub completes : Completes old.settings.stop (Rule old.settings.budget) commands h g held held' yes no
+  pub completes : Completes old.settings.stop (Rule old.settings.steps) commands h g held held' yes no
   pub accepted : new.summary.accepted ≡ old.summary.accepted + yes
   pub refused : new.summary.refused ≡ old.summary.refused + no
   pub total : yes + no ≤ length commands
@@ -56,42 +56,29 @@ AnswersBytes Rule old new h g held held' bytes true = Underway Rule old new h g 
 AnswersBytes Rule old new h g held held' bytes false =
     (rest : List ℕ) × Underway Rule old new h g held held' bytes rest false
 
--- After what came before, these bytes complete exactly these commands.
-abbrev pub HandsAfter : Split → List ℕ → List Handed → Type 0
-HandsAfter old bytes all =
+-- After what came before, these are all commands of the script up to these bytes, or all that are
+-- complete.
+abbrev pub HandsAfter : (Framing → List ℕ → List Handed) → Split → List ℕ → List Handed → Type 0
+HandsAfter which old bytes all =
     (framing : Framing) (x : List ℕ) (out : List Handed) → StandsAfter framing x out old.left
-    → handed framing (x ++ bytes) ≡ out ++ all
+    → which framing (x ++ bytes) ≡ out ++ all
 
 -- Answering these bytes fails partway.
 pub record Breaks (Rule : ByBudget) (old : Running) (h g : History) (held held' : Option (List ℕ)) (bytes : List ℕ) : Type 0
   where
     pub all : List Handed
-    pub hands : HandsAfter old.splitter bytes all
-    pub breaks : BreaksOff old.settings.stop (Rule old.settings.budget) all h g held held'
+    pub hands : HandsAfter handed old.splitter bytes all
+    pub breaks : BreaksOff old.settings.stop (Rule old.settings.steps) all h g held held'
 
--- Answering these bytes reaches the end.
-pub record Ends (Rule : ByBudget) (old new : Running) (h g : History) (held held' : Option (List ℕ)) (bytes : List ℕ) : Type 0
-  where
-    pub all : List Handed
-    pub hands : HandsAfter old.splitter bytes all
-    pub yes : ℕ
-    pub no : ℕ
-    pub completes : Completes old.settings.stop (Rule old.settings.budget) all h g held held' yes no
-    pub accepted : new.summary.accepted ≡ old.summary.accepted + yes
-    pub refused : new.summary.refused ≡ old.summary.refused + no
-
--- These bytes are answered up to a refusal at which the run stops, in a command that they complete.
-pub record Stops (Rule : ByBudget) (old : Running) (h g : History) (held held' : Option (List ℕ)) (bytes : List ℕ)
-    (yes no : ℕ) : Type 0 where
-  pub stop : old.settings.stop ≡ true
-  pub some : 0 < no
+-- The commands of these bytes are answered: all of them, or all that are complete.
+pub record Ends (Rule : ByBudget) (which : Framing → List ℕ → List Handed) (old new : Running) (h g : History)
+    (held held' : Option (List ℕ)) (bytes : List ℕ) (goes_on : Bool) : Type 0 where
   pub all : List Handed
-  pub hands : (framing : Framing) (x : List ℕ) (out : List Handed) → StandsAfter framing x out old.splitter.left
-      → completed framing (x ++ bytes) ≡ out ++ all
-  pub completes : Completes old.settings.stop (Rule old.settings.budget) all h g held held' yes no
+  pub hands : HandsAfter which old.splitter bytes all
+  pub counts : Counts Rule all old new h g held held' goes_on
 
 -- One turn of a run: at most this many bytes are read and their commands answered, and the run goes
--- on; or it reaches the end, or fails.
+-- on; or it reaches the end, or stops at the refusal of a command that they complete, or fails.
 abbrev pub TurnRight : ByBudget → Result Bool RunFault → Running → Running → History → History → Streams → Streams
     → ℕ → Type 0
 TurnRight Rule (Ok true) old new h g a b most =
@@ -100,8 +87,8 @@ TurnRight Rule (Ok true) old new h g a b most =
     × Underway Rule old new h g a.held b.held bytes [] true)
 TurnRight Rule (Ok false) old new h g a b most =
     Calm a b × ((bytes : List ℕ) × Consumes a.left b.left bytes
-    × ((ends : Ends Rule old new h g a.held b.held bytes)
-    × (IsAtEnd b.left ⊎ Stops Rule old h g a.held b.held bytes ends.yes ends.no)))
+    × ((goes_on : Bool) × Ends Rule handed old new h g a.held b.held bytes goes_on)
+    × (IsAtEnd b.left ⊎ Ends Rule completed old new h g a.held b.held bytes false))
 TurnRight Rule (Err Read) old new h g a b most =
     (b.read_failures ≡ a.read_failures + 1) × (b.write_failures ≡ a.write_failures)
     × Keeps a.left b.left × (g ≡ h) × Keeps a.held b.held

@@ -1,5 +1,5 @@
 -- Several bytes at once.
-use Rattle.std.specs.Prelude.{ℕ, Bool, ◌==◌, ◌||◌, List, [], ◌∷◌, ◌++◌}
+use Rattle.std.specs.Prelude.{◌≡◌, ℕ, Bool, ◌==◌, ◌||◌, List, [], ◌∷◌, ◌++◌}
 use Rattle.std.specs.Option.{option_to_list}
 use Rattle.script_text.specs.declared.splitter.Unfinished.{Unfinished}
 use Rattle.script_text.specs.Handed.{Handed}
@@ -18,3 +18,8 @@ out_of s (b ∷ bytes) = option_to_list (taken s b).out ++ out_of (taken s b).le
 abbrev pub passed : Unfinished → List ℕ → Unfinished
 passed s [] = s
 passed s (b ∷ bytes) = passed (taken s b).left bytes
+
+-- At these bytes these commands are given, and this is pending after them.
+pub record Goes (s : Unfinished) (run : List ℕ) (given : List Handed) (after : Unfinished) : Type 0 where
+  pub out : out_of s run ≡ given
+  pub left : passed s run ≡ after

@@ -1,5 +1,5 @@
 -- What the fields of a splitter represent, and how the logic stores them.
-use Rattle.std.specs.Prelude.{◌≡◌, ℕ, Bool, true, false, Some, None, refl}
+use Rattle.std.specs.Prelude.{◌≡◌, ℕ, Bool, true, false, Some, None, IfNone, IfSome, is_some, refl}
 use Rattle.std.specs.declared.option.Option.{Option}
 use Rattle.std.specs.Coded.{Coded, code_by, coded×, coded_option, coded_bool, coded_ℕ}
 use Rattle.script_text.specs.declared.framing.Framing.{Framing}
@@ -11,7 +11,7 @@ use Rattle.script_text.specs.declared.splitter.Next.{Next}
 use Rattle.script_text.specs.declared.splitter.Next.TheVariants.{Begun, Nothing}
 use Rattle.script_text.specs.Handed.{Handed}
 use Rattle.script_text.specs.inside.HandedCode.{handed_code}
-use Rattle.script_text.specs.Splitting.{begun, nothing}
+use Rattle.script_text.specs.Splitting.{Taken, going, begun, nothing}
 use Rattle.script_text.specs.Split.{Split}
 
 -- What is pending after a command was completed, if one was.
@@ -22,6 +22,13 @@ begins_with framing Nothing = nothing framing
 abbrev pub left_behind : Unfinished → Option Next → Unfinished
 left_behind s None = s
 left_behind s (Some next) = begins_with s.framing next
+
+-- What a byte does: it completes no command, and this is pending after it; or it completes the pending
+-- command, which stays, and this is what comes after it.
+pub record Takes (taken : Taken) (result : Option Next) (after : Unfinished) : Type 0 where
+  pub goes : IfNone result (taken ≡ going after)
+  pub completes : IfSome result (λ next. taken ≡ record { out = after.command; left = begins_with after.framing next })
+  pub there : IfSome result (λ next. is_some after.command ≡ true)
 
 abbrev pub split_of : Unfinished → Option Next → Split
 split_of s next = record { to_hand_out = s.command; left = left_behind s next }
