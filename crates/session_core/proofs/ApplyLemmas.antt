@@ -14,11 +14,13 @@ use Rattle.session_history.specs.Applying.{Meaning, world_in, given_by}
 use Rattle.session_history.specs.inside.Giving.{GivesIn}
 use Rattle.session_history.specs.History.{History, changed}
 use Rattle.session_history.specs.Acts.{Act, apply, Performs, ActResult, ChangesTo, AppliesAt, Located, ComesTo}
+use Rattle.session_history.specs.Moving.{KeepsHistory, Changes}
 use Rattle.session_history.specs.Unfolded.{Logged, unfolded}
 use Rattle.session_history.specs.declared.refusal.Refusal.{Refusal}
 use Rattle.session_history.specs.declared.refusal.Refusal.TheVariants.{Memory}
 use Rattle.session_history.proofs.StepLemmas.{passed, stopped, accepts, refuses}
 use Rattle.session_history.proofs.ActLemmas.{the_place}
+use Rattle.session_core.specs.inside.Foreseen.{IsRefusedRun}
 use Rattle.session_core.specs.inside.Resolved.{ResolvesTo, IsUnresolved}
 use Rattle.session_core.proofs.ResolveLemmas.{unresolved_before, resolved_then}
 
@@ -54,7 +56,7 @@ module _ (meaning : Meaning) (ps : List Signature) (t : Logged) (name path text 
     in_slot =
         let same : lent ≡ r.program = same_program lent r.program (is ∙ r.cache) in
         ap (λ (p : Program). applied_in (world_in meaning p ps) t.store.trees i path whole steps) same
-        ∙ ap (λ (o : Option Tree). option_map_or (applied (world_in meaning r.program ps) path whole steps) o fails) r.there.3
+        ∙ ap (λ (o : Option Tree). option_map_or (applied (world_in meaning r.program ps) path whole steps) o fails) r.there.is.held
 
     ends : (outcome : ActResult) → AppliesAt meaning name path steps now here r.program whole outcome → Comes outcome
     ends outcome p = resolved_then ps t name path text (AppliesAt meaning name path steps now) cached i whole r outcome p
@@ -64,14 +66,14 @@ module _ (meaning : Meaning) (ps : List Signature) (t : Logged) (name path text 
 
     apply_done : (n : Logged) → GivesIn Ends i t.store n.store → unfolded ps n ≡ changed (contents n.store) now → Comes (Ok (unfolded ps n))
     apply_done n gives done =
-        let then : contents n.store ≡ with_tree (contents t.store) name gives.tree = ap contents gives.stands ∙ tree_put t.store name i gives.tree r.there.1 in
+        let then : contents n.store ≡ with_tree (contents t.store) name gives.tree = ap contents gives.stands ∙ tree_put t.store name i gives.tree r.there.is.named in
         ends (Ok (unfolded ps n))
         (passed (given_by ending) (λ tree. ChangesTo (with_tree (contents t.store) name tree) now) gives.tree (Ok (unfolded ps n)) (sym (ap given_by in_slot) ∙ gives.given)
         (ap Ok (done ∙ ap (λ (c : Contents). changed c now) then)))
 
     -- what a change by the outcome says
-    pub apply_performs : (result : Result (Unit {0}) Refusal) (n : Logged) → OnOk result (GivesIn Ends i t.store n.store) → OnOk result (unfolded ps n ≡ changed (contents n.store) now)
-        → IfErr result (λ refusal. (refusal ≡ Memory) ⊎ (given_by Ends ≡ Err refusal)) → OnErr result (unfolded ps n ≡ now) → Performs act now (unfolded ps n) result
-    apply_performs (Ok tt) n gives done refused same = accepts act now (unfolded ps n) tt (apply_done n gives done)
-    apply_performs (Err refusal) n gives done (inl memory) same = refuses act now (unfolded ps n) refusal (inl memory) same
-    apply_performs (Err refusal) n gives done (inr none) same = refuses act now (unfolded ps n) refusal (inr (apply_fails refusal none)) same
+    pub apply_performs : (result : Result (Unit {0}) Refusal) (n : Logged) → OnOk result (GivesIn Ends i t.store n.store) → OnOk result (Changes t n)
+        → IfErr result (IsRefusedRun Ends) → OnErr result (KeepsHistory t n) → Performs act now (unfolded ps n) result
+    apply_performs (Ok tt) n gives done refused same = accepts act now (unfolded ps n) tt (apply_done n gives (done.made ps))
+    apply_performs (Err refusal) n gives done (inl memory) same = refuses act now (unfolded ps n) refusal (inl memory) (same.same ps)
+    apply_performs (Err refusal) n gives done (inr none) same = refuses act now (unfolded ps n) refusal (inr (apply_fails refusal none)) (same.same ps)

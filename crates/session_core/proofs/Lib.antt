@@ -1,4 +1,5 @@
 pub mod ResolveLemmas
-pub mod ApplyLemmas
+pub mod SessionLemmas
 pub mod PlanLemmas
+pub mod ApplyLemmas
 pub mod PreviewLemmas

@@ -1,6 +1,6 @@
 -- What a run foresees, in the words of a session.
-use Rattle.std.proofs.Common.{◌≡◌, ◌-◌, ◌⊎◌, ℕ, true, false, List, [], ◌∷◌, ◌++◌, length, map, Option, Some, None, IsSome, Result, Ok, Err, IfOk, IfErr, inl, inr, refl, sym, ap, subst, ◌∙◌, arith}
-use Rattle.std.specs.Prelude.{option_and_then, unwrap_or, is_some}
+use Rattle.std.proofs.Common.{◌≡◌, ◌-◌, ◌⊎◌, ℕ, List, [], ◌∷◌, ◌++◌, length, map, Option, Some, None, IsSome, Result, Ok, Err, IfOk, IfErr, inl, inr, refl, sym, ap, subst, ◌∙◌, arith}
+use Rattle.std.specs.Prelude.{option_and_then, unwrap_or}
 use Rattle.prim_core.specs.Signature.{Signature}
 use Rattle.term_core.specs.Tree.{Tree}
 use Rattle.term_paths.specs.Paths.{at, set_at}
@@ -11,28 +11,29 @@ use Rattle.term_paths.proofs.LawLemmas.{set_is_there}
 use Rattle.term_paths.proofs.ApartLemmas.{apart_is_left}
 use Rattle.term_changes.specs.Putting.{ApartFromAll, entries_at}
 use Rattle.term_changes.proofs.OrderLemmas.{left_apart}
-use Rattle.term_changes.specs.Slots.{contents}
 use Rattle.term_changes.specs.Entries.{subterm, subterm_in}
 use Rattle.strategy_syntax.specs.declared.resolved.Resolved.{Resolved}
 use Rattle.strategy_check.specs.Programs.{Program}
-use Rattle.strategy_meaning.specs.Answer.{Answer}
+use Rattle.strategy_meaning.specs.Answer.{Answer, done, failed, stopped}
+use Rattle.strategy_meaning.specs.Applied.{placed}
+use Rattle.strategy_run.specs.Applies.{applied_in}
 use Rattle.strategy_meaning.specs.Meaning.{run_whole}
 use Rattle.strategy_meaning.specs.Outermost.{IsBefore, IsBeforeAll, AreInOrder}
-use Rattle.session_history.specs.Applying.{Meaning, world_in}
+use Rattle.session_history.specs.Applying.{Meaning, world_in, given_by, stopped_as}
 use Rattle.session_history.specs.History.{History}
-use Rattle.session_history.specs.Preview.{Replacement, part_at, replacement, Foresees as Shows, ForeseesAt, Previews}
+use Rattle.session_history.specs.Preview.{part_at, replacement, Foresees as Shows, ForeseesAt, Previews}
 use Rattle.session_history.specs.Preview as definition
-use Rattle.session_history.specs.Acts.{Located, place_of}
+use Rattle.session_history.specs.Acts.{Located}
 use Rattle.session_history.specs.Unfolded.{Logged, unfolded}
 use Rattle.session_history.specs.declared.refusal.Refusal.{Refusal}
-use Rattle.session_history.specs.declared.refusal.Refusal.TheVariants.{Memory}
-use Rattle.session_history.proofs.StepLemmas.{place_there}
-use Rattle.session_history.proofs.ActLemmas.{tree_held, seen_place, the_place}
+use Rattle.session_history.specs.declared.refusal.Refusal.TheVariants.{Memory, Fails}
+use Rattle.session_history.proofs.ActLemmas.{place_held, part_there, the_place}
 use Rattle.session_core.specs.Previewing.{entry_for, AreThere, ShowsPreview, AnswersPreview}
 use Rattle.session_core.specs.declared.preview.Preview.{Preview}
-use Rattle.session_core.specs.inside.Foreseen.{Foresees, RefusesRun, ForeseesRefusal}
+use Rattle.session_core.specs.inside.Foreseen.{Foresees, IsRefusedRun}
 use Rattle.session_core.specs.inside.Resolved.{ResolvesTo, IsUnresolved}
 use Rattle.session_core.proofs.ApplyLemmas.{same_program}
+use Rattle.session_core.proofs.PlanLemmas.{ends_there}
 use Rattle.session_core.proofs.ResolveLemmas.{unresolved_before, resolved_then}
 
 -- ---- places that are set one after the other are there in the end
@@ -113,17 +114,12 @@ module _ (meaning : Meaning) (ps : List Signature) (t : Logged) (name path text 
     abbrev run_on : Tree → Answer
     run_on part = run_whole (world_in meaning lent ps) (length path) whole steps part
 
-    found : (part : Tree) → subterm_in t.store.trees i path ≡ Some part → at r.there.0 path ≡ Some part
-    found part found_it = sym (ap (option_and_then (λ y. at y path)) r.there.3) ∙ found_it
+    found : (part : Tree) → subterm_in t.store.trees i path ≡ Some part → at r.there.tree path ≡ Some part
+    found part found_it = sym (ap (option_and_then (λ y. at y path)) r.there.is.held) ∙ found_it
 
     -- the subterm that the slot's tree has there is that of the place
     same_part : (part : Tree) → subterm_in t.store.trees i path ≡ Some part → part ≡ here.part
-    same_part part found_it =
-        let there = r.there in
-        let again : place_of (contents t.store) name path ≡ Ok (record { tree = there.0; part = part }) =
-        place_there (contents t.store) name path there.0 part (tree_held t.store name there.2 i there.0 (sym there.1) there.3) (found part found_it) in
-        let first : ◌≡◌ {A = Result Located Refusal} (Ok (record { tree = there.0; part = part })) (Ok here) = sym again ∙ (seen_place t name path i there).1 in
-        (cc)
+    same_part part found_it = let same : Some part ≡ Some here.part = sym (found part found_it) ∙ part_there t name path i r.there in (cc)
 
     comes : (outcome : Result definition.Preview Refusal) → Shows path steps here.part (run_on here.part) outcome → Previews meaning name path steps text now outcome
     comes outcome p =
@@ -135,7 +131,7 @@ module _ (meaning : Meaning) (ps : List Signature) (t : Logged) (name path text 
         → Previews meaning name path steps text now outcome
     at_part part found_it outcome p = comes outcome (subst (λ y. Shows path steps y (run_on y) outcome) (same_part part found_it) p)
 
-    shows_preview : (preview : Preview) → Foresees (world_in meaning lent ps) t.store i path whole steps preview → ShowsPreview meaning name path steps text now preview
+    shows_preview : (preview : Preview) → Foresees (world_in meaning lent ps) t.store i path whole steps preview.plan preview.steps → ShowsPreview meaning name path steps text now preview
     shows_preview preview f =
         let g = f.gives in
         let list = map (replacement path f.part g.after) f.places in
@@ -147,30 +143,26 @@ module _ (meaning : Meaning) (ps : List Signature) (t : Logged) (name path text 
           slot = i;
           plan = f.plan ∙ entries_for i path f.part g.after f.places f.part g.made g.outermost.order;
           steps = refl;
-          tree = r.there.0;
-          held = tree_held t.store name r.there.2 i r.there.0 (sym r.there.1) r.there.3;
-          there = are_there path r.there.0 f.part g.after (found f.part f.there) f.places (all_some f.places f.part g.after g.made g.outermost.order);
+          tree = r.there.tree;
+          held = place_held t name path i r.there;
+          there = are_there path r.there.tree f.part g.after (found f.part f.there) f.places (all_some f.places f.part g.after g.made g.outermost.order);
         }
 
-    refuses_run : (part : Tree) (refusal : Refusal) → RefusesRun (run_on part) refusal → Shows path steps part (run_on part) (Err refusal)
-    refuses_run part refusal (inl (left, is, why)) = subst (λ a. Shows path steps part a (Err refusal)) (sym is) (ap Err why)
-    refuses_run part refusal (inr (stop, is, why)) = subst (λ a. Shows path steps part a (Err refusal)) (sym is) (ap Err why)
+    -- a run that gives no tree
+    refuses_run : (tree part : Tree) (answer : Answer) (refusal : Refusal) → given_by (placed tree path answer) ≡ Err refusal → Shows path steps part answer (Err refusal)
+    refuses_run tree part (done after bindings left edits) refusal e = absurd (cc)
+    refuses_run tree part (failed left) refusal e = let same : Fails ≡ refusal = cc in ap Err (sym same)
+    refuses_run tree part (stopped why) refusal e = let same : stopped_as why ≡ refusal = cc in ap Err (sym same)
 
-    some_there : subterm_in t.store.trees i path ≡ None → ⊥
-    some_there none =
-        let there = r.there in
-        let nowhere : at there.0 path ≡ None = sym (ap (option_and_then (λ y. at y path)) there.3) ∙ none in
-        let never : true ≡ false = sym there.4 ∙ ap (λ o. is_some o) nowhere in
-        absurd (cc)
-
-    preview_refused : (refusal : Refusal) → (refusal ≡ Memory) ⊎ ForeseesRefusal (world_in meaning lent ps) t.store i path whole steps refusal
-        → (refusal ≡ Memory) ⊎ Previews meaning name path steps text now (Err refusal)
+    preview_refused : (refusal : Refusal) → IsRefusedRun (applied_in (world_in meaning lent ps) t.store.trees i path whole steps) refusal → (refusal ≡ Memory) ⊎ Previews meaning name path steps text now (Err refusal)
     preview_refused refusal (inl memory) = inl memory
-    preview_refused refusal (inr (inl none)) = absurd (some_there none)
-    preview_refused refusal (inr (inr (part, is, run))) = inr (at_part part is (Err refusal) (refuses_run part refusal run))
+    preview_refused refusal (inr none) =
+        let there : subterm_in t.store.trees i path ≡ Some here.part = ap (option_and_then (λ y. at y path)) r.there.is.held ∙ part_there t name path i r.there in
+        let ends = ends_there (world_in meaning lent ps) t.store i path whole steps here.part _ there refl in
+        inr (at_part here.part there (Err refusal) (refuses_run ends.0 here.part (run_on here.part) refusal (sym (ap given_by ends.1) ∙ none)))
 
     -- what the call answers
-    pub preview_answers : (result : Result Preview Refusal) → IfOk result (λ preview. Foresees (world_in meaning lent ps) t.store i path whole steps preview)
-        → IfErr result (λ refusal. (refusal ≡ Memory) ⊎ ForeseesRefusal (world_in meaning lent ps) t.store i path whole steps refusal) → AnswersPreview meaning name path steps text now result
+    pub preview_answers : (result : Result Preview Refusal) → IfOk result (λ preview. Foresees (world_in meaning lent ps) t.store i path whole steps preview.plan preview.steps)
+        → IfErr result (IsRefusedRun (applied_in (world_in meaning lent ps) t.store.trees i path whole steps)) → AnswersPreview meaning name path steps text now result
     preview_answers (Ok preview) f refused = record { ok = shows_preview preview f; refused = tt }
     preview_answers (Err refusal) f refused = record { ok = tt; refused = preview_refused refusal refused }

@@ -23,7 +23,7 @@ use Rattle.session_history.specs.declared.refusal.Refusal.{Refusal}
 use Rattle.session_history.specs.declared.refusal.Refusal.TheVariants.{Memory}
 use Rattle.strategy_run.proofs.ApplyLemmas.{low_at}
 use Rattle.session_history.proofs.StepLemmas.{passed, stopped}
-use Rattle.session_history.proofs.ActLemmas.{tree_held, seen_place, the_place}
+use Rattle.session_history.proofs.ActLemmas.{place_held, seen_place, the_place}
 use Rattle.session_core.specs.inside.Resolved.{ResolvesTo, Never, IsUnresolved}
 
 -- the cached program, if one is passed
@@ -37,19 +37,19 @@ lent_program ps texts kept lent is there = by kept.checked is there
 -- ---- a place in a tree that is low enough
 
 module _ (t : Logged) (name path : List ℕ) (i : ℕ) (there : IsPlaceOf t.store name path i) (formed : AreFormed (contents t.store)) where
-  within : height there.0 ≤ MAX_HEIGHT
-  within = subst (λ (o : Option Tree). IfSome o (λ t. height t ≤ MAX_HEIGHT)) (tree_held t.store name there.2 i there.0 (sym there.1) there.3) (formed.0 name)
+  within : height there.tree ≤ MAX_HEIGHT
+  within = subst (λ (o : Option Tree). IfSome o (λ t. height t ≤ MAX_HEIGHT)) (place_held t name path i there) (formed.0 name)
 
   abbrev IsLow : Option Tree → Type 0
   IsLow o = IfSome o (λ u. length path + height u ≤ MAX_HEIGHT)
 
-  below : (o : Option Tree) → at there.0 path ≡ o → IsLow o
+  below : (o : Option Tree) → at there.tree path ≡ o → IsLow o
   below None e = tt
-  below (Some u) e = omega (arith, low_at path there.0 u e, within)
+  below (Some u) e = omega (arith, low_at path there.tree u e, within)
 
   -- the subterm there is low enough at its level, in a store equal to this one
   pub is_low : (s : Store) → s ≡ t.store → IsLow (subterm_in s.trees i path)
-  is_low s same = subst (λ (x : Store). IsLow (subterm_in x.trees i path)) (sym same) (subst (λ (o : Option Tree). IsLow (option_and_then (λ t. at t path) o)) (sym there.3) (below (at there.0 path) refl))
+  is_low s same = subst (λ (x : Store). IsLow (subterm_in x.trees i path)) (sym same) (subst (λ (o : Option Tree). IsLow (option_and_then (λ t. at t path) o)) (sym there.is.held) (below (at there.tree path) refl))
 
 -- ---- the tests, one after the other
 

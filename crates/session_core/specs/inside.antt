@@ -1,2 +1,3 @@
 pub mod Foreseen
+pub mod Held
 pub mod Resolved

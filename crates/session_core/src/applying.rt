@@ -1,25 +1,28 @@
 //! Applying strategies to the trees of a session.
 
-ghost use Rattle.std.specs.Prelude.{◌≡◌, ◌≤◌, ◌+◌, ◌⊎◌, length, Ok, Err, IfOk, IfErr, IfSome, OnOk, OnErr};
-ghost use Rattle.term_core.specs.Size.{height};
+ghost use Rattle.std.specs.Prelude.{◌≡◌, ℕ, IfOk, IfErr, OnOk, OnErr, option_copied};
 ghost use Rattle.term_changes.specs.Slots.{contents};
 ghost use Rattle.term_changes.specs.Entries.{subterm_in};
+ghost use Rattle.term_changes.specs.PatchLaws.{patch_entries};
 ghost use Rattle.strategy_run.specs.Applies.{applied_in};
-ghost use Rattle.session_history.specs.Applying.{world_in, given_by};
+ghost use Rattle.session_history.specs.Applying.{world_in};
 ghost use Rattle.session_history.specs.inside.Giving.{GivesIn};
-ghost use Rattle.session_history.specs.History.{AreFormed, changed};
+ghost use Rattle.session_history.specs.History.{AreFormed};
 ghost use Rattle.session_history.specs.Modules.{IsKept};
-ghost use Rattle.session_history.specs.Acts.{Performs, apply};
-ghost use Rattle.session_history.specs.Unfolded.{unfolded};
+ghost use Rattle.session_history.specs.Acts.{apply};
+ghost use Rattle.session_history.specs.Moving.{KeepsHistory, Changes, PerformsBy};
+ghost use Rattle.session_core.specs.inside.Foreseen.{IsLowIn, Foresees, IsRefusedRun};
 ghost use Rattle.session_core.specs.inside.Resolved.{replaced_of};
 
+use crate::preview::preview_in_slot;
 use crate::resolving::resolve_at;
 use prim_core::{Meaning, Primitives};
 use session_history::{KeptModules, Refusal, Timeline};
 use strategy_check::Program;
-use strategy_run::{Planned, plan_entries, plan_patch};
+use strategy_run::{Planned, plan_patch};
 use strategy_syntax::Resolved;
-use term_core::{Label, MAX_HEIGHT, NoMemory};
+use term_changes::Patch;
+use term_core::{Label, NoMemory, Term};
 use term_paths::{Path, at};
 
 /// Applies the strategy given as text to the subterm at the path of the name's tree, within
@@ -35,8 +38,8 @@ pub(crate) fn apply_strategy<M: Meaning>(
 ) -> Result<(), Refusal>
     requires formed { AreFormed (contents timeline.old.store) }
     requires kept { IsKept primitives.now (contents timeline.old.store).modules kept.old }
-    ensures performs { Performs (apply M.meaning name.now path.now budget text.now)
-        (unfolded primitives.now timeline.old) (unfolded primitives.now timeline.new) result }
+    ensures performs { PerformsBy primitives.now (apply M.meaning name.now path.now budget text.now)
+        timeline.old timeline.new result }
     ensures kept { IsKept primitives.now (contents timeline.new.store).modules kept.new }
 {
     let (slot, whole) = match resolve_at(timeline, primitives, kept, name, path, text) {
@@ -61,56 +64,65 @@ fn apply_in_slot<M: Meaning>(
     strategy: &Resolved,
     budget: u32,
 ) -> Result<(), Refusal>
-    requires low { IfSome (subterm_in timeline.old.store.trees slot path.now)
-        (λ u. length path.now + height u ≤ MAX_HEIGHT) }
-    ensures ok { OnOk result (unfolded primitives.now timeline.new
-        ≡ changed (contents timeline.new.store) (unfolded primitives.now timeline.old)) }
+    requires low { IsLowIn timeline.old.store slot path.now }
+    ensures ok { OnOk result (Changes timeline.old timeline.new) }
     ensures made { OnOk result (GivesIn (applied_in (world_in M.meaning program.now primitives.now)
         timeline.old.store.trees slot path.now strategy.now budget) slot timeline.old.store timeline.new.store) }
-    ensures refused { IfErr result (λ refusal. (refusal ≡ Refusal.Memory)
-        ⊎ (given_by (applied_in (world_in M.meaning program.now primitives.now)
-        timeline.old.store.trees slot path.now strategy.now budget) ≡ Err refusal)) }
-    ensures err { OnErr result (unfolded primitives.now timeline.new
-        ≡ unfolded primitives.now timeline.old) }
+    ensures refused { IfErr result (IsRefusedRun (applied_in (world_in M.meaning program.now primitives.now)
+        timeline.old.store.trees slot path.now strategy.now budget)) }
+    ensures err { OnErr result (KeepsHistory timeline.old timeline.new) }
 {
-    let alloc = timeline.allocator();
-    let Some(tree) = timeline.store().tree(slot) else {
-        return Err(Refusal::Fails);
-    };
-    let Some(part) = at(tree, path) else {
-        return Err(Refusal::Fails);
-    };
     if timeline.in_group() {
-        let planned = plan_entries(
-            alloc,
-            program,
-            primitives,
-            part,
-            slot,
-            path,
-            strategy,
-            budget as u64,
-        );
-        let (plan, _) = replaced(planned)?;
-        timeline.plan_in_group(plan)?;
+        let found = preview_in_slot(timeline, program, primitives, slot, path, strategy, budget)?;
+        timeline.plan_in_group(found.plan)?;
         return Ok(());
     }
-    let level = path.len() as u64;
-    let planned = plan_patch(
-        alloc,
-        program,
-        primitives,
-        part,
-        level,
-        strategy,
-        budget as u64,
-    );
-    let (patch, _) = replaced(planned)?;
-    let Ok(place) = Vec::from_slice(alloc, path.parts()) else {
+    let patch = patch_in_slot(timeline, program, primitives, slot, path, strategy, budget)?;
+    let Ok(place) = Vec::from_slice(timeline.allocator(), path.parts()) else {
         return Err(Refusal::Memory);
     };
     timeline.patch_as_step(slot, place, patch)?;
     Ok(())
+}
+
+// What the strategy replaces in the tree of a slot, as a patch of the subterm at the path.
+fn patch_in_slot<M: Meaning>(
+    timeline: &Timeline,
+    program: &Program,
+    primitives: &Primitives<M>,
+    slot: usize,
+    path: &Path,
+    strategy: &Resolved,
+    budget: u32,
+) -> Result<Patch, Refusal>
+    requires low { IsLowIn timeline.now.store slot path.now }
+    ensures ok { IfOk result (λ patch. (taken : ℕ) × Foresees (world_in M.meaning program.now primitives.now)
+        timeline.now.store slot path.now strategy.now budget (patch_entries slot path.now patch) taken) }
+    ensures refused { IfErr result (IsRefusedRun (applied_in (world_in M.meaning program.now primitives.now)
+        timeline.now.store.trees slot path.now strategy.now budget)) }
+{
+    let Some(part) = part_in_slot(timeline, slot, path) else {
+        return Err(Refusal::Fails);
+    };
+    let planned = plan_patch(
+        timeline.allocator(),
+        program,
+        primitives,
+        part,
+        path.len() as u64,
+        strategy,
+        budget as u64,
+    );
+    let (patch, _) = replaced(planned)?;
+    Ok(patch)
+}
+
+// The subterm at the path of the slot's tree, if there is one.
+pub(crate) fn part_in_slot<'a>(timeline: &'a Timeline, slot: usize, path: &Path) -> Option<&'a Term>
+    ensures { option_copied result ≡ subterm_in timeline.now.store.trees slot path.now }
+{
+    let tree = timeline.store().tree(slot)?;
+    at(tree, path)
 }
 
 // What is replaced, with the steps that were taken, or the refusal.

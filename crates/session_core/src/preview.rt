@@ -1,17 +1,16 @@
 //! What applying a strategy would replace.
 
-ghost use Rattle.std.specs.Prelude.{◌≡◌, ◌≤◌, ◌+◌, ◌⊎◌, length, option_map, Err, IfOk, IfErr, IfSome};
-ghost use Rattle.term_core.specs.Size.{height};
-ghost use Rattle.term_changes.specs.Entries.{subterm_in};
+ghost use Rattle.std.specs.Prelude.{◌≡◌, length, option_map, IfOk, IfErr};
 ghost use Rattle.term_changes.specs.Slots.{contents};
+ghost use Rattle.strategy_run.specs.Applies.{applied_in};
 ghost use Rattle.session_history.specs.Applying.{world_in};
 ghost use Rattle.session_history.specs.History.{AreFormed};
 ghost use Rattle.session_history.specs.Modules.{IsKept};
 ghost use Rattle.session_history.specs.Unfolded.{unfolded};
 ghost use Rattle.session_core.specs.Previewing.{AnswersPreview, IsNext};
-ghost use Rattle.session_core.specs.inside.Foreseen.{Foresees, ForeseesRefusal};
+ghost use Rattle.session_core.specs.inside.Foreseen.{IsLowIn, Foresees, IsRefusedRun};
 
-use crate::applying::replaced;
+use crate::applying::{part_in_slot, replaced};
 use crate::resolving::resolve_at;
 use change_log::Plan;
 use prim_core::{Meaning, Primitives};
@@ -21,8 +20,8 @@ use strategy_check::Program;
 use strategy_run::plan_entries;
 use strategy_syntax::Resolved;
 use term_changes::{Kept, Replaced};
-use term_core::{Label, MAX_HEIGHT, Term};
-use term_paths::{Path, at};
+use term_core::{Label, Term};
+use term_paths::Path;
 
 /// What applying a strategy would replace, and in how many steps.
 #[derive(Drop)]
@@ -122,7 +121,7 @@ pub(crate) fn preview_strategy<M: Meaning>(
 }
 
 // The same in the tree of a slot.
-fn preview_in_slot<M: Meaning>(
+pub(crate) fn preview_in_slot<M: Meaning>(
     timeline: &Timeline,
     program: &Program,
     primitives: &Primitives<M>,
@@ -131,18 +130,13 @@ fn preview_in_slot<M: Meaning>(
     strategy: &Resolved,
     budget: u32,
 ) -> Result<Preview, Refusal>
-    requires low { IfSome (subterm_in timeline.now.store.trees slot path.now)
-        (λ u. length path.now + height u ≤ MAX_HEIGHT) }
+    requires low { IsLowIn timeline.now.store slot path.now }
     ensures ok { IfOk result (λ preview. Foresees (world_in M.meaning program.now primitives.now)
-        timeline.now.store slot path.now strategy.now budget preview) }
-    ensures refused { IfErr result (λ refusal. (refusal ≡ Refusal.Memory)
-        ⊎ ForeseesRefusal (world_in M.meaning program.now primitives.now)
-        timeline.now.store slot path.now strategy.now budget refusal) }
+        timeline.now.store slot path.now strategy.now budget preview.plan preview.steps) }
+    ensures refused { IfErr result (IsRefusedRun (applied_in (world_in M.meaning program.now primitives.now)
+        timeline.now.store.trees slot path.now strategy.now budget)) }
 {
-    let Some(tree) = timeline.store().tree(slot) else {
-        return Err(Refusal::Fails);
-    };
-    let Some(part) = at(tree, path) else {
+    let Some(part) = part_in_slot(timeline, slot, path) else {
         return Err(Refusal::Fails);
     };
     let planned = plan_entries(

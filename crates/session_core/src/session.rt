@@ -1,6 +1,6 @@
 //! Sessions: contents that change in steps, which can be undone and redone.
 
-ghost use Rattle.std.specs.Prelude.{◌≡◌, ◌≤◌, ◌++◌, vec_capacity, OnOk, OnErr, IfOk, IfErr, length, option_copied};
+ghost use Rattle.std.specs.Prelude.{◌≡◌, ◌≤◌, ◌++◌, vec_capacity, OnOk, OnErr, IfOk, length, option_copied};
 ghost use Rattle.std.specs.FinMap as finmap;
 ghost use Rattle.session_history.specs.History.{empty_history, HasSoundContents};
 ghost use Rattle.session_history.specs.Acts.{Performs, PerformsSurely, set_tree, copy_tree, drop_tree, put, annotate, set_module, unload, apply, undo, redo, begin, commit, abandon};
@@ -37,15 +37,12 @@ impl<M: Meaning> Model for Session<M> {
 
     ghost coded = { history_code };
 
-    ghost use Rattle.term_changes.specs.Slots.{contents};
-    ghost use Rattle.session_history.specs.History.{HasSoundContents};
-    ghost use Rattle.session_history.specs.Modules.{IsKept};
     ghost use Rattle.session_history.specs.Unfolded.{unfolded};
+    ghost use Rattle.session_core.specs.inside.Held.{IsSession};
 
     ghost view = { λ a. unfolded a.primitives a.timeline };
 
-    ghost invariant = { λ a. HasSoundContents (unfolded a.primitives a.timeline)
-        × IsKept a.primitives (contents a.timeline.store).modules a.kept };
+    ghost invariant = { λ a. IsSession a.primitives a.timeline a.kept };
 }
 
 impl<M: Meaning> Session<M> {

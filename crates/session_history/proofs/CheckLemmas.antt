@@ -1,6 +1,6 @@
 -- What parsing and checking the modules of a store means for the history.
-use Rattle.std.proofs.Common.{◌≡◌, ◌<◌, ◌≤◌, ◌⊎◌, ℕ, Bool, true, false, cond, List, [], ◌∷◌, ◌++◌, ◌+◌, suc, length, drop, drop-cons, add-one, get_or, map, Option, Some, None, IsSome, IfSome, Result, Ok, Err, IfErr, ok_or, option_and_then, inl, inr, refl, sym, ap, subst, ◌∙◌, arith, append_assoc}
-use Rattle.std.specs.Prelude.{IsSomeAnd, IfOk, option_map}
+use Rattle.std.proofs.Common.{◌≡◌, ◌<◌, ◌≤◌, ◌⊎◌, ℕ, Bool, true, false, cond, List, [], ◌∷◌, ◌++◌, ◌+◌, suc, length, drop, drop-cons, add-one, get_or, map, Option, Some, None, IsSome, IfSome, Result, Ok, Err, ok_or, option_and_then, inl, inr, refl, sym, ap, subst, ◌∙◌, arith, append_assoc}
+use Rattle.std.specs.Prelude.{IsSomeAnd, IsErrAnd, option_map}
 use Rattle.std.proofs.lemmas.List.{append-nil}
 use Rattle.std.proofs.lemmas.Bool.{cases_lt}
 use Rattle.std.specs.Ordering.{is_eq, nat_cmp, eq_by_cmp}
@@ -14,20 +14,22 @@ use Rattle.strategy_check.specs.Faults.{Primitives}
 use Rattle.strategy_check.specs.Programs.{Program}
 use Rattle.strategy_check.specs.Checking.{Checked}
 use Rattle.term_changes.specs.Contents.{Contents, with_module, without_module}
-use Rattle.term_changes.specs.Slots.{Store, HaveDistinctLabels, contents, content, slot_of}
-use Rattle.term_changes.specs.Entries.{Entry, slot_text, put, before}
+use Rattle.term_changes.specs.Slots.{Store, contents, content, slot_of}
+use Rattle.term_changes.specs.Entries.{slot_text, put, before}
 use Rattle.term_changes.proofs.ContentsLemmas.{module_of_name, module_put, module_taken}
 use Rattle.prim_core.specs.Signature.{Signature}
-use Rattle.session_history.specs.Unfolded.{Logged, unfolded}
+use Rattle.session_history.specs.Unfolded.{Logged, unfolded, HasText}
+use Rattle.session_history.specs.Moving.{KeepsHistory, Puts, Commits, PerformsBy}
+use Rattle.session_history.specs.declared.kept.KeptModules.{KeptModules}
 use Rattle.session_history.specs.declared.timeline.OpenGroup.{OpenGroup}
 use Rattle.session_history.specs.History.{HistoryGroup, History, changed}
-use Rattle.session_history.specs.Acts.{set_module, unload, commit, ActResult, Given, Leaves, ChangesModules, ComesTo, committed, module_text_of}
-use Rattle.session_history.specs.Modules.{Texts, ReadsAsModule, SameBut, AreReadable, AreRead, AreModules, GivesProgram, AreCurrent, Checks, IsUnread, AreRefused}
+use Rattle.session_history.specs.Acts.{set_module, unload, commit, ActResult, Passing, Given, Leaves, ChangesModules, ComesTo, committed}
+use Rattle.session_history.specs.Modules.{Texts, ReadsAsModule, AreReadable, AreRead, AreModules, GivesProgram, AreCurrent, IsCurrent, Checks, IsReadIn, IsUnread, AreRefused}
 use Rattle.session_history.specs.declared.refusal.Refusal.{Refusal}
 use Rattle.session_history.specs.declared.refusal.Refusal.TheVariants.{Memory, NoModule, NoGroup}
 use Rattle.session_history.proofs.MapLemmas.{R, same_key}
-use Rattle.session_history.proofs.KeepingLemmas.{put_same_but, taken_same_but}
-use Rattle.session_history.proofs.StepLemmas.{passed, stopped}
+use Rattle.session_history.proofs.StepLemmas.{refuses_by}
+use Rattle.session_history.proofs.ActLemmas.{keeps_itself, keeps_further, wants_in, accepted, refused_by, closed_group, some_group}
 use Rattle.session_history.proofs.SoundLemmas.{readable_without, now_changed}
 
 -- a text that is a module isn't refused
@@ -84,127 +86,158 @@ get_new texts name text = get-insert nat_list_cmp_total texts name text name ∙
     itself : (q : List ℕ) → eq_by_cmp (slice_cmp nat_cmp) q q ≡ true
     itself q = ap is_eq (tied_itself nat_list_cmp_total q)
 
--- ---- a store's modules
+-- ---- a text in the slot of a name
 
-named_text : (s : Store) (name : List ℕ) (o : Option ℕ) → HaveDistinctLabels s.modules → o ≡ slot_of s.modules name → finmap.get (contents s).modules name ≡ option_and_then (content s.modules) o
-named_text s name o apart here = module_of_name s name apart ∙ ap (option_and_then (content s.modules)) (sym here)
+-- the contents with a text that was put there
+pub text_put : (t m : Logged) (name text : List ℕ) (i : ℕ) → slot_of m.store.modules name ≡ Some i → KeepsHistory t m → contents (put (slot_text i (Some text)) m.store) ≡ with_module (contents t.store) name text
+text_put t m name text i here kept = module_put m.store name i text here ∙ (λ j. with_module ((kept.same [] j).now) name text)
 
-not_some : (o : Option (List ℕ)) → IsSome o → o ≡ None → ⊥
-not_some None h e = absurd (cc)
-not_some (Some x) h e = absurd (cc)
+module _ (s : Store) (name : List ℕ) (i : ℕ) (text : List ℕ) (is : HasText s name i text) where
+  pub text_held : finmap.get (contents s).modules name ≡ Some text
+  text_held = module_of_name s name is.apart ∙ ap (option_and_then (content s.modules)) is.named ∙ is.held
 
-module _ (s : Store) (name : List ℕ) (apart : HaveDistinctLabels s.modules) where
-  -- a name with a module has a slot with content
-  pub unnamed : (o : Option ℕ) → IsSome (finmap.get (contents s).modules name) → o ≡ slot_of s.modules name → option_and_then (content s.modules) o ≡ None → ⊥
-  unnamed o there here none = not_some (finmap.get (contents s).modules name) there (named_text s name o apart here ∙ none)
+-- the module that such a text is read as, or why it is none
+module _ (texts : Texts) (name text : List ℕ) (is : finmap.get texts name ≡ Some text) where
+  pub read_there : (m : Module) (named : List ℕ × Module) → ReadsAsModule text (Ok m) → named ≡ (name, m) → IsReadIn texts named
+  read_there m named reads e = subst (IsReadIn texts) (sym e) (rw is reads)
 
-  pub text_there : (i : ℕ) (text : List ℕ) → Some i ≡ slot_of s.modules name → content s.modules i ≡ Some text → finmap.get (contents s).modules name ≡ Some text
-  text_there i text here is = named_text s name (Some i) apart here ∙ is
+  pub unread_there : (refusal : Refusal) → (refusal ≡ Memory) ⊎ ReadsAsModule text (Err refusal) → (refusal ≡ Memory) ⊎ IsUnread texts refusal
+  unread_there refusal (inl memory) = inl memory
+  unread_there refusal (inr unread) = inr (name, text, is, unread)
 
-  pub text_missing : (o : Option ℕ) → o ≡ slot_of s.modules name → option_and_then (content s.modules) o ≡ None → finmap.get (contents s).modules name ≡ None
-  text_missing o here none = named_text s name o apart here ∙ none
+-- ---- what the checker makes of changed modules
 
-module _ (texts : Texts) (name text : List ℕ) (is : finmap.get texts name ≡ Some text) (r : Result Module Refusal) where
-  pub named_ok : IfOk r (λ m. ReadsAsModule text (Ok m)) → IfOk r (λ m. IsSomeAnd (finmap.get texts name) (λ text. ReadsAsModule text (Ok m)))
-  named_ok ok = by r ok
+module _ (ps : List Signature) (t n : Logged) (c : Contents) where
+  abbrev h : History
+  h = unfolded ps t
+
+  abbrev g : History
+  g = unfolded ps n
+
+  becomes_found : (k : KeptModules) → t.group ≡ None → IsCurrent ps c.modules k → g ≡ changed c h → ChangesModules h.group c h (Ok g)
+  becomes_found k closed current is =
+      let given = current_gives ps c.modules k.checked current in
+      subst (λ (o : Option HistoryGroup). ChangesModules o c h (Ok g)) (sym (closed_group t ps closed)) (Ok given.0, given.1, ap Ok is)
+
+  becomes_refused : (refusal : Refusal) → t.group ≡ None → Checks ps c.modules (Err refusal) → ChangesModules h.group c h (Err refusal)
+  becomes_refused refusal closed checks = subst (λ (o : Option HistoryGroup). ChangesModules o c h (Err refusal)) (sym (closed_group t ps closed)) (Err refusal, checks, refl)
+
+  becomes_inside : IsSome t.group → g ≡ changed c h → ChangesModules h.group c h (Ok g)
+  becomes_inside inside is = by t.group inside (ap Ok is)
     where
-      by : (r : Result Module Refusal) → IfOk r (λ m. ReadsAsModule text (Ok m)) → IfOk r (λ m. IsSomeAnd (finmap.get texts name) (λ text. ReadsAsModule text (Ok m)))
-      by (Ok m) ok = subst (λ (o : Option (List ℕ)). IsSomeAnd o (λ text. ReadsAsModule text (Ok m))) (sym is) ok
-      by (Err e) ok = tt
+      by : (o : Option OpenGroup) → IsSome o → ◌≡◌ {A = ActResult} (Ok g) (Ok (changed c h)) → ChangesModules (option_map (λ g. record { begun = contents (before t.current t.store); changed = g.changed }) o) c h (Ok g)
+      by None inside is = absurd (cc)
+      by (Some group) inside is = is
 
-  pub named_refused : IfErr r (λ refusal. (refusal ≡ Memory) ⊎ ReadsAsModule text (Err refusal)) → IfErr r (λ refusal. (refusal ≡ Memory) ⊎ IsUnread texts refusal)
-  named_refused refused = by r refused
-    where
-      by : (r : Result Module Refusal) → IfErr r (λ refusal. (refusal ≡ Memory) ⊎ ReadsAsModule text (Err refusal)) → IfErr r (λ refusal. (refusal ≡ Memory) ⊎ IsUnread texts refusal)
-      by (Ok m) refused = tt
-      by (Err e) (inl memory) = inl memory
-      by (Err e) (inr unread) = inr (name, text, is, unread)
+-- ---- acts on the modules
 
--- ---- the outcome, given a text and what the checker found
-
-module _ (c : Contents) (h : History) where
-  becomes_found : (g : History) (p : Program) → h.group ≡ None → GivesProgram h.primitives c.modules p → g ≡ changed c h → ChangesModules h.group c h (Ok g)
-  becomes_found g p outside gives is = subst (λ (o : Option HistoryGroup). ChangesModules o c h (Ok g)) (sym outside) (Ok p, gives, ap Ok is)
-
-  becomes_refused : (refusal : Refusal) → h.group ≡ None → Checks h.primitives c.modules (Err refusal) → ChangesModules h.group c h (Err refusal)
-  becomes_refused refusal outside checks = subst (λ (o : Option HistoryGroup). ChangesModules o c h (Err refusal)) (sym outside) (Err refusal, checks, refl)
-
-  becomes_inside : (g : History) (group : HistoryGroup) → h.group ≡ Some group → g ≡ changed c h → ChangesModules h.group c h (Ok g)
-  becomes_inside g group inside is = subst (λ (o : Option HistoryGroup). ChangesModules o c h (Ok g)) (sym inside) (ap Ok is)
-
-module _ (h : History) (name text : List ℕ) where
+module _ (ps : List Signature) (t : Logged) (name text : List ℕ) where
   abbrev with_text : Contents
-  with_text = with_module h.now name text
-
-  -- a text that is no module changes nothing
-  set_unread : (refusal : Refusal) → ReadsAsModule text (Err refusal) → ComesTo (set_module name text) h (Err refusal)
-  set_unread refusal unread = (Err refusal, unread, refl)
-
-  pub unread_refused : (refusal : Refusal) → (refusal ≡ Memory) ⊎ ReadsAsModule text (Err refusal) → (refusal ≡ Memory) ⊎ ComesTo (set_module name text) h (Err refusal)
-  unread_refused refusal (inl memory) = inl memory
-  unread_refused refusal (inr unread) = inr (set_unread refusal unread)
-
-  set_read : (m : Module) (outcome : ActResult) → ReadsAsModule text (Ok m) → ChangesModules h.group with_text h outcome → ComesTo (set_module name text) h outcome
-  set_read m outcome reads becomes = (Ok m, reads, becomes)
+  with_text = with_module (contents t.store) name text
 
   -- the module of the text, if all texts are modules
   given : (ms : Modules) → AreModules with_text.modules ms → (m : Module) × ReadsAsModule text (Ok m)
-  given ms are = module_of with_text.modules ms name text are (get_new h.now.modules name text)
+  given ms are = module_of with_text.modules ms name text are (get_new (contents t.store).modules name text)
 
-  pub set_found : (g : History) (p : Program) → h.group ≡ None → GivesProgram h.primitives with_text.modules p → g ≡ changed with_text h → ComesTo (set_module name text) h (Ok g)
-  set_found g p outside gives is = let m = given gives.modules gives.are in set_read m.0 (Ok g) m.1 (becomes_found with_text h g p outside gives is)
+  -- a text that is no module, at a `?`
+  pub set_unread : {X : Type 0} (r : Result X Refusal) (refusal : Refusal) → IsErrAnd r (λ e. e ≡ refusal) → (refusal ≡ Memory) ⊎ ReadsAsModule text (Err refusal)
+      → PerformsBy ps (set_module name text) t t r
+  set_unread r refusal is (inl memory) = record { is = refuses_by (set_module name text) (unfolded ps t) (unfolded ps t) r refusal is (inl memory) refl }
+  set_unread r refusal is (inr unread) = record { is = refuses_by (set_module name text) (unfolded ps t) (unfolded ps t) r refusal is (inr (Err refusal, unread, refl)) refl }
 
-  pub set_refused : (refusal : Refusal) → h.group ≡ None → AreReadable h.now.modules → AreRefused h.primitives with_text.modules refusal → (refusal ≡ Memory) ⊎ ComesTo (set_module name text) h (Err refusal)
-  set_refused refusal outside readable (inl (inl memory)) = inl memory
-  set_refused refusal outside readable (inl (inr unread)) = inr (set_unread refusal (unread_new h.now.modules name text refusal readable unread))
-  set_refused refusal outside readable (inr (fault, finds, is)) =
-      let m = given finds.modules finds.are in
-      inr (set_read m.0 (Err refusal) m.1 (becomes_refused with_text h refusal outside (fault, finds, is)))
+  module _ (m n : Logged) (i : ℕ) (here : slot_of m.store.modules name ≡ Some i) (kept : KeepsHistory t m) where
+    now_is : contents (put (slot_text i (Some text)) m.store) ≡ with_text
+    now_is = text_put t m name text i here kept
 
-  pub set_inside : (g : History) (group : HistoryGroup) (m : Module) → h.group ≡ Some group → ReadsAsModule text (Ok m) → g ≡ changed with_text h → ComesTo (set_module name text) h (Ok g)
-  set_inside g group m inside reads is = set_read m (Ok g) reads (becomes_inside with_text h g group inside is)
+    told : Puts (slot_text i (Some text)) m n → unfolded ps n ≡ changed with_text (unfolded ps t)
+    told change = change.made ps ∙ (λ j. changed (now_is j) (kept.same ps j))
 
-  module _ (there : finmap.get h.now.modules name ≡ Some text) where
-    unloads_by : (outcome : ActResult) → ChangesModules h.group (without_module h.now name) h outcome → ComesTo (unload name) h outcome
-    unloads_by outcome becomes =
-        passed (module_text_of h.now name) (λ text. ChangesModules h.group (without_module h.now name) h) text outcome (ap (λ (o : Option (List ℕ)). ok_or o NoModule) there) becomes
+    pub now_with : Puts (slot_text i (Some text)) m n → contents n.store ≡ with_text
+    now_with change = ap (λ (h : History). h.now) (told change) ∙ now_changed with_text (unfolded ps t)
 
-    pub unload_found : (g : History) (p : Program) → h.group ≡ None → GivesProgram h.primitives (without_module h.now name).modules p → g ≡ changed (without_module h.now name) h → ComesTo (unload name) h (Ok g)
-    unload_found g p outside gives is = unloads_by (Ok g) (becomes_found (without_module h.now name) h g p outside gives is)
+    pub set_outside : (k : KeptModules) → t.group ≡ None → IsCurrent ps (contents n.store).modules k → Puts (slot_text i (Some text)) m n
+        → PerformsBy {X = Unit {0}} ps (set_module name text) t n (Ok tt)
+    set_outside k closed current change =
+        let is_current : IsCurrent ps with_text.modules k = subst (λ (c : Contents). IsCurrent ps c.modules k) (now_with change) current in
+        let gives = current_gives ps with_text.modules k.checked is_current in
+        let m = given gives.1.modules gives.1.are in
+        accepted (set_module name text) t n ps tt (Ok m.0, m.1, becomes_found ps t n with_text k closed is_current (told change))
 
-    pub unload_refused : (refusal : Refusal) → h.group ≡ None → AreReadable h.now.modules → AreRefused h.primitives (without_module h.now name).modules refusal → (refusal ≡ Memory) ⊎ ComesTo (unload name) h (Err refusal)
-    unload_refused refusal outside readable (inl (inl memory)) = inl memory
-    unload_refused refusal outside readable (inl (inr unread)) =
-        absurd (none_unread (finmap.remove h.now.modules name) refusal (readable_without h.now.modules name readable) unread)
-    unload_refused refusal outside readable (inr checks) = inr (unloads_by (Err refusal) (becomes_refused (without_module h.now name) h refusal outside checks))
+    pub set_refused : (refusal : Refusal) → t.group ≡ None → AreReadable (contents t.store).modules → AreRefused ps (contents (put (slot_text i (Some text)) m.store)).modules refusal → KeepsHistory m n
+        → PerformsBy {X = Unit {0}} ps (set_module name text) t n (Err refusal)
+    set_refused refusal closed readable refused same =
+        refused_by (set_module name text) t n ps refusal (by (subst (λ (c : Contents). AreRefused ps c.modules refusal) now_is refused)) (keeps_further t m n kept same)
+      where
+        by : AreRefused ps with_text.modules refusal → (refusal ≡ Memory) ⊎ ComesTo (set_module name text) (unfolded ps t) (Err refusal)
+        by (inl (inl memory)) = inl memory
+        by (inl (inr unread)) = inr (Err refusal, unread_new (contents t.store).modules name text refusal readable unread, refl)
+        by (inr (fault, finds, is)) =
+            let m = given finds.modules finds.are in
+            inr (Ok m.0, m.1, becomes_refused ps t n with_text refusal closed (fault, finds, is))
 
-    pub unload_inside : (g : History) (group : HistoryGroup) → h.group ≡ Some group → g ≡ changed (without_module h.now name) h → ComesTo (unload name) h (Ok g)
-    unload_inside g group inside is = unloads_by (Ok g) (becomes_inside (without_module h.now name) h g group inside is)
+    pub set_inside : (read : Module) → IsSome t.group → ReadsAsModule text (Ok read) → Puts (slot_text i (Some text)) m n
+        → PerformsBy {X = Unit {0}} ps (set_module name text) t n (Ok tt)
+    set_inside read inside reads change = accepted (set_module name text) t n ps tt (Ok read, reads, becomes_inside ps t n with_text inside (told change))
 
-pub unload_none : (h : History) (name : List ℕ) → finmap.get h.now.modules name ≡ None → ComesTo (unload name) h (Err NoModule)
-unload_none h name none =
-    stopped (module_text_of h.now name) (λ text. ChangesModules h.group (without_module h.now name) h) NoModule (ap (λ (o : Option (List ℕ)). ok_or o NoModule) none)
+module _ (ps : List Signature) (t : Logged) (name : List ℕ) where
+  pub unload_none : {X : Type 0} → finmap.get (contents t.store).modules name ≡ None → PerformsBy {X = X} ps (unload name) t t (Err NoModule)
+  unload_none none = refused_by (unload name) t t ps NoModule (inr (rw none refl)) (keeps_itself t)
 
-module _ (h : History) where
-  abbrev Closes : HistoryGroup → ActResult → Type 0
-  Closes g = Given (Checks h.primitives h.now.modules) (λ p. Leaves (committed g h))
+  module _ (n : Logged) (i : ℕ) (text : List ℕ) (there : HasText t.store name i text) where
+    abbrev without_text : Contents
+    without_text = without_module (contents t.store) name
 
-  commits_by : (group : HistoryGroup) (outcome : ActResult) → h.group ≡ Some group → Closes group outcome → ComesTo commit h outcome
-  commits_by group outcome inside closes = passed (ok_or h.group NoGroup) Closes group outcome (ap (λ (o : Option HistoryGroup). ok_or o NoGroup) inside) closes
+    gone : contents (put (slot_text i None) t.store) ≡ without_text
+    gone = module_taken t.store name i there.apart there.named
 
-  pub commit_found : (group : HistoryGroup) (g : History) (kept : Option Checked) → h.group ≡ Some group → IsSomeAnd kept (AreCurrent h.primitives h.now.modules) → IsSomeAnd h.group (λ k. g ≡ committed k h) → ComesTo commit h (Ok g)
-  commit_found group g None there is closes = absurd is
-  commit_found group g (Some c) there is closes =
-      let left : g ≡ committed group h = subst (λ (o : Option HistoryGroup). IsSomeAnd o (λ k. g ≡ committed k h)) there closes in
-      commits_by group (Ok g) there (Ok c.program, given_by h.primitives h.now.modules c is, ap Ok left)
+    without : Puts (slot_text i None) t n → unfolded ps n ≡ changed without_text (unfolded ps t)
+    without change = change.made ps ∙ ap (λ c. changed c (unfolded ps t)) gone
 
-  pub commit_refused : (group : HistoryGroup) (refusal : Refusal) → h.group ≡ Some group → AreReadable h.now.modules → AreRefused h.primitives h.now.modules refusal → (refusal ≡ Memory) ⊎ ComesTo commit h (Err refusal)
-  commit_refused group refusal inside readable (inl (inl memory)) = inl memory
-  commit_refused group refusal inside readable (inl (inr unread)) = absurd (none_unread h.now.modules refusal readable unread)
-  commit_refused group refusal inside readable (inr checks) = inr (commits_by group (Err refusal) inside (Err refusal, checks, refl))
+    unloads : (outcome : ActResult) → ChangesModules (unfolded ps t).group without_text (unfolded ps t) outcome → ComesTo (unload name) (unfolded ps t) outcome
+    unloads outcome becomes = rw (text_held t.store name i text there) becomes
 
-  pub commit_outside : h.group ≡ None → ComesTo commit h (Err NoGroup)
-  commit_outside none = stopped (ok_or h.group NoGroup) Closes NoGroup (ap (λ (o : Option HistoryGroup). ok_or o NoGroup) none)
+    pub unload_outside : (k : KeptModules) → t.group ≡ None → IsCurrent ps (contents n.store).modules k → Puts (slot_text i None) t n
+        → PerformsBy {X = Unit {0}} ps (unload name) t n (Ok tt)
+    unload_outside k closed current change =
+        let now : contents n.store ≡ without_text = ap (λ (h : History). h.now) (without change) ∙ now_changed without_text (unfolded ps t) in
+        accepted (unload name) t n ps tt
+        (unloads (Ok (unfolded ps n)) (becomes_found ps t n without_text k closed (subst (λ (c : Contents). IsCurrent ps c.modules k) now current) (without change)))
+
+    pub unload_refused : (refusal : Refusal) → t.group ≡ None → AreReadable (contents t.store).modules → AreRefused ps (contents (put (slot_text i None) t.store)).modules refusal → KeepsHistory t n
+        → PerformsBy {X = Unit {0}} ps (unload name) t n (Err refusal)
+    unload_refused refusal closed readable refused same =
+        refused_by (unload name) t n ps refusal (by (subst (λ (c : Contents). AreRefused ps c.modules refusal) gone refused)) same
+      where
+        by : AreRefused ps without_text.modules refusal → (refusal ≡ Memory) ⊎ ComesTo (unload name) (unfolded ps t) (Err refusal)
+        by (inl (inl memory)) = inl memory
+        by (inl (inr unread)) = absurd (none_unread without_text.modules refusal (readable_without (contents t.store).modules name readable) unread)
+        by (inr checks) = inr (unloads (Err refusal) (becomes_refused ps t n without_text refusal closed checks))
+
+    pub unload_inside : IsSome t.group → Puts (slot_text i None) t n → PerformsBy {X = Unit {0}} ps (unload name) t n (Ok tt)
+    unload_inside inside change = accepted (unload name) t n ps tt (unloads (Ok (unfolded ps n)) (becomes_inside ps t n without_text inside (without change)))
+
+-- ---- the end of a group
+
+module _ (ps : List Signature) (t : Logged) where
+  pub commit_outside : {X : Type 0} → t.group ≡ None → PerformsBy {X = X} ps commit t t (Err NoGroup)
+  commit_outside closed = refused_by commit t t ps NoGroup (inr (rw closed refl)) (keeps_itself t)
+
+  pub commit_found : (n : Logged) (k : KeptModules) → IsCurrent ps (contents t.store).modules k → Commits t n → PerformsBy {X = Unit {0}} ps commit t n (Ok tt)
+  commit_found n k current commits = accepted commit t n ps tt (by (unfolded ps t).group (commits.made ps))
+    where
+      by : (o : Option HistoryGroup) → IsSomeAnd o (λ g. unfolded ps n ≡ committed g (unfolded ps t))
+          → Passing (ok_or o NoGroup) (λ g. Given (Checks ps (contents t.store).modules) (λ program. Leaves (committed g (unfolded ps t)))) (Ok (unfolded ps n))
+      by None left = absurd left
+      by (Some group) left = let given = current_gives ps (contents t.store).modules k.checked current in (Ok given.0, given.1, ap Ok left)
+
+  pub commit_refused : (refusal : Refusal) → IsSome t.group → AreReadable (contents t.store).modules → AreRefused ps (contents t.store).modules refusal
+      → PerformsBy {X = Unit {0}} ps commit t t (Err refusal)
+  commit_refused refusal inside readable refused = refused_by commit t t ps refusal (by refused) (keeps_itself t)
+    where
+      by : AreRefused ps (contents t.store).modules refusal → (refusal ≡ Memory) ⊎ ComesTo commit (unfolded ps t) (Err refusal)
+      by (inl (inl memory)) = inl memory
+      by (inl (inr unread)) = absurd (none_unread (contents t.store).modules refusal readable unread)
+      by (inr checks) = inr (rw (some_group t inside).1 (Err refusal, checks, refl))
 
 -- ---- the modules of names, in order
 
@@ -226,45 +259,5 @@ read_more texts all next ms name m same reads before rest h = subst (AreRead tex
 pub read_all : (texts : Texts) (all : List (List ℕ)) (ms : Modules) → ((rest : Modules) → AreRead texts [] rest → AreRead texts all (ms ++ rest)) → AreRead texts all ms
 read_all texts all ms before = subst (AreRead texts all) (append-nil ms) (before [] tt)
 
--- ---- an open group
-
-pub group_of : (t : Logged) (ps : List Signature) → IsSome t.group → (g : HistoryGroup) × ((unfolded ps t).group ≡ Some g)
-group_of t ps h = by t.group h
-  where
-    by : (o : Option OpenGroup) → IsSome o → (g : HistoryGroup) × (option_map {U = HistoryGroup} (λ g. record { begun = contents (before t.current t.store); changed = g.changed }) o ≡ Some g)
-    by None h = absurd (cc)
-    by (Some g) h = (record { begun = contents (before t.current t.store); changed = g.changed }, refl)
-
--- ---- a slot's text
-
--- the contents with a text that was put in the slot of its name
-pub text_put : (t m : Logged) (name copy text : List ℕ) (i : ℕ) (e : Entry) (ps : List Signature) → slot_of m.store.modules name ≡ Some i → e ≡ slot_text i (Some copy) → copy ≡ text → unfolded ps m ≡ unfolded ps t
-    → contents (put e m.store) ≡ with_module (contents t.store) name text
-text_put t m name copy text i e ps here is copied same =
-    ap (λ e. contents (put e m.store)) is ∙ module_put m.store name i copy here ∙ (λ j. with_module (now j) name (copied j))
-  where
-    now : contents m.store ≡ contents t.store
-    now = ap (λ h. h.now) same
-
-pub text_told : (t m n : Logged) (name copy text : List ℕ) (i : ℕ) (e : Entry) (ps : List Signature) → slot_of m.store.modules name ≡ Some i → e ≡ slot_text i (Some copy) → copy ≡ text → unfolded ps m ≡ unfolded ps t
-    → unfolded ps n ≡ changed (contents (put e m.store)) (unfolded ps m) → unfolded ps n ≡ changed (with_module (contents t.store) name text) (unfolded ps t)
-text_told t m n name copy text i e ps here is copied same done =
-    let there = text_put t m name copy text i e ps here is copied same in
-    done ∙ (λ j. changed (there j) (same j))
-
--- the contents without a text that was taken out of the slot of its name
-pub text_taken : (t : Logged) (name : List ℕ) (i : ℕ) (e : Entry) → HaveDistinctLabels t.store.modules → slot_of t.store.modules name ≡ Some i → e ≡ slot_text i None → contents (put e t.store) ≡ without_module (contents t.store) name
-text_taken t name i e apart here is = ap (λ e. contents (put e t.store)) is ∙ module_taken t.store name i apart here
-
--- ---- the text of one name changes
-
--- the contents after a change
-pub now_then : (n : Logged) (c : Contents) (h : History) (ps : List Signature) → unfolded ps n ≡ changed c h → contents n.store ≡ c
-now_then n c h ps done = ap (λ h. h.now) done ∙ now_changed c h
-
-pub set_same_but : (before after : Contents) (c : Contents) (name text : List ℕ) → before ≡ c → after ≡ with_module c name text → SameBut name before.modules after.modules
-set_same_but before after c name text old new =
-    subst (λ (x : Contents). SameBut name x.modules after.modules) (sym old) (subst (λ (x : Contents). SameBut name c.modules x.modules) (sym new) (put_same_but c.modules name text))
-
-pub unload_same_but : (before after : Contents) (name : List ℕ) → after ≡ without_module before name → SameBut name before.modules after.modules
-unload_same_but before after name new = subst (λ (x : Contents). SameBut name before.modules x.modules) (sym new) (taken_same_but before.modules name)
+-- what makes the answers to acts on the modules out of what the calls in them say
+pub ruleset module_acts = (keeps_itself, wants_in, read_there, unread_there, set_unread, set_outside, commit_found)

@@ -1,5 +1,5 @@
 -- One step back and one step forward are inverse, and so are any number of them.
-use Rattle.std.proofs.Common.{◌≡◌, ◌<◌, ℕ, zero, suc, List, [], ◌∷◌, ◌++◌, length, arith, true, cond, is_none, Some, None, Ok, Option, option_and_then, ok_or, refl, sym, ap, subst, ◌∙◌}
+use Rattle.std.proofs.Common.{◌≡◌, ◌<◌, ℕ, zero, suc, List, [], ◌∷◌, ◌++◌, length, arith, true, cond, is_none, Some, None, Ok, Err, Option, option_and_then, ok_or, refl, sym, ap, subst, ◌∙◌}
 use Rattle.std.specs.Option.{option_map_or}
 use Rattle.term_changes.specs.Contents.{Contents}
 use Rattle.session_history.specs.Modules.{Checks}
@@ -8,7 +8,7 @@ use Rattle.session_history.specs.Acts.{ActResult, Passing, Holding, Given, Leave
 use Rattle.session_history.specs.Laws.{ChangeIsUndone, GroupIsUndone, RedoTakesUndoBack, UndoTakesRedoBack}
 use Rattle.session_history.specs.declared.refusal.Refusal.{Refusal}
 use Rattle.session_history.specs.declared.refusal.Refusal.TheVariants.{NoUndo, NoRedo, Group, NoGroup}
-use Rattle.session_history.proofs.StepLemmas.{same_Ok, passing_Ok, holding_Ok, given_Ok, passed, held, ok_or-Ok, none_of}
+use Rattle.session_history.proofs.StepLemmas.{same_Ok, passing_Ok, holding_Ok, given_Ok, passed, stopped, held, ok_or-Ok, none_of}
 
 -- ---- the last of a list
 
@@ -135,6 +135,11 @@ module _ (h g : History) (o : Option History) (refusal : Refusal) where
   goes outside there =
       held (is_none h.group) Group (Passing (ok_or o refusal) Leaves) (Ok g) (ap is_none outside)
       (passed (ok_or o refusal) Leaves g (Ok g) (ap (λ (o : Option History). ok_or o refusal) there) refl)
+
+  pub goes_nowhere : h.group ≡ None → o ≡ None → Goes (Err refusal)
+  goes_nowhere outside none =
+      held (is_none h.group) Group (Passing (ok_or o refusal) Leaves) (Err refusal) (ap is_none outside)
+      (stopped (ok_or o refusal) Leaves refusal (ap (λ (o : Option History). ok_or o refusal) none))
 
   pub went : Goes (Ok g) → (h.group ≡ None) × (o ≡ Some g)
   went done =

@@ -17,7 +17,9 @@ use Rattle.strategy_syntax.specs.Modules.{Module}
 use Rattle.strategy_check.specs.Tables.{Modules}
 use Rattle.strategy_check.specs.Checking.{with_modules}
 use Rattle.term_changes.specs.Slots.{Slots, Store, HaveDistinctLabels, labels, with_content, slot_of, named, contents}
-use Rattle.term_changes.proofs.ContentsLemmas.{named_put, named_taken}
+use Rattle.term_changes.specs.Contents.{Contents}
+use Rattle.term_changes.specs.Entries.{Entry, slot_text, put as put_entry}
+use Rattle.term_changes.proofs.ContentsLemmas.{module_put, module_taken}
 use Rattle.session_history.specs.Modules.{Texts, ReadsAsModule, AreRead, AreModules, SameBut}
 use Rattle.session_history.specs.inside.Keeping.{with_module, AreGiven, AreNamed}
 use Rattle.session_history.proofs.MapLemmas.{R, later, earlier, lower, same_key, all_there}
@@ -34,7 +36,7 @@ get_changed texts name (Some text) q = get-insert nat_list_cmp_total texts name 
 -- ---- texts that are the same but for one
 
 pub changed_same_but : (texts : Texts) (name : List ℕ) (o : Option (List ℕ)) → SameBut name texts (changed_text texts name o)
-changed_same_but texts name o q other = sym (get_changed texts name o q ∙ ap (λ (b : Bool). cond b o (finmap.get texts q)) other)
+changed_same_but texts name o = record { same = λ q other. sym (get_changed texts name o q ∙ ap (λ (b : Bool). cond b o (finmap.get texts q)) other) }
 
 pub put_same_but : (texts : Texts) (name text : List ℕ) → SameBut name texts (finmap.insert texts name text)
 put_same_but texts name text = changed_same_but texts name (Some text)
@@ -43,18 +45,18 @@ pub taken_same_but : (texts : Texts) (name : List ℕ) → SameBut name texts (f
 taken_same_but texts name = changed_same_but texts name None
 
 pub same_but_sym : (name : List ℕ) (old now : Texts) → SameBut name old now → SameBut name now old
-same_but_sym name old now same q other = sym (same q other)
+same_but_sym name old now h = record { same = λ q other. sym (h.same q other) }
 
 pub differ_both : (name : List ℕ) (old mid now : Texts) → SameBut name old mid → SameBut name mid now → SameBut name old now
-differ_both name old mid now first second q other = first q other ∙ second q other
+differ_both name old mid now first second = record { same = λ q other. first.same q other ∙ second.same q other }
 
 -- Texts that are the same but for one name are the old ones with the text that this name has now.
 pub same_but : (name : List ℕ) (old now : Texts) → SameBut name old now → now ≡ changed_text old name (finmap.get now name)
-same_but name old now same = same_map nat_list_cmp_total exact_bytes now _ (λ q. by q (eq_by_cmp R q name) refl ∙ sym (get_changed old name (finmap.get now name) q))
+same_but name old now h = same_map nat_list_cmp_total exact_bytes now _ (λ q. by q (eq_by_cmp R q name) refl ∙ sym (get_changed old name (finmap.get now name) q))
   where
     by : (q : List ℕ) (b : Bool) → eq_by_cmp R q name ≡ b → finmap.get now q ≡ cond (eq_by_cmp R q name) (finmap.get now name) (finmap.get old q)
     by q true is = ap (finmap.get now) (same_key q name is) ∙ ap (λ (b : Bool). cond b (finmap.get now name) (finmap.get old q)) (sym is)
-    by q false is = sym (same q is) ∙ ap (λ (b : Bool). cond b (finmap.get now name) (finmap.get old q)) (sym is)
+    by q false is = sym (h.same q is) ∙ ap (λ (b : Bool). cond b (finmap.get now name) (finmap.get old q)) (sym is)
 
 -- ---- entries in the order of their names
 
@@ -253,11 +255,17 @@ slot_of-at (r ∷ ss) (suc i) s apart at =
     ∙ ap (option_map (λ i. i + 1)) (slot_of-at ss i s (IsDistinct-tail _ _ _ apart) at)
     ∙ ap Some {x = i + 1} {y = suc i} (omega arith)
 
-named_same_but : (ss : Slots (List ℕ)) (i : ℕ) (name : List ℕ) (text : Option (List ℕ)) → HaveDistinctLabels ss → slot_of ss name ≡ Some i → SameBut name (named (with_content ss i text)) (named ss)
-named_same_but ss i name None apart here = same_but_sym name (named ss) _ (subst (SameBut name (named ss)) (sym (named_taken ss i name apart here)) (taken_same_but (named ss) name))
-named_same_but ss i name (Some text) apart here = same_but_sym name (named ss) _ (subst (SameBut name (named ss)) (sym (named_put ss i text name here)) (put_same_but (named ss) name text))
+module _ (s : Store) (name : List ℕ) (i : ℕ) (apart : HaveDistinctLabels s.modules) (here : slot_of s.modules name ≡ Some i) where
+  -- the text in the slot of a name changes
+  pub text_same_but : (e : Entry) (text : Option (List ℕ)) → e ≡ slot_text i text → SameBut name (contents s).modules (contents (put_entry e s)).modules
+  text_same_but e text is = subst (λ (e : Entry). SameBut name (contents s).modules (contents (put_entry e s)).modules) (sym is) (by text)
+    where
+      by : (text : Option (List ℕ)) → SameBut name (contents s).modules (contents (put_entry (slot_text i text) s)).modules
+      by None = subst (λ (c : Contents). SameBut name (contents s).modules c.modules) (sym (module_taken s name i apart here)) (taken_same_but (contents s).modules name)
+      by (Some text) = subst (λ (c : Contents). SameBut name (contents s).modules c.modules) (sym (module_put s name i text here)) (put_same_but (contents s).modules name text)
 
 pub slot_same_but : (old now : Store) (i : ℕ) (name : List ℕ) (c text : Option (List ℕ)) → HaveDistinctLabels now.modules → slice_get now.modules i ≡ Some (name, c) → old.modules ≡ with_content now.modules i text
     → SameBut name (contents old).modules (contents now).modules
 slot_same_but old now i name c text apart at is =
-    subst (λ (ss : Slots (List ℕ)). SameBut name (named ss) (named now.modules)) (sym is) (named_same_but now.modules i name text apart (slot_of-at now.modules i (name, c) apart at))
+    same_but_sym name (contents now).modules (contents old).modules
+    (subst (λ (ss : Slots (List ℕ)). SameBut name (named now.modules) (named ss)) (sym is) (text_same_but now name i apart (slot_of-at now.modules i (name, c) apart at) (slot_text i text) text refl))

@@ -1,5 +1,5 @@
 -- What each call on a timeline leaves: a well-placed timeline, and the history that it represents.
-use Rattle.std.proofs.Common.{◌≡◌, ℕ, suc, ◌+◌, ◌-◌, ◌<◌, ◌≤◌, Bool, true, false, cond, List, [], ◌∷◌, ◌++◌, length, take, drop, set, slice_get, Option, Some, None, IsSome, Result, Ok, Err, IfOk, OnOk, OnErr, option_map, refl, sym, ap, subst, subst₂, ◌∙◌, arith}
+use Rattle.std.proofs.Common.{◌≡◌, ℕ, suc, ◌+◌, ◌-◌, ◌<◌, ◌≤◌, Bool, true, false, cond, List, [], ◌∷◌, ◌++◌, length, take, drop, set, slice_get, Option, Some, None, IsSome, Result, Ok, Err, IfOk, OnOk, OnErr, option_map, option_and_then, refl, sym, ap, subst, subst₂, ◌∙◌, arith}
 use Rattle.std.specs.Bool.{OnFalse}
 use Rattle.std.proofs.lemmas.List.{length-drop, length-set}
 use Rattle.std.specs.Option.{option_map_or}
@@ -7,14 +7,18 @@ use Rattle.std.specs.Prelude.{nat_eq, if◌then◌else◌, IsSomeAnd}
 use Rattle.std.specs.Cmp.Lexicographic.{pointwise}
 use Rattle.prim_core.specs.Signature.{Signature}
 use Rattle.term_changes.specs.Contents.{Contents}
-use Rattle.term_changes.specs.Slots.{Slots, Store, contents, slot_of}
+use Rattle.std.specs.FinMap as finmap
+use Rattle.term_core.specs.Tree.{Tree}
+use Rattle.term_changes.specs.Slots.{Slots, Store, HaveDistinctLabels, contents, content, slot_of}
 use Rattle.term_changes.specs.Compact.{IsCompact}
 use Rattle.term_changes.specs.Entries.{Entry, HasPlace, put, found, before, after, flipped_back, flipped_forward, Fits}
+use Rattle.term_changes.proofs.ContentsLemmas.{tree_of_name, module_of_name}
 use Rattle.term_changes.proofs.EntryLemmas.{before-append, pushed_fits, pushed_leads_back}
 use Rattle.change_log.proofs.FlipLemmas.{flipped_back_is_compact, flipped_forward_is_compact}
 use Rattle.session_history.specs.History.{HistoryGroup, History, stepped, changed, back_to, forward_to, step_back, step_forward}
 use Rattle.session_history.specs.Acts.{committed}
-use Rattle.session_history.specs.Unfolded.{Logged, past_of, later_of, FitBack, FitForward, AllCompact, unfolded, IsCurrent, IsPlaced}
+use Rattle.session_history.specs.Moving.{KeepsHistory, Changes, Puts, Commits}
+use Rattle.session_history.specs.Unfolded.{Logged, past_contents, later_contents, past_of, later_of, FitBack, FitForward, AllCompact, unfolded, IsCurrent, IsPlaced}
 use Rattle.session_history.specs.inside.Adding.{AddsEntries}
 use Rattle.session_history.specs.inside.Adding.{AddsStep}
 use Rattle.session_history.specs.declared.timeline.OpenGroup.{OpenGroup}
@@ -34,6 +38,24 @@ slot_within (s ∷ ss) name i e =
     next : (o : Option ℕ) → ((j : ℕ) → o ≡ Some j → j < length ss) → option_map (λ i. i + 1) o ≡ Some i → i < suc (length ss)
     next None rest e = absurd (cc)
     next (Some j) rest e = let is : j + 1 ≡ i = cc in omega (arith, is, rest j refl)
+
+-- what stands under a name, by its slot, if it has one
+module _ (s : Store) (name : List ℕ) where
+  module _ (apart : HaveDistinctLabels s.trees) where
+    pub no_tree : None ≡ slot_of s.trees name → None ≡ finmap.get (contents s).trees name
+    no_tree none = sym (tree_of_name s name apart ∙ ap (option_and_then (content s.trees)) (sym none))
+
+    pub tree_in : (i : ℕ) (x : Option Tree) → Some i ≡ slot_of s.trees name → x ≡ content s.trees i → x ≡ finmap.get (contents s).trees name
+    tree_in i x here is = is ∙ sym (tree_of_name s name apart ∙ ap (option_and_then (content s.trees)) (sym here))
+
+  module _ (apart : HaveDistinctLabels s.modules) where
+    pub no_text : None ≡ slot_of s.modules name → None ≡ finmap.get (contents s).modules name
+    no_text none = sym (module_of_name s name apart ∙ ap (option_and_then (content s.modules)) (sym none))
+
+    pub text_in : (i : ℕ) (x : Option (List ℕ)) → Some i ≡ slot_of s.modules name → x ≡ content s.modules i → x ≡ finmap.get (contents s).modules name
+    text_in i x here is = is ∙ sym (module_of_name s name apart ∙ ap (option_and_then (content s.modules)) (sym here))
+
+pub ruleset finding = (slot_within, no_tree, tree_in, no_text, text_in)
 
 module _ (grow : Store → Store) (is : IsGrowth grow) where
   placed_grown : (t : Logged) → IsPlaced t → IsPlaced (record t { store = grow t.store })
@@ -74,19 +96,19 @@ module _ {E : Type 0} where
 
   -- a slot that was found or made
   module _ (grow : Store → Store) (is : IsGrowth grow) (t : Logged) (s : Store) (r : Result ℕ E) (ok : OnOk r (s ≡ grow t.store)) (err : OnErr r (s ≡ t.store)) (h : IsPlaced t) where
-    pub slot-placed : IsPlaced (record t { store = s })
-    slot-placed = grown_or_same r s (grow t.store) t.store ok err (λ s. IsPlaced (record t { store = s })) (placed_grown grow is t h) h
+    pub slot_placed : IsPlaced (record t { store = s })
+    slot_placed = grown_or_same r s (grow t.store) t.store ok err (λ s. IsPlaced (record t { store = s })) (placed_grown grow is t h) h
 
-    pub slot-same : (ps : List Signature) → unfolded ps (record t { store = s }) ≡ unfolded ps t
-    slot-same ps = grown_or_same r s (grow t.store) t.store ok err (λ s. unfolded ps (record t { store = s }) ≡ unfolded ps t) (unfolded_grown grow is t ps h) refl
+    pub slot_same : KeepsHistory t (record t { store = s })
+    slot_same = record { same = λ ps. grown_or_same r s (grow t.store) t.store ok err (λ s. unfolded ps (record t { store = s }) ≡ unfolded ps t) (unfolded_grown grow is t ps h) refl }
 
 -- ---- counts
 
-pub past_count : (t : Logged) → IsPlaced t → length (past_of (take t.position t.logs) (before t.current t.store)) ≡ t.position
+pub past_count : (t : Logged) → IsPlaced t → length (past_contents t) ≡ t.position
 past_count t h = length-past_of (take t.position t.logs) (before t.current t.store) ∙ count_past t.position t.logs h.within
 
-pub later_count : (t : Logged) (n : ℕ) → n ≡ length t.logs → length (later_of (drop t.position t.logs) (before t.current t.store)) ≡ n - t.position
-later_count t n e = length-later_of (drop t.position t.logs) (before t.current t.store) ∙ omega (arith, e, length-drop t.position t.logs)
+pub later_count : (t : Logged) → length (later_contents t) ≡ length t.logs - t.position
+later_count t = length-later_of (drop t.position t.logs) (before t.current t.store) ∙ length-drop t.position t.logs
 
 -- ---- outside a group
 
@@ -95,6 +117,9 @@ none_current : (g : Option OpenGroup) (log : List Entry) → g ≡ None → IsCu
 none_current g log e h = subst (λ g. IsCurrent g log) e h
 
 -- ---- an entry that is added
+
+pub puts : (t n : Logged) (e : Entry) → n.store ≡ put e t.store → Changes t n → Puts e t n
+puts t n e store change = record { made = λ ps. change.made ps ∙ ap (λ s. changed (contents s) (unfolded ps t)) store }
 
 pub adds_one : (e : Entry) (s t : Store) (l m : List Entry) → HasPlace e s → t ≡ put e s → m ≡ l ++ found e s ∷ [] → AddsEntries s l t m
 adds_one e s t l m place store log = record {
@@ -130,22 +155,24 @@ module _ (t : Logged) (s : Store) (log : List Entry) (adds : AddsEntries t.store
     current = subst (λ b. OnFalse b (log ≡ [])) (sym was) tt;
   }
 
-  pub grown_unfolded : (g : OpenGroup) (ps : List Signature) → g.changed ≡ true → IsSome t.group → unfolded ps (record t { store = s; group = Some g; current = log }) ≡ changed (contents s) (unfolded ps t)
-  grown_unfolded g ps was there =
-      (λ i. record {
-        primitives = ps;
-        past = past_of (take t.position t.logs) (begin_stays i);
-        now = contents s;
-        later = later_of (drop t.position t.logs) (begin_stays i);
-        group = Some (record { begun = contents (begin_stays i); changed = was i });
-      })
-      ∙ in_group t.group there
+  pub grown_changes : (g : OpenGroup) → g.changed ≡ true → IsSome t.group → Changes t (record t { store = s; group = Some g; current = log })
+  grown_changes g was there = record {
+    made = λ ps.
+        (λ i. record {
+          primitives = ps;
+          past = past_of (take t.position t.logs) (begin_stays i);
+          now = contents s;
+          later = later_of (drop t.position t.logs) (begin_stays i);
+          group = Some (record { begun = contents (begin_stays i); changed = was i });
+        })
+        ∙ in_group ps t.group there;
+  }
     where
-      in_group : (o : Option OpenGroup) → IsSome o
+      in_group : (ps : List Signature) (o : Option OpenGroup) → IsSome o
           → record { primitives = ps; past = past_of (take t.position t.logs) (before t.current t.store); now = contents s; later = later_of (drop t.position t.logs) (before t.current t.store); group = Some (record { begun = contents (before t.current t.store); changed = true }) }
           ≡ changed (contents s) (unfolded ps (record t { group = o }))
-      in_group None there = absurd (cc)
-      in_group (Some g) there = refl
+      in_group ps None there = absurd (cc)
+      in_group ps (Some g) there = refl
 
 -- ---- a change of several entries as a step of its own
 
@@ -177,7 +204,7 @@ module _ (t : Logged) (s : Store) (logs : List (List Entry)) (log new : List Ent
     current = h.current;
   })
 
-  pub many_unfolded : (ps : List Signature) → unfolded ps (record t { store = s; logs = logs; position = q }) ≡ changed (contents s) (unfolded ps t)
+  many_unfolded : (ps : List Signature) → unfolded ps (record t { store = s; logs = logs; position = q }) ≡ changed (contents s) (unfolded ps t)
   many_unfolded ps =
       let past : past_of (take q logs) (before t.current s) ≡ past_of (take t.position t.logs) (before t.current t.store) ++ contents t.store ∷ [] =
       (λ i. past_of (take (next i) (step.all i)) (bare_now i)) ∙ grouped_past t.logs t.position s step.left h.within
@@ -201,6 +228,9 @@ module _ (t : Logged) (s : Store) (logs : List (List Entry)) (log new : List Ent
         group = option_map (λ g. record { begun = contents (before t.current t.store); changed = g.changed }) (closed i);
       }))
 
+  pub many_changes : Changes t (record t { store = s; logs = logs; position = q })
+  many_changes = record { made = many_unfolded }
+
 -- ---- the same store, and room for a step
 
 module _ (t : Logged) (s : Store) (logs : List (List Entry)) (same : s ≡ t.store) (all : logs ≡ t.logs) (h : IsPlaced t) where
@@ -214,14 +244,8 @@ module _ (t : Logged) (s : Store) (logs : List (List Entry)) (same : s ≡ t.sto
     current = h.current;
   }
 
-  pub roomier_unfolded : (ps : List Signature) → unfolded ps (record t { store = s; logs = logs }) ≡ unfolded ps t
-  roomier_unfolded ps = λ i. record {
-    primitives = ps;
-    past = past_of (take t.position (all i)) (before t.current (same i));
-    now = contents (same i);
-    later = later_of (drop t.position (all i)) (before t.current (same i));
-    group = option_map (λ g. record { begun = contents (before t.current (same i)); changed = g.changed }) t.group;
-  }
+  pub roomier_same : KeepsHistory t (record t { store = s; logs = logs })
+  roomier_same = record { same = λ ps i. unfolded ps (record t { store = same i; logs = all i }) }
 
 -- ---- a change that was rolled back
 
@@ -233,8 +257,8 @@ module _ (t : Logged) (e : Entry) (pushed s : Store) (logs : List (List Entry)) 
   pub rolled_placed : IsPlaced (record t { store = s; logs = logs })
   rolled_placed = roomier_placed t s logs rolled_store all h
 
-  pub rolled_unfolded : (ps : List Signature) → unfolded ps (record t { store = s; logs = logs }) ≡ unfolded ps t
-  rolled_unfolded ps = roomier_unfolded t s logs rolled_store all h ps
+  pub rolled_same : KeepsHistory t (record t { store = s; logs = logs })
+  rolled_same = roomier_same t s logs rolled_store all h
 
 -- ---- one step back and forward
 
@@ -339,6 +363,7 @@ module _ (t : Logged) (changed : Bool) (there : IsSome t.group) (flag : changed 
   abbrev closing : List Signature → Bool → History
   closing ps b = cond b (record (stepped (contents (before t.current t.store)) (unfolded ps t)) { group = None }) (record (unfolded ps t) { group = None })
 
+  -- what closing the group leaves is the group as a step
   committing : (ps : List Signature) (g : History) → closing ps changed ≡ g → IsSomeAnd (unfolded ps t).group (λ k. g ≡ committed k (unfolded ps t))
   committing ps g e =
       subst (λ (o : Option HistoryGroup). IsSomeAnd o (λ k. g ≡ committed k (unfolded ps t))) (sym (group_seen t.group opened (contents (before t.current t.store)) is_open)) (sym (ap (closing ps) flagged ∙ e))
@@ -353,8 +378,8 @@ module _ (t : Logged) (changed : Bool) (there : IsSome t.group) (flag : changed 
     current = subst (λ b. OnFalse b (t.current ≡ [])) (flagged ∙ none) (subst (λ g. IsCurrent g t.current) is_open h.current);
   }
 
-  pub kept_unfolded : changed ≡ false → (ps : List Signature) → IsSomeAnd (unfolded ps t).group (λ k. unfolded ps (record t { group = None }) ≡ committed k (unfolded ps t))
-  kept_unfolded none ps = committing ps (unfolded ps (record t { group = None })) (ap (closing ps) none)
+  pub kept_commits : changed ≡ false → Commits t (record t { group = None })
+  kept_commits none = record { made = λ ps. committing ps (unfolded ps (record t { group = None })) (ap (closing ps) none) }
 
   module _ (logs : List (List Entry)) (log new : List Entry) (taken : log ≡ t.current) (empty : new ≡ []) (step : AddsStep (take t.position t.logs) log logs) (q : ℕ) (next : q ≡ t.position + 1) where
     left_back : before step.left t.store ≡ before t.current t.store
@@ -376,7 +401,7 @@ module _ (t : Logged) (changed : Bool) (there : IsSome t.group) (flag : changed 
       current = empty;
     })
 
-    pub committed_unfolded : changed ≡ true → (ps : List Signature)
+    committed_unfolded : changed ≡ true → (ps : List Signature)
         → IsSomeAnd (unfolded ps t).group (λ k. unfolded ps (record t { logs = logs; position = q; group = None; current = new }) ≡ committed k (unfolded ps t))
     committed_unfolded some ps =
         let past : past_of (take t.position t.logs) (before t.current t.store) ++ contents (before t.current t.store) ∷ [] ≡ past_of (take q logs) (before new t.store) =
@@ -385,3 +410,6 @@ module _ (t : Logged) (changed : Bool) (there : IsSome t.group) (flag : changed 
         sym (grouped_later t.logs t.position t.store step.left h.within) ∙ (λ i. later_of (drop (sym next i) (sym step.all i)) (sym begins i)) in
         committing ps (unfolded ps (record t { logs = logs; position = q; group = None; current = new }))
         (ap (closing ps) some ∙ (λ i. record { primitives = ps; past = past i; now = contents t.store; later = later i; group = None }))
+
+    pub commits : changed ≡ true → Commits t (record t { logs = logs; position = q; group = None; current = new })
+    commits some = record { made = committed_unfolded some }

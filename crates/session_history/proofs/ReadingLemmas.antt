@@ -1,5 +1,5 @@
 -- Modules that were read and wait for the check.
-use Rattle.std.proofs.Common.{◌≡◌, ◌<◌, ◌≤◌, ◌+◌, ℕ, zero, suc, ◌-◌, Bool, true, false, cond, List, [], ◌∷◌, ◌++◌, length, take, set, get_or, Option, Some, None, Ok, refl, sym, ap, subst, ◌∙◌, arith}
+use Rattle.std.proofs.Common.{◌≡◌, ◌<◌, ◌≤◌, ◌+◌, ℕ, zero, suc, ◌-◌, Bool, false, cond, List, [], ◌∷◌, ◌++◌, length, take, set, get_or, Option, Some, None, Ok, sym, ap, subst, ◌∙◌, arith}
 use Rattle.std.specs.Prelude.{IsSomeAnd}
 use Rattle.std.proofs.lemmas.List.{take_all, take_more}
 use Rattle.std.specs.List.{AllByRecursion, swap_remove}
@@ -53,7 +53,7 @@ module _ {X : Type 0} (P : X → Type 0) where
 pub reads_stay : (old now : Texts) (name : List ℕ) (ms : Modules) → SameBut name old now → AllByRecursion (λ m. eq_by_cmp R m.0 name ≡ false) ms → AreReadIn old ms → AreReadIn now ms
 reads_stay old now name [] same others h = tt
 reads_stay old now name (m ∷ ms) same others h = (
-  subst (λ o. IsSomeAnd o (λ text. ReadsAsModule text (Ok m.1))) (same m.0 others.0) h.0,
+  subst (λ o. IsSomeAnd o (λ text. ReadsAsModule text (Ok m.1))) (same.same m.0 others.0) h.0,
   reads_stay old now name ms same others.1 h.1,
 )
 

@@ -413,6 +413,11 @@ step_leaves begin h g leaves done =
     ap (λ (x : History). x.now.modules) (same_Ok begun g (holding_Ok (is_none h.group) Group (Leaves begun) g done).1)
 step_leaves act h g leaves done = trees_leave act h g leaves done
 
+-- the answer to such an act
+pub act_leaves : {A E : Type 0} (act : Act) (r : Result A E) (old new : History) → LeavesModules act → OnOk r (ComesTo act old (Ok new)) → OnErr r (new ≡ old) → new.now.modules ≡ old.now.modules
+act_leaves act (Ok x) old new leaves ok err = step_leaves act old new leaves ok
+act_leaves act (Err e) old new leaves ok err = ap (λ (h : History). h.now.modules) err
+
 -- the same for the end of a group
 pub committed_leaves : (group : HistoryGroup) (h : History) → (committed group h).now ≡ h.now
 committed_leaves group h = by group.changed

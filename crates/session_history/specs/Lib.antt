@@ -4,8 +4,8 @@ pub mod Modules
 pub mod Applying
 pub mod History
 pub mod Unfolded
-pub mod Moving
 pub mod Acts
+pub mod Moving
 pub mod Preview
 pub mod Dump
 pub mod Laws

@@ -17,6 +17,9 @@ use Rattle.strategy_check.specs.Faults.{Fault, Primitives, faults, first}
 use Rattle.strategy_check.specs.Programs.{Program, program}
 use Rattle.strategy_check.specs.Checking.{Checked, IsChecked}
 use Rattle.term_changes.specs.Contents.{Named}
+use Rattle.term_changes.specs.Slots.{Store, contents}
+use Rattle.change_log.specs.declared.texts.Texts.{Texts as TextsOf}
+use Rattle.change_log.specs.Texts.{TextsChange}
 use Rattle.session_history.specs.declared.kept.Changed.{Changed}
 use Rattle.session_history.specs.declared.kept.Changed.TheVariants.{Nothing, One, Several}
 use Rattle.session_history.specs.declared.kept.KeptModules.{KeptModules}
@@ -75,9 +78,8 @@ pub record GivesProgram (primitives : Primitives) (texts : Texts) (checked : Pro
 -- ---- checked modules that are kept
 
 -- The texts are the same, but perhaps for that of this name.
-abbrev pub SameBut : List ℕ → Texts → Texts → Type 0
-SameBut name old now =
-    (q : List ℕ) → eq_by_cmp (slice_cmp nat_cmp) q name ≡ false → finmap.get old q ≡ finmap.get now q
+pub record SameBut (name : List ℕ) (old now : Texts) : Type 0 where
+  pub same : (q : List ℕ) → eq_by_cmp (slice_cmp nat_cmp) q name ≡ false → finmap.get old q ≡ finmap.get now q
 
 -- how the texts now may differ from old ones
 abbrev pub Differ : Changed → Texts → Texts → Type 0
@@ -103,6 +105,15 @@ AreReadIn texts ms = AllByRecursion (IsReadIn texts) ms
 pub record IsKept (primitives : Primitives) (texts : Texts) (kept : KeptModules) : Type 0 where
   pub checked : IfSome kept.checked (IsKeptFor primitives texts kept.changed)
   pub read : AreReadIn texts kept.read
+
+-- What was kept for old texts is kept for those now, if only that of this name differs.
+pub record Notes (name : List ℕ) (before after : KeptModules) : Type 0 where
+  pub kept : (ps : Primitives) (old now : Texts) → SameBut name old now → IsKept ps old before → IsKept ps now after
+
+-- The same, if these texts of the store now may differ.
+pub record NotesTexts (texts : TextsOf) (now : Store) (before after : KeptModules) : Type 0 where
+  pub kept : (ps : Primitives) (old : Store) → TextsChange texts old now → IsKept ps (contents old).modules before
+      → IsKept ps (contents now).modules after
 
 -- They are those of these texts.
 pub record AreCurrent (primitives : Primitives) (texts : Texts) (c : Checked) : Type 0 where

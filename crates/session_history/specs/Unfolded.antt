@@ -46,17 +46,23 @@ abbrev pub FitForward : List (List Entry) → Store → Type 0
 FitForward [] s = Unit {0}
 FitForward (log ∷ logs) s = FitsForward log s × FitForward logs (after log s)
 
+-- the contents before each step that leads back, and those after each that leads forward
+abbrev pub past_contents : Logged → List Contents
+past_contents t = past_of (take t.position t.logs) (before t.current t.store)
+
+abbrev pub later_contents : Logged → List Contents
+later_contents t = later_of (drop t.position t.logs) (before t.current t.store)
+
 -- The history that these steps represent, in a session with these primitives. The current log holds
 -- the changes since the open group began, and is empty outside a group.
 abbrev pub unfolded : List Signature → Logged → History
 unfolded primitives t =
-    let start = before t.current t.store in
     record {
       primitives = primitives;
-      past = past_of (take t.position t.logs) start;
+      past = past_contents t;
       now = contents t.store;
-      later = later_of (drop t.position t.logs) start;
-      group = option_map (λ g. record { begun = contents start; changed = g.changed }) t.group;
+      later = later_contents t;
+      group = option_map (λ g. record { begun = contents (before t.current t.store); changed = g.changed }) t.group;
     }
 
 -- if nothing has changed in a group, or no group is open, the current log is empty
@@ -79,8 +85,20 @@ pub record IsPlaced (t : Logged) : Type 0 where
   pub fits : Fits t.current t.store
   pub current : IsCurrent t.group t.current
 
--- the slot of a name's tree, which has a subterm at the path
-abbrev pub IsPlaceOf : Store → List ℕ → List ℕ → ℕ → Type 0
-IsPlaceOf s name path slot =
-    (t : Tree) × (slot_of s.trees name ≡ Some slot) × (HaveDistinctLabels s.trees)
-    × (content s.trees slot ≡ Some t) × (leads t path ≡ true)
+-- The slot has this name, which no other has, and this tree.
+pub record HasTree (s : Store) (name : List ℕ) (slot : ℕ) (tree : Tree) : Type 0 where
+  pub named : slot_of s.trees name ≡ Some slot
+  pub apart : HaveDistinctLabels s.trees
+  pub held : content s.trees slot ≡ Some tree
+
+-- The same for a module text.
+pub record HasText (s : Store) (name : List ℕ) (slot : ℕ) (text : List ℕ) : Type 0 where
+  pub named : slot_of s.modules name ≡ Some slot
+  pub apart : HaveDistinctLabels s.modules
+  pub held : content s.modules slot ≡ Some text
+
+-- It is the slot of a name's tree, which has a subterm at the path.
+pub record IsPlaceOf (s : Store) (name path : List ℕ) (slot : ℕ) : Type 0 where
+  pub tree : Tree
+  pub is : HasTree s name slot tree
+  pub there : leads tree path ≡ true

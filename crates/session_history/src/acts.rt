@@ -1,15 +1,17 @@
 //! What commands do to a timeline: each is a step of the session's machine, or is refused and
 //! changes nothing.
+#![tactic(auto, using(crate::proofs::ActLemmas::acting))]
 
-ghost use Rattle.std.specs.Prelude.{◌≡◌, List, Err, IfOk, IfErr};
+ghost use Rattle.std.specs.Prelude.{◌≡◌, Err, IfOk, IfErr};
 ghost use Rattle.std.specs.List.{list_all};
 ghost use Rattle.term_core.specs.Size.{fits};
-ghost use Rattle.prim_core.specs.Signature.{Signature};
 ghost use Rattle.term_changes.specs.Slots.{contents};
 ghost use Rattle.change_log.specs.Texts.{TextsChange};
-ghost use Rattle.session_history.specs.Acts.{Performs, PerformsSurely, set_tree, copy_tree, drop_tree, put, annotate, undo, redo, begin, abandon, place_of};
-ghost use Rattle.session_history.specs.Unfolded.{unfolded, IsPlaceOf};
+ghost use Rattle.session_history.specs.Acts.{set_tree, copy_tree, drop_tree, put, annotate, undo, redo, begin, abandon, place_of};
+ghost use Rattle.session_history.specs.Unfolded.{IsPlaceOf};
+ghost use Rattle.session_history.specs.Moving.{PerformsOn, PerformsSurelyOn};
 
+use crate::finding::find_tree;
 use crate::{Refusal, Timeline};
 use change_log::{Entry, Texts};
 use term_core::{Label, Term};
@@ -19,7 +21,7 @@ impl Timeline {
     /// Sets the tree of this name.
     #[inline(always)]
     pub fn set_tree(&mut self, name: &Label, tree: Term) -> Result<(), Refusal>
-        ensures { (ps : List Signature) → Performs (set_tree name.now tree) (unfolded ps self.old) (unfolded ps self.new) result }
+        ensures { PerformsOn (set_tree name.now tree) self.old self.new result }
     {
         if !tree.fits(0) {
             return Err(Refusal::Big);
@@ -31,7 +33,7 @@ impl Timeline {
 
     /// Sets the tree of `copy` to a copy of the tree of `name`.
     pub fn copy_tree(&mut self, name: &Label, copy: &Label) -> Result<(), Refusal>
-        ensures { (ps : List Signature) → Performs (copy_tree name.now copy.now) (unfolded ps self.old) (unfolded ps self.new) result }
+        ensures { PerformsOn (copy_tree name.now copy.now) self.old self.new result }
     {
         let Some(tree) = self.tree(name) else {
             return Err(Refusal::NoTree);
@@ -44,22 +46,18 @@ impl Timeline {
 
     /// Removes the tree of this name.
     pub fn drop_tree(&mut self, name: &Label) -> Result<(), Refusal>
-        ensures { (ps : List Signature) → Performs (drop_tree name.now) (unfolded ps self.old) (unfolded ps self.new) result }
+        ensures { PerformsOn (drop_tree name.now) self.old self.new result }
     {
-        let store = self.store();
-        let Some(slot) = store.find_tree(name) else {
+        let Some((slot, _)) = find_tree(self.store(), name) else {
             return Err(Refusal::NoTree);
         };
-        if store.tree(slot).is_none() {
-            return Err(Refusal::NoTree);
-        }
         self.change(Entry::tree(slot, None))?;
         Ok(())
     }
 
     /// Replaces the subterm at the path in the tree of this name.
     pub fn put(&mut self, name: &Label, path: &Path, part: Term) -> Result<(), Refusal>
-        ensures { (ps : List Signature) → Performs (put name.now path.now part) (unfolded ps self.old) (unfolded ps self.new) result }
+        ensures { PerformsOn (put name.now path.now part) self.old self.new result }
     {
         let slot = match self.place(name, path) {
             Ok(slot) => slot,
@@ -79,7 +77,7 @@ impl Timeline {
         path: &Path,
         annotations: Vec<Term>,
     ) -> Result<(), Refusal>
-        ensures { (ps : List Signature) → Performs (annotate name.now path.now annotations.items) (unfolded ps self.old) (unfolded ps self.new) result }
+        ensures { PerformsOn (annotate name.now path.now annotations.items) self.old self.new result }
     {
         let slot = match self.place(name, path) {
             Ok(slot) => slot,
@@ -98,11 +96,7 @@ impl Timeline {
         ensures refused { IfErr result (λ refusal. place_of (contents self.now.store) name.now path.now
             ≡ Err refusal) }
     {
-        let store = self.store();
-        let Some(slot) = store.find_tree(name) else {
-            return Err(Refusal::NoTree);
-        };
-        let Some(tree) = store.tree(slot) else {
+        let Some((slot, tree)) = find_tree(self.store(), name) else {
             return Err(Refusal::NoTree);
         };
         if at(tree, path).is_none() {
@@ -113,7 +107,7 @@ impl Timeline {
 
     /// Goes `n` steps back. Returns which module texts may have changed.
     pub fn undo(&mut self, n: u32) -> Result<Texts, Refusal>
-        ensures performs { (ps : List Signature) → PerformsSurely (undo n) (unfolded ps self.old) (unfolded ps self.new) result }
+        ensures performs { PerformsSurelyOn (undo n) self.old self.new result }
         ensures texts { IfOk result (λ texts. TextsChange texts self.old.store self.new.store) }
     {
         if self.in_group() {
@@ -128,7 +122,7 @@ impl Timeline {
 
     /// Goes `n` steps forward. Returns which module texts may have changed.
     pub fn redo(&mut self, n: u32) -> Result<Texts, Refusal>
-        ensures performs { (ps : List Signature) → PerformsSurely (redo n) (unfolded ps self.old) (unfolded ps self.new) result }
+        ensures performs { PerformsSurelyOn (redo n) self.old self.new result }
         ensures texts { IfOk result (λ texts. TextsChange texts self.old.store self.new.store) }
     {
         if self.in_group() {
@@ -143,7 +137,7 @@ impl Timeline {
 
     /// Opens a group.
     pub fn begin(&mut self) -> Result<(), Refusal>
-        ensures { (ps : List Signature) → PerformsSurely begin (unfolded ps self.old) (unfolded ps self.new) result }
+        ensures { PerformsSurelyOn begin self.old self.new result }
     {
         if self.in_group() {
             return Err(Refusal::Group);
@@ -155,7 +149,7 @@ impl Timeline {
     /// Undoes the changes of the open group and closes it. Returns which module texts may have
     /// changed.
     pub fn abandon(&mut self) -> Result<Texts, Refusal>
-        ensures performs { (ps : List Signature) → PerformsSurely abandon (unfolded ps self.old) (unfolded ps self.new) result }
+        ensures performs { PerformsSurelyOn abandon self.old self.new result }
         ensures texts { IfOk result (λ texts. TextsChange texts self.old.store self.new.store) }
     {
         if !self.in_group() {

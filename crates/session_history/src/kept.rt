@@ -1,17 +1,16 @@
 //! The checked modules that a session keeps while module texts change.
 
 ghost use Rattle.std.specs.Prelude.{◌≡◌, ◌≤◌, ◌+◌, ◌⊎◌, true, length, IfOk, IfErr, IfSome, OnOk, option_copied};
-ghost use Rattle.term_changes.specs.Slots as slots;
 ghost use Rattle.term_changes.specs.Slots.{contents};
-ghost use Rattle.change_log.specs.Texts.{TextsChange};
 ghost use Rattle.strategy_check.specs.Checking.{with_modules};
 ghost use Rattle.strategy_check.specs.Tables.{Modules};
 ghost use Rattle.strategy_check.specs.Faults as faults;
 ghost use Rattle.session_history.specs.Modules as modules;
-ghost use Rattle.session_history.specs.Modules.{AreRefused, IsUnread, SameBut, Differ, IsKept, IsReadIn, AreReadIn, AreCurrent, IsCurrent, program_in};
+ghost use Rattle.session_history.specs.Modules.{AreRefused, IsUnread, SameBut, Differ, IsKept, Notes, NotesTexts, IsReadIn, AreReadIn, AreCurrent, IsCurrent, program_in};
 ghost use Rattle.session_history.specs.inside.Keeping.{AreBut, AreNamed, with_module};
 
 use crate::Refusal;
+use crate::finding::find_text;
 use crate::modules::{check_modules, read_once};
 use crate::reading::ReadModules;
 use arrayvec::ArrayVec;
@@ -65,9 +64,7 @@ impl KeptModules {
 
     /// Notes that these texts of the store may have changed.
     pub fn note(&mut self, store: &Store, texts: Texts)
-        ensures { (ps : faults.Primitives) (old : slots.Store) → TextsChange texts old store.now
-            → IsKept ps (contents old).modules self.old
-            → IsKept ps (contents store.now).modules self.new }
+        ensures { NotesTexts texts store.now self.old self.new }
     {
         match texts {
             Texts::None => {}
@@ -85,9 +82,7 @@ impl KeptModules {
     }
 
     fn note_slot(&mut self, store: &Store, slot: usize)
-        ensures { (ps : faults.Primitives) (old : slots.Store) → TextsChange (Texts.One slot) old store.now
-            → IsKept ps (contents old).modules self.old
-            → IsKept ps (contents store.now).modules self.new }
+        ensures { NotesTexts (Texts.One slot) store.now self.old self.new }
     {
         match store.module_name(slot) {
             Some(name) => self.note_name(name),
@@ -97,8 +92,7 @@ impl KeptModules {
 
     /// Notes that the text of the module of this name may have changed.
     pub fn note_name(&mut self, name: &Label)
-        ensures { (ps : faults.Primitives) (old now : modules.Texts) → SameBut name.now old now
-            → IsKept ps old self.old → IsKept ps now self.new }
+        ensures { Notes name.now self.old self.new }
     {
         let changed = changed_by(&self.changed, name);
         self.changed = changed;
@@ -316,10 +310,7 @@ fn read_new(
     ensures left { AreReadIn (contents store.now).modules read.new }
 {
     let mut new = Vec::new(alloc);
-    let Some(slot) = store.find_module(name) else {
-        return Ok(new);
-    };
-    let Some(_) = store.module(slot) else {
+    let Some(_) = find_text(store, name) else {
         return Ok(new);
     };
     let module = match read_once(alloc, store, name, read) {

@@ -4,6 +4,7 @@
 
 mod acts;
 mod dump;
+mod finding;
 mod kept;
 mod modules;
 mod reading;

@@ -1,12 +1,14 @@
 //! The modules of a session: reading their texts, and checking them.
+#![tactic(auto, using(crate::proofs::CheckLemmas::module_acts))]
 
 ghost use Rattle.std.specs.Prelude.{◌≡◌, ◌⊎◌, Ok, Err, IfOk, IfErr, IsSome, IsSomeAnd};
 ghost use Rattle.std.specs.FinMap as finmap;
 ghost use Rattle.term_changes.specs.Slots.{contents};
-ghost use Rattle.session_history.specs.Acts.{Performs, set_module, unload, commit};
+ghost use Rattle.session_history.specs.Acts.{set_module, unload, commit};
 ghost use Rattle.session_history.specs.Modules.{ReadsAsModule, AreModules, AreReadable, AreRefused, AreCurrent, IsKept, IsReadIn, AreReadIn, IsUnread};
-ghost use Rattle.session_history.specs.Unfolded.{unfolded};
+ghost use Rattle.session_history.specs.Moving.{PerformsBy};
 
+use crate::finding::find_text;
 use crate::kept::keep_modules;
 use crate::reading::ReadModules;
 use crate::{KeptModules, Refusal, Timeline};
@@ -30,7 +32,7 @@ impl Timeline {
     ) -> Result<(), Refusal>
         requires readable { AreReadable (contents self.old.store).modules }
         requires kept { IsKept primitives.now (contents self.old.store).modules kept.old }
-        ensures performs { Performs (set_module name.now text.now) (unfolded primitives.now self.old) (unfolded primitives.now self.new) result }
+        ensures performs { PerformsBy primitives.now (set_module name.now text.now) self.old self.new result }
         ensures kept { IsKept primitives.now (contents self.new.store).modules kept.new }
     {
         if self.in_group() {
@@ -54,7 +56,7 @@ impl Timeline {
     ) -> Result<(), Refusal>
         requires kept { IsKept primitives.now (contents self.old.store).modules kept.old }
         requires inside { IsSome self.old.group }
-        ensures performs { Performs (set_module name.now text.now) (unfolded primitives.now self.old) (unfolded primitives.now self.new) result }
+        ensures performs { PerformsBy primitives.now (set_module name.now text.now) self.old self.new result }
         ensures kept { IsKept primitives.now (contents self.new.store).modules kept.new }
     {
         let module = read_module(self.allocator(), text)?;
@@ -77,16 +79,12 @@ impl Timeline {
     ) -> Result<(), Refusal>
         requires readable { AreReadable (contents self.old.store).modules }
         requires kept { IsKept primitives.now (contents self.old.store).modules kept.old }
-        ensures performs { Performs (unload name.now) (unfolded primitives.now self.old) (unfolded primitives.now self.new) result }
+        ensures performs { PerformsBy primitives.now (unload name.now) self.old self.new result }
         ensures kept { IsKept primitives.now (contents self.new.store).modules kept.new }
     {
-        let store = self.store();
-        let Some(slot) = store.find_module(name) else {
+        let Some((slot, _)) = find_text(self.store(), name) else {
             return Err(Refusal::NoModule);
         };
-        if store.module(slot).is_none() {
-            return Err(Refusal::NoModule);
-        }
         if self.in_group() {
             self.change_in_group(Entry::text(slot, None))?;
             kept.note_name(name);
@@ -107,7 +105,7 @@ impl Timeline {
     ) -> Result<(), Refusal>
         requires readable { AreReadable (contents self.old.store).modules }
         requires kept { IsKept primitives.now (contents self.old.store).modules kept.old }
-        ensures performs { Performs commit (unfolded primitives.now self.old) (unfolded primitives.now self.new) result }
+        ensures performs { PerformsBy primitives.now commit self.old self.new result }
         ensures kept { IsKept primitives.now (contents self.new.store).modules kept.new }
     {
         if !self.in_group() {
@@ -192,28 +190,14 @@ pub fn read_once(
     if let Some(module) = read.take(name) {
         return Ok(module);
     }
-    let module = match read_named(alloc, store, name) {
+    let Some((_, text)) = find_text(store, name) else {
+        return Err(Refusal::NoModule);
+    };
+    let module = match read_module(alloc, text) {
         Ok(module) => module,
         Err(refusal) => return Err(refusal),
     };
     Ok(with_name(alloc, name, module)?)
-}
-
-// The module that the text of a name is read as.
-fn read_named(alloc: Global, store: &Store, name: &Label) -> Result<Module, Refusal>
-    requires { IsSome (finmap.get (contents store.now).modules name.now) }
-    ensures ok { IfOk result (λ m. IsSomeAnd (finmap.get (contents store.now).modules name.now)
-        (λ text. ReadsAsModule text (Ok m))) }
-    ensures refused { IfErr result (λ refusal. (refusal ≡ Refusal.Memory)
-        ⊎ IsUnread (contents store.now).modules refusal) }
-{
-    let Some(slot) = store.find_module(name) else {
-        return Err(Refusal::NoModule);
-    };
-    let Some(text) = store.module(slot) else {
-        return Err(Refusal::NoModule);
-    };
-    read_module(alloc, text)
 }
 
 // Parses a module.

@@ -9,13 +9,14 @@ ghost use Rattle.term_changes.specs.Slots.{Store, contents, slot_of, HaveDistinc
 ghost use Rattle.term_changes.specs.Entries.{Entry, HasPlace, put, after, FitsForward};
 ghost use Rattle.term_changes.specs.PatchLaws.{patch_entries};
 ghost use Rattle.change_log.specs.Texts.{TextsChange};
-ghost use Rattle.session_history.specs.History.{empty_history, changed, step_back, step_forward, undone, redone};
-ghost use Rattle.session_history.specs.Acts.{ComesTo, begin, abandon, committed};
+ghost use Rattle.session_history.specs.History.{empty_history, step_back, step_forward, undone, redone};
+ghost use Rattle.session_history.specs.Acts.{begin, abandon};
 ghost use Rattle.session_history.specs.Modules.{AreRefused, SameBut, IsCurrent, IsKept};
-ghost use Rattle.session_history.specs.Unfolded.{unfolded, AllCompact};
+ghost use Rattle.session_history.specs.Unfolded.{unfolded, past_contents, later_contents, AllCompact};
 ghost use Rattle.session_history.specs.inside.Adding.{AddsStep};
-ghost use Rattle.session_history.specs.Moving.{Moves};
+ghost use Rattle.session_history.specs.Moving.{KeepsHistory, Changes, Puts, Moves, Leads, Commits};
 
+use crate::finding::{find_text, find_tree};
 use crate::kept::{catch_up, keep_modules};
 use crate::{KeptModules, Refusal};
 use change_log::{Entry, Log, Plan, Step, Store, Texts};
@@ -96,16 +97,18 @@ impl Timeline {
     }
 
     /// The number of steps to undo.
+    #[tactic(auto, using(crate::proofs::PlaceLemmas::past_count))]
     pub fn past(&self) -> usize
-        ensures value { (ps : List Signature) → length (unfolded ps self.now).past ≡ result }
+        ensures value { length (past_contents self.now) ≡ result }
         ensures position { result ≡ self.now.position }
     {
         self.position
     }
 
     /// The number of steps to redo.
+    #[tactic(auto, using(crate::proofs::PlaceLemmas::later_count))]
     pub fn later(&self) -> usize
-        ensures value { (ps : List Signature) → length (unfolded ps self.now).later ≡ result }
+        ensures value { length (later_contents self.now) ≡ result }
         ensures rest { self.now.position + result ≡ length self.now.logs }
     {
         self.logs.len() - self.position
@@ -113,7 +116,6 @@ impl Timeline {
 
     /// Whether a group is open.
     pub fn in_group(&self) -> bool
-        ensures open { result ≡ true → (ps : List Signature) → is_some (unfolded ps self.now).group ≡ true }
         ensures inside { result ≡ true → IsSome self.now.group }
         ensures closed { result ≡ false → self.now.group ≡ None }
     {
@@ -124,8 +126,8 @@ impl Timeline {
     pub fn tree(&self, name: &Label) -> Option<&Term>
         ensures { option_copied result ≡ finmap.get (contents self.now.store).trees name.now }
     {
-        let slot = self.store.find_tree(name)?;
-        self.store.tree(slot)
+        let (_, tree) = find_tree(&self.store, name)?;
+        Some(tree)
     }
 
     /// The names of the trees, in byte order.
@@ -140,8 +142,8 @@ impl Timeline {
     pub fn module_text(&self, name: &Label) -> Option<&[u8]>
         ensures { option_copied result ≡ finmap.get (contents self.now.store).modules name.now }
     {
-        let slot = self.store.find_module(name)?;
-        self.store.module(slot)
+        let (_, text) = find_text(&self.store, name)?;
+        Some(text)
     }
 
     /// The names of the modules, in byte order.
@@ -154,7 +156,7 @@ impl Timeline {
 
     /// The slot for the tree of this name. It is made if there is none.
     pub fn tree_slot(&mut self, name: &Label) -> Result<usize, NoMemory>
-        ensures same { (ps : List Signature) → unfolded ps self.new ≡ unfolded ps self.old }
+        ensures same { KeepsHistory self.old self.new }
         ensures slot { IfOk result (λ i. slot_of self.new.store.trees name.now ≡ Some i) }
         ensures within { IfOk result (λ i. i < length self.new.store.trees) }
     {
@@ -163,7 +165,7 @@ impl Timeline {
 
     /// The slot for the module of this name. It is made if there is none.
     pub fn module_slot(&mut self, name: &Label) -> Result<usize, NoMemory>
-        ensures same { (ps : List Signature) → unfolded ps self.new ≡ unfolded ps self.old }
+        ensures same { KeepsHistory self.old self.new }
         ensures slot { IfOk result (λ i. slot_of self.new.store.modules name.now ≡ Some i) }
         ensures within { IfOk result (λ i. i < length self.new.store.modules) }
         ensures apart { HaveDistinctLabels self.new.store.modules }
@@ -176,10 +178,8 @@ impl Timeline {
     /// changes.
     pub fn change(&mut self, entry: Entry<'_>) -> Result<(), NoMemory>
         requires { HasPlace entry self.old.store }
-        ensures ok { OnOk result ((ps : List Signature) → unfolded ps self.new
-            ≡ changed (contents (put entry.entry self.old.store)) (unfolded ps self.old)) }
-        ensures err { OnErr result ((ps : List Signature) → unfolded ps self.new
-            ≡ unfolded ps self.old) }
+        ensures ok { OnOk result (Puts entry.entry self.old self.new) }
+        ensures err { OnErr result (KeepsHistory self.old self.new) }
     {
         if self.in_group() {
             self.change_in_group(entry)
@@ -191,10 +191,8 @@ impl Timeline {
     pub fn change_in_group(&mut self, entry: Entry<'_>) -> Result<(), NoMemory>
         requires place { HasPlace entry self.old.store }
         requires inside { IsSome self.old.group }
-        ensures ok { OnOk result ((ps : List Signature) → unfolded ps self.new
-            ≡ changed (contents (put entry.entry self.old.store)) (unfolded ps self.old)) }
-        ensures err { OnErr result ((ps : List Signature) → unfolded ps self.new
-            ≡ unfolded ps self.old) }
+        ensures ok { OnOk result (Puts entry.entry self.old self.new) }
+        ensures err { OnErr result (KeepsHistory self.old self.new) }
     {
         self.current.push(&mut self.store, entry)?;
         self.group = Some(OpenGroup { changed: true });
@@ -205,10 +203,8 @@ impl Timeline {
     fn change_as_step(&mut self, entry: Entry<'_>) -> Result<(), NoMemory>
         requires place { HasPlace entry self.old.store }
         requires outside { self.old.group ≡ None }
-        ensures ok { OnOk result ((ps : List Signature) → unfolded ps self.new
-            ≡ changed (contents (put entry.entry self.old.store)) (unfolded ps self.old)) }
-        ensures err { OnErr result ((ps : List Signature) → unfolded ps self.new
-            ≡ unfolded ps self.old) }
+        ensures ok { OnOk result (Puts entry.entry self.old self.new) }
+        ensures err { OnErr result (KeepsHistory self.old self.new) }
     {
         self.logs.reserve(1)?;
         let step = Step::make(*self.logs.allocator(), &mut self.store, entry)?;
@@ -226,12 +222,10 @@ impl Timeline {
     ) -> Result<(), NoMemory>
         requires outside { self.old.group ≡ None }
         requires places { FitsForward (patch_entries slot path.items patch) self.old.store }
-        ensures ok { OnOk result ((ps : List Signature) → unfolded ps self.new
-            ≡ changed (contents self.new.store) (unfolded ps self.old)) }
+        ensures ok { OnOk result (Changes self.old self.new) }
         ensures store { OnOk result (self.new.store
             ≡ after (patch_entries slot path.items patch) self.old.store) }
-        ensures err { OnErr result ((ps : List Signature) → unfolded ps self.new
-            ≡ unfolded ps self.old) }
+        ensures err { OnErr result (KeepsHistory self.old self.new) }
     {
         self.logs.reserve(1)?;
         let step = Step::patched(&mut self.store, slot, path, patch);
@@ -244,11 +238,9 @@ impl Timeline {
     pub fn plan_in_group(&mut self, plan: Plan) -> Result<(), NoMemory>
         requires inside { IsSome self.old.group }
         requires places { FitsForward plan self.old.store }
-        ensures ok { OnOk result ((ps : List Signature) → unfolded ps self.new
-            ≡ changed (contents self.new.store) (unfolded ps self.old)) }
+        ensures ok { OnOk result (Changes self.old self.new) }
         ensures store { OnOk result (self.new.store ≡ after plan self.old.store) }
-        ensures err { OnErr result ((ps : List Signature) → unfolded ps self.new
-            ≡ unfolded ps self.old) }
+        ensures err { OnErr result (KeepsHistory self.old self.new) }
     {
         self.current.make(&mut self.store, plan)?;
         self.group = Some(OpenGroup { changed: true });
@@ -269,14 +261,11 @@ impl Timeline {
         requires one { SameBut name.now (contents self.old.store).modules
             (contents (put entry self.old.store)).modules }
         requires kept { IsKept primitives.now (contents self.old.store).modules kept.old }
-        ensures ok { OnOk result (unfolded primitives.now self.new
-            ≡ changed (contents (put entry.entry self.old.store)) (unfolded primitives.now self.old)) }
-        ensures current { OnOk result (IsCurrent primitives.now
-            (contents (put entry.entry self.old.store)).modules kept.new) }
+        ensures ok { OnOk result (Puts entry.entry self.old self.new) }
+        ensures current { OnOk result (IsCurrent primitives.now (contents self.new.store).modules kept.new) }
         ensures refused { IfErr result (λ refusal. AreRefused primitives.now
             (contents (put entry.entry self.old.store)).modules refusal) }
-        ensures err { OnErr result (unfolded primitives.now self.new
-            ≡ unfolded primitives.now self.old) }
+        ensures err { OnErr result (KeepsHistory self.old self.new) }
         ensures kept { IsKept primitives.now (contents self.new.store).modules kept.new }
     {
         let alloc = *self.logs.allocator();
@@ -364,7 +353,7 @@ impl Timeline {
     /// Opens a group. It takes no memory.
     pub fn open_group(&mut self)
         requires outside { self.old.group ≡ None }
-        ensures value { (ps : List Signature) → ComesTo begin (unfolded ps self.old) (Ok (unfolded ps self.new)) }
+        ensures value { Leads begin self.old self.new }
     {
         self.group = Some(OpenGroup { changed: false });
     }
@@ -373,11 +362,8 @@ impl Timeline {
     /// changes.
     pub fn close_group(&mut self) -> Result<(), NoMemory>
         requires inside { IsSome self.old.group }
-        ensures ok { OnOk result ((ps : List Signature)
-            → IsSomeAnd (unfolded ps self.old).group (λ g. unfolded ps self.new
-            ≡ committed g (unfolded ps self.old))) }
-        ensures err { OnErr result ((ps : List Signature) → unfolded ps self.new
-            ≡ unfolded ps self.old) }
+        ensures ok { OnOk result (Commits self.old self.new) }
+        ensures err { OnErr result (KeepsHistory self.old self.new) }
     {
         if !self.has_changed() {
             self.group = None;
@@ -399,9 +385,10 @@ impl Timeline {
 
     /// Undoes the changes of the open group and closes it. Returns which module texts may have
     /// changed. It takes no memory.
+    #[tactic(auto, using(crate::proofs::TextLemmas::changed_back))]
     pub fn leave_group(&mut self) -> Texts
         requires inside { IsSome self.old.group }
-        ensures value { (ps : List Signature) → ComesTo abandon (unfolded ps self.old) (Ok (unfolded ps self.new)) }
+        ensures value { Leads abandon self.old self.new }
         ensures texts { TextsChange result self.old.store self.new.store }
     {
         let texts = self.current.texts();

@@ -1,22 +1,11 @@
-use Rattle.std.proofs.Common.{refl, sym, ap, subst, ◌∙◌, ◌++◌, ◌∷◌, [], IsSome}
-use Rattle.std.specs.FinMap as finmap
+use Rattle.std.proofs.Common.{ap, subst, ◌∙◌, ◌++◌, ◌∷◌, []}
 use Rattle.term_changes.specs.Slots.{contents}
 use Rattle.session_history.specs.inside.Keeping.{AreGiven}
-use Rattle.session_history.proofs.CheckLemmas.{text_there, text_missing}
 use Rattle.session_history.proofs.ReadingLemmas.{given_alone}
 use Rattle.session_history.proofs.kept.read_new.Goals as goal
 
 pub returns-in_default-clause-ok : goal.returns-in_default-clause-ok
-returns-in_default-clause-ok c =
-    subst (λ o. AreGiven c.args.name.now o c.new-new.result.items) (sym (text_missing c.args.store.now c.args.name.now c.find_module.ensures.apart _ c.in_default.ensures.slot refl)) c.new-new.ensures.items
-
-pub returns-in_default-module-clause-ok : goal.returns-in_default-module-clause-ok
-returns-in_default-module-clause-ok c =
-    subst (λ o. AreGiven c.args.name.now o c.new-new.result.items) (sym (text_missing c.args.store.now c.args.name.now c.find_module.ensures.apart _ c.in-Some.ensures.slot (sym c.in_default-module.ensures))) c.new-new.ensures.items
-
-pub read_once-requires-clause-there : goal.read_once-requires-clause-there
-read_once-requires-clause-there c =
-    subst IsSome (sym (text_there c.args.store.now c.args.name.now c.find_module.ensures.apart c.in-Some.slot _ c.in-Some.ensures.slot (sym c.in-Some-module.ensures))) refl
+returns-in_default-clause-ok c = subst (λ o. AreGiven c.args.name.now o c.new-new.result.items) c.in_default.ensures.value c.new-new.ensures.items
 
 pub returns-clause-ok : goal.returns-clause-ok
 returns-clause-ok c =

@@ -1,29 +1,14 @@
-use Rattle.std.proofs.Common.{Ok, subst, sym}
-use Rattle.session_history.specs.History.{HasSoundContents}
-use Rattle.session_history.specs.Acts.{abandon, PerformsSurely}
-use Rattle.session_history.specs.Unfolded.{unfolded}
-use Rattle.session_history.proofs.SoundLemmas.{step_sound}
-use Rattle.session_history.proofs.ActLemmas.{kept_same, surely_again, surely_passed}
+use Rattle.session_core.proofs.SessionLemmas.{keeps_refused, keeps_noted, performs_again, performs_passed}
 use Rattle.session_core.proofs.session.Session.abandon.Goals as goal
 
 pub invariant_of-self : goal.invariant_of-self
-invariant_of-self g c =
-    let same = (c.in_err-texts.ensures.performs c.self.inside.primitives).err in (
-      subst HasSoundContents (sym same) c.self.invariant.0,
-      kept_same c.self.inside.primitives c.self.inside.timeline c.abandon.new.self c.self.inside.kept same c.self.invariant.1,
-    )
+invariant_of-self g c = keeps_refused _ _ _ _ _ _ c.in_err-texts.ensures.performs c.self.invariant
 
 pub returns-in_err-texts : goal.returns-in_err-texts
-returns-in_err-texts g c =
-    subst (λ h. PerformsSurely abandon h (unfolded c.self.inside.primitives c.abandon.new.self) c.from_residual.result) c.self.view_is
-    (surely_passed abandon _ _ _ c.from_residual.result c.from_residual.ensures.1 (c.in_err-texts.ensures.performs c.self.inside.primitives))
+returns-in_err-texts g c = performs_passed _ _ _ _ _ c.self.view_is _ _ c.from_residual.ensures.1 c.in_err-texts.ensures.performs
 
 pub invariant_of-self-2 : goal.invariant_of-self-2
-invariant_of-self-2 g c = (
-  step_sound abandon _ _ tt c.self.invariant.0 (c.in_ok-texts.ensures.performs c.self.inside.primitives).ok,
-  rw c.store.ensures at (c.note.ensures c.self.inside.primitives c.self.inside.timeline.store (rw (← c.store.ensures) at c.in_ok-texts.ensures.texts) c.self.invariant.1),
-)
+invariant_of-self-2 g c = keeps_noted _ _ _ _ _ _ _ _ c.in_ok-texts.ensures.performs tt c.in_ok-texts.ensures.texts (rw c.store.ensures at c.note.ensures) c.self.invariant
 
 pub returns : goal.returns
-returns g c =
-    subst (λ h. PerformsSurely {X = Unit {0}} abandon h (unfolded c.self.inside.primitives c.abandon.new.self) (Ok tt)) c.self.view_is (surely_again abandon _ _ c.in_ok-texts.texts tt (c.in_ok-texts.ensures.performs c.self.inside.primitives))
+returns g c = performs_again _ _ _ _ _ c.self.view_is _ tt c.in_ok-texts.ensures.performs

@@ -1,14 +1,8 @@
-use Rattle.std.proofs.Common.{subst}
-use Rattle.session_history.specs.Acts.{apply, Performs}
-use Rattle.session_history.specs.Unfolded.{unfolded}
-use Rattle.session_history.proofs.SoundLemmas.{act_sound}
+use Rattle.session_core.proofs.SessionLemmas.{keeps_with, performs_by}
 use Rattle.session_core.proofs.session.Session.apply.Goals as goal
 
 pub invariant_of-self : goal.invariant_of-self
-invariant_of-self g c = (
-  act_sound (apply g.M.Meaning.meaning c.args.name.now c.args.path.now c.args.budget c.args.text.now) c.apply_strategy.result _ _ c.heights_are_kept.ensures.applied c.apply_strategy.ensures.performs.ok c.apply_strategy.ensures.performs.err c.self.invariant.0,
-  c.apply_strategy.ensures.kept,
-)
+invariant_of-self g c = keeps_with _ _ _ _ _ _ _ c.apply_strategy.ensures.performs c.heights_are_kept.ensures.applied c.apply_strategy.ensures.kept c.self.invariant
 
 pub returns : goal.returns
-returns g c = subst (λ h. Performs (apply g.M.Meaning.meaning c.args.name.now c.args.path.now c.args.budget c.args.text.now) h (unfolded c.self.inside.primitives c.apply_strategy.new.timeline) c.apply_strategy.result) c.self.view_is c.apply_strategy.ensures.performs
+returns g c = performs_by _ _ _ _ _ c.self.view_is _ c.apply_strategy.ensures.performs

@@ -1,17 +1,8 @@
-use Rattle.std.proofs.Common.{subst}
-use Rattle.session_history.specs.Acts.{begin, PerformsSurely}
-use Rattle.session_history.specs.Unfolded.{unfolded}
-use Rattle.session_history.proofs.SoundLemmas.{act_sound}
-use Rattle.session_history.proofs.ActLemmas.{kept_by}
+use Rattle.session_core.proofs.SessionLemmas.{keeps_surely, performs_surely}
 use Rattle.session_core.proofs.session.Session.begin.Goals as goal
 
 pub invariant_of-self : goal.invariant_of-self
-invariant_of-self g c =
-    let act = begin in
-    let p = c.begin.ensures c.self.inside.primitives in (
-      act_sound act c.begin.result _ _ tt p.ok p.err c.self.invariant.0,
-      kept_by c.self.inside.primitives c.self.inside.timeline c.begin.new.self c.self.inside.kept act c.begin.result tt p.ok p.err c.self.invariant.1,
-    )
+invariant_of-self g c = keeps_surely _ _ _ _ _ _ c.begin.ensures tt tt c.self.invariant
 
 pub returns : goal.returns
-returns g c = subst (λ h. PerformsSurely begin h (unfolded c.self.inside.primitives c.begin.new.self) c.begin.result) c.self.view_is (c.begin.ensures c.self.inside.primitives)
+returns g c = performs_surely _ _ _ _ _ c.self.view_is _ c.begin.ensures

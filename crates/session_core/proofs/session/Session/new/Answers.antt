@@ -5,10 +5,10 @@ use Rattle.session_history.proofs.SoundLemmas.{sound_no_contents}
 use Rattle.session_core.proofs.session.Session.new.Goals as goal
 
 pub invariant_of-result : goal.invariant_of-result
-invariant_of-result g c = (
-  subst HasSoundContents (sym (c.new.ensures c.args.primitives)) (tt, sound_no_contents c.args.primitives, tt),
-  c.new-2.ensures c.args.primitives (contents c.new.result.store).modules,
-)
+invariant_of-result g c = record {
+  sound = subst HasSoundContents (sym (c.new.ensures c.args.primitives)) (tt, sound_no_contents c.args.primitives, tt);
+  kept = c.new-2.ensures c.args.primitives (contents c.new.result.store).modules;
+}
 
 pub returns : goal.returns
 returns g c = c.new.ensures c.args.primitives

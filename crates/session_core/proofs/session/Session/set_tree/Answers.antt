@@ -1,17 +1,8 @@
-use Rattle.std.proofs.Common.{subst}
-use Rattle.session_history.specs.Acts.{set_tree, Performs}
-use Rattle.session_history.specs.Unfolded.{unfolded}
-use Rattle.session_history.proofs.SoundLemmas.{act_sound}
-use Rattle.session_history.proofs.ActLemmas.{kept_by}
+use Rattle.session_core.proofs.SessionLemmas.{keeps, performs}
 use Rattle.session_core.proofs.session.Session.set_tree.Goals as goal
 
 pub invariant_of-self : goal.invariant_of-self
-invariant_of-self g c =
-    let act = set_tree c.args.name.now c.args.tree in
-    let p = c.set_tree.ensures c.self.inside.primitives in (
-      act_sound act c.set_tree.result _ _ tt p.ok p.err c.self.invariant.0,
-      kept_by c.self.inside.primitives c.self.inside.timeline c.set_tree.new.self c.self.inside.kept act c.set_tree.result tt p.ok p.err c.self.invariant.1,
-    )
+invariant_of-self g c = keeps _ _ _ _ _ _ c.set_tree.ensures tt tt c.self.invariant
 
 pub returns : goal.returns
-returns g c = subst (λ h. Performs (set_tree c.args.name.now c.args.tree) h (unfolded c.self.inside.primitives c.set_tree.new.self) c.set_tree.result) c.self.view_is (c.set_tree.ensures c.self.inside.primitives)
+returns g c = performs _ _ _ _ _ c.self.view_is _ c.set_tree.ensures

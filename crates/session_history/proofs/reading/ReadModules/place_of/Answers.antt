@@ -1,6 +1,5 @@
-use Rattle.std.proofs.Common.{◌≡◌, List, ℕ, sym, ap, subst, ◌∙◌, get_or}
+use Rattle.std.proofs.Common.{◌≡◌, sym, ap, subst, ◌∙◌, get_or}
 use Rattle.std.specs.Ordering.{is_eq}
-use Rattle.strategy_syntax.specs.Modules.{Module}
 use Rattle.session_history.proofs.MapLemmas.{same_key}
 use Rattle.session_history.proofs.ReadingLemmas.{named_there}
 use Rattle.session_history.proofs.reading.ReadModules.place_of.Goals as goal

@@ -1,10 +1,7 @@
 use Rattle.std.proofs.Common.{refl, ap, ◌∙◌, ◌++◌, ◌∷◌, [], take}
 use Rattle.term_changes.specs.PatchLaws.{patch_entries}
-use Rattle.term_changes.specs.Slots.{contents}
-use Rattle.session_history.specs.History.{changed}
-use Rattle.session_history.specs.Unfolded.{Logged, unfolded}
 use Rattle.session_history.specs.inside.View.{logged}
-use Rattle.session_history.proofs.PlaceLemmas.{many_placed, many_unfolded}
+use Rattle.session_history.proofs.PlaceLemmas.{many_placed, many_changes}
 use Rattle.session_history.proofs.PatchLemmas.{adds_many, adds_compact}
 use Rattle.session_history.proofs.timeline.Timeline.patch_as_step.Goals as goal
 
@@ -19,12 +16,11 @@ invariant_of-self-2 c =
     _ c.add.ensures.position c.self.invariant
 
 pub returns-clause-ok : goal.returns-clause-ok
-returns-clause-ok c = λ ps.
+returns-clause-ok c = rw (← c.self.view_is) (
     let t = logged c.self.inside in
     let es = patch_entries c.args.slot c.args.path.items c.args.patch in
     let step = c.patched-step.result in
-    many_unfolded t c.patched-step.new.store c.add.new.logs.items step [] (rw (← c.self.view_is) at c.requires.outside) refl
+    many_changes t c.patched-step.new.store c.add.new.logs.items step [] (rw (← c.self.view_is) at c.requires.outside) refl
     (adds_many es t.store c.patched-step.new.store [] step (rw (← c.self.view_is) at c.requires.places) c.patched-step.ensures.store c.patched-step.ensures.step)
     (adds_compact (take t.position t.logs) c.add.new.logs.items step (c.add.ensures.logs ∙ ap (λ l. take t.position l ++ step ∷ []) c.in_ok-reserve.ensures.items) c.patched-step.ensures.compact)
-    _ c.add.ensures.position c.self.invariant ps
-    ∙ ap (λ (o : Logged). changed (contents c.patched-step.new.store) (unfolded ps o)) c.self.view_is
+    _ c.add.ensures.position c.self.invariant)
