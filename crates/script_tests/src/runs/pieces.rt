@@ -36,7 +36,7 @@ pub fn new_session(alloc: Global) -> Session<NoPrimitives> {
 }
 
 pub fn settings(stop: bool) -> Settings
-    ensures { IsBudget result.budget }
+    ensures { IsBudget result.steps }
 {
     Settings {
         steps: MAX_BUDGET,
@@ -54,7 +54,7 @@ pub fn ends(accepted: u64, refused: u64) -> Outcome {
 
 /// The same for a script whose lines are its commands.
 pub fn settings_of_lines() -> Settings
-    ensures { IsBudget result.budget }
+    ensures { IsBudget result.steps }
 {
     Settings {
         steps: MAX_BUDGET,
