@@ -279,7 +279,7 @@ fn annotate<M: Meaning>(
     if let Err(refusal) = find_place(session, name, path) {
         return Err(refusal);
     }
-    match read_notes(alloc, text) {
+    match annotations_in(alloc, text) {
         Ok(annotations) => session.annotate(name, path, annotations),
         Err(refusal) => Err(refusal),
     }
@@ -316,7 +316,7 @@ fn read_term(alloc: Global, text: &[u8]) -> Result<Term, Refusal>
     }
 }
 
-fn read_notes(alloc: Global, text: &[u8]) -> Result<Vec<Term>, Refusal>
+fn annotations_in(alloc: Global, text: &[u8]) -> Result<Vec<Term>, Refusal>
     ensures ok { IfOk result (λ terms. ReadAs SpellsAnnotations text.now (Ok terms.items)) }
     ensures refused { IfErr result (λ refusal. (refusal ≡ Refusal.Memory)
         ⊎ ReadAs SpellsAnnotations text.now (Err refusal)) }

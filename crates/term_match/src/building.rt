@@ -133,7 +133,12 @@ impl<'t> Cells<'t> {
             PlaceForm::Integer(number) => Ok(Some(Value::leaf(Kind::Integer(*number)))),
             PlaceForm::Compound(head, parts) => self.compound(alloc, places, kind_of(head), parts),
             PlaceForm::WithTail(parts, tail) => self.with_tail(alloc, places, parts, tail),
-            PlaceForm::Annotated(inner, notes) => self.annotated(alloc, places, inner, notes),
+            PlaceForm::Annotated(inner, annotations) => self.annotated(
+                alloc,
+                places,
+                inner,
+                annotations,
+            ),
         }
     }
 
@@ -165,13 +170,13 @@ impl<'t> Cells<'t> {
         alloc: Global,
         places: &P,
         inner: &'t Place,
-        notes: &'t [Place],
+        annotations: &'t [Place],
     ) -> Result<Option<Value<'t>>, NoMemory>
         ensures { IfOk result (λ value. value
-            ≡ build_place (annotated inner.now (places_of notes.now)) (P.places places.now) self.now.bindings) }
+            ≡ build_place (annotated inner.now (places_of annotations.now)) (P.places places.now) self.now.bindings) }
     {
         let value = self.instance(alloc, places, inner)?;
-        let with = self.with_notes(alloc, places, &value, notes);
+        let with = self.with_all(alloc, places, &value, annotations);
         drop(value);
         with
     }
@@ -179,19 +184,19 @@ impl<'t> Cells<'t> {
     // A term, if there is one, with the instances of patterns as annotations.
     #[cycle(instance)]
     #[inline(always)]
-    fn with_notes<P: Places>(
+    fn with_all<P: Places>(
         &self,
         alloc: Global,
         places: &P,
         value: &Option<Value<'t>>,
-        notes: &'t [Place],
+        annotations: &'t [Place],
     ) -> Result<Option<Value<'t>>, NoMemory>
         ensures { IfOk result (λ with. with ≡ option_and_then (λ u. option_map (with_annotations u)
-            (build_places (places_of notes.now) (P.places places.now) self.now.bindings)) value.now) }
+            (build_places (places_of annotations.now) (P.places places.now) self.now.bindings)) value.now) }
     {
         match value {
             None => Ok(None),
-            Some(value) => noted(alloc, value, self.instances(alloc, places, notes)?),
+            Some(value) => annotated(alloc, value, self.instances(alloc, places, annotations)?),
         }
     }
 
@@ -300,8 +305,8 @@ impl<'t> Cells<'t> {
             PlaceForm::WithTail(parts, tail) => {
                 self.have_instances(places, parts) && self.has_list(places, tail)
             }
-            PlaceForm::Annotated(inner, notes) => {
-                self.has_instance(places, inner) && self.have_instances(places, notes)
+            PlaceForm::Annotated(inner, annotations) => {
+                self.has_instance(places, inner) && self.have_instances(places, annotations)
             }
         }
     }
@@ -325,8 +330,8 @@ impl<'t> Cells<'t> {
             PlaceForm::WithTail(parts, tail) => {
                 self.have_instances(places, parts) && self.has_list(places, tail)
             }
-            PlaceForm::Annotated(inner, notes) => {
-                self.has_list(places, inner) && self.have_instances(places, notes)
+            PlaceForm::Annotated(inner, annotations) => {
+                self.has_list(places, inner) && self.have_instances(places, annotations)
             }
         }
     }
@@ -380,9 +385,9 @@ impl<'t> Cells<'t> {
                 self.measure_all(places, parts, limit);
                 self.measure(places, tail, limit);
             }
-            PlaceForm::Annotated(inner, notes) => {
+            PlaceForm::Annotated(inner, annotations) => {
                 self.measure(places, inner, limit);
-                self.measure_all(places, notes, limit);
+                self.measure_all(places, annotations, limit);
             }
         }
     }
@@ -534,16 +539,16 @@ fn all_in_front<'t>(
 
 // A term with others as annotations, if they exist.
 #[inline(always)]
-fn noted<'t>(
+fn annotated<'t>(
     alloc: Global,
     value: &Value<'t>,
-    notes: Option<Vec<Value<'t>>>,
+    annotations: Option<Vec<Value<'t>>>,
 ) -> Result<Option<Value<'t>>, NoMemory>
-    ensures { IfOk result (λ with. with ≡ option_map (λ us. with_annotations value.now us.items) notes.entry) }
+    ensures { IfOk result (λ with. with ≡ option_map (λ us. with_annotations value.now us.items) annotations.entry) }
 {
-    match notes {
+    match annotations {
         None => Ok(None),
-        Some(notes) => Ok(Some(value.with_annotations(alloc, notes)?)),
+        Some(annotations) => Ok(Some(value.with_annotations(alloc, annotations)?)),
     }
 }
 

@@ -98,11 +98,11 @@ impl<'t> Cells<'t> {
                 }
                 self.match_rest(alloc, places, tail, value, parts.len())
             }
-            PlaceForm::Annotated(inner, notes) => {
+            PlaceForm::Annotated(inner, annotations) => {
                 if !self.match_bare(alloc, places, inner, value)? {
                     return Ok(false);
                 }
-                self.match_notes(alloc, places, notes, value)
+                self.match_annotations(alloc, places, annotations, value)
             }
         }
     }
@@ -201,7 +201,7 @@ impl<'t> Cells<'t> {
 
     // Matches all annotations, each with a pattern.
     #[cycle(match_part)]
-    fn match_notes<P: Places>(
+    fn match_annotations<P: Places>(
         &mut self,
         alloc: Global,
         places: &P,
@@ -215,9 +215,9 @@ impl<'t> Cells<'t> {
         if value.annotation_count() != patterns.len() {
             return Ok(false);
         }
-        let notes = value.share_annotations(alloc)?;
+        let annotations = value.share_annotations(alloc)?;
         for i in 0..patterns.len() {
-            if !self.match_part(alloc, places, &patterns[i], &notes[i])? {
+            if !self.match_part(alloc, places, &patterns[i], &annotations[i])? {
                 return Ok(false);
             }
         }

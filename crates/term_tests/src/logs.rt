@@ -205,8 +205,8 @@ fn annotate(
     path: &[usize],
     value: i64,
 ) -> Result<bool, Fail> {
-    let notes = vec![in alloc; Term::integer(alloc, value)]?;
-    push(store, log, Entry::annotations(slot, path, notes))
+    let annotations = vec![in alloc; Term::integer(alloc, value)]?;
+    push(store, log, Entry::annotations(slot, path, annotations))
 }
 
 // Makes the call, and returns whether what has to hold does.

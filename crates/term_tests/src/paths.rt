@@ -163,33 +163,43 @@ fn subterms(rt: HostRuntime) -> Result<(), Fail> {
     Ok(())
 }
 
-// The notes are 6 and 7.
-fn are_swapped_at(tree: &mut Term, root: &Path, notes: &mut Vec<Term>) -> bool {
-    swap_annotations_at(tree, root, notes)
-        && notes.is_empty()
+// The annotations are 6 and 7.
+fn are_swapped_at(tree: &mut Term, root: &Path, annotations: &mut Vec<Term>) -> bool {
+    swap_annotations_at(tree, root, annotations)
+        && annotations.is_empty()
         && tree.annotations().len() == 2
         && is_integer(tree.annotations().first(), 6)
-        && swap_annotations_at_parts(tree, &[1], notes)
-        && notes.len() == 1
-        && is_integer(notes.first(), 4)
+        && swap_annotations_at_parts(tree, &[1], annotations)
+        && annotations.len() == 1
+        && is_integer(annotations.first(), 4)
         && at_parts(tree, &[1]).is_some_and(|list| list.annotations().is_empty())
-        && !swap_annotations_at_parts(tree, &[1, 2], notes)
+        && !swap_annotations_at_parts(tree, &[1, 2], annotations)
 }
 
-fn are_changed_at(tree: &mut Term, first: &Path, notes: &mut Vec<Term>) -> bool {
-    change_at(tree, first, |here: &mut Term| here.swap_annotations(notes))
-        && notes.is_empty()
+fn are_changed_at(tree: &mut Term, first: &Path, annotations: &mut Vec<Term>) -> bool {
+    change_at(
+        tree,
+        first,
+        |here: &mut Term| here.swap_annotations(annotations),
+    ) && annotations.is_empty()
         && at(tree, first).is_some_and(|here| here.annotations().len() == 1)
-        && change_at_parts(tree, &[0], |here: &mut Term| here.swap_annotations(notes))
-        && notes.len() == 1
+        && change_at_parts(
+            tree,
+            &[0],
+            |here: &mut Term| here.swap_annotations(annotations),
+        )
+        && annotations.len() == 1
         && tree.annotations().len() == 2
 }
 
 fn are_annotated(alloc: Global, tree: &mut Term) -> Result<bool, Fail> {
     let first = path(alloc, &[0])?;
     let root = Path::root(alloc);
-    let mut notes = integers(alloc, &[6, 7])?;
-    Ok(are_swapped_at(tree, &root, &mut notes) && are_changed_at(tree, &first, &mut notes))
+    let mut annotations = integers(alloc, &[6, 7])?;
+    Ok(
+        are_swapped_at(tree, &root, &mut annotations)
+            && are_changed_at(tree, &first, &mut annotations),
+    )
 }
 
 #[test]
@@ -217,13 +227,13 @@ fn deep_path(alloc: Global, length: u32) -> Result<Path, Fail> {
     Ok(path)
 }
 
-// The other term is 2, and the notes are 3.
-fn is_changed(tree: &mut Term, path: &Path, other: &mut Term, notes: &mut Vec<Term>) -> bool {
+// The other term is 2, and the annotations are 3.
+fn is_changed(tree: &mut Term, path: &Path, other: &mut Term, annotations: &mut Vec<Term>) -> bool {
     swap_at(tree, path, other)
         && is_integer(Some(other), 1)
         && is_integer(at(tree, path), 2)
-        && swap_annotations_at(tree, path, notes)
-        && notes.is_empty()
+        && swap_annotations_at(tree, path, annotations)
+        && annotations.is_empty()
         && at(tree, path).is_some_and(|deepest| deepest.annotations().len() == 1)
 }
 
@@ -234,9 +244,9 @@ fn is_changed_alone(
     below: &Path,
 ) -> Result<bool, Fail> {
     let mut other = Term::integer(alloc, 2);
-    let mut notes = integers(alloc, &[3])?;
+    let mut annotations = integers(alloc, &[3])?;
     Ok(
-        is_changed(tree, path, &mut other, &mut notes)
+        is_changed(tree, path, &mut other, &mut annotations)
             && at(tree, below).is_none()
             && !swap_at(tree, below, &mut other),
     )

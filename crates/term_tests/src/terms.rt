@@ -130,9 +130,9 @@ fn is_application(term: &mut Term) -> bool {
 }
 
 // Annotations count in height and size, and in equality.
-fn is_annotated(term: &mut Term, notes: &mut Vec<Term>, bare: &Term) -> bool {
-    term.swap_annotations(notes);
-    notes.is_empty()
+fn is_annotated(term: &mut Term, annotations: &mut Vec<Term>, bare: &Term) -> bool {
+    term.swap_annotations(annotations);
+    annotations.is_empty()
         && term.annotations().len() == 1
         && (term.height(), term.size()) == (4, 6)
         && !term.equals(bare)
@@ -140,8 +140,8 @@ fn is_annotated(term: &mut Term, notes: &mut Vec<Term>, bare: &Term) -> bool {
 
 fn counts_annotations(alloc: Global, term: &mut Term) -> Result<bool, NoMemory> {
     let bare = term.try_clone()?;
-    let mut notes = vec![in alloc; nested_lists(alloc, 3)?]?;
-    Ok(is_annotated(term, &mut notes, &bare))
+    let mut annotations = vec![in alloc; nested_lists(alloc, 3)?]?;
+    Ok(is_annotated(term, &mut annotations, &bare))
 }
 
 fn equals_its_copy(term: &Term) -> Result<bool, NoMemory> {

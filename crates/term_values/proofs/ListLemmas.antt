@@ -68,8 +68,8 @@ bare_same t h = sym (with_annotations-same t) ∙ ap (with_annotations t) (nothi
     nothing [] e = refl
     nothing (u ∷ us) e = absurd (omega (arith, e))
 
-pub noted_bare : (t u : Tree) (ns : List Tree) → with_annotations t ns ≡ u → annotations t ≡ [] → t ≡ bare u
-noted_bare t u ns e h = bare_same t (ap length h) ∙ sym (with_annotations-again t ns []) ∙ ap bare e
+pub annotated_bare : (t u : Tree) (ns : List Tree) → with_annotations t ns ≡ u → annotations t ≡ [] → t ≡ bare u
+annotated_bare t u ns e h = bare_same t (ap length h) ∙ sym (with_annotations-again t ns []) ∙ ap bare e
 
 -- ---- elements in front of a list
 

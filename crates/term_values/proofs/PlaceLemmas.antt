@@ -37,9 +37,9 @@ pub altered_parts : (t : Tree) (ps : List Standing) (x : Altered) → record { b
     → ps ≡ stand_all (children x.before) x.changes
 altered_parts t ps x e h = suits_stand_all (children t) ps h ∙ ap (λ a. stand_all (children a.before) a.changes) e
 
-pub altered_notes : (t : Tree) (ps : List Standing) (x : Altered) → record { before = t; changes = standing_changes ps } ≡ x
+pub altered_annotations : (t : Tree) (ps : List Standing) (x : Altered) → record { before = t; changes = standing_changes ps } ≡ x
     → annotations t ≡ annotations (after x)
-altered_notes t ps x e =
+altered_annotations t ps x e =
     sym (annotations-with_children t (changed_all (standing_changes ps) (children t))) ∙ ap (λ a. annotations (after a)) e
 
 -- ---- heights of parts

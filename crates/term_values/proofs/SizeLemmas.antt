@@ -5,7 +5,7 @@ use Rattle.term_core.specs.Size.{height, heights, size, sizes}
 use Rattle.term_core.proofs.TreeLemmas.{of_list-to_list, size_pos}
 use Rattle.term_values.specs.declared.bounds.Bounds.{Bounds}
 use Rattle.term_values.specs.inside.Bounded.{Covers, Bounded, AllBounded, AllWithin}
-use Rattle.term_values.specs.inside.ValueFalls.{size_parts, sizes-append, some_size, size_noted}
+use Rattle.term_values.specs.inside.ValueFalls.{size_parts, sizes-append, some_size, size_annotated}
 use Rattle.term_core.specs.Kind.{made_of}
 use Rattle.term_core.specs.declared.kind.Kind.{Kind}
 use Rattle.term_core.specs.declared.kind.Kind.TheVariants.{Integer, Application, List as AList, Tuple}
@@ -112,17 +112,17 @@ joined_bounded us t b e h =
     omega (arith, ap height e, heights-append us (children t)) in
     covers_along _ _ _ _ b s k h
 
-height_noted : (t : Tree) (ns : List Tree) → height (with_annotations t ns) ≡ max (heights (of_list (children t))) (heights (of_list ns)) + 1
-height_noted (integer z notes) ns = omega arith
-height_noted (branch head kids notes) ns = omega (arith, ap heights (of_list-to_list kids))
+height_annotated : (t : Tree) (ns : List Tree) → height (with_annotations t ns) ≡ max (heights (of_list (children t))) (heights (of_list ns)) + 1
+height_annotated (integer z notes) ns = omega arith
+height_annotated (branch head kids notes) ns = omega (arith, ap heights (of_list-to_list kids))
 
-pub noted_bounded : (t : Tree) (ns : List Tree) (b : Bounds) → annotations t ≡ []
+pub annotated_bounded : (t : Tree) (ns : List Tree) (b : Bounds) → annotations t ≡ []
     → Covers (sizes (of_list ns) + size t) (max (heights (of_list ns) + 1) (height t)) b → Bounded (with_annotations t ns) b
-noted_bounded t ns b e h =
+annotated_bounded t ns b e h =
     let s : sizes (of_list ns) + size t ≡ size (with_annotations t ns) =
-    omega (arith, size_noted t ns, size_parts t, ap (λ l. sizes (of_list l)) e) in
+    omega (arith, size_annotated t ns, size_parts t, ap (λ l. sizes (of_list l)) e) in
     let k : max (heights (of_list ns) + 1) (height t) ≡ height (with_annotations t ns) =
-    omega (arith, height_noted t ns, height_parts t, ap (λ l. heights (of_list l)) e) in
+    omega (arith, height_annotated t ns, height_parts t, ap (λ l. heights (of_list l)) e) in
     covers_along _ _ _ _ b s k h
 
 -- ---- parts of a term
@@ -144,13 +144,13 @@ pub rest_height : (t : Tree) (k : ℕ) → height (list_term (drop k (children t
 rest_height t k = omega (arith, heights_drop (children t) k, height_parts t)
 
 pub bare_less : (t : Tree) → 0 < length (annotations t) → size (bare t) + 1 ≤ size t
-bare_less t h = omega (arith, size_noted t [], size_parts t, some_size (annotations t) h)
+bare_less t h = omega (arith, size_annotated t [], size_parts t, some_size (annotations t) h)
 
 pub bare_height : (t : Tree) → height (bare t) + 0 ≤ height t
-bare_height t = omega (arith, height_noted t [], height_parts t)
+bare_height t = omega (arith, height_annotated t [], height_parts t)
 
-pub notes_size : (t : Tree) → sizes (of_list (annotations t)) + 1 ≤ size t
-notes_size t = omega (arith, size_parts t)
+pub annotations_size : (t : Tree) → sizes (of_list (annotations t)) + 1 ≤ size t
+annotations_size t = omega (arith, size_parts t)
 
-pub notes_height : (t : Tree) → heights (of_list (annotations t)) + 1 ≤ height t
-notes_height t = omega (arith, height_parts t)
+pub annotations_height : (t : Tree) → heights (of_list (annotations t)) + 1 ≤ height t
+annotations_height t = omega (arith, height_parts t)

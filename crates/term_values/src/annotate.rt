@@ -6,7 +6,7 @@ ghost use Rattle.term_core.specs.Tree.{annotations, with_annotations, bare as ba
 ghost use Rattle.term_changes.specs.Standing.{after};
 ghost use Rattle.term_values.specs.inside.Bounded.{AllBounded};
 ghost use Rattle.term_values.specs.inside.Shape.{AnnotatedShape};
-ghost use Rattle.term_values.specs.inside.ValueView.{notes_list};
+ghost use Rattle.term_values.specs.inside.ValueView.{annotation_list};
 
 use crate::bounds::Bounds;
 use crate::build::all_bounds;
@@ -33,7 +33,7 @@ impl<'t> Value<'t> {
                 form: Form::BareKept(changed.clone()?),
                 bounds: self.bounds.less(1, 0),
             }),
-            Form::Annotated(noted) => noted.node.try_clone(),
+            Form::Annotated(annotated) => annotated.node.try_clone(),
             _ => self.try_clone(),
         }
     }
@@ -51,7 +51,7 @@ impl<'t> Value<'t> {
             return Ok(node);
         }
         let within = all_bounds(&all);
-        noted(alloc, node, Annotations::Own(all), within)
+        annotated(alloc, node, Annotations::Own(all), within)
     }
 
     /// The same value with the annotations of another in place of its own. If that is part of the
@@ -63,13 +63,13 @@ impl<'t> Value<'t> {
         if of.annotation_count() == 0 {
             return Ok(node);
         }
-        let notes = of.share_own_annotations(alloc)?;
-        noted(alloc, node, notes, of.notes_bounds())
+        let annotations = of.share_own_annotations(alloc)?;
+        annotated(alloc, node, annotations, of.annotation_bounds())
     }
 
     // Another holder of the annotations.
     fn share_own_annotations(&self, alloc: Global) -> Result<Annotations<'t>, NoMemory>
-        ensures { IfOk result (λ notes. notes_list notes ≡ annotations self.now) }
+        ensures { IfOk result (λ shared. annotation_list shared ≡ annotations self.now) }
     {
         match &self.form {
             Form::Original(term) => Ok(Annotations::Of(*term)),
@@ -79,7 +79,7 @@ impl<'t> Value<'t> {
     }
 
     // Bounds of all annotations together.
-    fn notes_bounds(&self) -> Bounds
+    fn annotation_bounds(&self) -> Bounds
         ensures { AllBounded (annotations self.now) result }
     {
         self.bounds.less(1, 1)
@@ -96,20 +96,20 @@ impl<'t> Changed<'t> {
 }
 
 // Gives annotations to a node that has none.
-fn noted<'t>(
+fn annotated<'t>(
     alloc: Global,
     node: Value<'t>,
-    notes: Annotations<'t>,
+    annotations: Annotations<'t>,
     within: Bounds,
 ) -> Result<Value<'t>, NoMemory>
-    requires shape { AnnotatedShape node (notes_list notes) }
-    requires bounds { AllBounded (notes_list notes) within }
-    ensures { IfOk result (λ value. value ≡ with_annotations node.entry (notes_list notes.entry)) }
+    requires shape { AnnotatedShape node (annotation_list annotations) }
+    requires bounds { AllBounded (annotation_list annotations) within }
+    ensures { IfOk result (λ value. value ≡ with_annotations node.entry (annotation_list annotations.entry)) }
 {
     let bounds = within.before(node.bounds);
-    let noted = Rc::new(alloc, Annotated { node, notes })?;
+    let annotated = Rc::new(alloc, Annotated { node, annotations })?;
     Ok(Value {
-        form: Form::Annotated(noted),
+        form: Form::Annotated(annotated),
         bounds,
     })
 }

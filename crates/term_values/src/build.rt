@@ -104,7 +104,7 @@ impl<'t> Value<'t> {
             Form::Kept(changed) => Ok(Top::Borrowed(changed.kind())),
             Form::BareKept(changed) => Ok(Top::Borrowed(changed.kind())),
             Form::Joined(_) => Ok(Top::Borrowed(Kind::List)),
-            Form::Annotated(noted) => noted.node.top(),
+            Form::Annotated(annotated) => annotated.node.top(),
         }
     }
 

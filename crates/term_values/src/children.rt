@@ -54,7 +54,7 @@ impl<'t> Value<'t> {
     pub fn annotation_count(&self) -> usize
         ensures { result ≡ length (annotations self.now) }
     {
-        self.notes().len()
+        self.annotations().len()
     }
 
     /// New holders of the annotations.
@@ -62,7 +62,7 @@ impl<'t> Value<'t> {
         ensures { IfOk result (λ all. all.items ≡ annotations self.now) }
     {
         let within = self.bounds.less(self.annotation_count(), 1);
-        Elements::alone(self.notes()).values(alloc, within)
+        Elements::alone(self.annotations()).values(alloc, within)
     }
 
     // Bounds that hold for each child.

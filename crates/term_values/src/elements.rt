@@ -5,7 +5,7 @@ ghost use Rattle.std.specs.Prelude.{◌≡◌, [], ◌∷◌, ◌++◌, ◌≤�
 ghost use Rattle.term_core.specs.Tree.{children, annotations};
 ghost use Rattle.term_core.specs.Kind.{made_of};
 ghost use Rattle.term_changes.specs.Standing.{after, standing_tree};
-ghost use Rattle.term_values.specs.inside.ValueView.{items_list, notes_list};
+ghost use Rattle.term_values.specs.inside.ValueView.{items_list, annotation_list};
 ghost use Rattle.term_values.specs.inside.Bounded.{Bounded};
 ghost use Rattle.term_values.specs.inside.Walk.{seen_tree, run_list};
 
@@ -80,20 +80,20 @@ impl<'a, 't> Seen<'a, 't> {
         Elements::alone(terms)
     }
 
-    pub(crate) fn notes(self) -> Elements<'a, 't>
+    pub(crate) fn annotations(self) -> Elements<'a, 't>
         ensures { result ≡ annotations (seen_tree self.entry) }
     {
-        Elements::alone(self.note_run())
+        Elements::alone(self.annotation_run())
     }
 
     /// The annotations as a run.
-    pub(crate) fn note_run(self) -> Run<'a, 't>
+    pub(crate) fn annotation_run(self) -> Run<'a, 't>
         ensures { run_list result ≡ annotations (seen_tree self.entry) }
     {
         match self {
             Seen::Term(term) => Run::Terms(term.annotations()),
-            Seen::Value(value) => value.notes(),
-            Seen::Part(part) => part.notes(),
+            Seen::Value(value) => value.annotations(),
+            Seen::Part(part) => part.annotations(),
         }
     }
 
@@ -147,7 +147,7 @@ impl<'t> Part<'t> {
         Elements::alone(run)
     }
 
-    pub(crate) fn notes(&self) -> Run<'_, 't>
+    pub(crate) fn annotations(&self) -> Run<'_, 't>
         ensures { run_list result ≡ annotations (standing_tree self.now) }
     {
         match &self.form {
@@ -156,7 +156,7 @@ impl<'t> Part<'t> {
                 Run::Terms(term.annotations())
             }
             PartForm::Inside(changed, _) => Run::Terms(changed.annotations()),
-            PartForm::New(value) => value.notes(),
+            PartForm::New(value) => value.annotations(),
         }
     }
 
@@ -298,7 +298,7 @@ impl<'t> Items<'t> {
 
 impl<'t> Annotations<'t> {
     fn run(&self) -> Run<'_, 't>
-        ensures { run_list result ≡ notes_list self.now }
+        ensures { run_list result ≡ annotation_list self.now }
     {
         match self {
             Annotations::Of(term) => {
@@ -340,13 +340,13 @@ impl<'t> Value<'t> {
             Form::Kept(changed) => changed.run(),
             Form::BareKept(changed) => changed.run(),
             Form::Joined(joined) => return joined_elements(joined),
-            Form::Annotated(noted) => return noted.node.elements(),
+            Form::Annotated(annotated) => return annotated.node.elements(),
         };
         Elements::alone(run)
     }
 
     /// The annotations.
-    pub(crate) fn notes(&self) -> Run<'_, 't>
+    pub(crate) fn annotations(&self) -> Run<'_, 't>
         ensures { run_list result ≡ annotations self.now }
     {
         match &self.form {
@@ -355,7 +355,7 @@ impl<'t> Value<'t> {
                 Run::Terms(term.annotations())
             }
             Form::Kept(changed) => Run::Terms(changed.annotations()),
-            Form::Annotated(noted) => noted.notes.run(),
+            Form::Annotated(annotated) => annotated.annotations.run(),
             _ => Run::Empty,
         }
     }

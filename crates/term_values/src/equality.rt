@@ -36,7 +36,7 @@ fn same(a: Seen<'_, '_>, b: Seen<'_, '_>) -> bool
     if !all_same(a.elements(), b.elements()) {
         return false;
     }
-    all_same(a.notes(), b.notes())
+    all_same(a.annotations(), b.annotations())
 }
 
 #[cycle(same)]

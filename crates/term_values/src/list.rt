@@ -51,7 +51,7 @@ impl<'t> Value<'t> {
                     Ok(self.bounded_rest(rest, skipped))
                 }
             }
-            Form::Annotated(noted) => noted.node.rest(alloc, skipped),
+            Form::Annotated(annotated) => annotated.node.rest(alloc, skipped),
             _ => {
                 let all = self.share_children(alloc)?;
                 chunked(alloc, all, skipped, Value::leaf(Kind::List))

@@ -88,8 +88,8 @@ fn measured_within(seen: Seen<'_, '_>, left: &mut u64) -> Option<Bounds>
     }
     *left -= 1;
     let children = all_measured(seen.elements(), left)?;
-    let notes = all_measured(seen.notes(), left)?;
-    Some(children.and(notes).over())
+    let annotations = all_measured(seen.annotations(), left)?;
+    Some(children.and(annotations).over())
 }
 
 #[cycle(measured)]
@@ -121,12 +121,12 @@ fn term_measured(term: &Term, left: &mut u64) -> Option<Bounds>
     }
     *left -= 1;
     let children = terms_measured(term.children(), left)?;
-    let notes = term.annotations();
-    if notes.is_empty() {
+    let annotations = term.annotations();
+    if annotations.is_empty() {
         return Some(children.over());
     }
-    let notes = terms_measured(notes, left)?;
-    Some(children.and(notes).over())
+    let annotations = terms_measured(annotations, left)?;
+    Some(children.and(annotations).over())
 }
 
 #[cycle(term_measured)]

@@ -50,8 +50,8 @@ fn copied<'t>(alloc: Global, term: &Term) -> Result<Value<'t>, NoMemory>
 {
     let top = own_top(alloc, term.kind())?;
     let children = all_copied(alloc, term.children())?;
-    let notes = all_copied(alloc, term.annotations())?;
-    Value::topped(alloc, top, children)?.with_annotations(alloc, notes)
+    let annotations = all_copied(alloc, term.annotations())?;
+    Value::topped(alloc, top, children)?.with_annotations(alloc, annotations)
 }
 
 #[cycle(copied)]
@@ -83,12 +83,12 @@ fn owned(alloc: Global, seen: Seen<'_, '_>) -> Result<Term, NoMemory>
 {
     let children = all_owned(alloc, seen.elements())?;
     let bare = node(alloc, seen.kind(), children)?;
-    let notes = seen.note_run();
-    if notes.is_empty() {
+    let annotations = seen.annotation_run();
+    if annotations.is_empty() {
         return Ok(bare);
     }
-    let notes = all_owned(alloc, Elements::alone(notes))?;
-    Ok(bare.with_annotations(notes))
+    let annotations = all_owned(alloc, Elements::alone(annotations))?;
+    Ok(bare.with_annotations(annotations))
 }
 
 #[cycle(owned)]

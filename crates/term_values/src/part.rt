@@ -169,7 +169,7 @@ impl<'t> Part<'t> {
     pub fn annotation_count(&self) -> usize
         ensures { result ≡ length (annotations (standing_tree self.now)) }
     {
-        self.notes().len()
+        self.annotations().len()
     }
 
     /// The list of the children without the first `skipped`, and without annotations.

@@ -140,7 +140,9 @@ fn changed_part<'t>(alloc: Global, of: &'t Term, parts: Vec<Part<'t>>) -> Result
     requires { SuitAll (children of.now) parts.items }
     ensures { IfOk result (λ part. part ≡ with_standing (unchanged of.now) parts.entry.items) }
 {
-    let bounds = parts_bounds(parts.as_slice()).and(notes_bounds(of)).over();
+    let bounds = parts_bounds(parts.as_slice())
+        .and(annotation_bounds(of))
+        .over();
     let changed = Rc::new(alloc, Changed { of, parts })?;
     Ok(Part {
         form: PartForm::Inside(changed, bounds),
@@ -167,7 +169,7 @@ fn parts_bounds(parts: &[Part<'_>]) -> Bounds
 }
 
 // Bounds of the annotations of a subterm: unknown if it has any.
-fn notes_bounds(of: &Term) -> Bounds
+fn annotation_bounds(of: &Term) -> Bounds
     ensures { AllBounded (annotations of.now) result }
 {
     if of.annotations().is_empty() {

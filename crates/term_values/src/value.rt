@@ -65,7 +65,7 @@ pub(crate) enum Top<'t> {
 #[cycle(value)]
 pub(crate) struct Annotated<'t> {
     pub(crate) node: Value<'t>,
-    pub(crate) notes: Annotations<'t>,
+    pub(crate) annotations: Annotations<'t>,
 }
 
 #[derive(Drop)]
@@ -210,7 +210,7 @@ impl<'t> Value<'t> {
             Form::Kept(changed) => changed.kind(),
             Form::BareKept(changed) => changed.kind(),
             Form::Joined(_) => Kind::List,
-            Form::Annotated(noted) => noted.node.kind(),
+            Form::Annotated(annotated) => annotated.node.kind(),
         }
     }
 
@@ -227,7 +227,7 @@ impl<'t> Value<'t> {
             Form::Kept(changed) => changed.child_count(),
             Form::BareKept(changed) => changed.child_count(),
             Form::Joined(joined) => joined.count,
-            Form::Annotated(noted) => noted.node.child_count(),
+            Form::Annotated(annotated) => annotated.node.child_count(),
         }
     }
 }
@@ -282,7 +282,7 @@ impl<'t> Form<'t> {
             Form::Kept(changed) => Ok(Form::Kept(changed.clone()?)),
             Form::BareKept(changed) => Ok(Form::BareKept(changed.clone()?)),
             Form::Joined(joined) => Ok(Form::Joined(joined.clone()?)),
-            Form::Annotated(noted) => Ok(Form::Annotated(noted.clone()?)),
+            Form::Annotated(annotated) => Ok(Form::Annotated(annotated.clone()?)),
         }
     }
 }

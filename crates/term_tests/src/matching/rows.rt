@@ -192,10 +192,8 @@ fn builds_from(
     text: &[u8],
 ) -> Result<bool, Fail> {
     let mut cells = Cells::new(alloc);
-    match fill(&mut cells, terms) {
-        Ok(()) => builds_in(alloc, &mut cells, pattern, level, text),
-        Err(fail) => Err(fail),
-    }
+    fill(&mut cells, terms)?;
+    builds_in(alloc, &mut cells, pattern, level, text)
 }
 
 fn builds_with(

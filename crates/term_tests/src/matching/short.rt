@@ -42,11 +42,11 @@ fn application(alloc: Global, sign: u8, parts: Vec<Term>) -> Result<Term, Fail> 
     }
 }
 
-fn annotated(inner: Option<Term>, notes: Vec<Term>) -> Result<Term, Fail> {
+fn annotated(inner: Option<Term>, annotations: Vec<Term>) -> Result<Term, Fail> {
     match inner {
-        Some(inner) => Ok(inner.with_annotations(notes)),
+        Some(inner) => Ok(inner.with_annotations(annotations)),
         None => {
-            drop(notes);
+            drop(annotations);
             Err("no term".into())
         }
     }
@@ -108,11 +108,11 @@ fn with_head(head: Result<Head, Fail>, parts: Vec<Place>) -> Result<PlaceForm, F
     }
 }
 
-fn with_notes(inner: Result<Box<Place>, Fail>, notes: Vec<Place>) -> Result<PlaceForm, Fail> {
+fn with_all(inner: Result<Box<Place>, Fail>, annotations: Vec<Place>) -> Result<PlaceForm, Fail> {
     match inner {
-        Ok(inner) => Ok(PlaceForm::Annotated(inner, notes)),
+        Ok(inner) => Ok(PlaceForm::Annotated(inner, annotations)),
         Err(fail) => {
-            drop(notes);
+            drop(annotations);
             Err(fail)
         }
     }
@@ -168,7 +168,7 @@ fn form(
             Ok(PlaceForm::At(0, boxed(alloc, stack.pop())?))
         }
         b'|' => with_tail(alloc, parts),
-        b'{' => with_notes(boxed(alloc, stack.pop()), parts),
+        b'{' => with_all(boxed(alloc, stack.pop()), parts),
         _ => with_head(head(alloc, sign), parts),
     }
 }

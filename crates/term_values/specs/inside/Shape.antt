@@ -18,6 +18,6 @@ pub record JoinedShape (front : List Tree) (after : Tree) (count : ℕ) : Type 0
   pub counted : count ≡ length (front ++ children after)
 
 -- A node without annotations, given some.
-pub record AnnotatedShape (node : Tree) (notes : List Tree) : Type 0 where
+pub record AnnotatedShape (node : Tree) (given : List Tree) : Type 0 where
   pub bare : annotations node ≡ []
-  pub some : 0 < length notes
+  pub some : 0 < length given

@@ -16,14 +16,14 @@ use Rattle.term_values.specs.declared.value.Form.TheVariants.{Leaf, Original, Ba
 use Rattle.term_values.specs.declared.value.Top.{Top}
 use Rattle.term_values.specs.declared.value.Top.TheVariants.{Borrowed, Owned}
 use Rattle.term_values.specs.declared.value.Annotations.{Annotations}
-use Rattle.term_values.specs.declared.value.Annotations.TheVariants as notes
+use Rattle.term_values.specs.declared.value.Annotations.TheVariants as annotated
 use Rattle.term_values.specs.declared.value.Items.{Items}
 use Rattle.term_values.specs.declared.value.Items.TheVariants.{One, Two, Many}
 use Rattle.term_values.specs.declared.part.PartForm.{PartForm}
 use Rattle.term_values.specs.declared.part.PartForm.TheVariants.{Same, Inside, New}
 use Rattle.term_values.specs.declared.part.Changed.TheInside.{Inside as ChangedFields}
 use Rattle.term_values.specs.declared.part.Changed.TheDeep.{deep-Form, deep-Items, deep-Annotations, deep-PartForm}
-use Rattle.term_values.specs.inside.ValueView.{items_list, top_tree, top_shape, notes_list, form_tree, form_shape, value_size, altered_size, standing_size, altered_of, part_standing, PartsSuit}
+use Rattle.term_values.specs.inside.ValueView.{items_list, top_tree, top_shape, annotation_list, form_tree, form_shape, value_size, altered_size, standing_size, altered_of, part_standing, PartsSuit}
 
 most_le : (ts : List Tree) → most (λ t. value_size t + 1) ts ≤ 4 * sizes (of_list ts) + 2
 most_le [] = omega arith
@@ -42,9 +42,9 @@ size_parts (integer z notes) = omega (arith, ap sizes (of_list-to_list notes))
 size_parts (branch head kids notes) =
     omega (arith, ap sizes (of_list-to_list kids), ap sizes (of_list-to_list notes))
 
-pub size_noted : (t : Tree) (ns : List Tree) → size (with_annotations t ns) ≡ sizes (of_list (children t)) + sizes (of_list ns) + 1
-size_noted (integer z notes) ns = omega arith
-size_noted (branch head kids notes) ns = omega (arith, ap sizes (of_list-to_list kids))
+pub size_annotated : (t : Tree) (ns : List Tree) → size (with_annotations t ns) ≡ sizes (of_list (children t)) + sizes (of_list ns) + 1
+size_annotated (integer z notes) ns = omega arith
+size_annotated (branch head kids notes) ns = omega (arith, ap sizes (of_list-to_list kids))
 
 pub bare_size : (t : Tree) → annotations t ≡ [] → size t ≡ sizes (of_list (children t)) + 1
 bare_size t h = omega (arith, size_parts t, ap (λ l. sizes (of_list l)) h)
@@ -56,9 +56,9 @@ above_items (One us) = omega (arith, most_le us.items)
 above_items (Two us) = omega (arith, most_le us.items)
 above_items (Many us) = omega (arith, most_le us.items)
 
-above_notes : (ns : Annotations) → deep-Annotations ns ≤ 4 * sizes (of_list (notes_list ns)) + 2
-above_notes (notes.Of t) = omega arith
-above_notes (notes.Own us) = omega (arith, most_le us.items)
+above_annotations : (ns : Annotations) → deep-Annotations ns ≤ 4 * sizes (of_list (annotation_list ns)) + 2
+above_annotations (annotated.Of t) = omega arith
+above_annotations (annotated.Own us) = omega (arith, most_le us.items)
 
 made_size : (k : Kind) (us : List Tree) → kind_shape k us → size (made_of k us []) ≡ sizes (of_list us) + 1
 made_size (Integer z) us h = omega (arith, ap (λ l. sizes (of_list l)) h)
@@ -77,7 +77,7 @@ above_form (Bare t) h = omega arith
 above_form (Rest t k) h = omega arith
 above_form (Built m) h = omega (arith, above_items m.value.items, top_size m.value.top (items_list m.value.items) h)
 above_form (Kept c) h = omega (arith, size_parts (after c.value))
-above_form (BareKept c) h = omega (arith, size_noted (after c.value) [])
+above_form (BareKept c) h = omega (arith, size_annotated (after c.value) [])
 above_form (Joined j) h =
     let us = items_list j.value.front in
     omega (
@@ -88,11 +88,11 @@ above_form (Joined j) h =
       bare_size j.value.after (ap annotations h.list),
     )
 above_form (Annotated n) h =
-    let ns = notes_list n.value.notes in
+    let ns = annotation_list n.value.annotations in
     omega (
       arith,
-      above_notes n.value.notes,
-      size_noted n.value.node ns,
+      above_annotations n.value.annotations,
+      size_annotated n.value.node ns,
       some_size ns h.some,
       bare_size n.value.node h.bare,
     )

@@ -11,7 +11,7 @@ use Rattle.term_values.specs.declared.value.Form.TheVariants.{Leaf, Original, Ba
 use Rattle.term_values.specs.declared.value.Top.{Top}
 use Rattle.term_values.specs.declared.value.Top.TheVariants.{Borrowed, Owned}
 use Rattle.term_values.specs.declared.value.Annotations.{Annotations}
-use Rattle.term_values.specs.declared.value.Annotations.TheVariants as notes
+use Rattle.term_values.specs.declared.value.Annotations.TheVariants as annotated
 use Rattle.term_values.specs.declared.value.Items.{Items}
 use Rattle.term_values.specs.declared.value.Items.TheVariants.{One, Two, Many}
 use Rattle.term_values.specs.declared.part.PartForm.{PartForm}
@@ -36,9 +36,9 @@ abbrev pub top_shape : Top → List Tree → Type 0
 top_shape (Borrowed k) us = kind_shape k us
 top_shape (Owned name) us = Unit {0}
 
-abbrev pub notes_list : Annotations → List Tree
-notes_list (notes.Of t) = annotations t.now
-notes_list (notes.Own us) = us.items
+abbrev pub annotation_list : Annotations → List Tree
+annotation_list (annotated.Of t) = annotations t.now
+annotation_list (annotated.Own us) = us.items
 
 abbrev pub form_tree : Form → Tree
 form_tree (Leaf k) = made_of k [] []
@@ -49,7 +49,7 @@ form_tree (Built m) = top_tree m.value.top (items_list m.value.items) []
 form_tree (Kept c) = after c.value
 form_tree (BareKept c) = bare (after c.value)
 form_tree (Joined j) = list_term (items_list j.value.front ++ children j.value.after)
-form_tree (Annotated n) = with_annotations n.value.node (notes_list n.value.notes)
+form_tree (Annotated n) = with_annotations n.value.node (annotation_list n.value.annotations)
 
 abbrev pub form_shape : Form → Type 0
 form_shape (Leaf k) = Unit {0}
@@ -60,7 +60,7 @@ form_shape (Built m) = top_shape m.value.top (items_list m.value.items)
 form_shape (Kept c) = Unit {0}
 form_shape (BareKept c) = Unit {0}
 form_shape (Joined j) = JoinedShape (items_list j.value.front) j.value.after j.value.count
-form_shape (Annotated n) = AnnotatedShape n.value.node (notes_list n.value.notes)
+form_shape (Annotated n) = AnnotatedShape n.value.node (annotation_list n.value.annotations)
 
 abbrev pub view_of : ValueFields → Tree
 view_of a = form_tree a.form

@@ -37,13 +37,13 @@ pub measured_within-returns-clause-some : goal.measured_within-returns-clause-so
 measured_within-returns-clause-some t c =
     let u = seen_tree c.args.seen in
     let us = c.elements.result in
-    let ns = c.notes.result in
+    let ns = c.annotations.result in
     let a = c.in_ok-children.ensures.some in
-    let b = c.in_ok-notes.ensures.some in
+    let b = c.in_ok-annotations.ensures.some in
     let both = c.and.ensures.covers (sizes (of_list us)) (heights (of_list us)) (sizes (of_list ns)) (heights (of_list ns)) a.0.0 b.0.0 in
     let over = c.over.ensures.covers _ _ both in (
-      (node_bounded u us ns c.over.result c.elements.ensures c.notes.ensures over, c.over.ensures.exact (c.and.ensures.exact a.0.1 b.0.1)),
-      omega (arith, size_parts u, ap (λ l. sizes (of_list l)) c.elements.ensures, ap (λ l. sizes (of_list l)) c.notes.ensures, a.1, b.1, c.if-left-eq0.false),
+      (node_bounded u us ns c.over.result c.elements.ensures c.annotations.ensures over, c.over.ensures.exact (c.and.ensures.exact a.0.1 b.0.1)),
+      omega (arith, size_parts u, ap (λ l. sizes (of_list l)) c.elements.ensures, ap (λ l. sizes (of_list l)) c.annotations.ensures, a.1, b.1, c.if-left-eq0.false),
     )
 
 pub all_measured-returns-in_default-measured_within-clause-none :

@@ -55,11 +55,11 @@ pub term_measured-returns-clause-some : goal.term_measured-returns-clause-some
 term_measured-returns-clause-some t c =
     let u = c.args.term.now in
     let us = c.children.result.now in
-    let ns = c.annotations-notes.result.now in
+    let ns = c.annotations-annotations.result.now in
     let a = c.in_ok-children.ensures.some in
-    let b = c.in_ok-notes.ensures.some in
+    let b = c.in_ok-annotations.ensures.some in
     let both = c.and.ensures.covers (sizes (of_list us)) (heights (of_list us)) (sizes (of_list ns)) (heights (of_list ns)) a.0.0 b.0.0 in
     let over = c.over-2.ensures.covers _ _ both in (
-      (node_bounded u us ns c.over-2.result c.children.ensures c.annotations-notes.ensures over, c.over-2.ensures.exact (c.and.ensures.exact a.0.1 b.0.1)),
-      omega (arith, size_parts u, ap (λ l. sizes (of_list l)) c.children.ensures, ap (λ l. sizes (of_list l)) c.annotations-notes.ensures, a.1, b.1, c.if-left-eq0.false),
+      (node_bounded u us ns c.over-2.result c.children.ensures c.annotations-annotations.ensures over, c.over-2.ensures.exact (c.and.ensures.exact a.0.1 b.0.1)),
+      omega (arith, size_parts u, ap (λ l. sizes (of_list l)) c.children.ensures, ap (λ l. sizes (of_list l)) c.annotations-annotations.ensures, a.1, b.1, c.if-left-eq0.false),
     )

@@ -5,7 +5,7 @@ use Rattle.term_changes.specs.Standing.{after, standing_tree}
 use Rattle.term_changes.proofs.StandingLemmas.{altered_children}
 use Rattle.term_values.specs.inside.Bounded.{AllBounded}
 use Rattle.term_values.proofs.SizeLemmas.{node_bounded}
-use Rattle.term_values.proofs.PlaceLemmas.{altered_notes}
+use Rattle.term_values.proofs.PlaceLemmas.{altered_annotations}
 use Rattle.term_values.proofs.places.changed_part.Goals as goal
 
 pub invariant_of-result : goal.invariant_of-result
@@ -17,6 +17,6 @@ invariant_of-result c =
     let x = c.in_ok-changed.changed.value in
     let is = sym c.in_ok-changed.ensures.ok in
     let parts = subst (λ (l : List Tree). AllBounded l c.parts_bounds.result) (ap (map standing_tree) c.as_slice.ensures.value) c.parts_bounds.ensures in
-    let both = c.and.ensures.covers (sizes (of_list us)) (heights (of_list us)) (sizes (of_list ns)) (heights (of_list ns)) parts c.notes_bounds.ensures in
+    let both = c.and.ensures.covers (sizes (of_list us)) (heights (of_list us)) (sizes (of_list ns)) (heights (of_list ns)) parts c.annotation_bounds.ensures in
     let over = c.over-bounds.ensures.covers _ _ both in
-    node_bounded (after x) us ns c.over-bounds.result (sym (altered_children t ps x is c.requires)) (altered_notes t ps x is) over
+    node_bounded (after x) us ns c.over-bounds.result (sym (altered_children t ps x is c.requires)) (altered_annotations t ps x is) over

@@ -11,10 +11,10 @@ abbrev pub decreases-with_tail : goal.decreases-with_tail
 decreases-with_tail g l = 4 * max (places_depth (places_of l.parts.now)) (place_depth l.tail.now) + 3
 
 abbrev pub decreases-annotated : goal.decreases-annotated
-decreases-annotated g l = 4 * max (place_depth l.inner.now) (places_depth (places_of l.notes.now)) + 3
+decreases-annotated g l = 4 * max (place_depth l.inner.now) (places_depth (places_of l.annotations.now)) + 3
 
-abbrev pub decreases-with_notes : goal.decreases-with_notes
-decreases-with_notes g l = 4 * places_depth (places_of l.notes.now) + 2
+abbrev pub decreases-with_all : goal.decreases-with_all
+decreases-with_all g l = 4 * places_depth (places_of l.annotations.now) + 2
 
 abbrev pub decreases-compound : goal.decreases-compound
 decreases-compound g l = 4 * places_depth (places_of l.parts.now) + 2

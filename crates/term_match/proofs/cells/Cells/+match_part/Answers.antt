@@ -49,13 +49,13 @@ match_children-loop-i-preserved g t c =
       grows = grows_then c.args.self.now c.loop-i.self c.match_child.new.self c.loop-i.invariant.grows c.in_ok-match_child.ensures.grows;
     }
 
-pub match_notes-returns-then-annotation_count-patterns-clause-ok : goal.match_notes-returns-then-annotation_count-patterns-clause-ok
-match_notes-returns-then-annotation_count-patterns-clause-ok g t c =
+pub match_annotations-returns-then-annotation_count-patterns-clause-ok : goal.match_annotations-returns-then-annotation_count-patterns-clause-ok
+match_annotations-returns-then-annotation_count-patterns-clause-ok g t c =
     counts_differ c.args.patterns.now (annotations c.args.value.now) (g.P.Places.places c.args.places.now) c.args.self.now.bindings
     (λ e. omega (arith, e, c.annotation_count.ensures, c.if-annotation_count-patterns.true))
 
-pub match_notes-match_part-requires : goal.match_notes-match_part-requires
-match_notes-match_part-requires g t c =
+pub match_annotations-match_part-requires : goal.match_annotations-match_part-requires
+match_annotations-match_part-requires g t c =
     let within : c.loop-i.i < length c.args.patterns.now = omega arith in
     let d = depth_read c.args.patterns.now c.loop-i.i c.index-patterns-i.result within c.index-patterns-i.is in search rules
 
@@ -138,7 +138,7 @@ match_part-returns-else-not-branch-2-clause-grows g t c =
 
 pub match_part-returns-else-not-branch-3-clause-grows : goal.match_part-returns-else-not-branch-3-clause-grows
 match_part-returns-else-not-branch-3-clause-grows g t c =
-    grows_then c.args.self.now c.match_bare.new.self c.match_notes.new.self c.in_ok-match_bare-in-Annotated.ensures.grows c.match_notes.ensures.grows
+    grows_then c.args.self.now c.match_bare.new.self c.match_annotations.new.self c.in_ok-match_bare-in-Annotated.ensures.grows c.match_annotations.ensures.grows
 
 pub match_children-returns-in_err-match_child-clause-grows : goal.match_children-returns-in_err-match_child-clause-grows
 match_children-returns-in_err-match_child-clause-grows g t c =
@@ -148,12 +148,12 @@ pub match_children-returns-then-not-branch-clause-grows : goal.match_children-re
 match_children-returns-then-not-branch-clause-grows g t c =
     grows_then c.args.self.now c.loop-i.self c.match_child.new.self c.loop-i.invariant.grows c.in_ok-match_child.ensures.grows
 
-pub match_notes-returns-in_err-match_part-clause-grows : goal.match_notes-returns-in_err-match_part-clause-grows
-match_notes-returns-in_err-match_part-clause-grows g t c =
+pub match_annotations-returns-in_err-match_part-clause-grows : goal.match_annotations-returns-in_err-match_part-clause-grows
+match_annotations-returns-in_err-match_part-clause-grows g t c =
     grows_then c.args.self.now c.loop-i.self c.match_part.new.self c.loop-i.invariant.grows c.in_err-match_part.ensures.grows
 
-pub match_notes-returns-then-not-branch-clause-grows : goal.match_notes-returns-then-not-branch-clause-grows
-match_notes-returns-then-not-branch-clause-grows g t c =
+pub match_annotations-returns-then-not-branch-clause-grows : goal.match_annotations-returns-then-not-branch-clause-grows
+match_annotations-returns-then-not-branch-clause-grows g t c =
     grows_then c.args.self.now c.loop-i.self c.match_part.new.self c.loop-i.invariant.grows c.in_ok-match_part.ensures.grows
 
 pub match_children-returns-clause-ok : goal.match_children-returns-clause-ok
@@ -163,36 +163,36 @@ match_children-returns-clause-ok g t c =
     matched_all ps (take (length ps) us) (g.P.Places.places c.args.places.now) _ c.loop-i.i c.loop-i.self.bindings c.loop-i-test.false
     (omega (arith, c.loop-i-test.false, length-take (length ps) us)) c.loop-i.invariant.matched
 
-pub match_notes-returns-then-not-branch-clause-ok : goal.match_notes-returns-then-not-branch-clause-ok
-match_notes-returns-then-not-branch-clause-ok g t c =
+pub match_annotations-returns-then-not-branch-clause-ok : goal.match_annotations-returns-then-not-branch-clause-ok
+match_annotations-returns-then-not-branch-clause-ok g t c =
     let ps = c.args.patterns.now in
     let E = g.P.Places.places c.args.places.now in
-    let inside : c.loop-i.i < length c.in_ok-notes.notes.items =
-    omega (arith, ap length c.in_ok-notes.ensures, c.annotation_count.ensures, c.if-annotation_count-patterns.false, c.loop-i-test.true) in
-    let there : slice_get c.in_ok-notes.notes.items c.loop-i.i ≡ Some c.index.result.now =
-    slice_get-get_or c.in_ok-notes.notes.items c.loop-i.i c.index.result.now inside ∙ ap Some (sym c.index.ensures) in
-    matched_no ps c.in_ok-notes.notes.items E _ c.loop-i.i c.loop-i.self.bindings _
+    let inside : c.loop-i.i < length c.in_ok-annotations.annotations.items =
+    omega (arith, ap length c.in_ok-annotations.ensures, c.annotation_count.ensures, c.if-annotation_count-patterns.false, c.loop-i-test.true) in
+    let there : slice_get c.in_ok-annotations.annotations.items c.loop-i.i ≡ Some c.index.result.now =
+    slice_get-get_or c.in_ok-annotations.annotations.items c.loop-i.i c.index.result.now inside ∙ ap Some (sym c.index.ensures) in
+    matched_no ps c.in_ok-annotations.annotations.items E _ c.loop-i.i c.loop-i.self.bindings _
     c.index-patterns-i.result c.index.result.now c.in_ok-match_part.field-0 c.loop-i-test.true c.index-patterns-i.is there
-    (c.loop-i.invariant.matched ∙ ap (λ (ts : List Tree). match_places (places_of ps) ts E c.args.self.now.bindings) c.in_ok-notes.ensures)
+    (c.loop-i.invariant.matched ∙ ap (λ (ts : List Tree). match_places (places_of ps) ts E c.args.self.now.bindings) c.in_ok-annotations.ensures)
     c.in_ok-match_part.ensures.ok c.if-not-branch.true
 
-pub match_notes-loop-i-preserved : goal.match_notes-loop-i-preserved
-match_notes-loop-i-preserved g t c =
-    let inside : c.loop-i.i < length c.in_ok-notes.notes.items =
-    omega (arith, ap length c.in_ok-notes.ensures, c.annotation_count.ensures, c.if-annotation_count-patterns.false, c.loop-i-test.true) in
-    let there : slice_get c.in_ok-notes.notes.items c.loop-i.i ≡ Some c.index.result.now =
-    slice_get-get_or c.in_ok-notes.notes.items c.loop-i.i c.index.result.now inside ∙ ap Some (sym c.index.ensures) in
+pub match_annotations-loop-i-preserved : goal.match_annotations-loop-i-preserved
+match_annotations-loop-i-preserved g t c =
+    let inside : c.loop-i.i < length c.in_ok-annotations.annotations.items =
+    omega (arith, ap length c.in_ok-annotations.ensures, c.annotation_count.ensures, c.if-annotation_count-patterns.false, c.loop-i-test.true) in
+    let there : slice_get c.in_ok-annotations.annotations.items c.loop-i.i ≡ Some c.index.result.now =
+    slice_get-get_or c.in_ok-annotations.annotations.items c.loop-i.i c.index.result.now inside ∙ ap Some (sym c.index.ensures) in
     record {
-      matched = matched_next c.args.patterns.now c.in_ok-notes.notes.items (g.P.Places.places c.args.places.now) _ c.loop-i.i
+      matched = matched_next c.args.patterns.now c.in_ok-annotations.annotations.items (g.P.Places.places c.args.places.now) _ c.loop-i.i
           c.loop-i.self.bindings _ c.index-patterns-i.result c.index.result.now c.in_ok-match_part.field-0 c.loop-i-test.true
           c.index-patterns-i.is there c.loop-i.invariant.matched c.in_ok-match_part.ensures.ok c.if-not-branch.false;
       grows = grows_then c.args.self.now c.loop-i.self c.match_part.new.self c.loop-i.invariant.grows c.in_ok-match_part.ensures.grows;
     }
 
-pub match_notes-returns-clause-ok : goal.match_notes-returns-clause-ok
-match_notes-returns-clause-ok g t c =
+pub match_annotations-returns-clause-ok : goal.match_annotations-returns-clause-ok
+match_annotations-returns-clause-ok g t c =
     let ps = c.args.patterns.now in
     let E = g.P.Places.places c.args.places.now in
-    matched_all ps c.in_ok-notes.notes.items E _ c.loop-i.i c.loop-i.self.bindings c.loop-i-test.false
-    (omega (arith, ap length c.in_ok-notes.ensures, c.annotation_count.ensures, c.if-annotation_count-patterns.false, c.loop-i-test.false))
-    (c.loop-i.invariant.matched ∙ ap (λ (ts : List Tree). match_places (places_of ps) ts E c.args.self.now.bindings) c.in_ok-notes.ensures)
+    matched_all ps c.in_ok-annotations.annotations.items E _ c.loop-i.i c.loop-i.self.bindings c.loop-i-test.false
+    (omega (arith, ap length c.in_ok-annotations.ensures, c.annotation_count.ensures, c.if-annotation_count-patterns.false, c.loop-i-test.false))
+    (c.loop-i.invariant.matched ∙ ap (λ (ts : List Tree). match_places (places_of ps) ts E c.args.self.now.bindings) c.in_ok-annotations.ensures)

@@ -22,8 +22,8 @@ decreases-match_child g l = 3 * place_depth l.pattern.now + 1
 abbrev pub decreases-match_children : goal.decreases-match_children
 decreases-match_children g l = 3 * places_depth (places_of l.patterns.now) + 2
 
-abbrev pub decreases-match_notes : goal.decreases-match_notes
-decreases-match_notes g l = 3 * places_depth (places_of l.patterns.now) + 2
+abbrev pub decreases-match_annotations : goal.decreases-match_annotations
+decreases-match_annotations g l = 3 * places_depth (places_of l.patterns.now) + 2
 
 abbrev pub invariant-match_children-loop-i : goal.invariant-match_children-loop-i
 invariant-match_children-loop-i g l = record {
@@ -32,9 +32,9 @@ invariant-match_children-loop-i g l = record {
   grows : Grows l.initial.self l.self;
 }
 
-abbrev pub invariant-match_notes-loop-i : goal.invariant-match_notes-loop-i
-invariant-match_notes-loop-i g l = record {
-  matched : matched_from l.patterns l.notes.items (g.P.Places.places l.places) l.i l.self.bindings
-      ≡ match_places (places_of l.patterns) l.notes.items (g.P.Places.places l.places) l.initial.self.bindings;
+abbrev pub invariant-match_annotations-loop-i : goal.invariant-match_annotations-loop-i
+invariant-match_annotations-loop-i g l = record {
+  matched : matched_from l.patterns l.annotations.items (g.P.Places.places l.places) l.i l.self.bindings
+      ≡ match_places (places_of l.patterns) l.annotations.items (g.P.Places.places l.places) l.initial.self.bindings;
   grows : Grows l.initial.self l.self;
 }

@@ -3,7 +3,7 @@ use Rattle.term_core.specs.Tree.{children}
 use Rattle.term_core.specs.declared.kind.Kind.TheVariants.{List as AList}
 use Rattle.term_values.specs.declared.value.Made.{Made}
 use Rattle.term_values.specs.declared.value.Annotated.{Annotated}
-use Rattle.term_values.specs.inside.ValueView.{form_tree, top_tree, items_list, notes_list}
+use Rattle.term_values.specs.inside.ValueView.{form_tree, top_tree, items_list, annotation_list}
 use Rattle.term_values.proofs.KindLemmas.{kind-made_of, kind-with_annotations, kind_along}
 use Rattle.term_values.proofs.value.Value.+kind.Goals as goal
 
@@ -18,12 +18,12 @@ returns-in-Built t c =
 
 pub returns-in-Annotated : goal.returns-in-Annotated
 returns-in-Annotated t c =
-    let n = c.in-Annotated.noted.value in
+    let n = c.in-Annotated.annotated.value in
     let k = c.kind-in-Annotated.result in
     let whole = ap form_tree (sym c.in-Annotated.is) ∙ c.self.view_is in
     let same = ap (λ (x : Annotated). x.node) c.deref-in-Annotated.ensures in
     kind_along k _ c.args.self.now whole
-    (kind-with_annotations k n.node (notes_list n.notes) (kind_along k _ n.node same c.kind-in-Annotated.ensures))
+    (kind-with_annotations k n.node (annotation_list n.annotations) (kind_along k _ n.node same c.kind-in-Annotated.ensures))
 
 pub returns-in-Rest : goal.returns-in-Rest
 returns-in-Rest t c =

@@ -4,9 +4,9 @@ use Rattle.term_core.specs.Size.{height, size}
 use Rattle.term_changes.specs.Standing.{after}
 use Rattle.term_values.specs.declared.value.Form.{Form}
 use Rattle.term_values.specs.declared.value.Annotated.{Annotated}
-use Rattle.term_values.specs.inside.ValueView.{form_tree, form_shape, notes_list}
+use Rattle.term_values.specs.inside.ValueView.{form_tree, form_shape, annotation_list}
 use Rattle.term_values.proofs.SizeLemmas.{bare_less, bare_height, bounded_along}
-use Rattle.term_values.proofs.ListLemmas.{bare_same, noted_bare}
+use Rattle.term_values.proofs.ListLemmas.{bare_same, annotated_bare}
 use Rattle.term_values.proofs.value.Value.bare.Goals as goal
 
 pub returns-then-annotation_count-eq0 : goal.returns-then-annotation_count-eq0
@@ -40,8 +40,8 @@ invariant_of-result-in-Kept c =
 
 pub returns-in-Annotated : goal.returns-in-Annotated
 returns-in-Annotated c =
-    let n = c.in-Annotated.noted.value in
+    let n = c.in-Annotated.annotated.value in
     let whole = ap form_tree (sym c.in-Annotated.is) ∙ c.self.view_is in
     let shape = subst (λ (f : Form). form_shape f) c.in-Annotated.is c.self.invariant.shape in
-    let e = ap (λ (x : Annotated). x.node) c.deref.ensures ∙ noted_bare n.node c.args.self.now (notes_list n.notes) whole shape.bare in
+    let e = ap (λ (x : Annotated). x.node) c.deref.ensures ∙ annotated_bare n.node c.args.self.now (annotation_list n.annotations) whole shape.bare in
     subst (λ (x : Tree). IfOk c.try_clone-in-Annotated.result (λ value. value ≡ x)) e c.try_clone-in-Annotated.ensures

@@ -13,4 +13,4 @@ values-requires c =
     let all = within_all (annotations t) c.less-within.result (length (annotations t)) (size t) (height t)
     (λ u p q. c.less-within.ensures (size t) (height t) (size u) (height u) mine (omega (arith, p, c.annotation_count.ensures)) q)
     (omega (arith, size_parts t)) (omega (arith, height_parts t)) in
-    subst (λ (us : List Tree). AllWithin us c.less-within.result) (sym (c.alone.ensures ∙ c.notes.ensures)) all
+    subst (λ (us : List Tree). AllWithin us c.less-within.result) (sym (c.alone.ensures ∙ c.annotations.ensures)) all

@@ -1,7 +1,7 @@
 use Rattle.std.proofs.Common.{ap, Err}
 use Rattle.aterm_text.specs.Grammar.{SpellsAnnotations}
 use Rattle.script_core.proofs.AnswerLemmas.{read_refused}
-use Rattle.script_core.proofs.answer.read_notes.Goals as goal
+use Rattle.script_core.proofs.answer.annotations_in.Goals as goal
 
 pub returns-in-Err-clause-refused : goal.returns-in-Err-clause-refused
 returns-in-Err-clause-refused c =
