@@ -10,8 +10,8 @@ use Rattle.strategy_tokens.specs.declared.token.Token.TheVariants.{Ident, Wildca
 use Rattle.strategy_tokens.specs.declared.token.Keyword.{Keyword}
 use Rattle.strategy_tokens.specs.declared.token.Keyword.TheVariants.{Module as KModule}
 use Rattle.strategy_tokens.specs.declared.token.Sign.TheVariants.{Colon, Equals, Arrow as RightArrow}
-use Rattle.strategy_parse.specs.declared.modules.sections.Part.{Part}
-use Rattle.strategy_parse.specs.declared.modules.sections.Part.TheVariants.{Outside, Signature as InSignature, Sorts, Constructors, Definitions}
+use Rattle.strategy_parse.specs.declared.modules.sections.Context.{Context}
+use Rattle.strategy_parse.specs.declared.modules.sections.Context.TheVariants.{Outside, Signature as InSignature, Sorts, Constructors, Definitions}
 use Rattle.strategy_parse.specs.Written.{Defined, definition, rule, rule_where}
 use Rattle.strategy_parse.specs.Grammar.{ReadsPattern}
 use Rattle.strategy_parse.specs.GrammarModules.{ReadsDefined}
@@ -108,18 +108,18 @@ definition_one (rule_where h p q u) x y r e =
 -- ---- the rest is unique
 
 abbrev LeftOne : ℕ → Type 0
-LeftOne n = (p : Part) (x : List Token) (m r : Module) → length x ≤ n → Left p x m → Left p x r → m ≡ r
+LeftOne n = (p : Context) (x : List Token) (m r : Module) → length x ≤ n → Left p x m → Left p x r → m ≡ r
 
-some-is : (q r : Part) → ◌≡◌ {A = Option Part} (Some q) (Some r) → q ≡ r
+some-is : (q r : Context) → ◌≡◌ {A = Option Context} (Some q) (Some r) → q ≡ r
 some-is q r e = cc
 
 module _ (n : ℕ) (one : LeftOne n) where
-  word_one : (p : Part) (w : Keyword) (x : List Token) (m r : Module) → length x ≤ n → Left p (Reserved w ∷ x) m → Left p (Reserved w ∷ x) r → m ≡ r
+  word_one : (p : Context) (w : Keyword) (x : List Token) (m r : Module) → length x ≤ n → Left p (Reserved w ∷ x) m → Left p (Reserved w ∷ x) r → m ≡ r
   word_one p w x m r le a b =
       let s : WordStep p w x m = word_step p w x m a in
       let t : WordStep p w x r = word_step p w x r b in
-      let same : t.part ≡ s.part = some-is t.part s.part (sym t.is ∙ s.is) in
-      one s.part x m r le s.left (subst (λ q. Left q x r) same t.left)
+      let same : t.context ≡ s.context = some-is t.context s.context (sym t.is ∙ s.is) in
+      one s.context x m r le s.left (subst (λ q. Left q x r) same t.left)
 
   sorts_one : (x : List Token) (m r : Module) → length x ≤ suc n → IsItem x → SortsLeft x m → SortsLeft x r → m ≡ r
   sorts_one x m r le i a b =
@@ -155,14 +155,14 @@ module _ (n : ℕ) (one : LeftOne n) where
       let same : s.after ≡ t.after = one Definitions s.rest s.after t.after (omega arith) s.left (subst (λ l. DefinitionsLeft l t.after) (second.1 ∙ sym first.1) t.left) in
       sym s.gives ∙ ap (joined [] (core_definition s.definition ∷ [])) same ∙ ap (λ l. joined [] (l ∷ []) t.after) (first.0 ∙ sym second.0) ∙ t.gives
 
-  item_one : (p : Part) (x : List Token) (m r : Module) → length x ≤ suc n → IsItem x → Left p x m → Left p x r → m ≡ r
+  item_one : (p : Context) (x : List Token) (m r : Module) → length x ≤ suc n → IsItem x → Left p x m → Left p x r → m ≡ r
   item_one Outside x m r le i a b = absurd (outside_item x m a i)
   item_one InSignature x m r le i a b = absurd (signature_item x m a i)
   item_one Sorts x m r le i a b = sorts_one x m r le i a b
   item_one Constructors x m r le i a b = declarations_one x m r le i a b
   item_one Definitions x m r le i a b = definitions_one x m r le i a b
 
-  token_one : (p : Part) (t : Token) (ts : List Token) (m r : Module) → length (t ∷ ts) ≤ suc n → Left p (t ∷ ts) m → Left p (t ∷ ts) r → m ≡ r
+  token_one : (p : Context) (t : Token) (ts : List Token) (m r : Module) → length (t ∷ ts) ≤ suc n → Left p (t ∷ ts) m → Left p (t ∷ ts) r → m ≡ r
   token_one p (Reserved w) ts m r le a b = word_one p w ts m r (omega arith) a b
   token_one p (Ident f) ts m r le a b = item_one p (Ident f ∷ ts) m r le tt a b
   token_one p Wildcard ts m r le a b = item_one p (Wildcard ∷ ts) m r le tt a b

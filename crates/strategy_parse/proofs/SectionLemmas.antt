@@ -7,14 +7,14 @@ use Rattle.strategy_syntax.specs.Modules.{Module, Constructor, Definition}
 use Rattle.strategy_tokens.specs.declared.token.Token.{Token}
 use Rattle.strategy_tokens.specs.declared.token.Token.TheVariants.{Reserved}
 use Rattle.strategy_tokens.specs.declared.token.Keyword.{Keyword}
-use Rattle.strategy_parse.specs.declared.modules.sections.Part.{Part}
-use Rattle.strategy_parse.specs.declared.modules.sections.Part.TheVariants.{Outside, Signature as InSignature, Sorts, Constructors, Definitions}
+use Rattle.strategy_parse.specs.declared.modules.sections.Context.{Context}
+use Rattle.strategy_parse.specs.declared.modules.sections.Context.TheVariants.{Outside, Signature as InSignature, Sorts, Constructors, Definitions}
 use Rattle.strategy_parse.specs.Written.{Declaration, Defined}
 use Rattle.strategy_parse.specs.GrammarModules.{ReadsDefined}
 use Rattle.strategy_parse.specs.Core.{declared, core_definition}
 use Rattle.strategy_parse.specs.inside.Definitions.{DefinitionEnds, DefinitionGives}
 use Rattle.strategy_parse.specs.inside.ModuleFronts.{sort_at, declaration_at, DeclaredLeft, listed}
-use Rattle.strategy_parse.specs.inside.Sections.{next_part, IsItem, joined, SortsLeft, DeclarationsLeft, DefinitionsLeft, Left, SectionStands}
+use Rattle.strategy_parse.specs.inside.Sections.{next_context, IsItem, joined, SortsLeft, DeclarationsLeft, DefinitionsLeft, Left, SectionStands}
 use Rattle.strategy_parse.proofs.SortLemmas.{sort_alone, sort_found}
 use Rattle.strategy_parse.proofs.DeclarationLemmas.{declaration_named, DeclarationFound, declaration_found}
 unfoldable use Rattle.strategy_parse.proofs.SectionWords.{nothing}
@@ -23,19 +23,19 @@ use Rattle.strategy_parse.proofs.SectionItems.{outside_item, signature_item, Def
 
 -- ---- a word is read, or the text ends
 
-module _ (p : Part) (cs : List Constructor) (ds : List Definition) (m : Module) where
-  pub word_forth : (w : Keyword) (q : Part) (x : List Token) → next_part p w ≡ Some q → SectionStands p cs ds (Reserved w ∷ x) m → SectionStands q cs ds x m
+module _ (p : Context) (cs : List Constructor) (ds : List Definition) (m : Module) where
+  pub word_forth : (w : Keyword) (q : Context) (x : List Token) → next_context p w ≡ Some q → SectionStands p cs ds (Reserved w ∷ x) m → SectionStands q cs ds x m
   word_forth w q x e s =
       let t : WordStep p w x s.after = word_step p w x s.after s.left in
-      record { after = s.after; left = subst (λ r. Left r x s.after) (some-is t.part q (sym t.is ∙ e)) t.left; gives = s.gives }
+      record { after = s.after; left = subst (λ r. Left r x s.after) (some-is t.context q (sym t.is ∙ e)) t.left; gives = s.gives }
 
-  pub word_after : (w : Keyword) (q : Part) (x : List Token) → next_part p w ≡ Some q → SectionStands q cs ds x m → SectionStands p cs ds (Reserved w ∷ x) m
+  pub word_after : (w : Keyword) (q : Context) (x : List Token) → next_context p w ≡ Some q → SectionStands q cs ds x m → SectionStands p cs ds (Reserved w ∷ x) m
   word_after w q x e s = record { after = s.after; left = word_back p w q x s.after e s.left; gives = s.gives }
 
-  pub word_none : (w : Keyword) (x : List Token) → next_part p w ≡ None → SectionStands p cs ds (Reserved w ∷ x) m → ⊥
+  pub word_none : (w : Keyword) (x : List Token) → next_context p w ≡ None → SectionStands p cs ds (Reserved w ∷ x) m → ⊥
   word_none w x e s =
       let t : WordStep p w x s.after = word_step p w x s.after s.left in
-      let no : ◌≡◌ {A = Option Part} None (Some t.part) = sym e ∙ t.is in
+      let no : ◌≡◌ {A = Option Context} None (Some t.context) = sym e ∙ t.is in
       cc
 
   pub end_forth : SectionStands p cs ds [] m → m ≡ record { constructors = cs; definitions = ds }
@@ -147,9 +147,6 @@ module _ (cs : List Constructor) (ds : List Definition) (x y : List Token) (m : 
 
 -- ---- as the code has it
 
-pub err_is : {T : Type 0} (a b : SyntaxFault) → ◌≡◌ {A = Result T SyntaxFault} (Err a) (Err b) → a ≡ b
-err_is a b e = cc
-
 module _ (cs ks : List Constructor) (ds : List Definition) (x : List Token) (m : Module) (found : Option Constructor) (y : List Token) (all : ks ≡ cs ++ listed found) (h : declaration_at x ≡ Some (listed found, y)) where
   pub declaration_taken : IsItem x → SectionStands Constructors cs ds x m → SectionStands Constructors ks ds y m
   declaration_taken i s = subst (λ l. SectionStands Constructors l ds y m) (sym all) (declaration_forth cs ds x m i (listed found) y h s)
@@ -163,20 +160,20 @@ none_listed cs found e = sym (ap (λ o. cs ++ listed o) e ∙ append-nil cs)
 pub one_listed : (cs ks : List Constructor) (found : Option Constructor) (c : Constructor) → found ≡ Some c → ks ≡ cs ++ c ∷ [] → ks ≡ cs ++ listed found
 one_listed cs ks found c e h = h ∙ ap (λ o. cs ++ listed o) (sym e)
 
-pub word_comes : (p : Part) (cs : List Constructor) (ds : List Definition) (m : Module) (x rest : List Token) (t : Token) (w : Keyword) → x ≡ t ∷ rest → t ≡ Reserved w → SectionStands p cs ds x m → SectionStands p cs ds (Reserved w ∷ rest) m
+pub word_comes : (p : Context) (cs : List Constructor) (ds : List Definition) (m : Module) (x rest : List Token) (t : Token) (w : Keyword) → x ≡ t ∷ rest → t ≡ Reserved w → SectionStands p cs ds x m → SectionStands p cs ds (Reserved w ∷ rest) m
 word_comes p cs ds m x rest t w e h s = subst (λ l. SectionStands p cs ds l m) (e ∙ ap (λ u. u ∷ rest) h) s
 
-pub word_goes : (p : Part) (cs : List Constructor) (ds : List Definition) (m : Module) (x rest : List Token) (t : Token) (w : Keyword) → x ≡ t ∷ rest → t ≡ Reserved w → SectionStands p cs ds (Reserved w ∷ rest) m → SectionStands p cs ds x m
+pub word_goes : (p : Context) (cs : List Constructor) (ds : List Definition) (m : Module) (x rest : List Token) (t : Token) (w : Keyword) → x ≡ t ∷ rest → t ≡ Reserved w → SectionStands p cs ds (Reserved w ∷ rest) m → SectionStands p cs ds x m
 word_goes p cs ds m x rest t w e h s = subst (λ l. SectionStands p cs ds l m) (sym (e ∙ ap (λ u. u ∷ rest) h)) s
 
-pub all_read : (p : Part) (cs : List Constructor) (ds : List Definition) (m : Module) (x : List Token) → x ≡ [] → m ≡ record { constructors = cs; definitions = ds } → SectionStands p cs ds x m
+pub all_read : (p : Context) (cs : List Constructor) (ds : List Definition) (m : Module) (x : List Token) → x ≡ [] → m ≡ record { constructors = cs; definitions = ds } → SectionStands p cs ds x m
 all_read p cs ds m x e h = subst (λ l. SectionStands p cs ds l m) (sym e) (end_after p cs ds m h)
 
-pub read_all : (p : Part) (cs : List Constructor) (ds : List Definition) (m r : Module) (x : List Token) → x ≡ [] → m ≡ record { constructors = cs; definitions = ds } → SectionStands p cs ds x r → r ≡ m
+pub read_all : (p : Context) (cs : List Constructor) (ds : List Definition) (m r : Module) (x : List Token) → x ≡ [] → m ≡ record { constructors = cs; definitions = ds } → SectionStands p cs ds x r → r ≡ m
 read_all p cs ds m r x e h s = end_forth p cs ds r (subst (λ l. SectionStands p cs ds l r) e s) ∙ sym h
 
 -- no item comes where a part has to begin
-pub no_item : (p : Part) → (p ≡ Sorts → ⊥) → (p ≡ Constructors → ⊥) → (p ≡ Definitions → ⊥) → (cs : List Constructor) (ds : List Definition) (x : List Token) (m : Module) → IsItem x → SectionStands p cs ds x m → ⊥
+pub no_item : (p : Context) → (p ≡ Sorts → ⊥) → (p ≡ Constructors → ⊥) → (p ≡ Definitions → ⊥) → (cs : List Constructor) (ds : List Definition) (x : List Token) (m : Module) → IsItem x → SectionStands p cs ds x m → ⊥
 no_item Outside a b e cs ds x m i s = no_outside cs ds x m i s
 no_item InSignature a b e cs ds x m i s = no_signature cs ds x m i s
 no_item Sorts a b e cs ds x m i s = a refl

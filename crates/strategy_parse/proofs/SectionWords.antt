@@ -10,12 +10,12 @@ use Rattle.strategy_tokens.specs.declared.token.Token.TheVariants.{Ident, Reserv
 use Rattle.strategy_tokens.specs.declared.token.Keyword.{Keyword}
 use Rattle.strategy_tokens.specs.declared.token.Keyword.TheVariants.{Signature as KSignature, Sorts as KSorts, Constructors as KConstructors, Rules, Strategies}
 use Rattle.strategy_tokens.specs.declared.token.Sign.TheVariants.{Colon}
-use Rattle.strategy_parse.specs.declared.modules.sections.Part.{Part}
-use Rattle.strategy_parse.specs.declared.modules.sections.Part.TheVariants.{Outside, Signature as InSignature, Sorts, Constructors, Definitions}
+use Rattle.strategy_parse.specs.declared.modules.sections.Context.{Context}
+use Rattle.strategy_parse.specs.declared.modules.sections.Context.TheVariants.{Outside, Signature as InSignature, Sorts, Constructors, Definitions}
 use Rattle.strategy_parse.specs.Written.{Sort, sort, no_sorts, and_sort, Declaration, constant, function, Defined, definition, rule, rule_where, SignaturePart, sorts, constructors, Section, signature, definitions}
 use Rattle.strategy_parse.specs.GrammarModules.{ReadsSort, ReadsDeclaration, ReadsDefined, ReadsSorts, ReadsDeclarations, ReadsDefinitions, ReadsSignatureParts, ReadsSections}
 use Rattle.strategy_parse.specs.Core.{declared, declared_in_part, core_definitions, core_module}
-use Rattle.strategy_parse.specs.inside.Sections.{in_signature, next_part, IsItem, joined, SectionsLeft, SignatureLeft, SortsLeft, DeclarationsLeft, DefinitionsLeft, Left}
+use Rattle.strategy_parse.specs.inside.Sections.{in_signature, next_context, IsItem, joined, SectionsLeft, SignatureLeft, SortsLeft, DeclarationsLeft, DefinitionsLeft, Left}
 
 -- an empty module
 unfoldable pub nothing : Module
@@ -71,17 +71,17 @@ item_is x ts w e h = subst IsItem e h
 
 -- ---- a word that begins a part
 
--- where a word leads to, from the part p
-pub record WordStep (p : Part) (w : Keyword) (x : List Token) (m : Module) : Type 0 where
-  pub part : Part
-  pub is : next_part p w ≡ Some part
-  pub left : Left part x m
+-- where a word leads to, from the context p
+pub record WordStep (p : Context) (w : Keyword) (x : List Token) (m : Module) : Type 0 where
+  pub context : Context
+  pub is : next_context p w ≡ Some context
+  pub left : Left context x m
 
 -- ... from anywhere
 record AnyStep (w : Keyword) (x : List Token) (m : Module) : Type 0 where
-  pub part : Part
-  pub is : (p : Part) → next_part p w ≡ Some part
-  pub left : Left part x m
+  pub context : Context
+  pub is : (p : Context) → next_context p w ≡ Some context
+  pub left : Left context x m
 
 word-is : (w k : Keyword) (x a : List Token) → Reserved w ∷ x ≡ Reserved k ∷ a → w ≡ k
 word-is w k x a e = cc
@@ -89,10 +89,10 @@ word-is w k x a e = cc
 rest-is : (w k : Keyword) (x a : List Token) → Reserved w ∷ x ≡ Reserved k ∷ a → x ≡ a
 rest-is w k x a e = cc
 
-to_part : (k : Keyword) (q : Part) (w : Keyword) (x a : List Token) (m : Module) → ((p : Part) → next_part p k ≡ Some q) → Reserved w ∷ x ≡ Reserved k ∷ a → Left q a m → AnyStep w x m
+to_part : (k : Keyword) (q : Context) (w : Keyword) (x a : List Token) (m : Module) → ((p : Context) → next_context p k ≡ Some q) → Reserved w ∷ x ≡ Reserved k ∷ a → Left q a m → AnyStep w x m
 to_part k q w x a m is e left = record {
-  part = q;
-  is = λ p. ap (next_part p) (word-is w k x a e) ∙ is p;
+  context = q;
+  is = λ p. ap (next_context p) (word-is w k x a e) ∙ is p;
   left = subst (λ l. Left q l m) (sym (rest-is w k x a e)) left;
 }
 
@@ -108,27 +108,27 @@ outside_step (definitions ds ∷ ss) w x m (v, (a, (inr k), reads), rest) e =
     to_part Strategies Definitions w x a m (λ p. refl) k
     (record { definitions = ds; rest = v; reads = reads; after = core_module ss; left = record { sections = ss; reads = rest; gives = refl }; gives = e })
 
-from_any : (p : Part) (w : Keyword) (x : List Token) (m : Module) → AnyStep w x m → WordStep p w x m
-from_any p w x m s = record { part = s.part; is = s.is p; left = s.left }
+from_any : (p : Context) (w : Keyword) (x : List Token) (m : Module) → AnyStep w x m → WordStep p w x m
+from_any p w x m s = record { context = s.context; is = s.is p; left = s.left }
 
-sections_step : (p : Part) (w : Keyword) (x y : List Token) (m : Module) → y ≡ Reserved w ∷ x → SectionsLeft y m → WordStep p w x m
+sections_step : (p : Context) (w : Keyword) (x y : List Token) (m : Module) → y ≡ Reserved w ∷ x → SectionsLeft y m → WordStep p w x m
 sections_step p w x y m e l = from_any p w x m (outside_step l.sections w x m (subst (λ z. ReadsSections l.sections z) e l.reads) l.gives)
 
 -- in a signature
-abbrev IsInSignature : Part → Type 0
-IsInSignature p = (q : Part) → in_signature p q ≡ Some q
+abbrev IsInSignature : Context → Type 0
+IsInSignature p = (q : Context) → in_signature p q ≡ Some q
 
-signature_step : (p : Part) → IsInSignature p → (ps : List SignaturePart) (w : Keyword) (x y : List Token) (m : Module) → ReadsSignatureParts ps (Reserved w ∷ x) y → (k : Module) → SectionsLeft y k → joined (flat_map declared_in_part ps) [] k ≡ m → WordStep p w x m
+signature_step : (p : Context) → IsInSignature p → (ps : List SignaturePart) (w : Keyword) (x y : List Token) (m : Module) → ReadsSignatureParts ps (Reserved w ∷ x) y → (k : Module) → SectionsLeft y k → joined (flat_map declared_in_part ps) [] k ≡ m → WordStep p w x m
 signature_step p h [] w x y m r k l e = sections_step p w x y m r (subst (SectionsLeft y) e l)
 signature_step p h (sorts ss ∷ ps) w x y m r k l e = record {
-  part = Sorts;
-  is = ap (next_part p) (word-is w KSorts x r.1.0 r.1.1) ∙ h Sorts;
+  context = Sorts;
+  is = ap (next_context p) (word-is w KSorts x r.1.0 r.1.1) ∙ h Sorts;
   left = subst (λ z. SortsLeft z m) (sym (rest-is w KSorts x r.1.0 r.1.1))
       (record { sorts = ss; rest = r.0; reads = r.1.2; left = record { parts = ps; rest = y; reads = r.2; after = k; left = l; gives = e } });
 }
 signature_step p h (constructors ds ∷ ps) w x y m r k l e = record {
-  part = Constructors;
-  is = ap (next_part p) (word-is w KConstructors x r.1.0 r.1.1) ∙ h Constructors;
+  context = Constructors;
+  is = ap (next_context p) (word-is w KConstructors x r.1.0 r.1.1) ∙ h Constructors;
   left = subst (λ z. DeclarationsLeft z m) (sym (rest-is w KConstructors x r.1.0 r.1.1))
       (record {
         declarations = ds;
@@ -140,7 +140,7 @@ signature_step p h (constructors ds ∷ ps) w x y m r k l e = record {
       });
 }
 
-in_signature_step : (p : Part) → IsInSignature p → (w : Keyword) (x y : List Token) (m : Module) → y ≡ Reserved w ∷ x → SignatureLeft y m → WordStep p w x m
+in_signature_step : (p : Context) → IsInSignature p → (w : Keyword) (x y : List Token) (m : Module) → y ≡ Reserved w ∷ x → SignatureLeft y m → WordStep p w x m
 in_signature_step p h w x y m e l = signature_step p h l.parts w x l.rest m (subst (λ z. ReadsSignatureParts l.parts z l.rest) e l.reads) l.after l.left l.gives
 
 sorts_step : (ss : List Sort) (w : Keyword) (x y : List Token) (m : Module) → ReadsSorts ss (Reserved w ∷ x) y → SignatureLeft y m → WordStep Sorts w x m
@@ -155,7 +155,7 @@ definitions_step : (ds : List Defined) (w : Keyword) (x y : List Token) (m : Mod
 definitions_step [] w x y m r k l e = sections_step Definitions w x y m r (subst (SectionsLeft y) e l)
 definitions_step (d ∷ ds) w x y m r k l e = absurd (no_name (Reserved w ∷ x) x w refl (defined_named d (Reserved w ∷ x) r.0 r.1))
 
-pub word_step : (p : Part) (w : Keyword) (x : List Token) (m : Module) → Left p (Reserved w ∷ x) m → WordStep p w x m
+pub word_step : (p : Context) (w : Keyword) (x : List Token) (m : Module) → Left p (Reserved w ∷ x) m → WordStep p w x m
 word_step Outside w x m l = sections_step Outside w x (Reserved w ∷ x) m refl l
 word_step InSignature w x m l = in_signature_step InSignature (λ q. refl) w x (Reserved w ∷ x) m refl l
 word_step Sorts w x m l = sorts_step l.sorts w x l.rest m l.reads l.left
@@ -187,7 +187,7 @@ outside_strategies x m l = record {
 signature_of : (x : List Token) (m : Module) → SectionsLeft x m → SignatureLeft x m
 signature_of x m l = record { parts = []; rest = x; reads = refl; after = m; left = l; gives = refl }
 
-from_outside : (p : Part) (x : List Token) (m : Module) → SectionsLeft x m → Left p x m
+from_outside : (p : Context) (x : List Token) (m : Module) → SectionsLeft x m → Left p x m
 from_outside Outside x m l = l
 from_outside InSignature x m l = signature_of x m l
 from_outside Sorts x m l = record { sorts = []; rest = x; reads = refl; left = signature_of x m l }
@@ -216,24 +216,24 @@ signature_constructors x m l = record {
       ∙ ap (joined (flat_map declared l.declarations) []) l.left.gives ∙ l.gives;
 }
 
-from_signature : (p q : Part) (x : List Token) (m : Module) → in_signature p q ≡ Some q → SignatureLeft x m → Left p x m
+from_signature : (p q : Context) (x : List Token) (m : Module) → in_signature p q ≡ Some q → SignatureLeft x m → Left p x m
 from_signature Outside q x m e l = absurd (cc)
 from_signature InSignature q x m e l = l
 from_signature Sorts q x m e l = record { sorts = []; rest = x; reads = refl; left = l }
 from_signature Constructors q x m e l = record { declarations = []; rest = x; reads = refl; after = m; left = l; gives = refl }
 from_signature Definitions q x m e l = absurd (cc)
 
-in_signature-is : (p q r : Part) → in_signature p q ≡ Some r → q ≡ r
+in_signature-is : (p q r : Context) → in_signature p q ≡ Some r → q ≡ r
 in_signature-is Outside q r e = absurd (cc)
 in_signature-is InSignature q r e = cc
 in_signature-is Sorts q r e = cc
 in_signature-is Constructors q r e = cc
 in_signature-is Definitions q r e = absurd (cc)
 
-pub some-is : (q r : Part) → ◌≡◌ {A = Option Part} (Some q) (Some r) → q ≡ r
+pub some-is : (q r : Context) → ◌≡◌ {A = Option Context} (Some q) (Some r) → q ≡ r
 some-is q r e = cc
 
-pub word_back : (p : Part) (w : Keyword) (q : Part) (x : List Token) (m : Module) → next_part p w ≡ Some q → Left q x m → Left p (Reserved w ∷ x) m
+pub word_back : (p : Context) (w : Keyword) (q : Context) (x : List Token) (m : Module) → next_context p w ≡ Some q → Left q x m → Left p (Reserved w ∷ x) m
 word_back p KSignature q x m e l = from_outside p (Reserved KSignature ∷ x) m (outside_signature x m (subst (λ r. Left r x m) (sym (some-is InSignature q e)) l))
 word_back p Rules q x m e l = from_outside p (Reserved Rules ∷ x) m (outside_rules x m (subst (λ r. Left r x m) (sym (some-is Definitions q e)) l))
 word_back p Strategies q x m e l = from_outside p (Reserved Strategies ∷ x) m (outside_strategies x m (subst (λ r. Left r x m) (sym (some-is Definitions q e)) l))
@@ -277,13 +277,13 @@ definitions_end : (ds : List Defined) (y : List Token) (m : Module) → ReadsDef
 definitions_end [] y m r k l e = sections_done y m r (subst (SectionsLeft y) e l)
 definitions_end (d ∷ ds) y m r k l e = absurd (no_end [] refl (defined_named d [] r.0 r.1))
 
-pub left_end : (p : Part) (m : Module) → Left p [] m → nothing ≡ m
+pub left_end : (p : Context) (m : Module) → Left p [] m → nothing ≡ m
 left_end Outside m l = sections_end l.sections m l.reads l.gives
 left_end InSignature m l = signature_end l.parts l.rest m l.reads l.after l.left l.gives
 left_end Sorts m l = sorts_end l.sorts l.rest m l.reads l.left
 left_end Constructors m l = declarations_end l.declarations l.rest m l.reads l.after l.left l.gives
 left_end Definitions m l = definitions_end l.definitions l.rest m l.reads l.after l.left l.gives
 
-pub left_nothing : (p : Part) → Left p [] nothing
+pub left_nothing : (p : Context) → Left p [] nothing
 unfolding nothing
 left_nothing p = from_outside p [] (record { constructors = []; definitions = [] }) (record { sections = []; reads = refl; gives = refl })

@@ -2,7 +2,7 @@
 use Rattle.std.proofs.Common.{refl, inr, List, [], take}
 use Rattle.strategy_syntax.specs.Modules as syntax
 use Rattle.strategy_tokens.specs.declared.token.Token.{Token}
-use Rattle.strategy_parse.specs.declared.modules.sections.Part.TheVariants.{Outside}
+use Rattle.strategy_parse.specs.declared.modules.sections.Context.TheVariants.{Outside}
 use Rattle.strategy_parse.specs.Core.{core_module}
 use Rattle.strategy_parse.specs.Gives.{GivesModule}
 use Rattle.strategy_parse.specs.StuckModules.{GiveModule, GiveNone}

@@ -6,7 +6,7 @@ use Rattle.strategy_syntax.specs.Modules.{Module}
 use Rattle.strategy_tokens.specs.declared.token.Token.{Token}
 use Rattle.strategy_tokens.specs.declared.token.Token.TheVariants.{Ident, Wildcard, Reserved, Integer, Text, Sign as ASign, Bad}
 use Rattle.strategy_tokens.specs.declared.token.Keyword.TheVariants.{Module as KModule, Signature as KSignature, Rules, Strategies}
-use Rattle.strategy_parse.specs.declared.modules.sections.Part.TheVariants.{Outside}
+use Rattle.strategy_parse.specs.declared.modules.sections.Context.TheVariants.{Outside}
 use Rattle.strategy_parse.specs.Written.{Section, signature, definitions}
 use Rattle.strategy_parse.specs.GrammarModules.{ReadsSections}
 use Rattle.strategy_tokens.specs.Marks.{is_word}

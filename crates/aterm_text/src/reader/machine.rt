@@ -80,16 +80,12 @@ fn expect_term<'a>(
     ensures deep { result ≡ Err ReadFault.Deep → IsTooDeep (depth stack.old) text.now }
 {
     if let Some(rest) = after_byte(b'[', text) {
-        return match open(stack, Term::list(alloc, Vec::new(alloc)), Opening::Square) {
-            Ok(()) => Ok(Progress::More(ReaderState::Entered, rest)),
-            Err(fault) => Err(fault),
-        };
+        open(stack, Term::list(alloc, Vec::new(alloc)), Opening::Square)?;
+        return Ok(Progress::More(ReaderState::Entered, rest));
     }
     if let Some(rest) = after_byte(b'(', text) {
-        return match open(stack, Term::tuple(alloc, Vec::new(alloc)), Opening::Round) {
-            Ok(()) => Ok(Progress::More(ReaderState::Entered, rest)),
-            Err(fault) => Err(fault),
-        };
+        open(stack, Term::tuple(alloc, Vec::new(alloc)), Opening::Round)?;
+        return Ok(Progress::More(ReaderState::Entered, rest));
     }
     expect_lexeme(alloc, stack, text)
 }
@@ -106,10 +102,7 @@ fn expect_lexeme<'a>(
     ensures nesting { IfOk result (λ step. KeepsDepth stack.old text.now step stack.new) }
     ensures deep { result ≡ Err ReadFault.Deep → IsTooDeep (depth stack.old) text.now }
 {
-    let (lexeme, rest) = match first_lexeme(alloc, text) {
-        Ok(found) => found,
-        Err(fault) => return Err(fault),
-    };
+    let (lexeme, rest) = first_lexeme(alloc, text)?;
     match lexeme {
         Lexeme::Integer(value) => {
             stack.push(Term::integer(alloc, value))?;
@@ -136,10 +129,10 @@ fn after_name<'a>(
     let term = Term::application(alloc, name, Vec::new(alloc));
     let text = after_blanks(text);
     match after_byte(b'(', text) {
-        Some(rest) => match open(stack, term, Opening::Round) {
-            Ok(()) => Ok(Progress::More(ReaderState::Entered, rest)),
-            Err(fault) => Err(fault),
-        },
+        Some(rest) => {
+            open(stack, term, Opening::Round)?;
+            Ok(Progress::More(ReaderState::Entered, rest))
+        }
         None => {
             stack.push(term)?;
             Ok(Progress::More(ReaderState::Base, text))
@@ -198,10 +191,8 @@ fn after_base<'a>(stack: &mut TermStack, text: &'a [u8]) -> Result<Progress<'a>,
 {
     match after_byte(b'{', text) {
         Some(rest) => {
-            match enter(stack, Opening::Curly) {
-                Ok(()) => Ok(Progress::More(ReaderState::Entered, rest)),
-                Err(fault) => Err(fault),
-            }
+            enter(stack, Opening::Curly)?;
+            Ok(Progress::More(ReaderState::Entered, rest))
         }
         None => after_whole(stack, text),
     }

@@ -82,14 +82,10 @@ fn read_alone(alloc: Global, text: &[u8]) -> Result<Vec<Term>, ReadFault>
     // What follows the empty list is read as its annotations.
     let mut stack = TermStack::new(alloc);
     stack.push(Term::list(alloc, Vec::new(alloc)))?;
-    match read_from(alloc, stack, ReaderState::Base, text) {
-        Ok(mut term) => {
-            let mut annotations = Vec::new(alloc);
-            term.swap_annotations(&mut annotations);
-            Ok(annotations)
-        }
-        Err(fault) => Err(fault),
-    }
+    let mut term = read_from(alloc, stack, ReaderState::Base, text)?;
+    let mut annotations = Vec::new(alloc);
+    term.swap_annotations(&mut annotations);
+    Ok(annotations)
 }
 
 // The fault to return: `Deep` takes precedence over the one that was met.

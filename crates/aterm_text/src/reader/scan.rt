@@ -183,10 +183,8 @@ pub fn quoted(alloc: Global, text: &[u8]) -> Result<(Name, &[u8]), ReadFault>
     if let Some(left) = after_byte(b'"', rest) {
         return Ok((Name::quoted(alloc, run)?, left));
     }
-    match escaped(alloc, text, run.len()) {
-        Ok((bytes, left)) => Ok((Name::quoted(alloc, &bytes)?, left)),
-        Err(fault) => Err(fault),
-    }
+    let (bytes, left) = escaped(alloc, text, run.len())?;
+    Ok((Name::quoted(alloc, &bytes)?, left))
 }
 
 // The bytes that the items up to the closing quote stand for, and the text after it; the first

@@ -92,10 +92,8 @@ fn ends_into(
 ) -> Result<u64, RunFault> {
     let mut source = Bytes::new(script);
     let mut sink = Counted::new(writer);
-    match run(alloc, session, &mut source, &mut sink, settings(false)) {
-        Ok(_) => Ok(sink.failures()),
-        Err(fault) => Err(fault),
-    }
+    run(alloc, session, &mut source, &mut sink, settings(false))?;
+    Ok(sink.failures())
 }
 
 // A script of joined lines and a comment, and its answers, which are eight bytes.

@@ -7,8 +7,8 @@ use Rattle.strategy_tokens.specs.declared.token.Token.{Token}
 use Rattle.strategy_tokens.specs.declared.token.Token.TheVariants.{Reserved}
 use Rattle.strategy_tokens.specs.declared.token.Keyword.{Keyword}
 use Rattle.strategy_tokens.specs.declared.token.Keyword.TheVariants.{Signature as KSignature, Sorts as KSorts, Constructors as KConstructors, Rules, Strategies}
-use Rattle.strategy_parse.specs.declared.modules.sections.Part.{Part}
-use Rattle.strategy_parse.specs.declared.modules.sections.Part.TheVariants.{Outside, Signature as InSignature, Sorts, Constructors, Definitions}
+use Rattle.strategy_parse.specs.declared.modules.sections.Context.{Context}
+use Rattle.strategy_parse.specs.declared.modules.sections.Context.TheVariants.{Outside, Signature as InSignature, Sorts, Constructors, Definitions}
 use Rattle.strategy_parse.specs.Written.{Sort, Declaration, Defined, SignaturePart, Section}
 use Rattle.strategy_parse.specs.GrammarModules.{ReadsSorts, ReadsDeclarations, ReadsDefinitions, ReadsSignatureParts, ReadsSections}
 use Rattle.strategy_parse.specs.Core.{declared, declared_in_part, core_definitions, core_module}
@@ -16,19 +16,19 @@ use Rattle.strategy_parse.specs.Core.{declared, declared_in_part, core_definitio
 -- ---- words
 
 -- a word that begins a part of a signature
-abbrev pub in_signature : Part → Part → Option Part
+abbrev pub in_signature : Context → Context → Option Context
 in_signature Outside q = None
 in_signature Definitions q = None
 in_signature p q = Some q
 
--- the part of a module that a reserved word begins, if it may come here
-abbrev pub next_part : Part → Keyword → Option Part
-next_part p KSignature = Some InSignature
-next_part p Rules = Some Definitions
-next_part p Strategies = Some Definitions
-next_part p KSorts = in_signature p Sorts
-next_part p KConstructors = in_signature p Constructors
-next_part p w = None
+-- the context after a reserved word that begins a part of a module, if it may come here
+abbrev pub next_context : Context → Keyword → Option Context
+next_context p KSignature = Some InSignature
+next_context p Rules = Some Definitions
+next_context p Strategies = Some Definitions
+next_context p KSorts = in_signature p Sorts
+next_context p KConstructors = in_signature p Constructors
+next_context p w = None
 
 -- a token comes next, which is no reserved word
 abbrev pub IsItem : List Token → Type 0
@@ -82,7 +82,7 @@ pub record DefinitionsLeft (x : List Token) (m : Module) : Type 0 where
   pub left : SectionsLeft rest after
   pub gives : joined [] (core_definitions definitions) after ≡ m
 
-abbrev pub Left : Part → List Token → Module → Type 0
+abbrev pub Left : Context → List Token → Module → Type 0
 Left Outside x m = SectionsLeft x m
 Left InSignature x m = SignatureLeft x m
 Left Sorts x m = SortsLeft x m
@@ -90,7 +90,7 @@ Left Constructors x m = DeclarationsLeft x m
 Left Definitions x m = DefinitionsLeft x m
 
 -- the module is what was read, followed by what the rest gives
-pub record SectionStands (p : Part) (cs : List Constructor) (ds : List Definition) (x : List Token)
+pub record SectionStands (p : Context) (cs : List Constructor) (ds : List Definition) (x : List Token)
     (m : Module) : Type 0 where
   pub after : Module
   pub left : Left p x after

@@ -32,8 +32,5 @@ pub fn read_definition<'a>(
         return Ok((make_definition(header, body), after));
     }
     let rest = expect_mark(left, Sign::Colon)?;
-    match read_rule(alloc, header, rest) {
-        Ok(read) => Ok(read),
-        Err(fault) => Err(fault),
-    }
+    read_rule(alloc, header, rest)
 }

@@ -4,7 +4,7 @@ ghost use Rattle.std.specs.Prelude.{◌≡◌, ◌↔◌, ◌<◌, length, Err};
 ghost use Rattle.strategy_tokens.specs.Tokens.{tokens};
 
 use crate::modules::parse::after_title;
-use crate::modules::sections::{Built, Part, read_next};
+use crate::modules::sections::{Built, Context, read_next};
 use crate::parser::SyntaxFault;
 use std::alloc::Global;
 use strategy_tokens::{MAX_TOKENS, Token, TokensFault, read_tokens};
@@ -40,11 +40,11 @@ fn find_definitions(alloc: Global, tokens: &[Token]) -> Result<Vec<DefinitionTok
         constructors: Vec::new(alloc),
         definitions: Vec::new(alloc),
     };
-    let mut part = Part::Outside;
+    let mut context = Context::Outside;
     let mut left = after_title(tokens).unwrap_or(&[]);
     while let Some((token, rest)) = left.split_first() {
         let before = built.definitions.len();
-        match read_next(alloc, part, token, left, rest, &mut built) {
+        match read_next(alloc, context, token, left, rest, &mut built) {
             Ok((next, after)) => {
                 if built.definitions.len() > before {
                     found.push(DefinitionTokens {
@@ -52,7 +52,7 @@ fn find_definitions(alloc: Global, tokens: &[Token]) -> Result<Vec<DefinitionTok
                         end: tokens.len().saturating_sub(after.len()),
                     })?;
                 }
-                part = next;
+                context = next;
                 left = after;
             }
             Err(SyntaxFault::Syntax) => return Ok(found),

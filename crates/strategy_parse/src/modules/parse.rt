@@ -7,7 +7,7 @@ ghost use Rattle.strategy_parse.specs.inside.Sections.{Left};
 ghost use Rattle.strategy_tokens.specs.Tokens.{tokens};
 
 use crate::ParseFault;
-use crate::modules::sections::{Part, read_sections};
+use crate::modules::sections::{Context, read_sections};
 use crate::modules::tokens::{after_ident, after_word};
 use crate::parser::SyntaxFault;
 use std::alloc::Global;
@@ -35,10 +35,10 @@ pub fn parse_module(alloc: Global, text: &[u8]) -> Result<Module, ParseFault>
 
 /// The tokens after the word `module` and a name, if they begin with these.
 pub fn after_title<'a>(tokens: &'a [Token]) -> Result<&'a [Token], SyntaxFault>
-    ensures back { IfOk result (λ rest. (m : syntax.Module) → Left Part.Outside rest.now m
+    ensures back { IfOk result (λ rest. (m : syntax.Module) → Left Context.Outside rest.now m
         → GivesModule tokens.now m) }
     ensures forth { IfOk result (λ rest. (m : syntax.Module) → GivesModule tokens.now m
-        → Left Part.Outside rest.now m) }
+        → Left Context.Outside rest.now m) }
     ensures none { result ≡ Err SyntaxFault.Syntax → (m : syntax.Module) → GivesModule tokens.now m → ⊥ }
     ensures memory { result ≡ Err SyntaxFault.Memory → ⊥ }
 {

@@ -1,7 +1,7 @@
 //! Passing over the items of a module, to find the token with which one can't go on. Each function
 //! passes over what the reader of its name reads, and takes nothing in.
 
-use crate::modules::sections::Part;
+use crate::modules::sections::Context;
 use crate::modules::sorts::{SortState, Turn, sort_step};
 use crate::modules::tokens::{after_ident, after_mark, after_word};
 use crate::parser::{Stop, pass_pattern, pass_strategy};
@@ -9,28 +9,32 @@ use std::alloc::Global;
 use strategy_tokens::{Keyword, Sign, Token, is_mark};
 use term_core::NoMemory;
 
-/// The tokens from the one on with which the item at the start can't go on, in this part of a
+/// The tokens from the one on with which the item at the start can't go on, in this context of a
 /// module; none if the item ends too early. If the item is whole, these are the tokens after it.
 pub fn left_of_item<'a>(
     alloc: Global,
-    part: Part,
+    context: Context,
     tokens: &'a [Token],
 ) -> Result<&'a [Token], NoMemory> {
-    match pass_item(alloc, part, tokens) {
+    match pass_item(alloc, context, tokens) {
         Ok(left) => Ok(left),
         Err(Stop::At(left)) => Ok(left),
         Err(Stop::Memory) => Err(NoMemory),
     }
 }
 
-fn pass_item<'a>(alloc: Global, part: Part, tokens: &'a [Token]) -> Result<&'a [Token], Stop<'a>> {
+fn pass_item<'a>(
+    alloc: Global,
+    context: Context,
+    tokens: &'a [Token],
+) -> Result<&'a [Token], Stop<'a>> {
     if let Some((Token::Reserved(_), _)) = tokens.split_first() {
         return Err(Stop::At(tokens));
     }
-    match part {
-        Part::Sorts => pass_sort(tokens),
-        Part::Constructors => pass_declaration(tokens),
-        Part::Definitions => pass_definition(alloc, tokens),
+    match context {
+        Context::Sorts => pass_sort(tokens),
+        Context::Constructors => pass_declaration(tokens),
+        Context::Definitions => pass_definition(alloc, tokens),
         _ => Err(Stop::At(tokens)),
     }
 }

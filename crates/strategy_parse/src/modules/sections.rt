@@ -2,7 +2,7 @@
 
 ghost use Rattle.std.specs.Prelude.{◌≡◌, ◌<◌, ◌∷◌, length, IfOk, Err};
 ghost use Rattle.strategy_syntax.specs.Modules as syntax;
-ghost use Rattle.strategy_parse.specs.inside.Sections.{IsItem, Left, SectionStands, in_signature, next_part};
+ghost use Rattle.strategy_parse.specs.inside.Sections.{IsItem, Left, SectionStands, in_signature, next_context};
 
 use crate::modules::declarations::read_declaration;
 use crate::modules::definitions::read_definition;
@@ -14,7 +14,7 @@ use strategy_tokens::{Keyword, Token};
 
 /// What may come next in a module, besides another section.
 #[derive(Clone, Copy)]
-pub enum Part {
+pub enum Context {
     /// Before the first section: nothing.
     Outside,
     /// In a signature: its parts.
@@ -36,20 +36,20 @@ pub struct Built {
 
 /// The module whose sections are these tokens.
 pub fn read_sections(alloc: Global, tokens: &[Token]) -> Result<Module, SyntaxFault>
-    ensures given { IfOk result (λ m. Left Part.Outside tokens.now m) }
-    ensures only { IfOk result (λ m. (r : syntax.Module) → Left Part.Outside tokens.now r → r ≡ m) }
+    ensures given { IfOk result (λ m. Left Context.Outside tokens.now m) }
+    ensures only { IfOk result (λ m. (r : syntax.Module) → Left Context.Outside tokens.now r → r ≡ m) }
     ensures none { result ≡ Err SyntaxFault.Syntax → (r : syntax.Module)
-        → Left Part.Outside tokens.now r → ⊥ }
+        → Left Context.Outside tokens.now r → ⊥ }
 {
     let mut built = Built {
         constructors: Vec::new(alloc),
         definitions: Vec::new(alloc),
     };
-    let mut part = Part::Outside;
+    let mut context = Context::Outside;
     let mut left = tokens;
     while let Some((token, rest)) = left.split_first() {
-        let (next, after) = read_next(alloc, part, token, left, rest, &mut built)?;
-        part = next;
+        let (next, after) = read_next(alloc, context, token, left, rest, &mut built)?;
+        context = next;
         left = after;
     }
     let Built {
@@ -59,96 +59,85 @@ pub fn read_sections(alloc: Global, tokens: &[Token]) -> Result<Module, SyntaxFa
     Ok(Module::new(constructors, definitions))
 }
 
-/// Reads a word that begins a part of the module, or else an item of the current part, from the
-/// start of the tokens. Returns the part and the rest.
+/// Reads a word that begins a part of the module, or else an item of the context, from the
+/// start of the tokens. Returns the context and the rest.
 pub fn read_next<'a>(
     alloc: Global,
-    part: Part,
+    context: Context,
     token: &Token,
     tokens: &'a [Token],
     rest: &'a [Token],
     built: &mut Built,
-) -> Result<(Part, &'a [Token]), SyntaxFault>
+) -> Result<(Context, &'a [Token]), SyntaxFault>
     requires { tokens.now ≡ token.now ∷ rest.now }
     ensures forth { IfOk result (λ r. (m : syntax.Module)
-        → SectionStands part built.old.constructors.items built.old.definitions.items tokens.now m
+        → SectionStands context built.old.constructors.items built.old.definitions.items tokens.now m
         → SectionStands r.0 built.new.constructors.items built.new.definitions.items r.1.now m) }
     ensures back { IfOk result (λ r. (m : syntax.Module)
         → SectionStands r.0 built.new.constructors.items built.new.definitions.items r.1.now m
-        → SectionStands part built.old.constructors.items built.old.definitions.items tokens.now m) }
+        → SectionStands context built.old.constructors.items built.old.definitions.items tokens.now m) }
     ensures none { result ≡ Err SyntaxFault.Syntax → (m : syntax.Module)
-        → SectionStands part built.old.constructors.items built.old.definitions.items tokens.now m → ⊥ }
+        → SectionStands context built.old.constructors.items built.old.definitions.items tokens.now m → ⊥ }
     ensures shorter { IfOk result (λ r. length r.1.now < length tokens.now) }
 {
     if let Token::Reserved(word) = token {
-        return match next_part(part, *word) {
+        return match next_context(context, *word) {
             Some(next) => Ok((next, rest)),
             None => Err(SyntaxFault::Syntax),
         };
     }
-    match read_item(alloc, part, tokens, built) {
-        Ok(after) => Ok((part, after)),
-        Err(fault) => Err(fault),
-    }
+    let after = read_item(alloc, context, tokens, built)?;
+    Ok((context, after))
 }
 
-// The part of a module that a reserved word begins, if it may come here.
-fn next_part(part: Part, word: Keyword) -> Option<Part>
-    ensures { result ≡ next_part part word }
+// The context after a reserved word that begins a part of a module, if it may come here.
+fn next_context(context: Context, word: Keyword) -> Option<Context>
+    ensures { result ≡ next_context context word }
 {
     match word {
-        Keyword::Signature => Some(Part::Signature),
-        Keyword::Rules => Some(Part::Definitions),
-        Keyword::Strategies => Some(Part::Definitions),
-        Keyword::Sorts => in_signature(part, Part::Sorts),
-        Keyword::Constructors => in_signature(part, Part::Constructors),
+        Keyword::Signature => Some(Context::Signature),
+        Keyword::Rules => Some(Context::Definitions),
+        Keyword::Strategies => Some(Context::Definitions),
+        Keyword::Sorts => in_signature(context, Context::Sorts),
+        Keyword::Constructors => in_signature(context, Context::Constructors),
         _ => None,
     }
 }
 
-// The part of a signature, if it may come here.
-fn in_signature(part: Part, next: Part) -> Option<Part>
-    ensures { result ≡ in_signature part next }
+// The context in a part of a signature, if it may come here.
+fn in_signature(context: Context, next: Context) -> Option<Context>
+    ensures { result ≡ in_signature context next }
 {
-    match part {
-        Part::Outside => None,
-        Part::Definitions => None,
+    match context {
+        Context::Outside => None,
+        Context::Definitions => None,
         _ => Some(next),
     }
 }
 
-// Reads a sort, a declaration or a definition, as the current part of the module has them, from the
+// Reads a sort, a declaration or a definition, as the context has them, from the
 // start of the tokens. Returns the rest.
 fn read_item<'a>(
     alloc: Global,
-    part: Part,
+    context: Context,
     tokens: &'a [Token],
     built: &mut Built,
 ) -> Result<&'a [Token], SyntaxFault>
     requires { IsItem tokens.now }
     ensures forth { IfOk result (λ rest. (m : syntax.Module)
-        → SectionStands part built.old.constructors.items built.old.definitions.items tokens.now m
-        → SectionStands part built.new.constructors.items built.new.definitions.items rest.now m) }
+        → SectionStands context built.old.constructors.items built.old.definitions.items tokens.now m
+        → SectionStands context built.new.constructors.items built.new.definitions.items rest.now m) }
     ensures back { IfOk result (λ rest. (m : syntax.Module)
-        → SectionStands part built.new.constructors.items built.new.definitions.items rest.now m
-        → SectionStands part built.old.constructors.items built.old.definitions.items tokens.now m) }
+        → SectionStands context built.new.constructors.items built.new.definitions.items rest.now m
+        → SectionStands context built.old.constructors.items built.old.definitions.items tokens.now m) }
     ensures none { result ≡ Err SyntaxFault.Syntax → (m : syntax.Module)
-        → SectionStands part built.old.constructors.items built.old.definitions.items tokens.now m → ⊥ }
+        → SectionStands context built.old.constructors.items built.old.definitions.items tokens.now m → ⊥ }
     ensures shorter { IfOk result (λ rest. length rest.now < length tokens.now) }
 {
-    match part {
-        Part::Sorts => match skip_sort(tokens) {
-            Ok(rest) => Ok(rest),
-            Err(fault) => Err(fault),
-        },
-        Part::Constructors => match add_declaration(tokens, built) {
-            Ok(rest) => Ok(rest),
-            Err(fault) => Err(fault),
-        },
-        Part::Definitions => match add_definition(alloc, tokens, built) {
-            Ok(rest) => Ok(rest),
-            Err(fault) => Err(fault),
-        },
+    match context {
+        Context::Sorts => skip_sort(tokens),
+        Context::Constructors => add_declaration(tokens, built),
+        Context::Definitions => add_definition(alloc, tokens, built),
         _ => Err(SyntaxFault::Syntax),
     }
 }
@@ -157,24 +146,21 @@ fn read_item<'a>(
 fn add_declaration<'a>(tokens: &'a [Token], built: &mut Built) -> Result<&'a [Token], SyntaxFault>
     requires { IsItem tokens.now }
     ensures forth { IfOk result (λ rest. (m : syntax.Module)
-        → SectionStands Part.Constructors built.old.constructors.items built.old.definitions.items
+        → SectionStands Context.Constructors built.old.constructors.items built.old.definitions.items
         tokens.now m
-        → SectionStands Part.Constructors built.new.constructors.items built.new.definitions.items
+        → SectionStands Context.Constructors built.new.constructors.items built.new.definitions.items
         rest.now m) }
     ensures back { IfOk result (λ rest. (m : syntax.Module)
-        → SectionStands Part.Constructors built.new.constructors.items built.new.definitions.items
+        → SectionStands Context.Constructors built.new.constructors.items built.new.definitions.items
         rest.now m
-        → SectionStands Part.Constructors built.old.constructors.items built.old.definitions.items
+        → SectionStands Context.Constructors built.old.constructors.items built.old.definitions.items
         tokens.now m) }
     ensures none { result ≡ Err SyntaxFault.Syntax → (m : syntax.Module)
-        → SectionStands Part.Constructors built.old.constructors.items built.old.definitions.items
+        → SectionStands Context.Constructors built.old.constructors.items built.old.definitions.items
         tokens.now m → ⊥ }
     ensures shorter { IfOk result (λ rest. length rest.now < length tokens.now) }
 {
-    let (declared, rest) = match read_declaration(tokens) {
-        Ok(read) => read,
-        Err(fault) => return Err(fault),
-    };
+    let (declared, rest) = read_declaration(tokens)?;
     match declared {
         Some(constructor) => {
             built.constructors.push(constructor)?;
@@ -192,24 +178,21 @@ fn add_definition<'a>(
 ) -> Result<&'a [Token], SyntaxFault>
     requires { IsItem tokens.now }
     ensures forth { IfOk result (λ rest. (m : syntax.Module)
-        → SectionStands Part.Definitions built.old.constructors.items built.old.definitions.items
+        → SectionStands Context.Definitions built.old.constructors.items built.old.definitions.items
         tokens.now m
-        → SectionStands Part.Definitions built.new.constructors.items built.new.definitions.items
+        → SectionStands Context.Definitions built.new.constructors.items built.new.definitions.items
         rest.now m) }
     ensures back { IfOk result (λ rest. (m : syntax.Module)
-        → SectionStands Part.Definitions built.new.constructors.items built.new.definitions.items
+        → SectionStands Context.Definitions built.new.constructors.items built.new.definitions.items
         rest.now m
-        → SectionStands Part.Definitions built.old.constructors.items built.old.definitions.items
+        → SectionStands Context.Definitions built.old.constructors.items built.old.definitions.items
         tokens.now m) }
     ensures none { result ≡ Err SyntaxFault.Syntax → (m : syntax.Module)
-        → SectionStands Part.Definitions built.old.constructors.items built.old.definitions.items
+        → SectionStands Context.Definitions built.old.constructors.items built.old.definitions.items
         tokens.now m → ⊥ }
     ensures shorter { IfOk result (λ rest. length rest.now < length tokens.now) }
 {
-    let (definition, rest) = match read_definition(alloc, tokens) {
-        Ok(read) => read,
-        Err(fault) => return Err(fault),
-    };
+    let (definition, rest) = read_definition(alloc, tokens)?;
     built.definitions.push(definition)?;
     Ok(rest)
 }

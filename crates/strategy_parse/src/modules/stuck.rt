@@ -6,7 +6,7 @@ ghost use Rattle.strategy_tokens.specs.Tokens.{tokens};
 
 use crate::modules::parse::after_title;
 use crate::modules::passing::left_of_item;
-use crate::modules::sections::{Built, Part, read_next, read_sections};
+use crate::modules::sections::{Built, Context, read_next, read_sections};
 use crate::modules::tokens::after_word;
 use crate::parser::SyntaxFault;
 use std::alloc::Global;
@@ -101,28 +101,28 @@ fn unread<'a>(alloc: Global, tokens: &'a [Token]) -> Result<(&'a [Token], &'a [T
         let after = after_word(tokens, Keyword::Module).unwrap_or(tokens);
         return Ok((tokens, after));
     };
-    let (part, left) = read_items(alloc, sections)?;
-    let after = left_of_item(alloc, part, left)?;
+    let (context, left) = read_items(alloc, sections)?;
+    let after = left_of_item(alloc, context, left)?;
     Ok((left, after))
 }
 
-// The part of the module in which the reader stops, and the tokens that it leaves.
-fn read_items<'a>(alloc: Global, tokens: &'a [Token]) -> Result<(Part, &'a [Token]), NoMemory> {
+// The context in which the reader stops, and the tokens that it leaves.
+fn read_items<'a>(alloc: Global, tokens: &'a [Token]) -> Result<(Context, &'a [Token]), NoMemory> {
     let mut built = Built {
         constructors: Vec::new(alloc),
         definitions: Vec::new(alloc),
     };
-    let mut part = Part::Outside;
+    let mut context = Context::Outside;
     let mut left = tokens;
     while let Some((token, rest)) = left.split_first() {
-        match read_next(alloc, part, token, left, rest, &mut built) {
+        match read_next(alloc, context, token, left, rest, &mut built) {
             Ok((next, after)) => {
-                part = next;
+                context = next;
                 left = after;
             }
-            Err(SyntaxFault::Syntax) => return Ok((part, left)),
+            Err(SyntaxFault::Syntax) => return Ok((context, left)),
             Err(SyntaxFault::Memory) => return Err(NoMemory),
         }
     }
-    Ok((part, left))
+    Ok((context, left))
 }

@@ -29,15 +29,12 @@ pub fn read_strategy<'a>(
     ensures none { result ≡ Err SyntaxFault.Syntax → (a : Choice) (y : List Token)
         → ReadsChoice a tokens.now y → Stops y → ⊥ }
 {
-    match run(
+    run(
         alloc,
         ParserState::Strategy,
         ParserStack::new(alloc),
         tokens,
-    ) {
-        Ok(read) => Ok(read),
-        Err(fault) => Err(fault),
-    }
+    )
 }
 
 /// The pattern at the start of the tokens, as long as possible, and the rest.
@@ -53,10 +50,7 @@ pub fn read_pattern<'a>(
 {
     let mut stack = ParserStack::new(alloc);
     stack.push(ParserFrame::Pattern(PatternFrame::Match))?;
-    let (strategy, left) = match run(alloc, ParserState::Pattern, stack, tokens) {
-        Ok(read) => read,
-        Err(fault) => return Err(fault),
-    };
+    let (strategy, left) = run(alloc, ParserState::Pattern, stack, tokens)?;
     match strategy.into_form() {
         StrategyForm::Match(pattern) => Ok((pattern, left)),
         other => {

@@ -1,4 +1,5 @@
 use Rattle.std.proofs.Common.{ap, sym, Err}
+use Rattle.std.proofs.lemmas.Result.{IfOk-weaker}
 use Rattle.strategy_parse.specs.inside.ModuleFronts.{make_header}
 use Rattle.strategy_parse.proofs.RuleLemmas.{no_header, body_gives, body_only, no_body, no_colon, ruled_gives, ruled_only, no_ruled}
 use Rattle.strategy_parse.proofs.modules.definitions.read_definition.Goals as goal
@@ -34,20 +35,22 @@ returns-in_err-rest-clause-none c = λ e.
     no_colon c.args.tokens.now header c.in_ok-header.left.now c.in_ok-header.ensures.ok c.in_default.ensures.none
     (c.in_err-rest.ensures.none (ap Err (sym h.1)))
 
-pub returns-in-Ok-clause-given : goal.returns-in-Ok-clause-given
-returns-in-Ok-clause-given c =
+pub returns-clause-given : goal.returns-clause-given
+returns-clause-given c =
     let header = make_header c.in_ok-header.header.name c.in_ok-header.header.strategies c.in_ok-header.header.terms in
-    ruled_gives c.args.tokens.now header c.in_ok-header.left.now c.in_ok-header.ensures.ok c.in_default.ensures.none c.in_ok-rest.rest.now c.in_ok-rest.ensures.ok
-    c.in-Ok.read.0 c.in-Ok.read.1.now c.in-Ok.ensures.given
+    IfOk-weaker c.read_rule.result _ _
+    (λ read. ruled_gives c.args.tokens.now header c.in_ok-header.left.now c.in_ok-header.ensures.ok c.in_default.ensures.none c.in_ok-rest.rest.now c.in_ok-rest.ensures.ok
+    read.0 read.1.now) c.read_rule.ensures.given
 
-pub returns-in-Ok-clause-only : goal.returns-in-Ok-clause-only
-returns-in-Ok-clause-only c =
+pub returns-clause-only : goal.returns-clause-only
+returns-clause-only c =
     let header = make_header c.in_ok-header.header.name c.in_ok-header.header.strategies c.in_ok-header.header.terms in
-    ruled_only c.args.tokens.now header c.in_ok-header.left.now c.in_ok-header.ensures.ok c.in_default.ensures.none c.in_ok-rest.rest.now c.in_ok-rest.ensures.ok
-    c.in-Ok.read.0 c.in-Ok.read.1.now c.in-Ok.ensures.only
+    IfOk-weaker c.read_rule.result _ _
+    (λ read. ruled_only c.args.tokens.now header c.in_ok-header.left.now c.in_ok-header.ensures.ok c.in_default.ensures.none c.in_ok-rest.rest.now c.in_ok-rest.ensures.ok
+    read.0 read.1.now) c.read_rule.ensures.only
 
-pub returns-in-Err-clause-none : goal.returns-in-Err-clause-none
-returns-in-Err-clause-none c = λ e.
+pub returns-clause-none : goal.returns-clause-none
+returns-clause-none c = λ e.
     let header = make_header c.in_ok-header.header.name c.in_ok-header.header.strategies c.in_ok-header.header.terms in
     no_ruled c.args.tokens.now header c.in_ok-header.left.now c.in_ok-header.ensures.ok c.in_default.ensures.none c.in_ok-rest.rest.now c.in_ok-rest.ensures.ok
-    (c.in-Err.ensures.none e)
+    (c.read_rule.ensures.none e)
