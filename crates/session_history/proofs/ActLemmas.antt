@@ -20,8 +20,7 @@ use Rattle.session_history.specs.Moving.{KeepsHistory, Puts, Moves, Commits, Lea
 use Rattle.session_history.specs.Unfolded.{Logged, unfolded, past_contents, later_contents, HasTree, IsPlaceOf}
 use Rattle.session_history.specs.declared.refusal.Refusal.{Refusal}
 use Rattle.session_history.specs.declared.refusal.Refusal.TheVariants.{Memory, NoTree, Big, NoUndo, NoRedo, Group, NoGroup}
-use Rattle.session_history.specs.declared.timeline.OpenGroup.{OpenGroup}
-use Rattle.session_history.proofs.StepLemmas.{place_there, accepts, refuses, wants}
+use Rattle.session_history.proofs.StepLemmas.{some_there, place_there, accepts, refuses, wants}
 use Rattle.session_history.proofs.HistoryLemmas.{undone_past, redone_past, goes, goes_nowhere}
 use Rattle.session_history.proofs.KeepingLemmas.{text_same_but}
 use Rattle.session_history.proofs.SoundLemmas.{committed_leaves, now_changed}
@@ -115,22 +114,18 @@ module _ (t : Logged) (name : List ℕ) where
 
 -- ---- a place in a name's tree
 
-the_part : (o : Option Tree) → is_some o ≡ true → (t : Tree) × (o ≡ Some t)
-the_part None h = absurd (cc)
-the_part (Some t) h = (t, refl)
-
 module _ (t : Logged) (name path : List ℕ) (i : ℕ) (there : IsPlaceOf t.store name path i) where
   pub place_held : finmap.get (contents t.store).trees name ≡ Some there.tree
   place_held = tree_held t.store name i there.tree there.is
 
   -- the same place in the definitions
   pub seen_place : (part : Tree) × (place_of (contents t.store) name path ≡ Ok (record { tree = there.tree; part = part }))
-  seen_place = let part = the_part (at there.tree path) there.there in (part.0, place_there (contents t.store) name path there.tree part.0 place_held part.1)
+  seen_place = let part = some_there (at there.tree path) there.there in (part.0, place_there (contents t.store) name path there.tree part.0 place_held part.1)
 
   -- the subterm there
   pub part_there : at there.tree path ≡ Some seen_place.0
   unfolding seen_place
-  part_there = (the_part (at there.tree path) there.there).1
+  part_there = (some_there (at there.tree path) there.there).1
 
   abbrev pub the_place : Located
   the_place = record { tree = there.tree; part = seen_place.0 }
@@ -155,23 +150,16 @@ module _ (t : Logged) (name path : List ℕ) (i : ℕ) (there : IsPlaceOf t.stor
 pub closed_group : (t : Logged) (ps : List Signature) → t.group ≡ None → (unfolded ps t).group ≡ None
 closed_group t ps closed = ap (option_map (λ g. record { begun = contents (before t.current t.store); changed = g.changed })) closed
 
-pub some_group : (t : Logged) → IsSome t.group → (g : OpenGroup) × (t.group ≡ Some g)
-some_group t inside = by t.group inside
-  where
-    by : (o : Option OpenGroup) → IsSome o → (g : OpenGroup) × (o ≡ Some g)
-    by None h = absurd (cc)
-    by (Some g) h = (g, refl)
-
 module _ {X : Type 0} (t : Logged) where
   module _ (inside : IsSome t.group) where
     pub begin_inside : PerformsSurelyOn {X = X} begin t t (Err Group)
-    begin_inside = refused_surely begin t Group (λ ps. rw (some_group t inside).1 refl)
+    begin_inside = refused_surely begin t Group (λ ps. rw (some_there t.group inside).1 refl)
 
     pub undo_inside : (k : ℕ) → PerformsSurelyOn {X = X} (undo k) t t (Err Group)
-    undo_inside k = refused_surely (undo k) t Group (λ ps. rw (some_group t inside).1 refl)
+    undo_inside k = refused_surely (undo k) t Group (λ ps. rw (some_there t.group inside).1 refl)
 
     pub redo_inside : (k : ℕ) → PerformsSurelyOn {X = X} (redo k) t t (Err Group)
-    redo_inside k = refused_surely (redo k) t Group (λ ps. rw (some_group t inside).1 refl)
+    redo_inside k = refused_surely (redo k) t Group (λ ps. rw (some_there t.group inside).1 refl)
 
   module _ (closed : t.group ≡ None) where
     pub abandon_outside : PerformsSurelyOn {X = X} abandon t t (Err NoGroup)

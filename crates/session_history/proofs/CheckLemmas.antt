@@ -1,10 +1,8 @@
 -- What parsing and checking the modules of a store means for the history.
 use Rattle.std.proofs.Common.{◌≡◌, ◌<◌, ◌≤◌, ◌⊎◌, ℕ, Bool, true, false, cond, List, [], ◌∷◌, ◌++◌, ◌+◌, suc, length, drop, drop-cons, add-one, get_or, map, Option, Some, None, IsSome, IfSome, Result, Ok, Err, ok_or, option_and_then, inl, inr, refl, sym, ap, subst, ◌∙◌, arith, append_assoc}
-use Rattle.std.specs.Prelude.{IsSomeAnd, IsErrAnd, option_map}
+use Rattle.std.specs.Prelude.{IsSomeAnd, IsErrAnd}
 use Rattle.std.proofs.lemmas.List.{append-nil}
-use Rattle.std.proofs.lemmas.Bool.{cases_lt}
 use Rattle.std.specs.Ordering.{is_eq, nat_cmp, eq_by_cmp}
-use Rattle.std.specs.Cmp.{tied_itself}
 use Rattle.std.specs.Cmp.Lexicographic.{slice_cmp, nat_list_cmp_total}
 use Rattle.std.specs.FinMap as finmap
 use Rattle.std.specs.FinMap.{find, entries, get-entries, get-insert}
@@ -21,16 +19,16 @@ use Rattle.prim_core.specs.Signature.{Signature}
 use Rattle.session_history.specs.Unfolded.{Logged, unfolded, HasText}
 use Rattle.session_history.specs.Moving.{KeepsHistory, Puts, Commits, PerformsBy}
 use Rattle.session_history.specs.declared.kept.KeptModules.{KeptModules}
-use Rattle.session_history.specs.declared.timeline.OpenGroup.{OpenGroup}
 use Rattle.session_history.specs.History.{HistoryGroup, History, changed}
 use Rattle.session_history.specs.Acts.{set_module, unload, commit, ActResult, Passing, Given, Leaves, ChangesModules, ComesTo, committed}
 use Rattle.session_history.specs.Modules.{Texts, ReadsAsModule, AreReadable, AreRead, AreModules, GivesProgram, AreCurrent, IsCurrent, Checks, IsReadIn, IsUnread, AreRefused}
 use Rattle.session_history.specs.declared.refusal.Refusal.{Refusal}
 use Rattle.session_history.specs.declared.refusal.Refusal.TheVariants.{Memory, NoModule, NoGroup}
 use Rattle.session_history.proofs.MapLemmas.{R, same_key}
-use Rattle.session_history.proofs.StepLemmas.{refuses_by}
-use Rattle.session_history.proofs.ActLemmas.{keeps_itself, keeps_further, wants_in, accepted, refused_by, closed_group, some_group}
-use Rattle.session_history.proofs.SoundLemmas.{readable_without, now_changed}
+use Rattle.session_history.proofs.StepLemmas.{refuses_by, some_there}
+use Rattle.session_history.proofs.ReadingLemmas.{get_put}
+use Rattle.session_history.proofs.ActLemmas.{keeps_itself, keeps_further, wants_in, accepted, refused_by, closed_group}
+use Rattle.session_history.proofs.SoundLemmas.{IsReadable, have_without, now_changed}
 
 -- a text that is a module isn't refused
 pub reads_one : (text : List ℕ) (m : Module) (refusal : Refusal) → ReadsAsModule text (Ok m) → ReadsAsModule text (Err refusal) → ⊥
@@ -65,26 +63,18 @@ module_of texts ms name text are e =
 
 -- ---- one module more, or one less
 
+pub none_unread : (texts : Texts) (refusal : Refusal) → AreReadable texts → IsUnread texts refusal → ⊥
+none_unread texts refusal readable (q, x, e, unread) =
+    let old : (m : Module) × ReadsAsModule x (Ok m) = subst (λ (o : Option (List ℕ)). IfSome o (λ t. (m : Module) × ReadsAsModule t (Ok m))) e (readable q) in
+    reads_one x old.0 refusal old.1 unread
+
 -- if all earlier texts are modules, the one that is none is the new one
 pub unread_new : (texts : Texts) (name text : List ℕ) (refusal : Refusal) → AreReadable texts → IsUnread (finmap.insert texts name text) refusal → ReadsAsModule text (Err refusal)
 unread_new texts name text refusal readable (q, x, e, unread) = by (eq_by_cmp (slice_cmp nat_cmp) q name) (sym (get-insert nat_list_cmp_total texts name text q) ∙ e)
   where
     by : (b : Bool) → cond b (Some text) (finmap.get texts q) ≡ Some x → ReadsAsModule text (Err refusal)
     by true e = let same : x ≡ text = cc in subst (λ (t : List ℕ). ReadsAsModule t (Err refusal)) same unread
-    by false e =
-        let old : (m : Module) × ReadsAsModule x (Ok m) = subst (λ (o : Option (List ℕ)). IfSome o (λ t. (m : Module) × ReadsAsModule t (Ok m))) e (readable q) in
-        absurd (reads_one x old.0 refusal old.1 unread)
-
-pub none_unread : (texts : Texts) (refusal : Refusal) → AreReadable texts → IsUnread texts refusal → ⊥
-none_unread texts refusal readable (q, x, e, unread) =
-    let old : (m : Module) × ReadsAsModule x (Ok m) = subst (λ (o : Option (List ℕ)). IfSome o (λ t. (m : Module) × ReadsAsModule t (Ok m))) e (readable q) in
-    reads_one x old.0 refusal old.1 unread
-
-pub get_new : (texts : Texts) (name text : List ℕ) → finmap.get (finmap.insert texts name text) name ≡ Some text
-get_new texts name text = get-insert nat_list_cmp_total texts name text name ∙ ap (λ (b : Bool). cond b (Some text) (finmap.get texts name)) (itself name)
-  where
-    itself : (q : List ℕ) → eq_by_cmp (slice_cmp nat_cmp) q q ≡ true
-    itself q = ap is_eq (tied_itself nat_list_cmp_total q)
+    by false e = absurd (none_unread texts refusal readable (q, x, e, unread))
 
 -- ---- a text in the slot of a name
 
@@ -123,11 +113,7 @@ module _ (ps : List Signature) (t n : Logged) (c : Contents) where
   becomes_refused refusal closed checks = subst (λ (o : Option HistoryGroup). ChangesModules o c h (Err refusal)) (sym (closed_group t ps closed)) (Err refusal, checks, refl)
 
   becomes_inside : IsSome t.group → g ≡ changed c h → ChangesModules h.group c h (Ok g)
-  becomes_inside inside is = by t.group inside (ap Ok is)
-    where
-      by : (o : Option OpenGroup) → IsSome o → ◌≡◌ {A = ActResult} (Ok g) (Ok (changed c h)) → ChangesModules (option_map (λ g. record { begun = contents (before t.current t.store); changed = g.changed }) o) c h (Ok g)
-      by None inside is = absurd (cc)
-      by (Some group) inside is = is
+  becomes_inside inside is = subst (λ (o : Option HistoryGroup). ChangesModules o c h (Ok g)) (sym (some_there h.group (grind arith)).1) (ap Ok is)
 
 -- ---- acts on the modules
 
@@ -137,7 +123,7 @@ module _ (ps : List Signature) (t : Logged) (name text : List ℕ) where
 
   -- the module of the text, if all texts are modules
   given : (ms : Modules) → AreModules with_text.modules ms → (m : Module) × ReadsAsModule text (Ok m)
-  given ms are = module_of with_text.modules ms name text are (get_new (contents t.store).modules name text)
+  given ms are = module_of with_text.modules ms name text are (get_put (contents t.store).modules name text)
 
   -- a text that is no module, at a `?`
   pub set_unread : {X : Type 0} (r : Result X Refusal) (refusal : Refusal) → IsErrAnd r (λ e. e ≡ refusal) → (refusal ≡ Memory) ⊎ ReadsAsModule text (Err refusal)
@@ -210,7 +196,7 @@ module _ (ps : List Signature) (t : Logged) (name : List ℕ) where
       where
         by : AreRefused ps without_text.modules refusal → (refusal ≡ Memory) ⊎ ComesTo (unload name) (unfolded ps t) (Err refusal)
         by (inl (inl memory)) = inl memory
-        by (inl (inr unread)) = absurd (none_unread without_text.modules refusal (readable_without (contents t.store).modules name readable) unread)
+        by (inl (inr unread)) = absurd (none_unread without_text.modules refusal (have_without IsReadable (contents t.store).modules name readable) unread)
         by (inr checks) = inr (unloads (Err refusal) (becomes_refused ps t n without_text refusal closed checks))
 
     pub unload_inside : IsSome t.group → Puts (slot_text i None) t n → PerformsBy {X = Unit {0}} ps (unload name) t n (Ok tt)
@@ -237,16 +223,12 @@ module _ (ps : List Signature) (t : Logged) where
       by : AreRefused ps (contents t.store).modules refusal → (refusal ≡ Memory) ⊎ ComesTo commit (unfolded ps t) (Err refusal)
       by (inl (inl memory)) = inl memory
       by (inl (inr unread)) = absurd (none_unread (contents t.store).modules refusal readable unread)
-      by (inr checks) = inr (rw (some_group t inside).1 (Err refusal, checks, refl))
+      by (inr checks) = inr (rw (some_there t.group inside).1 (Err refusal, checks, refl))
 
 -- ---- the modules of names, in order
 
 pub few_tokens : (n m : ℕ) → (m < n → ⊥) → n ≤ m
-few_tokens n m h = by (cases_lt m n)
-  where
-    by : (m < n) ⊎ (n ≤ m) → n ≤ m
-    by (inl more) = absurd (h more)
-    by (inr few) = few
+few_tokens n m h = omega (arith, h)
 
 -- the names from index i on
 pub next_one : (names : List (List ℕ)) (i : ℕ) (name : List ℕ) → i < length names → name ≡ get_or names i name → drop i names ≡ name ∷ drop (i + 1) names

@@ -3,7 +3,7 @@ use Rattle.std.proofs.Common.{◌≡◌, ◌<◌, ℕ, zero, suc, List, [], ◌�
 use Rattle.std.specs.Option.{option_map_or}
 use Rattle.term_changes.specs.Contents.{Contents}
 use Rattle.session_history.specs.Modules.{Checks}
-use Rattle.session_history.specs.History.{HistoryGroup, History, stepped, newest, older, back_to, forward_to, step_back, step_forward, moved, undone, redone}
+use Rattle.session_history.specs.History.{HistoryGroup, History, stepped, newest, older, back_to, step_back, step_forward, moved, undone, redone}
 use Rattle.session_history.specs.Acts.{ActResult, Passing, Holding, Given, Leaves, ComesTo, committed, undo, redo}
 use Rattle.session_history.specs.Laws.{ChangeIsUndone, GroupIsUndone, RedoTakesUndoBack, UndoTakesRedoBack}
 use Rattle.session_history.specs.declared.refusal.Refusal.{Refusal}
@@ -31,30 +31,19 @@ back_to-append h (c ∷ cs) x = λ i. Some (record h { past = older-append c cs 
 
 -- ---- one step
 
-same_Some : (g h : History) → Some g ≡ Some h → g ≡ h
+pub same_Some : (g h : History) → Some g ≡ Some h → g ≡ h
 same_Some g h e = cc
 
-back_after_forward : (h g : History) (later : List Contents) → h.later ≡ later → forward_to h later ≡ Some g → step_back g ≡ Some h
-back_after_forward h g [] p e = absurd (cc)
-back_after_forward h g (c ∷ cs) p e =
-    ap step_back (sym (same_Some _ _ e)) ∙ back_to-append (record h { past = h.past ++ h.now ∷ []; now = c; later = cs }) h.past h.now ∙ (λ i. Some (record h { later = sym p i }))
-
-forward_after_back : (h g : History) (past : List Contents) → h.past ≡ past → back_to h past ≡ Some g → step_forward g ≡ Some h
-forward_after_back h g [] p e = absurd (cc)
-forward_after_back h g (c ∷ cs) p e =
-    ap step_forward (sym (same_Some _ _ e)) ∙ (λ i. Some (record h { past = (older-newest c cs ∙ sym p) i }))
-
 step_back-step_forward : (h g : History) → step_forward h ≡ Some g → step_back g ≡ Some h
-step_back-step_forward h g e = back_after_forward h g h.later refl e
+step_back-step_forward h g e = grind (arith, back_to-append g h.past h.now)
 
 step_forward-step_back : (h g : History) → step_back h ≡ Some g → step_forward g ≡ Some h
-step_forward-step_back h g e = forward_after_back h g h.past refl e
+step_forward-step_back h g e = grind (arith, older-newest)
 
 -- ---- several steps
 
 and_then-Some : (o : Option History) → option_and_then (λ g. Some g) o ≡ o
-and_then-Some None = refl
-and_then-Some (Some g) = refl
+and_then-Some o = grind arith
 
 module _ (move : History → Option History) where
   -- the last move made first
@@ -92,37 +81,19 @@ length-older c (d ∷ ds) = ap suc (length-older d ds)
 
 pub undone_past : (k : ℕ) (h : History) → length h.past < k → undone k h ≡ None
 undone_past zero h l = absurd (omega (arith, l))
-undone_past (suc k) h l = by h.past (λ m l. undone_past k m l) l
-  where
-    by : (past : List Contents) → ((m : History) → length m.past < k → undone k m ≡ None) → length past < suc k → option_and_then (λ m. undone k m) (back_to h past) ≡ None
-    by [] rest l = refl
-    by (c ∷ cs) rest l = rest _ (omega (arith, l, length-older c cs))
+undone_past (suc k) h l = grind (arith, undone_past k, length-older)
 
 pub redone_past : (k : ℕ) (h : History) → length h.later < k → redone k h ≡ None
 redone_past zero h l = absurd (omega (arith, l))
-redone_past (suc k) h l = by h.later (λ m l. redone_past k m l) l
-  where
-    by : (later : List Contents) → ((m : History) → length m.later < k → redone k m ≡ None) → length later < suc k → option_and_then (λ m. redone k m) (forward_to h later) ≡ None
-    by [] rest l = refl
-    by (c ∷ cs) rest l = rest _ (omega (arith, l))
+redone_past (suc k) h l = grind (arith, redone_past k)
 
 -- ---- going back and forward leaves the group
 
-same_group_back : (h : History) (past : List Contents) (g : History) → back_to h past ≡ Some g → g.group ≡ h.group
-same_group_back h [] g e = absurd (cc)
-same_group_back h (c ∷ cs) g e = ap (λ g. g.group) (sym (same_Some _ _ e))
+stays_back : (h m : History) → h.group ≡ None → step_back h ≡ Some m → m.group ≡ None
+stays_back h m was e = grind arith
 
-same_group_forward : (h : History) (later : List Contents) (g : History) → forward_to h later ≡ Some g → g.group ≡ h.group
-same_group_forward h [] g e = absurd (cc)
-same_group_forward h (c ∷ cs) g e = ap (λ g. g.group) (sym (same_Some _ _ e))
-
--- the group stays while going
-module _ (x : Option HistoryGroup) where
-  stays_back : (h m : History) → h.group ≡ x → step_back h ≡ Some m → m.group ≡ x
-  stays_back h m was e = same_group_back h h.past m e ∙ was
-
-  stays_forward : (h m : History) → h.group ≡ x → step_forward h ≡ Some m → m.group ≡ x
-  stays_forward h m was e = same_group_forward h h.later m e ∙ was
+stays_forward : (h m : History) → h.group ≡ None → step_forward h ≡ Some m → m.group ≡ None
+stays_forward h m was e = grind arith
 
 -- ---- the laws
 
@@ -150,12 +121,12 @@ module _ (h g : History) (o : Option History) (refusal : Refusal) where
 pub redo_takes_undo_back : RedoTakesUndoBack
 redo_takes_undo_back k h g done =
     let back = went h g (undone k h) NoUndo done in
-    goes g h (redone k g) NoRedo (moved_keeps step_back (λ g. g.group ≡ None) (stays_back None) k h g back.0 back.1) (moved_back step_back step_forward step_forward-step_back k h g back.1)
+    goes g h (redone k g) NoRedo (moved_keeps step_back (λ g. g.group ≡ None) stays_back k h g back.0 back.1) (moved_back step_back step_forward step_forward-step_back k h g back.1)
 
 pub undo_takes_redo_back : UndoTakesRedoBack
 undo_takes_redo_back k h g done =
     let forth = went h g (redone k h) NoRedo done in
-    goes g h (undone k g) NoUndo (moved_keeps step_forward (λ g. g.group ≡ None) (stays_forward None) k h g forth.0 forth.1) (moved_back step_forward step_back step_back-step_forward k h g forth.1)
+    goes g h (undone k g) NoUndo (moved_keeps step_forward (λ g. g.group ≡ None) stays_forward k h g forth.0 forth.1) (moved_back step_forward step_back step_back-step_forward k h g forth.1)
 
 -- a step from these contents to the current ones is undone and redone
 step_is_undone : (from c : Contents) (h : History) → h.group ≡ None → (g : History) → record (stepped from h) { now = c } ≡ g
@@ -178,7 +149,7 @@ pub group_is_undone : GroupIsUndone
 group_is_undone group h g is was done =
     let there = passing_Ok (ok_or h.group NoGroup) (λ group. Given (Checks h.primitives h.now.modules) (λ p. Leaves (committed group h))) g done in
     let checked = given_Ok (Checks h.primitives h.now.modules) (λ p. Leaves (committed there.0 h)) g there.2 in
-    let same : there.0 ≡ group = same_group there.0 group (sym (ok_or-Ok h.group NoGroup there.0 there.1) ∙ is) in
+    let same : there.0 ≡ group = cc (ok_or-Ok h.group NoGroup there.0 there.1) in
     let left : committed group h ≡ g = ap (λ (x : HistoryGroup). committed x h) (sym same) ∙ sym (same_Ok (committed there.0 h) g checked.2) in
     let stepped_from : record (stepped group.begun (record h { group = None })) { now = h.now } ≡ g =
     ap (λ b. cond b (record (stepped group.begun h) { group = None }) (record h { group = None })) (sym was) ∙ left in
@@ -187,6 +158,3 @@ group_is_undone group h g is was done =
       subst (λ (x : Contents). ComesTo (undo 1) g (Ok (record h { now = group.begun; later = x ∷ []; group = None }))) now undone.0,
       subst (λ (x : Contents). ComesTo (redo 1) (record h { now = group.begun; later = x ∷ []; group = None }) (Ok g)) now undone.1,
     )
-  where
-    same_group : (a b : HistoryGroup) → Some a ≡ Some b → a ≡ b
-    same_group a b e = cc

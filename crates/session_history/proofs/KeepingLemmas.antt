@@ -1,5 +1,5 @@
 -- Checked modules of texts of which one changes.
-use Rattle.std.proofs.Common.{◌≡◌, ◌<◌, ◌≤◌, ℕ, zero, suc, ◌+◌, nat_eq, Bool, true, false, cond, T, not, ◌&&◌, List, [], ◌∷◌, ◌++◌, map, length, take, drop, get_or, slice_get, Option, Some, None, option_map, Ok, if◌then◌else◌, refl, sym, ap, subst, ◌∙◌, arith, append_assoc, append-nil}
+use Rattle.std.proofs.Common.{◌≡◌, ℕ, zero, suc, ◌+◌, nat_eq, Bool, true, false, cond, T, not, List, [], ◌∷◌, ◌++◌, map, take, drop, slice_get, Option, Some, None, option_map, Ok, if◌then◌else◌, refl, sym, ap, subst, ◌∙◌, arith}
 use Rattle.std.specs.Prelude.{IsSomeAnd}
 use Rattle.std.specs.List.{AllByRecursion}
 use Rattle.std.specs.Ordering.{is_lt, is_eq, eq_by_cmp}
@@ -10,12 +10,11 @@ use Rattle.std.specs.Cmp.Lexicographic.{nat_list_cmp_total, nat_list_eq_equiv, p
 use Rattle.std.specs.FinMap as finmap
 use Rattle.std.specs.FinMap.{put, is_sorted, entries, entries_sorted, entries-insert, get-entries, get-insert, get-remove, same_map}
 use Rattle.std.specs.FinMap.Entries.{by_order, where_key, below_all, find-where_key, is_sorted-where_key, same_entries}
-use Rattle.std.proofs.lemmas.List.{drop_all, drop_more, take_more}
 use Rattle.std.proofs.lemmas.Map.Keys.{IsDistinct-head, IsDistinct-tail}
 use Rattle.std.proofs.lemmas.Map.Lookups.{exact_bytes}
+use Rattle.std.proofs.lemmas.Bool.Decides.{nat_tests}
 use Rattle.strategy_syntax.specs.Modules.{Module}
 use Rattle.strategy_check.specs.Tables.{Modules}
-use Rattle.strategy_check.specs.Checking.{with_modules}
 use Rattle.term_changes.specs.Slots.{Slots, Store, HaveDistinctLabels, labels, with_content, slot_of, named, contents}
 use Rattle.term_changes.specs.Contents.{Contents}
 use Rattle.term_changes.specs.Entries.{Entry, slot_text, put as put_entry}
@@ -47,9 +46,6 @@ taken_same_but texts name = changed_same_but texts name None
 pub same_but_sym : (name : List ℕ) (old now : Texts) → SameBut name old now → SameBut name now old
 same_but_sym name old now h = record { same = λ q other. sym (h.same q other) }
 
-pub differ_both : (name : List ℕ) (old mid now : Texts) → SameBut name old mid → SameBut name mid now → SameBut name old now
-differ_both name old mid now first second = record { same = λ q other. first.same q other ∙ second.same q other }
-
 -- Texts that are the same but for one name are the old ones with the text that this name has now.
 pub same_but : (name : List ℕ) (old now : Texts) → SameBut name old now → now ≡ changed_text old name (finmap.get now name)
 same_but name old now h = same_map nat_list_cmp_total exact_bytes now _ (λ q. by q (eq_by_cmp R q name) refl ∙ sym (get_changed old name (finmap.get now name) q))
@@ -74,19 +70,12 @@ Reads : Module → Option (List ℕ) → Type 0
 Reads m o = IsSomeAnd o (λ text. ReadsAsModule text (Ok m))
 
 -- If each entry is found by its key, its text is the one that was parsed for its name.
-pub read_in_entries : (texts : Texts) (es : Entries) (ms : Modules) → AllByRecursion (λ e. finmap.get texts e.0 ≡ Some e.1) es → AreRead texts (map (λ e. e.0) es) ms → ReadEntries es ms
+read_entries : (texts : Texts) (es : Entries) (ms : Modules) → AllByRecursion (λ e. finmap.get texts e.0 ≡ Some e.1) es → AreRead texts (map (λ e. e.0) es) ms ≡ ReadEntries es ms
 unfolding Reads
-read_in_entries texts [] [] there h = tt
-read_in_entries texts [] (m ∷ ms) there h = absurd h
-read_in_entries texts (e ∷ es) [] there h = absurd h
-read_in_entries texts (e ∷ es) (m ∷ ms) there h = (h.0, subst (Reads m.1) there.0 h.1, read_in_entries texts es ms there.1 h.2)
-
-pub read_by_names : (texts : Texts) (es : Entries) (ms : Modules) → AllByRecursion (λ e. finmap.get texts e.0 ≡ Some e.1) es → ReadEntries es ms → AreRead texts (map (λ e. e.0) es) ms
-unfolding Reads
-read_by_names texts [] [] there h = tt
-read_by_names texts [] (m ∷ ms) there h = absurd h
-read_by_names texts (e ∷ es) [] there h = absurd h
-read_by_names texts (e ∷ es) (m ∷ ms) there h = (h.0, subst (Reads m.1) (sym there.0) h.1, read_by_names texts es ms there.1 h.2)
+read_entries texts [] [] there = refl
+read_entries texts [] (m ∷ ms) there = refl
+read_entries texts (e ∷ es) [] there = refl
+read_entries texts (e ∷ es) (m ∷ ms) there = λ i. (m.0 ≡ e.0) × Reads m.1 (there.0 i) × read_entries texts es ms there.1 i
 
 -- ---- one entry put in its place
 
@@ -114,16 +103,7 @@ without name = where_key R (λ q. not (eq_by_cmp R name q))
 
 below_next : (name key : List ℕ) (es : Entries) → R name key ≡ Less → T (below_all R key es) → T (below_all R name es)
 below_next name key [] less h = tt
-below_next name key (e ∷ es) less h = both (is_lt (R name e.0)) _ (subst (λ (r : Ordering). T (is_lt r)) (sym (nat_list_cmp_total.trans name key e.0 less (below (R key e.0) (earlier _ (below_all R key es) h)))) tt) (below_next name key es less (later (is_lt (R key e.0)) _ h))
-  where
-    both : (a b : Bool) → T a → T b → T (a && b)
-    both true b h g = g
-    both false b h g = h
-
-    below : (r : Ordering) → T (is_lt r) → r ≡ Less
-    below Less h = refl
-    below Equal h = absurd h
-    below Greater h = absurd h
+below_next name key (e ∷ es) less h = grind (arith, nat_tests, below_next name key es less, nat_list_cmp_total.trans name key e.0 less)
 
 -- A name below all keys is none of them, so nothing is taken out.
 none_without : (name : List ℕ) (es : Entries) → T (below_all R name es) → without name es ≡ es
@@ -160,8 +140,7 @@ entries-remove texts name =
     other q = not (eq_by_cmp R name q)
 
     turned : (b : Bool) (o : Option (List ℕ)) → cond b None o ≡ cond (not b) o None
-    turned true o = refl
-    turned false o = refl
+    turned b o = grind arith
 
 -- ---- the modules of texts of which one changes
 
@@ -175,8 +154,9 @@ entries_changed texts name (Some text) ms new h (m, reads, is) =
 
 pub are_given : (texts : Texts) (name : List ℕ) (o : Option (List ℕ)) (ms new : Modules) → AreModules texts ms → AreGiven name o new → AreModules (changed_text texts name o) (with_module name new ms)
 are_given texts name o ms new are given =
-    read_by_names (changed_text texts name o) (entries (changed_text texts name o)) (with_module name new ms) (all_there (changed_text texts name o))
-    (entries_changed texts name o ms new (read_in_entries texts (entries texts) ms (all_there texts) are) given)
+    let now : Texts = changed_text texts name o in
+    subst (λ (A : Type 0). A) (sym (read_entries now (entries now) (with_module name new ms) (all_there now)))
+    (entries_changed texts name o ms new (subst (λ (A : Type 0). A) (read_entries texts (entries texts) ms (all_there texts)) are) given)
 
 pub are_changed : (old now : Texts) (name : List ℕ) (ms new : Modules) → SameBut name old now → AreModules old ms → AreNamed now name new → AreModules now (with_module name new ms)
 are_changed old now name ms new same are named =
@@ -184,59 +164,10 @@ are_changed old now name ms new same are named =
 
 -- ---- where a module is put among others
 
-module _ (name : List ℕ) (m : List ℕ × Module) (new ms : Modules) where
-  placed : (r : Ordering) → R name m.0 ≡ r → by_order r (new ++ m ∷ ms) (new ++ ms) (m ∷ with_module name new ms) ≡ with_module name new (m ∷ ms)
-  placed r is = ap (λ (r : Ordering). by_order r (new ++ m ∷ ms) (new ++ ms) (m ∷ with_module name new ms)) (sym is)
-
-  pub placed-less : R name m.0 ≡ Less → with_modules 0 0 new (m ∷ ms) ≡ with_module name new (m ∷ ms)
-  placed-less is = placed Less is
-
-  pub placed-equal : R name m.0 ≡ Equal → with_modules 0 1 new (m ∷ ms) ≡ with_module name new (m ∷ ms)
-  placed-equal is = placed Equal is
-
-  pub placed-greater : R name m.0 ≡ Greater → m ∷ with_module name new ms ≡ with_module name new (m ∷ ms)
-  placed-greater is = placed Greater is
-
-pub placed-none : (name : List ℕ) (new : Modules) → with_modules 0 0 new [] ≡ with_module name new []
-placed-none name new = append-nil new
-
 -- To put modules of this name among those from place i on is to put them among all, since the names
 -- before it are lower.
 abbrev pub ArePassed : List ℕ → Modules → ℕ → Type 0
 ArePassed name ms i = (new : Modules) → take i ms ++ with_module name new (drop i ms) ≡ with_module name new ms
-
-module _ (name : List ℕ) (ms : Modules) where
-  pub passed-none : ArePassed name ms 0
-  passed-none new = refl
-
-  module _ (i : ℕ) (passed : ArePassed name ms i) where
-    pub ends-all : length ms ≤ i → (new : Modules) → with_modules i 0 new ms ≡ with_module name new ms
-    ends-all all new =
-        ap (λ l. take i ms ++ (new ++ l)) (drop_all (i + 0) ms (omega (arith, all)))
-        ∙ ap (λ l. take i ms ++ l) (append-nil new ∙ ap (with_module name new) (sym (drop_all i ms all)))
-        ∙ passed new
-
-    module _ (m : List ℕ × Module) (within : i < length ms) (at : m ≡ get_or ms i m) where
-      next : drop i ms ≡ m ∷ drop (i + 1) ms
-      next = drop_more ms i m within ∙ ap (λ m. m ∷ drop (i + 1) ms) (sym at)
-
-      pub passed-one : R name m.0 ≡ Greater → ArePassed name ms (i + 1)
-      passed-one above new =
-          ap (λ l. l ++ with_module name new (drop (i + 1) ms)) (take_more ms i m within ∙ ap (λ m. take i ms ++ m ∷ []) (sym at))
-          ∙ append_assoc (take i ms) (m ∷ []) (with_module name new (drop (i + 1) ms))
-          ∙ ap (λ l. take i ms ++ l) (placed-greater name m new (drop (i + 1) ms) above ∙ ap (with_module name new) (sym next))
-          ∙ passed new
-
-      pub ends-less : R name m.0 ≡ Less → (new : Modules) → with_modules i 0 new ms ≡ with_module name new ms
-      ends-less below new =
-          ap (λ l. take i ms ++ (new ++ l)) (ap (λ n. drop n ms) {x = i + 0} {y = i} (omega arith) ∙ next)
-          ∙ ap (λ l. take i ms ++ l) (placed-less name m new (drop (i + 1) ms) below ∙ ap (with_module name new) (sym next))
-          ∙ passed new
-
-      pub ends-equal : R name m.0 ≡ Equal → (new : Modules) → with_modules i 1 new ms ≡ with_module name new ms
-      ends-equal same new =
-          ap (λ l. take i ms ++ l) (placed-equal name m new (drop (i + 1) ms) same ∙ ap (with_module name new) (sym next))
-          ∙ passed new
 
 -- ---- a slot whose text changes
 

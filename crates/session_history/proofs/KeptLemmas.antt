@@ -1,8 +1,7 @@
 -- Checked modules that are kept while texts change.
-use Rattle.std.proofs.Common.{◌≡◌, ℕ, Bool, true, false, ◌&&◌, nat_le, length, List, Option, Some, None, is_some, IfSome, refl, sym, ap, subst}
-use Rattle.std.specs.Prelude.{IsSomeAnd, if◌then◌else◌, option_map, slice_get}
-use Rattle.term_core.specs.Word.{is_word, label_of}
-use Rattle.term_core.specs.declared.label.TheConstants.{MAX_LABEL}
+use Rattle.std.proofs.Common.{◌≡◌, ℕ, true, List, Option, Some, None, is_some, IfSome, refl, sym, ap, subst, arith}
+use Rattle.std.specs.Prelude.{IsSomeAnd, option_map, slice_get}
+use Rattle.term_core.specs.Word.{label_of}
 use Rattle.strategy_check.specs.Faults.{Primitives}
 use Rattle.strategy_check.specs.Checking.{Checked}
 use Rattle.term_changes.specs.Slots.{Slots, Store, contents, named}
@@ -38,11 +37,7 @@ kept_current ps texts c current = record { old = texts; are = current.are; check
 
 -- the bytes that a label was read from
 pub label_is : (text label : List ℕ) → label_of text ≡ Some label → text ≡ label
-label_is text label e = by (is_word text && nat_le (length text) MAX_LABEL) e
-  where
-    by : (b : Bool) → (if b then Some text else None) ≡ Some label → text ≡ label
-    by true e = cc
-    by false e = absurd (cc)
+label_is text label e = grind arith
 
 -- the modules that are kept, where one text may differ
 pub one_kept : (ps : Primitives) (texts : Texts) (o : Option Checked) (c : Checked) (label : List ℕ) (changed : Changed) → o ≡ Some c → IfSome o (IsKeptFor ps texts changed)

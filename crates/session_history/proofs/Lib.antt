@@ -1,3 +1,4 @@
+pub mod AllLemmas
 pub mod MapLemmas
 pub mod StepLemmas
 pub mod SoundLemmas

@@ -1,10 +1,10 @@
 -- Maps from bytes: each entry is found by its key.
-use Rattle.std.proofs.Common.{◌≡◌, ℕ, Bool, true, false, cond, T, ◌&&◌, List, [], ◌∷◌, map, Some, None, IsSome, refl, sym, ap, ◌∙◌, subst}
+use Rattle.std.proofs.Common.{◌≡◌, ℕ, Bool, true, false, cond, T, ◌&&◌, List, [], ◌∷◌, map, Some, None, IsSome, refl, sym, ap, ◌∙◌, subst, arith}
 use Rattle.std.specs.declared.option.Option.{Option}
 use Rattle.std.specs.List.{AllByRecursion}
 use Rattle.std.specs.Ordering.{nat_cmp, is_lt, is_eq, ordering_reverse}
 use Rattle.std.specs.declared.cmp.Ordering.{Ordering}
-use Rattle.std.specs.declared.cmp.Ordering.TheVariants.{Less, Equal, Greater}
+use Rattle.std.specs.declared.cmp.Ordering.TheVariants.{Equal}
 use Rattle.std.specs.Cmp.{tied_itself}
 use Rattle.std.specs.Cmp.Lexicographic.{slice_cmp, nat_list_cmp_total}
 use Rattle.std.specs.FinMap as finmap
@@ -17,27 +17,19 @@ abbrev pub R : List ℕ → List ℕ → Ordering
 R = slice_cmp nat_cmp
 
 pub later : (a b : Bool) → T (a && b) → T b
-later true b h = h
-later false b h = absurd h
+later a b h = grind arith
 
 pub earlier : (a b : Bool) → T (a && b) → T a
-earlier true b h = tt
-earlier false b h = absurd h
+earlier a b h = grind arith
 
 pub lower : (r : Ordering) → T (is_lt r) → is_eq r ≡ false
-lower Less h = refl
-lower Equal h = absurd h
-lower Greater h = absurd h
+lower r h = grind arith
 
 pub higher : (r : Ordering) → T (is_lt r) → is_eq (ordering_reverse r) ≡ false
-higher Less h = refl
-higher Equal h = absurd h
-higher Greater h = absurd h
+higher r h = grind arith
 
 pub tied : (r : Ordering) → is_eq r ≡ true → r ≡ Equal
-tied Less h = absurd (cc)
-tied Equal h = refl
-tied Greater h = absurd (cc)
+tied r h = grind arith
 
 pub same_key : (q k : List ℕ) → is_eq (R q k) ≡ true → q ≡ k
 same_key q k e = exact_bytes q k (tied (R q k) e)

@@ -1,12 +1,11 @@
 -- What each call on a timeline leaves: a well-placed timeline, and the history that it represents.
-use Rattle.std.proofs.Common.{◌≡◌, ℕ, suc, ◌+◌, ◌-◌, ◌<◌, ◌≤◌, Bool, true, false, cond, List, [], ◌∷◌, ◌++◌, length, take, drop, set, slice_get, Option, Some, None, IsSome, Result, Ok, Err, IfOk, OnOk, OnErr, option_map, option_and_then, refl, sym, ap, subst, subst₂, ◌∙◌, arith}
+use Rattle.std.proofs.Common.{◌≡◌, ℕ, ◌+◌, ◌-◌, ◌<◌, ◌≤◌, Bool, true, false, cond, List, [], ◌∷◌, ◌++◌, length, take, drop, set, slice_get, Option, Some, None, IsSome, Result, Ok, Err, IfOk, OnOk, OnErr, option_map, option_and_then, refl, sym, ap, subst, subst₂, ◌∙◌, arith}
 use Rattle.std.specs.Bool.{OnFalse}
-use Rattle.std.proofs.lemmas.List.{length-drop, length-set}
+use Rattle.std.proofs.lemmas.List.{length-drop, length-set, length-take-le}
+use Rattle.std.proofs.lemmas.Bool.Decides.{nat_tests}
 use Rattle.std.specs.Option.{option_map_or}
-use Rattle.std.specs.Prelude.{nat_eq, if◌then◌else◌, IsSomeAnd}
-use Rattle.std.specs.Cmp.Lexicographic.{pointwise}
+use Rattle.std.specs.Prelude.{IsSomeAnd}
 use Rattle.prim_core.specs.Signature.{Signature}
-use Rattle.term_changes.specs.Contents.{Contents}
 use Rattle.std.specs.FinMap as finmap
 use Rattle.term_core.specs.Tree.{Tree}
 use Rattle.term_changes.specs.Slots.{Slots, Store, HaveDistinctLabels, contents, content, slot_of}
@@ -22,22 +21,16 @@ use Rattle.session_history.specs.Unfolded.{Logged, past_contents, later_contents
 use Rattle.session_history.specs.inside.Adding.{AddsEntries}
 use Rattle.session_history.specs.inside.Adding.{AddsStep}
 use Rattle.session_history.specs.declared.timeline.OpenGroup.{OpenGroup}
-use Rattle.session_history.proofs.TimelineLemmas.{fits-append, IsGrowth, rewound_grown, past_grown, later_grown, length-past_of, length-later_of, count_past, compact-append, compact-take, compact-set, compact_at, grouped_past, grouped_later, grouped_back, grouped_forward, grouped_within, back_past, back_later, back_back, back_forward, forward_later, forward_past, forward_back, forward_forward}
+use Rattle.session_history.proofs.AllLemmas.{all_and, all_take, all_set, all_at}
+use Rattle.session_history.proofs.TimelineLemmas.{fits-append, IsGrowth, rewound_grown, past_grown, later_grown, length-past_of, length-later_of, grouped_past, grouped_later, grouped_back, grouped_forward, grouped_within, back_past, back_later, back_back, back_forward, forward_later, forward_past, forward_back, forward_forward}
+use Rattle.session_history.proofs.StepLemmas.{some_there}
 use Rattle.session_history.proofs.HistoryLemmas.{back_to-append}
 
 -- ---- slots
 
 pub slot_within : {X : Type 0} (ss : Slots X) (name : List ℕ) (i : ℕ) → slot_of ss name ≡ Some i → i < length ss
 slot_within [] name i e = absurd (cc)
-slot_within (s ∷ ss) name i e =
-    elim (pointwise nat_eq name s.0) as (λ b. (if b then Some 0 else option_map (λ i. i + 1) (slot_of ss name)) ≡ Some i → i < length (s ∷ ss)) [
-      | true ↦ λ e. let is : 0 ≡ i = cc in omega (arith, is)
-      | false ↦ λ e. next (slot_of ss name) (λ j. slot_within ss name j) e
-    ] e
-  where
-    next : (o : Option ℕ) → ((j : ℕ) → o ≡ Some j → j < length ss) → option_map (λ i. i + 1) o ≡ Some i → i < suc (length ss)
-    next None rest e = absurd (cc)
-    next (Some j) rest e = let is : j + 1 ≡ i = cc in omega (arith, is, rest j refl)
+slot_within (s ∷ ss) name i e = grind (arith, nat_tests, slot_within ss name)
 
 -- what stands under a name, by its slot, if it has one
 module _ (s : Store) (name : List ℕ) where
@@ -105,7 +98,7 @@ module _ {E : Type 0} where
 -- ---- counts
 
 pub past_count : (t : Logged) → IsPlaced t → length (past_contents t) ≡ t.position
-past_count t h = length-past_of (take t.position t.logs) (before t.current t.store) ∙ count_past t.position t.logs h.within
+past_count t h = length-past_of (take t.position t.logs) (before t.current t.store) ∙ length-take-le t.position t.logs h.within
 
 pub later_count : (t : Logged) → length (later_contents t) ≡ length t.logs - t.position
 later_count t = length-later_of (drop t.position t.logs) (before t.current t.store) ∙ length-drop t.position t.logs
@@ -156,23 +149,7 @@ module _ (t : Logged) (s : Store) (log : List Entry) (adds : AddsEntries t.store
   }
 
   pub grown_changes : (g : OpenGroup) → g.changed ≡ true → IsSome t.group → Changes t (record t { store = s; group = Some g; current = log })
-  grown_changes g was there = record {
-    made = λ ps.
-        (λ i. record {
-          primitives = ps;
-          past = past_of (take t.position t.logs) (begin_stays i);
-          now = contents s;
-          later = later_of (drop t.position t.logs) (begin_stays i);
-          group = Some (record { begun = contents (begin_stays i); changed = was i });
-        })
-        ∙ in_group ps t.group there;
-  }
-    where
-      in_group : (ps : List Signature) (o : Option OpenGroup) → IsSome o
-          → record { primitives = ps; past = past_of (take t.position t.logs) (before t.current t.store); now = contents s; later = later_of (drop t.position t.logs) (before t.current t.store); group = Some (record { begun = contents (before t.current t.store); changed = true }) }
-          ≡ changed (contents s) (unfolded ps (record t { group = o }))
-      in_group ps None there = absurd (cc)
-      in_group ps (Some g) there = refl
+  grown_changes g was there = record { made = λ ps. rw ((some_there t.group there).1, begin_stays, was) refl }
 
 -- ---- a change of several entries as a step of its own
 
@@ -199,7 +176,7 @@ module _ (t : Logged) (s : Store) (logs : List (List Entry)) (log new : List Ent
     back = subst₂ (λ l s. FitBack (take (t.position + 1) l) s) (sym step.all) (sym bare_now)
         (grouped_back t.logs t.position s step.left h.within (step.fits s (subst (λ l. Fits l s) (sym log_is) adds.fits)) (subst (FitBack (take t.position t.logs)) (bare_then ∙ sym leads_back) h.back));
     forward = subst₂ (λ l s. FitForward (drop (t.position + 1) l) s) (sym step.all) (sym bare_now) (grouped_forward t.logs t.position s step.left h.within);
-    compact = subst AllCompact (sym step.all) (compact-append (take t.position t.logs) step.left (compact-take t.position t.logs h.compact) step.compact);
+    compact = subst AllCompact (sym step.all) (all_and IsCompact (take t.position t.logs) step.left (all_take IsCompact t.position t.logs h.compact) step.compact);
     fits = subst (λ l. Fits l s) (sym bare_log) tt;
     current = h.current;
   })
@@ -211,22 +188,7 @@ module _ (t : Logged) (s : Store) (logs : List (List Entry)) (log new : List Ent
       ∙ (λ i. past_of (take t.position t.logs) ((leads_back ∙ sym bare_then) i) ++ contents (leads_back i) ∷ []) in
       let later : later_of (drop q logs) (before t.current s) ≡ [] =
       (λ i. later_of (drop (next i) (step.all i)) (bare_now i)) ∙ grouped_later t.logs t.position s step.left h.within in
-      (λ i. record {
-        primitives = ps;
-        past = past i;
-        now = contents s;
-        later = later i;
-        group = option_map (λ g. record { begun = contents (before t.current s); changed = g.changed }) (closed i);
-      })
-      ∙ sym (ap (λ o. option_map_or (λ g. record (unfolded ps t) { now = contents s; group = Some (record g { changed = true }) }) o (record (stepped (contents t.store) (unfolded ps t)) { now = contents s }))
-      (ap (option_map (λ g. record { begun = contents (before t.current t.store); changed = g.changed })) closed)
-      ∙ (λ i. record {
-        primitives = ps;
-        past = past_of (take t.position t.logs) (before t.current t.store) ++ contents t.store ∷ [];
-        now = contents s;
-        later = [];
-        group = option_map (λ g. record { begun = contents (before t.current t.store); changed = g.changed }) (closed i);
-      }))
+      rw closed (cc (past, later))
 
   pub many_changes : Changes t (record t { store = s; logs = logs; position = q })
   many_changes = record { made = many_unfolded }
@@ -284,7 +246,7 @@ module _ (t : Logged) (q : ℕ) (s : Store) (logs : List (List Entry)) (log : Li
       within = omega (arith, inside, ap length all, length-set t.logs q (flipped_back log t.store));
       back = subst₂ (λ l s. FitBack (take q l) s) (sym all) (sym now_is) (back_back t.logs q t.store log at inside fit_back);
       forward = subst₂ (λ l s. FitForward (drop q l) s) (sym all) (sym now_is) (back_forward t.logs q t.store log at inside fit_back fit_forward);
-      compact = subst AllCompact (sym all) (compact-set q t.logs (flipped_back log t.store) h.compact (flipped_back_is_compact log t.store (compact_at q t.logs log at h.compact)));
+      compact = subst AllCompact (sym all) (all_set IsCompact t.logs q (flipped_back log t.store) h.compact (flipped_back_is_compact log t.store (all_at IsCompact t.logs q log at h.compact)));
       fits = subst (λ l. Fits l s) (sym bare) tt;
       current = h.current;
     }
@@ -297,10 +259,8 @@ module _ (t : Logged) (q : ℕ) (s : Store) (logs : List (List Entry)) (log : Li
         let later : contents t.store ∷ later_of (drop t.position t.logs) (before t.current t.store) ≡ later_of (drop q logs) (before t.current s) =
         (λ i. contents t.store ∷ later_of (drop (sym back i) t.logs) (start t.store i)) ∙ sym (back_later t.logs q t.store log at inside)
         ∙ (λ i. later_of (drop q (sym all i)) (sym now_is i)) in
-        let same : option_map (λ g. record { begun = contents (before t.current t.store); changed = g.changed }) t.group ≡ option_map (λ g. record { begun = contents (before t.current s); changed = g.changed }) t.group =
-        ap (option_map (λ g. record { begun = contents (before t.current t.store); changed = g.changed })) closed ∙ sym (ap (option_map (λ g. record { begun = contents (before t.current s); changed = g.changed })) closed) in
         ap (back_to (unfolded ps t)) past ∙ back_to-append (unfolded ps t) (past_of (take q logs) (before t.current s)) (contents s)
-        ∙ (λ i. Some (record { primitives = ps; past = past_of (take q logs) (before t.current s); now = contents s; later = later i; group = same i }))
+        ∙ rw closed (cc later)
 
   module _ (forth : q ≡ t.position) (is : s ≡ after log t.store) (all : logs ≡ set t.logs q (flipped_forward log t.store)) where
     fit_after : FitBack (take q t.logs) t.store
@@ -317,7 +277,7 @@ module _ (t : Logged) (q : ℕ) (s : Store) (logs : List (List Entry)) (log : Li
       within = omega (arith, inside, ap length all, length-set t.logs q (flipped_forward log t.store));
       back = subst₂ (λ l s. FitBack (take (q + 1) l) s) (sym all) (sym then_is) (forward_back t.logs q t.store log at inside fit_after fit_ahead);
       forward = subst₂ (λ l s. FitForward (drop (q + 1) l) s) (sym all) (sym then_is) (forward_forward t.logs q t.store log at inside fit_ahead);
-      compact = subst AllCompact (sym all) (compact-set q t.logs (flipped_forward log t.store) h.compact (flipped_forward_is_compact log t.store (compact_at q t.logs log at h.compact)));
+      compact = subst AllCompact (sym all) (all_set IsCompact t.logs q (flipped_forward log t.store) h.compact (flipped_forward_is_compact log t.store (all_at IsCompact t.logs q log at h.compact)));
       fits = subst (λ l. Fits l s) (sym bare) tt;
       current = h.current;
     }
@@ -330,34 +290,20 @@ module _ (t : Logged) (q : ℕ) (s : Store) (logs : List (List Entry)) (log : Li
         let past : past_of (take t.position t.logs) (before t.current t.store) ++ contents t.store ∷ [] ≡ past_of (take (q + 1) logs) (before t.current s) =
         (λ i. past_of (take (sym forth i) t.logs) (start t.store i) ++ contents t.store ∷ []) ∙ sym (forward_past t.logs q t.store log at inside)
         ∙ (λ i. past_of (take (q + 1) (sym all i)) (sym then_is i)) in
-        let same : option_map (λ g. record { begun = contents (before t.current t.store); changed = g.changed }) t.group ≡ option_map (λ g. record { begun = contents (before t.current s); changed = g.changed }) t.group =
-        ap (option_map (λ g. record { begun = contents (before t.current t.store); changed = g.changed })) closed ∙ sym (ap (option_map (λ g. record { begun = contents (before t.current s); changed = g.changed })) closed) in
-        ap (forward_to (unfolded ps t)) later
-        ∙ (λ i. Some (record { primitives = ps; past = past i; now = contents s; later = later_of (drop (q + 1) logs) (before t.current s); group = same i }))
+        ap (forward_to (unfolded ps t)) later ∙ rw closed (cc past)
 
 -- ---- the end of a group
 
-some_group : (o : Option OpenGroup) → IsSome o → (g : OpenGroup) × (o ≡ Some g)
-some_group None h = absurd (cc)
-some_group (Some g) h = (g, refl)
-
--- the group as the history has it
-group_seen : (o : Option OpenGroup) (g : OpenGroup) (c : Contents) → o ≡ Some g → option_map {U = HistoryGroup} (λ g. record { begun = c; changed = g.changed }) o ≡ Some (record { begun = c; changed = g.changed })
-group_seen o g c e = ap (option_map {U = HistoryGroup} (λ g. record { begun = c; changed = g.changed })) e
-
-flag_of : (o : Option OpenGroup) (g : OpenGroup) (b : Bool) → o ≡ Some g → b ≡ option_map_or (λ g. g.changed) o false → g.changed ≡ b
-flag_of o g b e h = sym (h ∙ ap (λ o. option_map_or (λ g. g.changed) o false) e)
-
 module _ (t : Logged) (changed : Bool) (there : IsSome t.group) (flag : changed ≡ option_map_or (λ g. g.changed) t.group false) (h : IsPlaced t) where
   opened : OpenGroup
-  opened = (some_group t.group there).0
+  opened = (some_there t.group there).0
 
   is_open : t.group ≡ Some opened
   unfolding opened
-  is_open = (some_group t.group there).1
+  is_open = (some_there t.group there).1
 
   flagged : opened.changed ≡ changed
-  flagged = flag_of t.group opened changed is_open flag
+  flagged = sym (flag ∙ ap (λ o. option_map_or (λ g. g.changed) o false) is_open)
 
   -- what closing the group leaves, depending on the flag
   abbrev closing : List Signature → Bool → History
@@ -366,7 +312,8 @@ module _ (t : Logged) (changed : Bool) (there : IsSome t.group) (flag : changed 
   -- what closing the group leaves is the group as a step
   committing : (ps : List Signature) (g : History) → closing ps changed ≡ g → IsSomeAnd (unfolded ps t).group (λ k. g ≡ committed k (unfolded ps t))
   committing ps g e =
-      subst (λ (o : Option HistoryGroup). IsSomeAnd o (λ k. g ≡ committed k (unfolded ps t))) (sym (group_seen t.group opened (contents (before t.current t.store)) is_open)) (sym (ap (closing ps) flagged ∙ e))
+      let seen = ap (option_map {U = HistoryGroup} (λ g. record { begun = contents (before t.current t.store); changed = g.changed })) is_open in
+      subst (λ (o : Option HistoryGroup). IsSomeAnd o (λ k. g ≡ committed k (unfolded ps t))) (sym seen) (sym (ap (closing ps) flagged ∙ e))
 
   pub kept_placed : changed ≡ false → IsPlaced (record t { group = None })
   kept_placed none = record {
@@ -396,7 +343,7 @@ module _ (t : Logged) (changed : Bool) (there : IsSome t.group) (flag : changed 
       within = subst (λ (l : List (List Entry)). t.position + 1 ≤ length l) (sym step.all) (grouped_within t.logs t.position t.store step.left h.within);
       back = subst₂ (λ l s. FitBack (take (t.position + 1) l) s) (sym step.all) (sym begins) (grouped_back t.logs t.position t.store step.left h.within left_fits (subst (FitBack (take t.position t.logs)) (sym left_back) h.back));
       forward = subst₂ (λ l s. FitForward (drop (t.position + 1) l) s) (sym step.all) (sym begins) (grouped_forward t.logs t.position t.store step.left h.within);
-      compact = subst AllCompact (sym step.all) (compact-append (take t.position t.logs) step.left (compact-take t.position t.logs h.compact) step.compact);
+      compact = subst AllCompact (sym step.all) (all_and IsCompact (take t.position t.logs) step.left (all_take IsCompact t.position t.logs h.compact) step.compact);
       fits = subst (λ l. Fits l t.store) (sym empty) tt;
       current = empty;
     })

@@ -1,8 +1,7 @@
 -- Modules that were read and wait for the check.
-use Rattle.std.proofs.Common.{◌≡◌, ◌<◌, ◌≤◌, ◌+◌, ℕ, zero, suc, ◌-◌, Bool, false, cond, List, [], ◌∷◌, ◌++◌, length, take, set, get_or, Option, Some, None, Ok, sym, ap, subst, ◌∙◌, arith}
+use Rattle.std.proofs.Common.{◌≡◌, ◌<◌, ℕ, zero, suc, Bool, false, cond, List, [], ◌∷◌, length, get_or, Option, Some, None, Ok, sym, ap, subst, ◌∙◌, arith}
 use Rattle.std.specs.Prelude.{IsSomeAnd}
-use Rattle.std.proofs.lemmas.List.{take_all, take_more}
-use Rattle.std.specs.List.{AllByRecursion, swap_remove}
+use Rattle.std.specs.List.{AllByRecursion}
 use Rattle.std.specs.Ordering.{eq_by_cmp}
 use Rattle.std.specs.FinMap as finmap
 use Rattle.std.specs.FinMap.{get-insert}
@@ -14,40 +13,6 @@ use Rattle.strategy_check.specs.Tables.{Modules}
 use Rattle.session_history.specs.Modules.{Texts, ReadsAsModule, SameBut, IsReadIn, AreReadIn}
 use Rattle.session_history.specs.inside.Keeping.{AreGiven, AreNamed}
 use Rattle.session_history.proofs.MapLemmas.{R}
-
-module _ {X : Type 0} (P : X → Type 0) where
-  pub all_and : (xs : List X) (x : X) → AllByRecursion P xs → P x → AllByRecursion P (xs ++ x ∷ [])
-  all_and [] x h p = (p, tt)
-  all_and (y ∷ xs) x h p = (h.0, all_and xs x h.1 p)
-
-  all_set : (xs : List X) (i : ℕ) (x : X) → AllByRecursion P xs → P x → AllByRecursion P (set xs i x)
-  all_set [] i x h p = tt
-  all_set (y ∷ xs) zero x h p = (p, h.1)
-  all_set (y ∷ xs) (suc i) x h p = (h.0, all_set xs i x h.1 p)
-
-  all_take : (n : ℕ) (xs : List X) → AllByRecursion P xs → AllByRecursion P (take n xs)
-  all_take zero xs h = tt
-  all_take (suc n) [] h = tt
-  all_take (suc n) (x ∷ xs) h = (h.0, all_take n xs h.1)
-
-  some_or : (xs : List X) (i : ℕ) (d : X) → AllByRecursion P xs → P d → P (get_or xs i d)
-  some_or [] i d h p = p
-  some_or (x ∷ xs) zero d h p = h.0
-  some_or (x ∷ xs) (suc i) d h p = some_or xs i d h.1 p
-
-  pub some_of : (xs : List X) (i : ℕ) (d : X) → i < length xs → AllByRecursion P xs → P (get_or xs i d)
-  some_of [] i d l h = absurd (omega (arith, l))
-  some_of (x ∷ xs) zero d l h = h.0
-  some_of (x ∷ xs) (suc i) d l h = some_of xs i d (omega (arith, l)) h.1
-
-  pub all-swap_remove : (xs : List X) (i : ℕ) (d : X) → AllByRecursion P xs → P d → AllByRecursion P (swap_remove xs i d)
-  all-swap_remove xs i d h p = all_take (length xs - 1) (set xs i (get_or xs (length xs - 1) d)) (all_set xs i (get_or xs (length xs - 1) d) h (some_or xs (length xs - 1) d h p))
-
-  pub all_take_more : (xs : List X) (i : ℕ) (x : X) → i < length xs → x ≡ get_or xs i x → AllByRecursion P (take i xs) → P x → AllByRecursion P (take (i + 1) xs)
-  all_take_more xs i x within at h p = subst (AllByRecursion P) (sym (take_more xs i x within ∙ ap (λ y. take i xs ++ y ∷ []) (sym at))) (all_and (take i xs) x h p)
-
-  pub all_taken : (xs : List X) (i : ℕ) → length xs ≤ i → AllByRecursion P (take i xs) → AllByRecursion P xs
-  all_taken xs i past h = subst (AllByRecursion P) (take_all i xs past) h
 
 -- The text of another name changed.
 pub reads_stay : (old now : Texts) (name : List ℕ) (ms : Modules) → SameBut name old now → AllByRecursion (λ m. eq_by_cmp R m.0 name ≡ false) ms → AreReadIn old ms → AreReadIn now ms
@@ -74,7 +39,7 @@ named_there [] i x name l at is m = absurd (omega (arith, l))
 named_there (y ∷ ms) zero x name l at is m = ap (λ (p : List ℕ × Module). p.0) (sym at) ∙ is
 named_there (y ∷ ms) (suc i) x name l at is m = named_there ms i x name (omega (arith, l)) at is m
 
-get_put : (texts : Texts) (name text : List ℕ) → finmap.get (finmap.insert texts name text) name ≡ Some text
+pub get_put : (texts : Texts) (name text : List ℕ) → finmap.get (finmap.insert texts name text) name ≡ Some text
 get_put texts name text =
     get-insert nat_list_cmp_total texts name text name
     ∙ ap (λ (b : Bool). cond b (Some text) (finmap.get texts name)) ((eq_by_cmp_equiv nat_list_cmp_total).refl name)

@@ -1,5 +1,5 @@
 -- A step preserves soundness.
-use Rattle.std.proofs.Common.{◌≡◌, ◌≤◌, ◌+◌, ◌-◌, ℕ, zero, suc, Bool, true, false, ◌&&◌, cond, List, [], ◌∷◌, ◌++◌, length, set, slice_get, Option, Some, None, IfSome, Result, Ok, Err, OnOk, OnErr, ok_or, is_none, refl, sym, ap, subst, ◌∙◌, arith}
+use Rattle.std.proofs.Common.{◌≡◌, ◌≤◌, ◌+◌, ◌-◌, ℕ, zero, suc, true, false, cond, List, [], ◌∷◌, length, set, slice_get, Option, Some, None, IfSome, Result, Ok, Err, OnOk, OnErr, ok_or, is_none, refl, sym, ap, subst, ◌∙◌, arith}
 use Rattle.std.specs.Option.{option_map_or}
 use Rattle.std.specs.List.{AllByRecursion, list_all}
 use Rattle.std.specs.Ordering.{nat_cmp, eq_by_cmp}
@@ -27,46 +27,41 @@ use Rattle.session_history.specs.Applying.{ReadsAsStrategy, resolved_in, world_i
 use Rattle.session_history.specs.Laws.{ChangeIsToContents}
 use Rattle.session_history.specs.declared.refusal.Refusal.{Refusal}
 use Rattle.session_history.specs.declared.refusal.Refusal.TheVariants.{NoTree, Big, NoUndo, NoRedo, Group, NoGroup}
-use Rattle.session_history.proofs.HistoryLemmas.{moved_keeps}
+use Rattle.session_history.proofs.AllLemmas.{all_and}
+use Rattle.session_history.proofs.HistoryLemmas.{same_Some, moved_keeps}
 use Rattle.session_history.proofs.MapLemmas.{no_keys}
 use Rattle.session_history.proofs.StepLemmas.{same_Ok, passing_Ok, holding_Ok, given_Ok, ok_or-Ok, none_of, place_tree}
 
 -- ---- contents
 
-pub low_empty : AreLow finmap.empty
-low_empty = λ q. subst (λ (o : Option Tree). IfSome o (λ t. height t ≤ MAX_HEIGHT)) (sym (get-empty (slice_cmp nat_cmp) q)) tt
+-- maps whose values have a property
+module _ {X : Type 0} (P : X → Type 0) where
+  abbrev Have : Named X → Type 0
+  Have xs = (q : List ℕ) → IfSome (get xs q) P
 
-pub low_with_tree : (trees : Named Tree) (name : List ℕ) (tree : Tree) → AreLow trees → height tree ≤ MAX_HEIGHT → AreLow (finmap.insert trees name tree)
-low_with_tree trees name tree s h = λ q.
-    let Low : Option Tree → Type 0 = λ o. IfSome o (λ t. height t ≤ MAX_HEIGHT) in
-    subst Low (sym (get-insert nat_list_cmp_total trees name tree q))
-    (elim (eq_by_cmp (slice_cmp nat_cmp) q name) as (λ b. Low (cond b (Some tree) (get trees q))) [ true ↦ h | false ↦ s q ])
+  have_none : Have finmap.empty
+  have_none q = subst (λ o. IfSome o P) (sym (get-empty (slice_cmp nat_cmp) q)) tt
 
-pub low_without_tree : (trees : Named Tree) (name : List ℕ) → AreLow trees → AreLow (finmap.remove trees name)
-low_without_tree trees name s = λ q.
-    let Low : Option Tree → Type 0 = λ o. IfSome o (λ t. height t ≤ MAX_HEIGHT) in
-    subst Low (sym (get-remove nat_list_cmp_total trees name q))
-    (elim (eq_by_cmp (slice_cmp nat_cmp) q name) as (λ b. Low (cond b None (get trees q))) [ true ↦ tt | false ↦ s q ])
+  have_with : (xs : Named X) (name : List ℕ) (x : X) → Have xs → P x → Have (finmap.insert xs name x)
+  have_with xs name x s h q = subst (λ o. IfSome o P) (sym (get-insert nat_list_cmp_total xs name x q))
+      (elim (eq_by_cmp (slice_cmp nat_cmp) q name) as (λ b. IfSome (cond b (Some x) (get xs q)) P) [ true ↦ h | false ↦ s q ])
 
-abbrev GivesSome : Option (List ℕ) → Type 0
-GivesSome o = IfSome o (λ text. (m : Module) × ReadsAsModule text (Ok m))
+  pub have_without : (xs : Named X) (name : List ℕ) → Have xs → Have (finmap.remove xs name)
+  have_without xs name s q = subst (λ o. IfSome o P) (sym (get-remove nat_list_cmp_total xs name q))
+      (elim (eq_by_cmp (slice_cmp nat_cmp) q name) as (λ b. IfSome (cond b None (get xs q)) P) [ true ↦ tt | false ↦ s q ])
+
+abbrev Low : Tree → Type 0
+Low t = height t ≤ MAX_HEIGHT
+
+abbrev pub IsReadable : List ℕ → Type 0
+IsReadable text = (m : Module) × ReadsAsModule text (Ok m)
 
 pub readable_empty : AreReadable finmap.empty
-readable_empty = λ q. subst GivesSome (sym (get-empty (slice_cmp nat_cmp) q)) tt
-
-pub readable_with : (texts : Texts) (name text : List ℕ) (m : Module) → AreReadable texts → ReadsAsModule text (Ok m) → AreReadable (finmap.insert texts name text)
-readable_with texts name text m s h = λ q.
-    subst GivesSome (sym (get-insert nat_list_cmp_total texts name text q))
-    (elim (eq_by_cmp (slice_cmp nat_cmp) q name) as (λ b. GivesSome (cond b (Some text) (get texts q))) [ true ↦ (m, h) | false ↦ s q ])
-
-pub readable_without : (texts : Texts) (name : List ℕ) → AreReadable texts → AreReadable (finmap.remove texts name)
-readable_without texts name s = λ q.
-    subst GivesSome (sym (get-remove nat_list_cmp_total texts name q))
-    (elim (eq_by_cmp (slice_cmp nat_cmp) q name) as (λ b. GivesSome (cond b None (get texts q))) [ true ↦ tt | false ↦ s q ])
+readable_empty = have_none IsReadable
 
 pub sound_no_contents : (ps : Primitives) → AreSound ps no_contents
 sound_no_contents ps = (
-  (low_empty, readable_empty),
+  (have_none Low, readable_empty),
   record {
     modules = [];
     are = subst (λ (names : List (List ℕ)). AreRead finmap.empty names []) (sym (no_keys finmap.empty (λ q. get-empty (slice_cmp nat_cmp) q))) tt;
@@ -122,15 +117,10 @@ height_of_set t u p h f =
 
 heights_of_fit : (l : ℕ) (us : List Tree) → list_all (fits l) us ≡ true → l ≤ MAX_HEIGHT → l + heights (of_list us) ≤ MAX_HEIGHT
 heights_of_fit l [] h k = omega (arith, k)
-heights_of_fit l (u ∷ us) h k = by (fits l u) refl (λ g. heights_of_fit l us g k) h
-  where
-    by : (b : Bool) → fits l u ≡ b → (list_all (fits l) us ≡ true → l + heights (of_list us) ≤ MAX_HEIGHT) → (b && list_all (fits l) us) ≡ true → l + heights (of_list (u ∷ us)) ≤ MAX_HEIGHT
-    by true e rest g = let others = rest g in let first = height_of_fit l u e in omega (arith, others, first)
-    by false e rest g = absurd (cc)
+heights_of_fit l (u ∷ us) h k = grind (arith, nat_tests, heights_of_fit l us, height_of_fit l u)
 
 annotated_height : (t : Tree) (us : List Tree) (l n : ℕ) → l + height t ≤ n → l + 1 + heights (of_list us) ≤ n → l + height (with_annotations t us) ≤ n
-annotated_height (integer z notes) us l n h k = omega (arith, k)
-annotated_height (branch head kids notes) us l n h k = omega (arith, h, k)
+annotated_height t us l n h k = grind arith
 
 some_height : (t : Tree) → 1 ≤ height t
 some_height (integer z notes) = omega arith
@@ -146,10 +136,6 @@ height_of_annotated t us p h f =
 -- ---- histories
 
 module _ (P : Contents → Type 0) where
-  All-push : (xs : List Contents) (x : Contents) → AllByRecursion P xs → P x → AllByRecursion P (xs ++ x ∷ [])
-  All-push [] x h p = (p, tt)
-  All-push (y ∷ xs) x h p = (h.0, All-push xs x h.1 p)
-
   All-older : (c : Contents) (cs : List Contents) → AllByRecursion P (c ∷ cs) → AllByRecursion P (older c cs)
   All-older c [] h = tt
   All-older c (d ∷ ds) h = (h.0, All-older d ds h.1)
@@ -160,8 +146,7 @@ module _ (P : Contents → Type 0) where
 
 -- the current contents are well formed, and outside a group they are sound
 pub formed_now : (ps : Primitives) (c : Contents) (o : Option HistoryGroup) → IsSoundNow ps c o → AreFormed c
-formed_now ps c None s = s.0
-formed_now ps c (Some g) s = s.0
+formed_now ps c o s = grind arith
 
 pub sound_outside : (h : History) → HasSoundContents h → h.group ≡ None → AreSound h.primitives h.now
 sound_outside h s closed = subst (IsSoundNow h.primitives h.now) closed s.1
@@ -174,11 +159,8 @@ sound_changed c h s k f = by h.group refl s.1
   where
     by : (o : Option HistoryGroup) → h.group ≡ o → IsSoundNow h.primitives h.now o
         → HasSoundContents (option_map_or (λ g. record h { now = c; group = Some (record g { changed = true }) }) o (record (stepped h.now h) { now = c }))
-    by None e n = (All-push (AreSound h.primitives) h.past h.now s.0 n, subst (IsSoundNow h.primitives c) (sym e) (k, f e), tt)
+    by None e n = (all_and (AreSound h.primitives) h.past h.now s.0 n, subst (IsSoundNow h.primitives c) (sym e) (k, f e), tt)
     by (Some group) e n = (s.0, (k, n.1, tt), s.2)
-
-same_Some : (g h : History) → Some h ≡ Some g → h ≡ g
-same_Some g h e = cc
 
 -- a sound history without an open group
 abbrev Whole : History → Type 0
@@ -196,33 +178,27 @@ whole_back h g w e = by h.past w.1.0 e
     by : (past : List Contents) → AllByRecursion (AreSound h.primitives) past → back_to h past ≡ Some g → Whole g
     by [] a e = absurd (cc)
     by (c ∷ cs) a e =
-        subst Whole (same_Some g _ e) (w.0, (All-older (AreSound h.primitives) c cs a, All-newest (AreSound h.primitives) c cs a, (w.1.1, w.1.2)))
+        subst Whole (same_Some _ _ e) (w.0, (All-older (AreSound h.primitives) c cs a, All-newest (AreSound h.primitives) c cs a, (w.1.1, w.1.2)))
 
 whole_forward : (h g : History) → Whole h → step_forward h ≡ Some g → Whole g
 whole_forward h g w e = by h.later w.1.2 e
   where
     by : (later : List Contents) → AllByRecursion (AreSound h.primitives) later → forward_to h later ≡ Some g → Whole g
     by [] a e = absurd (cc)
-    by (c ∷ cs) a e = subst Whole (same_Some g _ e) (w.0, (All-push (AreSound h.primitives) h.past h.now w.1.0 w.1.1, a.0, a.1))
+    by (c ∷ cs) a e = subst Whole (same_Some _ _ e) (w.0, (all_and (AreSound h.primitives) h.past h.now w.1.0 w.1.1, a.0, a.1))
 
 -- ---- acts
 
 pub sound_committed : (group : HistoryGroup) (h : History) → HasSoundContents h → h.group ≡ Some group → Finds h.primitives h.now.modules None → HasSoundContents (committed group h)
-sound_committed group h s inside found = by group.changed
-  where
-    now : AreSound h.primitives h.now
-    now = (formed_now h.primitives h.now h.group s.1, found)
-
-    by : (b : Bool) → HasSoundContents (cond b (record (stepped group.begun h) { group = None }) (record h { group = None }))
-    by true = (All-push (AreSound h.primitives) h.past group.begun s.0 (sound_begun h group s inside), now, tt)
-    by false = (s.0, now, s.2)
+sound_committed group h s inside found =
+    let now : AreSound h.primitives h.now = (formed_now h.primitives h.now h.group s.1, found) in
+    elim group.changed as (λ b. HasSoundContents (cond b (record (stepped group.begun h) { group = None }) (record h { group = None }))) [
+      | true ↦ (all_and (AreSound h.primitives) h.past group.begun s.0 (sound_begun h group s inside), now, tt)
+      | false ↦ (s.0, now, s.2)
+    ]
 
 pub now_changed : (c : Contents) (h : History) → (changed c h).now ≡ c
-now_changed c h = by h.group
-  where
-    by : (o : Option HistoryGroup) → (option_map_or (λ g. record h { now = c; group = Some (record g { changed = true }) }) o (record (stepped h.now h) { now = c })).now ≡ c
-    by None = refl
-    by (Some g) = refl
+now_changed c h = grind arith
 
 -- if the checker gives a program, it finds no fault
 pub program_finds : (ps : Primitives) (texts : Texts) (p : Program) → GivesProgram ps texts p → Finds ps texts None
@@ -251,7 +227,7 @@ ChangesTrees (apply meaning name path steps text) = Unit {0}
 ChangesTrees act = ⊥
 
 low_at : (c : Contents) (name : List ℕ) (t : Tree) → get c.trees name ≡ Some t → AreLow c.trees → height t ≤ MAX_HEIGHT
-low_at c name t e low = subst (λ (o : Option Tree). IfSome o (λ t. height t ≤ MAX_HEIGHT)) e (low name)
+low_at c name t e low = subst (λ (o : Option Tree). IfSome o Low) e (low name)
 
 -- the resulting tree, if heights are kept
 given_low : (o : Ending) (t : Tree) → given_by o ≡ Ok t → IfGiven o (λ u e. height u ≤ MAX_HEIGHT) → height t ≤ MAX_HEIGHT
@@ -259,47 +235,40 @@ given_low (gives u e) t is low = let same : u ≡ t = cc in subst (λ (x : Tree)
 given_low fails t is low = absurd (cc)
 given_low (stops why) t is low = absurd (cc)
 
+-- a tree that is put under a name
+tree_put : (act : Act) (h g : History) (name : List ℕ) (tree : Tree) → ChangesTo (with_tree h.now name tree) h (Ok g) → (StandsOn act → AreLow h.now.trees → height tree ≤ MAX_HEIGHT) → TreesChange act h g
+tree_put act h g name tree done within = record {
+  trees = finmap.insert h.now.trees name tree;
+  is = same_Ok (changed (with_tree h.now name tree) h) g done;
+  low = λ stands low. have_with Low h.now.trees name tree low (within stands low);
+}
+
 pub trees_change : (act : Act) (h g : History) → ChangesTrees act → ComesTo act h (Ok g) → TreesChange act h g
 trees_change (set_tree name tree) h g only done =
     let fit = holding_Ok (fits 0 tree) Big (ChangesTo (with_tree h.now name tree) h) g done in
-    let within = height_of_fit 0 tree fit.0 in
-    record {
-      trees = finmap.insert h.now.trees name tree;
-      is = same_Ok (changed (with_tree h.now name tree) h) g fit.1;
-      low = λ _ low. low_with_tree h.now.trees name tree low (omega (arith, within));
-    }
+    tree_put (set_tree name tree) h g name tree fit.1 (λ _ low. omega (arith, height_of_fit 0 tree fit.0))
 trees_change (copy_tree name copy) h g only done =
     let there = passing_Ok (tree_of h.now name) (λ t. ChangesTo (with_tree h.now copy t) h) g done in
-    record {
-      trees = finmap.insert h.now.trees copy there.0;
-      is = same_Ok (changed (with_tree h.now copy there.0) h) g there.2;
-      low = λ _ low. low_with_tree h.now.trees copy there.0 low (low_at h.now name there.0 (ok_or-Ok (get h.now.trees name) NoTree there.0 there.1) low);
-    }
+    tree_put (copy_tree name copy) h g copy there.0 there.2 (λ _ low. low_at h.now name there.0 (ok_or-Ok (get h.now.trees name) NoTree there.0 there.1) low)
 trees_change (drop_tree name) h g only done =
     let there = passing_Ok (tree_of h.now name) (λ t. ChangesTo (without_tree h.now name) h) g done in
     record {
       trees = finmap.remove h.now.trees name;
       is = same_Ok (changed (without_tree h.now name) h) g there.2;
-      low = λ _ low. low_without_tree h.now.trees name low;
+      low = λ _ low. have_without Low h.now.trees name low;
     }
 trees_change (put name path part) h g only done =
     let there = passing_Ok (place_of h.now name path) (PutsAt name path part h) g done in
     let tree = set_at there.0.tree path part in
     let fit = holding_Ok (fits (length path) part) Big (ChangesTo (with_tree h.now name tree) h) g there.2 in
-    record {
-      trees = finmap.insert h.now.trees name tree;
-      is = same_Ok (changed (with_tree h.now name tree) h) g fit.1;
-      low = λ _ low. low_with_tree h.now.trees name tree low (height_of_set there.0.tree part path (low_at h.now name there.0.tree (place_tree h.now name path there.0 there.1) low) fit.0);
-    }
+    let within = low_at h.now name there.0.tree (place_tree h.now name path there.0 there.1) in
+    tree_put (put name path part) h g name tree fit.1 (λ _ low. height_of_set there.0.tree part path (within low) fit.0)
 trees_change (annotate name path us) h g only done =
     let there = passing_Ok (place_of h.now name path) (AnnotatesAt name path us h) g done in
     let tree = set_annotations_at there.0.tree path us in
     let fit = holding_Ok (list_all (fits (length path + 1)) us) Big (ChangesTo (with_tree h.now name tree) h) g there.2 in
-    record {
-      trees = finmap.insert h.now.trees name tree;
-      is = same_Ok (changed (with_tree h.now name tree) h) g fit.1;
-      low = λ _ low. low_with_tree h.now.trees name tree low (height_of_annotated there.0.tree us path (low_at h.now name there.0.tree (place_tree h.now name path there.0 there.1) low) fit.0);
-    }
+    let within = low_at h.now name there.0.tree (place_tree h.now name path there.0 there.1) in
+    tree_put (annotate name path us) h g name tree fit.1 (λ _ low. height_of_annotated there.0.tree us path (within low) fit.0)
 trees_change (apply meaning name path steps text) h g only done =
     let Resolves : Located → Strategy → Program → ActResult → Type 0 = λ place s program. Passing (resolved_in program h.primitives s) (AppliesAt meaning name path steps h place program) in
     let Checked : Located → Strategy → ActResult → Type 0 = λ place s. Given (Checks h.primitives h.now.modules) (Resolves place s) in
@@ -310,13 +279,9 @@ trees_change (apply meaning name path steps text) h g only done =
     let whole = passing_Ok (resolved_in checked.0 h.primitives read.0) (AppliesAt meaning name path steps h there.0 checked.0) g checked.2 in
     let ending = applied (world_in meaning checked.0 h.primitives) path whole.0 steps there.0.tree in
     let given = passing_Ok (given_by ending) (λ tree. ChangesTo (with_tree h.now name tree) h) g whole.2 in
-    record {
-      trees = finmap.insert h.now.trees name given.0;
-      is = same_Ok (changed (with_tree h.now name given.0) h) g given.2;
-      low = λ keeps low.
-          let within = low_at h.now name there.0.tree (place_tree h.now name path there.0 there.1) low in
-          low_with_tree h.now.trees name given.0 low (given_low ending given.0 given.1 (keeps (world_in meaning checked.0 h.primitives) path whole.0 steps there.0.tree within));
-    }
+    let within = low_at h.now name there.0.tree (place_tree h.now name path there.0 there.1) in
+    tree_put (apply meaning name path steps text) h g name given.0 given.2
+    (λ keeps low. given_low ending given.0 given.1 (keeps (world_in meaning checked.0 h.primitives) path whole.0 steps there.0.tree (within low)))
 trees_change act h g only done = absurd only
 
 -- a change of the trees leaves the modules as they are
@@ -355,11 +320,11 @@ pub step_sound : (act : Act) (h g : History) → StandsOn act → HasSoundConten
 step_sound (set_module name text) h g stands s done =
     let read = given_Ok (ReadsAsModule text) (λ m. ChangesModules h.group (with_module h.now name text) h) g done in
     let formed = formed_now h.primitives h.now h.group s.1 in
-    modules_sound (with_module h.now name text) h g s (formed.0, readable_with h.now.modules name text read.0 formed.1 read.1) read.2
+    modules_sound (with_module h.now name text) h g s (formed.0, have_with IsReadable h.now.modules name text formed.1 (read.0, read.1)) read.2
 step_sound (unload name) h g stands s done =
     let there = passing_Ok (module_text_of h.now name) (λ text. ChangesModules h.group (without_module h.now name) h) g done in
     let formed = formed_now h.primitives h.now h.group s.1 in
-    modules_sound (without_module h.now name) h g s (formed.0, readable_without h.now.modules name formed.1) there.2
+    modules_sound (without_module h.now name) h g s (formed.0, have_without IsReadable h.now.modules name formed.1) there.2
 step_sound (undo k) h g stands s done =
     let there = holding_Ok (is_none h.group) Group (Passing (ok_or (undone k h) NoUndo) Leaves) g done in
     sound_whole g (moved_keeps step_back Whole whole_back k h g (whole h s (none_of h.group there.0)) (moved h g (undone k h) NoUndo there.1))
@@ -420,8 +385,4 @@ act_leaves act (Err e) old new leaves ok err = ap (λ (h : History). h.now.modul
 
 -- the same for the end of a group
 pub committed_leaves : (group : HistoryGroup) (h : History) → (committed group h).now ≡ h.now
-committed_leaves group h = by group.changed
-  where
-    by : (b : Bool) → (cond b (record (stepped group.begun h) { group = None }) (record h { group = None })).now ≡ h.now
-    by true = refl
-    by false = refl
+committed_leaves group h = grind arith

@@ -1,13 +1,13 @@
 -- The tests of an act: what an accepted one passed, and the outcome if the results of the tests are
 -- known.
-use Rattle.std.proofs.Common.{◌≡◌, ◌⊎◌, ℕ, Bool, true, false, List, Option, Some, None, Result, Ok, Err, is_none, ok_or, option_map, inl, refl, sym, ap, subst, ◌∙◌}
+use Rattle.std.proofs.Common.{◌≡◌, ◌⊎◌, ℕ, Bool, true, false, List, Option, Some, None, IsSome, Result, Ok, Err, is_none, ok_or, option_map, inl, refl, sym, ap, subst, ◌∙◌, arith}
 use Rattle.std.specs.Result.{IsErrAnd}
 use Rattle.std.specs.FinMap as finmap
 use Rattle.term_core.specs.Tree.{Tree}
 use Rattle.term_paths.specs.Paths.{at}
 use Rattle.term_changes.specs.Contents.{Contents}
 use Rattle.session_history.specs.History.{HistoryGroup, History}
-use Rattle.session_history.specs.Acts.{Act, ActResult, Passing, Holding, Given, Located, ComesTo, Performs, PerformsSurely, place_in, place_of}
+use Rattle.session_history.specs.Acts.{Act, ActResult, Passing, Holding, Given, Located, ComesTo, Performs, place_in, place_of}
 use Rattle.session_history.specs.declared.refusal.Refusal.{Refusal}
 use Rattle.session_history.specs.declared.refusal.Refusal.TheVariants.{Memory, NoTree, Path}
 
@@ -45,9 +45,6 @@ module _ (test : Bool) (refusal : Refusal) (Next : ActResult → Type 0) where
   pub held : (outcome : ActResult) → test ≡ true → Next outcome → Holding test refusal Next outcome
   held outcome is p = subst (λ (b : Bool). Holding b refusal Next outcome) (sym is) p
 
-  pub missed : test ≡ false → Holding test refusal Next (Err refusal)
-  missed is = subst (λ (b : Bool). Holding b refusal Next (Err refusal)) (sym is) refl
-
 -- ---- the answer to an act
 
 module _ {X : Type 0} (act : Act) (h g : History) where
@@ -65,30 +62,24 @@ module _ {X : Type 0} (act : Act) (h g : History) where
   pub wants : (r : Result X Refusal) → IsErrAnd r (λ e. e ≡ Memory) → g ≡ h → Performs act h g r
   wants r is same = refuses_by r Memory is (inl refl) same
 
-  -- an act that takes no memory
-  pub surely_accepts : (x : X) → ComesTo act h (Ok g) → PerformsSurely act h g (Ok x)
-  surely_accepts x done = record { ok = done; refused = tt; err = tt }
-
-  pub surely_refuses : (refusal : Refusal) → ComesTo act h (Err refusal) → g ≡ h → PerformsSurely {X = X} act h g (Err refusal)
-  surely_refuses refusal comes same = record { ok = tt; refused = comes; err = same }
-
 -- ---- what the tests find
 
+pub some_there : {X : Type 0} (o : Option X) → IsSome o → (x : X) × (o ≡ Some x)
+some_there None h = absurd (cc)
+some_there (Some x) h = (x, refl)
+
 pub ok_or-Ok : {X : Type 0} (o : Option X) (r : Refusal) (x : X) → ◌≡◌ {A = Result X Refusal} (ok_or o r) (Ok x) → o ≡ Some x
-ok_or-Ok None r x e = absurd (cc)
-ok_or-Ok (Some y) r x e = cc
+ok_or-Ok o r x e = grind arith
 
 pub none_of : (o : Option HistoryGroup) → is_none o ≡ true → o ≡ None
-none_of None e = refl
-none_of (Some g) e = absurd (cc)
+none_of o e = grind arith
 
 module _ (path : List ℕ) (t : Tree) where
   abbrev here : Option Tree → Result Located Refusal
   here o = ok_or (option_map (λ part. record { tree = t; part = part }) o) Path
 
   at_tree : (o : Option Tree) (place : Located) → here o ≡ Ok place → t ≡ place.tree
-  at_tree None place e = absurd (cc)
-  at_tree (Some part) place e = let same : record { tree = t; part = part } ≡ place = cc in ap (λ (p : Located). p.tree) same
+  at_tree o place e = grind arith
 
 -- the tree of a place is that of the label
 pub place_tree : (c : Contents) (name path : List ℕ) (place : Located) → place_of c name path ≡ Ok place → finmap.get c.trees name ≡ Some place.tree
@@ -102,9 +93,3 @@ module _ (c : Contents) (name path : List ℕ) where
   -- a label with a tree, and a path in it
   pub place_there : (t part : Tree) → finmap.get c.trees name ≡ Some t → at t path ≡ Some part → place_of c name path ≡ Ok (record { tree = t; part = part })
   place_there t part is leads_to = ap (λ (o : Option Tree). place_in path (ok_or o NoTree)) is ∙ ap (here path t) leads_to
-
-  pub place_missing : (t : Tree) → finmap.get c.trees name ≡ Some t → at t path ≡ None → place_of c name path ≡ Err Path
-  place_missing t is none = ap (λ (o : Option Tree). place_in path (ok_or o NoTree)) is ∙ ap (here path t) none
-
-  pub place_none : finmap.get c.trees name ≡ None → place_of c name path ≡ Err NoTree
-  place_none none = ap (λ (o : Option Tree). place_in path (ok_or o NoTree)) none

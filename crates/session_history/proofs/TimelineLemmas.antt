@@ -1,12 +1,12 @@
 -- What logs unfold to as steps are appended, undone and redone.
-use Rattle.std.proofs.Common.{◌≡◌, ℕ, zero, suc, ◌+◌, ◌<◌, ◌≤◌, List, [], ◌∷◌, ◌++◌, length, take, drop, set, slice_get, Some, refl, sym, ap, subst, ◌∙◌, arith}
-use Rattle.std.proofs.lemmas.List.{length-append, length-take, drop_all, take_all, take-set}
+use Rattle.std.proofs.Common.{◌≡◌, ℕ, suc, ◌+◌, ◌<◌, ◌≤◌, List, [], ◌∷◌, ◌++◌, length, take, drop, set, slice_get, Some, refl, sym, ap, subst, ◌∙◌, arith}
+use Rattle.std.proofs.lemmas.List.{length-append, length-take, drop_all, drop_more, drop-set, drop-set-lt, take_all, take_more, take_more_set, take-set}
+use Rattle.std.proofs.lemmas.Option.{slice_get_within, get_or_from_slice_get}
 use Rattle.term_changes.specs.Slots.{Store, contents, with_tree_slot, with_module_slot}
 use Rattle.term_changes.specs.Entries.{Entry, HasPlace, before, after, flipped_back, flipped_forward, Fits, FitsForward}
 use Rattle.term_changes.proofs.EntryLemmas.{before-append, store_from_after, store_from_before, flipped_back_fits, flipped_forward_fits}
 use Rattle.term_changes.proofs.ContentsLemmas.{new_slots_are_empty, fits_with_more, fits_forward_with_more, fits_with_more_modules, fits_forward_with_more_modules}
-use Rattle.term_changes.specs.Compact.{IsCompact}
-use Rattle.session_history.specs.Unfolded.{rewound, past_of, later_of, FitBack, FitForward, AllCompact}
+use Rattle.session_history.specs.Unfolded.{rewound, past_of, later_of, FitBack, FitForward}
 
 -- ---- one log more
 
@@ -42,54 +42,10 @@ module _ {A : Type 0} where
   drop_pushed p ls l h = drop_all (p + 1) (take p ls ++ l ∷ []) (omega (arith, h, length-append (take p ls) (l ∷ []), length-take p ls))
 
   pub take_next : (q : ℕ) (ls : List A) (l : A) → slice_get ls q ≡ Some l → take (q + 1) ls ≡ take q ls ++ l ∷ []
-  take_next q [] l e = absurd (cc)
-  take_next zero (k ∷ ls) l e = let same : k ≡ l = cc in ap (λ x. x ∷ []) same
-  take_next (suc q) (k ∷ ls) l e = ap (λ n. take n (k ∷ ls)) {x = suc q + 1} {y = suc (q + 1)} (omega arith) ∙ ap (λ r. k ∷ r) (take_next q ls l e)
+  take_next q ls l e = take_more ls q l (slice_get_within ls q l e) ∙ ap (λ x. take q ls ++ x ∷ []) (get_or_from_slice_get ls q l l e)
 
   pub drop_next : (q : ℕ) (ls : List A) (l : A) → slice_get ls q ≡ Some l → drop q ls ≡ l ∷ drop (q + 1) ls
-  drop_next q [] l e = absurd (cc)
-  drop_next zero (k ∷ ls) l e = let same : k ≡ l = cc in ap (λ x. x ∷ ls) same
-  drop_next (suc q) (k ∷ ls) l e = drop_next q ls l e ∙ ap (λ n. l ∷ drop n (k ∷ ls)) {x = suc (q + 1)} {y = suc q + 1} (omega arith)
-
-  pub drop_set : (q : ℕ) (ls : List A) (l : A) → q < length ls → drop q (set ls q l) ≡ l ∷ drop (q + 1) ls
-  drop_set q [] l h = absurd (omega arith)
-  drop_set zero (k ∷ ls) l h = refl
-  drop_set (suc q) (k ∷ ls) l h = drop_set q ls l (omega arith) ∙ ap (λ n. l ∷ drop n (k ∷ ls)) {x = suc (q + 1)} {y = suc q + 1} (omega arith)
-
-  pub take_next_set : (q : ℕ) (ls : List A) (l : A) → q < length ls → take (q + 1) (set ls q l) ≡ take q ls ++ l ∷ []
-  take_next_set q [] l h = absurd (omega arith)
-  take_next_set zero (k ∷ ls) l h = refl
-  take_next_set (suc q) (k ∷ ls) l h = ap (λ n. take n (k ∷ set ls q l)) {x = suc q + 1} {y = suc (q + 1)} (omega arith) ∙ ap (λ r. k ∷ r) (take_next_set q ls l (omega arith))
-
-  pub drop_next_set : (q : ℕ) (ls : List A) (l : A) → drop (q + 1) (set ls q l) ≡ drop (q + 1) ls
-  drop_next_set q [] l = refl
-  drop_next_set zero (k ∷ ls) l = refl
-  drop_next_set (suc q) (k ∷ ls) l =
-      ap (λ n. drop n (k ∷ set ls q l)) {x = suc q + 1} {y = suc (q + 1)} (omega arith) ∙ drop_next_set q ls l ∙ ap (λ n. drop n (k ∷ ls)) {x = suc (q + 1)} {y = suc q + 1} (omega arith)
-
-  pub count_past : (p : ℕ) (ls : List A) → p ≤ length ls → length (take p ls) ≡ p
-  count_past p ls h = omega (arith, h, length-take p ls)
-
--- ---- compact logs
-
-pub compact-append : (ls : List (List Entry)) (l : List Entry) → AllCompact ls → IsCompact l → AllCompact (ls ++ l ∷ [])
-compact-append [] l h c = (c, tt)
-compact-append (k ∷ ls) l h c = (h.0, compact-append ls l h.1 c)
-
-pub compact-take : (n : ℕ) (ls : List (List Entry)) → AllCompact ls → AllCompact (take n ls)
-compact-take zero ls h = tt
-compact-take (suc n) [] h = tt
-compact-take (suc n) (l ∷ ls) h = (h.0, compact-take n ls h.1)
-
-pub compact-set : (q : ℕ) (ls : List (List Entry)) (l : List Entry) → AllCompact ls → IsCompact l → AllCompact (set ls q l)
-compact-set q [] l h c = h
-compact-set zero (k ∷ ls) l h c = (c, h.1)
-compact-set (suc q) (k ∷ ls) l h c = (h.0, compact-set q ls l h.1 c)
-
-pub compact_at : (q : ℕ) (ls : List (List Entry)) (l : List Entry) → slice_get ls q ≡ Some l → AllCompact ls → IsCompact l
-compact_at q [] l e h = absurd (cc)
-compact_at zero (k ∷ ls) l e h = let same : k ≡ l = cc in subst IsCompact same h.0
-compact_at (suc q) (k ∷ ls) l e h = compact_at q ls l e h.1
+  drop_next q ls l e = drop_more ls q l (slice_get_within ls q l e) ∙ ap (λ x. x ∷ drop (q + 1) ls) (get_or_from_slice_get ls q l l e)
 
 -- ---- the number of contents
 
@@ -177,7 +133,7 @@ module _ (ls : List (List Entry)) (q : ℕ) (s : Store) (log : List Entry) (at :
 
   pub back_later : later_of (drop q (set ls q flipped)) (before log s) ≡ contents s ∷ later_of (drop (q + 1) ls) s
   back_later =
-      ap (λ l. later_of l (before log s)) (drop_set q ls flipped inside)
+      ap (λ l. later_of l (before log s)) (drop-set ls q flipped inside)
       ∙ ap (λ t. contents t ∷ later_of (drop (q + 1) ls) t) (store_from_after log s)
 
   fitted : FitBack (take (q + 1) ls) s → FitBack (take q ls) (before log s) × Fits log s
@@ -188,7 +144,7 @@ module _ (ls : List (List Entry)) (q : ℕ) (s : Store) (log : List Entry) (at :
 
   pub back_forward : FitBack (take (q + 1) ls) s → FitForward (drop (q + 1) ls) s → FitForward (drop q (set ls q flipped)) (before log s)
   back_forward h f =
-      subst (λ l. FitForward l (before log s)) (sym (drop_set q ls flipped inside))
+      subst (λ l. FitForward l (before log s)) (sym (drop-set ls q flipped inside))
       (flipped_back_fits log s (fitted h).1, subst (FitForward (drop (q + 1) ls)) (sym (store_from_after log s)) f)
 
 -- ---- one step forward
@@ -200,11 +156,11 @@ module _ (ls : List (List Entry)) (q : ℕ) (s : Store) (log : List Entry) (at :
 
   pub forward_later : later_of (drop q ls) s ≡ contents (after log s) ∷ later_of (drop (q + 1) (set ls q returned)) (after log s)
   forward_later =
-      ap (λ l. later_of l s) (drop_next q ls log at) ∙ ap (λ l. contents (after log s) ∷ later_of l (after log s)) (sym (drop_next_set q ls returned))
+      ap (λ l. later_of l s) (drop_next q ls log at) ∙ ap (λ l. contents (after log s) ∷ later_of l (after log s)) (sym (drop-set-lt (q + 1) ls q returned (omega arith)))
 
   pub forward_past : past_of (take (q + 1) (set ls q returned)) (after log s) ≡ past_of (take q ls) s ++ contents s ∷ []
   forward_past =
-      ap (λ l. past_of l (after log s)) (take_next_set q ls returned inside) ∙ past_of-append (take q ls) returned (after log s)
+      ap (λ l. past_of l (after log s)) (take_more_set ls q returned inside) ∙ past_of-append (take q ls) returned (after log s)
       ∙ ap (λ t. past_of (take q ls) t ++ contents t ∷ []) (store_from_before log s)
 
   led : FitForward (drop q ls) s → FitsForward log s × FitForward (drop (q + 1) ls) (after log s)
@@ -212,8 +168,8 @@ module _ (ls : List (List Entry)) (q : ℕ) (s : Store) (log : List Entry) (at :
 
   pub forward_back : FitBack (take q ls) s → FitForward (drop q ls) s → FitBack (take (q + 1) (set ls q returned)) (after log s)
   forward_back h f =
-      subst (λ l. FitBack l (after log s)) (sym (take_next_set q ls returned inside))
+      subst (λ l. FitBack l (after log s)) (sym (take_more_set ls q returned inside))
       (FitBack-append (take q ls) returned (after log s) (subst (FitBack (take q ls)) (sym (store_from_before log s)) h) (flipped_forward_fits log s (led f).0))
 
   pub forward_forward : FitForward (drop q ls) s → FitForward (drop (q + 1) (set ls q returned)) (after log s)
-  forward_forward f = subst (λ l. FitForward l (after log s)) (sym (drop_next_set q ls returned)) (led f).1
+  forward_forward f = subst (λ l. FitForward l (after log s)) (sym (drop-set-lt (q + 1) ls q returned (omega arith))) (led f).1

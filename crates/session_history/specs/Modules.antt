@@ -1,6 +1,6 @@
 -- The modules in the contents of a session: parsing their texts, and what the checker finds in
 -- them.
-use Rattle.std.specs.Prelude.{◌≡◌, ◌<◌, ◌≤◌, ◌⊎◌, ℕ, List, [], ◌∷◌, length, Some, Ok, Err, IfSome, IsSomeAnd, false, option_map}
+use Rattle.std.specs.Prelude.{◌≡◌, ◌<◌, ◌≤◌, ◌⊎◌, ℕ, List, [], ◌∷◌, length, Some, Ok, Err, OnOk, IfErr, IfSome, IsSomeAnd, false, option_map}
 use Rattle.std.specs.declared.option.Option.{Option}
 use Rattle.std.specs.declared.result.Result.{Result}
 use Rattle.std.specs.List.{AllByRecursion}
@@ -149,3 +149,10 @@ IsUnread texts refusal =
 abbrev pub AreRefused : Primitives → Texts → Refusal → Type 0
 AreRefused primitives texts refusal =
     ((refusal ≡ Memory) ⊎ IsUnread texts refusal) ⊎ Checks primitives texts (Err refusal)
+
+-- Either the modules of these texts are kept, checked, or the refusal says why they are not. What is
+-- kept afterwards is kept for these texts in both cases.
+pub record Keeps {X : Type 0} (primitives : Primitives) (texts : Texts) (after : KeptModules) (result : Result X Refusal) : Type 0 where
+  pub ok : OnOk result (IsCurrent primitives texts after)
+  pub refused : IfErr result (AreRefused primitives texts)
+  pub kept : IsKept primitives texts after

@@ -2,6 +2,7 @@
 use Rattle.std.specs.Prelude.{◌≡◌, ◌≤◌, ℕ, List, [], ◌∷◌, length, take, drop, true, Some, None, option_map}
 use Rattle.std.specs.declared.option.Option.{Option}
 use Rattle.std.specs.Bool.{OnFalse}
+use Rattle.std.specs.List.{AllByRecursion}
 use Rattle.term_core.specs.Tree.{Tree}
 use Rattle.term_paths.specs.Paths.{leads}
 use Rattle.prim_core.specs.Signature.{Signature}
@@ -72,8 +73,7 @@ IsCurrent (Some g) log = OnFalse g.changed (log ≡ [])
 
 -- in each log the entries are at disjoint places
 abbrev pub AllCompact : List (List Entry) → Type 0
-AllCompact [] = Unit {0}
-AllCompact (log ∷ logs) = IsCompact log × AllCompact logs
+AllCompact = AllByRecursion IsCompact
 
 -- The position is that of a log or the end; the logs before it lead back, the others forward. All
 -- are compact. The changes of an open group lead back too.

@@ -59,10 +59,7 @@ impl Timeline {
     pub fn put(&mut self, name: &Label, path: &Path, part: Term) -> Result<(), Refusal>
         ensures { PerformsOn (put name.now path.now part) self.old self.new result }
     {
-        let slot = match self.place(name, path) {
-            Ok(slot) => slot,
-            Err(refusal) => return Err(refusal),
-        };
+        let slot = self.place(name, path)?;
         if !part.fits(path.len() as u64) {
             return Err(Refusal::Big);
         }
@@ -79,10 +76,7 @@ impl Timeline {
     ) -> Result<(), Refusal>
         ensures { PerformsOn (annotate name.now path.now annotations.items) self.old self.new result }
     {
-        let slot = match self.place(name, path) {
-            Ok(slot) => slot,
-            Err(refusal) => return Err(refusal),
-        };
+        let slot = self.place(name, path)?;
         if !all_fit(&annotations, path.parts().len() as u64 + 1) {
             return Err(Refusal::Big);
         }

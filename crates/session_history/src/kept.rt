@@ -1,12 +1,12 @@
 //! The checked modules that a session keeps while module texts change.
 
-ghost use Rattle.std.specs.Prelude.{◌≡◌, ◌≤◌, ◌+◌, ◌⊎◌, true, length, IfOk, IfErr, IfSome, OnOk, option_copied};
+ghost use Rattle.std.specs.Prelude.{◌≡◌, ◌≤◌, ◌+◌, ◌⊎◌, true, length, IfOk, IfErr, IfSome, option_copied};
 ghost use Rattle.term_changes.specs.Slots.{contents};
 ghost use Rattle.strategy_check.specs.Checking.{with_modules};
 ghost use Rattle.strategy_check.specs.Tables.{Modules};
 ghost use Rattle.strategy_check.specs.Faults as faults;
 ghost use Rattle.session_history.specs.Modules as modules;
-ghost use Rattle.session_history.specs.Modules.{AreRefused, IsUnread, SameBut, Differ, IsKept, Notes, NotesTexts, IsReadIn, AreReadIn, AreCurrent, IsCurrent, program_in};
+ghost use Rattle.session_history.specs.Modules.{IsUnread, SameBut, Differ, IsKept, Keeps, Notes, NotesTexts, IsReadIn, AreReadIn, AreCurrent, IsCurrent, program_in};
 ghost use Rattle.session_history.specs.inside.Keeping.{AreBut, AreNamed, with_module};
 
 use crate::Refusal;
@@ -222,18 +222,14 @@ pub fn keep_modules<M: Meaning>(
     kept: &mut KeptModules,
 ) -> Result<(), Refusal>
     requires { IsKept primitives.now (contents store.now).modules kept.old }
-    ensures ok { OnOk result (IsCurrent primitives.now (contents store.now).modules kept.new) }
-    ensures refused { IfErr result (λ refusal. AreRefused primitives.now
-        (contents store.now).modules refusal) }
-    ensures kept { IsKept primitives.now (contents store.now).modules kept.new }
+    ensures { Keeps primitives.now (contents store.now).modules kept.new result }
 {
     if kept.is_current() {
         return Ok(());
     }
-    match kept.take_one(alloc) {
-        Ok(Some((checked, name))) => keep_one(alloc, store, primitives, kept, checked, &name),
-        Ok(None) => keep_all(alloc, store, primitives, kept),
-        Err(refusal) => Err(refusal),
+    match kept.take_one(alloc)? {
+        Some((checked, name)) => keep_one(alloc, store, primitives, kept, checked, &name),
+        None => keep_all(alloc, store, primitives, kept),
     }
 }
 
@@ -245,18 +241,11 @@ fn keep_all<M: Meaning>(
     kept: &mut KeptModules,
 ) -> Result<(), Refusal>
     requires { IsKept primitives.now (contents store.now).modules kept.old }
-    ensures ok { OnOk result (IsCurrent primitives.now (contents store.now).modules kept.new) }
-    ensures refused { IfErr result (λ refusal. AreRefused primitives.now
-        (contents store.now).modules refusal) }
-    ensures kept { IsKept primitives.now (contents store.now).modules kept.new }
+    ensures { Keeps primitives.now (contents store.now).modules kept.new result }
 {
-    match check_modules(alloc, store, primitives, &mut kept.read) {
-        Ok(checked) => {
-            kept.set(checked);
-            Ok(())
-        }
-        Err(refusal) => Err(refusal),
-    }
+    let checked = check_modules(alloc, store, primitives, &mut kept.read)?;
+    kept.set(checked);
+    Ok(())
 }
 
 // Reads the one text that may have changed, and replaces its module.
@@ -270,10 +259,7 @@ fn keep_one<M: Meaning>(
 ) -> Result<(), Refusal>
     requires one { AreBut primitives.now name.now (contents store.now).modules checked }
     requires kept { IsKept primitives.now (contents store.now).modules kept.old }
-    ensures ok { OnOk result (IsCurrent primitives.now (contents store.now).modules kept.new) }
-    ensures refused { IfErr result (λ refusal. AreRefused primitives.now
-        (contents store.now).modules refusal) }
-    ensures kept { IsKept primitives.now (contents store.now).modules kept.new }
+    ensures { Keeps primitives.now (contents store.now).modules kept.new result }
 {
     let new = match read_new(alloc, store, name, &mut kept.read) {
         Ok(new) => new,

@@ -131,10 +131,7 @@ pub fn check_modules<M: Meaning>(
         (contents store.now).modules refusal) }
     ensures left { AreReadIn (contents store.now).modules read.new }
 {
-    let modules = match read_modules(alloc, store, read) {
-        Ok(modules) => modules,
-        Err(refusal) => return Err(refusal),
-    };
+    let modules = read_modules(alloc, store, read)?;
     match Checked::new(alloc, modules, primitives) {
         Ok(checked) => Ok(checked),
         Err(CheckFault::Memory) => Err(Refusal::Memory),
@@ -161,10 +158,7 @@ fn read_modules(
         return Err(Refusal::Memory);
     };
     for name in &names {
-        let module = match read_once(alloc, store, name, read) {
-            Ok(module) => module,
-            Err(refusal) => return Err(refusal),
-        };
+        let module = read_once(alloc, store, name, read)?;
         let Ok(()) = modules.push(module) else {
             return Err(Refusal::Memory);
         };
@@ -193,10 +187,7 @@ pub fn read_once(
     let Some((_, text)) = find_text(store, name) else {
         return Err(Refusal::NoModule);
     };
-    let module = match read_module(alloc, text) {
-        Ok(module) => module,
-        Err(refusal) => return Err(refusal),
-    };
+    let module = read_module(alloc, text)?;
     Ok(with_name(alloc, name, module)?)
 }
 

@@ -7,5 +7,5 @@ use Rattle.session_history.proofs.kept.keep_modules.Goals as goal
 
 pub keep_one-requires-clause-one : goal.keep_one-requires-clause-one
 keep_one-requires-clause-one g c =
-    subst (λ o. IfSome o (λ pair. (ps : Primitives) (texts : Texts) → IsKept ps texts c.args.kept.now → AreBut ps pair.1 texts pair.0)) c.in-Ok-Some.field-0-is c.in-Ok-Some.ensures.taken
+    subst (λ o. IfSome o (λ pair. (ps : Primitives) (texts : Texts) → IsKept ps texts c.args.kept.now → AreBut ps pair.1 texts pair.0)) c.in-Some.is c.in_ok-checked.ensures.taken
     c.args.primitives.now (contents c.args.store.now).modules c.requires

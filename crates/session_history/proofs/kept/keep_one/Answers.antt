@@ -1,4 +1,4 @@
-use Rattle.std.proofs.Common.{refl, sym, ap, subst, ◌∙◌, inr}
+use Rattle.std.proofs.Common.{refl, sym, ap, subst, ◌∙◌, inr, rules}
 use Rattle.strategy_check.specs.Faults.{faults, first, IsTold}
 use Rattle.strategy_check.specs.Checking.{with_modules}
 use Rattle.term_changes.specs.Slots.{contents}
@@ -21,14 +21,13 @@ module _ (g : Over) (c : After-set g) where
     checked = c.in-Ok-replace.ensures.checked;
   }
 
-pub returns-in-Ok-replace-clause-ok : goal.returns-in-Ok-replace-clause-ok
-returns-in-Ok-replace-clause-ok g c = c.set.ensures.current c.args.primitives.now (contents c.args.store.now).modules (current g c)
+pub returns-in-Ok-replace : goal.returns-in-Ok-replace
+returns-in-Ok-replace g c =
+    let texts = (contents c.args.store.now).modules in
+    record { ok = c.set.ensures.current c.args.primitives.now texts (current g c); refused = tt; kept = c.set.ensures.kept c.args.primitives.now texts (current g c) }
 
-pub returns-in-Ok-replace-clause-kept : goal.returns-in-Ok-replace-clause-kept
-returns-in-Ok-replace-clause-kept g c = c.set.ensures.kept c.args.primitives.now (contents c.args.store.now).modules (current g c)
-
-pub returns-in-Err-Fault-clause-refused : goal.returns-in-Err-Fault-clause-refused
-returns-in-Err-Fault-clause-refused g c =
+pub returns-in-Err-Fault : goal.returns-in-Err-Fault
+returns-in-Err-Fault g c =
     let ps = c.args.primitives.now in
     let texts = (contents c.args.store.now).modules in
     let name = c.args.name.now in
@@ -36,12 +35,16 @@ returns-in-Err-Fault-clause-refused g c =
     let placed = ap (with_modules c.place_among-at.result.0 c.place_among-at.result.1 new) (sym c.modules.ensures) ∙ c.place_among-at.ensures.place new ∙ ap (with_module name new) c.modules.ensures in
     let ms = with_modules c.place_among-at.result.0 c.place_among-at.result.1 new c.args.checked.modules in
     let told = subst (λ t. IsTold t (first (faults ms ps))) c.in-Err-Fault.field-0-is c.in-Err-Fault.ensures.fault in
-    inr (
-      record { kind = c.in-Err-Fault.kind; name = c.in-Err-Fault.fault; first = c.in-Err-Fault.first; second = c.in-Err-Fault.second },
-      record {
-        modules = with_module name new c.args.checked.modules;
-        are = are_changed c.requires.one.old texts name c.args.checked.modules new c.requires.one.same c.requires.one.are c.in-Ok.ensures.ok;
-        fault = sym told ∙ ap (λ ms. first (faults ms ps)) placed;
-      },
-      refl,
-    )
+    record {
+      ok = tt;
+      refused = inr (
+        record { kind = c.in-Err-Fault.kind; name = c.in-Err-Fault.fault; first = c.in-Err-Fault.first; second = c.in-Err-Fault.second },
+        record {
+          modules = with_module name new c.args.checked.modules;
+          are = are_changed c.requires.one.old texts name c.args.checked.modules new c.requires.one.same c.requires.one.are c.in-Ok.ensures.ok;
+          fault = sym told ∙ ap (λ ms. first (faults ms ps)) placed;
+        },
+        refl,
+      );
+      kept = search rules;
+    }

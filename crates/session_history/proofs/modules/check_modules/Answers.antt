@@ -5,9 +5,9 @@ use Rattle.session_history.proofs.modules.check_modules.Goals as goal
 pub returns-in-Err-Fault-clause-refused : goal.returns-in-Err-Fault-clause-refused
 returns-in-Err-Fault-clause-refused g c =
     let ps = c.args.primitives.now in
-    let told = subst (λ t. IsTold t (first (faults c.in-Ok.modules.items ps))) c.in-Err-Fault.field-0-is c.in-Err-Fault.ensures.fault in
+    let told = subst (λ t. IsTold t (first (faults c.in_ok-modules.modules.items ps))) c.in-Err-Fault.field-0-is c.in-Err-Fault.ensures.fault in
     inr (
       record { kind = c.in-Err-Fault.kind; name = c.in-Err-Fault.name; first = c.in-Err-Fault.first; second = c.in-Err-Fault.second },
-      record { modules = c.in-Ok.modules.items; are = c.in-Ok.ensures.ok; fault = sym told },
+      record { modules = c.in_ok-modules.modules.items; are = c.in_ok-modules.ensures.ok; fault = sym told },
       refl,
     )

@@ -30,9 +30,9 @@ loop-name-preserved c =
     record {
       read = λ rest h.
           subst (λ all. AreRead texts names (all ++ rest)) (sym c.in-Ok-push.ensures.items)
-          (read_more texts names (drop (i + 1) names) ms name c.in-Ok-read_once.module c.in-Ok-read_once.ensures.named (read_as texts name c.in-Ok-read_once.module c.in-Ok-read_once.ensures.named c.in-Ok-read_once.ensures.ok) (λ rest h. c.loop-name.invariant.read rest (subst (λ left. AreRead texts left rest) (sym more) h)) rest h);
+          (read_more texts names (drop (i + 1) names) ms name c.in_ok-module.module c.in_ok-module.ensures.named (read_as texts name c.in_ok-module.module c.in_ok-module.ensures.named c.in_ok-module.ensures.ok) (λ rest h. c.loop-name.invariant.read rest (subst (λ left. AreRead texts left rest) (sym more) h)) rest h);
       there = (subst (AllByRecursion (λ name. IsSome (finmap.get texts name))) more c.loop-name.invariant.there).1;
-      left = c.in-Ok-read_once.ensures.left;
+      left = c.in_ok-module.ensures.left;
     }
 
 pub read_once-requires-clause-read : goal.read_once-requires-clause-read

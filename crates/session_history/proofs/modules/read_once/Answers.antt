@@ -4,8 +4,8 @@ use Rattle.session_history.proofs.modules.read_once.Goals as goal
 pub returns-in-Some-clause-left : goal.returns-in-Some-clause-left
 returns-in-Some-clause-left c = c.take.ensures.left (contents c.args.store.now).modules c.requires.read
 
-pub returns-in-Err-clause-left : goal.returns-in-Err-clause-left
-returns-in-Err-clause-left c = c.take.ensures.left (contents c.args.store.now).modules c.requires.read
+pub returns-in_err-module-clause-left : goal.returns-in_err-module-clause-left
+returns-in_err-module-clause-left c = c.take.ensures.left (contents c.args.store.now).modules c.requires.read
 
 pub returns-in_err-with_name-clause-left : goal.returns-in_err-with_name-clause-left
 returns-in_err-with_name-clause-left c = c.take.ensures.left (contents c.args.store.now).modules c.requires.read

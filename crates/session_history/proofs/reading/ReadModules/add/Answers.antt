@@ -1,6 +1,6 @@
 use Rattle.std.proofs.Common.{sym, ap, subst, ◌∙◌, ◌++◌, ◌∷◌, []}
 use Rattle.session_history.specs.Modules.{IsReadIn, AreReadIn}
-use Rattle.session_history.proofs.ReadingLemmas.{all_and}
+use Rattle.session_history.proofs.AllLemmas.{all_and}
 use Rattle.session_history.proofs.reading.ReadModules.add.Goals as goal
 
 pub returns : goal.returns
