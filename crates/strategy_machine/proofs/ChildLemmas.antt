@@ -133,7 +133,10 @@ each_fails W sub whole S acts others s n i k p parts ke ae e h =
           h.opens;
     }
 
--- how many children are left, if there is one at i and if there is none
+-- how many children are left, if there is none at i and if there is one
+pub none_left : (p : Standing) (parts : List Standing) (i : ℕ) → PartsStand p parts → slice_get (parts_now p parts) i ≡ None → length (children (standing_tree p)) - i ≡ 0
+none_left p parts i st e = omega (arith, none_within (parts_now p parts) i e, part_count p parts st)
+
 one_left : {A : Type 0} (us : List A) (i : ℕ) (u : A) → slice_get us i ≡ Some u → length us - i ≡ suc (length us - (i + 1))
 one_left us i u e = omega (arith, slice_get_within us i u e)
 
@@ -176,14 +179,12 @@ pub leftmost_over : (W : World) (sub : Standing) (whole : Answer) (S : State) (s
     → HoldsIn W sub whole S (Leftmost s n p i) → HoldsIn W sub whole S Failed
 leftmost_over W sub whole S s n i p e h =
     let act = run W (scope_at S.scopes n) (S.level + 1) s.now in
-    let past : length (children (standing_tree p)) ≤ i = omega (arith, none_within (parts_now p []) i e, part_count p [] (none_stand p h.in_hand.1)) in
-    let zero_left : length (children (standing_tree p)) - i ≡ 0 = omega (arith, past) in
     record {
       now = h.now;
       edits = h.edits;
       shows = h.shows;
       in_hand = tt;
-      opens = opens_along _ _ (ap (λ (j : ℕ). leftmost act j i S.steps S.cells.bindings (standing_tree p)) zero_left) h.opens;
+      opens = opens_along _ _ (ap (λ (j : ℕ). leftmost act j i S.steps S.cells.bindings (standing_tree p)) (none_left p [] i (none_stand p h.in_hand.1) e)) h.opens;
     }
 
 pub those_begin : (W : World) (sub : Standing) (whole : Answer) (S : State) (s : Bor ResolvedStrategy) (n i : ℕ) (p q : Standing) (any : Bool) (parts : Vec Standing Global)
@@ -219,9 +220,6 @@ those_begin W sub whole S s n i p q any parts k e h =
       );
     }
 
-those_past : (p : Standing) (parts : List Standing) (i : ℕ) → PartsStand p parts → slice_get (parts_now p parts) i ≡ None → length (children (standing_tree p)) - i ≡ 0
-those_past p parts i st e = omega (arith, none_within (parts_now p parts) i e, part_count p parts st)
-
 pub those_over : (W : World) (sub : Standing) (whole : Answer) (S : State) (s : Bor ResolvedStrategy) (n i : ℕ) (p q : Standing) (any : Bool) (parts : Vec Standing Global)
     → slice_get (parts_now p (all_parts p parts.items)) i ≡ None → any ≡ true → q ≡ node_with p parts.items
     → HoldsIn W sub whole S (Those s n p i any parts) → HoldsIn W sub whole S (Done q)
@@ -234,7 +232,7 @@ those_over W sub whole S s n i p q any parts e a is h =
       shows = h.shows;
       in_hand = refl;
       opens = subst (λ x. Opens (Meets W sub whole S.cells (mark_of S.cells) S.scopes S.level S.frames) (path_of S.frames) x h.edits (done (standing_tree q) S.cells.bindings S.steps [])) (h.in_hand.3 ∙ sym is)
-          (opens_along _ _ ((λ j. those_done act (those_past p (all_parts p parts.items) i h.in_hand.2 e j) (a j) i S.steps S.cells.bindings t)
+          (opens_along _ _ ((λ j. those_done act (none_left p (all_parts p parts.items) i h.in_hand.2 e j) (a j) i S.steps S.cells.bindings t)
           ∙ ap (λ x. done (standing_tree x) S.cells.bindings S.steps []) (sym is)) h.opens);
     }
 
@@ -249,7 +247,7 @@ those_none W sub whole S s n i p any parts e a h =
       edits = h.edits;
       shows = h.shows;
       in_hand = tt;
-      opens = opens_along _ _ (λ j. those_done act (those_past p (all_parts p parts.items) i h.in_hand.2 e j) (a j) i S.steps S.cells.bindings t) h.opens;
+      opens = opens_along _ _ (λ j. those_done act (none_left p (all_parts p parts.items) i h.in_hand.2 e j) (a j) i S.steps S.cells.bindings t) h.opens;
     }
 
 -- ---- a child is done

@@ -315,12 +315,12 @@ removed_length l h all e = sym (longer_length l (shorter_fits l h)) ∙ ap (λ (
 
 -- ---- a walk that moves on in the innermost frame
 
--- The innermost frame has these strategies for children.
-pub record LastEach (zs : List Slot) (us : List Walk) (ss : List Start) (fs : List Front) (ks : List First) (acts : Acts) (n : ℕ) : Type 0 where
+-- The innermost frame has this slot, which has a walk.
+pub record LastWalk (zs : List Slot) (us : List Walk) (ss : List Start) (fs : List Front) (ks : List First) (x : Slot) : Type 0 where
   pub front : List Slot
   pub outer : List Walk
   pub walk : Walk
-  pub slots : zs ≡ front ++ Each acts n ∷ []
+  pub slots : zs ≡ front ++ x ∷ []
   pub walks : us ≡ outer ++ walk ∷ []
   pub fits : Fits front outer ss fs ks
 
@@ -328,20 +328,20 @@ some_slot : (zs : List Slot) (us : List Walk) (ss : List Start) (fs : List Front
 some_slot [] us ss fs ks x h = absurd (omega (arith, ap (λ (l : List Frame). length l) h.2, length-append h.0 (h.1 ∷ [])))
 some_slot (z ∷ zs) us ss fs ks x h = omega arith
 
-pub last_each : (zs : List Slot) (us : List Walk) (ss : List Start) (fs : List Front) (ks : List First) (all : List Frame) (acts : Acts) (n : ℕ) → Fits zs us ss fs ks → frames_of zs us ss fs ks ≡ all
-    → EndsWith (Each acts n) all → LastEach zs us ss fs ks acts n
-last_each zs us ss fs ks all acts n h e k =
-    let r = split_last zs (some_slot zs us ss fs ks (Each acts n) (subst (λ l. EndsWith (Each acts n) l) (sym e) k)) in
+pub last_walk : (zs : List Slot) (us : List Walk) (ss : List Start) (fs : List Front) (ks : List First) (all : List Frame) (x : Slot) → has_walk x ≡ true → Fits zs us ss fs ks → frames_of zs us ss fs ks ≡ all
+    → EndsWith x all → LastWalk zs us ss fs ks x
+last_walk zs us ss fs ks all x w h e k =
+    let r = split_last zs (some_slot zs us ss fs ks x (subst (λ l. EndsWith x l) (sym e) k)) in
     let ends = subst (λ l. EndsWith r.1 l) ((λ i. frames_of (sym r.2 i) us ss fs ks) ∙ e) (slot_ends r.0 r.1 us ss fs ks (subst (λ l. Fits l us ss fs ks) r.2 h)) in
-    let slots : zs ≡ r.0 ++ Each acts n ∷ [] = r.2 ∙ ap (λ x. r.0 ++ x ∷ []) (same_slot all r.1 (Each acts n) ends k) in
-    let s = split_last us (sort_left has_walk r.0 zs (Each acts n) (length us) refl slots h.walks) in
+    let slots : zs ≡ r.0 ++ x ∷ [] = r.2 ∙ ap (λ y. r.0 ++ y ∷ []) (same_slot all r.1 x ends k) in
+    let s = split_last us (sort_left has_walk r.0 zs x (length us) w slots h.walks) in
     record {
       front = r.0;
       outer = s.0;
       walk = s.1;
       slots = slots;
       walks = s.2;
-      fits = shorter_fits (walk_more r.0 r.0 zs (Each acts n) s.0 s.0 us s.1 ss fs ks refl slots refl s.2 refl) h;
+      fits = shorter_fits (walk_more r.0 r.0 zs x s.0 s.0 us s.1 ss fs ks w slots refl s.2 refl) h;
     }
 
 pub set_last : {A : Type 0} (xs zs : List A) (x y : A) (i : ℕ) → zs ≡ xs ++ x ∷ [] → i + 1 ≡ length zs → slice_set zs i y ≡ xs ++ y ∷ []
@@ -354,24 +354,41 @@ get_last {A = A} xs zs x d i e l =
     let at : i ≡ length xs = omega (arith, l, ap (λ (r : List A). length r) e, length-append xs (x ∷ [])) in
     (λ j. get_or (e j) (at j) d) ∙ get_or-append_seam xs x [] d
 
--- the slot and the walk are written
-pub each_written : {zs : List Slot} {us : List Walk} {ss : List Start} {fs : List Front} {ks : List First} {acts : Acts} {n : ℕ} (r : LastEach zs us ss fs ks acts n) (others : Acts) (v : Walk) (i j : ℕ)
-    → i + 1 ≡ length zs → j + 1 ≡ length us
-    → Longer r.front (slice_set zs i (Each others n)) (Each others n) r.outer (slice_set us j v) (v ∷ []) ss ss [] fs fs [] ks ks []
-each_written {zs = zs} {us = us} {ss = ss} {fs = fs} {ks = ks} {acts = acts} {n = n} r others v i j e f =
-    walk_more r.front r.front (slice_set zs i (Each others n)) (Each others n) r.outer r.outer (slice_set us j v) v ss fs ks refl
-    (set_last r.front zs (Each acts n) (Each others n) i r.slots e) refl (set_last r.outer us r.walk v j r.walks f) refl
+-- the walk is written, and the slot if y is another one
+pub walk_written : {zs : List Slot} {us : List Walk} {ss : List Start} {fs : List Front} {ks : List First} {x : Slot} (r : LastWalk zs us ss fs ks x) (ys : List Slot) (y : Slot) (v : Walk) (j : ℕ)
+    → has_walk y ≡ true → ys ≡ r.front ++ y ∷ [] → j + 1 ≡ length us
+    → Longer r.front ys y r.outer (slice_set us j v) (v ∷ []) ss ss [] fs fs [] ks ks []
+walk_written {us = us} {ss = ss} {fs = fs} {ks = ks} r ys y v j w e f =
+    walk_more r.front r.front ys y r.outer r.outer (slice_set us j v) v ss fs ks w e refl (set_last r.outer us r.walk v j r.walks f) refl
 
 -- the frames as they are
-pub each_there : {zs : List Slot} {us : List Walk} {ss : List Start} {fs : List Front} {ks : List First} {acts : Acts} {n : ℕ} (r : LastEach zs us ss fs ks acts n)
-    → Longer r.front zs (Each acts n) r.outer us (r.walk ∷ []) ss ss [] fs fs [] ks ks []
-each_there {zs = zs} {us = us} {ss = ss} {fs = fs} {ks = ks} {acts = acts} {n = n} r =
-    walk_more r.front r.front zs (Each acts n) r.outer r.outer us r.walk ss fs ks refl r.slots refl r.walks refl
+pub walk_there : {zs : List Slot} {us : List Walk} {ss : List Start} {fs : List Front} {ks : List First} {x : Slot} (r : LastWalk zs us ss fs ks x) → has_walk x ≡ true
+    → Longer r.front zs x r.outer us (r.walk ∷ []) ss ss [] fs fs [] ks ks []
+walk_there {zs = zs} {us = us} {ss = ss} {fs = fs} {ks = ks} {x = x} r w = walk_more r.front r.front zs x r.outer r.outer us r.walk ss fs ks w r.slots refl r.walks refl
 
-pub each_length : {zs : List Slot} {us : List Walk} {ss : List Start} {fs : List Front} {ks : List First} {acts : Acts} {n : ℕ} (r : LastEach zs us ss fs ks acts n)
+pub walk_length : {zs : List Slot} {us : List Walk} {ss : List Start} {fs : List Front} {ks : List First} {x : Slot} (r : LastWalk zs us ss fs ks x)
     → (length zs ≡ length r.front + 1) × (length us ≡ length r.outer + 1)
-each_length {acts = acts} {n = n} r =
-    (ap (λ (l : List Slot). length l) r.slots ∙ length-append r.front (Each acts n ∷ []), ap (λ (l : List Walk). length l) r.walks ∙ length-append r.outer (r.walk ∷ []))
+walk_length {x = x} r = (ap (λ (l : List Slot). length l) r.slots ∙ length-append r.front (x ∷ []), ap (λ (l : List Walk). length l) r.walks ∙ length-append r.outer (r.walk ∷ []))
+
+-- ---- the same if the frame has strategies for children
+
+pub last_each : (zs : List Slot) (us : List Walk) (ss : List Start) (fs : List Front) (ks : List First) (all : List Frame) (acts : Acts) (n : ℕ) → Fits zs us ss fs ks → frames_of zs us ss fs ks ≡ all
+    → EndsWith (Each acts n) all → LastWalk zs us ss fs ks (Each acts n)
+last_each zs us ss fs ks all acts n h e k = last_walk zs us ss fs ks all (Each acts n) refl h e k
+
+pub each_written : {zs : List Slot} {us : List Walk} {ss : List Start} {fs : List Front} {ks : List First} {acts : Acts} {n : ℕ} (r : LastWalk zs us ss fs ks (Each acts n)) (others : Acts) (v : Walk) (i j : ℕ)
+    → i + 1 ≡ length zs → j + 1 ≡ length us
+    → Longer r.front (slice_set zs i (Each others n)) (Each others n) r.outer (slice_set us j v) (v ∷ []) ss ss [] fs fs [] ks ks []
+each_written {zs = zs} {acts = acts} {n = n} r others v i j e f =
+    walk_written r (slice_set zs i (Each others n)) (Each others n) v j refl (set_last r.front zs (Each acts n) (Each others n) i r.slots e) f
+
+pub each_there : {zs : List Slot} {us : List Walk} {ss : List Start} {fs : List Front} {ks : List First} {acts : Acts} {n : ℕ} (r : LastWalk zs us ss fs ks (Each acts n))
+    → Longer r.front zs (Each acts n) r.outer us (r.walk ∷ []) ss ss [] fs fs [] ks ks []
+each_there r = walk_there r refl
+
+pub each_length : {zs : List Slot} {us : List Walk} {ss : List Start} {fs : List Front} {ks : List First} {acts : Acts} {n : ℕ} (r : LastWalk zs us ss fs ks (Each acts n))
+    → (length zs ≡ length r.front + 1) × (length us ≡ length r.outer + 1)
+each_length r = walk_length r
 
 -- ---- frames by their slots
 

@@ -10,9 +10,10 @@ ghost use Rattle.term_changes.specs.Standing.{Standing};
 ghost use Rattle.strategy_machine.specs.Hands.{Failed};
 ghost use Rattle.strategy_machine.specs.Turns.{Turn, Falls, Holds};
 ghost use Rattle.strategy_machine.specs.inside.Slots.{EndsWith};
+ghost use Rattle.strategy_machine.specs.inside.Walks.{Passes};
 
-use crate::children::{go_over, try_on};
-use crate::frames::{Turned, drop_changed, drop_part, drop_parts, drop_walk, put};
+use crate::children::{child_now, go_over};
+use crate::frames::{Turned, Walk, drop_changed, drop_part, drop_parts, drop_walk, put};
 use crate::machine::Machine;
 use crate::stack::{First, Front, Slot, Start};
 use std::alloc::Global;
@@ -22,6 +23,7 @@ use term_match::Mark;
 use term_values::Part;
 
 /// Gives a failure to the innermost frame.
+#[inline(never)]
 pub(crate) fn give_failed<'t>(alloc: Global, m: &mut Machine<'t>) -> Result<Turned, NoMemory>
     requires { (W : World) × (sub : Standing) × (whole : Answer) × Holds W sub whole m.old Failed }
     ensures ok { (W : World) → IfOk result (λ next. Turn W m.old Failed m.new next) }
@@ -66,7 +68,7 @@ fn fail<'t>(alloc: Global, m: &mut Machine<'t>, slot: Slot<'t>) -> Result<Turned
             strategy,
             scope,
             mark,
-        } => fail_leftmost(alloc, m, strategy, scope, mark),
+        } => fail_leftmost(m, strategy, scope, mark),
         Slot::Those {
             strategy,
             scope,
@@ -155,10 +157,26 @@ fn fail_head<'t>(m: &mut Machine<'t>) -> Result<Turned, NoMemory>
     Ok(m.fails())
 }
 
+/// Replaces the failed child by the next one, if there is one, and returns the count of edits to go
+/// back to.
+#[inline(always)]
+pub(crate) fn pass<'t>(walk: &mut Walk<'t>, part: &mut Part<'t>) -> Result<Option<usize>, NoMemory>
+    ensures { IfOk result (λ found. Passes walk.old part.old found walk.new part.new) }
+{
+    let Some(index) = walk.index.checked_add(1) else {
+        return Err(NoMemory);
+    };
+    let Some(child) = child_now(&walk.node, &walk.parts, index)? else {
+        return Ok(None);
+    };
+    put(part, child);
+    walk.index = index;
+    Ok(Some(walk.edits))
+}
+
 // Tries the next child.
 #[inline(always)]
 fn fail_leftmost<'t>(
-    alloc: Global,
     m: &mut Machine<'t>,
     strategy: &'t ResolvedStrategy,
     scope: usize,
@@ -169,17 +187,16 @@ fn fail_leftmost<'t>(
     ensures ok { (W : World) → IfOk result (λ next. Turn W m.old Failed m.new next) }
     ensures less { IfOk result (λ next. Falls m.old Failed m.new next) }
 {
+    if let Some(edits) = m.frames.pass_child(&mut m.part)? {
+        m.trail.cut(edits);
+        m.cells.back_to(mark);
+        return Ok(m.begins(strategy, scope));
+    }
     let walk = m.frames.pop_walk();
-    let Some(next) = walk.index.checked_add(1) else {
-        drop_walk(walk);
-        return Err(NoMemory);
-    };
     m.trail.cut(walk.edits);
     m.level = walk.level;
-    m.cells.back_to(mark);
-    drop_parts(walk.parts);
-    put(&mut m.part, walk.node);
-    try_on(alloc, m, strategy, scope, next)
+    drop_walk(walk);
+    Ok(m.fails())
 }
 
 // Continues with the next child after a failure.
@@ -197,6 +214,11 @@ fn fail_those<'t>(
     ensures ok { (W : World) → IfOk result (λ next. Turn W m.old Failed m.new next) }
     ensures less { IfOk result (λ next. Falls m.old Failed m.new next) }
 {
+    if let Some(edits) = m.frames.pass_child(&mut m.part)? {
+        m.trail.cut(edits);
+        m.cells.back_to(mark);
+        return Ok(m.begins(strategy, scope));
+    }
     let walk = m.frames.pop_walk();
     let Some(next) = walk.index.checked_add(1) else {
         drop_walk(walk);

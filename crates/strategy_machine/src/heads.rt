@@ -68,12 +68,20 @@ pub(crate) fn left_by_failure<'t>(
             Form::Seq(parts) => strategy = &parts.0,
             Form::Guard(parts) => match left_side(&parts.0) {
                 Some(pattern) => {
-                    if left < 3 || !misses(pattern, part) {
+                    let kind = part.kind();
+                    if left < 3 || !rules_out(pattern, kind) {
                         return None;
                     }
                     let passed = after_rules(&parts.2, part, left - 3);
                     strategy = passed.0;
                     left = passed.1;
+                    // the choice ends with a rule
+                    if let Some(last) = left_side(strategy) {
+                        if left < 3 || !rules_out(last, kind) {
+                            return None;
+                        }
+                        return Some(left - 3);
+                    }
                 }
                 None => {
                     left = left_by_failure(definitions, scopes, &parts.0, scope, part, left, most)?;
@@ -114,7 +122,7 @@ pub(crate) fn misses(pattern: &Place, part: &Part<'_>) -> bool
     rules_out(pattern, part.kind())
 }
 
-/// Whether this kind shows that the pattern can't match a term of this kind.
+/// Whether the root of the pattern shows that no term of this kind matches it.
 #[inline(always)]
 pub(crate) fn rules_out(pattern: &Place, kind: Kind<'_>) -> bool
     ensures { (t : Tree) → t ≡ made_of kind.entry (children t) (annotations t) → OnTrue result (Misses pattern.now t) }

@@ -15,7 +15,7 @@ use strategy_syntax::{Place, ResolvedForm as Form, ResolvedStrategy};
 
 /// A strategy whose step is charged, its scope, and the steps left.
 #[derive(Clone, Copy)]
-pub(crate) struct Start<'t> {
+pub(crate) struct Charged<'t> {
     pub strategy: &'t ResolvedStrategy,
     pub scope: usize,
     pub left: u64,
@@ -30,7 +30,7 @@ pub(crate) fn start_of<'t, M: Meaning>(
     strategy: &'t ResolvedStrategy,
     scope: usize,
     steps: u64,
-) -> Option<Start<'t>>
+) -> Option<Charged<'t>>
     requires { scope < length (scopes_of scopes.now) }
     ensures { MatchOption result
         (IsSpent (world_of M.meaning host.now.definitions.now host.now.primitives.now) (scopes_of scopes.now) strategy.entry.now scope steps)
@@ -45,7 +45,7 @@ pub(crate) fn start_of<'t, M: Meaning>(
         }
         left -= 1;
         let Some(known) = known_as(host, scopes, strategy, scope) else {
-            return Some(Start {
+            return Some(Charged {
                 strategy,
                 scope,
                 left,

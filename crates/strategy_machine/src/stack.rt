@@ -7,9 +7,10 @@
 ghost use Rattle.std.specs.Prelude.{◌≡◌, ◌+◌, [], ◌∷◌, ◌++◌, length, reverse, true, IfOk, OnOk, MatchOption};
 ghost use Rattle.strategy_machine.specs.Trails.{path_of};
 ghost use Rattle.strategy_machine.specs.inside.Slots.{EndsWith, EndsIn, has_walk, has_start, has_front, has_first, is_alone, alone, with_walk, with_start, with_front, with_first};
-ghost use Rattle.strategy_machine.specs.inside.Walks.{LastGoesOn};
+ghost use Rattle.strategy_machine.specs.inside.Walks.{LastGoesOn, LastPasses};
 
 use crate::children::first_act;
+use crate::fail::pass;
 use crate::frames::{Acts, Frame, Walk, drop_changed, drop_part, drop_parts, drop_walk};
 use crate::give::to_next;
 use std::alloc::Global;
@@ -390,6 +391,19 @@ impl<'t> Frames<'t> {
             scope,
         };
         Ok(Some((strategy, scope)))
+    }
+
+    /// After a failure of its child, the walk of the innermost frame moves on to the next one, which
+    /// becomes the focus, and the count of edits is the one to go back to; without a next child,
+    /// nothing changes.
+    #[inline(always)]
+    pub(crate) fn pass_child(&mut self, part: &mut Part<'t>) -> Result<Option<usize>, NoMemory>
+        requires { EndsIn has_walk self.old }
+        ensures items { IfOk result (λ found. (x : Slot) → EndsWith x self.old → LastPasses x self.old part.old found self.new part.new) }
+        ensures len { IfOk result (λ found. length self.new ≡ length self.old) }
+    {
+        let walk = self.walks.len() - 1;
+        pass(&mut self.walks[walk], part)
     }
 
     /// The path that the frames lead to, the outermost frame first.

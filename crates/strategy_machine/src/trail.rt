@@ -76,6 +76,7 @@ impl<'t> Trail<'t> {
     }
 
     /// Forgets all edits but the first `count`.
+    #[inline(always)]
     pub(crate) fn cut(&mut self, count: usize)
         ensures { (T D : Edits) → count ≡ length T → Shows self.old (T ++ D) → Shows self.new T }
     {

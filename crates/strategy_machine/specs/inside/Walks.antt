@@ -1,6 +1,7 @@
 -- How the walk of a frame moves on to the next child.
-use Rattle.std.specs.Prelude.{◌≡◌, ℕ, suc, ◌+◌, ◌==◌, not, cond, List, [], ◌∷◌, ◌++◌, slice_get, slice_set, Some}
+use Rattle.std.specs.Prelude.{◌≡◌, ℕ, suc, ◌+◌, ◌==◌, not, cond, List, [], ◌∷◌, ◌++◌, slice_get, slice_set, Some, None, MatchOption}
 use Rattle.std.specs.Borrow.{Bor}
+use Rattle.std.specs.declared.option.Option.{Option}
 use Rattle.term_changes.specs.Standing.{Standing}
 use Rattle.strategy_syntax.specs.Resolved.{ResolvedStrategy}
 use Rattle.strategy_machine.specs.Leading.{parts_now, all_parts}
@@ -8,7 +9,9 @@ use Rattle.strategy_machine.specs.declared.frames.Acts.{Acts}
 use Rattle.strategy_machine.specs.declared.frames.Walk.{Walk}
 use Rattle.strategy_machine.specs.declared.frames.Frame.{Frame}
 use Rattle.strategy_machine.specs.declared.frames.Frame.TheVariants.{Each}
+use Rattle.strategy_machine.specs.declared.stack.Slot.{Slot}
 use Rattle.strategy_machine.specs.Frames.{acts_list, walk_parts}
+use Rattle.strategy_machine.specs.inside.Slots.{with_walk}
 
 -- The walk moves on from its child, which is now p, to the next one, q, when there are these edits.
 pub record StepsOn (w : Walk) (p : Standing) (count : ℕ) (v : Walk) (q : Standing) : Type 0 where
@@ -43,3 +46,23 @@ GoesOn f p edits s m g q =
 abbrev pub LastGoesOn : List Frame → Standing → ℕ → Bor ResolvedStrategy → ℕ → List Frame → Standing → Type 0
 LastGoesOn fs p edits s m gs q =
     (front : List Frame) × (f : Frame) × (g : Frame) × (fs ≡ front ++ f ∷ []) × (gs ≡ front ++ g ∷ []) × GoesOn f p edits s m g q
+
+-- ---- after a failure
+
+-- the walk at the next child
+abbrev pub passed : Walk → Walk
+passed w = record { node = w.node; parts = w.parts; index = w.index + 1; level = w.level; edits = w.edits }
+
+-- the part in the place of the next child
+abbrev pub next_part : Walk → Option Standing
+next_part w = slice_get (parts_now w.node (walk_parts w)) (w.index + 1)
+
+-- The walk moves on from p, whose edits are forgotten, to the next child, q, if there is one.
+abbrev pub Passes : Walk → Standing → Option ℕ → Walk → Standing → Type 0
+Passes w p found v q = MatchOption found ((v ≡ w) × (q ≡ p) × (next_part w ≡ None))
+    (λ edits. (edits ≡ w.edits) × (v ≡ passed w) × (next_part w ≡ Some q))
+
+-- the same for the walk of the innermost of these frames, which has slot x
+abbrev pub LastPasses : Slot → List Frame → Standing → Option ℕ → List Frame → Standing → Type 0
+LastPasses x fs p found gs q =
+    (front : List Frame) × (w : Walk) × (v : Walk) × (fs ≡ front ++ with_walk x w) × (gs ≡ front ++ with_walk x v) × Passes w p found v q

@@ -46,8 +46,8 @@ inward-preserved-in-Seq t c =
           (fails_seq c.args.definitions.now (scopes c.args.scopes.now) c.inward.scope u _ _ c.inward.left (c.inward.left - 1) d (omega (arith, c.if-left-eq0.false)) (ahead_is _ _ _ _ _ _ u _ (ap (λ x. x.0) (sym c.deref.ensures)) h)));
     }
 
-pub inward-preserved-in-Some : goal.inward-preserved-in-Some
-inward-preserved-in-Some t c =
+pub inward-preserved-in_default-left_side : goal.inward-preserved-in_default-left_side
+inward-preserved-in_default-left_side t c =
     let u = standing_tree c.args.part.now in
     let rule = c.in-Some.ensures in
     record {
@@ -56,10 +56,25 @@ inward-preserved-in-Some t c =
       whole = λ d h. c.inward.invariant.whole d (ahead_is _ _ _ _ _ _ u _ (c.form.ensures ∙ ap resolved_of c.in-Guard.is)
           (fails_guard c.args.definitions.now (scopes c.args.scopes.now) c.inward.scope u _ _ _ c.inward.left (c.inward.left - 1) (c.inward.left - 1 - 3) d (omega (arith, c.if-left-eq0.false))
           (ahead_is _ _ _ _ _ _ u _ (ap (λ x. x.0) (sym c.deref-in-Guard.ensures) ∙ rule.2)
-          (rule_fails c.args.definitions.now (scopes c.args.scopes.now) c.inward.scope u rule.0 c.in-Some.pattern.now rule.1 (c.inward.left - 1) (c.inward.left - 1 - 3) (omega (arith, c.if-left-lt3.false)) c.if-not-misses-2.ensures))
+          (rule_fails c.args.definitions.now (scopes c.args.scopes.now) c.inward.scope u rule.0 c.in-Some.pattern.now rule.1 (c.inward.left - 1) (c.inward.left - 1 - 3) (omega (arith, c.if-left-lt3.false)) (c.if-not-rules_out.ensures u c.kind-kind.ensures)))
           (ahead_is _ _ _ _ _ _ u _ (ap (λ x. x.2) (sym c.deref-in-Some.ensures))
           (passed_fails c.args.definitions.now (scopes c.args.scopes.now) c.inward.scope _ _ _ _ u d c.after_rules-passed.ensures.same h))));
     }
+
+pub returns-in-Some-left_side-clause-fails : goal.returns-in-Some-left_side-clause-fails
+returns-in-Some-left_side-clause-fails t c =
+    let u = standing_tree c.args.part.now in
+    let rule = c.in-Some.ensures in
+    let last = c.in-Some-left_side.ensures in
+    let left = c.after_rules-passed.result.1 in
+    c.inward.invariant.whole (left - 3) (ahead_is _ _ _ _ _ _ u _ (c.form.ensures ∙ ap resolved_of c.in-Guard.is)
+    (fails_guard c.args.definitions.now (scopes c.args.scopes.now) c.inward.scope u _ _ _ c.inward.left (c.inward.left - 1) (c.inward.left - 1 - 3) (left - 3) (omega (arith, c.if-left-eq0.false))
+    (ahead_is _ _ _ _ _ _ u _ (ap (λ x. x.0) (sym c.deref-in-Guard.ensures) ∙ rule.2)
+    (rule_fails c.args.definitions.now (scopes c.args.scopes.now) c.inward.scope u rule.0 c.in-Some.pattern.now rule.1 (c.inward.left - 1) (c.inward.left - 1 - 3) (omega (arith, c.if-left-lt3.false)) (c.if-not-rules_out.ensures u c.kind-kind.ensures)))
+    (ahead_is _ _ _ _ _ _ u _ (ap (λ x. x.2) (sym c.deref-in-Some.ensures))
+    (passed_fails c.args.definitions.now (scopes c.args.scopes.now) c.inward.scope _ _ _ _ u (left - 3) c.after_rules-passed.ensures.same
+    (ahead_is _ _ _ _ _ _ u _ last.2
+    (rule_fails c.args.definitions.now (scopes c.args.scopes.now) c.inward.scope u last.0 c.in-Some-left_side.last.now last.1 left (left - 3) (omega (arith, c.if-left-lt3-2.false)) (c.if-not-rules_out-2.ensures u c.kind-kind.ensures)))))))
 
 pub inward-preserved-in-None : goal.inward-preserved-in-None
 inward-preserved-in-None t c =
