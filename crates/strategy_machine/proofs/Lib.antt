@@ -7,6 +7,7 @@ pub mod NodeLeads
 pub mod PartsLemmas
 pub mod OpenLemmas
 pub mod TakeLemmas
+pub mod AllLemmas
 pub mod ChildLemmas
 pub mod GiveLemmas
 pub mod FailLemmas

@@ -1,5 +1,5 @@
 -- What names stand for, and calls that open nothing.
-use Rattle.std.proofs.Common.{◌≡◌, ◌<◌, ℕ, ◌+◌, List, [], ◌++◌, length, map, replicate, sym, ap, ◌∙◌, subst, refl, Some, None, MatchOption, Bor, slice_get}
+use Rattle.std.proofs.Common.{◌≡◌, ◌<◌, ℕ, ◌+◌, List, [], ◌++◌, length, map, replicate, sym, ap, ◌∙◌, subst, Some, None, MatchOption, Bor, slice_get}
 use Rattle.std.specs.Prelude.{IfSome}
 use Rattle.std.proofs.lemmas.List.{append-nil}
 use Rattle.std.specs.declared.option.Option.{Option}

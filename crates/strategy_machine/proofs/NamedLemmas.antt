@@ -14,7 +14,7 @@ use Rattle.strategy_machine.specs.Frames.{Meets}
 use Rattle.strategy_machine.specs.Turns.{State, HoldsIn}
 use Rattle.strategy_machine.specs.inside.Taking.{FormIn}
 use Rattle.strategy_machine.specs.declared.frames.Frame.TheVariants.{Then}
-use Rattle.strategy_machine.specs.Hands.{Begin, Failed}
+use Rattle.strategy_machine.specs.Hands.{Begin, Done, Failed}
 use Rattle.strategy_machine.proofs.OpenLemmas.{with_edits-none, with_edits-and_then, opens_along, opens_through}
 use Rattle.strategy_machine.proofs.TakeLemmas.{run_step, no_steps, some_is, none_is, take_stops, paid, framed}
 
@@ -32,6 +32,16 @@ module _ (W : World) (E : Scope) (l x : ℕ) (B : Bindings) (t : Tree) where
 -- `id` succeeds with the term itself
 id_runs : (W : World) (F : Scope) (l b c : ℕ) (s : ResolvedStrategy) (B : Bindings) (t : Tree) → s ≡ id → b ≡ c + 1 → run W F l s b B t ≡ done t B c []
 id_runs W F l b c s B t is e = ap (λ (r : ResolvedStrategy). run W F l r b B t) is ∙ run_step W F l id b c B t e
+
+pub id_done : (W : World) (sub : Standing) (whole : Answer) (S : State) (s : Bor ResolvedStrategy) (n : ℕ) (p : Standing) (c : ℕ) → S.steps ≡ c + 1 → s.now ≡ id
+    → HoldsIn W sub whole S (Begin s n p) → HoldsIn W sub whole (paid S c) (Done p)
+id_done W sub whole S s n p c e is h = record {
+  now = h.now;
+  edits = h.edits;
+  shows = h.shows;
+  in_hand = h.in_hand.1;
+  opens = opens_along _ _ (id_runs W (scope_at S.scopes n) S.level S.steps c s.now S.cells.bindings (standing_tree p) is e) h.opens;
+}
 
 module _ (W : World) (sub : Standing) (whole : Answer) (S : State) (x : ℕ) (s : Bor ResolvedStrategy) (n : ℕ) (p : Standing) where
   abbrev both : ResolvedStrategy

@@ -5,6 +5,7 @@ pub mod Endings
 pub mod Filling
 pub mod Missing
 pub mod Names
+pub mod Rules
 pub mod Slots
 pub mod Steps
 pub mod Taking

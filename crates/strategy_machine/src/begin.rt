@@ -8,10 +8,10 @@ ghost use Rattle.strategy_machine.specs.Turns.{Turn, Falls, world_of};
 ghost use Rattle.strategy_machine.specs.inside.Taking.{Takes, TakeFalls};
 
 use crate::calls::{take_call, take_param, take_prim, take_rec, take_scope};
-use crate::children::{go_on, go_over, try_on};
+use crate::children::{go_over, take_all, try_on};
 use crate::congruence::{take_child, take_congruence, take_tail};
 use crate::forms::{take_build, take_guard, take_match, take_seq, take_test};
-use crate::frames::{Acts, Turned};
+use crate::frames::Turned;
 use crate::machine::{Host, Machine};
 use crate::names::start_of;
 use prim_core::Meaning;
@@ -71,13 +71,7 @@ fn take<'t, M: Meaning>(
         }
         Form::Congruence(head, strategies) => take_congruence(alloc, m, head, strategies, scope),
         Form::TailCongruence(strategies, tail) => take_tail(alloc, m, strategies, tail, scope),
-        Form::All(inner) => {
-            if m.part.child_count() == 0 {
-                return Ok(m.gives());
-            }
-            m.parts.clear();
-            go_on(alloc, m, Acts::Same(inner), scope, 0)
-        }
+        Form::All(inner) => take_all(alloc, m, inner, scope),
         Form::One(inner) => try_on(alloc, m, inner, scope, 0),
         Form::Some(inner) => {
             m.parts.clear();

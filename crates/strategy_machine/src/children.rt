@@ -1,6 +1,6 @@
 //! Strategies on children.
 
-ghost use Rattle.std.specs.Prelude.{◌≡◌, ℕ, suc, ◌-◌, [], ◌∷◌, ◌++◌, cond, length, MatchOption, IfOk, IfSome, OnOk, slice_get, slice_set};
+ghost use Rattle.std.specs.Prelude.{◌≡◌, ℕ, suc, ◌-◌, ◌==◌, false, [], ◌∷◌, ◌++◌, cond, length, MatchOption, IfOk, IfSome, OnOk, slice_get, slice_set};
 ghost use Rattle.term_core.specs.Tree.{children};
 ghost use Rattle.term_changes.specs.Standing.{standing_tree, standing_children};
 ghost use Rattle.strategy_meaning.specs.Meaning.{World};
@@ -9,9 +9,11 @@ ghost use Rattle.strategy_machine.specs.Leading.{PartsStand, all_parts, node_wit
 ghost use Rattle.strategy_machine.specs.inside.Filling.{Fills};
 ghost use Rattle.strategy_machine.specs.Hands.{Each, Leftmost, Those};
 ghost use Rattle.strategy_machine.specs.Turns.{Turn, Falls};
-ghost use Rattle.strategy_machine.specs.inside.Turning.{EndFalls};
+ghost use Rattle.strategy_machine.specs.inside.Turning.{Descends, EndFalls};
+ghost use Rattle.strategy_machine.specs.inside.Taking.{Takes, TakeFalls};
+ghost use Rattle.strategy_syntax.specs.Resolved.{all};
 
-use crate::frames::{Acts, Frame, Turned, Walk, drop_part};
+use crate::frames::{Acts, Frame, Turned, Walk, drop_part, drop_parts};
 use crate::lists::end_each;
 use crate::machine::Machine;
 use std::alloc::Global;
@@ -115,6 +117,20 @@ pub(crate) fn finish<'t>(
     if parts.is_empty() {
         return Ok(());
     }
+    finish_changed(alloc, node, parts)
+}
+
+// The same if a child has changed.
+#[inline(never)]
+fn finish_changed<'t>(
+    alloc: Global,
+    node: &mut Part<'t>,
+    parts: &mut Vec<Part<'t>>,
+) -> Result<(), NoMemory>
+    requires stand { PartsStand node.old (all_parts node.old parts.old.items) }
+    requires some { (length parts.old.items == 0) ≡ false }
+    ensures { OnOk result (node.new ≡ node_with node.old parts.old.items) }
+{
     let mut all = mem::replace(parts, Vec::new(alloc));
     fill(&mut all, node, node.child_count())?;
     let whole = node.with_parts(alloc, all)?;
@@ -178,6 +194,66 @@ fn add<'t>(parts: &mut Vec<Part<'t>>, part: Part<'t>) -> Result<(), NoMemory>
             Err(NoMemory)
         }
     }
+}
+
+/// A strategy on each child.
+#[inline(always)]
+pub(crate) fn take_all<'t>(
+    alloc: Global,
+    m: &mut Machine<'t>,
+    strategy: &'t ResolvedStrategy,
+    scope: usize,
+) -> Result<Turned, NoMemory>
+    ensures ok { (W : World) → IfOk result (λ next. Takes W m.old (all strategy.entry.now) scope m.old.part m.new next) }
+    ensures less { IfOk result (λ next. TakeFalls m.old m.new next) }
+{
+    if m.part.child_count() == 0 {
+        return Ok(m.gives());
+    }
+    go_in(alloc, m, strategy, Acts::Same(strategy), scope, 0)
+}
+
+/// Begins with the child at this index, whose strategy this is; no child has changed yet.
+#[inline(never)]
+pub(crate) fn go_in<'t>(
+    alloc: Global,
+    m: &mut Machine<'t>,
+    strategy: &'t ResolvedStrategy,
+    others: Acts<'t>,
+    scope: usize,
+    index: usize,
+) -> Result<Turned, NoMemory>
+    ensures ok { (W : World) (acts : Acts)
+        → acts_list acts (length (children (standing_tree m.old.part)) - index) ≡ strategy.entry.now ∷ acts_list others.entry (length (children (standing_tree m.old.part)) - index - 1)
+        → IfOk result (λ next. Descends W m.old acts scope m.old.part index m.new next) }
+    ensures less { IfOk result (λ next. EndFalls m.old m.new next) }
+{
+    let parts = Vec::new(alloc);
+    let Some(child) = m.part.child(index)? else {
+        drop_parts(parts);
+        return Ok(m.fails());
+    };
+    let level = m.level;
+    if level == u64::MAX {
+        drop_parts(parts);
+        drop_part(child);
+        return Err(NoMemory);
+    }
+    let node = mem::replace(&mut m.part, child);
+    let edits = m.trail.count;
+    m.frames.wait(Frame::Each {
+        acts: others,
+        scope,
+        walk: Walk {
+            node,
+            parts,
+            index,
+            level,
+            edits,
+        },
+    })?;
+    m.level += 1;
+    Ok(m.begins(strategy, scope))
 }
 
 /// Continues with the children from this index on.

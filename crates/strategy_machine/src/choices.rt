@@ -1,16 +1,20 @@
-//! Choices whose first branch is a match followed by a build.
+//! Choices whose first branch is a match followed by a build, or a rule.
 
-ghost use Rattle.std.specs.Prelude.{IfOk};
-ghost use Rattle.strategy_syntax.specs.Resolved.{matches, builds, seq, guard};
+ghost use Rattle.std.specs.Prelude.{◌≡◌, List, length, IfOk, IfSome};
+ghost use Rattle.strategy_syntax.specs.Resolved.{ResolvedStrategy as Resolving, matches, builds, seq, guard, scope as scope_form};
 ghost use Rattle.strategy_meaning.specs.Meaning.{World};
+ghost use Rattle.strategy_meaning.specs.Scopes.{Scope};
+ghost use Rattle.strategy_machine.specs.Table.{scopes as scopes_of, IsThere};
+ghost use Rattle.strategy_machine.specs.inside.Rules.{IsRule};
 ghost use Rattle.strategy_machine.specs.inside.Taking.{Takes, TakeFalls};
 
+use crate::alternatives::after_rules;
 use crate::forms::replace;
 use crate::frames::{Turned, drop_value};
 use crate::heads::misses;
 use crate::machine::{InTable, Machine};
 use std::alloc::Global;
-use strategy_syntax::{Place, ResolvedStrategy};
+use strategy_syntax::{Place, Resolved, ResolvedForm as Form, ResolvedStrategy};
 use term_core::NoMemory;
 use term_match::Built;
 
@@ -35,7 +39,7 @@ pub(crate) fn rewrite_or<'t>(
     }
     m.steps -= 2;
     if misses(left, &m.part) {
-        return Ok(m.begins(other, scope));
+        return Ok(m.goes_on(other, scope));
     }
     let mark = m.cells.mark();
     let value = m.part.value()?;
@@ -48,7 +52,7 @@ pub(crate) fn rewrite_or<'t>(
     let matched = found?;
     if !matched {
         m.cells.back_to(mark);
-        return Ok(m.begins(other, scope));
+        return Ok(m.goes_on(other, scope));
     }
     if m.steps == 0 {
         return Ok(Turned::Spent);
@@ -57,12 +61,140 @@ pub(crate) fn rewrite_or<'t>(
     match m.cells.build(alloc, &places, right, m.level)? {
         Built::Nothing => {
             m.cells.back_to(mark);
-            Ok(m.begins(other, scope))
+            Ok(m.goes_on(other, scope))
         }
         Built::Big => Ok(Turned::Big),
         Built::Value(value) => {
             replace(alloc, m, value)?;
-            Ok(m.begins(second, scope))
+            Ok(m.goes_on(second, scope))
+        }
+    }
+}
+
+/// A rule, the scope around its variables unless that is the empty one, and the steps up to its
+/// match.
+#[derive(Clone, Copy)]
+pub(crate) struct Rule<'t> {
+    pub count: usize,
+    pub left: &'t Place,
+    pub right: &'t Place,
+    pub outer: Option<usize>,
+    pub price: u64,
+}
+
+/// The rule that the strategy is, or that it calls without arguments.
+#[inline(always)]
+pub(crate) fn rule_of<'t>(
+    definitions: &'t [Resolved],
+    strategy: &'t ResolvedStrategy,
+    scope: usize,
+) -> Option<Rule<'t>>
+    ensures { IfSome result (λ r. (es : List Scope) → IsRule definitions.entry.now es strategy.entry.now scope r) }
+{
+    match strategy.form() {
+        Form::Scope(_, _) => rule_in(strategy, Some(scope), 3),
+        Form::Call(definition, strategies, patterns) => {
+            if strategies.len() != 0 || patterns.len() != 0 {
+                return None;
+            }
+            let body = definitions.get(*definition)?;
+            if body.variables != 0 {
+                return None;
+            }
+            rule_in(&body.strategy, None, 4)
+        }
+        _ => None,
+    }
+}
+
+// The strategy as a rule.
+#[inline(always)]
+fn rule_in<'t>(strategy: &'t ResolvedStrategy, outer: Option<usize>, price: u64) -> Option<Rule<'t>>
+    ensures { IfSome result (λ r. (strategy.entry.now ≡ scope_form r.count (seq (matches r.left.now) (builds r.right.now))) × (r.outer ≡ outer) × (r.price ≡ price)) }
+{
+    let Form::Scope(count, inner) = strategy.form() else {
+        return None;
+    };
+    let Form::Seq(parts) = inner.form() else {
+        return None;
+    };
+    let Form::Match(left) = parts.0.form() else {
+        return None;
+    };
+    let Form::Build(right) = parts.1.form() else {
+        return None;
+    };
+    Some(Rule {
+        count: *count,
+        left,
+        right,
+        outer,
+        price,
+    })
+}
+
+/// A choice whose first branch is a rule. The steps are charged one by one, and no frame is needed.
+/// If the root rules the rule out, so are the first rules of the other branch.
+#[inline(never)]
+pub(crate) fn rule_or<'t>(
+    alloc: Global,
+    m: &mut Machine<'t>,
+    rule: Rule<'t>,
+    second: &'t ResolvedStrategy,
+    other: &'t ResolvedStrategy,
+    scope: usize,
+) -> Result<Turned, NoMemory>
+    requires { IsThere (length (scopes_of m.old.scopes)) rule.outer }
+    ensures ok { (W : World) (s : Resolving) → IsRule W.bodies (scopes_of m.old.scopes) s scope rule.entry
+        → IfOk result (λ next. Takes W m.old (guard s second.entry.now other.entry.now) scope m.old.part m.new next) }
+    ensures less { IfOk result (λ next. TakeFalls m.old m.new next) }
+{
+    if m.steps < rule.price {
+        return Ok(Turned::Spent);
+    }
+    m.steps -= rule.price;
+    if misses(rule.left, &m.part) {
+        let passed = after_rules(other, &m.part, m.steps);
+        m.steps = passed.1;
+        return Ok(m.goes_on(passed.0, scope));
+    }
+    let mark = m.cells.mark();
+    let first = m.cells.count();
+    if first.checked_add(rule.count).is_none() {
+        return Err(NoMemory);
+    }
+    let scopes = m.scopes.count();
+    m.cells.open_cells(rule.count)?;
+    let inner = m.scopes.add_variables(rule.outer, first, rule.count)?;
+    let value = m.part.value()?;
+    let places = InTable {
+        scopes: &m.scopes,
+        scope: inner,
+    };
+    let found = m.cells.matches(alloc, &places, rule.left, &value);
+    drop_value(value);
+    let matched = found?;
+    if !matched {
+        m.cells.back_to(mark);
+        m.scopes.cut(scopes);
+        return Ok(m.goes_on(other, scope));
+    }
+    if m.steps == 0 {
+        return Ok(Turned::Spent);
+    }
+    m.steps -= 1;
+    let built = m.cells.build(alloc, &places, rule.right, m.level)?;
+    m.scopes.cut(scopes);
+    match built {
+        Built::Nothing => {
+            m.cells.back_to(mark);
+            Ok(m.goes_on(other, scope))
+        }
+        Built::Big => Ok(Turned::Big),
+        Built::Value(value) => {
+            m.cells.close_to(first);
+            replace(alloc, m, value)?;
+            Ok(m.goes_on(second, scope))
         }
     }
 }

@@ -13,7 +13,7 @@ ghost use Rattle.strategy_machine.specs.inside.Slots.{EndsWith};
 ghost use Rattle.strategy_machine.specs.inside.Walks.{Passes};
 
 use crate::children::{child_now, go_over};
-use crate::frames::{Turned, Walk, drop_changed, drop_part, drop_parts, drop_walk, put};
+use crate::frames::{Turned, Walk, drop_changed, drop_part, drop_parts, drop_walk, put, put_parts};
 use crate::machine::Machine;
 use crate::stack::{First, Front, Slot, Start};
 use std::alloc::Global;
@@ -33,14 +33,6 @@ pub(crate) fn give_failed<'t>(alloc: Global, m: &mut Machine<'t>) -> Result<Turn
         None => Ok(Turned::Failed),
         Some(slot) => fail(alloc, m, slot),
     }
-}
-
-// Replaces parts, and drops the old ones here.
-#[inline(always)]
-fn put_parts<'t>(place: &mut Vec<Part<'t>>, parts: Vec<Part<'t>>)
-    ensures { place.new ≡ parts.entry }
-{
-    *place = parts;
 }
 
 // By the kind of the innermost frame.
@@ -113,7 +105,7 @@ fn fail_choice<'t>(
     m.trail.cut(edits);
     m.cells.back_to(mark);
     put(&mut m.part, part);
-    Ok(m.begins(otherwise, scope))
+    Ok(m.goes_on(otherwise, scope))
 }
 
 // A test fails, and its edits are forgotten; so too in the functions below.

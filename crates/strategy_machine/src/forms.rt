@@ -1,14 +1,16 @@
 //! Matching, building, sequences, choices and tests.
 
-ghost use Rattle.std.specs.Prelude.{IfOk, OnOk};
-ghost use Rattle.strategy_syntax.specs.Resolved.{matches, builds, param, seq, guard, test};
+ghost use Rattle.std.specs.Prelude.{◌<◌, length, IfOk, OnOk};
+ghost use Rattle.strategy_syntax.specs.Resolved.{matches, builds, param, seq, guard, test, all};
 ghost use Rattle.strategy_meaning.specs.Meaning.{World};
+ghost use Rattle.strategy_machine.specs.Table.{scopes as scopes_of};
 ghost use Rattle.strategy_machine.specs.Turns.{world_of};
 ghost use Rattle.strategy_machine.specs.inside.Taking.{Takes, TakeFalls, Replaced};
 
 use crate::alternatives::after_rules;
-use crate::choices::rewrite_or;
-use crate::frames::{Frame, Turned, drop_value, put};
+use crate::children::go_in;
+use crate::choices::{rewrite_or, rule_of, rule_or};
+use crate::frames::{Acts, Frame, Turned, drop_value, put};
 use crate::heads::{MOST, left_by_failure};
 use crate::machine::{Host, InTable, Machine};
 use prim_core::Meaning;
@@ -88,7 +90,8 @@ pub(crate) fn replace<'t>(
     }
 }
 
-/// A sequence. If its first strategy is a match, or a name of `id`, that is done at once.
+/// A sequence. If its first strategy is a match, a name of `id`, or one for each child of a node
+/// without children, that is done at once.
 #[inline(always)]
 pub(crate) fn take_seq<'t>(
     alloc: Global,
@@ -103,6 +106,7 @@ pub(crate) fn take_seq<'t>(
     match first.form() {
         Form::Match(pattern) => match_first(alloc, m, pattern, second, scope),
         Form::Param(name) => named_first(m, *name, second, scope),
+        Form::All(inner) => all_first(alloc, m, inner, second, scope),
         _ => {
             m.frames.wait(Frame::Then {
                 strategy: second,
@@ -146,6 +150,32 @@ fn named_first<'t>(
     Ok(m.begins(known.strategy, known.written_in))
 }
 
+// A strategy on each child, which costs a step of its own, followed by a strategy.
+#[inline(always)]
+fn all_first<'t>(
+    alloc: Global,
+    m: &mut Machine<'t>,
+    inner: &'t ResolvedStrategy,
+    second: &'t ResolvedStrategy,
+    scope: usize,
+) -> Result<Turned, NoMemory>
+    ensures ok { (W : World) → IfOk result (λ next. Takes W m.old (seq (all inner.entry.now) second.entry.now) scope m.old.part m.new next) }
+    ensures less { IfOk result (λ next. TakeFalls m.old m.new next) }
+{
+    if m.steps == 0 {
+        return Ok(Turned::Spent);
+    }
+    m.steps -= 1;
+    if m.part.child_count() != 0 {
+        m.frames.wait(Frame::Then {
+            strategy: second,
+            scope,
+        })?;
+        return go_in(alloc, m, inner, Acts::Same(inner), scope, 0);
+    }
+    Ok(m.begins(second, scope))
+}
+
 // A match, which costs a step of its own, followed by a strategy.
 #[inline(never)]
 fn match_first<'t>(
@@ -176,9 +206,9 @@ fn match_first<'t>(
     }
 }
 
-/// A guarded choice. If its first branch is a match and a build, they are done at once, with no
-/// frame. If the root symbol rules out another first branch, its steps are charged and the machine
-/// goes straight to the other; if that is a choice among rules, to the first that may match.
+/// A guarded choice. If its first branch is a match and a build, or a rule, that is done at once,
+/// with no frame. If the root symbol rules out another first branch, its steps are charged and the
+/// machine goes straight to the other; if that is a choice among rules, to the first that may match.
 #[inline(always)]
 pub(crate) fn take_guard<'t, M: Meaning>(
     alloc: Global,
@@ -189,6 +219,7 @@ pub(crate) fn take_guard<'t, M: Meaning>(
     other: &'t ResolvedStrategy,
     scope: usize,
 ) -> Result<Turned, NoMemory>
+    requires { scope < length (scopes_of m.old.scopes) }
     ensures ok { IfOk result (λ next. Takes (world_of M.meaning host.now.definitions.now host.now.primitives.now)
         m.old (guard first.entry.now second.entry.now other.entry.now) scope m.old.part m.new next) }
     ensures less { IfOk result (λ next. TakeFalls m.old m.new next) }
@@ -199,6 +230,9 @@ pub(crate) fn take_guard<'t, M: Meaning>(
                 return rewrite_or(alloc, m, left, right, second, other, scope);
             }
         }
+    }
+    if let Some(rule) = rule_of(host.definitions, first, scope) {
+        return rule_or(alloc, m, rule, second, other, scope);
     }
     let ahead = left_by_failure(
         host.definitions,
@@ -212,7 +246,7 @@ pub(crate) fn take_guard<'t, M: Meaning>(
     if let Some(left) = ahead {
         let passed = after_rules(other, &m.part, left);
         m.steps = passed.1;
-        return Ok(m.begins(passed.0, scope));
+        return Ok(m.goes_on(passed.0, scope));
     }
     let start = m.part.try_clone()?;
     let mark = m.cells.mark();

@@ -11,7 +11,7 @@ ghost use Rattle.strategy_machine.specs.Turns.{Turn, Falls, Holds};
 ghost use Rattle.strategy_machine.specs.inside.Turning.{ComesUp};
 
 use crate::children::{child_now, finish, go_on, go_over, settle};
-use crate::frames::{Acts, Turned, Walk, put};
+use crate::frames::{Acts, Turned, Walk, put, put_parts};
 use crate::lists::{give_after, give_head, give_rest, give_tail};
 use crate::machine::Machine;
 use crate::stack::{Slot, Start};
@@ -93,7 +93,7 @@ fn give<'t>(alloc: Global, m: &mut Machine<'t>, slot: Slot<'t>) -> Result<Turned
         }
         Slot::Choose { then, scope, .. } => {
             m.frames.drop_start();
-            Ok(m.begins(then, scope))
+            Ok(m.goes_on(then, scope))
         }
         Slot::Restore => give_test(m),
         Slot::Each { acts, scope } => give_each(alloc, m, acts, scope),
@@ -153,6 +153,11 @@ fn come_up<'t>(m: &mut Machine<'t>, walk: Walk<'t>) -> Result<(), NoMemory>
     } = walk;
     m.level = level;
     let changed = m.trail.count != edits;
+    if !changed {
+        put_parts(&mut m.parts, parts);
+        put(&mut m.part, node);
+        return Ok(());
+    }
     let child = mem::replace(&mut m.part, node);
     m.parts = parts;
     settle(&mut m.parts, &m.part, index, child, changed)?;

@@ -59,6 +59,7 @@ fn waiting_tail<'t>(frames: &Frames<'t>) -> Option<(&'t ResolvedStrategy, usize,
 
 /// Gives the node so far to the innermost frame. If that waits for the first elements of a list,
 /// the list with them isn't built.
+#[inline(always)]
 pub(crate) fn end_each<'t>(alloc: Global, m: &mut Machine<'t>) -> Result<Turned, NoMemory>
     requires { PartsStand m.old.part (all_parts m.old.part m.old.parts.items) }
     ensures ok { (W : World) → IfOk result (λ next. Turn W m.old (Done (node_with m.old.part m.old.parts.items)) m.new next) }
@@ -76,6 +77,7 @@ pub(crate) fn end_each<'t>(alloc: Global, m: &mut Machine<'t>) -> Result<Turned,
 
 // The first elements are done and kept as parts; the list of the rest is opened as a part of its
 // own.
+#[inline(never)]
 fn begin_tail<'t>(
     alloc: Global,
     m: &mut Machine<'t>,

@@ -1,13 +1,13 @@
 //! The state of a run.
 
-ghost use Rattle.std.specs.Prelude.{◌≡◌, []};
+ghost use Rattle.std.specs.Prelude.{◌≡◌, ◌≤◌, ◌+◌, ◌*◌, [], length};
 ghost use Rattle.strategy_meaning.specs.Scopes.{cells_in};
 ghost use Rattle.strategy_machine.specs.Table.{scopes as scopes_of, scope_at};
 ghost use Rattle.strategy_meaning.specs.Answer.{Answer};
 ghost use Rattle.strategy_meaning.specs.Meaning.{World};
 ghost use Rattle.term_changes.specs.Standing.{Standing};
-ghost use Rattle.strategy_machine.specs.Hands.{Begin, Done, Failed};
-ghost use Rattle.strategy_machine.specs.Turns.{Holds, After};
+ghost use Rattle.strategy_machine.specs.Hands.{Begin, Done, Failed, in_hand};
+ghost use Rattle.strategy_machine.specs.Turns.{Holds, After, load};
 ghost use Rattle.strategy_machine.specs.inside.Turning.{with_next};
 
 use crate::frames::{Next, Turned};
@@ -16,7 +16,7 @@ use crate::stack::Frames;
 use crate::trail::Trail;
 use prim_core::{Meaning, Primitives};
 use std::alloc::Global;
-use strategy_syntax::{Resolved, ResolvedStrategy};
+use strategy_syntax::{Resolved, ResolvedForm as Form, ResolvedStrategy};
 use term_core::Term;
 use term_match::{Cells, Places};
 use term_values::{Part, Value};
@@ -109,6 +109,23 @@ impl<'t> Machine<'t> {
     {
         self.next = Next::Begin(strategy, scope);
         Turned::On
+    }
+
+    /// The same, but the step of `id` is charged at once.
+    #[inline(always)]
+    pub(crate) fn goes_on(&mut self, strategy: &'t ResolvedStrategy, scope: usize) -> Turned
+        ensures keeps { (W : World) (sub : Standing) (whole : Answer)
+            → Holds W sub whole self.old (Begin strategy.entry scope self.old.part) → After W sub whole self.new result }
+        ensures on { result ≡ Turned.On }
+        ensures less { load self.new (in_hand self.new) ≤ 7 * self.old.steps + 2 * length self.old.frames }
+    {
+        if let Form::Id = strategy.form() {
+            if self.steps > 0 {
+                self.steps -= 1;
+                return self.gives();
+            }
+        }
+        self.begins(strategy, scope)
     }
 }
 

@@ -1,5 +1,5 @@
 -- What giving an answer to a frame keeps, and that less is left to do after it.
-use Rattle.std.specs.Prelude.{◌≡◌, ◌<◌, ◌+◌, ◌*◌, ◌==◌, not, cond, ◌∷◌, length, reverse, slice_set, Vec}
+use Rattle.std.specs.Prelude.{◌≡◌, ◌<◌, ℕ, ◌+◌, ◌*◌, ◌==◌, not, cond, [], ◌∷◌, length, reverse, slice_set, Vec}
 use Rattle.std.specs.Global.{Global}
 use Rattle.term_changes.specs.Standing.{Standing}
 use Rattle.strategy_meaning.specs.Answer.{Answer}
@@ -7,14 +7,15 @@ use Rattle.strategy_meaning.specs.Meaning.{World}
 use Rattle.strategy_machine.specs.Table.{scopes}
 use Rattle.strategy_machine.specs.Leading.{parts_now, all_parts}
 use Rattle.strategy_machine.specs.Frames.{walk_parts}
+use Rattle.strategy_machine.specs.declared.frames.Acts.{Acts}
 use Rattle.strategy_machine.specs.declared.frames.Walk.{Walk}
 use Rattle.strategy_machine.specs.declared.frames.Frame.{Frame}
-use Rattle.strategy_machine.specs.Hands.{Hand, in_hand}
+use Rattle.strategy_machine.specs.Hands.{Hand, Each, in_hand}
 use Rattle.strategy_machine.specs.declared.frames.Turned.{Turned}
 use Rattle.strategy_machine.specs.declared.frames.Turned.TheVariants as turns
 use Rattle.strategy_machine.specs.declared.frames.Next.{Next}
 use Rattle.strategy_machine.specs.declared.machine.Machine.{Machine}
-use Rattle.strategy_machine.specs.Turns.{State, HoldsIn, After, load}
+use Rattle.strategy_machine.specs.Turns.{State, HoldsIn, Holds, After, load}
 
 -- the same machine, with this to do next
 abbrev pub with_next : Machine → Next → Machine
@@ -59,6 +60,11 @@ EndFalls m new turns.Done = Unit {0}
 EndFalls m new turns.Failed = Unit {0}
 EndFalls m new turns.Spent = Unit {0}
 EndFalls m new turns.Big = Unit {0}
+
+-- Beginning with the children from index i on, none of which has changed, preserves the whole
+-- answer.
+pub record Descends (W : World) (m : Machine) (acts : Acts) (n : ℕ) (p : Standing) (i : ℕ) (new : Machine) (next : Turned) : Type 0 where
+  pub keeps : (sub : Standing) (whole : Answer) → ((parts : Vec Standing Global) → parts.items ≡ [] → Holds W sub whole m (Each acts n p i parts)) → After W sub whole new next
 
 -- The walk moves up from its child, which is now p; if there was no edit since the child's turn
 -- came, nothing has changed.

@@ -1,6 +1,6 @@
 use Rattle.strategy_machine.proofs.NameLemmas.{starts_form, starts_spent}
 use Rattle.strategy_machine.proofs.ResultLemmas.{ok_map}
-use Rattle.strategy_machine.specs.Turns.{state_of, world_of}
+use Rattle.strategy_machine.specs.Turns.{state_of}
 use Rattle.strategy_machine.proofs.begin.begin.Goals as goal
 
 pub returns-in_default-clause-ok : goal.returns-in_default-clause-ok

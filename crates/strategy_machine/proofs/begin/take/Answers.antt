@@ -1,8 +1,7 @@
 use Rattle.std.proofs.Common.{refl, sym, ap, ◌∙◌}
-use Rattle.strategy_machine.proofs.TakeLemmas.{take_same, take_failed, take_each, all_is, take_leftmost, take_those, over_none}
+use Rattle.strategy_machine.proofs.TakeLemmas.{take_same, take_failed, take_leftmost, take_those, over_none}
 use Rattle.strategy_machine.proofs.ResultLemmas.{ok_map}
 use Rattle.strategy_machine.proofs.FormLemmas.{taken_form, taken_turn}
-use Rattle.strategy_machine.specs.declared.frames.Acts.TheVariants.{Same}
 use Rattle.strategy_syntax.specs.Heads.{head_of}
 use Rattle.strategy_machine.specs.Turns.{state_of, world_of}
 use Rattle.strategy_syntax.specs.ResolvedView.{resolved_of}
@@ -45,12 +44,8 @@ returns-in-Congruence-clause-ok g c = taken_form (world_of g.M.Meaning.meaning c
 pub returns-in-TailCongruence-clause-ok : goal.returns-in-TailCongruence-clause-ok
 returns-in-TailCongruence-clause-ok g c = taken_form (world_of g.M.Meaning.meaning c.args.host.now.definitions.now c.args.host.now.primitives.now) c.args.m.now c.take_tail.new.m c.args.strategy.now _ c.args.scope c.args.m.now.part c.take_tail.result ((c.form.ensures ∙ ap resolved_of c.in-TailCongruence.is ∙ (λ i. tail_congruence (resolveds_of (sym c.deref-in-TailCongruence.ensures.value i)) (sym c.deref-in-TailCongruence-2.ensures i)))) (c.take_tail.ensures.ok (world_of g.M.Meaning.meaning c.args.host.now.definitions.now c.args.host.now.primitives.now))
 
-pub returns-else-child_count-eq0-clause-ok : goal.returns-else-child_count-eq0-clause-ok
-returns-else-child_count-eq0-clause-ok g c = taken_form (world_of g.M.Meaning.meaning c.args.host.now.definitions.now c.args.host.now.primitives.now) c.args.m.now c.go_on.new.m c.args.strategy.now _ c.args.scope c.args.m.now.part c.go_on.result ((c.form.ensures ∙ ap resolved_of c.in-All.is ∙ ap all (sym c.deref-in-All.ensures)))
-    (ok_map c.go_on.result (λ next k. record { keeps = λ sub whole h. k.keeps sub whole (take_each (world_of g.M.Meaning.meaning c.args.host.now.definitions.now c.args.host.now.primitives.now) sub whole (state_of c.args.m.now) _ (Same c.deref-in-All.result) c.args.scope 0 c.args.m.now.part c.clear.new.self c.clear.ensures.items (all_is (world_of g.M.Meaning.meaning c.args.host.now.definitions.now c.args.host.now.primitives.now) (state_of c.args.m.now) c.deref-in-All.result c.args.scope c.args.m.now.part) h) }) (c.go_on.ensures.ok (world_of g.M.Meaning.meaning c.args.host.now.definitions.now c.args.host.now.primitives.now)))
-
-pub go_on-requires : goal.go_on-requires
-go_on-requires g c = (over_none c.args.m.now.part c.clear.new.self.items c.clear.ensures.items c.requires.has).0
+pub returns-in-All-clause-ok : goal.returns-in-All-clause-ok
+returns-in-All-clause-ok g c = taken_form (world_of g.M.Meaning.meaning c.args.host.now.definitions.now c.args.host.now.primitives.now) c.args.m.now c.take_all.new.m c.args.strategy.now _ c.args.scope c.args.m.now.part c.take_all.result ((c.form.ensures ∙ ap resolved_of c.in-All.is ∙ ap all (sym c.deref-in-All.ensures))) (c.take_all.ensures.ok (world_of g.M.Meaning.meaning c.args.host.now.definitions.now c.args.host.now.primitives.now))
 
 pub returns-in-One-clause-ok : goal.returns-in-One-clause-ok
 returns-in-One-clause-ok g c = taken_form (world_of g.M.Meaning.meaning c.args.host.now.definitions.now c.args.host.now.primitives.now) c.args.m.now c.try_on.new.m c.args.strategy.now _ c.args.scope c.args.m.now.part c.try_on.result ((c.form.ensures ∙ ap resolved_of c.in-One.is ∙ ap one (sym c.deref-in-One.ensures)))
@@ -58,10 +53,10 @@ returns-in-One-clause-ok g c = taken_form (world_of g.M.Meaning.meaning c.args.h
 
 pub returns-in-Some-clause-ok : goal.returns-in-Some-clause-ok
 returns-in-Some-clause-ok g c = taken_form (world_of g.M.Meaning.meaning c.args.host.now.definitions.now c.args.host.now.primitives.now) c.args.m.now c.go_over.new.m c.args.strategy.now _ c.args.scope c.args.m.now.part c.go_over.result ((c.form.ensures ∙ ap resolved_of c.in-Some.is ∙ ap some (sym c.deref-in-Some.ensures)))
-    (ok_map c.go_over.result (λ next k. record { keeps = λ sub whole h. k.keeps sub whole (take_those (world_of g.M.Meaning.meaning c.args.host.now.definitions.now c.args.host.now.primitives.now) sub whole (state_of c.args.m.now) c.deref-in-Some.result c.args.scope c.args.m.now.part c.clear-in-Some.new.self c.clear-in-Some.ensures.items h) }) (c.go_over.ensures.ok (world_of g.M.Meaning.meaning c.args.host.now.definitions.now c.args.host.now.primitives.now)))
+    (ok_map c.go_over.result (λ next k. record { keeps = λ sub whole h. k.keeps sub whole (take_those (world_of g.M.Meaning.meaning c.args.host.now.definitions.now c.args.host.now.primitives.now) sub whole (state_of c.args.m.now) c.deref-in-Some.result c.args.scope c.args.m.now.part c.clear.new.self c.clear.ensures.items h) }) (c.go_over.ensures.ok (world_of g.M.Meaning.meaning c.args.host.now.definitions.now c.args.host.now.primitives.now)))
 
 pub go_over-requires : goal.go_over-requires
-go_over-requires g c = (over_none c.args.m.now.part c.clear-in-Some.new.self.items c.clear-in-Some.ensures.items c.requires.has).0
+go_over-requires g c = (over_none c.args.m.now.part c.clear.new.self.items c.clear.ensures.items c.requires.has).0
 
 pub returns-in-Child-clause-ok : goal.returns-in-Child-clause-ok
 returns-in-Child-clause-ok g c = taken_form (world_of g.M.Meaning.meaning c.args.host.now.definitions.now c.args.host.now.primitives.now) c.args.m.now c.take_child.new.m c.args.strategy.now _ c.args.scope c.args.m.now.part c.take_child.result ((c.form.ensures ∙ ap resolved_of c.in-Child.is ∙ ap (child c.in-Child.number) (sym c.deref-in-Child.ensures))) (c.take_child.ensures.ok (world_of g.M.Meaning.meaning c.args.host.now.definitions.now c.args.host.now.primitives.now))

@@ -14,7 +14,7 @@ pop_start-part-requires c = (slots.Choose c.requires.last.0 c.args.otherwise c.a
 
 pub returns-clause-ok : goal.returns-clause-ok
 returns-clause-ok c = λ W. record {
-  keeps = λ sub whole h. c.begins.ensures.keeps W sub whole (subst (λ p. HoldsIn W sub whole (st c.back_to.new.self (scopes c.args.m.now.scopes) c.cut.new.self c.args.m.now.level c.args.m.now.steps (reverse c.pop_start-part.new.self)) (Begin c.args.otherwise c.args.scope p)) (sym c.put.ensures)
+  keeps = λ sub whole h. c.goes_on.ensures.keeps W sub whole (subst (λ p. HoldsIn W sub whole (st c.back_to.new.self (scopes c.args.m.now.scopes) c.cut.new.self c.args.m.now.level c.args.m.now.steps (reverse c.pop_start-part.new.self)) (Begin c.args.otherwise c.args.scope p)) (sym c.put.ensures)
       (fail_choice W sub whole _ _ _ _ _ _ _ _ _ c.args.otherwise c.args.scope c.pop_start-part.result.part _ _ c.cut.ensures c.back_to.ensures.cells c.back_to.ensures.mark c.back_to.ensures.stays (popped W sub whole c.args.m.now Failed c.pop_start-part.new.self (frames.Choose c.requires.last.0 c.args.otherwise c.args.scope c.pop_start-part.result.part c.pop_start-part.result.edits c.args.mark) (c.pop_start-part.ensures.items (slots.Choose c.requires.last.0 c.args.otherwise c.args.scope c.args.mark) c.requires.last.1) h)));
 }
 

@@ -1,5 +1,5 @@
-use Rattle.std.proofs.Common.{ap, ◌∙◌}
-use Rattle.strategy_syntax.specs.Resolved.{ResolvedStrategy, seq}
+use Rattle.std.proofs.Common.{sym, ap, ◌∙◌}
+use Rattle.strategy_syntax.specs.Resolved.{ResolvedStrategy, seq, all}
 use Rattle.strategy_syntax.specs.ResolvedView.{resolved_of}
 use Rattle.strategy_machine.proofs.TakeLemmas.{with_frames, take_then}
 use Rattle.strategy_machine.proofs.FormLemmas.{taken_form}
@@ -20,3 +20,7 @@ returns-in_ok-wait-in_default-clause-ok c = λ W. record {
 pub returns-in-Param-clause-ok : goal.returns-in-Param-clause-ok
 returns-in-Param-clause-ok c = λ W. taken_form W c.args.m.now c.named_first.new.m _ _ c.args.scope c.args.m.now.part c.named_first.result
     (ap (λ (s : ResolvedStrategy). seq s c.args.second.now) (c.form.ensures ∙ ap resolved_of c.in-Param.is)) (c.named_first.ensures.ok W)
+
+pub returns-in-All-clause-ok : goal.returns-in-All-clause-ok
+returns-in-All-clause-ok c = λ W. taken_form W c.args.m.now c.all_first.new.m _ _ c.args.scope c.args.m.now.part c.all_first.result
+    (ap (λ (s : ResolvedStrategy). seq s c.args.second.now) (c.form.ensures ∙ ap resolved_of c.in-All.is ∙ ap all (sym c.deref.ensures))) (c.all_first.ensures.ok W)

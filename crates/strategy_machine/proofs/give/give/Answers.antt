@@ -17,7 +17,7 @@ returns-in-Then-clause-ok c = λ W. record { keeps = λ sub whole h. c.begins.en
 pub returns-in-Choose-clause-ok : goal.returns-in-Choose-clause-ok
 returns-in-Choose-clause-ok c =
     let e = subst (λ x. (p : Start) × (c.args.m.now.frames ≡ c.drop_start.new.self ++ with_start x p)) c.in-Choose.is (c.drop_start.ensures.items c.args.slot c.requires.last) in
-    λ W. record { keeps = λ sub whole h. c.begins-in-Choose.ensures.keeps W sub whole (give_choice W sub whole _ _ _ _ _ _ c.in-Choose.then _ c.in-Choose.scope _ c.args.m.now.part _ _ (popped W sub whole c.args.m.now (Done c.args.m.now.part) c.drop_start.new.self _ e.1 h)) }
+    λ W. record { keeps = λ sub whole h. c.goes_on.ensures.keeps W sub whole (give_choice W sub whole _ _ _ _ _ _ c.in-Choose.then _ c.in-Choose.scope _ c.args.m.now.part _ _ (popped W sub whole c.args.m.now (Done c.args.m.now.part) c.drop_start.new.self _ e.1 h)) }
 
 pub drop_start-requires : goal.drop_start-requires
 drop_start-requires c = (c.args.slot, c.requires.last, ap has_start c.in-Choose.is)
