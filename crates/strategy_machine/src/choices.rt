@@ -133,8 +133,9 @@ fn rule_in<'t>(strategy: &'t ResolvedStrategy, outer: Option<usize>, price: u64)
     })
 }
 
-/// A choice whose first branch is a rule. The steps are charged one by one, and no frame is needed.
-/// If the root rules the rule out, so are the first rules of the other branch.
+/// A choice whose first branch is a rule. Its steps up to the match are charged together, and no
+/// frame is needed. If the root rules the rule out, rules that the root rules out are passed over in
+/// the other branch, too.
 #[inline(never)]
 pub(crate) fn rule_or<'t>(
     alloc: Global,
