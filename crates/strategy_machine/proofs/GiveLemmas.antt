@@ -1,10 +1,11 @@
 -- What an answer leads to when it reaches the innermost frame.
-use Rattle.std.proofs.Common.{◌≡◌, ℕ, suc, ◌+◌, ◌-◌, List, [], ◌∷◌, ◌++◌, length, take, refl, sym, ap, ◌∙◌, subst, arith, Some, None, Bool, true, cond, not, ◌==◌, Bor, Vec, Global, slice_set}
+use Rattle.std.proofs.Common.{◌≡◌, ℕ, zero, suc, ◌+◌, ◌-◌, List, [], ◌∷◌, ◌++◌, length, take, refl, sym, ap, ◌∙◌, subst, arith, Some, None, Bool, true, false, cond, not, ◌==◌, Bor, Vec, Global, slice_get, slice_set}
 use Rattle.std.proofs.lemmas.List.{append-nil}
 use Rattle.std.proofs.lemmas.Option.{slice_get_within}
 use Rattle.term_core.specs.Tree.{Tree, children}
 use Rattle.term_paths.specs.Edits.{Edits, prefixed}
-use Rattle.term_changes.specs.Standing.{Standing, fresh, standing_tree}
+use Rattle.term_changes.specs.Standing.{Standing, fresh, standing_tree, standing_children, CanHold, with_standing}
+use Rattle.term_changes.proofs.FollowLemmas.{followers_can_stand}
 use Rattle.strategy_syntax.specs.Resolved.{ResolvedStrategy}
 use Rattle.strategy_meaning.specs.Scopes.{Scope}
 use Rattle.strategy_meaning.specs.Matching.{Bindings, elements}
@@ -143,15 +144,42 @@ goes_on W sub whole C es t l c fs (frames.After node first e) g s n p q k x = ab
 goes_on W sub whole C es t l c fs (frames.Leave m) g s n p q k x = absurd k.2
 goes_on W sub whole C es t l c fs (frames.Cut m e) g s n p q k x = absurd k.2
 
-pub give_leftmost : (W : World) (sub : Standing) (whole : Answer) (C : CellContents) (es : List Scope) (t : Trail) (l c : ℕ) (fs : List Frame) (s : Bor ResolvedStrategy) (n : ℕ) (w : Walk) (m : Mark) (p q : Standing) (parts : List Standing)
-    → parts ≡ cond (not (t.count == w.edits)) (slice_set (parts_now w.node (walk_parts w)) w.index p) (walk_parts w)
-    → q ≡ node_now w.node parts
+-- ---- the child of a walk that holds no parts
+
+node_set : (p : Standing) (cs : List Standing) (i : ℕ) (q start : Standing) → slice_get cs i ≡ Some start → with_standing p (slice_set cs i q) ≡ node_now p (slice_set cs i q)
+node_set p [] i q start e = absurd (cc)
+node_set p (c ∷ cs) zero q start e = refl
+node_set p (c ∷ cs) (suc i) q start e = refl
+
+parts_set : (p : Standing) (cs : List Standing) (i : ℕ) (q start : Standing) → slice_get cs i ≡ Some start → parts_now p (slice_set cs i q) ≡ slice_set cs i q
+parts_set p [] i q start e = absurd (cc)
+parts_set p (c ∷ cs) zero q start e = refl
+parts_set p (c ∷ cs) (suc i) q start e = refl
+
+-- all of its children are as they were
+no_parts : (w : Walk) → w.parts.items ≡ [] → walk_parts w ≡ []
+no_parts w none = ap (all_parts w.node) none
+
+child_there : (w : Walk) (start : Standing) → w.parts.items ≡ [] → slice_get (parts_now w.node (walk_parts w)) w.index ≡ Some start
+    → slice_get (standing_children w.node) w.index ≡ Some start
+child_there w start none e = ap (λ l. slice_get (parts_now w.node l) w.index) (sym (no_parts w none)) ∙ e
+
+rises_to : (w : Walk) (start p : Standing) (b : Bool) → w.parts.items ≡ [] → slice_get (parts_now w.node (walk_parts w)) w.index ≡ Some start
+    → cond b (with_standing w.node (slice_set (standing_children w.node) w.index p)) w.node ≡ node_now w.node (cond b (slice_set (parts_now w.node (walk_parts w)) w.index p) (walk_parts w))
+rises_to w start p true none e =
+    node_set w.node (standing_children w.node) w.index p start (child_there w start none e)
+    ∙ ap (λ l. node_now w.node (slice_set (parts_now w.node l) w.index p)) (sym (no_parts w none))
+rises_to w start p false none e = ap (node_now w.node) (sym (no_parts w none))
+
+pub give_leftmost : (W : World) (sub : Standing) (whole : Answer) (C : CellContents) (es : List Scope) (t : Trail) (l c : ℕ) (fs : List Frame) (s : Bor ResolvedStrategy) (n : ℕ) (w : Walk) (m : Mark) (p q : Standing)
+    → q ≡ cond (not (t.count == w.edits)) (with_standing w.node (slice_set (standing_children w.node) w.index p)) w.node
     → HoldsIn W sub whole (st C es t l c (frames.Leftmost s n w m ∷ fs)) (Done p) → HoldsIn W sub whole (st C es t w.level c fs) (Done q)
-give_leftmost W sub whole C es t l c fs s n w m p q parts e is h =
+give_leftmost W sub whole C es t l c fs s n w m p q is h =
     let o = h.opens in
-    let k = settled W sub whole C es t l c fs (frames.Leftmost s n w m ∷ fs) w p parts refl e h o.is.1 in
+    let parts = cond (not (t.count == w.edits)) (slice_set (parts_now w.node (walk_parts w)) w.index p) (walk_parts w) in
+    let k = settled W sub whole C es t l c fs (frames.Leftmost s n w m ∷ fs) w p parts refl refl h o.is.1 in
     let act = run W (scope_at es n) (w.level + 1) s.now in
-    rw is record {
+    rw (is ∙ rises_to w o.start p (not (t.count == w.edits)) o.is.3 o.is.1.is) record {
       now = node_now w.node parts;
       edits = h.edits;
       shows = h.shows;
@@ -162,12 +190,18 @@ give_leftmost W sub whole C es t l c fs s n w m p q parts e is h =
           (λ b B u. done u B b []) (λ u x. sym (with_edits-done x u C.bindings c)) k o.is.4);
     }
 
--- the part can be put into the node
-pub leftmost_stand : (W : World) (sub : Standing) (whole : Answer) (C : CellContents) (es : List Scope) (t : Trail) (l c : ℕ) (fs : List Frame) (s : Bor ResolvedStrategy) (n : ℕ) (w : Walk) (m : Mark) (p : Standing) (parts : List Standing)
-    → parts ≡ cond (not (t.count == w.edits)) (slice_set (parts_now w.node (walk_parts w)) w.index p) (walk_parts w)
-    → HoldsIn W sub whole (st C es t l c (frames.Leftmost s n w m ∷ fs)) (Done p) → PartsStand w.node parts
-leftmost_stand W sub whole C es t l c fs s n w m p parts e h =
-    (settled W sub whole C es t l c fs (frames.Leftmost s n w m ∷ fs) w p parts refl e h h.opens.is.1).stand
+-- the child can be put into the node
+pub leftmost_can_hold : (W : World) (sub : Standing) (whole : Answer) (C : CellContents) (es : List Scope) (t : Trail) (l c : ℕ) (fs : List Frame) (s : Bor ResolvedStrategy) (n : ℕ) (w : Walk) (m : Mark) (p : Standing)
+    → (t.count == w.edits) ≡ false
+    → HoldsIn W sub whole (st C es t l c (frames.Leftmost s n w m ∷ fs)) (Done p) → CanHold w.node (slice_set (standing_children w.node) w.index p)
+leftmost_can_hold W sub whole C es t l c fs s n w m p changed h =
+    let o = h.opens in
+    let cs = standing_children w.node in
+    let parts = slice_set cs w.index p in
+    let e : parts ≡ cond (not (t.count == w.edits)) (slice_set (parts_now w.node (walk_parts w)) w.index p) (walk_parts w) =
+    ap (λ l. slice_set (parts_now w.node l) w.index p) (sym (no_parts w o.is.3)) ∙ ap (λ b. cond (not b) (slice_set (parts_now w.node (walk_parts w)) w.index p) (walk_parts w)) (sym changed) in
+    let k = settled W sub whole C es t l c fs (frames.Leftmost s n w m ∷ fs) w p parts refl e h o.is.1 in
+    subst (CanHold w.node) (parts_set w.node cs w.index p o.start (child_there w o.start o.is.3 o.is.1.is)) (followers_can_stand w.node (parts_now w.node parts) k.stand.follow)
 
 pub give_those : (W : World) (sub : Standing) (whole : Answer) (C : CellContents) (es : List Scope) (t : Trail) (l c : ℕ) (fs : List Frame) (s : Bor ResolvedStrategy) (n i : ℕ) (w : Walk) (m : Mark) (any : Bool) (p : Standing) (parts : Vec Standing Global)
     → i ≡ w.index + 1

@@ -1,5 +1,5 @@
 -- Turns that give an answer to a frame, in terms of the machine's fields.
-use Rattle.std.proofs.Common.{◌≡◌, List, [], ◌∷◌, ◌++◌, reverse, sym, subst, Vec, Global}
+use Rattle.std.proofs.Common.{◌≡◌, ℕ, List, [], ◌∷◌, ◌++◌, reverse, sym, subst, Vec, Global}
 use Rattle.term_core.specs.Tree.{Tree}
 use Rattle.term_changes.specs.Standing.{Standing}
 use Rattle.strategy_meaning.specs.Answer.{Answer}
@@ -7,7 +7,7 @@ use Rattle.strategy_meaning.specs.Meaning.{World}
 use Rattle.strategy_machine.specs.Table.{scopes}
 use Rattle.strategy_machine.specs.Turns.{State, state_of, HoldsIn, Holds}
 use Rattle.strategy_machine.specs.inside.Taking.{Replaced}
-use Rattle.strategy_machine.specs.inside.Turning.{ComesUp}
+use Rattle.strategy_machine.specs.inside.Turning.{ComesUp, Rises}
 use Rattle.strategy_machine.specs.declared.machine.Machine.{Machine}
 use Rattle.strategy_machine.specs.declared.frames.Walk.{Walk}
 use Rattle.strategy_machine.specs.declared.frames.Frame.{Frame}
@@ -22,12 +22,23 @@ popped W sub whole m hand new f e h =
     (pushed new m.frames f e) h
 
 -- the same machine, except for the level
+at_level : (W : World) (sub : Standing) (whole : Answer) (m new : Machine) {hand : Hand} (l : ℕ) → new.level ≡ l
+    → (new.frames ≡ m.frames) × (new.cells ≡ m.cells) × (new.scopes ≡ m.scopes) × (new.trail ≡ m.trail) × (new.steps ≡ m.steps)
+    → HoldsIn W sub whole (record { cells = m.cells; scopes = scopes m.scopes; trail = m.trail; level = l; frames = reverse m.frames; steps = m.steps }) hand
+    → HoldsIn W sub whole (state_of new) hand
+at_level W sub whole m new {hand = hand} l le k h =
+    subst (λ (S : State). HoldsIn W sub whole S hand)
+    (λ i. record { cells = sym k.1 i; scopes = scopes (sym k.2 i); trail = sym k.3 i; level = sym le i; frames = reverse (sym k.0 i); steps = sym k.4 i }) h
+
 pub came_up : (W : World) (sub : Standing) (whole : Answer) (m new : Machine) {hand : Hand} (w : Walk) (p : Standing) (up : Standing × Vec Standing Global) → ComesUp m w p new up
     → HoldsIn W sub whole (record { cells = m.cells; scopes = scopes m.scopes; trail = m.trail; level = w.level; frames = reverse m.frames; steps = m.steps }) hand
     → HoldsIn W sub whole (state_of new) hand
-came_up W sub whole m new {hand = hand} w p up k h =
-    subst (λ (S : State). HoldsIn W sub whole S hand)
-    (λ i. record { cells = sym k.rest.1 i; scopes = scopes (sym k.rest.2 i); trail = sym k.rest.3 i; level = sym k.level i; frames = reverse (sym k.rest.0 i); steps = sym k.rest.4 i }) h
+came_up W sub whole m new w p up k h = at_level W sub whole m new w.level k.level k.rest h
+
+pub rose : (W : World) (sub : Standing) (whole : Answer) (m new : Machine) {hand : Hand} (w : Walk) (p : Standing) → Rises m w p new
+    → HoldsIn W sub whole (record { cells = m.cells; scopes = scopes m.scopes; trail = m.trail; level = w.level; frames = reverse m.frames; steps = m.steps }) hand
+    → HoldsIn W sub whole (state_of new) hand
+rose W sub whole m new w p k h = at_level W sub whole m new w.level k.level k.rest h
 
 -- the same machine, except for the trail
 pub was_put : (W : World) (sub : Standing) (whole : Answer) (m new : Machine) {hand : Hand} (u : Tree) (q : Standing) → Replaced m u new q

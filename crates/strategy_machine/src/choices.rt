@@ -92,6 +92,7 @@ pub(crate) fn rule_of<'t>(
     ensures { IfSome result (λ r. (es : List Scope) → IsRule definitions.entry.now es strategy.entry.now scope r) }
 {
     match strategy.form() {
+        // the scope, the sequence and the match cost a step each
         Form::Scope(_, _) => rule_in(strategy, Some(scope), 3),
         Form::Call(definition, strategies, patterns) => {
             if strategies.len() != 0 || patterns.len() != 0 {
@@ -101,6 +102,7 @@ pub(crate) fn rule_of<'t>(
             if body.variables != 0 {
                 return None;
             }
+            // and so does the call
             rule_in(&body.strategy, None, 4)
         }
         _ => None,

@@ -1,17 +1,17 @@
 //! Giving successes to frames.
 
-ghost use Rattle.std.specs.Prelude.{◌≡◌, cond, IfOk, OnOk};
+ghost use Rattle.std.specs.Prelude.{◌≡◌, ◌==◌, cond, slice_set, IfOk, OnOk, IsFalse};
 ghost use Rattle.strategy_meaning.specs.Answer.{Answer};
 ghost use Rattle.strategy_meaning.specs.Meaning.{World};
-ghost use Rattle.term_changes.specs.Standing.{Standing};
+ghost use Rattle.term_changes.specs.Standing.{Standing, standing_children, CanHold};
 ghost use Rattle.strategy_machine.specs.Hands.{Done};
 ghost use Rattle.strategy_machine.specs.inside.Slots.{EndsWith};
 ghost use Rattle.strategy_machine.specs.inside.Walks.{StepsOn};
 ghost use Rattle.strategy_machine.specs.Turns.{Turn, Falls, Holds};
-ghost use Rattle.strategy_machine.specs.inside.Turning.{ComesUp};
+ghost use Rattle.strategy_machine.specs.inside.Turning.{ComesUp, Rises};
 
-use crate::children::{child_now, finish, go_on, go_over, settle};
-use crate::frames::{Acts, Turned, Walk, put, put_parts};
+use crate::children::{child_now, go_on, go_over, settle};
+use crate::frames::{Acts, Turned, Walk, drop_parts, put, put_parts};
 use crate::lists::{give_after, give_head, give_rest, give_tail};
 use crate::machine::Machine;
 use crate::stack::{Slot, Start};
@@ -198,9 +198,34 @@ fn give_leftmost<'t>(
     ensures less { IfOk result (λ next. Falls m.old (Done m.old.part) m.new next) }
 {
     let walk = m.frames.pop_walk();
-    come_up(m, walk)?;
-    finish(alloc, &mut m.part, &mut m.parts)?;
+    rise(alloc, m, walk)?;
     Ok(m.gives())
+}
+
+// Moves up from the finished child of a walk that holds no parts: the node with that child becomes
+// the focus.
+#[inline(always)]
+fn rise<'t>(alloc: Global, m: &mut Machine<'t>, walk: Walk<'t>) -> Result<(), NoMemory>
+    requires { IsFalse (m.old.trail.count == walk.edits) → CanHold walk.node (slice_set (standing_children walk.node) walk.index m.old.part) }
+    ensures { OnOk result (Rises m.old walk.entry m.old.part m.new) }
+{
+    let Walk {
+        node,
+        parts,
+        index,
+        level,
+        edits,
+    } = walk;
+    drop_parts(parts);
+    m.level = level;
+    if m.trail.count == edits {
+        put(&mut m.part, node);
+        return Ok(());
+    }
+    let child = mem::replace(&mut m.part, node);
+    let whole = m.part.with_part(alloc, index, child)?;
+    put(&mut m.part, whole);
+    Ok(())
 }
 
 // Continues with the next child after a success.

@@ -1,13 +1,13 @@
 -- Parts in the places of children, and the places of changes, gathered child by child.
-use Rattle.std.proofs.Common.{◌≡◌, ℕ, ◌+◌, ◌-◌, ◌<◌, ◌≤◌, List, [], ◌∷◌, ◌++◌, length, map, take, drop, get_or, Some, refl, sym, ap, ◌∙◌, subst, arith, zero, suc, append_assoc, length-append}
+use Rattle.std.proofs.Common.{◌≡◌, ℕ, ◌+◌, ◌-◌, ◌<◌, ◌≤◌, List, [], ◌∷◌, ◌++◌, length, map, take, drop, get_or, slice_set, Some, refl, sym, ap, ◌∙◌, subst, arith, zero, suc, append_assoc, length-append}
 use Rattle.std.specs.List.{slice_get}
 use Rattle.std.proofs.lemmas.List.{map-append, take_more, drop_more}
 use Rattle.std.proofs.Math.Seq.{take-append_seam}
-use Rattle.term_core.specs.Tree.{Tree, of_list, children, annotations}
+use Rattle.term_core.specs.Tree.{Tree, of_list, children, annotations, with_children}
 use Rattle.term_core.specs.Size.{height, heights}
 use Rattle.term_paths.specs.Edits.{Edits, prefixed}
 use Rattle.term_changes.specs.Change.{below, places, places_from, changed_all}
-use Rattle.term_changes.specs.Standing.{Altered, after, Standing, unchanged, Suits, SuitAll, stand_all, standing_tree, standing_change, standing_changes}
+use Rattle.term_changes.specs.Standing.{Altered, after, Standing, unchanged, fresh, Suits, SuitAll, stand_all, standing_tree, standing_change, standing_changes, standing_children, with_standing}
 use Rattle.term_changes.specs.Entries.{Entry}
 use Rattle.term_changes.specs.Putting.{entry_at, entries_at, HasPlaces, HaveAllPlaces}
 use Rattle.term_changes.proofs.NodeLemmas.{annotations-with_children}
@@ -119,3 +119,17 @@ pub all_there_next : (ps : List Standing) (i : ℕ) (p : Standing) → i < lengt
     → (AllThere (drop i ps) → AllThere ps) → AllThere (drop (i + 1) ps) → AllThere ps
 all_there_next ps i p h e there whole more =
     whole (subst AllThere (ap (λ (q : Standing). q ∷ drop (i + 1) ps) e ∙ sym (drop_more ps i p h)) (with_first p (drop (i + 1) ps) there more))
+
+-- ---- one child replaced
+
+all_fresh : (us : List Tree) → us ≡ map standing_tree (map fresh us)
+all_fresh [] = refl
+all_fresh (u ∷ us) = ap (λ l. u ∷ l) (all_fresh us)
+
+fresh_set : (us : List Tree) (i : ℕ) (p : Standing) → slice_set us i (standing_tree p) ≡ map standing_tree (slice_set (map fresh us) i p)
+fresh_set [] i p = refl
+fresh_set (u ∷ us) zero p = ap (λ l. standing_tree p ∷ l) (all_fresh us)
+fresh_set (u ∷ us) (suc i) p = ap (λ l. u ∷ l) (fresh_set us i p)
+
+pub fresh_with : (t : Tree) (i : ℕ) (p : Standing) → fresh (with_children t (slice_set (children t) i (standing_tree p))) ≡ with_standing (fresh t) (slice_set (standing_children (fresh t)) i p)
+fresh_with t i p = ap (λ l. fresh (with_children t l)) (fresh_set (children t) i p)

@@ -1,7 +1,7 @@
 //! New nodes.
 #![tactic(auto, using(crate::proofs::KindLemmas::node_parts))]
 
-ghost use Rattle.std.specs.Prelude.{◌≡◌, [], ◌∷◌, IfOk};
+ghost use Rattle.std.specs.Prelude.{◌≡◌, [], ◌∷◌, length, slice_set, IfOk};
 ghost use Rattle.term_core.specs.Kind.{made_of};
 ghost use Rattle.term_core.specs.Tree.{list_term, children, annotations, with_children};
 ghost use Rattle.term_values.specs.inside.Bounded.{AllBounded};
@@ -91,6 +91,56 @@ impl<'t> Value<'t> {
         node.with_annotations_of(alloc, self)
     }
 
+    /// The same root over these children, which are one or two. An integer has none.
+    pub(crate) fn with_items(&self, alloc: Global, items: Items<'t>) -> Result<Value<'t>, NoMemory>
+        ensures { IfOk result (λ value. value ≡ with_children self.now (items_list items.entry)) }
+    {
+        let node = match self.top()? {
+            Top::Borrowed(Kind::Integer(number)) => Value::leaf(Kind::Integer(number)),
+            top => Value::made(alloc, top, items)?,
+        };
+        if self.annotation_count() == 0 {
+            return Ok(node);
+        }
+        node.with_annotations_of(alloc, self)
+    }
+
+    /// The same root over the same children, except that this one takes the place of child `i`,
+    /// counted from 0, if there is one. An integer has none.
+    pub(crate) fn with_child(
+        &self,
+        alloc: Global,
+        i: usize,
+        child: Value<'t>,
+    ) -> Result<Value<'t>, NoMemory>
+        ensures { IfOk result (λ value. value ≡ with_children self.now (slice_set (children self.now) i child.entry)) }
+    {
+        if let Form::Built(made) = &self.form {
+            let all = made.items.as_slice();
+            if all.len() == 1 {
+                return self.with_items(alloc, one_with(all, i, child)?);
+            }
+            if all.len() == 2 {
+                return self.with_items(alloc, two_with(all, i, child)?);
+            }
+        }
+        self.with_one_of_many(alloc, i, child)
+    }
+
+    // The same, whatever the form.
+    fn with_one_of_many(
+        &self,
+        alloc: Global,
+        i: usize,
+        child: Value<'t>,
+    ) -> Result<Value<'t>, NoMemory>
+        ensures { IfOk result (λ value. value ≡ with_children self.now (slice_set (children self.now) i child.entry)) }
+    {
+        let mut all = self.share_children(alloc)?;
+        put_at(&mut all, i, child);
+        self.with_children(alloc, all)
+    }
+
     /// Another holder of the root.
     fn top(&self) -> Result<Top<'t>, NoMemory>
         ensures { IfOk result (λ top. self.now ≡ top_tree top (children self.now) (annotations self.now)) }
@@ -134,6 +184,44 @@ impl<'t> Value<'t> {
             bounds,
         })
     }
+}
+
+// The value takes the place of value `i`, counted from 0, if there is one.
+fn put_at<'t>(all: &mut Vec<Value<'t>>, i: usize, value: Value<'t>)
+    ensures { all.new.items ≡ slice_set all.old.items i value.entry }
+{
+    if i < all.len() {
+        all[i] = value;
+    }
+}
+
+// One value, or this one if `i` is 0.
+fn one_with<'t>(all: &[Value<'t>], i: usize, value: Value<'t>) -> Result<Items<'t>, NoMemory>
+    requires { length all.now ≡ 1 }
+    ensures { IfOk result (λ items. items_list items ≡ slice_set all.now i value.entry) }
+{
+    if i == 0 {
+        return Ok(Items::One(Single { items: [value] }));
+    }
+    let items = [all[0].try_clone()?];
+    Ok(Items::One(Single { items }))
+}
+
+// Two values, of which this one takes the place of value `i`, counted from 0, if there is one.
+fn two_with<'t>(all: &[Value<'t>], i: usize, value: Value<'t>) -> Result<Items<'t>, NoMemory>
+    requires { length all.now ≡ 2 }
+    ensures { IfOk result (λ items. items_list items ≡ slice_set all.now i value.entry) }
+{
+    if i == 0 {
+        let items = [value, all[1].try_clone()?];
+        return Ok(Items::Two(Pair { items }));
+    }
+    if i == 1 {
+        let items = [all[0].try_clone()?, value];
+        return Ok(Items::Two(Pair { items }));
+    }
+    let items = [all[0].try_clone()?, all[1].try_clone()?];
+    Ok(Items::Two(Pair { items }))
 }
 
 fn top_of<'t>(term: &'t Term) -> Top<'t>

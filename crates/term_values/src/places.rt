@@ -1,14 +1,14 @@
 //! The parts in the places of children.
 #![tactic(auto, using(crate::proofs::KindLemmas::node_parts))]
 
-ghost use Rattle.std.specs.Prelude.{◌≡◌, IfOk, map, slice_get};
+ghost use Rattle.std.specs.Prelude.{◌≡◌, IfOk, map, slice_get, slice_set};
 ghost use Rattle.term_core.specs.Tree.{children, annotations, with_children};
 ghost use Rattle.term_changes.specs.Standing.{standing_tree, standing_children, unchanged, altered, fresh, SuitAll, CanHold, with_standing};
 ghost use Rattle.term_values.specs.inside.Bounded.{Bounded, AllBounded, AllWithin};
 
 use crate::bounds::Bounds;
 use crate::part::{Changed, Part, PartForm};
-use crate::value::{Value, bounds_of};
+use crate::value::{Items, Pair, Single, Value, bounds_of};
 use std::alloc::Global;
 use std::rc::Rc;
 use term_core::{NoMemory, Term};
@@ -72,12 +72,59 @@ impl<'t> Part<'t> {
         match &self.form {
             PartForm::Same(term, _) => changed_part(alloc, *term, parts),
             PartForm::Inside(changed, _) => changed_part(alloc, changed.before(), parts),
-            PartForm::New(value) => {
-                let children = part_values(alloc, parts.as_slice())?;
-                Ok(Part::new(value.with_children(alloc, children)?))
-            }
+            PartForm::New(value) => Ok(Part::new(value_over(alloc, value, parts)?)),
         }
     }
+
+    /// The same root over the same children, except that this part takes the place of child `i`,
+    /// counted from 0, if there is one.
+    pub fn with_part(&self, alloc: Global, i: usize, part: Part<'t>) -> Result<Part<'t>, NoMemory>
+        requires { CanHold self.now (slice_set (standing_children self.now) i part) }
+        ensures { IfOk result (λ whole. whole ≡ with_standing self.now (slice_set (standing_children self.now) i part.entry)) }
+    {
+        if let PartForm::New(value) = &self.form {
+            return Ok(Part::new(value.with_child(alloc, i, part.into_value())?));
+        }
+        let mut all = self.parts(alloc)?;
+        put_part(&mut all, i, part);
+        self.with_parts(alloc, all)
+    }
+}
+
+// The part takes the place of part `i`, counted from 0, if there is one.
+fn put_part<'t>(all: &mut Vec<Part<'t>>, i: usize, part: Part<'t>)
+    ensures { all.new.items ≡ slice_set all.old.items i part.entry }
+{
+    if i < all.len() {
+        all[i] = part;
+    }
+}
+
+// The same root over the trees of these parts.
+fn value_over<'t>(
+    alloc: Global,
+    value: &Value<'t>,
+    parts: Vec<Part<'t>>,
+) -> Result<Value<'t>, NoMemory>
+    ensures { IfOk result (λ whole. whole ≡ with_children value.now (map standing_tree parts.entry.items)) }
+{
+    let mut left = parts;
+    if left.len() == 1 {
+        let only = left.take_last().into_value();
+        return value.with_items(alloc, Items::One(Single { items: [only] }));
+    }
+    if left.len() == 2 {
+        let second = left.take_last().into_value();
+        let first = left.take_last().into_value();
+        return value.with_items(
+            alloc,
+            Items::Two(Pair {
+                items: [first, second],
+            }),
+        );
+    }
+    let children = part_values(alloc, left.as_slice())?;
+    value.with_children(alloc, children)
 }
 
 // The original subterm at index `i`, if there is one.

@@ -1,7 +1,7 @@
 -- What giving an answer to a frame keeps, and that less is left to do after it.
 use Rattle.std.specs.Prelude.{◌≡◌, ◌<◌, ℕ, ◌+◌, ◌*◌, ◌==◌, not, cond, [], ◌∷◌, length, reverse, slice_set, Vec}
 use Rattle.std.specs.Global.{Global}
-use Rattle.term_changes.specs.Standing.{Standing}
+use Rattle.term_changes.specs.Standing.{Standing, standing_children, with_standing}
 use Rattle.strategy_meaning.specs.Answer.{Answer}
 use Rattle.strategy_meaning.specs.Meaning.{World}
 use Rattle.strategy_machine.specs.Table.{scopes}
@@ -71,5 +71,12 @@ pub record Descends (W : World) (m : Machine) (acts : Acts) (n : ℕ) (p : Stand
 pub record ComesUp (m : Machine) (w : Walk) (p : Standing) (new : Machine) (up : Standing × Vec Standing Global) : Type 0 where
   pub node : up.0 ≡ w.node
   pub parts : all_parts w.node up.1.items ≡ cond (not (m.trail.count == w.edits)) (slice_set (parts_now w.node (walk_parts w)) w.index p) (walk_parts w)
+  pub level : new.level ≡ w.level
+  pub rest : (new.frames ≡ m.frames) × (new.cells ≡ m.cells) × (new.scopes ≡ m.scopes) × (new.trail ≡ m.trail) × (new.steps ≡ m.steps)
+
+-- The walk, which holds no parts, moves up from its child, which is now p: the node with that child
+-- is in focus. If there was no edit since the child's turn came, that is the node itself.
+pub record Rises (m : Machine) (w : Walk) (p : Standing) (new : Machine) : Type 0 where
+  pub part : new.part ≡ cond (not (m.trail.count == w.edits)) (with_standing w.node (slice_set (standing_children w.node) w.index p)) w.node
   pub level : new.level ≡ w.level
   pub rest : (new.frames ≡ m.frames) × (new.cells ≡ m.cells) × (new.scopes ≡ m.scopes) × (new.trail ≡ m.trail) × (new.steps ≡ m.steps)
