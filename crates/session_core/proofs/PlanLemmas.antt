@@ -14,8 +14,9 @@ use Rattle.strategy_meaning.specs.Meaning.{World, run_whole}
 use Rattle.strategy_meaning.specs.Applied.{Outcome, placed, fails}
 use Rattle.strategy_run.specs.Applies.{applied_in}
 use Rattle.strategy_run.specs.Planning.{Gives, Plans}
+use Rattle.strategy_run.specs.declared.ended.Ended.{Ended}
+use Rattle.strategy_run.specs.declared.ended.Ended.TheVariants as ends
 use Rattle.strategy_run.specs.declared.planning.Planned.{Planned}
-use Rattle.strategy_run.specs.declared.planning.Planned.TheVariants as planned
 use Rattle.strategy_run.proofs.ApplyLemmas.{in_tree, in_none, applied_there, applied_nowhere}
 use Rattle.strategy_run.proofs.PlanLemmas.{gives_there, makes_there}
 use Rattle.session_history.specs.Applying.{given_by}
@@ -66,21 +67,21 @@ module _ (W : World) (s : Store) (slot : ℕ) (path : List ℕ) (r : Resolved) (
         }
 
   -- or the refusal
-  pub refused_there : {R : Type 0} (u : Tree) (Shows : Edits → R → Type 0) (p : Result (Planned R) NoMemory) (why : Refusal) → subterm_in s.trees slot path ≡ Some u
+  pub refused_there : {R : Type 0} (u : Tree) (Shows : Edits → R → Type 0) (p : Result (Ended (Planned R)) NoMemory) (why : Refusal) → subterm_in s.trees slot path ≡ Some u
       → IfOk p (Plans Shows u b (run_whole W (length path) r b u)) → replaced_of p ≡ Err why → IsRefusedRun Ends why
-  refused_there {R} u Shows (Ok (planned.Replaced shown taken)) why there plans e = absurd (cc)
-  refused_there {R} u Shows (Ok planned.Failed) why there plans e = let is : Fails ≡ why = cc in subst (IsRefusedRun Ends) is (inr (ap given_by (ends_there u _ there plans.1).1))
-  refused_there {R} u Shows (Ok planned.Spent) why there plans e = let is : Spent ≡ why = cc in subst (IsRefusedRun Ends) is (inr (ap given_by (ends_there u _ there plans).1))
-  refused_there {R} u Shows (Ok planned.Big) why there plans e = let is : Big ≡ why = cc in subst (IsRefusedRun Ends) is (inr (ap given_by (ends_there u _ there plans).1))
+  refused_there {R} u Shows (Ok (ends.Done planned)) why there plans e = absurd (cc)
+  refused_there {R} u Shows (Ok ends.Failed) why there plans e = let is : Fails ≡ why = cc in subst (IsRefusedRun Ends) is (inr (ap given_by (ends_there u _ there plans.1).1))
+  refused_there {R} u Shows (Ok ends.Spent) why there plans e = let is : Spent ≡ why = cc in subst (IsRefusedRun Ends) is (inr (ap given_by (ends_there u _ there plans).1))
+  refused_there {R} u Shows (Ok ends.Big) why there plans e = let is : Big ≡ why = cc in subst (IsRefusedRun Ends) is (inr (ap given_by (ends_there u _ there plans).1))
   refused_there {R} u Shows (Err none) why there plans e = let is : Memory ≡ why = cc in inl (sym is)
 
 -- what was planned, if it is replaced
-pub planned_there : {R : Type 0} (Shows : Edits → R → Type 0) (u : Tree) (b : ℕ) (answer : Answer) (p : Result (Planned R) NoMemory) (shown : R) (taken : ℕ)
-    → IfOk p (Plans Shows u b answer) → replaced_of p ≡ Ok (shown, taken) → (ps : Edits) × Shows ps shown × Gives u b answer ps taken
-planned_there {R} Shows u b answer (Ok (planned.Replaced x n)) shown taken plans e =
-    let same : ◌≡◌ {A = R × ℕ} (x, n) (shown, taken) = cc in
-    (plans.0, subst (Shows plans.0) (ap (λ p. p.0) same) plans.1, subst (Gives u b answer plans.0) (ap (λ p. p.1) same) plans.2)
-planned_there {R} Shows u b answer (Ok planned.Failed) shown taken plans e = absurd (cc)
-planned_there {R} Shows u b answer (Ok planned.Spent) shown taken plans e = absurd (cc)
-planned_there {R} Shows u b answer (Ok planned.Big) shown taken plans e = absurd (cc)
-planned_there {R} Shows u b answer (Err none) shown taken plans e = absurd (cc)
+pub planned_there : {R : Type 0} (Shows : Edits → R → Type 0) (u : Tree) (b : ℕ) (answer : Answer) (p : Result (Ended (Planned R)) NoMemory) (planned : Planned R)
+    → IfOk p (Plans Shows u b answer) → replaced_of p ≡ Ok planned → (ps : Edits) × Shows ps planned.places × Gives u b answer ps planned.taken
+planned_there {R} Shows u b answer (Ok (ends.Done x)) planned plans e =
+    let same : x ≡ planned = cc in
+    subst (λ (y : Planned R). (ps : Edits) × Shows ps y.places × Gives u b answer ps y.taken) same plans
+planned_there {R} Shows u b answer (Ok ends.Failed) planned plans e = absurd (cc)
+planned_there {R} Shows u b answer (Ok ends.Spent) planned plans e = absurd (cc)
+planned_there {R} Shows u b answer (Ok ends.Big) planned plans e = absurd (cc)
+planned_there {R} Shows u b answer (Err none) planned plans e = absurd (cc)

@@ -19,7 +19,7 @@ use crate::resolving::resolve_at;
 use prim_core::{Meaning, Primitives};
 use session_history::{KeptModules, Refusal, Timeline};
 use strategy_check::Program;
-use strategy_run::{Planned, plan_patch};
+use strategy_run::{Ended, plan_patch};
 use strategy_syntax::Resolved;
 use term_changes::Patch;
 use term_core::{Label, NoMemory, Term};
@@ -104,7 +104,7 @@ fn patch_in_slot<M: Meaning>(
     let Some(part) = part_in_slot(timeline, slot, path) else {
         return Err(Refusal::Fails);
     };
-    let planned = plan_patch(
+    let ended = plan_patch(
         timeline.allocator(),
         program,
         primitives,
@@ -113,8 +113,8 @@ fn patch_in_slot<M: Meaning>(
         strategy,
         budget as u64,
     );
-    let (patch, _) = replaced(planned)?;
-    Ok(patch)
+    let planned = replaced(ended)?;
+    Ok(planned.places)
 }
 
 // The subterm at the path of the slot's tree, if there is one.
@@ -125,15 +125,15 @@ pub(crate) fn part_in_slot<'a>(timeline: &'a Timeline, slot: usize, path: &Path)
     at(tree, path)
 }
 
-// What is replaced, with the steps that were taken, or the refusal.
-pub(crate) fn replaced<R: Drop>(planned: Result<Planned<R>, NoMemory>) -> Result<(R, u64), Refusal>
-    ensures { result ≡ replaced_of planned }
+// What is replaced, or the refusal.
+pub(crate) fn replaced<R: Drop>(ended: Result<Ended<R>, NoMemory>) -> Result<R, Refusal>
+    ensures { result ≡ replaced_of ended }
 {
-    match planned {
-        Ok(Planned::Replaced(shown, taken)) => Ok((shown, taken)),
-        Ok(Planned::Failed) => Err(Refusal::Fails),
-        Ok(Planned::Spent) => Err(Refusal::Spent),
-        Ok(Planned::Big) => Err(Refusal::Big),
+    match ended {
+        Ok(Ended::Done(planned)) => Ok(planned),
+        Ok(Ended::Failed) => Err(Refusal::Fails),
+        Ok(Ended::Spent) => Err(Refusal::Spent),
+        Ok(Ended::Big) => Err(Refusal::Big),
         Err(_) => Err(Refusal::Memory),
     }
 }

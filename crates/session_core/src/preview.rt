@@ -139,7 +139,7 @@ pub(crate) fn preview_in_slot<M: Meaning>(
     let Some(part) = part_in_slot(timeline, slot, path) else {
         return Err(Refusal::Fails);
     };
-    let planned = plan_entries(
+    let ended = plan_entries(
         timeline.allocator(),
         program,
         primitives,
@@ -149,6 +149,9 @@ pub(crate) fn preview_in_slot<M: Meaning>(
         strategy,
         budget as u64,
     );
-    let (plan, taken) = replaced(planned)?;
-    Ok(Preview { plan, steps: taken })
+    let planned = replaced(ended)?;
+    Ok(Preview {
+        plan: planned.places,
+        steps: planned.taken,
+    })
 }

@@ -28,8 +28,8 @@ use Rattle.strategy_meaning.specs.Applied.{Outcome, fails, placed, applied}
 use Rattle.strategy_machine.specs.Turns.{State, IsDone}
 use Rattle.strategy_run.specs.Applies.{applied_in, Applies, PutsAll, PutsOutermost, Stay}
 use Rattle.strategy_run.specs.inside.Finding.{PutsListed, Makes, FindsAll, Lists}
-use Rattle.strategy_run.specs.declared.application.Outcome.{Outcome as Ending}
-use Rattle.strategy_run.specs.declared.application.Outcome.TheVariants.{Done, Failed, Spent, Big}
+use Rattle.strategy_run.specs.declared.ended.Ended.{Ended}
+use Rattle.strategy_run.specs.declared.ended.Ended.TheVariants.{Done, Failed, Spent, Big}
 use Rattle.strategy_run.specs.declared.application.Listing.{Listing}
 use Rattle.strategy_run.specs.declared.application.Listing.TheVariants.{Outermost, Each}
 use Rattle.strategy_machine.proofs.PlaceLemmas.{outermost}
@@ -119,7 +119,7 @@ finds Each W p path es t u r b S s slot k d l h =
 pub puts : (listing : Listing) (whole : Outcome) (es : List Entry) (slot : ℕ) (s t : Store) (log longer : List Entry)
     → FindsAll listing s slot whole es → t ≡ after es s → longer ≡ log ++ flipped_forward es s
     → before longer t ≡ before log s → (Fits log s → FitsForward es s → Fits longer t)
-    → Applies (λ e u. PutsListed listing slot e u s log t longer) (Stay s log t longer) whole Done
+    → Applies (λ e u. PutsListed listing slot e u s log t longer) (Stay s log t longer) whole (Done tt)
 puts listing whole es slot s t log longer f te le back fit =
     let ps = f.3 in
     let is : es ≡ entries_at slot ps = f.5 in
@@ -155,18 +155,18 @@ in_none W s slot p r b h = ap (λ o. option_map_or (applied W p r b) o fails) h
 
 -- ---- by the listing
 
-pub applies_outermost : (slot : ℕ) (s t : Store) (log longer : List Entry) (whole : Outcome) (o : Ending)
+pub applies_outermost : (slot : ℕ) (s t : Store) (log longer : List Entry) (whole : Outcome) (o : Ended (Unit {0}))
     → Applies (λ e u. PutsListed Outermost slot e u s log t longer) (Stay s log t longer) whole o
     → Applies (λ e u. PutsOutermost slot e u s log t longer) (Stay s log t longer) whole o
-applies_outermost slot s t log longer whole Done h = (h.0, h.1, h.2, record { places = h.3.0; outermost = h.3.1; puts = h.3.2 })
+applies_outermost slot s t log longer whole (Done _) h = (h.0, h.1, h.2, record { places = h.3.0; outermost = h.3.1; puts = h.3.2 })
 applies_outermost slot s t log longer whole Failed h = h
 applies_outermost slot s t log longer whole Spent h = h
 applies_outermost slot s t log longer whole Big h = h
 
-pub applies_each : (slot : ℕ) (s t : Store) (log longer : List Entry) (whole : Outcome) (o : Ending)
+pub applies_each : (slot : ℕ) (s t : Store) (log longer : List Entry) (whole : Outcome) (o : Ended (Unit {0}))
     → Applies (λ e u. PutsListed Each slot e u s log t longer) (Stay s log t longer) whole o
     → Applies (λ e u. PutsAll slot e u s log t longer) (Stay s log t longer) whole o
-applies_each slot s t log longer whole Done h = (h.0, h.1, h.2, subst (λ x. PutsAll slot x h.0 s log t longer) h.3.1 h.3.2)
+applies_each slot s t log longer whole (Done _) h = (h.0, h.1, h.2, subst (λ x. PutsAll slot x h.0 s log t longer) h.3.1 h.3.2)
 applies_each slot s t log longer whole Failed h = h
 applies_each slot s t log longer whole Spent h = h
 applies_each slot s t log longer whole Big h = h

@@ -12,8 +12,8 @@ use Rattle.strategy_meaning.specs.Answer.{spent, big}
 use Rattle.strategy_meaning.specs.Meaning.{World}
 use Rattle.strategy_meaning.specs.Applied.{Outcome, gives, fails, stops, applied}
 use Rattle.strategy_meaning.specs.Outermost.{AreOutermost}
-use Rattle.strategy_run.specs.declared.application.Outcome.{Outcome as Ending}
-use Rattle.strategy_run.specs.declared.application.Outcome.TheVariants.{Done, Failed, Spent, Big}
+use Rattle.strategy_run.specs.declared.ended.Ended.{Ended}
+use Rattle.strategy_run.specs.declared.ended.Ended.TheVariants.{Done, Failed, Spent, Big}
 
 -- the outcome of applying in a slot's tree; it fails if the slot has none
 abbrev pub applied_in : World → Slots Tree → ℕ → List ℕ → Resolved → ℕ → Outcome
@@ -38,8 +38,8 @@ pub record PutsOutermost (slot : ℕ) (e : Edits) (u : Tree) (s : Store) (log : 
   pub puts : PutsAll slot places u s log t longer
 
 -- How applying ends, by its outcome. If that is a tree, it is put in place; else nothing changes.
-abbrev pub Applies : (Edits → Tree → Type 0) → Type 0 → Outcome → Ending → Type 0
-Applies Puts Stays whole Done = (u : Tree) × (e : Edits) × (whole ≡ gives u e) × Puts e u
+abbrev pub Applies : (Edits → Tree → Type 0) → Type 0 → Outcome → Ended (Unit {0}) → Type 0
+Applies Puts Stays whole (Done _) = (u : Tree) × (e : Edits) × (whole ≡ gives u e) × Puts e u
 Applies Puts Stays whole Failed = (whole ≡ fails) × Stays
 Applies Puts Stays whole Spent = (whole ≡ stops spent) × Stays
 Applies Puts Stays whole Big = (whole ≡ stops big) × Stays

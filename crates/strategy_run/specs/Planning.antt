@@ -3,10 +3,11 @@ use Rattle.std.specs.Prelude.{◌≡◌, ℕ, ◌-◌}
 use Rattle.term_core.specs.Tree.{Tree}
 use Rattle.term_paths.specs.Edits.{Edits, Replaces}
 use Rattle.strategy_meaning.specs.Matching.{Bindings}
-use Rattle.strategy_meaning.specs.Answer.{Answer, done, failed, stopped, spent, big}
+use Rattle.strategy_meaning.specs.Answer.{Answer, done}
 use Rattle.strategy_meaning.specs.Outermost.{AreOutermost}
+use Rattle.strategy_run.specs.Ends.{EndsAs}
+use Rattle.strategy_run.specs.declared.ended.Ended.{Ended}
 use Rattle.strategy_run.specs.declared.planning.Planned.{Planned}
-use Rattle.strategy_run.specs.declared.planning.Planned.TheVariants.{Replaced, Failed, Spent, Big}
 
 -- The run of b steps on t succeeds. These places are the outermost ones of its edits, and setting them
 -- makes the resulting term. It took so many steps.
@@ -21,8 +22,5 @@ pub record Gives (t : Tree) (b : ℕ) (whole : Answer) (places : Edits) (taken :
   pub took : taken ≡ b - left
 
 -- What is planned for t, given how the places are represented.
-abbrev pub Plans : {R : Type 0} → (Edits → R → Type 0) → Tree → ℕ → Answer → Planned R → Type 0
-Plans Shows t b whole (Replaced shown taken) = (places : Edits) × Shows places shown × Gives t b whole places taken
-Plans Shows t b whole Failed = (left : ℕ) × (whole ≡ failed left)
-Plans Shows t b whole Spent = whole ≡ stopped spent
-Plans Shows t b whole Big = whole ≡ stopped big
+abbrev pub Plans : {R : Type 0} → (Edits → R → Type 0) → Tree → ℕ → Answer → Ended (Planned R) → Type 0
+Plans Shows t b whole ended = EndsAs (λ p. (places : Edits) × Shows places p.places × Gives t b whole places p.taken) whole ended

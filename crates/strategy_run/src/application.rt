@@ -13,7 +13,8 @@ ghost use Rattle.strategy_machine.specs.Turns.{world_of};
 ghost use Rattle.strategy_run.specs.Applies.{Applies, PutsAll, PutsOutermost, Stay, applied_in};
 ghost use Rattle.strategy_run.specs.inside.Finding.{PutsListed, Finds, Lists};
 
-use crate::evaluation::{Ended, run_to_end};
+use crate::ended::Ended;
+use crate::evaluation::run_to_end;
 use crate::in_place::put_in_place;
 use change_log::{Log, Plan, Store};
 use prim_core::{Meaning, Primitives};
@@ -25,33 +26,14 @@ use term_core::{MAX_HEIGHT, NoMemory, Term};
 use term_paths::{Path, at};
 use term_values::Part;
 
-/// The outcome of applying a strategy.
-#[derive(Clone, Copy, Debug, PartialEq, Eq, Drop)]
-pub enum Outcome {
-    /// It succeeded, and its result is in the tree now.
-    Done,
-    /// It failed, or there is no subterm at the path.
-    Failed,
-    /// No step was left.
-    Spent,
-    /// A term didn't fit.
-    Big,
-}
+/// The outcome of applying a strategy: on success, the result is in the tree.
+pub type Outcome = Ended<()>;
 
 // Which edits of a run get an entry in the log.
 #[derive(Clone, Copy, Drop)]
 pub(crate) enum Listing {
     Outermost,
     Each,
-}
-
-// The outcome of a run before anything is put into the tree.
-#[derive(Drop)]
-pub(crate) enum Found {
-    Replaced(Plan),
-    Failed,
-    Spent,
-    Big,
 }
 
 /// Whether the subterm at the path of the slot's tree is low enough for [`apply`] and
@@ -78,7 +60,10 @@ pub fn is_low_enough(store: &Store, slot: usize, path: &Path) -> bool
 /// enough at its level, the length of the path ([`is_low_enough`]); in a tree that fits, every
 /// subterm is.
 ///
-/// On every outcome but `Done`, and if memory can't grow, store and log stay as they were.
+/// Returns `Done` if the result is in the tree now, `Failed` if the strategy fails or there is no
+/// subterm at the path, `Spent` if the strategy needs more steps, or `Big` if it makes a term that
+/// doesn't fit. On every outcome but `Done`, and if memory can't grow, store and log stay as they
+/// were.
 ///
 /// Errors: only want of memory.
 pub fn apply_outermost<M: Meaning>(
@@ -167,22 +152,23 @@ fn apply_listing<M: Meaning>(
     ensures log_err { OnErr result (log.new ≡ log.old) }
 {
     let Some(tree) = store.tree(slot) else {
-        return Ok(Outcome::Failed);
+        return Ok(Ended::Failed);
     };
     match find(
         alloc, program, primitives, tree, slot, path, strategy, steps, listing,
     )? {
-        Found::Replaced(plan) => {
+        Ended::Done(plan) => {
             put_in_place(plan, store, log)?;
-            Ok(Outcome::Done)
+            Ok(Ended::Done(()))
         }
-        Found::Failed => Ok(Outcome::Failed),
-        Found::Spent => Ok(Outcome::Spent),
-        Found::Big => Ok(Outcome::Big),
+        Ended::Failed => Ok(Ended::Failed),
+        Ended::Spent => Ok(Ended::Spent),
+        Ended::Big => Ok(Ended::Big),
     }
 }
 
-// Runs the strategy on the subterm at the path of the tree, which is left unchanged.
+// Runs the strategy on the subterm at the path of the tree, which is left unchanged. `Done` has the
+// plan of what to put into the tree.
 pub(crate) fn find<M: Meaning>(
     alloc: Global,
     program: &Program,
@@ -193,13 +179,13 @@ pub(crate) fn find<M: Meaning>(
     strategy: &Resolved,
     steps: u64,
     listing: Listing,
-) -> Result<Found, NoMemory>
+) -> Result<Ended<Plan>, NoMemory>
     requires low { IfSome (found_at tree.now path.now) (λ u. length path.now + height u ≤ MAX_HEIGHT) }
     ensures { IfOk result (λ found. (s : Store) → content s.trees slot ≡ Some tree.now → Finds listing s slot
         (applied (world_of M.meaning program.now.bodies primitives.now) path.now strategy.now steps tree.now) found) }
 {
     let Some(term) = at(tree, path) else {
-        return Ok(Found::Failed);
+        return Ok(Ended::Failed);
     };
     let trail = trail_for(alloc, listing);
     let mut m = Machine::new(alloc, trail, term, path.len() as u64, steps);
@@ -220,7 +206,7 @@ fn find_by<'t, M: Meaning>(
     slot: usize,
     path: &Path,
     listing: Listing,
-) -> Result<Found, NoMemory>
+) -> Result<Ended<Plan>, NoMemory>
     requires empty { IsEmpty m.old }
     requires level { m.old.level ≡ length path.now }
     requires low { length path.now + height term.now ≤ MAX_HEIGHT }
@@ -232,13 +218,13 @@ fn find_by<'t, M: Meaning>(
         primitives,
     };
     match run_to_end(alloc, &host, m, strategy, term)? {
-        Ended::Done => {
+        Ended::Done(()) => {
             let plan = replacements(alloc, listing, &m.trail, &m.part, slot, path.parts())?;
-            Ok(Found::Replaced(plan))
+            Ok(Ended::Done(plan))
         }
-        Ended::Failed => Ok(Found::Failed),
-        Ended::Spent => Ok(Found::Spent),
-        Ended::Big => Ok(Found::Big),
+        Ended::Failed => Ok(Ended::Failed),
+        Ended::Spent => Ok(Ended::Spent),
+        Ended::Big => Ok(Ended::Big),
     }
 }
 

@@ -8,6 +8,7 @@ ghost use Rattle.strategy_machine.specs.Turns.{world_of};
 ghost use Rattle.strategy_run.specs.inside.Runs.{Ends, IsEmpty};
 ghost use Rattle.strategy_run.specs.Ends.{IsAnswered};
 
+use crate::ended::Ended;
 use prim_core::{Meaning, Primitives};
 use std::alloc::Global;
 use strategy_check::Program;
@@ -16,32 +17,15 @@ use strategy_syntax::Resolved;
 use term_core::{MAX_HEIGHT, NoMemory, Term};
 use term_values::Part;
 
-/// The answer of a strategy.
-#[derive(Drop)]
-pub enum Evaluated {
-    /// It succeeded with this term.
-    Done(Term),
-    /// It failed.
-    Failed,
-    /// No step was left.
-    Spent,
-    /// A term didn't fit.
-    Big,
-}
-
-/// How a run ends.
-#[derive(Clone, Copy, Drop)]
-pub(crate) enum Ended {
-    /// It succeeds with the focus.
-    Done,
-    Failed,
-    Spent,
-    Big,
-}
+/// The answer of a strategy: on success, the resulting term.
+pub type Evaluated = Ended<Term>;
 
 /// Evaluates a strategy on a term at a level, the number of terms above it, in at most `steps`
 /// steps. The term has to be low enough at its level: level plus height is at most 1,000. It is
 /// left unchanged.
+///
+/// Returns `Done` with the resulting term, `Failed` if the strategy fails, `Spent` if it needs more
+/// steps, or `Big` if it makes a term that doesn't fit.
 ///
 /// Errors: only want of memory.
 pub fn evaluate<M: Meaning>(
@@ -81,21 +65,21 @@ fn evaluate_by<'t, M: Meaning>(
         primitives,
     };
     match run_to_end(alloc, &host, m, strategy, term)? {
-        Ended::Done => Ok(Evaluated::Done(m.part.value()?.to_term(alloc)?)),
-        Ended::Failed => Ok(Evaluated::Failed),
-        Ended::Spent => Ok(Evaluated::Spent),
-        Ended::Big => Ok(Evaluated::Big),
+        Ended::Done(()) => Ok(Ended::Done(m.part.value()?.to_term(alloc)?)),
+        Ended::Failed => Ok(Ended::Failed),
+        Ended::Spent => Ok(Ended::Spent),
+        Ended::Big => Ok(Ended::Big),
     }
 }
 
-/// Runs a machine without frames to its end.
+/// Runs a machine without frames to its end. If that is `Done`, its part is the result.
 pub(crate) fn run_to_end<'t, M: Meaning>(
     alloc: Global,
     host: &Host<'t, M>,
     m: &mut Machine<'t>,
     strategy: &'t Resolved,
     term: &'t Term,
-) -> Result<Ended, NoMemory>
+) -> Result<Ended<()>, NoMemory>
     requires empty { IsEmpty m.old }
     requires low { m.old.level + height term.now ≤ MAX_HEIGHT }
     ensures { IfOk result (λ ended. Ends (unchanged term.entry.now) m.new ended
@@ -112,7 +96,7 @@ pub(crate) fn run_to_end<'t, M: Meaning>(
         let turned = turn(alloc, host, m)?;
         match turned {
             Turned::On => (),
-            Turned::Done => return Ok(Ended::Done),
+            Turned::Done => return Ok(Ended::Done(())),
             Turned::Failed => return Ok(Ended::Failed),
             Turned::Spent => return Ok(Ended::Spent),
             Turned::Big => return Ok(Ended::Big),

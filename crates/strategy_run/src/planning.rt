@@ -11,7 +11,8 @@ ghost use Rattle.strategy_run.specs.inside.Planned.{StandsFor};
 ghost use Rattle.strategy_run.specs.inside.Runs.{IsEmpty};
 ghost use Rattle.strategy_run.specs.Planning.{Plans};
 
-use crate::evaluation::{Ended, run_to_end};
+use crate::ended::Ended;
+use crate::evaluation::run_to_end;
 use change_log::Plan;
 use prim_core::{Meaning, Primitives};
 use std::alloc::Global;
@@ -24,23 +25,20 @@ use term_core::{MAX_HEIGHT, NoMemory, Term};
 use term_paths::Path;
 use term_values::Part;
 
-/// What running a strategy on a term would replace in it, or why it gives no term.
+/// What running a strategy on a term would replace in it.
 #[derive(Drop)]
-pub enum Planned<R> {
-    /// The outermost places that would be replaced, with a term for each, and how many steps the
-    /// run took.
-    Replaced(R, u64),
-    /// It failed.
-    Failed,
-    /// No step was left.
-    Spent,
-    /// A term didn't fit.
-    Big,
+pub struct Planned<R> {
+    /// The outermost places that would be replaced, with a term for each.
+    pub places: R,
+    /// How many steps the run took.
+    pub taken: u64,
 }
 
-/// Runs a strategy on the term, which has so many levels above it, in at most `steps` steps. Returns
-/// what that would replace in the term, as a patch of it. The level and the height of the term come
-/// to at most 1,000 together.
+/// Runs a strategy on the term, which has so many levels above it, in at most `steps` steps. The
+/// level and the height of the term come to at most 1,000 together.
+///
+/// Returns `Done` with what that would replace in the term, as a patch of it, `Failed` if the
+/// strategy fails, `Spent` if it needs more steps, or `Big` if it makes a term that doesn't fit.
 ///
 /// Errors: only want of memory.
 pub fn plan_patch<M: Meaning>(
@@ -51,19 +49,20 @@ pub fn plan_patch<M: Meaning>(
     level: u64,
     strategy: &Resolved,
     steps: u64,
-) -> Result<Planned<Patch>, NoMemory>
+) -> Result<Ended<Planned<Patch>>, NoMemory>
     requires low { level + height term.now ≤ MAX_HEIGHT }
     ensures { IfOk result (Plans (λ ps patch. places patch ≡ ps) term.now steps
         (run_whole (world_of M.meaning program.now.bodies primitives.now) level strategy.now steps term.now)) }
 {
     match plan_part(alloc, program, primitives, term, level, strategy, steps)? {
-        Planned::Replaced(part, taken) => {
-            let patch = part.patch(alloc)?;
-            Ok(Planned::Replaced(patch, taken))
+        Ended::Done(planned) => {
+            let places = planned.places.patch(alloc)?;
+            let taken = planned.taken;
+            Ok(Ended::Done(Planned { places, taken }))
         }
-        Planned::Failed => Ok(Planned::Failed),
-        Planned::Spent => Ok(Planned::Spent),
-        Planned::Big => Ok(Planned::Big),
+        Ended::Failed => Ok(Ended::Failed),
+        Ended::Spent => Ok(Ended::Spent),
+        Ended::Big => Ok(Ended::Big),
     }
 }
 
@@ -80,20 +79,21 @@ pub fn plan_entries<M: Meaning>(
     path: &Path,
     strategy: &Resolved,
     steps: u64,
-) -> Result<Planned<Plan>, NoMemory>
+) -> Result<Ended<Planned<Plan>>, NoMemory>
     requires low { length path.now + height term.now ≤ MAX_HEIGHT }
     ensures { IfOk result (Plans (λ ps plan. plan ≡ entries_at slot (prefixed path.now ps)) term.now steps
         (run_whole (world_of M.meaning program.now.bodies primitives.now) (length path.now) strategy.now steps term.now)) }
 {
     let level = path.len() as u64;
     match plan_part(alloc, program, primitives, term, level, strategy, steps)? {
-        Planned::Replaced(part, taken) => {
-            let plan = part.replacements(alloc, slot, path.parts())?;
-            Ok(Planned::Replaced(plan, taken))
+        Ended::Done(planned) => {
+            let places = planned.places.replacements(alloc, slot, path.parts())?;
+            let taken = planned.taken;
+            Ok(Ended::Done(Planned { places, taken }))
         }
-        Planned::Failed => Ok(Planned::Failed),
-        Planned::Spent => Ok(Planned::Spent),
-        Planned::Big => Ok(Planned::Big),
+        Ended::Failed => Ok(Ended::Failed),
+        Ended::Spent => Ok(Ended::Spent),
+        Ended::Big => Ok(Ended::Big),
     }
 }
 
@@ -106,7 +106,7 @@ fn plan_part<'t, M: Meaning>(
     level: u64,
     strategy: &'t Resolved,
     steps: u64,
-) -> Result<Planned<Part<'t>>, NoMemory>
+) -> Result<Ended<Planned<Part<'t>>>, NoMemory>
     requires low { level + height term.now ≤ MAX_HEIGHT }
     ensures { IfOk result (Plans (StandsFor term.entry.now) term.entry.now steps
         (run_whole (world_of M.meaning program.entry.now.bodies primitives.entry.now) level strategy.entry.now steps term.entry.now)) }
@@ -125,7 +125,7 @@ fn plan_part_by<'t, M: Meaning>(
     m: &mut Machine<'t>,
     term: &'t Term,
     strategy: &'t Resolved,
-) -> Result<Planned<Part<'t>>, NoMemory>
+) -> Result<Ended<Planned<Part<'t>>>, NoMemory>
     requires empty { IsEmpty m.old }
     requires low { m.old.level + height term.now ≤ MAX_HEIGHT }
     ensures { IfOk result (Plans (StandsFor term.entry.now) term.entry.now m.old.steps
@@ -137,12 +137,13 @@ fn plan_part_by<'t, M: Meaning>(
     };
     let steps = m.steps;
     match run_to_end(alloc, &host, m, strategy, term)? {
-        Ended::Done => {
-            let part = mem::replace(&mut m.part, Part::original(term));
-            Ok(Planned::Replaced(part, steps.saturating_sub(m.steps)))
+        Ended::Done(()) => {
+            let places = mem::replace(&mut m.part, Part::original(term));
+            let taken = steps.saturating_sub(m.steps);
+            Ok(Ended::Done(Planned { places, taken }))
         }
-        Ended::Failed => Ok(Planned::Failed),
-        Ended::Spent => Ok(Planned::Spent),
-        Ended::Big => Ok(Planned::Big),
+        Ended::Failed => Ok(Ended::Failed),
+        Ended::Spent => Ok(Ended::Spent),
+        Ended::Big => Ok(Ended::Big),
     }
 }

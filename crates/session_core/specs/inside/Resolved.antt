@@ -15,8 +15,8 @@ use Rattle.session_history.specs.Acts.{Located, Resolving}
 use Rattle.session_history.specs.Unfolded.{Logged, IsPlaceOf}
 use Rattle.session_history.specs.declared.refusal.Refusal.{Refusal}
 use Rattle.session_history.specs.declared.refusal.Refusal.TheVariants as refusals
-use Rattle.strategy_run.specs.declared.planning.Planned.{Planned}
-use Rattle.strategy_run.specs.declared.planning.Planned.TheVariants.{Replaced, Failed, Spent, Big}
+use Rattle.strategy_run.specs.declared.ended.Ended.{Ended}
+use Rattle.strategy_run.specs.declared.ended.Ended.TheVariants.{Done, Failed, Spent, Big}
 
 -- The name's tree is in the slot and has a subterm at the path, and the text is resolved to this
 -- strategy in the program of the modules, which is cached.
@@ -39,8 +39,8 @@ IsUnresolved name path text h refusal = Resolving name path text h Never (Err re
 
 -- ---- what was planned, or the refusal
 
-abbrev pub replaced_of : {R : Type 0} → Result (Planned R) NoMemory → Result (R × ℕ) Refusal
-replaced_of (Ok (Replaced shown taken)) = Ok (shown, taken)
+abbrev pub replaced_of : {R : Type 0} → Result (Ended R) NoMemory → Result R Refusal
+replaced_of (Ok (Done planned)) = Ok planned
 replaced_of (Ok Failed) = Err refusals.Fails
 replaced_of (Ok Spent) = Err refusals.Spent
 replaced_of (Ok Big) = Err refusals.Big

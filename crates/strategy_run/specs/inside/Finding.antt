@@ -10,9 +10,8 @@ use Rattle.term_changes.specs.Standing.{Standing, Suits, standing_change}
 use Rattle.strategy_meaning.specs.Answer.{spent, big}
 use Rattle.strategy_meaning.specs.Applied.{Outcome, gives, fails, stops}
 use Rattle.strategy_meaning.specs.Outermost.{AreOutermost}
-use Rattle.strategy_run.specs.declared.application.Outcome.TheVariants.{Failed, Spent, Big}
-use Rattle.strategy_run.specs.declared.application.Found.{Found}
-use Rattle.strategy_run.specs.declared.application.Found.TheVariants as founds
+use Rattle.strategy_run.specs.declared.ended.Ended.{Ended}
+use Rattle.strategy_run.specs.declared.ended.Ended.TheVariants.{Done, Failed, Spent, Big}
 use Rattle.strategy_run.specs.declared.application.Listing.{Listing}
 use Rattle.strategy_run.specs.declared.application.Listing.TheVariants.{Outermost, Each}
 use Rattle.strategy_machine.specs.Trails.{Shows}
@@ -38,11 +37,11 @@ FindsAll listing s slot whole es =
     (u : Tree) × (e : Edits) × (whole ≡ gives u e) × (ps : Edits) × AreListed listing ps e × (es ≡ entries_at slot ps) × Makes slot ps u s
 
 -- The outcome before anything is put in place.
-abbrev pub Finds : Listing → Store → ℕ → Outcome → Found → Type 0
-Finds listing s slot whole (founds.Replaced es) = FindsAll listing s slot whole es
-Finds listing s slot whole founds.Failed = whole ≡ fails
-Finds listing s slot whole founds.Spent = whole ≡ stops spent
-Finds listing s slot whole founds.Big = whole ≡ stops big
+abbrev pub Finds : Listing → Store → ℕ → Outcome → Ended (List Entry) → Type 0
+Finds listing s slot whole (Done es) = FindsAll listing s slot whole es
+Finds listing s slot whole Failed = whole ≡ fails
+Finds listing s slot whole Spent = whole ≡ stops spent
+Finds listing s slot whole Big = whole ≡ stops big
 
 -- The plan for a run that ended with p, at the path in the tree of the slot.
 abbrev pub Lists : Listing → Trail → Standing → ℕ → List ℕ → List Entry → Type 0

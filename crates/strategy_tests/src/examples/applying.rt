@@ -97,7 +97,7 @@ fn applies_on<M: Meaning>(
     match applied(
         alloc, program, primitives, strategy, call, bench, case.steps,
     ) {
-        Ok(Some(Outcome::Done)) => is_done(alloc, call, bench, before, case),
+        Ok(Some(Outcome::Done(()))) => is_done(alloc, call, bench, before, case),
         Ok(Some(outcome)) => Ok(stays(bench, before) && is_outcome(outcome, case.wanted)),
         Ok(None) => Err("a high tree".into()),
         Err(_) => Ok(stays(bench, before) && matches!(case.wanted, Wanted::Memory)),

@@ -103,7 +103,7 @@ fn with_program(
 ) -> Result<Option<usize>, Fail> {
     let slot = with_pair(alloc, &mut bench.store, &mut bench.first)?;
     let outcome = applied_at_root(alloc, bench, program, slot, each)?;
-    if outcome != Some(Outcome::Done) || !is_pair(alloc, &bench.store, slot, first, second)? {
+    if outcome != Some(Outcome::Done(())) || !is_pair(alloc, &bench.store, slot, first, second)? {
         return Ok(None);
     }
     Ok(Some(bench.log.count()))

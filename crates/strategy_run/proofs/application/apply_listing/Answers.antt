@@ -1,11 +1,12 @@
-use Rattle.std.proofs.Common.{◌≡◌, ◌∙◌, Some, refl, sym, ap, subst}
+use Rattle.std.proofs.Common.{◌≡◌, ◌∙◌, List, Some, refl, sym, ap, subst}
 use Rattle.std.specs.Prelude.{option_copied}
 use Rattle.term_changes.specs.Slots.{content}
+use Rattle.term_changes.specs.Entries.{Entry}
 use Rattle.strategy_meaning.specs.Applied.{applied}
 use Rattle.strategy_machine.specs.Turns.{world_of}
 use Rattle.strategy_run.specs.inside.Finding.{Finds, FindsAll}
 use Rattle.strategy_run.specs.Applies.{applied_in}
-use Rattle.strategy_run.specs.declared.application.Found.{Found}
+use Rattle.strategy_run.specs.declared.ended.Ended.{Ended}
 use Rattle.strategy_run.proofs.ApplyLemmas.{puts, in_tree, in_none, low_there}
 use Rattle.strategy_run.proofs.application.apply_listing.Goals as goal
 
@@ -17,30 +18,30 @@ pub returns-in-Failed-clause-applies : goal.returns-in-Failed-clause-applies
 returns-in-Failed-clause-applies g c =
     let there : content c.args.store.now.trees c.args.slot ≡ Some c.in-Some.tree.now = sym c.tree.ensures ∙ ap (λ o. option_copied o) c.in-Some.is in
     let into = in_tree (world_of g.M.Meaning.meaning c.args.program.now.bodies c.args.primitives.now) c.args.store.now c.args.slot c.args.path.now c.args.strategy.now c.args.steps c.in-Some.tree.now there in
-    (into ∙ (subst (λ (f : Found). Finds c.args.listing c.args.store.now c.args.slot (applied (world_of g.M.Meaning.meaning c.args.program.now.bodies c.args.primitives.now) c.args.path.now c.args.strategy.now c.args.steps c.in-Some.tree.now) f) c.in-Failed.is (c.in_ok-plan.ensures c.args.store.now there)), record { store = refl; log = refl })
+    (into ∙ (subst (λ (f : Ended (List Entry)). Finds c.args.listing c.args.store.now c.args.slot (applied (world_of g.M.Meaning.meaning c.args.program.now.bodies c.args.primitives.now) c.args.path.now c.args.strategy.now c.args.steps c.in-Some.tree.now) f) c.in-Failed.is (c.in_ok-plan.ensures c.args.store.now there)), record { store = refl; log = refl })
 
 pub returns-in-Spent-clause-applies : goal.returns-in-Spent-clause-applies
 returns-in-Spent-clause-applies g c =
     let there : content c.args.store.now.trees c.args.slot ≡ Some c.in-Some.tree.now = sym c.tree.ensures ∙ ap (λ o. option_copied o) c.in-Some.is in
     let into = in_tree (world_of g.M.Meaning.meaning c.args.program.now.bodies c.args.primitives.now) c.args.store.now c.args.slot c.args.path.now c.args.strategy.now c.args.steps c.in-Some.tree.now there in
-    (into ∙ (subst (λ (f : Found). Finds c.args.listing c.args.store.now c.args.slot (applied (world_of g.M.Meaning.meaning c.args.program.now.bodies c.args.primitives.now) c.args.path.now c.args.strategy.now c.args.steps c.in-Some.tree.now) f) c.in-Spent.is (c.in_ok-plan.ensures c.args.store.now there)), record { store = refl; log = refl })
+    (into ∙ (subst (λ (f : Ended (List Entry)). Finds c.args.listing c.args.store.now c.args.slot (applied (world_of g.M.Meaning.meaning c.args.program.now.bodies c.args.primitives.now) c.args.path.now c.args.strategy.now c.args.steps c.in-Some.tree.now) f) c.in-Spent.is (c.in_ok-plan.ensures c.args.store.now there)), record { store = refl; log = refl })
 
 pub returns-in-Big-clause-applies : goal.returns-in-Big-clause-applies
 returns-in-Big-clause-applies g c =
     let there : content c.args.store.now.trees c.args.slot ≡ Some c.in-Some.tree.now = sym c.tree.ensures ∙ ap (λ o. option_copied o) c.in-Some.is in
     let into = in_tree (world_of g.M.Meaning.meaning c.args.program.now.bodies c.args.primitives.now) c.args.store.now c.args.slot c.args.path.now c.args.strategy.now c.args.steps c.in-Some.tree.now there in
-    (into ∙ (subst (λ (f : Found). Finds c.args.listing c.args.store.now c.args.slot (applied (world_of g.M.Meaning.meaning c.args.program.now.bodies c.args.primitives.now) c.args.path.now c.args.strategy.now c.args.steps c.in-Some.tree.now) f) c.in-Big.is (c.in_ok-plan.ensures c.args.store.now there)), record { store = refl; log = refl })
+    (into ∙ (subst (λ (f : Ended (List Entry)). Finds c.args.listing c.args.store.now c.args.slot (applied (world_of g.M.Meaning.meaning c.args.program.now.bodies c.args.primitives.now) c.args.path.now c.args.strategy.now c.args.steps c.in-Some.tree.now) f) c.in-Big.is (c.in_ok-plan.ensures c.args.store.now there)), record { store = refl; log = refl })
 
 pub find-requires : goal.find-requires
 find-requires g c =
     let there : content c.args.store.now.trees c.args.slot ≡ Some c.in-Some.tree.now = sym c.tree.ensures ∙ ap (λ o. option_copied o) c.in-Some.is in
     record { low = low_there c.args.store.now c.args.slot c.args.path.now c.in-Some.tree.now there c.requires.low }
 
-pub returns-in_ok-put_in_place-in-Replaced-clause-applies : goal.returns-in_ok-put_in_place-in-Replaced-clause-applies
-returns-in_ok-put_in_place-in-Replaced-clause-applies g c =
+pub returns-in_ok-put_in_place-in-Done-clause-applies : goal.returns-in_ok-put_in_place-in-Done-clause-applies
+returns-in_ok-put_in_place-in-Done-clause-applies g c =
     let there : content c.args.store.now.trees c.args.slot ≡ Some c.in-Some.tree.now = sym c.tree.ensures ∙ ap (λ o. option_copied o) c.in-Some.is in
     let into = in_tree (world_of g.M.Meaning.meaning c.args.program.now.bodies c.args.primitives.now) c.args.store.now c.args.slot c.args.path.now c.args.strategy.now c.args.steps c.in-Some.tree.now there in
-    let f = subst (λ (f : Found). Finds c.args.listing c.args.store.now c.args.slot (applied (world_of g.M.Meaning.meaning c.args.program.now.bodies c.args.primitives.now) c.args.path.now c.args.strategy.now c.args.steps c.in-Some.tree.now) f) c.in-Replaced.is (c.in_ok-plan.ensures c.args.store.now there) in
-    puts c.args.listing (applied_in (world_of g.M.Meaning.meaning c.args.program.now.bodies c.args.primitives.now) c.args.store.now.trees c.args.slot c.args.path.now c.args.strategy.now c.args.steps) c.in-Replaced.plan c.args.slot c.args.store.now c.put_in_place.new.store c.args.log.now c.put_in_place.new.log
-    (subst (λ w. FindsAll c.args.listing c.args.store.now c.args.slot w c.in-Replaced.plan) (sym into) f)
-    c.in_ok-put_in_place-in-Replaced.ensures.store c.in_ok-put_in_place-in-Replaced.ensures.log c.in_ok-put_in_place-in-Replaced.ensures.leads_back c.in_ok-put_in_place-in-Replaced.ensures.fits
+    let f = subst (λ (f : Ended (List Entry)). Finds c.args.listing c.args.store.now c.args.slot (applied (world_of g.M.Meaning.meaning c.args.program.now.bodies c.args.primitives.now) c.args.path.now c.args.strategy.now c.args.steps c.in-Some.tree.now) f) c.in-Done.is (c.in_ok-plan.ensures c.args.store.now there) in
+    puts c.args.listing (applied_in (world_of g.M.Meaning.meaning c.args.program.now.bodies c.args.primitives.now) c.args.store.now.trees c.args.slot c.args.path.now c.args.strategy.now c.args.steps) c.in-Done.plan c.args.slot c.args.store.now c.put_in_place.new.store c.args.log.now c.put_in_place.new.log
+    (subst (λ w. FindsAll c.args.listing c.args.store.now c.args.slot w c.in-Done.plan) (sym into) f)
+    c.in_ok-put_in_place-in-Done.ensures.store c.in_ok-put_in_place-in-Done.ensures.log c.in_ok-put_in_place-in-Done.ensures.leads_back c.in_ok-put_in_place-in-Done.ensures.fits

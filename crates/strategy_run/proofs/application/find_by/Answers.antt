@@ -4,7 +4,7 @@ use Rattle.strategy_meaning.specs.Meaning.{run_whole}
 use Rattle.strategy_machine.specs.Turns.{world_of, state_of}
 use Rattle.strategy_run.specs.inside.Runs.{Ends}
 use Rattle.strategy_run.specs.inside.Finding.{Lists}
-use Rattle.strategy_run.specs.declared.evaluation.Ended.{Ended}
+use Rattle.strategy_run.specs.declared.ended.Ended.{Ended}
 use Rattle.strategy_run.proofs.ApplyLemmas.{finds, applied_there}
 use Rattle.strategy_run.proofs.application.find_by.Goals as goal
 
@@ -15,7 +15,7 @@ returns-in_ok-plan-in-Done g c = λ tree s at_is h.
     c.in_ok-run_to_end.ensures in
     let whole = run_whole (world_of g.M.Meaning.meaning c.args.program.now.bodies c.args.primitives.now) (length c.args.path.now) c.args.strategy.now c.args.m.now.steps c.args.term.now in
     finds c.args.listing (world_of g.M.Meaning.meaning c.args.program.now.bodies c.args.primitives.now) c.run_to_end.new.m.part c.args.path.now c.in_ok-plan-in-Done.plan tree c.args.term.now c.args.strategy.now c.args.m.now.steps (state_of c.run_to_end.new.m) s c.args.slot at_is
-    (subst (λ (e : Ended). Ends (unchanged c.args.term.now) c.run_to_end.new.m e whole) c.in-Done.is E)
+    (subst (λ (e : Ended (Unit {0})). Ends (unchanged c.args.term.now) c.run_to_end.new.m e whole) c.in-Done.is E)
     (subst (λ q. Lists c.args.listing c.run_to_end.new.m.trail c.run_to_end.new.m.part c.args.slot q c.in_ok-plan-in-Done.plan) c.parts.ensures c.in_ok-plan-in-Done.ensures) h
 
 pub returns-in-Failed : goal.returns-in-Failed
@@ -24,7 +24,7 @@ returns-in-Failed g c = λ tree s at_is h.
     (λ i. run_whole (world_of g.M.Meaning.meaning (c.definitions.ensures i) c.args.primitives.now) (c.requires.level i) c.args.strategy.now c.args.m.now.steps c.args.term.now)
     c.in_ok-run_to_end.ensures in
     let whole = run_whole (world_of g.M.Meaning.meaning c.args.program.now.bodies c.args.primitives.now) (length c.args.path.now) c.args.strategy.now c.args.m.now.steps c.args.term.now in
-    let r = subst (λ (e : Ended). Ends (unchanged c.args.term.now) c.run_to_end.new.m e whole) c.in-Failed.is E in
+    let r = subst (λ (e : Ended (Unit {0})). Ends (unchanged c.args.term.now) c.run_to_end.new.m e whole) c.in-Failed.is E in
     applied_there (world_of g.M.Meaning.meaning c.args.program.now.bodies c.args.primitives.now) c.args.path.now c.args.strategy.now c.args.m.now.steps tree c.args.term.now _ at_is r.1
 
 pub returns-in-Spent : goal.returns-in-Spent
@@ -33,7 +33,7 @@ returns-in-Spent g c = λ tree s at_is h.
     (λ i. run_whole (world_of g.M.Meaning.meaning (c.definitions.ensures i) c.args.primitives.now) (c.requires.level i) c.args.strategy.now c.args.m.now.steps c.args.term.now)
     c.in_ok-run_to_end.ensures in
     let whole = run_whole (world_of g.M.Meaning.meaning c.args.program.now.bodies c.args.primitives.now) (length c.args.path.now) c.args.strategy.now c.args.m.now.steps c.args.term.now in
-    applied_there (world_of g.M.Meaning.meaning c.args.program.now.bodies c.args.primitives.now) c.args.path.now c.args.strategy.now c.args.m.now.steps tree c.args.term.now _ at_is (subst (λ (e : Ended). Ends (unchanged c.args.term.now) c.run_to_end.new.m e whole) c.in-Spent.is E)
+    applied_there (world_of g.M.Meaning.meaning c.args.program.now.bodies c.args.primitives.now) c.args.path.now c.args.strategy.now c.args.m.now.steps tree c.args.term.now _ at_is (subst (λ (e : Ended (Unit {0})). Ends (unchanged c.args.term.now) c.run_to_end.new.m e whole) c.in-Spent.is E)
 
 pub returns-in-Big : goal.returns-in-Big
 returns-in-Big g c = λ tree s at_is h.
@@ -41,4 +41,4 @@ returns-in-Big g c = λ tree s at_is h.
     (λ i. run_whole (world_of g.M.Meaning.meaning (c.definitions.ensures i) c.args.primitives.now) (c.requires.level i) c.args.strategy.now c.args.m.now.steps c.args.term.now)
     c.in_ok-run_to_end.ensures in
     let whole = run_whole (world_of g.M.Meaning.meaning c.args.program.now.bodies c.args.primitives.now) (length c.args.path.now) c.args.strategy.now c.args.m.now.steps c.args.term.now in
-    applied_there (world_of g.M.Meaning.meaning c.args.program.now.bodies c.args.primitives.now) c.args.path.now c.args.strategy.now c.args.m.now.steps tree c.args.term.now _ at_is (subst (λ (e : Ended). Ends (unchanged c.args.term.now) c.run_to_end.new.m e whole) c.in-Big.is E)
+    applied_there (world_of g.M.Meaning.meaning c.args.program.now.bodies c.args.primitives.now) c.args.path.now c.args.strategy.now c.args.m.now.steps tree c.args.term.now _ at_is (subst (λ (e : Ended (Unit {0})). Ends (unchanged c.args.term.now) c.run_to_end.new.m e whole) c.in-Big.is E)
