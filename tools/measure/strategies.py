@@ -1,29 +1,22 @@
 """Counts the instructions that applying strategies takes, a step.
 
-Run by hand at the top of the repository:
+Run by hand at the top of the repository, after the program was built (README has the command):
 
-    python3 tools/measure/strategies.py
+    python3 tools/measure/strategies.py [PROGRAM]
 
-It needs `rt`, `valgrind` and Python. A small program on `strategy_run` (strategies.txt beside this file),
-which is proved and built in a folder of its own, applies a strategy to a term and takes it back. Printed
-are the steps that it takes, and instructions for each, less those of a run without steps, for two sizes of
-which the second is eight times the first.
+It needs `valgrind` and Python. A session loads a module and a tree, and applies a strategy and undoes it, once and four times; a third of
+the difference is counted. Printed are the steps that it takes and instructions for each, for two sizes of which the second is eight times
+the first.
 """
 
+import os
+import re
 import subprocess
-import tempfile
+import sys
 
-from measure import build, heading, instructions
+from measure import TOP, heading, instructions
 
-USES = (
-    "term_core term_paths aterm_text prim_core change_log strategy_syntax strategy_parse strategy_check strategy_run anyhow"
-)
-GIVEN = 1000000
-SPENT = 1000001
-MOST = 2**20
-TIMES = 2
-
-LIBRARY = """m signature constructors A : t  B : t  C : t  Z : t  F : t * t -> t  G : t -> t  S : t -> t
+LIBRARY = """module m signature constructors A : t  B : t  C : t  Z : t  F : t * t -> t  G : t -> t  S : t -> t
   Plus : t * t -> t  Num : t -> t  Not : t -> t  And : t * t -> t  Or : t * t -> t  T : t  U : t  strategies try(s) = s <+ id  topdown(s) = s; all(topdown(s))  bottomup(s) = all(bottomup(s)); s
   oncetd(s) = s <+ one(oncetd(s))  innermost(s) = bottomup(try(s; innermost(s)))
   outermost(s) = try(oncetd(s); outermost(s))  map(s) = [] <+ [s|map(s)]
@@ -83,40 +76,35 @@ def last(leaves):
     return "B" if leaves == 1 else f"F({balanced(leaves // 2)},{last(leaves // 2)})"
 
 
-def answer(program, text, steps):
-    ran = subprocess.run([program, "1", str(steps)], input=text.encode(), capture_output=True, check=True)
-    return int(ran.stdout)
+def steps_of(program, loaded, strategy):
+    """How many steps the strategy takes, as `preview` says."""
+    text = f"{loaded}preview t do {strategy}\n"
+    ran = subprocess.run([program, "--steps", "1000000"], input=text.encode(), capture_output=True, check=True)
+    return int(re.search(rb"steps (\d+)", ran.stdout).group(1))
 
 
-def steps_of(program, text):
-    """The least number of steps from which the strategy isn't spent."""
-    low, high = 0, MOST
-    assert answer(program, text, high) != SPENT
-    while high - low > 1:
-        middle = (low + high) // 2
-        if answer(program, text, middle) == SPENT:
-            low = middle
-        else:
-            high = middle
-    return high
+def counted(program, loaded, strategy, steps):
+    """Instructions a step."""
+    words = ["--steps", "1000000"]
+    work = f"apply t do {strategy}\nundo\n"
+    once, _ = instructions(program, words, loaded + work)
+    often, answers = instructions(program, words, loaded + 4 * work)
+    assert answers.split("\n") == 10 * ["ok"], answers
+    return (often - once) / 3 / steps
 
 
 def main():
-    with tempfile.TemporaryDirectory() as folder:
-        program = build(folder, "strategies.txt", USES)
-        heading("Strategies: instructions a step, applying and undoing")
-        print("| Shape | steps | instructions a step | steps | instructions a step |")
-        print("|---|---|---|---|---|")
-        for name, (strategy, term, size) in SHAPES.items():
-            cells = []
-            for n in (size, 8 * size):
-                text = f"{term(n)}\n{strategy}\n{LIBRARY}"
-                steps = steps_of(program, text)
-                base, _ = instructions(program, [str(TIMES), "0"], text)
-                count, told = instructions(program, [str(TIMES), str(steps)], text)
-                assert int(told) < GIVEN, (name, told)
-                cells += [str(steps), f"{(count - base) / TIMES / steps:.0f}"]
-            print(f"| {name} | {' | '.join(cells)} |", flush=True)
+    program = sys.argv[1] if len(sys.argv) > 1 else os.path.join(TOP, "crates/stratbench/out/stratbench")
+    heading("Strategies: instructions a step, applying and undoing")
+    print("| Shape | steps | instructions a step | steps | instructions a step |")
+    print("|---|---|---|---|---|")
+    for name, (strategy, term, size) in SHAPES.items():
+        cells = []
+        for n in (size, 8 * size):
+            loaded = f"{LIBRARY}\ntree t {term(n)}\n"
+            steps = steps_of(program, loaded, strategy)
+            cells += [f"{steps:,}", f"{counted(program, loaded, strategy, steps):.0f}"]
+        print(f"| {name} | {' | '.join(cells)} |", flush=True)
 
 
 if __name__ == "__main__":
