@@ -26,7 +26,7 @@ use Rattle.strategy_machine.specs.declared.frames.Acts.{Acts}
 use Rattle.strategy_machine.specs.declared.frames.Walk.{Walk}
 use Rattle.strategy_machine.specs.declared.frames.Frame.{Frame}
 use Rattle.strategy_machine.specs.declared.frames.Frame.TheVariants as frames
-use Rattle.strategy_machine.specs.Hands.{Hand, Begin, Done, Failed, Each, Leftmost, Those}
+use Rattle.strategy_machine.specs.Hands.{Begin, Done, Failed, Each, Leftmost, Those}
 use Rattle.strategy_machine.proofs.LeadLemmas.{leads_nothing, leads_same}
 use Rattle.strategy_machine.proofs.NodeLeads.{none_stand, child_has, node_has, node_tree, node_count, part_count, node_written, leads_child}
 use Rattle.strategy_machine.proofs.OpenLemmas.{with_edits-done, prefixed-prefixed, opens_along, opens_on, opens_new, before_self}
@@ -59,11 +59,6 @@ walk_at p parts i S = record { node = p; parts = parts; index = i; level = S.lev
 
 abbrev pub below : State → Frame → State
 below S f = record { cells = S.cells; scopes = S.scopes; trail = S.trail; level = S.level + 1; frames = f ∷ S.frames; steps = S.steps }
-
--- the same, with the pushed frame and the focus given by equations
-pub below_as : (W : World) (sub : Standing) (whole : Answer) (S : State) (f g : Frame) (h k : Hand) → g ≡ f → k ≡ h → HoldsIn W sub whole (below S f) h → HoldsIn W sub whole (below S g) k
-below_as W sub whole S f g h k e d x =
-    subst (λ (j : Hand). HoldsIn W sub whole (below S g) j) (sym d) (subst (λ (y : Frame). HoldsIn W sub whole (below S y) h) (sym e) x)
 
 pub child_inside : (S : State) (p : Standing) (parts : Vec Standing Global) (i : ℕ) (q : Standing) (T : Edits) → Has p → PartsStand p (all_parts p parts.items)
     → slice_get (parts_now p (all_parts p parts.items)) i ≡ Some q → Shows S.trail T → Inside (S.level + 1) (walk_at p parts i S) q T

@@ -1,5 +1,5 @@
 -- Turns that give an answer to a frame, in terms of the machine's fields.
-use Rattle.std.proofs.Common.{◌≡◌, ℕ, List, [], ◌∷◌, ◌++◌, reverse, sym, subst, Vec, Global}
+use Rattle.std.proofs.Common.{◌≡◌, ℕ, List, [], ◌∷◌, ◌++◌, reverse, sym, ap, ◌∙◌, subst, Vec, Global, Bor}
 use Rattle.term_core.specs.Tree.{Tree}
 use Rattle.term_changes.specs.Standing.{Standing}
 use Rattle.strategy_meaning.specs.Answer.{Answer}
@@ -7,12 +7,14 @@ use Rattle.strategy_meaning.specs.Meaning.{World}
 use Rattle.strategy_machine.specs.Table.{scopes}
 use Rattle.strategy_machine.specs.Turns.{State, state_of, HoldsIn, Holds}
 use Rattle.strategy_machine.specs.inside.Taking.{Replaced}
-use Rattle.strategy_machine.specs.inside.Turning.{ComesUp, Rises}
+use Rattle.strategy_machine.specs.inside.Turning.{ComesUp, Rises, GoesDown}
 use Rattle.strategy_machine.specs.declared.machine.Machine.{Machine}
 use Rattle.strategy_machine.specs.declared.frames.Walk.{Walk}
 use Rattle.strategy_machine.specs.declared.frames.Frame.{Frame}
-use Rattle.strategy_machine.specs.Hands.{Hand}
+use Rattle.strategy_syntax.specs.Resolved.{ResolvedStrategy}
+use Rattle.strategy_machine.specs.Hands.{Hand, Begin}
 use Rattle.strategy_machine.proofs.OpenLemmas.{pushed}
+use Rattle.strategy_machine.proofs.ChildLemmas.{walk_at, below}
 
 -- the innermost frame, taken off
 pub popped : (W : World) (sub : Standing) (whole : Answer) (m : Machine) (hand : Hand) (new : List Frame) (f : Frame) → m.frames ≡ new ++ f ∷ [] → Holds W sub whole m hand
@@ -39,6 +41,17 @@ pub rose : (W : World) (sub : Standing) (whole : Answer) (m new : Machine) {hand
     → HoldsIn W sub whole (record { cells = m.cells; scopes = scopes m.scopes; trail = m.trail; level = w.level; frames = reverse m.frames; steps = m.steps }) hand
     → HoldsIn W sub whole (state_of new) hand
 rose W sub whole m new w p k h = at_level W sub whole m new w.level k.level k.rest h
+
+-- the child is in focus, and its node waits in a frame
+pub went_down : (W : World) (sub : Standing) (whole : Answer) (m new : Machine) (p : Standing) (ps parts : Vec Standing Global) (i : ℕ) (w : Walk) (f : Walk → Frame) (gs : List Frame) (s : Bor ResolvedStrategy) (n : ℕ)
+    → GoesDown m p ps i new w → ps ≡ parts → gs ≡ new.frames ++ f w ∷ []
+    → HoldsIn W sub whole (below (state_of m) (f (walk_at m.part parts i (state_of m)))) (Begin s n p)
+    → HoldsIn W sub whole (record { cells = new.cells; scopes = scopes new.scopes; trail = new.trail; level = new.level; frames = reverse gs; steps = new.steps }) (Begin s n new.part)
+went_down W sub whole m new p ps parts i w f gs s n k q e h =
+    let is : w ≡ walk_at m.part parts i (state_of m) = k.walk ∙ ap (λ (x : Vec Standing Global). walk_at m.part x i (state_of m)) q in
+    let all : f (walk_at m.part parts i (state_of m)) ∷ reverse m.frames ≡ reverse gs = (λ j. f (sym is j) ∷ reverse (sym k.rest.0 j)) ∙ sym (pushed new.frames gs (f w) e) in
+    subst (λ (x : State × Standing). HoldsIn W sub whole x.0 (Begin s n x.1))
+    (λ j. (record { cells = sym k.rest.1 j; scopes = scopes (sym k.rest.2 j); trail = sym k.rest.3 j; level = sym k.level j; frames = all j; steps = sym k.rest.4 j }, sym k.part j)) h
 
 -- the same machine, except for the trail
 pub was_put : (W : World) (sub : Standing) (whole : Answer) (m new : Machine) {hand : Hand} (u : Tree) (q : Standing) → Replaced m u new q

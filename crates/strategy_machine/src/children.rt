@@ -9,7 +9,7 @@ ghost use Rattle.strategy_machine.specs.Leading.{PartsStand, all_parts, node_wit
 ghost use Rattle.strategy_machine.specs.inside.Filling.{Fills};
 ghost use Rattle.strategy_machine.specs.Hands.{Each, Leftmost, Those};
 ghost use Rattle.strategy_machine.specs.Turns.{Turn, Falls};
-ghost use Rattle.strategy_machine.specs.inside.Turning.{Descends, EndFalls};
+ghost use Rattle.strategy_machine.specs.inside.Turning.{Descends, EndFalls, GoesDown};
 ghost use Rattle.strategy_machine.specs.inside.Taking.{Takes, TakeFalls};
 ghost use Rattle.strategy_syntax.specs.Resolved.{all};
 
@@ -196,6 +196,36 @@ fn add<'t>(parts: &mut Vec<Part<'t>>, part: Part<'t>) -> Result<(), NoMemory>
     }
 }
 
+/// Goes down from the focus into the child at this index, given the parts in the places of the first
+/// children. Returns the walk that holds the node.
+#[inline(always)]
+pub(crate) fn descend<'t>(
+    m: &mut Machine<'t>,
+    child: Part<'t>,
+    parts: Vec<Part<'t>>,
+    index: usize,
+) -> Result<Walk<'t>, NoMemory>
+    ensures down { IfOk result (λ walk. GoesDown m.old child.entry parts.entry index m.new walk) }
+    ensures steps { OnOk result (m.new.steps ≡ m.old.steps) }
+    ensures len { OnOk result (length m.new.frames ≡ length m.old.frames) }
+{
+    let level = m.level;
+    if level == u64::MAX {
+        drop_parts(parts);
+        drop_part(child);
+        return Err(NoMemory);
+    }
+    m.level += 1;
+    let node = mem::replace(&mut m.part, child);
+    Ok(Walk {
+        node,
+        parts,
+        index,
+        level,
+        edits: m.trail.count,
+    })
+}
+
 /// A strategy on each child.
 #[inline(always)]
 pub(crate) fn take_all<'t>(
@@ -233,26 +263,12 @@ pub(crate) fn go_in<'t>(
         drop_parts(parts);
         return Ok(m.fails());
     };
-    let level = m.level;
-    if level == u64::MAX {
-        drop_parts(parts);
-        drop_part(child);
-        return Err(NoMemory);
-    }
-    let node = mem::replace(&mut m.part, child);
-    let edits = m.trail.count;
+    let walk = descend(m, child, parts, index)?;
     m.frames.wait(Frame::Each {
         acts: others,
         scope,
-        walk: Walk {
-            node,
-            parts,
-            index,
-            level,
-            edits,
-        },
+        walk,
     })?;
-    m.level += 1;
     Ok(m.begins(strategy, scope))
 }
 
@@ -295,26 +311,13 @@ fn go_down<'t>(
     let Some(child) = child_now(&m.part, &m.parts, index)? else {
         return Ok(m.fails());
     };
-    let level = m.level;
-    if level == u64::MAX {
-        drop_part(child);
-        return Err(NoMemory);
-    }
-    let node = mem::replace(&mut m.part, child);
     let parts = mem::replace(&mut m.parts, Vec::new(alloc));
-    let edits = m.trail.count;
+    let walk = descend(m, child, parts, index)?;
     m.frames.wait(Frame::Each {
         acts: others,
         scope,
-        walk: Walk {
-            node,
-            parts,
-            index,
-            level,
-            edits,
-        },
+        walk,
     })?;
-    m.level += 1;
     Ok(m.begins(strategy, scope))
 }
 
@@ -333,27 +336,14 @@ pub(crate) fn try_on<'t>(
     let Some(child) = m.part.child(index)? else {
         return Ok(m.fails());
     };
-    let level = m.level;
-    if level == u64::MAX {
-        drop_part(child);
-        return Err(NoMemory);
-    }
     let mark = m.cells.mark();
-    let node = mem::replace(&mut m.part, child);
-    let edits = m.trail.count;
+    let walk = descend(m, child, Vec::new(alloc), index)?;
     m.frames.wait(Frame::Leftmost {
         strategy,
         scope,
-        walk: Walk {
-            node,
-            parts: Vec::new(alloc),
-            index,
-            level,
-            edits,
-        },
+        walk,
         mark,
     })?;
-    m.level += 1;
     Ok(m.begins(strategy, scope))
 }
 
@@ -377,28 +367,15 @@ pub(crate) fn go_over<'t>(
         finish(alloc, &mut m.part, &mut m.parts)?;
         return Ok(m.gives());
     };
-    let level = m.level;
-    if level == u64::MAX {
-        drop_part(child);
-        return Err(NoMemory);
-    }
     let mark = m.cells.mark();
-    let node = mem::replace(&mut m.part, child);
     let parts = mem::replace(&mut m.parts, Vec::new(alloc));
-    let edits = m.trail.count;
+    let walk = descend(m, child, parts, index)?;
     m.frames.wait(Frame::Those {
         strategy,
         scope,
-        walk: Walk {
-            node,
-            parts,
-            index,
-            level,
-            edits,
-        },
+        walk,
         mark,
         any,
     })?;
-    m.level += 1;
     Ok(m.begins(strategy, scope))
 }

@@ -10,11 +10,10 @@ ghost use Rattle.term_changes.specs.Standing.{standing_tree};
 ghost use Rattle.strategy_machine.specs.Leading.{Has};
 ghost use Rattle.strategy_machine.specs.inside.Taking.{Takes, TakeFalls};
 
-use crate::children::go_on;
-use crate::frames::{Acts, Frame, Turned, Walk};
+use crate::children::{descend, go_on};
+use crate::frames::{Acts, Frame, Turned};
 use crate::machine::Machine;
 use std::alloc::Global;
-use std::mem;
 use strategy_syntax::{Head, ResolvedStrategy};
 use term_core::{Kind, NoMemory};
 use term_values::Part;
@@ -95,24 +94,8 @@ fn take_head<'t>(
     let Some(child) = m.part.child(0)? else {
         return Ok(m.fails());
     };
-    let level = m.level;
-    if level == u64::MAX {
-        return Err(NoMemory);
-    }
-    let node = mem::replace(&mut m.part, child);
-    let edits = m.trail.count;
-    m.frames.wait(Frame::Head {
-        tail,
-        scope,
-        walk: Walk {
-            node,
-            parts: Vec::new(alloc),
-            index: 0,
-            level,
-            edits,
-        },
-    })?;
-    m.level += 1;
+    let walk = descend(m, child, Vec::new(alloc), 0)?;
+    m.frames.wait(Frame::Head { tail, scope, walk })?;
     Ok(m.begins(first, scope))
 }
 

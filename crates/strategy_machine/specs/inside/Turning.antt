@@ -80,3 +80,11 @@ pub record Rises (m : Machine) (w : Walk) (p : Standing) (new : Machine) : Type 
   pub part : new.part ≡ cond (not (m.trail.count == w.edits)) (with_standing w.node (slice_set (standing_children w.node) w.index p)) w.node
   pub level : new.level ≡ w.level
   pub rest : (new.frames ≡ m.frames) × (new.cells ≡ m.cells) × (new.scopes ≡ m.scopes) × (new.trail ≡ m.trail) × (new.steps ≡ m.steps)
+
+-- The machine goes down from its focus into child i, which is p: the walk holds the node, with these
+-- parts in the places of its first children.
+pub record GoesDown (m : Machine) (p : Standing) (parts : Vec Standing Global) (i : ℕ) (new : Machine) (w : Walk) : Type 0 where
+  pub walk : w ≡ record { node = m.part; parts = parts; index = i; level = m.level; edits = m.trail.count }
+  pub part : new.part ≡ p
+  pub level : new.level ≡ m.level + 1
+  pub rest : (new.frames ≡ m.frames) × (new.cells ≡ m.cells) × (new.scopes ≡ m.scopes) × (new.trail ≡ m.trail) × (new.steps ≡ m.steps)
