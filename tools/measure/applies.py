@@ -9,17 +9,15 @@ those of a run without what is counted. The tree has so many terms, of which one
 two steps.
 """
 
-import os
 import re
 import subprocess
-import sys
 
-from measure import TOP, heading, instructions
+from measure import built_program, heading, instructions
 
 TIMES = 1000
 SIZES = [500, 50000]
 
-# The tree f(a,a,a,g(a),..) with so many terms has lists of constants behind its first children.
+# The tree f(a,a,a,g(a),..) with so many terms has lists of constants after its first children.
 SIGNATURE = "module sig signature constructors B : t\n"
 FRONT_TERMS = 6
 LIST_TERMS = 10000
@@ -71,9 +69,7 @@ def table(title, counted):
 
 
 def main():
-    program = os.path.join(TOP, "crates", "stratbench", "out", "stratbench")
-    if not os.path.exists(program):
-        sys.exit("build the program first: (cd crates/stratbench && rt run < stdin)")
+    program = built_program()
     heading("Applies on the built program, from text to answer")
     table("Instructions a time", lambda text, status: instructions(program, [], text, status)[0])
     table("Allocations a time", lambda text, status: allocations(program, text, status))

@@ -11,10 +11,9 @@ command `tree` with the front of the same text. Memory is the most that the whol
 
 import os
 import subprocess
-import sys
 import tempfile
 
-from measure import TOP, heading, instructions
+from measure import built_program, heading, instructions
 
 ELEMENTS = 33000
 FRONT = 60000
@@ -34,7 +33,7 @@ def most_memory(program, words, script):
 
 
 def main():
-    program = os.path.abspath(sys.argv[1]) if len(sys.argv) > 1 else os.path.join(TOP, "crates/stratbench/out/stratbench")
+    program = built_program()
     heading("Files: a tree of 99,000 terms")
     with tempfile.TemporaryDirectory() as folder:
         large, small, out = (os.path.join(folder, name) for name in ("large", "small", "out"))

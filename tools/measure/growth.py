@@ -8,11 +8,9 @@ It needs `valgrind` and Python. A list is loaded from a file, by `--tree`; a str
 Instructions are counted by callgrind, less those of a run that applies `id`.
 """
 
-import os
-import sys
 import tempfile
 
-from measure import TOP, heading, instructions
+from measure import built_program, heading, instructions
 
 LIBRARY = r"""module lists
   signature constructors A : t  B : t  F : t * t -> t
@@ -65,7 +63,7 @@ def counted(program, levels, count, strategy):
 
 
 def main():
-    program = sys.argv[1] if len(sys.argv) > 1 else os.path.join(TOP, "crates/stratbench/out/stratbench")
+    program = built_program()
     heading("Lists that strategies make: instructions an element")
     print("| Strategy | elements | lengths | | | |")
     print("|---|---|---|---|---|---|")

@@ -10,11 +10,9 @@ entry that was pushed, less those of a run without the call. A kept program is m
 program, by commands beside a module of many definitions.
 """
 
-import os
-import sys
 import tempfile
 
-from measure import TOP, build, heading, instructions
+from measure import build, built_program, heading, instructions
 
 USES = "term_core change_log anyhow"
 SHAPES = {
@@ -57,9 +55,7 @@ def kept_program(stratbench):
 
 
 def main():
-    stratbench = os.path.join(TOP, "crates", "stratbench", "out", "stratbench")
-    if not os.path.exists(stratbench):
-        sys.exit("build the program first: (cd crates/stratbench && rt run < stdin)")
+    stratbench = built_program()
     with tempfile.TemporaryDirectory() as folder:
         compacting(build(folder, "logs.txt", USES))
     kept_program(stratbench)

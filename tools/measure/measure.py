@@ -31,12 +31,23 @@ SHAPES = {
 }
 
 
+def built_program():
+    """The program to measure: the one that the command line names, or that of this checkout."""
+    program = os.path.abspath(sys.argv[1]) if len(sys.argv) > 1 else os.path.join(TOP, "crates", "stratbench", "out", "stratbench")
+    if not os.path.exists(program):
+        sys.exit("build the program first: (cd crates/stratbench && rt run < stdin)")
+    return program
+
+
 def heading(title):
     """Prints a title over a table, with the script, the day and the commit that is measured, as RESULTS.md has them."""
+    script = os.path.basename(sys.argv[0])
+    if len(sys.argv) > 1:
+        print(f"\n## {title}\n\n`{script}`, of the program {sys.argv[1]}\n", flush=True)
+        return
     git = ["git", "-C", TOP]
     commit = subprocess.run([*git, "log", "-1", "--format=%cs, commit %h"], check=True, capture_output=True, text=True).stdout.strip()
     changed = subprocess.run([*git, "status", "--porcelain", "crates"], check=True, capture_output=True, text=True).stdout
-    script = os.path.basename(sys.argv[0])
     print(f"\n## {title}\n\n`{script}`, {commit}{' with changes' if changed else ''}\n", flush=True)
 
 
@@ -67,7 +78,7 @@ def with_those_below(uses):
 
 
 def build(folder, program, uses):
-    """Proves and builds a small program that uses these crates, on copies of them and of those below, and tells where it is."""
+    """Proves and builds a small program that uses these crates, on copies of them and of those below, and returns its path."""
     needed = with_those_below(uses)
     for crate in needed:
         shutil.copytree(os.path.join(TOP, "crates", crate), os.path.join(folder, "crates", crate))
@@ -87,9 +98,7 @@ def build(folder, program, uses):
 
 
 def main():
-    stratbench = os.path.join(TOP, "crates", "stratbench", "out", "stratbench")
-    if not os.path.exists(stratbench):
-        sys.exit("build the program first: (cd crates/stratbench && rt run < stdin)")
+    stratbench = built_program()
     empty, _ = instructions(stratbench, [], "")
     with tempfile.TemporaryDirectory() as folder:
         program = build(folder, "program.txt", "term_core aterm_text anyhow")

@@ -9,12 +9,10 @@ is applied, both are undone, another is applied and undone, the last module is u
 three.
 """
 
-import os
 import random
-import sys
 import time
 
-from measure import TOP, heading
+from measure import built_program, heading
 from scripts import most_memory
 
 RULES = 20
@@ -55,9 +53,7 @@ def row(program, what, lines):
 
 
 def main():
-    program = sys.argv[1] if len(sys.argv) > 1 else os.path.join(TOP, "crates", "stratbench", "out", "stratbench")
-    if not os.path.exists(program):
-        sys.exit("build the program first: (cd crates/stratbench && rt run < stdin)")
+    program = built_program()
     heading("Modules on the built program: time and memory of a run")
     print("| What | Time | Memory | Script |")
     print("|---|---|---|---|")

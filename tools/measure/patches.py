@@ -8,13 +8,11 @@ It needs `valgrind`, GNU time and Python. Instructions are counted by callgrind,
 the most that the whole program took.
 """
 
-import os
 import subprocess
-import sys
 import time
 
 from applies import SIGNATURE, tree
-from measure import TOP, heading, instructions
+from measure import built_program, heading, instructions
 
 TIMES = 20
 WIDE = [1000, 8000]
@@ -80,7 +78,7 @@ def one(program):
 
 
 def main():
-    program = sys.argv[1] if len(sys.argv) > 1 else os.path.join(TOP, "crates/stratbench/out/stratbench")
+    program = built_program()
     heading("Patches: what many places and one take")
     wide(program)
     deep(program)

@@ -10,10 +10,9 @@ is counted. Memory is the most of a run that lies in memory at a time.
 
 import os
 import subprocess
-import sys
 import tempfile
 
-from measure import BYTES, SHAPES, TOP, heading, instructions
+from measure import BYTES, SHAPES, built_program, heading, instructions
 
 NAMES = 1000
 TIMES = 1000
@@ -67,9 +66,7 @@ def steps(program):
 
 
 def main():
-    program = os.path.join(TOP, "crates", "stratbench", "out", "stratbench")
-    if not os.path.exists(program):
-        sys.exit("build the program first: (cd crates/stratbench && rt run < stdin)")
+    program = built_program()
     empty, _ = instructions(program, [], "")
     heading("Scripts on the built program: instructions a byte or a command")
     print("| What | |")

@@ -9,11 +9,9 @@ It needs `rt`, `valgrind` and Python. The calls are measured by a small program 
 the built program. Printed are instructions for one call, less those of a run without them.
 """
 
-import os
-import sys
 import tempfile
 
-from measure import TOP, build, heading, instructions
+from measure import build, built_program, heading, instructions
 
 USES = "term_core term_paths prim_core session_core itoa anyhow"
 TIMES = 1000
@@ -56,9 +54,7 @@ def tree_command(stratbench):
 
 
 def main():
-    stratbench = os.path.join(TOP, "crates", "stratbench", "out", "stratbench")
-    if not os.path.exists(stratbench):
-        sys.exit("build the program first: (cd crates/stratbench && rt run < stdin)")
+    stratbench = built_program()
     with tempfile.TemporaryDirectory() as folder:
         program = build(folder, "sessions.txt", USES)
         places(program)

@@ -4,17 +4,15 @@ Run by hand at the top of the repository, after the program was built (README ha
 
     python3 tools/measure/strategies.py [PROGRAM]
 
-It needs `valgrind` and Python. A session loads a module and a tree, and applies a strategy and undoes it, once and four times; a third of
-the difference is counted. Printed are the steps that it takes and instructions for each, for two sizes of which the second is eight times
-the first.
+It needs `valgrind` and Python. Two scripts are run for each shape. Both load a module and a tree; one applies a strategy and undoes it once,
+the other four times. A third of the difference counts. Printed are the steps that the strategy takes and instructions for each, for two
+sizes of which the second is eight times the first.
 """
 
-import os
 import re
 import subprocess
-import sys
 
-from measure import TOP, heading, instructions
+from measure import built_program, heading, instructions
 
 LIBRARY = """module m signature constructors A : t  B : t  C : t  Z : t  F : t * t -> t  G : t -> t  S : t -> t
   Plus : t * t -> t  Num : t -> t  Not : t -> t  And : t * t -> t  Or : t * t -> t  T : t  U : t  strategies try(s) = s <+ id  topdown(s) = s; all(topdown(s))  bottomup(s) = all(bottomup(s)); s
@@ -52,6 +50,11 @@ def deep(n):
     return "G(" * n + "A" + ")" * n
 
 
+def last(leaves):
+    """A balanced tree whose last leaf is another one."""
+    return "B" if leaves == 1 else f"F({balanced(leaves // 2)},{last(leaves // 2)})"
+
+
 # For each shape the strategy, the term for a size, and the smaller size.
 SHAPES = {
     "`topdown(id)`": ("topdown(id)", balanced, 2**8),
@@ -63,17 +66,12 @@ SHAPES = {
     "reversal by an accumulator": ("reverse", listed, 500),
     "`innermost(P)`": ("innermost(P)", lambda n: f"Plus({number(n)},{number(n)})", 15),
     "`outermost(P)`": ("outermost(P)", lambda n: f"Plus({number(n)},{number(n)})", 11),
-    "`oncetd` to the last leaf": ("oncetd(?B(); !C())", lambda n: last(n), 2**8),
+    "`oncetd` to the last leaf": ("oncetd(?B(); !C())", last, 2**8),
     "failing": ("(bottomup(try(?A(); !B())); fail) <+ id", balanced, 2**8),
     "`where(..)`": ("where(bottomup(try(?A(); !B())))", balanced, 2**8),
     "`innermost(E)`, twelve rules": ("innermost(E)", logic, 2**5),
     "deep": ("topdown(try(?G(x); !G(x)))", deep, 60),
 }
-
-
-def last(leaves):
-    """A balanced tree whose last leaf is another one."""
-    return "B" if leaves == 1 else f"F({balanced(leaves // 2)},{last(leaves // 2)})"
 
 
 def steps_of(program, loaded, strategy):
@@ -94,7 +92,7 @@ def counted(program, loaded, strategy, steps):
 
 
 def main():
-    program = sys.argv[1] if len(sys.argv) > 1 else os.path.join(TOP, "crates/stratbench/out/stratbench")
+    program = built_program()
     heading("Strategies: instructions a step, applying and undoing")
     print("| Shape | steps | instructions a step | steps | instructions a step |")
     print("|---|---|---|---|---|")
