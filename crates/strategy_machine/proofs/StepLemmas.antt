@@ -7,7 +7,7 @@ use Rattle.strategy_syntax.specs.Resolved.{ResolvedStrategy}
 use Rattle.strategy_meaning.specs.Answer.{Answer}
 use Rattle.strategy_meaning.specs.Meaning.{World}
 use Rattle.strategy_machine.specs.Table.{scopes}
-use Rattle.strategy_machine.specs.inside.Walks.{LastGoesOn, passed, next_part, LastPasses}
+use Rattle.strategy_machine.specs.inside.Walks.{LastGoesOn, passed, next_part, LastStepsOver}
 use Rattle.strategy_machine.specs.Turns.{state_of, HoldsIn, Holds}
 use Rattle.strategy_machine.specs.declared.machine.Machine.{Machine}
 use Rattle.strategy_machine.specs.declared.trail.Trail.{Trail}
@@ -46,7 +46,7 @@ cuts_as : (j k : ℕ) (t u : Trail) → j ≡ k → Cuts j t u → Cuts k t u
 cuts_as j k t u e c T D x = c T D (e ∙ x)
 
 pub frame_passes : (W : World) (sub : Standing) (whole : Answer) (m : Machine) (s : Bor ResolvedStrategy) (n : ℕ) (mark : Mark) (q : Standing) (new : List Frame) (edits : ℕ) (D : CellContents) (u : Trail)
-    → LastPasses (slots.Leftmost s n mark) m.frames m.part (Some edits) new q → Cuts edits m.trail u → D.bindings ≡ kept m.cells mark → mark_of D ≡ mark → Stays mark m.cells D
+    → LastStepsOver (slots.Leftmost s n mark) m.frames m.part (Some edits) new q → Cuts edits m.trail u → D.bindings ≡ kept m.cells mark → mark_of D ≡ mark → Stays mark m.cells D
     → Holds W sub whole m Failed → HoldsIn W sub whole (st D (scopes m.scopes) u m.level m.steps (reverse new)) (Begin s n q)
 frame_passes W sub whole m s n mark q new edits D u (front, w, v, e, d, found) cu de me sy h =
     with_frames W sub whole (st D (scopes m.scopes) u m.level m.steps (reverse new)) (Begin s n q) (frames.Leftmost s n (passed w) mark ∷ reverse front) (reverse new)
@@ -55,7 +55,7 @@ frame_passes W sub whole m s n mark q new edits D u (front, w, v, e, d, found) c
     (popped W sub whole m Failed front (frames.Leftmost s n w mark) e h))
 
 pub frame_passes_some : (W : World) (sub : Standing) (whole : Answer) (m : Machine) (s : Bor ResolvedStrategy) (n : ℕ) (mark : Mark) (any : Bool) (q : Standing) (new : List Frame) (edits : ℕ) (D : CellContents) (u : Trail)
-    → LastPasses (slots.Those s n mark any) m.frames m.part (Some edits) new q → Cuts edits m.trail u → D.bindings ≡ kept m.cells mark → mark_of D ≡ mark → Stays mark m.cells D
+    → LastStepsOver (slots.Those s n mark any) m.frames m.part (Some edits) new q → Cuts edits m.trail u → D.bindings ≡ kept m.cells mark → mark_of D ≡ mark → Stays mark m.cells D
     → Holds W sub whole m Failed → HoldsIn W sub whole (st D (scopes m.scopes) u m.level m.steps (reverse new)) (Begin s n q)
 frame_passes_some W sub whole m s n mark any q new edits D u (front, w, v, e, d, found) cu de me sy h =
     with_frames W sub whole (st D (scopes m.scopes) u m.level m.steps (reverse new)) (Begin s n q) (frames.Those s n (passed w) mark any ∷ reverse front) (reverse new)
@@ -65,19 +65,19 @@ frame_passes_some W sub whole m s n mark any q new edits D u (front, w, v, e, d,
 
 -- the cells' mark comes after that of the frame
 pub passes_after : (W : World) (sub : Standing) (whole : Answer) (m : Machine) (s : Bor ResolvedStrategy) (n : ℕ) (mark : Mark) (q : Standing) (new : List Frame) (found : Option ℕ)
-    → LastPasses (slots.Leftmost s n mark) m.frames m.part found new q → Holds W sub whole m Failed → Before mark (mark_of m.cells)
+    → LastStepsOver (slots.Leftmost s n mark) m.frames m.part found new q → Holds W sub whole m Failed → Before mark (mark_of m.cells)
 passes_after W sub whole m s n mark q new found (front, w, v, e, d, rest) h = (popped W sub whole m Failed front (frames.Leftmost s n w mark) e h).opens.is.2
 
 pub passes_some_after : (W : World) (sub : Standing) (whole : Answer) (m : Machine) (s : Bor ResolvedStrategy) (n : ℕ) (mark : Mark) (any : Bool) (q : Standing) (new : List Frame) (found : Option ℕ)
-    → LastPasses (slots.Those s n mark any) m.frames m.part found new q → Holds W sub whole m Failed → Before mark (mark_of m.cells)
+    → LastStepsOver (slots.Those s n mark any) m.frames m.part found new q → Holds W sub whole m Failed → Before mark (mark_of m.cells)
 passes_some_after W sub whole m s n mark any q new found (front, w, v, e, d, rest) h = (popped W sub whole m Failed front (frames.Those s n w mark any) e h).opens.is.2
 
 -- without a next child, the frames stay
-pub frames_stay : (x : Slot) (old new : List Frame) (p q : Standing) → LastPasses x old p None new q → new ≡ old
+pub frames_stay : (x : Slot) (old new : List Frame) (p q : Standing) → LastStepsOver x old p None new q → new ≡ old
 frames_stay x old new p q (front, w, v, e, d, found) = d ∙ ap (λ (y : Walk). front ++ with_walk x y) found.0 ∙ sym e
 
 pub frame_ends : (W : World) (sub : Standing) (whole : Answer) (m : Machine) (s : Bor ResolvedStrategy) (n : ℕ) (mark : Mark) (q : Standing) (new rest : List Frame) (w : Walk) (u : Trail)
-    → LastPasses (slots.Leftmost s n mark) m.frames m.part None new q → new ≡ rest ++ frames.Leftmost s n w mark ∷ [] → Cuts w.edits m.trail u
+    → LastStepsOver (slots.Leftmost s n mark) m.frames m.part None new q → new ≡ rest ++ frames.Leftmost s n w mark ∷ [] → Cuts w.edits m.trail u
     → Holds W sub whole m Failed → HoldsIn W sub whole (st m.cells (scopes m.scopes) u w.level m.steps (reverse rest)) Failed
 frame_ends W sub whole m s n mark q new rest w u (front, x, v, e, d, found) is cu h =
     let same : frames.Leftmost s n w mark ≡ frames.Leftmost s n v mark = (same_from_push rest front (frames.Leftmost s n w mark) (frames.Leftmost s n v mark) (sym is ∙ d)).1 in

@@ -7,7 +7,7 @@ use Rattle.strategy_meaning.specs.Meaning.{World}
 use Rattle.strategy_machine.specs.Table.{scopes}
 use Rattle.strategy_machine.specs.Turns.{State, state_of, HoldsIn, Holds}
 use Rattle.strategy_machine.specs.inside.Taking.{Replaced}
-use Rattle.strategy_machine.specs.inside.Turning.{ComesUp, Rises, GoesDown}
+use Rattle.strategy_machine.specs.inside.Turning.{ComesUp, Rises, Descends}
 use Rattle.strategy_machine.specs.declared.machine.Machine.{Machine}
 use Rattle.strategy_machine.specs.declared.frames.Walk.{Walk}
 use Rattle.strategy_machine.specs.declared.frames.Frame.{Frame}
@@ -44,7 +44,7 @@ rose W sub whole m new w p k h = at_level W sub whole m new w.level k.level k.re
 
 -- the child is in focus, and its node waits in a frame
 pub went_down : (W : World) (sub : Standing) (whole : Answer) (m new : Machine) (p : Standing) (ps parts : Vec Standing Global) (i : ℕ) (w : Walk) (f : Walk → Frame) (gs : List Frame) (s : Bor ResolvedStrategy) (n : ℕ)
-    → GoesDown m p ps i new w → ps ≡ parts → gs ≡ new.frames ++ f w ∷ []
+    → Descends m p ps i new w → ps ≡ parts → gs ≡ new.frames ++ f w ∷ []
     → HoldsIn W sub whole (below (state_of m) (f (walk_at m.part parts i (state_of m)))) (Begin s n p)
     → HoldsIn W sub whole (record { cells = new.cells; scopes = scopes new.scopes; trail = new.trail; level = new.level; frames = reverse gs; steps = new.steps }) (Begin s n new.part)
 went_down W sub whole m new p ps parts i w f gs s n k q e h =

@@ -9,7 +9,7 @@ ghost use Rattle.strategy_machine.specs.Leading.{PartsStand, all_parts, node_wit
 ghost use Rattle.strategy_machine.specs.inside.Filling.{Fills};
 ghost use Rattle.strategy_machine.specs.Hands.{Each, Leftmost, Those};
 ghost use Rattle.strategy_machine.specs.Turns.{Turn, Falls};
-ghost use Rattle.strategy_machine.specs.inside.Turning.{Descends, EndFalls, GoesDown};
+ghost use Rattle.strategy_machine.specs.inside.Turning.{GoesIn, EndFalls, Descends};
 ghost use Rattle.strategy_machine.specs.inside.Taking.{Takes, TakeFalls};
 ghost use Rattle.strategy_syntax.specs.Resolved.{all};
 
@@ -205,7 +205,7 @@ pub(crate) fn descend<'t>(
     parts: Vec<Part<'t>>,
     index: usize,
 ) -> Result<Walk<'t>, NoMemory>
-    ensures down { IfOk result (λ walk. GoesDown m.old child.entry parts.entry index m.new walk) }
+    ensures down { IfOk result (λ walk. Descends m.old child.entry parts.entry index m.new walk) }
     ensures steps { OnOk result (m.new.steps ≡ m.old.steps) }
     ensures len { OnOk result (length m.new.frames ≡ length m.old.frames) }
 {
@@ -255,7 +255,7 @@ pub(crate) fn go_in<'t>(
 ) -> Result<Turned, NoMemory>
     ensures ok { (W : World) (acts : Acts)
         → acts_list acts (length (children (standing_tree m.old.part)) - index) ≡ strategy.entry.now ∷ acts_list others.entry (length (children (standing_tree m.old.part)) - index - 1)
-        → IfOk result (λ next. Descends W m.old acts scope m.old.part index m.new next) }
+        → IfOk result (λ next. GoesIn W m.old acts scope m.old.part index m.new next) }
     ensures less { IfOk result (λ next. EndFalls m.old m.new next) }
 {
     let parts = Vec::new(alloc);

@@ -71,14 +71,16 @@ pub(crate) fn rewrite_or<'t>(
     }
 }
 
-/// A rule, the scope around its variables unless that is the empty one, and the steps up to its
-/// match.
+/// A rule, with what it takes to begin it.
 #[derive(Clone, Copy)]
 pub(crate) struct Rule<'t> {
+    /// How many variables it has.
     pub count: usize,
     pub left: &'t Place,
     pub right: &'t Place,
+    /// The scope around its variables, or `None` for the empty one.
     pub outer: Option<usize>,
+    /// The steps up to its match, and that of the match.
     pub price: u64,
 }
 
@@ -136,8 +138,8 @@ fn rule_in<'t>(strategy: &'t ResolvedStrategy, outer: Option<usize>, price: u64)
 }
 
 /// A choice whose first branch is a rule. Its steps up to the match are charged together, and no
-/// frame is needed. If the root rules the rule out, rules that the root rules out are passed over in
-/// the other branch, too.
+/// frame is needed. If the root shows that the rule can't match, the first alternatives of the other
+/// branch that are rules for other roots are passed over, too.
 #[inline(never)]
 pub(crate) fn rule_or<'t>(
     alloc: Global,

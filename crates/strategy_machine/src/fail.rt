@@ -10,7 +10,7 @@ ghost use Rattle.term_changes.specs.Standing.{Standing};
 ghost use Rattle.strategy_machine.specs.Hands.{Failed};
 ghost use Rattle.strategy_machine.specs.Turns.{Turn, Falls, Holds};
 ghost use Rattle.strategy_machine.specs.inside.Slots.{EndsWith};
-ghost use Rattle.strategy_machine.specs.inside.Walks.{Passes};
+ghost use Rattle.strategy_machine.specs.inside.Walks.{StepsOver};
 
 use crate::children::{child_now, go_over};
 use crate::frames::{Turned, Walk, drop_changed, drop_part, drop_parts, drop_walk, put, put_parts};
@@ -149,11 +149,11 @@ fn fail_head<'t>(m: &mut Machine<'t>) -> Result<Turned, NoMemory>
     Ok(m.fails())
 }
 
-/// Replaces the failed child by the next one, if there is one, and returns the count of edits to go
-/// back to.
+/// Moves the walk on from the failed child to the next one, which takes the place of `part`. Returns
+/// the count of edits to go back to, or `None`, with nothing changed, if there is no next child.
 #[inline(always)]
 pub(crate) fn pass<'t>(walk: &mut Walk<'t>, part: &mut Part<'t>) -> Result<Option<usize>, NoMemory>
-    ensures { IfOk result (λ found. Passes walk.old part.old found walk.new part.new) }
+    ensures { IfOk result (λ found. StepsOver walk.old part.old found walk.new part.new) }
 {
     let Some(index) = walk.index.checked_add(1) else {
         return Err(NoMemory);

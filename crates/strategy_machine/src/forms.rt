@@ -90,8 +90,8 @@ pub(crate) fn replace<'t>(
     }
 }
 
-/// A sequence. If its first strategy is a match, a name of `id`, or one for each child of a node
-/// without children, that is done at once.
+/// A sequence. If its first strategy is a match, a name of `id`, or `all` at a node without children,
+/// that is done at once.
 #[inline(always)]
 pub(crate) fn take_seq<'t>(
     alloc: Global,

@@ -111,7 +111,8 @@ impl<'t> Machine<'t> {
         Turned::On
     }
 
-    /// The same, but the step of `id` is charged at once.
+    /// The same, but if the strategy is `id` and a step is left, the step is charged and the focus is
+    /// given at once.
     #[inline(always)]
     pub(crate) fn goes_on(&mut self, strategy: &'t ResolvedStrategy, scope: usize) -> Turned
         ensures keeps { (W : World) (sub : Standing) (whole : Answer)

@@ -7,7 +7,7 @@
 ghost use Rattle.std.specs.Prelude.{◌≡◌, ◌+◌, [], ◌∷◌, ◌++◌, length, reverse, true, IfOk, OnOk, MatchOption};
 ghost use Rattle.strategy_machine.specs.Trails.{path_of};
 ghost use Rattle.strategy_machine.specs.inside.Slots.{EndsWith, EndsIn, has_walk, has_start, has_front, has_first, is_alone, alone, with_walk, with_start, with_front, with_first};
-ghost use Rattle.strategy_machine.specs.inside.Walks.{LastGoesOn, LastPasses};
+ghost use Rattle.strategy_machine.specs.inside.Walks.{LastGoesOn, LastStepsOver};
 
 use crate::children::first_act;
 use crate::fail::pass;
@@ -399,7 +399,7 @@ impl<'t> Frames<'t> {
     #[inline(always)]
     pub(crate) fn pass_child(&mut self, part: &mut Part<'t>) -> Result<Option<usize>, NoMemory>
         requires { EndsIn has_walk self.old }
-        ensures items { IfOk result (λ found. (x : Slot) → EndsWith x self.old → LastPasses x self.old part.old found self.new part.new) }
+        ensures items { IfOk result (λ found. (x : Slot) → EndsWith x self.old → LastStepsOver x self.old part.old found self.new part.new) }
         ensures len { IfOk result (λ found. length self.new ≡ length self.old) }
     {
         let walk = self.walks.len() - 1;

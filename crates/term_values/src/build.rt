@@ -91,7 +91,7 @@ impl<'t> Value<'t> {
         node.with_annotations_of(alloc, self)
     }
 
-    /// The same root over these children, which are one or two. An integer has none.
+    /// The same root over these children. An integer has none.
     pub(crate) fn with_items(&self, alloc: Global, items: Items<'t>) -> Result<Value<'t>, NoMemory>
         ensures { IfOk result (λ value. value ≡ with_children self.now (items_list items.entry)) }
     {
@@ -186,16 +186,16 @@ impl<'t> Value<'t> {
     }
 }
 
-// The value takes the place of value `i`, counted from 0, if there is one.
-fn put_at<'t>(all: &mut Vec<Value<'t>>, i: usize, value: Value<'t>)
-    ensures { all.new.items ≡ slice_set all.old.items i value.entry }
+/// The item takes the place of item `i`, counted from 0, if there is one.
+pub(crate) fn put_at<T: Drop>(all: &mut Vec<T>, i: usize, item: T)
+    ensures { all.new.items ≡ slice_set all.old.items i item }
 {
     if i < all.len() {
-        all[i] = value;
+        all[i] = item;
     }
 }
 
-// One value, or this one if `i` is 0.
+// The one value, or this one in its place if `i` is 0.
 fn one_with<'t>(all: &[Value<'t>], i: usize, value: Value<'t>) -> Result<Items<'t>, NoMemory>
     requires { length all.now ≡ 1 }
     ensures { IfOk result (λ items. items_list items ≡ slice_set all.now i value.entry) }
@@ -207,7 +207,7 @@ fn one_with<'t>(all: &[Value<'t>], i: usize, value: Value<'t>) -> Result<Items<'
     Ok(Items::One(Single { items }))
 }
 
-// Two values, of which this one takes the place of value `i`, counted from 0, if there is one.
+// The two values, with this one in the place of value `i`, counted from 0, if there is one.
 fn two_with<'t>(all: &[Value<'t>], i: usize, value: Value<'t>) -> Result<Items<'t>, NoMemory>
     requires { length all.now ≡ 2 }
     ensures { IfOk result (λ items. items_list items ≡ slice_set all.now i value.entry) }

@@ -7,6 +7,7 @@ ghost use Rattle.term_changes.specs.Standing.{standing_tree, standing_children, 
 ghost use Rattle.term_values.specs.inside.Bounded.{Bounded, AllBounded, AllWithin};
 
 use crate::bounds::Bounds;
+use crate::build::put_at;
 use crate::part::{Changed, Part, PartForm};
 use crate::value::{Items, Pair, Single, Value, bounds_of};
 use std::alloc::Global;
@@ -86,17 +87,8 @@ impl<'t> Part<'t> {
             return Ok(Part::new(value.with_child(alloc, i, part.into_value())?));
         }
         let mut all = self.parts(alloc)?;
-        put_part(&mut all, i, part);
+        put_at(&mut all, i, part);
         self.with_parts(alloc, all)
-    }
-}
-
-// The part takes the place of part `i`, counted from 0, if there is one.
-fn put_part<'t>(all: &mut Vec<Part<'t>>, i: usize, part: Part<'t>)
-    ensures { all.new.items ≡ slice_set all.old.items i part.entry }
-{
-    if i < all.len() {
-        all[i] = part;
     }
 }
 

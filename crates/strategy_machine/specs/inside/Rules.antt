@@ -10,7 +10,8 @@ use Rattle.strategy_meaning.specs.Meaning.{World, run, cut}
 use Rattle.strategy_machine.specs.Table.{scope_at, scope_from, IsThere}
 use Rattle.strategy_machine.specs.declared.choices.Rule.{Rule}
 
--- Once its price is paid, s in scope n has matched the left side of the rule.
+-- In scope n, s is the rule: with fewer steps than its price it is spent; else it is the rule's match
+-- and build over new cells, and two steps of the price are those of the sequence and the match.
 pub record IsRule (ds : List Resolved) (es : List Scope) (s : ResolvedStrategy) (n : ℕ) (r : Rule) : Type 0 where
   pub there : n < length es → IsThere (length es) r.outer
   pub spent : (W : World) → W.bodies ≡ ds → (l b : ℕ) (B : Bindings) (t : Tree) → b < r.price → run W (scope_at es n) l s b B t ≡ stopped spent

@@ -63,7 +63,7 @@ EndFalls m new turns.Big = Unit {0}
 
 -- Beginning with the children from index i on, none of which has changed, preserves the whole
 -- answer.
-pub record Descends (W : World) (m : Machine) (acts : Acts) (n : ℕ) (p : Standing) (i : ℕ) (new : Machine) (next : Turned) : Type 0 where
+pub record GoesIn (W : World) (m : Machine) (acts : Acts) (n : ℕ) (p : Standing) (i : ℕ) (new : Machine) (next : Turned) : Type 0 where
   pub keeps : (sub : Standing) (whole : Answer) → ((parts : Vec Standing Global) → parts.items ≡ [] → Holds W sub whole m (Each acts n p i parts)) → After W sub whole new next
 
 -- The walk moves up from its child, which is now p; if there was no edit since the child's turn
@@ -83,7 +83,7 @@ pub record Rises (m : Machine) (w : Walk) (p : Standing) (new : Machine) : Type 
 
 -- The machine goes down from its focus into child i, which is p: the walk holds the node, with these
 -- parts in the places of its first children.
-pub record GoesDown (m : Machine) (p : Standing) (parts : Vec Standing Global) (i : ℕ) (new : Machine) (w : Walk) : Type 0 where
+pub record Descends (m : Machine) (p : Standing) (parts : Vec Standing Global) (i : ℕ) (new : Machine) (w : Walk) : Type 0 where
   pub walk : w ≡ record { node = m.part; parts = parts; index = i; level = m.level; edits = m.trail.count }
   pub part : new.part ≡ p
   pub level : new.level ≡ m.level + 1

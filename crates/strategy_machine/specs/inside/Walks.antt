@@ -58,11 +58,11 @@ abbrev pub next_part : Walk → Option Standing
 next_part w = slice_get (parts_now w.node (walk_parts w)) (w.index + 1)
 
 -- The walk moves on from p, whose edits are forgotten, to the next child, q, if there is one.
-abbrev pub Passes : Walk → Standing → Option ℕ → Walk → Standing → Type 0
-Passes w p found v q = MatchOption found ((v ≡ w) × (q ≡ p) × (next_part w ≡ None))
+abbrev pub StepsOver : Walk → Standing → Option ℕ → Walk → Standing → Type 0
+StepsOver w p found v q = MatchOption found ((v ≡ w) × (q ≡ p) × (next_part w ≡ None))
     (λ edits. (edits ≡ w.edits) × (v ≡ passed w) × (next_part w ≡ Some q))
 
 -- the same for the walk of the innermost of these frames, which has slot x
-abbrev pub LastPasses : Slot → List Frame → Standing → Option ℕ → List Frame → Standing → Type 0
-LastPasses x fs p found gs q =
-    (front : List Frame) × (w : Walk) × (v : Walk) × (fs ≡ front ++ with_walk x w) × (gs ≡ front ++ with_walk x v) × Passes w p found v q
+abbrev pub LastStepsOver : Slot → List Frame → Standing → Option ℕ → List Frame → Standing → Type 0
+LastStepsOver x fs p found gs q =
+    (front : List Frame) × (w : Walk) × (v : Walk) × (fs ≡ front ++ with_walk x w) × (gs ≡ front ++ with_walk x v) × StepsOver w p found v q
