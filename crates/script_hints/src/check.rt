@@ -7,8 +7,7 @@ use crate::parts::{Parts, takes_strategy};
 use crate::places::{position_of, say_place, say_position, show_line, show_place};
 use crate::seen::Seen;
 use crate::uses::{Fault, Found, find_in_module, find_in_strategy};
-use prim_core::Meaning;
-use session_core::Session;
+use session_history::Timeline;
 use std::alloc::Global;
 use strategy_check::FaultKind;
 use strategy_syntax::Module;
@@ -16,15 +15,15 @@ use strategy_tokens::token_place;
 use term_core::{Label, NoMemory};
 
 /// Refusal 11: where the fault is, and which names and numbers of arguments there are.
-pub fn explain_check<M: Meaning>(
+pub fn explain_check(
     alloc: Global,
     hint: &mut Hint,
-    session: &Session<M>,
+    history: &Timeline,
     seen: &Seen<'_>,
     parts: &Parts<'_>,
     fault: Fault<'_>,
 ) -> Result<(), NoMemory> {
-    let names = session.module_names()?;
+    let names = history.module_names()?;
     let mut texts = Vec::new(alloc);
     let mut waiting = parts.word == b"module".as_slice();
     for name in &names {
@@ -36,7 +35,7 @@ pub fn explain_check<M: Meaning>(
         if label != parts.name || !changes_module(parts) {
             texts.push(ModuleText {
                 name: label,
-                text: session.module_text(name).unwrap_or(&[]),
+                text: history.module_text(name).unwrap_or(&[]),
                 new: false,
             })?;
         }

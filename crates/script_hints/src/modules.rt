@@ -1,7 +1,6 @@
-//! The modules of a session, read again.
+//! The modules of a history, read again.
 
-use prim_core::Meaning;
-use session_core::Session;
+use session_history::Timeline;
 use std::alloc::Global;
 use strategy_parse::{ParseFault, parse_module};
 use strategy_syntax::Module;
@@ -25,14 +24,11 @@ pub fn module_of(alloc: Global, text: &[u8]) -> Result<Option<Module>, NoMemory>
     }
 }
 
-/// The modules of the session, in the order of their names.
-pub fn modules_of<M: Meaning>(
-    alloc: Global,
-    session: &Session<M>,
-) -> Result<Vec<Module>, NoMemory> {
+/// The modules of the history, in the order of their names.
+pub fn modules_of(alloc: Global, history: &Timeline) -> Result<Vec<Module>, NoMemory> {
     let mut modules = Vec::new(alloc);
-    for name in &session.module_names()? {
-        let text = session.module_text(name).unwrap_or(&[]);
+    for name in &history.module_names()? {
+        let text = history.module_text(name).unwrap_or(&[]);
         if let Some(module) = module_of(alloc, text)? {
             modules.push(module)?;
         }

@@ -16,73 +16,67 @@ use crate::syntax::explain_syntax;
 use crate::terms::explain_term;
 use crate::trees::{explain_fails, explain_path};
 use crate::uses::fault_of;
-use prim_core::Meaning;
-use session_core::Session;
-use session_history::Refusal;
+use session_history::{Refusal, Timeline};
 use std::alloc::Global;
 use term_core::{Label, NoMemory, Term};
 
-/// One to four lines on why the command was refused, without a line feed at the end. The session is
-/// the one that refused it.
+/// One to four lines on why the command was refused, without a line feed at the end. The history is
+/// that of the session that refused it.
 ///
 /// Errors: `NoMemory` if memory can't grow.
-pub fn explain<M: Meaning>(
+pub fn explain(
     alloc: Global,
-    session: &Session<M>,
+    history: &Timeline,
     seen: &Seen<'_>,
     refusal: &Refusal,
 ) -> Result<Vec<u8>, NoMemory> {
     let mut hint = Hint::new(alloc);
     say_refusal(&mut hint, seen, refusal);
-    say_all(alloc, &mut hint, session, seen, refusal)?;
+    say_all(alloc, &mut hint, history, seen, refusal)?;
     hint.into_text()
 }
 
-fn say_all<M: Meaning>(
+fn say_all(
     alloc: Global,
     hint: &mut Hint,
-    session: &Session<M>,
+    history: &Timeline,
     seen: &Seen<'_>,
     refusal: &Refusal,
 ) -> Result<(), NoMemory> {
     let parts = parts_of(seen.text);
     match refusal {
-        Refusal::NoTree => explain_missing(alloc, hint, &parts, &session.tree_names()?, "tree")?,
+        Refusal::NoTree => explain_missing(alloc, hint, &parts, &history.tree_names()?, "tree")?,
         Refusal::NoModule => {
-            explain_missing(alloc, hint, &parts, &session.module_names()?, "module")?
+            explain_missing(alloc, hint, &parts, &history.module_names()?, "module")?
         }
-        Refusal::Path => explain_path(alloc, hint, &parts, tree_of(alloc, session, &parts))?,
-        Refusal::Fails => say_fails(alloc, hint, session, seen, &parts)?,
-        Refusal::NoUndo => explain_steps(hint, session.counts().0, "undo"),
-        Refusal::NoRedo => explain_steps(hint, session.counts().1, "redo"),
+        Refusal::Path => explain_path(alloc, hint, &parts, tree_of(alloc, history, &parts))?,
+        Refusal::Fails => say_fails(alloc, hint, history, seen, &parts)?,
+        Refusal::NoUndo => explain_steps(hint, history.past() as u64, "undo"),
+        Refusal::NoRedo => explain_steps(hint, history.later() as u64, "redo"),
         other => match fault_of(other) {
-            Some(fault) => explain_check(alloc, hint, session, seen, &parts, fault)?,
+            Some(fault) => explain_check(alloc, hint, history, seen, &parts, fault)?,
             None => explain_text(alloc, hint, seen, &parts, other)?,
         },
     }
     Ok(())
 }
 
-fn say_fails<M: Meaning>(
+fn say_fails(
     alloc: Global,
     hint: &mut Hint,
-    session: &Session<M>,
+    history: &Timeline,
     seen: &Seen<'_>,
     parts: &Parts<'_>,
 ) -> Result<(), NoMemory> {
-    let modules = modules_of(alloc, session)?;
-    let tree = tree_of(alloc, session, parts);
+    let modules = modules_of(alloc, history)?;
+    let tree = tree_of(alloc, history, parts);
     explain_fails(alloc, hint, seen, parts, &modules, tree)
 }
 
 // The tree of the first name, if it has one.
-fn tree_of<'a, M: Meaning>(
-    alloc: Global,
-    session: &'a Session<M>,
-    parts: &Parts<'_>,
-) -> Option<&'a Term> {
+fn tree_of<'a>(alloc: Global, history: &'a Timeline, parts: &Parts<'_>) -> Option<&'a Term> {
     match Label::read(alloc, parts.name) {
-        Ok(name) => session.tree(&name),
+        Ok(name) => history.tree(&name),
         Err(_) => None,
     }
 }

@@ -6,8 +6,7 @@ use crate::modules::{module_of, modules_of};
 use crate::parts::parts_of;
 use crate::places::{say_place, say_source};
 use crate::seen::{Past, Seen};
-use prim_core::Meaning;
-use session_core::Session;
+use session_history::Timeline;
 use std::alloc::Global;
 use strategy_parse::{DefinitionTokens, definition_tokens};
 use strategy_syntax::{Definition, Module};
@@ -16,19 +15,15 @@ use term_core::{Name, NoMemory};
 use text_faults::{Role, roles_in_definition};
 
 /// A line for each oddity of a module that was accepted, without a line feed at the end; nothing if
-/// there is none. The session is the one after the command.
+/// there is none. The history is the one after the command.
 ///
 /// Errors: `NoMemory` if memory can't grow.
-pub fn warn<M: Meaning>(
-    alloc: Global,
-    session: &Session<M>,
-    seen: &Seen<'_>,
-) -> Result<Vec<u8>, NoMemory> {
+pub fn warn(alloc: Global, history: &Timeline, seen: &Seen<'_>) -> Result<Vec<u8>, NoMemory> {
     let parts = parts_of(seen.text);
     if parts.word != b"module".as_slice() {
         return Ok(Vec::new(alloc));
     }
-    let modules = modules_of(alloc, session)?;
+    let modules = modules_of(alloc, history)?;
     let constants = constants_of(alloc, &modules)?;
     drop(modules);
     let mut hint = Hint::new(alloc);

@@ -66,8 +66,8 @@ impl<M: Meaning> Session<M> {
         let _ = &self.timeline;
     }
 
-    /// The steps that are kept.
-    pub(crate) fn timeline(&self) -> &Timeline
+    /// The history as it is kept, to be read.
+    pub fn timeline(&self) -> &Timeline
         ensures { unfolded self.now.primitives result.now ≡ self.now }
     {
         &self.timeline

@@ -73,14 +73,14 @@ impl<M: Meaning, W: Write> Watch<M> for Explaining<'_, W> {
     }
 
     fn accepted(&mut self, session: &Session<M>, command: Piece<'_>) {
-        if let Ok(text) = warn(self.alloc, session, &self.seen(command)) {
+        if let Ok(text) = warn(self.alloc, session.timeline(), &self.seen(command)) {
             show(&mut self.screen, &text);
         }
         self.keep(command, true);
     }
 
     fn refused(&mut self, session: &Session<M>, command: Piece<'_>, refusal: &Refusal) {
-        if let Ok(text) = explain(self.alloc, session, &self.seen(command), refusal) {
+        if let Ok(text) = explain(self.alloc, session.timeline(), &self.seen(command), refusal) {
             show(&mut self.screen, &text);
         }
         self.keep(command, false);
@@ -99,7 +99,12 @@ pub fn explain_load<M: Meaning>(
     let Ok(command) = command_of(alloc, load, text) else {
         return false;
     };
-    match explain(alloc, session, &seen_in_file(load, &command), refusal) {
+    match explain(
+        alloc,
+        session.timeline(),
+        &seen_in_file(load, &command),
+        refusal,
+    ) {
         Ok(said) => {
             show(&mut screen, &said);
             true
@@ -117,7 +122,7 @@ pub fn warn_of_load<M: Meaning>(
     text: &[u8],
 ) {
     if let Ok(command) = command_of(alloc, load, text) {
-        if let Ok(said) = warn(alloc, session, &seen_in_file(load, &command)) {
+        if let Ok(said) = warn(alloc, session.timeline(), &seen_in_file(load, &command)) {
             show(&mut screen, &said);
         }
     }
