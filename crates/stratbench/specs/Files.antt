@@ -1,8 +1,10 @@
 -- What a module and a tree from a file are.
-use Rattle.std.specs.Prelude.{ℕ, List, [], ◌∷◌, ◌++◌, if◌then◌else◌}
+use Rattle.std.specs.Prelude.{◌≡◌, ℕ, List, [], ◌∷◌, ◌++◌, Ok, if◌then◌else◌}
 use Rattle.std.specs.List.{flat_map}
 use Rattle.aterm_text.specs.Tokens.{is_blank, without_blanks}
 use Rattle.aterm_text.specs.Grammar.{Spells}
+use Rattle.command_line.specs.declared.named.Load.{Load}
+use Rattle.command_line.specs.declared.named.Load.TheVariants.{Module, Tree}
 use Rattle.session_history.specs.History.{History}
 use Rattle.session_history.specs.Acts.{ComesTo, Given, ActResult, set_module, set_tree}
 use Rattle.script_text.specs.Script.{begins_command, pieces, without_end}
@@ -38,3 +40,13 @@ LoadsModule name text h = ComesTo (set_module name (module_text_of text)) h
 -- that sets a tree.
 abbrev pub LoadsTree : List ℕ → List ℕ → History → ActResult → Type 0
 LoadsTree name text h = Given (ReadAs Spells text) (λ tree. ComesTo (set_tree name tree) h)
+
+-- A file of the command line is loaded with this text, as the module or the tree of its name.
+abbrev pub Loads : Load → List ℕ → History → ActResult → Type 0
+Loads (Module named) text h = LoadsModule named.name text h
+Loads (Tree named) text h = LoadsTree named.name text h
+
+-- All are loaded, in their order: each with some text, at the history that the one before leaves.
+abbrev pub LoadsAll : List Load → History → History → Type 0
+LoadsAll [] h g = g ≡ h
+LoadsAll (load ∷ loads) h g = (text : List ℕ) × (next : History) × Loads load text h (Ok next) × LoadsAll loads next g

@@ -4,7 +4,7 @@ ghost use Rattle.std.specs.Prelude.{◌≡◌, ◌⊎◌, Ok, Err, OnOk, OnErr, 
 ghost use Rattle.script_text.specs.declared.framing.Framing.TheVariants.{Continued};
 ghost use Rattle.script_text.specs.Laws.{IsCommandText};
 ghost use Rattle.script_core.specs.inside.Performing.{reading_refusal};
-ghost use Rattle.stratbench.specs.Files.{LoadsModule, LoadsTree, module_text_of};
+ghost use Rattle.stratbench.specs.Files.{Loads, LoadsModule, LoadsTree, module_text_of};
 
 use crate::module_text::module_text;
 use crate::status::FileFault;
@@ -80,6 +80,9 @@ pub fn load_text<M: Meaning>(
     load: &Load<'_>,
     text: &[u8],
 ) -> Result<(), Refusal>
+    ensures ok { OnOk result (Loads load.now text.now session.old (Ok session.new)) }
+    ensures refused { IfErr result (λ refusal. (refusal ≡ Refusal.Memory)
+        ⊎ Loads load.now text.now session.old (Err refusal)) }
     ensures err { OnErr result (session.new ≡ session.old) }
 {
     match load {

@@ -1,8 +1,9 @@
 //! Reads a script from a file or standard input and answers each of its commands on standard output.
 #![tactic(auto)]
 
-ghost use Rattle.std.specs.Prelude.{◌+◌, ◌<◌, ◌^◌};
+ghost use Rattle.std.specs.Prelude.{◌≡◌, ◌+◌, ◌<◌, ◌^◌, ℕ, List, Ok, OnOk};
 ghost use Rattle.session_history.specs.Budget.{IsBudget};
+ghost use Rattle.stratbench.specs.Files.{Loads, LoadsAll};
 
 mod dialogue;
 mod explaining;
@@ -154,7 +155,9 @@ fn load_all<M: Meaning>(
     rt: &HostRuntime,
     session: &mut Session<M>,
     line: &CommandLine<'_>,
-) -> Result<(), u8> {
+) -> Result<(), u8>
+    ensures { OnOk result (LoadsAll line.now.loads.items session.old session.new) }
+{
     for load in &line.loads {
         match read_file(rt, load.file()) {
             Ok(text) => load_one(rt, session, load, &text, line.explains())?,
@@ -171,7 +174,9 @@ fn load_one<M: Meaning>(
     load: &Load<'_>,
     text: &[u8],
     explains: bool,
-) -> Result<(), u8> {
+) -> Result<(), u8>
+    ensures { OnOk result (Loads load.now text.now session.old (Ok session.new)) }
+{
     match load_text(rt.alloc(), session, load, text) {
         Ok(()) => {
             if explains {
