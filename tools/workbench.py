@@ -1,16 +1,19 @@
-"""What the tools that try the built program share: runs of a script, with the answer to each command apart.
+"""What the tools that try the built program share: the rows, and runs of a script with the answer to each command apart.
 
 A command is complete when the first byte of the next has come, and is answered before the program reads on. So a run whose
 reads end one byte into each command tells where each answer ends, and how many growths of memory it took.
 """
 
 import atexit
+import glob
 import os
 import re
 import resource
+import shlex
 import shutil
 import subprocess
 import tempfile
+from typing import Dict, List, NamedTuple, Optional
 
 TOP = os.path.dirname(os.path.dirname(os.path.realpath(__file__)))
 PROGRAM = f"{TOP}/crates/stratbench/out/stratbench"
@@ -58,6 +61,93 @@ def commands_of(script):
         elif commands:
             commands[-1] += b"\n" + line
     return commands
+
+
+class Row(NamedTuple):
+    """A script, the options of the program, and what comes out, as rows/README.md describes them. None is what a row
+    doesn't say."""
+
+    name: str
+    options: List[str]
+    script: bytes
+    files: Dict[str, bytes]
+    answers: bytes
+    explained: Optional[bytes]
+    said: Optional[bytes]
+    status: int
+
+
+ROW = re.compile(rb"% (?P<name>.+?)(?: \| (?P<options>.*))?")
+SECTION = re.compile(rb"= (answers|explained|said|status \d+|file \S+)")
+REPEATED = re.compile(rb"\{([^{}]+)\*(\d+)\}")
+ESCAPED = re.compile(rb"\\(?:x([0-9a-f]{2})|([rnt0\\]))")
+BYTES = {b"r": b"\r", b"n": b"\n", b"t": b"\t", b"0": b"\0", b"\\": b"\\"}
+
+
+def spelled(line):
+    """The bytes that a line of a row of bytes spells."""
+    line = REPEATED.sub(lambda it: it[1] * int(it[2]), line)
+    return ESCAPED.sub(lambda it: bytes([int(it[1], 16)]) if it[1] else BYTES[it[2]], line)
+
+
+def text_of(section, lines, is_of_bytes):
+    """The text of these lines of a section; that of the script has no name."""
+    if is_of_bytes:
+        lines = [spelled(line) for line in lines]
+        # The last line of what is read may lack its line feed.
+        if not section or section.startswith("file "):
+            return b"\n".join(lines)
+    return b"".join(line + b"\n" for line in lines)
+
+
+def row_of(head, sections):
+    """The row with this first line, and these names and lines of sections."""
+    options = shlex.split((head["options"] or b"").decode())
+    texts = {section: text_of(section, lines, "bytes" in options) for section, lines in sections}
+    if len(texts) < len(sections) or "answers" not in texts:
+        raise ValueError("a section comes twice, or there are no answers")
+    status = next((int(it.split()[1]) for it in texts if it.startswith("status ")), None)
+    return Row(
+        name=head["name"].decode(),
+        options=[it for it in options if it != "bytes"],
+        script=texts[""],
+        files={it.split()[1]: text for it, text in texts.items() if it.startswith("file ")},
+        answers=texts["answers"],
+        explained=texts.get("explained"),
+        said=texts.get("said"),
+        status=int(b"\nrefused " in b"\n" + texts["answers"]) if status is None else status,
+    )
+
+
+def rows_of(path):
+    """The rows of a file."""
+    with open(path, "rb") as it:
+        lines = it.read().removesuffix(b"\n").split(b"\n")
+    rows, head, sections = [], None, []
+    for number, line in enumerate([*lines, None], 1):
+        begun = line and ROW.fullmatch(line)
+        section = line and SECTION.fullmatch(line)
+        if line is None or begun:
+            try:
+                rows += [row_of(head, sections)] if head else []
+            except ValueError as why:
+                raise ValueError(f"{path}: the row before line {number}: {why}") from None
+            head, sections = begun, [("", [])]
+        elif head and section:
+            sections.append((section[1].decode(), []))
+        elif head:
+            sections[-1][1].append(line)
+        elif line and not line.startswith(b"#"):
+            raise ValueError(f"{path}, line {number}: no row has begun")
+    names = [row.name for row in rows]
+    if len(names) != len(set(names)):
+        raise ValueError(f"{path}: two rows have the name {max(names, key=names.count)!r}")
+    return rows
+
+
+def files_of_rows(kind="rows"):
+    """The paths of all files of rows, or of tables."""
+    return sorted(glob.glob(f"{TOP}/rows/**/*.{kind}", recursive=True))
 
 
 class Workbench:

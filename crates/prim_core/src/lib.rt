@@ -15,6 +15,3 @@ pub use standard::{
     standard_primitives, strcat, string_to_int, strlen, subti,
 };
 pub use table::Primitives;
-
-#[cfg(test)]
-mod tests;

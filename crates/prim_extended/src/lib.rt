@@ -10,6 +10,3 @@ pub mod strings;
 pub use integers::modi;
 pub use operations::{Extended, ExtendedOperation, extended_primitives};
 pub use strings::{explode_string, gts, implode_string};
-
-#[cfg(test)]
-mod tests;

@@ -11,8 +11,6 @@ mod library;
 mod loading;
 mod module_text;
 mod status;
-#[cfg(test)]
-mod tests;
 mod writing;
 
 use clap::Error;

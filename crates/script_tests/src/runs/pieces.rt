@@ -1,199 +1,135 @@
-//! Running a script that is read in pieces of a given size.
+//! Whatever the pieces in which a script is read, its answers, the numbers of its commands, and the
+//! lines on which these begin are the same.
 
-ghost use Rattle.session_history.specs.Budget.{IsBudget};
-
-use prim_core::{NoPrimitives, Primitives};
-use script_core::{Counted, Framing, Held, RunFault, Settings, Summary, run};
-use session_core::{MAX_BUDGET, Session};
+use super::devices::{Reader, UNDISTURBED};
+use super::{Outcome, ends, new_session, settings};
+use prim_core::NoPrimitives;
+use script_core::{Counted, Framing, Held, Piece, Watch, run_watched};
+use script_hints::Numbered;
+use session_core::{Refusal, Session};
 use std::alloc::Global;
-use std::io::{self, Error, ErrorKind, Read};
-use std::process::Abort;
 use std::test::Fail;
 
-/// Gives at most this many bytes at a time, and optionally fails at its end.
+// Keeps of each command its line, the blanks before it, and the lines of the comments in it.
 #[derive(Drop)]
-pub struct PieceReader<'a> {
-    pub rest: &'a [u8],
-    pub most: usize,
-    pub fails: bool,
+struct Lines {
+    numbered: Numbered,
+    found: Vec<u64>,
 }
 
-impl Read for PieceReader<'_> {
-    fn read(&mut self, buf: &mut [u8]) -> io::Result<usize> {
-        if self.rest.is_empty() && self.fails {
-            return Err(Error::from(ErrorKind::Other));
+impl Lines {
+    // A number that finds no memory is missed by the test.
+    fn keep(&mut self, number: u64) {
+        let _ = self.found.push(number);
+    }
+
+    fn keep_command(&mut self) {
+        let (line, indent) = (self.numbered.line(), self.numbered.indent());
+        self.keep(line);
+        self.keep(indent);
+        for place in 0..self.comment_count() {
+            let comment = self.comment(place);
+            self.keep(comment);
         }
-        let given = self.rest.len().min(buf.len()).min(self.most);
-        let (front, rest) = self.rest.split_at(given);
-        buf[..given].copy_from_slice(front);
-        self.rest = rest;
-        Ok(given)
+    }
+
+    fn comment_count(&self) -> usize {
+        self.numbered.comments().len()
+    }
+
+    fn comment(&self, place: usize) -> u64 {
+        match self.numbered.comments().get(place) {
+            Some(line) => *line,
+            None => 0,
+        }
     }
 }
 
-pub fn new_session(alloc: Global) -> Session<NoPrimitives> {
-    Session::new(alloc, Primitives::new(Vec::new(alloc)))
-}
+impl Watch<NoPrimitives> for Lines {
+    fn consumed(&mut self, bytes: &[u8]) {
+        self.numbered.consume(bytes);
+    }
 
-pub fn settings(stop: bool) -> Settings
-    ensures { IsBudget result.steps }
-{
-    Settings {
-        steps: MAX_BUDGET,
-        stop,
-        framing: Framing::Continued,
+    fn accepted(&mut self, _session: &Session<NoPrimitives>, _command: Piece<'_>) {
+        self.keep_command();
+    }
+
+    fn refused(
+        &mut self,
+        _session: &Session<NoPrimitives>,
+        _command: Piece<'_>,
+        _refusal: &Refusal,
+    ) {
+        self.keep_command();
     }
 }
 
-/// How a run is to end.
-pub type Outcome = Result<Summary, RunFault>;
-
-pub fn ends(accepted: u64, refused: u64) -> Outcome {
-    Ok(Summary { accepted, refused })
+// A script, and what a run of it gives.
+#[derive(Clone, Copy)]
+struct Script<'a> {
+    text: &'a [u8],
+    framing: Framing,
+    answers: &'a [u8],
+    ended: Outcome,
+    lines: &'a [u64],
 }
 
-/// The same for a script whose lines are its commands.
-pub fn settings_of_lines() -> Settings
-    ensures { IsBudget result.steps }
-{
-    Settings {
-        steps: MAX_BUDGET,
-        stop: false,
-        framing: Framing::Lines,
-    }
-}
-
-fn is_answered_by(
-    alloc: Global,
-    reader: PieceReader<'_>,
-    settings: Settings,
-    answers: &[u8],
-    outcome: Outcome,
-) -> bool
-    requires { IsBudget settings.steps }
-{
+fn goes_in_pieces(alloc: Global, script: Script<'_>, most: usize) -> bool {
     let mut session = new_session(alloc);
-    let mut source = Counted::new(reader);
+    let mut source = Counted::new(Reader {
+        rest: script.text,
+        most,
+        fails: false,
+        turns: UNDISTURBED,
+    });
     let mut sink = Held::new(alloc);
-    let ended = run(alloc, &mut session, &mut source, &mut sink, settings);
-    ended == outcome && sink.bytes() == answers
-}
-
-/// Whether a run of a new session over the reader gives these answers and ends like this.
-pub fn is_answered(
-    alloc: Global,
-    reader: PieceReader<'_>,
-    stop: bool,
-    answers: &[u8],
-    outcome: Outcome,
-) -> bool {
-    is_answered_by(alloc, reader, settings(stop), answers, outcome)
-}
-
-// The same in pieces of 1, 2 and 4,096 bytes, with a reader that doesn't fail.
-fn is_row_by(
-    alloc: Global,
-    script: &[u8],
-    settings: Settings,
-    answers: &[u8],
-    outcome: Outcome,
-) -> bool
-    requires { IsBudget settings.steps }
-{
-    for most in [1, 2, 4096] {
-        let reader = PieceReader {
-            rest: script,
-            most,
-            fails: false,
-        };
-        if !is_answered_by(alloc, reader, settings, answers, outcome) {
-            return false;
-        }
-    }
-    true
-}
-
-/// Whether the script, in pieces of 1, 2 and 4,096 bytes, gives these answers and its run ends like
-/// this.
-pub fn is_row(
-    alloc: Global,
-    script: &[u8],
-    stop: bool,
-    answers: &[u8],
-    outcome: Outcome,
-) -> Result<bool, Fail> {
-    Ok(is_row_by(alloc, script, settings(stop), answers, outcome))
-}
-
-/// The same for a script whose lines are its commands.
-pub fn is_row_of_lines(alloc: Global, script: &[u8], answers: &[u8], outcome: Outcome) -> bool {
-    is_row_by(alloc, script, settings_of_lines(), answers, outcome)
-}
-
-/// Each script of the table gives these answers, with these numbers of commands accepted and
-/// refused.
-pub fn expect_rows(
-    rt: &impl Abort,
-    alloc: Global,
-    table: &[(&[u8], &[u8], u64, u64)],
-) -> Result<(), Fail> {
-    for (script, answers, accepted, refused) in table {
-        let outcome = ends(*accepted, *refused);
-        assert!(rt;
-            is_row(alloc, script, false, answers, outcome)?,
-            "{script:?}"
-        );
-    }
-    Ok(())
-}
-
-/// The `count` rows of a table, each after the front. A table is one text, since the check of a
-/// literal takes long if it has many values: rows are separated by `%`; a row is a script, a line
-/// `= 4 0` with the numbers of commands accepted and refused, including the front's, and the
-/// answers. A script whose commands are one line each is answered in the same way if each line is a
-/// command.
-pub fn expect_table(
-    rt: &impl Abort,
-    alloc: Global,
-    front: &[u8],
-    count: usize,
-    table: &str,
-) -> Result<(), Fail> {
-    for row in table.split('%') {
-        assert!(rt; is_told(alloc, front, row)?, "{row}");
-    }
-    assert_eq!(rt; table.split('%').count(), count);
-    Ok(())
-}
-
-fn is_told(alloc: Global, front: &[u8], row: &str) -> Result<bool, Fail> {
-    let Some((script, accepted, refused, answers)) = parts_of(row) else {
-        return Err(Fail::new(format_args!("no row: {row}")));
+    let mut lines = Lines {
+        numbered: Numbered::new(alloc, script.framing),
+        found: Vec::new(alloc),
     };
-    let mut whole = Vec::from_slice(alloc, front)?;
-    whole.extend_from_slice(script.as_bytes())?;
-    whole.push(b'\n')?;
-    let outcome = ends(accepted, refused);
-    let is_so = is_row(alloc, &whole, false, answers.as_bytes(), outcome)?;
-    let has_lines = goes_on(front) || goes_on(script.as_bytes());
-    Ok(is_so && (has_lines || is_row_of_lines(alloc, &whole, answers.as_bytes(), outcome)))
+    let settings = settings(script.framing, false);
+    let ended = run_watched(
+        alloc,
+        &mut session,
+        &mut source,
+        &mut sink,
+        &mut lines,
+        settings,
+    );
+    ended == script.ended
+        && sink.bytes() == script.answers
+        && lines.found.as_slice() == script.lines
 }
 
-// Whether a command of the script goes on over lines.
-fn goes_on(script: &[u8]) -> bool {
-    script.windows(2).any(|pair| pair[0] == b'\n' && matches!(pair[1], b' ' | b'\t' | b'\n'))
+// Every kind of boundary between commands: CR LF, lines that go on, an empty one, comments between
+// the lines of a command and after it, a line that begins with a CR, and an end without LF.
+#[test]
+fn answers_in_pieces(rt: HostRuntime) -> Result<(), Fail> {
+    let script = Script {
+        text: b"tree t f(\r\n# a\n\n  a)\r\r\n#b\nshow t\r\n\r#\ntrees\n\rshow t\nundo",
+        framing: Framing::Continued,
+        answers: b"ok\nf(a)\nrefused 2 line\ntrees t\nf(a)\nok\n",
+        ended: ends(5, 1),
+        lines: &[1, 0, 2, 5, 6, 0, 7, 0, 8, 0, 9, 0, 10, 0],
+    };
+    for most in [1, 2, 4096] {
+        assert!(rt; goes_in_pieces(rt.alloc(), script, most), "{most}");
+    }
+    Ok(())
 }
 
-// The script without the line feed at its end, the two numbers and the answers.
-fn parts_of(row: &str) -> Option<(&str, u64, u64, &str)> {
-    let row = row.strip_prefix("\n")?;
-    let (script, row) = row.split_once("\n= ")?;
-    let (accepted, row) = row.split_once(' ')?;
-    let (refused, answers) = row.split_once('\n')?;
-    Some((
-        script,
-        accepted.parse().ok()?,
-        refused.parse().ok()?,
-        answers,
-    ))
+// The same where each line is a command: blanks in front, empty lines and comments.
+#[test]
+fn answers_lines_in_pieces(rt: HostRuntime) -> Result<(), Fail> {
+    let script = Script {
+        text: b"\n  tree t f(\n a)\n# a\n\t # b\n\r\n\ttree t a\r\r\n\rshow t",
+        framing: Framing::Lines,
+        answers: b"refused 7 term\nrefused 2 line\nok\na\n",
+        ended: ends(2, 2),
+        lines: &[2, 2, 3, 1, 7, 1, 8, 1],
+    };
+    for most in [1, 2, 4096] {
+        assert!(rt; goes_in_pieces(rt.alloc(), script, most), "{most}");
+    }
+    Ok(())
 }

@@ -1,5 +1,0 @@
-//! Command lines that are taken, and what is shown for others.
-
-mod rows;
-mod shown;
-mod taken;

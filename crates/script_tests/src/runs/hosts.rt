@@ -1,0 +1,170 @@
+//! A host's primitives: `pick`, which returns `a`, `b` or `c` for 0, 1 or 2, and nothing for any
+//! other integer; and the standard ones, each in a box.
+
+ghost use Rattle.std.specs.Prelude.{◌≡◌, length, IfOk, codes};
+ghost use Rattle.prim_core.specs.Computes.{Computes};
+ghost use Rattle.prim_core.specs.StandardTable.{ComputeStandard};
+ghost use Rattle.prim_core.specs.inside.Pick.{constant, choices as three_choices, pick};
+
+use super::settings;
+use prim_core::{
+    BoxedOperation, Meaning, Primitive, Primitives, Standard, StandardOperations, addi, divi, gti,
+    int_to_string, muli, standard_primitives, strcat, string_to_int, strlen, subti,
+};
+use script_core::{Bytes, Framing, Held, run};
+use session_core::Session;
+use std::alloc::Global;
+use std::test::Fail;
+use term_core::{Kind, Name, NoMemory, Term};
+
+// Whether a new session with these primitives gives these answers.
+fn is_answered<M: Meaning>(
+    alloc: Global,
+    primitives: Vec<Primitive<M>>,
+    script: &[u8],
+    answers: &[u8],
+) -> bool {
+    let mut session = Session::new(alloc, Primitives::new(primitives));
+    let mut source = Bytes::new(script);
+    let mut sink = Held::new(alloc);
+    let settings = settings(Framing::Continued, false);
+    let ended = run(alloc, &mut session, &mut source, &mut sink, settings);
+    ended.is_ok() && sink.bytes() == answers
+}
+
+/// What this host's primitives mean.
+struct Picking;
+
+impl Meaning for Picking {
+    type Operation = BoxedOperation;
+
+    ghost meaning = { pick };
+}
+
+// The meaning of `pick`, over the three terms that its closure owns.
+fn pick(choices: &[Term], arguments: &[Term]) -> Result<Option<Term>, NoMemory>
+    requires choices { choices.now ≡ three_choices }
+    requires one { length arguments.now ≡ 1 }
+    ensures { IfOk result (λ found. found ≡ pick (codes "pick") arguments.now) }
+{
+    match arguments[0].kind() {
+        Kind::Integer(0) => Ok(Some(choices[0].try_clone()?)),
+        Kind::Integer(1) => Ok(Some(choices[1].try_clone()?)),
+        Kind::Integer(2) => Ok(Some(choices[2].try_clone()?)),
+        _ => Ok(None),
+    }
+}
+
+// The word with these bytes, applied to nothing.
+fn constant(alloc: Global, text: &[u8]) -> Result<Term, Fail>
+    ensures { IfOk result (λ term. term ≡ constant text.now) }
+{
+    let Some(name) = Name::word(alloc, text)? else {
+        return Err("no word".into());
+    };
+    Ok(Term::application(alloc, name, Vec::new(alloc)))
+}
+
+// The operation is arbitrary, as long as it computes what its name means.
+fn is_answered_by_pick<M: Meaning>(
+    alloc: Global,
+    pick: M::Operation,
+    script: &[u8],
+    answers: &[u8],
+) -> Result<bool, Fail>
+    requires { Computes M.Operation.may_run M.Operation.answers pick 1
+        (M.meaning (codes "pick")) }
+{
+    let name = Vec::from_slice(alloc, b"pick")?;
+    let mut primitives = Vec::new(alloc);
+    primitives.push(Primitive::<M>::new(name, 1, pick))?;
+    Ok(is_answered(alloc, primitives, script, answers))
+}
+
+// The same, through a closure that owns its choices.
+fn is_picked(alloc: Global, script: &[u8], answers: &[u8]) -> Result<bool, Fail> {
+    let choices = vec![in alloc;
+        constant(alloc, b"a")?,
+        constant(alloc, b"b")?,
+        constant(alloc, b"c")?,
+    ]?;
+    let operation: BoxedOperation = Box::new(
+        alloc,
+        move |_alloc: Global, arguments: &[Term]| -> Result<Option<Term>, NoMemory>
+            requires choices { choices.items ≡ three_choices }
+            requires one { length arguments.now ≡ 1 }
+        { pick(&choices, arguments) },
+    )?;
+    is_answered_by_pick::<Picking>(alloc, operation, script, answers)
+}
+
+const PICKS: &[u8] = b"tree t [0,1,2]
+apply t do all({x: ?x; prim(\"pick\",x)})
+show t
+tree t [3,a]
+apply t do one({x: ?x; prim(\"pick\",x)})
+apply t do ?x; prim(\"addi\",x,x)
+";
+
+const PICKED: &[u8] = b"ok
+ok
+[a,b,c]
+ok
+refused 12 fails
+refused 11 primitive \"addi\" 2 0
+";
+
+#[test]
+fn hosts_have_primitives_of_their_own(rt: HostRuntime) -> Result<(), Fail> {
+    assert!(rt; is_picked(rt.alloc(), PICKS, PICKED)?);
+    Ok(())
+}
+
+// The operations are arbitrary, as long as they compute what their names mean.
+fn is_answered_by_standard<M: Meaning>(
+    alloc: Global,
+    operations: StandardOperations<M::Operation>,
+    script: &[u8],
+    answers: &[u8],
+) -> Result<bool, Fail>
+    requires { ComputeStandard M.Operation.may_run M.Operation.answers M.meaning operations }
+{
+    let primitives = standard_primitives::<M>(alloc, operations)?;
+    Ok(is_answered(alloc, primitives, script, answers))
+}
+
+// The same, through boxes of the functions.
+fn is_standard(alloc: Global, script: &[u8], answers: &[u8]) -> Result<bool, Fail> {
+    let operations: StandardOperations<BoxedOperation> = StandardOperations {
+        addi: Box::new(alloc, addi)?,
+        subti: Box::new(alloc, subti)?,
+        muli: Box::new(alloc, muli)?,
+        divi: Box::new(alloc, divi)?,
+        gti: Box::new(alloc, gti)?,
+        strcat: Box::new(alloc, strcat)?,
+        strlen: Box::new(alloc, strlen)?,
+        int_to_string: Box::new(alloc, int_to_string)?,
+        string_to_int: Box::new(alloc, string_to_int)?,
+    };
+    is_answered_by_standard::<Standard>(alloc, operations, script, answers)
+}
+
+const CALLS: &[u8] = b"tree t 7
+apply t do ?a; prim(\"addi\",a,1); ?b; prim(\"muli\",b,3); ?c; prim(\"subti\",c,4); ?d; prim(\"divi\",d,2)
+apply t do ?a; prim(\"gti\",a,9); ?(b,_); prim(\"int-to-string\",b); ?c; prim(\"strcat\",c,\"5\")
+apply t do ?a; prim(\"string-to-int\",a); ?b; prim(\"strlen\",a); ?c; !(c,b)
+show t
+";
+
+const CALLED: &[u8] = b"ok
+ok
+ok
+ok
+(3,105)
+";
+
+#[test]
+fn hosts_have_the_standard_primitives(rt: HostRuntime) -> Result<(), Fail> {
+    assert!(rt; is_standard(rt.alloc(), CALLS, CALLED)?);
+    Ok(())
+}
