@@ -1,16 +1,21 @@
 """Tables of strategies: each row is tried on the built program, by `preview`, `apply`, `undo` and `redo`.
 
-rows/README.md has the form of a table, and tools/rows runs all of them.
+rows/README.md has the form of a table, and tools/rows runs all of them. In a row `{x*N}` stands for N times x, for texts at the
+bounds.
 """
 
+import os
 import re
 import subprocess
+from concurrent.futures import ThreadPoolExecutor
 
+# A row has to be answered in this many seconds.
+IN_TIME = 60
 REFUSALS = {"fails": "refused 12 fails", "spent": "refused 13 spent", "big": "refused 14 big"}
 
 
 def wide(text):
-    """A line in which `{x*N}` stands for N times x."""
+    """A row in full."""
     return re.sub(r"\{([^{}*]+)\*(\d+)\}", lambda it: it[1] * int(it[2]), text)
 
 
@@ -40,7 +45,9 @@ def trial(row, level):
     strategy, term, steps, outcome = wide(row).split(" ;; ")
     before, path = around(term, level)
     given = re.fullmatch(r"gives (.+) (\d+)", outcome)
-    refusal = None if given else REFUSALS[outcome]
+    if not given and outcome not in REFUSALS:
+        raise ValueError(f"no outcome: {outcome}")
+    refusal = REFUSALS.get(outcome)
 
     def ask(command, within):
         return f"{command} t at {path} within {within} do {strategy}"
@@ -81,28 +88,36 @@ def shown(line):
 
 
 def differs(program, options, modules, row, level):
-    """What differs when a row is tried at a level: no lines if nothing does."""
+    """Says what differs when a row is tried at a level, if anything does."""
     kept, commands = ["ok"] * sum(it.startswith("module ") for it in modules), []
     for command, answers in trial(row, level):
         commands.append(command)
         kept += answers
-    script = "\n".join(modules + commands) + "\n"
-    ran = subprocess.run([program, *options], input=script.encode(), capture_output=True, timeout=60)
+    script = "\n".join([*modules, *commands, ""]).encode()
+    try:
+        ran = subprocess.run([program, *options], input=script, capture_output=True, timeout=IN_TIME)
+    except subprocess.TimeoutExpired:
+        return [f"level {level}: no end after {IN_TIME} seconds"]
     got = ran.stdout.decode(errors="backslashreplace").splitlines()
     for index in range(max(len(got), len(kept))):
-        one = got[index] if index < len(got) else "no line"
-        other = kept[index] if index < len(kept) else "no line"
+        one = got[index] if index < len(got) else "nothing"
+        other = kept[index] if index < len(kept) else "nothing"
         if not is_answer(one, other):
-            return [f"level {level}, line {index + 1} of the answers", f"got  {shown(one)}", f"kept {shown(other)}"]
+            return [f"level {level}, line {index + 1}, {word}: {shown(it)}" for word, it in (("got", one), ("kept", other))]
     status = 1 if any(it.startswith("refused") for it in kept) else 0
     if (ran.returncode, ran.stderr) != (status, b""):
-        return [f"level {level}, status {ran.returncode}, and {ran.stderr!r} on standard error"]
+        return [f"level {level}: status {ran.returncode}, and {ran.stderr!r} on standard error"]
     return []
 
 
 def outcomes(program, path):
     """Tries each row of a table: its name, whether it is well, and the lines that say what differs."""
     options, modules, rows = read(path)
-    for number, row, levels in rows:
-        lines = [line for level in levels for line in differs(program, options, modules, row, level)]
-        yield f"line {number}: {shown(row)}", not lines, lines
+
+    def tried(row, levels):
+        return [line for level in levels for line in differs(program, options, modules, row, level)]
+
+    with ThreadPoolExecutor(os.cpu_count()) as pool:
+        told = pool.map(lambda it: tried(*it[1:]), rows)
+        for (number, row, _), lines in zip(rows, told):
+            yield f"line {number}: {shown(row)}", not lines, lines
