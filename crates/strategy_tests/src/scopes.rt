@@ -39,7 +39,10 @@ fn are_found<'t>(
 }
 
 fn written_in(scopes: &Scopes<'_>, scope: usize, name: usize) -> Option<usize> {
-    scopes.named(scope, name).map(|known| known.written_in)
+    match scopes.named(scope, name) {
+        Some(known) => Some(known.written_in),
+        None => None,
+    }
 }
 
 // Whether a call that passes all names on has the scope of its caller, and others have their own.
