@@ -1,11 +1,19 @@
-//! Strategies: as values, as the checker takes them, and run on terms and in stores, by rows and by
-//! example. The crate holds only tests, so that checker and machine are proved once and not again with
-//! their tests.
+//! Calls of strategies that no command makes: rows by each call of the evaluator, primitives of a host,
+//! strategies that no text leads to, the deepest syntax, and modules that are replaced. The crate holds
+//! only tests, so that checker and machine are proved once and not again with their tests.
 #![tactic(auto)]
 
 #[cfg(test)]
-mod checking;
+mod calls;
 #[cfg(test)]
-mod examples;
+mod deep;
 #[cfg(test)]
-mod running;
+mod hosts;
+#[cfg(test)]
+mod replacing;
+#[cfg(test)]
+mod rows;
+#[cfg(test)]
+mod scopes;
+#[cfg(test)]
+mod unknown;

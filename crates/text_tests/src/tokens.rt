@@ -1,135 +1,94 @@
-//! Rows of the tokens of texts.
+//! The tokens of texts.
 
 use std::alloc::Global;
 use std::test::Fail;
-use strategy_tokens::{Keyword, Sign, Token, TokensFault, read_tokens, token_count};
+use strategy_tokens::{Keyword, Sign, Token, TokensFault, read_tokens, token_count, token_place};
+
+// Rows of a text and the number of its tokens.
+const COUNTS: &str = r#"
+// nothing ;; 0
+x-->y ;; 3
+a-b ;; 1
+< + ;; 2
+<+ ;; 1
+x -1 ;; 2
+x-1 ;; 1
+1-1 ;; 2
+--1 ;; 2
+$$ ;; 2
+/*/ x ;; 1
+/* x */ y // z ;; 1
+!"\q" z ;; 3
+"#;
+
+fn is_counted(row: &str) -> Result<bool, Fail> {
+    let (text, count) = row.split_once(" ;; ").ok_or("no row")?;
+    let count: u64 = count.parse()?;
+    Ok(token_count(text.as_bytes()) == count)
+}
 
 #[test]
-fn tokens_counted(rt: HostRuntime) -> Result<(), Fail> {
-    for (text, count) in [
-        (b"".as_slice(), 0u64),
-        (b"x-->y".as_slice(), 3),
-        (b"a-b".as_slice(), 1),
-        (b"< +".as_slice(), 2),
-        (b"<+".as_slice(), 1),
-        (b"x -1".as_slice(), 2),
-        (b"x-1".as_slice(), 1),
-        (b"1-1".as_slice(), 2),
-        (b"--1".as_slice(), 2),
-        (b"$$".as_slice(), 2),
-        (b"/*/ x".as_slice(), 1),
-        (b"/* x */ y // z".as_slice(), 1),
-        (b"!\"\\q\" z".as_slice(), 3),
-    ] {
-        assert_eq!(rt; token_count(text), count);
+fn tokens_are_counted(rt: HostRuntime) -> Result<(), Fail> {
+    assert_eq!(rt; token_count(b""), 0);
+    for row in COUNTS.trim().lines() {
+        assert!(rt; is_counted(row)?, "at {row}");
     }
     Ok(())
 }
 
-fn is_text(token: &Token, bytes: &[u8]) -> bool {
+// A letter or sign for each kind of token, and the bytes of what has some.
+fn is_shown(token: &Token, kind: u8, bytes: &[u8]) -> bool {
     match token {
-        Token::Text(name) => name.bytes() == bytes && name.is_quoted(),
-        _ => false,
+        Token::Ident(name) => kind == b'i' && name.bytes() == bytes && !name.is_quoted(),
+        Token::Text(name) => kind == b't' && name.bytes() == bytes && name.is_quoted(),
+        Token::Integer(number) => kind == b'n' && *number == -7,
+        Token::Reserved(word) => kind == b'r' && matches!(word, Keyword::Rec),
+        Token::Sign(sign) => kind == b's' && matches!(sign, Sign::FatArrow),
+        Token::Wildcard => kind == b'_',
+        Token::Bad => kind == b'b',
     }
 }
 
-fn is_ident(token: &Token, bytes: &[u8]) -> bool {
-    match token {
-        Token::Ident(name) => name.bytes() == bytes && !name.is_quoted(),
-        _ => false,
+fn are_shown(tokens: &[Token], kinds: &[u8], bytes: &[u8]) -> bool {
+    if tokens.len() != kinds.len() {
+        return false;
     }
-}
-
-// Two patterns, since the proof of one grows faster than its length.
-fn first_are_wanted(found: &[Token]) -> bool {
-    match found {
-        [
-            Token::Reserved(Keyword::Rec),
-            x,
-            Token::Sign(Sign::OpenRound),
-            Token::Reserved(Keyword::Id),
-            Token::Sign(Sign::CloseRound),
-            ..
-        ] => is_ident(x, b"x'-1"),
-        _ => false,
+    for (token, kind) in tokens.iter().zip(kinds) {
+        if !is_shown(token, *kind, bytes) {
+            return false;
+        }
     }
-}
-
-fn last_are_wanted(found: &[Token]) -> bool {
-    match found {
-        [
-            Token::Sign(Sign::FatArrow),
-            Token::Wildcard,
-            Token::Integer(-7),
-            text,
-            Token::Bad,
-            Token::Bad,
-        ] => is_text(text, b"a\nA"),
-        _ => false,
-    }
-}
-
-fn are_wanted(found: &[Token]) -> bool {
-    match found.get(5..) {
-        Some(last) => first_are_wanted(found) && last_are_wanted(last),
-        None => false,
-    }
+    true
 }
 
 // The tokens are dropped by a call, since a drop at the end of their scope is proved anew.
-fn are_read(alloc: Global, text: &[u8]) -> bool {
+fn are_read(alloc: Global, text: &[u8], kinds: &[u8], bytes: &[u8]) -> bool {
     match read_tokens(alloc, text) {
         Ok(found) => {
-            let wanted = are_wanted(&found);
+            let shown = are_shown(&found, kinds, bytes);
             drop(found);
-            wanted
+            shown
         }
         Err(_) => false,
     }
 }
 
 #[test]
-fn tokens_read(rt: HostRuntime) {
-    let text = b"rec x'-1(id) // y\n=> _ -07 \"a\\n\\101\" $ \"\\q\"";
-    assert!(rt; are_read(rt.alloc(), text));
-}
-
-fn many_commas(alloc: Global, count: usize) -> Result<Vec<u8>, Fail> {
-    let mut text = Vec::with_capacity(alloc, count)?;
-    for _ in 0..count {
-        text.push(b',')?;
-    }
-    Ok(text)
-}
-
-fn so_many_are_read(alloc: Global, text: &[u8], count: usize) -> bool {
-    match read_tokens(alloc, text) {
-        Ok(found) => {
-            let read = found.len();
-            drop(found);
-            read == count
-        }
-        Err(_) => false,
-    }
-}
-
-fn commas_are_read(alloc: Global, count: usize) -> Result<bool, Fail> {
-    let text = many_commas(alloc, count)?;
-    Ok(so_many_are_read(alloc, &text, count))
-}
-
-fn are_deep(alloc: Global, text: &[u8]) -> bool {
-    matches!(read_tokens(alloc, text).err(), Some(TokensFault::Deep))
-}
-
-fn commas_are_deep(alloc: Global, count: usize) -> Result<bool, Fail> {
-    let text = many_commas(alloc, count)?;
-    Ok(are_deep(alloc, &text))
-}
-
-#[test]
-fn tokens_bounded(rt: HostRuntime) -> Result<(), Fail> {
-    assert!(rt; commas_are_read(rt.alloc(), 4000)?);
-    assert!(rt; commas_are_deep(rt.alloc(), 4001)?);
+fn tokens_are_read(rt: HostRuntime) -> Result<(), Fail> {
+    let alloc = rt.alloc();
+    assert!(rt;
+        are_read(
+            alloc,
+            b"rec x'-1 => _ // y\n -07 $ \"\\q\"",
+            b"ris_nbb",
+            b"x'-1"
+        )
+    );
+    assert!(rt; are_read(alloc, b"\"a\\n\\101\" /* z */", b"t", b"a\nA"));
+    let place = token_place(b"a /* b */ => c", 1);
+    assert!(rt; place.is_some_and(|place| (place.start, place.end) == (10, 12)));
+    let commas = vec![in alloc; b','; 4001usize]?;
+    assert!(rt; matches!(read_tokens(alloc, &commas).err(), Some(TokensFault::Deep)));
+    assert!(rt; read_tokens(alloc, &commas[..4000]).is_ok());
     Ok(())
 }

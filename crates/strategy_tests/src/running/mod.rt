@@ -1,5 +1,0 @@
-//! Strategies run on terms and in stores, by rows.
-
-mod applying;
-mod evaluating;
-mod scopes;

@@ -1,0 +1,194 @@
+//! Texts that are parsed as the same strategy or module, and texts that aren't. A row has ` == ` or
+//! ` != ` between its two texts; one of them writes out what the other says in short.
+
+use std::alloc::Global;
+use std::test::Fail;
+use strategy_parse::{ParseFault, parse_module, parse_strategy};
+use strategy_syntax::{Module, Strategy};
+
+// In a box, here and below: a box is dropped by a call, while the drop of its content is proved anew
+// on each way out.
+fn strategy(alloc: Global, text: &str) -> Result<Box<Strategy>, Fail> {
+    Ok(Box::new(alloc, parse_strategy(alloc, text.as_bytes())?)?)
+}
+
+fn module(alloc: Global, text: &str) -> Result<Box<Module>, Fail> {
+    Ok(Box::new(alloc, parse_module(alloc, text.as_bytes())?)?)
+}
+
+fn are_alike(alloc: Global, one: &str, other: &str) -> Result<bool, Fail> {
+    let one = strategy(alloc, one)?;
+    let other = strategy(alloc, other)?;
+    Ok(one.equals(&other))
+}
+
+fn are_alike_as_modules(alloc: Global, one: &str, other: &str) -> Result<bool, Fail> {
+    let one = module(alloc, one)?;
+    let other = module(alloc, other)?;
+    Ok(one.equals(&other))
+}
+
+// The two texts of a row, and whether they are alike.
+fn parts(row: &str) -> Result<(&str, &str, bool), Fail> {
+    if let Some((one, other)) = row.split_once(" == ") {
+        return Ok((one, other, true));
+    }
+    let (one, other) = row.split_once(" != ").ok_or("no row")?;
+    Ok((one, other, false))
+}
+
+fn is_row(alloc: Global, row: &str) -> Result<bool, Fail> {
+    let (one, other, alike) = parts(row)?;
+    Ok(are_alike(alloc, one, other)? == alike)
+}
+
+fn is_row_of_modules(alloc: Global, row: &str) -> Result<bool, Fail> {
+    let (one, other, alike) = parts(row)?;
+    Ok(are_alike_as_modules(alloc, one, other)? == alike)
+}
+
+const STRATEGIES: &str = r#"
+a < b + c <+ d == a < b + (c < id + d)
+a <+ b <+ c == a < id + (b < id + c)
+id; fail; id == id; (fail; id)
+(id; fail); id != id; (fail; id)
+?x; !x => y == ?x; (!x; ?y)
+a => x => y == (a; ?x); ?y
+<f> x => y == (!x; f); ?y
+if id then fail end == test(id) < fail + id
+if id then fail else a end == test(id) < fail + a
+not(id) == id < fail + id
+where(id); test(id) == test(id); test(id)
+all(one(some(id))) == all ( one ( some ( id ) ) )
+all(one(some(id))) != all(some(one(id)))
+rec x(x) == rec x (x())
+rec x(x) != rec y(x)
+2(id) == 2 (id)
+2(id) != 1(id)
+{:id} != id
+{x,y:?x;!y} == {x, y: (?x; !y)}
+{x,y:?x;!y} != {y,x:?x;!y}
+\ F(x) -> x where id \ == {x: ?F(x); (test(id); !x)}
+\ (x,y{x,z}) -> x \ == {x,y,z: ?(x,y{x,z}); !x}
+/* /* */ id // fail == id
+((id)) == id
+(a) == a
+() != []
+(a,b) == ( a , (b) )
+(a,b) != [a,b]
+[a] != [a|a]
+[a,b|c] == [a,b|(c)]
+[a,b|c] != [a,b,c]
+f(s|) == f(s)
+f(|) == f
+f(|x) != f(x)
+f(a,b|x,1) == f(a(),(b)|x,01)
+f(a,b|x,1) != f(a,b|1,x)
+prim("addi",x,y) == prim ( "addi" , x , y )
+prim("addi",x,y) != prim("addi",y,x)
+prim("p") != prim("q")
+?_ != ?x
+?x@y@_ == ? x @ y @ _
+?x@y@_ != ?y@x@_
+?-07 == ?-7
+?f() != ?f
+?f(x,_) != ?f(_,x)
+?[] != ?()
+?[x,y|z] != ?[x,y,z]
+?(x) != ?x
+?x{} != ?x
+!f(x){y,1} != !f(x){1,y}
+?x@f{y} != ?x@f
+?"s\n" == ?"s\012"
+?"s" != ?s()
+"#;
+
+#[test]
+fn strategies_are_alike(rt: HostRuntime) -> Result<(), Fail> {
+    for row in STRATEGIES.trim().lines() {
+        assert!(rt; is_row(rt.alloc(), row)?, "at {row}");
+    }
+    Ok(())
+}
+
+const MODULES: &str = r#"
+// nothing == module m signature signature sorts sorts constructors rules strategies rules
+strategies f = id == module m rules f(|) = id
+module a strategies f = fail f = id != strategies f = id f = fail
+rules f = g g = id signature constructors A : t == signature constructors A : t strategies f = g g = id
+strategies R : x -> x f = id rules g = f == strategies R = {x: ?x; !x} f = id g = f
+signature constructors A : t S : t -> t F : t * t -> t == signature constructors A : a S : b -> c F : c(a) * b -> a
+signature constructors F : t * t -> t != signature constructors F : t -> t
+signature sorts A B(C) constructors F : A * B(C) -> A G : A : A -> A == signature constructors F : A * A -> A G : A
+signature sorts A(B(C,D),E) constructors : A * B -> C H : A(B(C),D) * E -> A == signature constructors H : A * A -> A
+signature constructors H : t -> t strategies H(s) = s == signature constructors H : t -> t strategies H(s|) = s()
+strategies f() = id == strategies f = id
+strategies f(a,b|) = a == strategies f(a,b) = a
+strategies f(a,b) = a != strategies f(b,a) = a
+strategies f(|x,y) = !x != strategies f(x,y) = !x
+strategies f(a|x) = a; !x g = f(f|g) == strategies f(a|x) = (a; !x) g = f(f()|g)
+rules P : F(x,y) -> z where <add> (x,y) => z == rules P = {x,y,z: ?F(x,y); (test((!(x,y); add); ?z); !z)}
+rules R(s|y) : x -> (y,x) S : a@_ -> a == rules R(s|y) = {x: ?x; !(y,x)} S = {a: ?a@_; !a}
+rules R : x -> y where <f(!u)> w == rules R = {x,y,u,w: ?x; (test(!w; f(!u)); !y)}
+rules R : x -> x where {y: ?y; !z} == rules R = {x,z: ?x; (test({y: ?y; !z}); !x)}
+rules R : x -> x where \ y -> C(y,z) where ?v \ == rules R = {x,z,v: ?x; (test({y: ?y; (test(?v); !C(y,z))}); !x)}
+rules R : 1 -> "a" == rules R = {: ?1; !"a"}
+strategies try(s) = s <+ id map(s) = [] <+ [s | map(s)] == rules try(s) = s < id + id map(s) = [] < id + [s|map(s())]
+"#;
+
+#[test]
+fn modules_are_alike(rt: HostRuntime) -> Result<(), Fail> {
+    for row in MODULES.trim().lines() {
+        assert!(rt; is_row_of_modules(rt.alloc(), row)?, "at {row}");
+    }
+    Ok(())
+}
+
+// Whether it has the constructor `Plus` of two terms, and the definition `f(s|x)`.
+fn is_as_written(module: &Module) -> bool {
+    let (Some(plus), Some(f)) = (module.constructors().first(), module.definitions().first()) else {
+        return false;
+    };
+    plus.name().bytes() == b"Plus".as_slice()
+        && plus.arity() == 2
+        && plus.equals(plus)
+        && f.name().bytes() == b"f".as_slice()
+        && f.strategy_parameters().len() == 1
+        && f.term_parameters().len() == 1
+        && f.body().equals(f.body())
+        && f.equals(f)
+}
+
+fn module_is_as_written(alloc: Global) -> Result<bool, Fail> {
+    let module = module(
+        alloc,
+        "signature constructors Plus : t * t -> t rules f(s|x) = s",
+    )?;
+    Ok(is_as_written(&module))
+}
+
+fn many_commas(alloc: Global) -> Result<Vec<u8>, Fail> {
+    Ok(vec![in alloc; b','; 4001usize]?)
+}
+
+#[test]
+fn parts_and_faults(rt: HostRuntime) -> Result<(), Fail> {
+    let alloc = rt.alloc();
+    assert!(rt; module_is_as_written(alloc)?);
+    assert!(rt;
+        matches!(
+            parse_strategy(alloc, b"id;").err(),
+            Some(ParseFault::Syntax)
+        )
+    );
+    assert!(rt;
+        matches!(
+            parse_module(alloc, b"module").err(),
+            Some(ParseFault::Syntax)
+        )
+    );
+    let commas = many_commas(alloc)?;
+    assert!(rt; matches!(parse_strategy(alloc, &commas).err(), Some(ParseFault::Deep)));
+    assert!(rt; matches!(parse_module(alloc, &commas).err(), Some(ParseFault::Deep)));
+    Ok(())
+}
