@@ -1,6 +1,6 @@
 """Refactors files of Python by a strategy, with small patches.
 
-    python -m stratbench.refactor [--module NAME=FILE].. --do STRATEGY FILES..
+    python -m stratbench.refactor [--modules FOLDER] [--module NAME=FILE].. --do STRATEGY FILES..
 
 Each file is read as a term (`stratbench.python`), the strategy is previewed on it, and the patch of the source
 (`stratbench.patch`) is printed as a unified diff. `docs/manual/python.md` is the manual.
@@ -368,6 +368,7 @@ def _arguments(words: Sequence[str] | None) -> argparse.Namespace:
         "3 where a file was left or couldn't be written.",
     )
     parser.add_argument("--module", action="append", default=[], metavar="NAME=FILE", help="load a module of strategies")
+    parser.add_argument("--modules", action="append", default=[], metavar="FOLDER", help="load the modules of a folder, as strategies")
     parser.add_argument("--do", required=True, metavar="STRATEGY", help="the strategy that is applied to each file's tree")
     parser.add_argument("--within", type=int, default=MOST_STEPS, metavar="K", help="the most steps that it may take")
     parser.add_argument("--jobs", type=int, default=1, metavar="N", help="do N files at a time")
@@ -382,9 +383,30 @@ def _arguments(words: Sequence[str] | None) -> argparse.Namespace:
     return found
 
 
+# The modules of a folder, each after those that it says that it needs, as words NAME=FILE.
+def _folder(folder: str) -> list[str]:
+    names = sorted(it[: -len(".str")] for it in os.listdir(folder) if it.endswith(".str"))
+    needs: dict[str, list[str]] = {}
+    for name in names:
+        with open(f"{folder}/{name}.str", encoding="utf-8", errors="replace") as it:
+            found = re.search(r"^// Needs: (.*)\.$", it.read(), re.MULTILINE)
+        needs[name] = found[1].split(", ") if found else []
+    ordered: list[str] = []
+
+    def add(name: str) -> None:
+        for it in needs.pop(name, []):
+            add(it)
+        if name in names and name not in ordered:
+            ordered.append(name)
+
+    for name in names:
+        add(name)
+    return [f"{name}={folder}/{name}.str" for name in ordered]
+
+
 def _task(given: argparse.Namespace) -> tuple[Task, list[str]]:
     modules, files = [], []
-    for word in given.module:
+    for word in [*(it for folder in given.modules for it in _folder(folder)), *given.module]:
         name, equals, file = word.partition("=")
         if not equals:
             raise ValueError(f"--module: no NAME=FILE: {word}")

@@ -34,8 +34,9 @@ class Room:
         with open(f"{self.folder}/{name}", "rb") as it:
             return it.read().decode("latin-1" if name == "latin.py" else "utf-8")
 
-    def run(self, *words, strategy=EVERY):
-        modules = ["--module", f"python={self.top}/strategies/python.str", "--module", "rules=rules.str"]
+    def run(self, *words, strategy=EVERY, modules=None):
+        if modules is None:
+            modules = ["--module", f"python={self.top}/strategies/python.str", "--module", "rules=rules.str"]
         command = [sys.executable, "-m", "stratbench.refactor", *modules, "--do", strategy, *words]
         environment = {**os.environ, "PYTHONPATH": f"{self.top}/clients/python"}
         ran = subprocess.run(command, cwd=self.folder, env=environment, capture_output=True)
@@ -69,6 +70,8 @@ def tests(top, everything):
     yield "no --do", "" if refactor_status(top, ["a.py"]) == 2 else "another status"
     yield from writing(top)
     yield from bounds(top)
+    got = Room(top, a="x = x + 1\n").run("--modules", f"{top}/strategies", "a.py", strategy="bottomup(try(AugmentedNumber))", modules=())
+    yield "--modules loads a folder", wanted(got, 0, "--- a.py\n+++ a.py\n@@ -1 +1 @@\n-x = x + 1\n+x += 1\n")
     many = {f"f{at}": f"old\n{at}\n" for at in range(40)}
     room = Room(top, **many)
     names = [f"{name}.py" for name in many]

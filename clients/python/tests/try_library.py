@@ -24,6 +24,7 @@ CASES = [
     ('prints-to-logger(|"log","debug")', "print('a')\nprint(a,  b) # c\nprint()\nprint(a, file=b)\nx = print(1)\n", "log.debug('a')\nlog.debug('%s %s', a,  b) # c\nlog.debug('')\nprint(a, file=b)\nx = print(1)\n"),
     ('prints-to-logger(|"log","debug")', "from m import print\nprint('a')\n", None),
     ("unused-imports", "import a, b.c, d as e\nfrom f import (\n    g,  # g\n    h as i,\n)\nimport j\nfrom __future__ import k\nfrom l import *\na; i\n", "import a\nfrom f import (\n    h as i,\n)\nfrom l import *\na; i\n"),
+    ("unused-imports", "import a\nimport b  # b\nb\n", "import b  # b\nb\n"),
     ("unused-imports", "from a import b, c\n__all__ = ['b']\ndef f():\n    import d\n", "from a import b\n__all__ = ['b']\ndef f():\n    import d\n"),
     # strings
     ("bottomup(try(FormatToFString))", 'x = "%s is %r" % (a, b.c)\ny = \'100%%: %a{}\' % (1,)\nz = "%d" % (a,)\nw = "%s" % a\n', 'x = f"{a} is {b.c!r}"\ny = f\'100%: {1!a}{{}}\'\nz = "%d" % (a,)\nw = "%s" % a\n'),

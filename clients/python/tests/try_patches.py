@@ -100,6 +100,7 @@ CASES = [
     ("a new else", "def f():\n    if a: b  # b\n    # c\n    return\n", EVERY % "Else", "def f():\n    if a: b  # b\n    else:\n        other\n    # c\n    return\n"),
     ("an else goes", "if a:\n    b\nelse:  # else\n    c\nd\nif a:\n    b\nelif c:\n    d\n", EVERY % "NoElse", "if a:\n    b\nd\nif a:\n    b\n"),
     ("branches change places with their comments", "if not a:  # why\n    # b's\n    b  # b\n    c\nelse:\n    d  # d\n", EVERY % "Unless", "if a:  # why\n    d  # d\nelse:\n    # b's\n    b  # b\n    c\n"),
+    ("of two lines one goes, the other is made anew", "import a  # a\nimport b  # b\n", "Module(\\ [_,Import(x)] -> [Import(x)] \\,id)", "import b  # b\n"),
     ("statements on one line", "a; gone(); b\ngone(); c\nd; gone()\n", "lists(Drop)", "a; b\nc\nd\n"),
     ("a whole line goes", "a\ngone()  # gone\n# stays\nb\n", "lists(Drop)", "a\n# stays\nb\n"),
     ("a body on the line of its if", "if a: gone(); b\nif a: gone()\n", "lists(Drop)", "if a: b\nif a: pass\n"),

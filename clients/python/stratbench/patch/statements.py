@@ -43,7 +43,7 @@ class Patcher(Nodes):
         edits: list[Edit] = []
         pairs = aligned(kept)
         for (old_from, new_from), (old_to, new_to) in zip([(-1, -1), *pairs], [*pairs, (len(old), len(new))]):
-            # of the others those that are made anew of the same constructor are the same statement
+            # of the others one made anew, of the same constructor and of parts of an old one, is that statement
             goes, comes = old[old_from + 1 : old_to], new[new_from + 1 : new_to]
             begin = 0
             while True:
@@ -52,7 +52,9 @@ class Patcher(Nodes):
                         (one, two)
                         for two in range(len(comes))
                         for one in range(begin, len(goes))
-                        if self._origin(comes[two]) is None and comes[two].head == goes[one].head
+                        if self._origin(comes[two]) is None
+                        and comes[two].head == goes[one].head
+                        and self._owner(goes, 0, len(goes), comes[two]) in (None, one)
                     ),
                     None,
                 )
