@@ -220,7 +220,11 @@ class Patcher(Nodes):
         if follows is not None:
             self.carried.add(follows.first)
             end = follows.last
-        return self._indented(apply_edits(self.text, begin, end, edits), before, indent)
+        # an edit of the first or the last line may be one of the whole line
+        first, last = min([begin, *(it.first for it in edits)]), max([end, *(it.last for it in edits)])
+        text = apply_edits(self.text, first, last, edits)
+        text = text.lstrip(b" \t\f") if first < begin else text
+        return self._indented(text.rstrip(b"\r\n") if last > end else text, before, indent)
 
     # The edits for a block of a statement, with its `else` or `finally`.
     def _clause(self, old: Term, new: Term, name: str) -> list[Edit]:
