@@ -120,6 +120,8 @@ def exchange(term: Term, new: Mapping[tuple[int, ...], Term]) -> Term:
     >>> exchange(read("f(a,g(b,c))"), {(0,): read("1"), (1, 1): read("2")})
     f(1,g(b,2))
     """
+    if not new:
+        return term
     if () in new:
         return new[()]
     below: dict[int, dict[tuple[int, ...], Term]] = {}

@@ -114,6 +114,8 @@ CASES = [
     ("continued lines", "x = old + \\\n    old\nassert old, \\\n  old\n", EVERY % 'Rename(|"old","new")', "x = new + \\\n    new\nassert new, \\\n  new\n"),
     ("statements move out with their comments, and strings over lines stay", 'def f():\n    if True:\n        # one\n        a = """x\n        y"""  # two\n\n        if b:\n            c\n    d\n', EVERY % "where(one(Flat)); flat-list".replace("flat-list", "(?[s|ss]; where(<Flat> s => a); <conc-two(|ss)> a)"), 'def f():\n    # one\n    a = """x\n        y"""  # two\n\n    if b:\n        c\n    d\n'),
     ("a statement that moves and changes at its end", "a\nif b:\n    c\n    gone()  # gone\n", "Module([id,If(id,\\ [c,_] -> [c] \\,id)]; \\ [x,y] -> [y,x] \\,id)", "if b:\n    c\na\n"),
+    ("lines come inside and after", "if a:\n    late()\nlate()\n", "Module([If(id,\\ [x] -> [x,x] \\,id),id],id); Module(\\ [x,y] -> [y,x,x] \\,id)", "late()\nif a:\n    late()\n    late()\nif a:\n    late()\n    late()\n"),
+    ("lines come inside and after, at the end", "if a:\n    b", "Module([If(id,\\ [x] -> [x,x] \\,id)],id); Module(\\ [x] -> [x,Pass()] \\,id)", "if a:\n    b\n    b\npass"),
     ("a docstring comes", "def f():\n    return 1\n", EVERY % "Doc", 'def f():\n    """What it does.\n\nAnd how.\n"""\n    return 1\n'),
     ("a docstring stays", 'def f():\n    """One\n    two."""\n    gone()\n', "lists(Drop)", 'def f():\n    """One\n    two."""\n'),
     ("a function becomes another form", "class A:\n    @a  # a\n    def f(self, x=1):  # f\n        # b\n        return x  # x\n", EVERY % "Async", "class A:\n    @a\n    async def f(self, x=1):\n        # b\n        return x  # x\n"),

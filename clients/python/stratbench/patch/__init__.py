@@ -30,6 +30,8 @@ def patch(source: Source, new: Term) -> list[Edit]:
         patcher = Patcher(source, new)
         if patcher.new.head != "Module":
             raise NoTerm("the tree is no Module")
+        if patcher.new is patcher.old:
+            return []
         from_term(patcher.new)
         why = "no text spells the new tree"
         for plain in (False, True):

@@ -7,6 +7,7 @@ import tokenize
 from abc import ABC, abstractmethod
 from bisect import bisect_left, bisect_right
 from collections.abc import Sequence
+from functools import cached_property
 
 from ..python import CONSTRUCTORS, Source, position
 from ..terms import LIST, Term
@@ -34,7 +35,6 @@ class Base(ABC):
                         self.homes[id(child)] = (it, at)
             waiting.extend(it.children)
         self.new = self._shared(new, self.old)
-        self.tokens = Tokens(source)
         # whether changed statements are made anew as a whole
         self.plain = False
         # the comments that go with statements to other places
@@ -42,6 +42,11 @@ class Base(ABC):
         self.newline = b"\r\n" if b"\r\n" in self.text[: self._line_end(0)[1]] else b"\n"
         if self.newline == b"\n" and b"\n" not in self.text and b"\r" in self.text:
             self.newline = b"\r"
+
+    @cached_property
+    def tokens(self) -> Tokens:
+        """The tokens of the source, which are read only where something changed."""
+        return Tokens(self.source)
 
     # The new tree with the old nodes in the places where nothing changed, so that `is` compares them.
     def _shared(self, new: Term, candidate: Term | None) -> Term:

@@ -40,8 +40,13 @@ class Patcher(Nodes):
             indent = self._indent(self._begin(old[0]))
         homes = {id(it): at for at, it in enumerate(old)}
         kept = [homes.get(id(self._origin(it))) for it in new]
-        edits: list[Edit] = []
+        # at one place, what comes first stands first: what is before all statements, what is in one, what is after it
+        front: list[Edit] = []
+        changed: list[Edit] = []
+        between: list[Edit] = []
         pairs = aligned(kept)
+        for at, other in pairs:
+            changed += self._checked(old[at], new[other], indent)
         for (old_from, new_from), (old_to, new_to) in zip([(-1, -1), *pairs], [*pairs, (len(old), len(new))]):
             # of the others one made anew, of the same constructor and of parts of an old one, is that statement
             goes, comes = old[old_from + 1 : old_to], new[new_from + 1 : new_to]
@@ -58,16 +63,15 @@ class Patcher(Nodes):
                     ),
                     None,
                 )
+                one, two = match or (len(goes), len(comes))
+                last = old_from + 1 + one
+                edits = front if last == 0 else between
+                edits += self._gap(old, old_from + 1 + begin, last, comes[:two], indent)
                 if match is None:
-                    edits += self._gap(old, old_from + 1 + begin, old_to, comes, indent)
                     break
-                one, two = match
-                edits += self._gap(old, old_from + 1 + begin, old_from + 1 + one, comes[:two], indent)
-                edits += self._checked(goes[one], comes[two], indent)
+                changed += self._checked(goes[one], comes[two], indent)
                 comes, begin = comes[two + 1 :], one + 1
-        for at, other in pairs:
-            edits += self._checked(old[at], new[other], indent)
-        return edits
+        return front + changed + between
 
     # The edits of one statement. One with blocks has no place in a line with others.
     def _checked(self, old: Term, new: Term, indent: bytes) -> list[Edit]:
@@ -159,6 +163,11 @@ class Patcher(Nodes):
             end = follows.last
         return self._leading_comments(begin, self.carried), end
 
+    # The edit that puts lines after that of a statement.
+    def _line_after(self, statement: Term, lines: bytes) -> Edit:
+        end, after = self._statement_end(statement)
+        return Edit(after, after, lines + self.newline) if after > end else Edit(end, end, self.newline + lines)
+
     def _inserted(self, old: tuple[Term, ...], at: int, comes: tuple[Term, ...], indent: bytes, simple: bool) -> list[Edit]:
         if at > 0:
             before = old[at - 1]
@@ -167,8 +176,7 @@ class Patcher(Nodes):
                     raise Cannot
                 place = span(before)[1]
                 return [Edit(place, place, b"".join(b"; " + self._rendered((it,), indent) for it in comes))]
-            place = self._statement_end(before)[0]
-            return [Edit(place, place, self.newline + indent + self._rendered(comes, indent))]
+            return [self._line_after(before, indent + self._rendered(comes, indent))]
         if old:
             place = self._begin(old[0])
             if self._leads(old[0]):
@@ -235,9 +243,7 @@ class Patcher(Nodes):
             return self._block(old, new, name, inner)
         word = b"finally" if name == "finalbody" else b"else"
         if not one:
-            place = self._statement_end(self._last_before(old, name))[0]
-            text = self._alternative(two, outer, inner, word)
-            return [Edit(place, place, self.newline + outer + text)]
+            return [self._line_after(self._last_before(old, name), outer + self._alternative(two, outer, inner, word))]
         begin, end = self._begin(one[0]), span(one[-1])[1]
         is_elif = old.head == "If" and len(one) == 1 and one[0].head == "If" and self.text[begin:].startswith(b"elif")
         if not two:
