@@ -4,17 +4,19 @@ Run by hand at the top of the repository, after the program was built (README ha
 
     python3 tools/measure/python.py [PROGRAM]
 
-It needs Python alone. Three refactorings are done on each module that the Python that runs it has. The visitors are those of
+It needs Python and GNU time. Three refactorings are done on each module that the Python that runs it has. The visitors are those of
 `clients/python/tests/try_modules.py`; both sides begin with the parsed tree, and end with the new one. The converter's share
-is taken apart: to terms and their texts before, from the texts that differ after. Memory is the most that a process of the
-program took.
+is taken apart: to terms and their texts before, from the texts that differ after. Memory is that of the program
+alone.
 """
 
 import os
 import resource
 import sys
+import tempfile
 import time
 
+from files import most_memory
 from measure import TOP, built_program, heading
 
 sys.path[:0] = [f"{TOP}/clients/python", f"{TOP}/clients/python/tests"]
@@ -31,6 +33,18 @@ def timed(work):
     after = [resource.getrusage(who) for who in (resource.RUSAGE_SELF, resource.RUSAGE_CHILDREN)]
     spent = [two.ru_utime + two.ru_stime - one.ru_utime - one.ru_stime for one, two in zip(before, after)]
     return result, spent[0], spent[1]
+
+
+def memory(texts):
+    """The most memory, in MB, of a run with the largest modules, each previewed."""
+    with tempfile.TemporaryDirectory() as room:
+        words = ["--library"]
+        for at, text in enumerate(sorted(texts, key=len)[-16:]):
+            with open(f"{room}/{at}", "w") as it:
+                it.write(text)
+            words += ["--tree", f"t{at}={room}/{at}"]
+        script = "".join(f"preview t{at} within 1000000 do topdown(id)\n" for at in range(16))
+        return most_memory(os.environ["STRATBENCH"], words, script)
 
 
 def main():
@@ -67,8 +81,7 @@ def main():
         fresh = [try_modules.parsed(it) for it in contents]
         _, visiting, _ = timed(lambda: [transformer().visit(it) for it in fresh])
         print(f"| `{strategy}` | {sum(map(len, edits))} | {program:.1f} | {own:.1f} | {patching:.1f} | {visiting:.1f} |")
-    most = resource.getrusage(resource.RUSAGE_CHILDREN).ru_maxrss / 1024
-    print(f"\nA process of the program took at most {most:.0f} MB, for 16 modules at a time.")
+    print(f"\nThe program took at most {memory(texts):.0f} MB for the sixteen largest modules at a time.")
     print("\n| `--jobs` | seconds for all modules, by the clock |\n|---|---|")
     task = refactor.Task(try_modules.library(TOP, *try_modules.REFACTORINGS[1][1]), try_modules.REFACTORINGS[1][2])
     work = [(str(at), it) for at, it in enumerate(contents)]
