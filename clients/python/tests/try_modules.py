@@ -16,7 +16,7 @@ from stratbench.patch import patch
 FOLDER = os.path.dirname(os.__file__)
 
 # The modules of which a patched copy has to pass its own test.
-TESTED = "textwrap shlex string queue fnmatch heapq colorsys copy statistics sched cmd pprint graphlib".split()
+TESTED = "textwrap shlex string queue colorsys statistics sched cmd pprint graphlib optparse csv calendar".split()
 
 
 def modules(everything):
