@@ -1,0 +1,53 @@
+"""Small patches of Python's sources: what of a text has to change, so that it spells another tree.
+
+    >>> source = Source(b"x = f( 1 )  # one\\ny = 2\\n")
+    >>> from stratbench.terms import put, read
+    >>> new = put(source.term, [0, 0, 1, 0], read('Name("g",Load)'))
+    >>> patched(source, new)
+    b'x = g( 1 )  # one\\ny = 2\\n'
+
+The new tree says by its annotations what it has of the old one. A node that has the position of an old one, and is the
+same or of the same constructor, has that one's text, but for what differs inside. All other nodes get their text from
+`ast.unparse`, with the texts of the old ones in it in their places. So comments and layout stay wherever the tree stays.
+"""
+
+from __future__ import annotations
+
+from ..python import Source, deep, from_term, parse, to_term
+from ..terms import NoTerm, Term
+from .edits import Cannot, Edit, Unwritable, apply_edits, same_tree
+from .statements import Patcher
+
+__all__ = ["Edit", "Unwritable", "apply_edits", "patch", "patched"]
+
+
+def patch(source: Source, new: Term) -> list[Edit]:
+    """Returns the edits that make the source spell the new tree, in order; none where it does.
+
+    Raises `NoTerm` where the new tree is none of Python's, and `Unwritable` where no text spells it.
+    """
+    with deep():
+        patcher = Patcher(source, new)
+        if patcher.new.head != "Module":
+            raise NoTerm("the tree is no Module")
+        if patcher.new is patcher.old:
+            return []
+        from_term(patcher.new)
+        why = "no text spells the new tree"
+        for plain in (False, True):
+            patcher.plain = plain
+            try:
+                edits = patcher.edits()
+                text = apply_edits(source.text, 0, len(source.text), edits)
+                if same_tree(to_term(parse(text.decode())), patcher.new):
+                    return edits
+            except (Cannot, NoTerm):
+                pass
+            except SyntaxError as error:
+                why = f"the new text doesn't parse: {error}"
+        raise Unwritable(why)
+
+
+def patched(source: Source, new: Term) -> bytes:
+    """Returns the text of the source with the edits of `patch`, in UTF-8."""
+    return apply_edits(source.text, 0, len(source.text), patch(source, new))

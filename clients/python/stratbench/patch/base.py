@@ -1,0 +1,187 @@
+"""The two trees, the source between them, and its lines."""
+
+from __future__ import annotations
+
+import re
+import tokenize
+from abc import ABC, abstractmethod
+from bisect import bisect_left, bisect_right
+from collections.abc import Sequence
+from functools import cached_property
+
+from ..python import CONSTRUCTORS, Source, position
+from ..terms import LIST, Term
+from .edits import DEFINITIONS, Edit, field_of, normal, span
+from .tokens import Token, Tokens, inner_lines
+
+
+class Base(ABC):
+    """The source with its old tree, and the new tree."""
+
+    def __init__(self, source: Source, new: Term) -> None:
+        self.source, self.text = source, source.text
+        self.old = source.term
+        self.origins: dict[tuple[int, int, object], Term] = {}
+        self.homes: dict[int, tuple[Term, int]] = {}
+        waiting = [self.old]
+        while waiting:
+            it = waiting.pop()
+            place = position(it)
+            if place is not None and it.head in CONSTRUCTORS:
+                self.origins[(*place, it.head)] = it
+            if it.head == LIST:
+                for at, child in enumerate(it.children):
+                    if child.children or child.annotations:
+                        self.homes[id(child)] = (it, at)
+            waiting.extend(it.children)
+        self.new = self._shared(new, self.old)
+        # whether changed statements are made anew as a whole
+        self.plain = False
+        # the comments that go with statements to other places
+        self.carried: set[int] = set()
+        self.newline = b"\r\n" if b"\r\n" in self.text[: self._line_end(0)[1]] else b"\n"
+        if self.newline == b"\n" and b"\n" not in self.text and b"\r" in self.text:
+            self.newline = b"\r"
+
+    @cached_property
+    def tokens(self) -> Tokens:
+        """The tokens of the source, which are read only where something changed."""
+        return Tokens(self.source)
+
+    # The new tree with the old nodes in the places where nothing changed, so that `is` compares them.
+    def _shared(self, new: Term, candidate: Term | None) -> Term:
+        place = position(new)
+        if place is not None and isinstance(new.head, str):
+            candidate = self.origins.get((*place, new.head), candidate)
+        if candidate is new:
+            return new
+        old = candidate.children if candidate is not None else ()
+        children = tuple([self._shared(it, old[at] if at < len(old) else None) for at, it in enumerate(new.children)])
+        if (
+            candidate is not None
+            and type(new.head) is type(candidate.head)
+            and new.head == candidate.head
+            and new.annotations == candidate.annotations
+            and len(children) == len(old)
+            and all(one is two for one, two in zip(children, old))
+        ):
+            return candidate
+        return normal(Term(new.head, children, new.annotations))
+
+    def _origin(self, term: Term) -> Term | None:
+        place = position(term)
+        return None if place is None else self.origins.get((*place, term.head))
+
+    # What the classes above say of nodes and statements.
+
+    @abstractmethod
+    def _inside(self, old: Term, new: Term) -> list[Edit]: ...
+
+    @abstractmethod
+    def _child(self, owner: Term, path: tuple[int, ...], old: Term, new: Term) -> list[Edit]: ...
+
+    @abstractmethod
+    def _fields(self, owner: Term, path: tuple[int, ...], old: Term, new: Term) -> list[Edit]: ...
+
+    @abstractmethod
+    def _rendered(self, new: Sequence[Term], indent: bytes) -> bytes: ...
+
+    # Places in the lines of the source.
+
+    def _begin(self, statement: Term) -> int:
+        first = span(statement)[0]
+        if statement.head in DEFINITIONS and field_of(statement, "decorator_list").children:
+            return self._at_sign(field_of(statement, "decorator_list").children[0])
+        return first
+
+    def _at_sign(self, decorator: Term) -> int:
+        at = self.tokens.before(span(decorator)[0])
+        while self.tokens.tokens[at].text != "@":
+            at -= 1
+        return self.tokens.tokens[at].first
+
+    def _line_start(self, place: int) -> int:
+        starts = self.source.lines.starts
+        return starts[bisect_right(starts, place) - 1]
+
+    # Where the line of a place ends, without and with its line end.
+    def _line_end(self, place: int) -> tuple[int, int]:
+        starts = self.source.lines.starts
+        at = bisect_right(starts, place)
+        after = starts[at] if at < len(starts) else len(self.text)
+        return after - len(self.text[place:after]) + len(self.text[place:after].rstrip(b"\r\n")), after
+
+    # Where the last line of a statement ends.
+    def _statement_end(self, statement: Term) -> tuple[int, int]:
+        at = self.tokens.after(span(statement)[1])
+        while at < len(self.tokens.tokens) and self.tokens.tokens[at].kind != tokenize.NEWLINE:
+            at += 1
+        place = self.tokens.tokens[at].first if at < len(self.tokens.tokens) else len(self.text)
+        return self._line_end(place)
+
+    # Whether a statement is the first of its line.
+    def _leads(self, statement: Term) -> bool:
+        before = self.tokens.before(self._begin(statement))
+        return before < 0 or self.tokens.tokens[before].kind == tokenize.NEWLINE
+
+    # Whether another statement comes after this one in its line.
+    def _is_followed(self, statement: Term) -> bool:
+        at = self.tokens.after(span(statement)[1])
+        return self.tokens.text_at(at) == ";" and self.tokens.tokens[at + 1].kind != tokenize.NEWLINE
+
+    def _indent(self, place: int) -> bytes:
+        found = re.compile(rb"[ \t\f]*").match(self.text, self._line_start(place))
+        return found.group() if found else b""
+
+    # The place of the colon that ends the head of a statement.
+    def _colon(self, statement: Term) -> int:
+        body = field_of(statement, "body").children[0]
+        at = self.tokens.before(self._begin(body))
+        while self.tokens.tokens[at].text != ":":
+            at -= 1
+        return self.tokens.tokens[at].first
+
+    # The comment after a place in its line.
+    def _comment_after(self, place: int) -> Token | None:
+        at = self.tokens.after(place)
+        if at < len(self.tokens.tokens) and self.tokens.tokens[at].kind != tokenize.NEWLINE:
+            return None
+        follows = bisect_left(self.tokens.comment_firsts, place)
+        if follows < len(self.tokens.comments) and self.tokens.comments[follows].last <= self._line_end(place)[0]:
+            return self.tokens.comments[follows]
+        return None
+
+    # Where the comments on lines of their own right before a place begin, of all or of these.
+    def _leading_comments(self, place: int, some: set[int] | None) -> int:
+        begin = place
+        line = self._line_start(place)
+        while line > 0:
+            above = self._line_start(line - 1)
+            text = self.text[above:line]
+            start = above + len(text) - len(text.lstrip(b" \t\f"))
+            if self.text[start : start + 1] != b"#" or (some is not None and start not in some):
+                break
+            begin, line = start, above
+        return begin
+
+    # A text of statements with another indentation. Lines within strings stay.
+    def _indented(self, text: bytes, old: bytes, new: bytes) -> bytes:
+        if old == new or (b"\n" not in text and b"\r" not in text):
+            return text
+        lines = re.split(rb"(?<=\n)|(?<=\r)(?!\n)", text)
+        inner = inner_lines(old + text, bool(old))
+        out = [lines[0]]
+        for at, line in enumerate(lines[1:], 1):
+            if at not in inner and line.strip() and line.startswith(old):
+                line = new + line[len(old) :]
+            out.append(line)
+        return b"".join(out)
+
+    def _is_bracketed_tuple(self, term: Term) -> bool:
+        tokens = self.tokens.between(*span(term))
+        depth = 0
+        for at, token in enumerate(tokens):
+            depth += {"(": 1, "[": 1, "{": 1, ")": -1, "]": -1, "}": -1}.get(token.text, 0)
+            if depth == 0:
+                return at == len(tokens) - 1 and tokens[0].text == "("
+        return False

@@ -1,0 +1,268 @@
+"""Lists with commas between their elements: arguments, parameters, entries, imports."""
+
+from __future__ import annotations
+
+from collections.abc import Sequence
+from typing import Callable, NamedTuple, Tuple, Union
+
+from ..python import position
+from ..terms import LIST, Term, string
+from .edits import NONE, PASS, Cannot, Edit, aligned, field_of, is_same, span
+from .fresh import Fresh
+
+# The text of an item, from the nodes that it is made of.
+Texts = Callable[[Tuple[Term, ...]], str]
+
+
+class Item(NamedTuple):
+    """An element of a list with commas, which may be more than one node: where it is in the source, the nodes that it is made
+    of, and how its text is made of theirs."""
+
+    first: int
+    last: int
+    parts: tuple[Term, ...]
+
+
+# The node by which an item is known: the first, or what is after `**`.
+def key_of(parts: tuple[Term, ...]) -> Term:
+    return parts[1] if len(parts) > 1 and parts[0].head == "None" else parts[0]
+
+
+# Whether two parameter lists have as many parameters of each kind, and defaults of the same ones.
+def same_shape(one: Term, two: Term) -> bool:
+    return two.head == "arguments" and len(two.children) == len(one.children) and all(
+        len(it.children) == len(other.children) and [x.head == "None" for x in it.children] == [x.head == "None" for x in other.children]
+        if it.head == LIST and other.head == LIST
+        else (it.head == "None") == (other.head == "None")
+        for it, other in zip(one.children, two.children)
+    )
+
+
+# The parameters in the order of the text: the sign before each, its node, and its default. The signs `/` and `*` that stand
+# alone are `/` and `bare`.
+def flat_parameters(term: Term) -> list[tuple[str, Term, Union[Term, None]]]:
+    if term.head != "arguments" or len(term.children) != 7:
+        raise Cannot
+    only, plain, star, keywords, keyword_defaults, stars, defaults = term.children
+    found: list[tuple[str, Term, Union[Term, None]]] = []
+    positional = [*only.children, *plain.children]
+    without = len(positional) - len(defaults.children)
+    for at, it in enumerate(positional):
+        if at and at == len(only.children):
+            found.append(("/", NONE, None))
+        found.append(("", it, defaults.children[at - without] if at >= without else None))
+    if only.children and not plain.children:
+        found.append(("/", NONE, None))
+    if star.head != "None":
+        found.append(("*", star, None))
+    elif keywords.children:
+        found.append(("bare", NONE, None))
+    for it, default in zip(keywords.children, keyword_defaults.children):
+        found.append(("", it, None if default.head == "None" else default))
+    if stars.head != "None":
+        found.append(("**", stars, None))
+    return found
+
+
+class Commas(Fresh):
+    """The edits of such lists, in which elements come, go and change."""
+
+    # The node with the brackets around it, inside these places.
+    def _around(self, inside: tuple[int, int], term: Term) -> tuple[int, int]:
+        first, last = span(term)
+        tokens = self.tokens
+        while True:
+            before, after = tokens.before(first), tokens.after(last)
+            if tokens.text_at(before) != "(" or tokens.text_at(after) != ")":
+                return first, last
+            outer = (tokens.tokens[before].first, tokens.tokens[after].last)
+            if outer[0] < inside[0] or outer[1] > inside[1]:
+                return first, last
+            first, last = outer
+
+    def _item(self, inside: tuple[int, int], *parts: Term) -> Item:
+        known = [it for it in parts if position(it) is not None or it.head == "withitem"]
+        if not known:
+            raise Cannot
+        spans = [self._around(inside, it) if it.head != "withitem" else self._with_span(it) for it in known]
+        first, last = spans[0][0], spans[-1][1]
+        if parts[0].head == "None":
+            # `**x` in a dictionary
+            first = self.tokens.tokens[self.tokens.before(first)].first
+        return Item(first, last, parts)
+
+    def _with_span(self, item: Term) -> tuple[int, int]:
+        spans = [self._around(span(it), it) for it in item.children if it.head != "None"]
+        if self.tokens.text_at(self.tokens.before(spans[0][0])) == "(" and self.tokens.text_at(self.tokens.after(spans[0][1])) == ")":
+            raise Cannot
+        return spans[0][0], spans[-1][1]
+
+    # The edits for a list with commas. `inside` are the places between its brackets.
+    def _items(
+        self,
+        owner: Term,
+        inside: tuple[int, int],
+        old: Sequence[Item],
+        new: Sequence[tuple[Term, ...]],
+        text: Texts,
+        trailing: bool = True,
+    ) -> list[Edit]:
+        if any(one.last > two.first for one, two in zip(old, old[1:])):
+            raise Cannot
+        keys = {id(key_of(it.parts)): at for at, it in enumerate(old)}
+        kept = [keys.get(id(self._origin(key_of(parts)))) for parts in new]
+        for place, at in enumerate(kept):
+            if at is not None and [it.head == "None" for it in new[place]] != [it.head == "None" for it in old[at].parts]:
+                kept[place] = None
+        edits: list[Edit] = []
+        pairs = aligned(kept)
+        # what stands for nothing yet takes the place of what goes, in order
+        for (old_from, new_from), (old_to, new_to) in zip([(-1, -1), *pairs], [*pairs, (len(old), len(new))]):
+            goes = list(range(old_from + 1, old_to))
+            comes = list(range(new_from + 1, new_to))
+            for one, two in zip(goes, comes):
+                edits.append(Edit(old[one].first, old[one].last, text(new[two]).encode()))
+            if len(goes) > len(comes):
+                edits += self._without(inside, old, goes[len(comes)], goes[-1], old_to < len(old), trailing)
+            elif len(comes) > len(goes):
+                texts = [text(new[it]).encode() for it in comes[len(goes) :]]
+                last = goes[-1] if goes else old_from
+                if last >= 0:
+                    edits.append(Edit(old[last].last, old[last].last, b"".join(b", " + it for it in texts)))
+                elif old:
+                    edits.append(Edit(old[0].first, old[0].first, b"".join(it + b", " for it in texts)))
+                else:
+                    edits.append(Edit(inside[0], inside[0], b", ".join(texts)))
+        for one, two in pairs:
+            for before, after in zip(old[one].parts, new[two]):
+                if not is_same(before, after):
+                    edits += self._child(owner, (), before, after)
+        return edits
+
+    # The edits that take the items from one to another away.
+    def _without(self, inside: tuple[int, int], old: Sequence[Item], first: int, last: int, more: bool, trailing: bool) -> list[Edit]:
+        if more:
+            return [Edit(old[first].first, old[last + 1].first, b"")]
+        if first > 0:
+            begin = old[first - 1].last
+            if trailing and any(begin <= it.first < old[first].first for it in self.tokens.comments):
+                begin = old[first].first
+                end = self.tokens.after(old[last].last)
+                stop = self.tokens.tokens[end].last if self.tokens.text_at(end) == "," else old[last].last
+                return [Edit(begin, stop, b"")]
+            return [Edit(begin, old[last].last, b"")]
+        end = self.tokens.after(old[last].last)
+        comma = self.tokens.text_at(end) == "," and self.tokens.tokens[end].last <= inside[1]
+        return [Edit(old[first].first, self.tokens.tokens[end].last if comma else old[last].last, b"")]
+
+    # The arguments of a call, where they are others than before in number or kind.
+    def _call(self, owner: Term, path: tuple[int, ...], old: Term, new: Term) -> list[Edit] | None:
+        function, arguments, keywords = old.children
+        if len(new.children) != 3 or new.children[1].head != LIST or new.children[2].head != LIST:
+            raise Cannot
+        lengths = [(len(it.children), len(other.children)) for it, other in zip(old.children[1:], new.children[1:])]
+        if all(one == two for one, two in lengths):
+            return None
+        last = span(old)[1]
+        opens = self.tokens.after(self._around(span(old), function)[1])
+        inside = (self.tokens.tokens[opens].last, last - 1)
+        before = [*arguments.children, *keywords.children]
+        if any(it.head == "GeneratorExp" and span(it)[1] == last for it in before):
+            raise Cannot
+        edits = self._child(owner, (*path, 0), function, new.children[0]) if function is not new.children[0] else []
+        after = [(it,) for it in (*new.children[1].children, *new.children[2].children)]
+        return edits + self._items(new, inside, [self._item(inside, it) for it in before], after, lambda parts: self._text(parts[0]))
+
+    def _bases(self, owner: Term, path: tuple[int, ...], old: Term, new: Term) -> list[Edit]:
+        before = [*field_of(old, "bases").children, *field_of(old, "keywords").children]
+        after = [*field_of(new, "bases").children, *field_of(new, "keywords").children]
+        if len(before) == len(after) and all(one is two for one, two in zip(before, after)):
+            return []
+        if field_of(old, "type_params").children:
+            raise Cannot
+        at = self.tokens.after(span(old)[0]) + 2
+        if self.tokens.text_at(at) != "(":
+            place = self.tokens.tokens[at - 1].last
+            return [Edit(place, place, b"(" + b", ".join(self._text(it).encode() for it in after) + b")")]
+        depth, end = 1, at
+        while depth:
+            end += 1
+            depth += {"(": 1, "[": 1, "{": 1, ")": -1, "]": -1, "}": -1}.get(self.tokens.text_at(end), 0)
+        inside = (self.tokens.tokens[at].last, self.tokens.tokens[end].first)
+        elements = [self._item(inside, it) for it in before]
+        return self._items(new, inside, elements, [(it,) for it in after], lambda parts: self._text(parts[0]))
+
+    def _dict(self, owner: Term, path: tuple[int, ...], old: Term, new: Term) -> list[Edit]:
+        first, last = span(old)
+        inside = (first + 1, last - 1)
+        keys, values = (it.children for it in old.children)
+        if len(new.children[0].children) != len(new.children[1].children):
+            raise Cannot
+        before = [self._item(inside, *pair) for pair in zip(keys, values)]
+        after = list(zip(new.children[0].children, new.children[1].children))
+
+        def text(parts: tuple[Term, ...]) -> str:
+            return self._between("Dict", [Term(LIST, parts[:1]), Term(LIST, parts[1:])], "{", "}")
+
+        return self._items(new, inside, before, after, text)
+
+    # The text of a node that is made anew, of which only what is between two brackets is wanted.
+    def _between(self, head: str, children: list[Term], opens: str, closes: str) -> str:
+        text = self._fresh(Term(head, tuple(children)))
+        return text[text.index(opens) + 1 : text.rindex(closes)]
+
+    # The parameters of a function.
+    def _parameters(self, owner: Term, path: tuple[int, ...], old: Term, one: Term, two: Term) -> list[Edit]:
+        if same_shape(one, two):
+            return self._fields(owner, path, one, two)
+        tokens = self.tokens
+        at = tokens.after(span(old)[0])
+        if old.head == "Lambda":
+            depth, end = 0, at + 1
+            while depth or tokens.text_at(end) != ":":
+                depth += {"(": 1, "[": 1, "{": 1, ")": -1, "]": -1, "}": -1}.get(tokens.text_at(end), 0)
+                end += 1
+            inside = (tokens.tokens[at].last, tokens.tokens[end].first)
+        else:
+            if field_of(old, "type_params").children:
+                raise Cannot
+            while tokens.text_at(at) != "(":
+                at += 1
+            depth, end = 1, at
+            while depth:
+                end += 1
+                depth += {"(": 1, "[": 1, "{": 1, ")": -1, "]": -1, "}": -1}.get(tokens.text_at(end), 0)
+            inside = (tokens.tokens[at].last, tokens.tokens[end].first)
+        before, after = flat_parameters(one), flat_parameters(two)
+        alone = any(sign in ("/", "bare") for sign, _, _ in [*before, *after])
+        if old.head == "Lambda" or alone:
+            return [Edit(*inside, self._parameter_list(old.head == "Lambda", two))]
+        elements = []
+        for sign, name, default in before:
+            item = self._item(inside, *([name] if default is None else [name, default]))
+            if sign:
+                item = item._replace(first=tokens.tokens[tokens.before(item.first)].first)
+            elements.append(item)
+        news = [(name,) if default is None else (name, default) for _, name, default in after]
+        marks = {id(parts[0]): sign for (sign, _, _), parts in zip(after, news)}
+        for item, (sign, name, default) in zip(elements, before):
+            marks.setdefault(id(name), sign)
+
+        def text(parts: tuple[Term, ...]) -> str:
+            equals = " = " if parts[0].children[1].head != "None" else "="
+            return marks.get(id(parts[0]), "") + self._text(parts[0]) + (equals + self._text(parts[1]) if len(parts) > 1 else "")
+
+        # a parameter that changes its kind is no longer itself
+        for parts, (sign, name, _) in zip(news, after):
+            origin = self._origin(name)
+            if origin is not None and marks.get(id(origin)) != sign:
+                return [Edit(*inside, self._parameter_list(False, two))]
+        return self._items(owner, inside, elements, news, text)
+
+    def _parameter_list(self, is_lambda: bool, new: Term) -> bytes:
+        if is_lambda:
+            text = self._fresh(Term("Lambda", (new, Term("Constant", (Term("Ellipsis"), NONE)))))
+            return text[len("lambda") : text.rindex(":")].encode()
+        empty = Term(LIST)
+        text = self._fresh(Term("FunctionDef", (string("f"), new, Term(LIST, (PASS,)), empty, NONE, NONE, empty)))
+        return text[text.index("(") + 1 : text.rindex("):")].encode()

@@ -1,0 +1,127 @@
+"""Markers: nodes that stand for others while the text around is made."""
+
+from __future__ import annotations
+
+import re
+from collections.abc import Sequence
+from typing import NamedTuple
+
+from ..python import unparse
+from ..terms import LIST, Term, string
+from .edits import EXPRESSIONS, LOAD, NONE, PASS, PATTERNS, STATEMENTS, Cannot
+
+
+class Piece(NamedTuple):
+    """A node of the new tree whose text is known: it stands for it while the text around is made."""
+
+    shown: str
+    text: str
+    head: str
+
+
+def unparsed(term: Term) -> str:
+    text = unparse(term)
+    if term.head in ("NamedExpr", "Yield", "YieldFrom") and text.startswith("("):
+        return text[1:-1]
+    return text
+
+
+def name_of(text: str) -> Term:
+    return Term("Name", (string(text), LOAD))
+
+
+# A node of the same constructor, which `ast.unparse` puts into brackets wherever it would the node itself, and its text.
+def marker_of(term: Term, number: int) -> tuple[str, Term]:
+    left, middle, right = (f"_{letter}{number}_" for letter in "lmr")
+    head, children = term.head, term.children
+    one, two = name_of(left), name_of(right)
+    if head == "BinOp":
+        marker = Term(head, (one, children[1], two))
+    elif head == "BoolOp":
+        marker = Term(head, (children[0], Term(LIST, (one, two))))
+    elif head == "UnaryOp":
+        marker = Term(head, (children[0], two))
+    elif head == "Compare":
+        marker = Term(head, (one, Term(LIST, (Term("Lt"),)), Term(LIST, (two,))))
+    elif head == "Lambda":
+        empty = Term(LIST)
+        marker = Term(head, (Term("arguments", (empty, empty, NONE, empty, empty, NONE, empty)), two))
+    elif head == "IfExp":
+        marker = Term(head, (name_of(middle), one, two))
+    elif head == "NamedExpr":
+        marker = Term(head, (one, two))
+    elif head in ("Await", "Yield", "YieldFrom"):
+        marker = Term(head, (two,))
+    elif head == "Starred":
+        marker = Term(head, (two, LOAD))
+    elif head == "Tuple":
+        marker = Term(head, (Term(LIST, (one, two)), LOAD))
+    elif head == "GeneratorExp":
+        source = Term("comprehension", (name_of(middle), two, Term(LIST), Term(0)))
+        marker = Term(head, (one, Term(LIST, (source,))))
+    elif head == "keyword":
+        marker = Term(head, (string(left), two))
+    elif head == "arg":
+        marker = Term(head, (string(left), NONE, NONE))
+    elif head == "alias":
+        marker = Term(head, (string(left), NONE))
+    elif head == "MatchOr":
+        marker = Term(head, (Term(LIST, tuple(Term("MatchAs", (NONE, string(it))) for it in (left, right))),))
+    elif head == "MatchAs" and children and children[0].head != "None":
+        marker = Term(head, (Term("MatchAs", (NONE, string(left))), string(right)))
+    elif head == "MatchStar":
+        marker = Term(head, (string(left),))
+    elif head in PATTERNS:
+        marker = Term("MatchAs", (NONE, string(left)))
+    elif head in EXPRESSIONS:
+        marker = one
+    else:
+        raise Cannot
+    shown = unparsed(marker)
+    return (shown[1:-1] if head == "Tuple" else shown), marker
+
+
+# The text with those of the pieces in the places of their markers.
+def filled(text: str, pieces: Sequence[Piece]) -> str:
+    for piece in pieces:
+        first = text.find(piece.shown)
+        if first < 0:
+            continue
+        last, own = first + len(piece.shown), piece.text
+        around = text[first - 1 : first] == "(" and text[last : last + 1] == ")"
+        if around and (piece.head == "Tuple" or (piece.head == "GeneratorExp" and re.match(r"[\w)\]]", text[first - 2 : first - 1]))):
+            first, last = first - 1, last + 1
+        if piece.head == "Constant" and text[last : last + 1] == "." and own[0].isdigit():
+            own = f"({own})"
+        text = text[:first] + own + text[last:]
+    return text
+
+
+# The owner with a node at the path, and with plain names for what else is in it.
+def hollow(owner: Term, path: Sequence[int], node: Term) -> Term:
+    if not path:
+        return node
+    children = [hollow(it, path[1:], node) if at == path[0] else plain(it) for at, it in enumerate(owner.children)]
+    return Term(owner.head, tuple(children))
+
+
+def plain(term: Term) -> Term:
+    if term.head == LIST and term.children and term.children[0].head in STATEMENTS:
+        return Term(LIST, (PASS,))
+    if term.head in EXPRESSIONS:
+        return name_of("_x_")
+    if term.head in PATTERNS:
+        return Term("MatchAs", (NONE, string("_x_")))
+    if not term.children:
+        return term
+    return Term(term.head, tuple([plain(it) for it in term.children]))
+
+
+# How many pairs of brackets are around a text in that of a node.
+def brackets(term: Term, shown: str) -> int:
+    text = unparse(term)
+    first = text.find(shown)
+    last, count = first + len(shown), 0
+    while first > 0 and text[first - 1] == "(" and text[last : last + 1] == ")":
+        first, last, count = first - 1, last + 1, count + 1
+    return count

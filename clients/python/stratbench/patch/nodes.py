@@ -1,0 +1,254 @@
+"""Nodes that change in their place: what differs in them, and the brackets that they need then."""
+
+from __future__ import annotations
+
+import tokenize
+from abc import abstractmethod
+
+from ..python import CONSTRUCTORS, position
+from ..terms import LIST, Term, string
+from .commas import Commas, same_shape
+from .edits import (
+    BLOCKS, COMMAS, DEFINITIONS, EXPRESSIONS, LOAD, NONE, OPERATORS, PATTERNS, Cannot, Edit, field_of, is_same, operands, span,
+)  # fmt: skip
+from .markers import brackets, hollow, marker_of
+
+
+class Nodes(Commas):
+    """The edits of a node by those of its fields."""
+
+    # What the class above says of blocks.
+
+    @abstractmethod
+    def _clause(self, old: Term, new: Term, name: str) -> list[Edit]: ...
+
+    @abstractmethod
+    def _parts(self, old: Term, new: Term, name: str) -> list[Edit]: ...
+
+    @abstractmethod
+    def _decorators(self, old: Term, new: Term) -> list[Edit]: ...
+
+    # The edits that make the old node the new one, which stands in its place.
+    def _node(self, old: Term, new: Term) -> list[Edit]:
+        if old is new:
+            return []
+        first, last = span(old)
+        if old.head == new.head and not self.plain:
+            try:
+                return self._inside(old, new)
+            except Cannot:
+                pass
+        return [Edit(first, last, self._fresh(new, old).encode())]
+
+    # The edits within a node whose constructor stays.
+    def _inside(self, old: Term, new: Term) -> list[Edit]:
+        if old.head == "JoinedStr":
+            raise Cannot
+        edits = self._fields(new, (), old, new)
+        at = {"BinOp": 1, "BoolOp": 0, "UnaryOp": 0, "Compare": 1}.get(str(old.head))
+        if at is not None and old.children[at] is not new.children[at]:
+            edits = self._rebracketed(old, new, edits)
+        return edits
+
+    # An operator that changes may bind its operands otherwise, so these may need brackets now.
+    def _rebracketed(self, old: Term, new: Term, edits: list[Edit]) -> list[Edit]:
+        for path, one, two in operands(old, new):
+            span = position(one)
+            if one is two and span and self._needs_brackets(new, path, two, one):
+                edits = [*edits, Edit(span[0], span[0], b"("), Edit(span[1], span[1], b")")]
+        return edits
+
+    def _fields(self, owner: Term, path: tuple[int, ...], old: Term, new: Term) -> list[Edit]:
+        head = str(old.head)
+        fields = CONSTRUCTORS[head].fields
+        if old.head != new.head or len(old.children) != len(fields) or len(new.children) != len(fields):
+            raise Cannot
+        edits: list[Edit] = []
+        if head == "Call":
+            joint = self._call(owner, path, old, new)
+            if joint is not None:
+                return joint
+        if head == "ClassDef":
+            edits += self._bases(owner, path, old, new)
+        if head == "Dict" and len(old.children[0].children) != len(new.children[0].children):
+            return self._dict(owner, path, old, new)
+        if head == "arguments" and not same_shape(old, new):
+            raise Cannot
+        for at, field in enumerate(fields):
+            one, two = old.children[at], new.children[at]
+            if is_same(one, two) or field.sort == "expr_context" or (head == "ClassDef" and field.name in ("bases", "keywords")):
+                continue
+            edits += self._field(owner, (*path, at), old, new, field.name, one, two)
+        return edits
+
+    def _field(self, owner: Term, path: tuple[int, ...], old: Term, new: Term, name: str, one: Term, two: Term) -> list[Edit]:
+        head = str(old.head)
+        if head in BLOCKS and name in ("body", "orelse", "finalbody"):
+            return self._clause(old, new, name)
+        if name == "handlers" or name == "cases":
+            return self._parts(old, new, name)
+        if name == "decorator_list":
+            return self._decorators(old, new)
+        if (head, name) in (("FunctionDef", "args"), ("AsyncFunctionDef", "args"), ("Lambda", "args")):
+            return self._parameters(owner, path, old, one, two)
+        if name == "returns" and head in DEFINITIONS:
+            return self._returns(owner, path, old, one, two)
+        word = self._word(old, new, name, one, two)
+        if word is not None:
+            return word
+        if one.head == LIST and two.head == LIST:
+            if len(one.children) == len(two.children):
+                edits: list[Edit] = []
+                for at, (it, other) in enumerate(zip(one.children, two.children)):
+                    if not is_same(it, other):
+                        edits += self._child(owner, (*path, at), it, other)
+                return edits
+            least = COMMAS.get((head, name))
+            if least is None or len(two.children) < least or not one.children:
+                if (head, name) != ("List", "elts"):
+                    raise Cannot
+            inside = span(old)
+            if head == "List" or (head == "Tuple" and self._is_bracketed_tuple(old)):
+                inside = (inside[0] + 1, inside[1] - 1)
+            elements = [self._item(inside, it) for it in one.children]
+            return self._items(owner, inside, elements, [(it,) for it in two.children], lambda parts: self._text(parts[0]), (head, name) != ("Delete", "targets"))
+        return self._child(owner, path, one, two)
+
+    # The edits for a child that isn't a list.
+    def _child(self, owner: Term, path: tuple[int, ...], old: Term, new: Term) -> list[Edit]:
+        if position(old) is None:
+            if old.head == new.head and old.head in ("arguments", "comprehension", "withitem"):
+                return self._fields(owner, path, old, new)
+            raise Cannot
+        if new.head not in CONSTRUCTORS or new.head == "None":
+            raise Cannot
+        first, last = span(old)
+        edits = self._node(old, new)
+        if new.head in EXPRESSIONS or new.head in PATTERNS:
+            whole = len(edits) == 1 and (edits[0].first, edits[0].last) == (first, last)
+            if (whole or old.head in ("BinOp", "BoolOp", "UnaryOp", "Compare")) and self._needs_brackets(owner, path, new, old):
+                if whole and new.head == "Tuple" and edits[0].text.startswith(b"("):
+                    return edits
+                return [Edit(first, first, b"("), *edits, Edit(last, last, b")")] if not whole else [
+                    Edit(first, last, b"(" + edits[0].text + b")")
+                ]
+        return edits
+
+    # Whether a node needs brackets in its place under the owner, which the source doesn't have there.
+    def _needs_brackets(self, owner: Term, path: tuple[int, ...], new: Term, old: Term) -> bool:
+        if not path or (new.head not in EXPRESSIONS and new.head not in PATTERNS):
+            return False
+        if owner.head == "Attribute" and new.head == "Constant" and not isinstance(new.children[0].head, bytes):
+            first, last = span(old)
+            return self.tokens.text_at(self.tokens.before(first)) != "(" or self.tokens.text_at(self.tokens.after(last)) != ")"
+        shown, marker = marker_of(new, 0)
+        atom = Term("Name", (string("_h_"), LOAD)) if new.head in EXPRESSIONS else Term("MatchAs", (NONE, string("_h_")))
+        wanted = brackets(hollow(owner, path, marker), shown)
+        least = brackets(hollow(owner, path, atom), "_h_")
+        first, last = span(old)
+        before, after, there = self.tokens.before(first), self.tokens.after(last), 0
+        while self.tokens.text_at(before) == "(" and self.tokens.text_at(after) == ")":
+            before, after, there = before - 1, after + 1, there + 1
+        return wanted > least and there <= least
+
+    # Names and operators, which are one token or a few.
+    def _word(self, old: Term, new: Term, name: str, one: Term, two: Term) -> list[Edit] | None:
+        head, tokens = str(old.head), self.tokens
+        if name == "attr" or (name in ("arg", "name") and head in ("keyword", "arg", *DEFINITIONS)):
+            if not isinstance(one.head, bytes) or not isinstance(two.head, bytes):
+                raise Cannot
+            first, last = span(old)
+            if name == "attr":
+                token = tokens.tokens[tokens.before(last)]
+            else:
+                at = tokens.after(first)
+                while tokens.tokens[at].text in ("async", "def", "class"):
+                    at += 1
+                token = tokens.tokens[at]
+            return [Edit(token.first, token.last, two.head)]
+        if name == "annotation" and head == "arg":
+            return self._annotation(old, new, one, two)
+        if (head, name) == ("ExceptHandler", "name"):
+            if not isinstance(one.head, bytes) or not isinstance(two.head, bytes):
+                raise Cannot
+            at = tokens.after(span(field_of(old, "type"))[1])
+            while tokens.tokens[at].text != "as":
+                at += 1
+            return [Edit(tokens.tokens[at + 1].first, tokens.tokens[at + 1].last, two.head)]
+        if name == "names" and head in ("Global", "Nonlocal"):
+            return self._names(old, one, two)
+        if head == "ImportFrom" and name in ("module", "level"):
+            return self._module(old, new) if name == "module" or old.children[0] is new.children[0] else []
+        if name == "op" or name == "ops":
+            return self._operators(old, one, two)
+        return None
+
+    def _names(self, old: Term, one: Term, two: Term) -> list[Edit]:
+        first, last = span(old)
+        words = [it for it in self.tokens.between(first, last) if it.kind == tokenize.NAME][1:]
+        if not len(words) == len(one.children) == len(two.children):
+            raise Cannot
+        changed = zip(words, one.children, two.children)
+        return [Edit(token.first, token.last, new.head) for token, it, new in changed if it != new and isinstance(new.head, bytes)]
+
+    def _module(self, old: Term, new: Term) -> list[Edit]:
+        module, _, level = new.children
+        if not isinstance(level.head, int):
+            raise Cannot
+        tokens = self.tokens.between(*span(old))
+        end = next(at for at, it in enumerate(tokens) if it.text == "import")
+        text = b"." * level.head + (module.head if isinstance(module.head, bytes) else b"")
+        return [Edit(tokens[1].first, tokens[end - 1].last, text)]
+
+    def _operators(self, old: Term, one: Term, two: Term) -> list[Edit]:
+        head = str(old.head)
+        if head == "UnaryOp":
+            token = self.tokens.tokens[self.tokens.after(span(old)[0])]
+            space = b" " if two.head == "Not" and self.text[token.last : token.last + 1] not in b" \t(" else b""
+            return [Edit(token.first, token.last, OPERATORS[str(two.head)].encode() + space)]
+        if head == "BoolOp":
+            operands = list(old.children[1].children)
+            pairs = [(one, two)] * (len(operands) - 1)
+        elif head == "Compare":
+            operands = [old.children[0], *old.children[2].children]
+            pairs = list(zip(one.children, two.children))
+        else:
+            operands, pairs = [old.children[0], old.children[2]], [(one, two)]
+        if len(pairs) != len(operands) - 1:
+            raise Cannot
+        edits = []
+        for (it, new), left, right in zip(pairs, operands, operands[1:]):
+            if it == new:
+                continue
+            between = [token for token in self.tokens.between(span(left)[1], span(right)[0]) if token.text not in "()"]
+            text = OPERATORS[str(new.head)] + ("=" if head == "AugAssign" else "")
+            edits.append(Edit(between[0].first, between[-1].last, self._spaced(text, between[0].first, between[-1].last)))
+        return edits
+
+    # A word of an operator needs blanks around where the sign before had none.
+    def _spaced(self, text: str, first: int, last: int) -> bytes:
+        if not text[0].isalpha():
+            return text.encode()
+        before = "" if self.text[first - 1 : first] in (b" ", b"\t", b"\n", b"\r", b")", b"]", b"}") else " "
+        after = "" if self.text[last : last + 1] in (b" ", b"\t", b"\n", b"\r", b"(", b"[", b"{", b"\\") else " "
+        return (before + text + after).encode()
+
+    def _annotation(self, old: Term, new: Term, one: Term, two: Term) -> list[Edit]:
+        token = self.tokens.tokens[self.tokens.after(span(old)[0])]
+        if one.head == "None":
+            return [Edit(token.last, token.last, b": " + self._text(two).encode())]
+        if two.head == "None":
+            return [Edit(token.last, self._around((token.last, span(old)[1]), one)[1], b"")]
+        return self._child(new, (1,), one, two)
+
+    def _returns(self, owner: Term, path: tuple[int, ...], old: Term, one: Term, two: Term) -> list[Edit]:
+        colon = self._colon(old)
+        if one.head == "None":
+            return [Edit(colon, colon, b" -> " + self._text(two).encode())]
+        if two.head == "None":
+            arrow = self.tokens.before(span(one)[0])
+            while self.tokens.tokens[arrow].text != "->":
+                arrow -= 1
+            end = self.tokens.tokens[arrow - 1].last
+            return [Edit(end, colon, b"")]
+        return self._child(owner, path, one, two)

@@ -1,0 +1,87 @@
+"""The tokens of a source, by their places in it."""
+
+from __future__ import annotations
+
+import re
+import tokenize
+from bisect import bisect_left, bisect_right
+from typing import NamedTuple
+
+from ..python import Source
+
+
+class Token(NamedTuple):
+    kind: int
+    text: str
+    first: int
+    last: int
+
+
+class Tokens:
+    """The tokens of a source but blanks and comments, and apart from them the comments."""
+
+    def __init__(self, source: Source) -> None:
+        text, starts = source.text, source.lines.starts
+        lines = [text[first:last] for first, last in zip(starts, [*starts[1:], len(text)])]
+        flat = [re.sub(rb"\r\n?\Z", b"\n", line).decode() for line in lines]
+        plain = [line.isascii() for line in flat]
+        self.tokens: list[Token] = []
+        self.comments: list[Token] = []
+        self.unit = b"    "
+        units: list[bytes] = []
+        waiting = iter(flat)
+        for kind, string_, (row, column), (end_row, end_column), _ in tokenize.generate_tokens(lambda: next(waiting, "")):
+            if kind == tokenize.INDENT and not units:
+                units.append(string_.encode())
+            if kind in (tokenize.INDENT, tokenize.DEDENT, tokenize.NL, tokenize.ENDMARKER):
+                continue
+
+            def offset(row: int, column: int) -> int:
+                if row > len(flat):
+                    return len(text)
+                start = starts[row - 1]
+                return start + (column if plain[row - 1] else len(flat[row - 1][:column].encode()))
+
+            token = Token(kind, string_, offset(row, column), offset(end_row, end_column))
+            (self.comments if kind == tokenize.COMMENT else self.tokens).append(token)
+        self.unit = units[0] if units else b"    "
+        self.firsts = [it.first for it in self.tokens]
+        self.lasts = [it.last for it in self.tokens]
+        self.comment_firsts = [it.first for it in self.comments]
+
+    def after(self, place: int) -> int:
+        """The index of the first token that begins at the place or after it."""
+        return bisect_left(self.firsts, place)
+
+    def before(self, place: int) -> int:
+        """The index of the last token that ends at the place or before it, or -1."""
+        return bisect_right(self.lasts, place) - 1
+
+    def between(self, first: int, last: int) -> list[Token]:
+        """The tokens from one place to the other."""
+        return self.tokens[self.after(first) : self.before(last) + 1]
+
+    def text_at(self, index: int) -> str:
+        """The text of a token, or nothing where there is none."""
+        return self.tokens[index].text if 0 <= index < len(self.tokens) else ""
+
+
+# The lines of a text of statements that begin within a string, counted from 0.
+def inner_lines(text: bytes, indented: bool) -> set[int]:
+    flat = re.sub(r"\r\n?", "\n", text.decode())
+    lines = [line + "\n" for line in (["if 1:"] if indented else []) + flat.split("\n")]
+    waiting = iter(lines)
+    inner: set[int] = set()
+    opened: list[int] = []
+    starts = getattr(tokenize, "FSTRING_START", None)
+    ends = getattr(tokenize, "FSTRING_END", None)
+    try:
+        for kind, _, (first, _), (last, _), _ in tokenize.generate_tokens(lambda: next(waiting, "")):
+            if kind == starts and starts is not None:
+                opened.append(first)
+            begin = opened.pop() if kind == ends and ends is not None and opened else first
+            if kind == tokenize.STRING or kind == ends:
+                inner.update(range(begin + 1, last + 1))
+    except (tokenize.TokenError, IndentationError):
+        return set(range(len(lines)))
+    return {row - 1 - indented for row in inner}

@@ -1,0 +1,463 @@
+"""Refactors files of Python by a strategy, with small patches.
+
+    python -m stratbench.refactor [--modules FOLDER] [--module NAME=FILE].. --do STRATEGY FILES..
+
+Each file is read as a term (`stratbench.python`), the strategy is previewed on it, and the patch of the source
+(`stratbench.patch`) is printed as a unified diff. `docs/manual/python.md` is the manual.
+"""
+
+from __future__ import annotations
+
+import argparse
+import contextlib
+import os
+import re
+import stat
+import subprocess
+import sys
+import tempfile
+from collections.abc import Iterable, Iterator, Sequence
+from concurrent.futures import ProcessPoolExecutor
+from concurrent.futures.process import BrokenProcessPool
+from typing import Final, NamedTuple
+
+from . import _one_line
+from .diff import unified
+from .patch import Unwritable, apply_edits, patch
+from .python import Source, deep, position
+from .terms import LIST, NoTerm, Term, exchange, height, read, size, write
+
+# The bounds of the workbench: terms of a tree that is read, levels, steps of a command.
+MOST_TERMS: Final = 100_000
+MOST_LEVELS: Final = 1_000
+MOST_STEPS: Final = 1_000_000
+
+# Refusals after which a module is given in parts: the steps are spent, or a term is too big.
+_IN_PARTS: Final = (13, 14)
+_FAILS: Final = 12
+# The most files that a process of the workbench does.
+_BATCH: Final = 16
+# Refusals of the strategy or the modules themselves, whatever the tree is.
+_OF_TEXTS: Final = (2, 3, 8, 10, 11)
+
+
+class Task(NamedTuple):
+    """What is done to each file: the modules that are loaded, by name and text, the strategy, and its budget."""
+
+    modules: tuple[tuple[str, bytes], ...]
+    strategy: str
+    within: int = MOST_STEPS
+    program: str | None = None
+
+
+class Outcome(NamedTuple):
+    """What came of a file. `contents` is what it would be, where it would change, and `diff` shows it; `left` says why it is
+    left as it is. A `fault` is a result that can't be written, so that no file is."""
+
+    name: str
+    contents: bytes | None = None
+    diff: bytes = b""
+    left: str = ""
+    fault: bool = False
+
+
+class Result(NamedTuple):
+    """What a strategy gave for a tree: the new tree with the paths at which it has other terms, or why there is none."""
+
+    new: Term | None
+    places: tuple[tuple[int, ...], ...] = ()
+    in_parts: bool = False
+    left: str = ""
+
+
+class _Refused(Exception):
+    def __init__(self, number: int, said: str) -> None:
+        super().__init__(said)
+        self.number = number
+
+
+class _Left(Exception):
+    pass
+
+
+def refactored(work: Sequence[tuple[str, bytes]], task: Task) -> list[Outcome]:
+    """Returns what comes of files of these names and contents. Nothing is read or written but for files of its own."""
+    sources: list[Source | Outcome] = []
+    for name, contents in work:
+        try:
+            sources.append(Source(contents))
+        except SyntaxError as error:
+            place = f"{name}:{error.lineno}" if error.lineno else name
+            sources.append(Outcome(name, left=f"{place}: no Python: {error.msg}"))
+    results = iter(transformed([it for it in sources if isinstance(it, Source)], task))
+    return [it if isinstance(it, Outcome) else _outcome(name, it, next(results)) for (name, _), it in zip(work, sources)]
+
+
+def _outcome(name: str, source: Source, result: Result) -> Outcome:
+    if result.new is None:
+        return Outcome(name, left=f"{name}: {result.left}")
+    try:
+        edits = patch(source, result.new)
+        if not edits:
+            return Outcome(name)
+        text = apply_edits(source.text, 0, len(source.text), edits)
+        diff = unified(name, source.text, edits)
+        return Outcome(name, source.encoded(text), _recoded(source, diff))
+    except (NoTerm, Unwritable) as error:
+        return Outcome(name, left=f"{name}: the result is no program: {error}", fault=True)
+    except UnicodeEncodeError as error:
+        return Outcome(name, left=f"{name}: the result doesn't fit the encoding {source.encoding}: {error}", fault=True)
+
+
+# A diff in the encoding of its file, so that it can be applied to it.
+def _recoded(source: Source, diff: bytes) -> bytes:
+    encoding = "utf-8" if source.encoding == "utf-8-sig" else source.encoding
+    return b"".join(line if at < 2 else line.decode().encode(encoding) for at, line in enumerate(diff.splitlines(keepends=True)))
+
+
+def transformed(sources: Sequence[Source], task: Task) -> list[Result]:
+    """Returns the trees that the strategy gives for those of the sources."""
+    found: dict[int, Result] = {}
+    whole: list[int] = []
+    parts: dict[int, _Refused | None] = {}
+    with deep(), tempfile.TemporaryDirectory(prefix="stratbench-") as room:
+        bench = _Bench(room, task)
+        for at, source in enumerate(sources):
+            levels = height(source.term)
+            if levels > MOST_LEVELS:
+                found[at] = Result(None, left=f"too deep: {levels} levels, and a tree has at most {MOST_LEVELS}")
+            elif size(source.term) > MOST_TERMS:
+                parts[at] = None
+            else:
+                whole.append(at)
+        for at, result in zip(whole, bench.previews([sources[at].term for at in whole], [(it, ()) for it in range(len(whole))])):
+            if isinstance(result, dict):
+                found[at] = Result(exchange(sources[at].term, result), tuple(result))
+            elif result.number in _IN_PARTS:
+                parts[at] = result
+            else:
+                found[at] = Result(None, left=str(result))
+        for at, refused in parts.items():
+            try:
+                found[at] = _in_parts(sources[at], bench, refused)
+            except (_Refused, _Left) as error:
+                found[at] = Result(None, left=str(error))
+    return [found[at] for at in range(len(sources))]
+
+
+# The tree where the strategy is applied to each statement of the module by itself. One for which it fails stays.
+def _in_parts(source: Source, bench: _Bench, whole: _Refused | None) -> Result:
+    body = source.term.children[0]
+    trees: list[Term] = []
+    places: list[tuple[int, tuple[int, ...]]] = []
+    group: list[Term] = []
+    terms = 0
+    for statement in body.children:
+        count = size(statement)
+        if count >= MOST_TERMS:
+            raise _Left(f"too large: {_line_of(source, statement)} is a statement of {count} terms, and a tree has at most {MOST_TERMS}")
+        if terms + count >= MOST_TERMS:
+            trees.append(Term(LIST, tuple(group)))
+            group, terms = [], 0
+        places.append((len(trees), (len(group),)))
+        group.append(statement)
+        terms += count
+    trees.append(Term(LIST, tuple(group)))
+    new: dict[tuple[int, ...], Term] = {}
+    refused: _Refused | None = whole
+    done = 0
+    for at, (result, (_, path)) in enumerate(zip(bench.previews(trees, places), places)):
+        if isinstance(result, _Refused):
+            if result.number != _FAILS:
+                raise _Refused(result.number, f"{_line_of(source, body.children[at])}: {result}")
+            refused = refused or result
+            continue
+        done += 1
+        for place, term in result.items():
+            new[(0, at, *place[len(path) :])] = term
+    if not done and refused is not None:
+        raise refused
+    return Result(exchange(source.term, new), tuple(new), in_parts=True)
+
+
+def _line_of(source: Source, statement: Term) -> str:
+    place = position(statement)
+    return f"line {sum(start <= place[0] for start in source.lines.starts)}" if place else "a statement"
+
+
+class _Bench:
+    """Runs of `stratbench` with the modules of a task. Its files are in the folder."""
+
+    def __init__(self, room: str, task: Task) -> None:
+        self.room, self.task = room, task
+        self.words = [task.program or os.environ.get("STRATBENCH") or "stratbench", "--lines", "--library", "--explain"]
+        for at, (name, text) in enumerate(task.modules):
+            file = f"{room}/{at}.str"
+            with open(file, "wb") as it:
+                it.write(text)
+            self.words += ["--module", f"{name}={file}"]
+
+    def previews(
+        self, trees: list[Term], places: list[tuple[int, tuple[int, ...]]], strategies: Sequence[str] = ()
+    ) -> list[dict[tuple[int, ...], Term] | _Refused]:
+        """Previews the task's strategy at these places, each in a tree by its number and at a path; or one for each place."""
+        if not places:
+            return []
+        words = list(self.words)
+        for at, tree in enumerate(trees):
+            file = f"{self.room}/{at}.aterm"
+            with open(file, "w") as it:
+                it.write(write(tree))
+            words += ["--tree", f"t{at}={file}"]
+        given = strategies or [self.task.strategy] * len(places)
+        script = "".join(
+            f"preview t{tree} at {_written(path)} within {self.task.within} do {_one_line(strategy)}\n"
+            for (tree, path), strategy in zip(places, given)
+        )
+        ran = subprocess.run(words, input=script.encode(errors="surrogateescape"), capture_output=True)
+        lines = ran.stdout.split(b"\n")
+        said = _explanations(ran.stderr.decode(errors="replace"))
+        if ran.returncode not in (0, 1) or len(lines) <= len(places):
+            why = ran.stderr.decode(errors="replace").strip() or f"{words[0]} ended with status {ran.returncode}"
+            raise _Left(re.sub(r"^stratbench: (/\S+: )?", "", why))
+        found: list[dict[tuple[int, ...], Term] | _Refused] = []
+        at = 0
+        for number in range(1, len(places) + 1):
+            answer = lines[at].decode(errors="replace")
+            at += 1
+            if answer.startswith("refused "):
+                found.append(_Refused(int(answer.split()[1]), said.get(number, answer)))
+                continue
+            count = int(answer.split()[1])
+            found.append(dict(_replacement(line) for line in lines[at : at + count]))
+            at += count
+        return found
+
+
+def _written(path: Iterable[int]) -> str:
+    return "/" + "/".join(map(str, path))
+
+
+# A line of a preview: the path, and the term that would be there.
+def _replacement(line: bytes) -> tuple[tuple[int, ...], Term]:
+    at, _, rest = line.partition(b" ")
+    # outside strings, a printed term has no blanks
+    end = next(it.start() for it in re.finditer(rb'"(?:\\.|[^"\\])*"| ', rest) if it.group() == b" ")
+    path = tuple(int(step) for step in at.decode().split("/") if step)
+    return path, read(rest[end + len(b" => ") :])
+
+
+# What was said of each line of the script.
+def _explanations(said: str) -> dict[int, str]:
+    found: dict[int, str] = {}
+    number = 0
+    for line in said.splitlines():
+        begins = re.match(r"stratbench: line (\d+): (.*)", line)
+        if begins:
+            number = int(begins[1])
+            found[number] = begins[2]
+        elif number:
+            found[number] += "\n" + line
+    return found
+
+
+def check_texts(task: Task, files: Sequence[str]) -> str:
+    """Returns what is wrong with the modules, or with the strategy whatever its tree is; nothing where nothing is."""
+    with tempfile.TemporaryDirectory(prefix="stratbench-") as room:
+        bench = _Bench(room, task)
+        words, at = list(bench.words), 0
+        for place, word in enumerate(words):
+            # its own files, so that they are named
+            if place and words[place - 1] == "--module":
+                words[place] = f"{word.partition('=')[0]}={files[at]}"
+                at += 1
+        script = f"tree t Module([],[])\npreview t within {task.within} do {_one_line(task.strategy)}\n"
+        try:
+            ran = subprocess.run(words, input=script.encode(errors="surrogateescape"), capture_output=True)
+        except OSError as error:
+            return f"{words[0]}: {error.strerror}"
+    answers = ran.stdout.decode(errors="replace").splitlines()
+    said = ran.stderr.decode(errors="replace")
+    warnings = re.findall(r"^stratbench: .*: warning: .*$", said, re.MULTILINE)
+    for warning in warnings:
+        print(warning, file=sys.stderr)
+    if len(answers) < 2:
+        return said.strip() or f"{words[0]} ended with status {ran.returncode}"
+    if answers[1].startswith("refused ") and int(answers[1].split()[1]) in _OF_TEXTS:
+        return "--do: " + _explanations(said).get(2, answers[1])
+    return ""
+
+
+class WriteFault(Exception):
+    """A file that couldn't be written. All are as they were."""
+
+
+def write_all(files: Sequence[tuple[str, bytes, bytes]]) -> None:
+    """Writes files, all or none: each with its name, what it has, and what it is to have."""
+    prepared: list[tuple[str, str, str]] = []
+    done: list[tuple[str, str]] = []
+    try:
+        for name, before, after in files:
+            real = os.path.realpath(name)
+            with open(real, "rb") as it:
+                if it.read() != before:
+                    raise WriteFault(f"{name}: it was changed meanwhile")
+            mode = stat.S_IMODE(os.stat(real).st_mode)
+            if not mode & 0o222:
+                raise WriteFault(f"{name}: it may not be written")
+            prepared.append((real, _beside(real, after, mode), ""))
+            prepared[-1] = (real, prepared[-1][1], _beside(real, before, mode))
+        for real, new, old in prepared:
+            os.replace(new, real)
+            done.append((real, old))
+    except (OSError, WriteFault) as error:
+        for real, old in reversed(done):
+            os.replace(old, real)
+        raise WriteFault(str(error)) from None
+    finally:
+        for _, new, old in prepared:
+            for file in (new, old):
+                with contextlib.suppress(OSError):
+                    os.unlink(file)
+
+
+# A new file beside another, with these contents and this mode.
+def _beside(real: str, contents: bytes, mode: int) -> str:
+    handle, name = tempfile.mkstemp(dir=os.path.dirname(real), prefix=".stratbench-")
+    with open(handle, "wb") as it:
+        it.write(contents)
+        os.fchmod(it.fileno(), mode)
+    return name
+
+
+def _files(names: Iterable[str]) -> Iterator[str]:
+    for name in names:
+        if not os.path.isdir(name):
+            yield name
+            continue
+        for folder, folders, found in os.walk(name):
+            folders.sort()
+            yield from (os.path.join(folder, it) for it in sorted(found) if it.endswith(".py"))
+
+
+def _batch(work: tuple[list[tuple[str, bytes]], Task]) -> list[Outcome]:
+    return refactored(*work)
+
+
+# Files are done a few at a time: a process of the workbench loads the modules once for them.
+def _outcomes(work: list[tuple[str, bytes]], task: Task, jobs: int) -> Iterator[Outcome]:
+    most = max(1, min(_BATCH, -(-len(work) // jobs)))
+    batches = [(work[at : at + most], task) for at in range(0, len(work), most)]
+    if jobs == 1 or len(batches) < 2:
+        for batch in batches:
+            yield from _batch(batch)
+        return
+    with ProcessPoolExecutor(jobs) as pool:
+        try:
+            for outcomes in pool.map(_batch, batches):
+                yield from outcomes
+        except BrokenProcessPool:
+            raise SystemExit("stratbench.refactor: a process ended; nothing was written") from None
+
+
+def _arguments(words: Sequence[str] | None) -> argparse.Namespace:
+    parser = argparse.ArgumentParser(
+        prog="python -m stratbench.refactor",
+        description="Refactors files of Python by a strategy, with small patches.",
+        epilog="Status: 0; 1 with --check where something would change; 2 for a wrong command line, module or strategy; "
+        "3 where a file was left or couldn't be written.",
+    )
+    parser.add_argument("--module", action="append", default=[], metavar="NAME=FILE", help="load a module of strategies")
+    parser.add_argument("--modules", action="append", default=[], metavar="FOLDER", help="load the modules of a folder, as strategies")
+    parser.add_argument("--do", required=True, metavar="STRATEGY", help="the strategy that is applied to each file's tree")
+    parser.add_argument("--within", type=int, default=MOST_STEPS, metavar="K", help="the most steps that it may take")
+    parser.add_argument("--jobs", type=int, default=1, metavar="N", help="do N files at a time")
+    parser.add_argument("--program", metavar="FILE", help="stratbench, where it isn't in PATH or STRATBENCH")
+    how = parser.add_mutually_exclusive_group()
+    how.add_argument("--write", action="store_true", help="change the files, all or none")
+    how.add_argument("--check", action="store_true", help="end with status 1 where something would change")
+    parser.add_argument("files", nargs="+", metavar="FILES", help="files, or folders with files *.py in them")
+    found = parser.parse_args(words)
+    if found.jobs < 1 or not 1 <= found.within <= MOST_STEPS:
+        parser.error(f"--jobs is at least 1, and --within from 1 to {MOST_STEPS}")
+    return found
+
+
+# The modules of a folder, each after those that it says that it needs, as words NAME=FILE.
+def _folder(folder: str) -> list[str]:
+    names = sorted(it[: -len(".str")] for it in os.listdir(folder) if it.endswith(".str"))
+    needs: dict[str, list[str]] = {}
+    for name in names:
+        with open(f"{folder}/{name}.str", encoding="utf-8", errors="replace") as it:
+            found = re.search(r"^// Needs: (.*)\.$", it.read(), re.MULTILINE)
+        needs[name] = found[1].split(", ") if found else []
+    ordered: list[str] = []
+
+    def add(name: str) -> None:
+        for it in needs.pop(name, []):
+            add(it)
+        if name in names and name not in ordered:
+            ordered.append(name)
+
+    for name in names:
+        add(name)
+    return [f"{name}={folder}/{name}.str" for name in ordered]
+
+
+def _task(given: argparse.Namespace) -> tuple[Task, list[str]]:
+    modules, files = [], []
+    for word in [*(it for folder in given.modules for it in _folder(folder)), *given.module]:
+        name, equals, file = word.partition("=")
+        if not equals:
+            raise ValueError(f"--module: no NAME=FILE: {word}")
+        with open(file, "rb") as it:
+            modules.append((name, it.read()))
+        files.append(file)
+    return Task(tuple(modules), given.do, given.within, given.program), files
+
+
+def main(words: Sequence[str] | None = None) -> int:
+    """Runs the command, and returns its status."""
+    given = _arguments(words)
+    try:
+        task, files = _task(given)
+        fault = check_texts(task, files)
+    except (OSError, ValueError) as error:
+        fault = str(error)
+    if fault:
+        print(fault, file=sys.stderr)
+        return 2
+    left = changed = 0
+    faults = False
+    work: list[tuple[str, bytes]] = []
+    for name in _files(given.files):
+        try:
+            with open(name, "rb") as it:
+                work.append((name, it.read()))
+        except OSError as error:
+            print(f"{name}: {error.strerror}", file=sys.stderr)
+            left += 1
+    writes: list[tuple[str, bytes, bytes]] = []
+    for (name, before), outcome in zip(work, _outcomes(work, task, given.jobs)):
+        sys.stdout.buffer.write(outcome.diff)
+        sys.stdout.buffer.flush()
+        if outcome.left:
+            print(outcome.left, file=sys.stderr)
+            left += 1
+            faults = faults or outcome.fault
+        elif outcome.contents is not None:
+            writes.append((name, before, outcome.contents))
+            changed += 1
+    if given.write and faults:
+        print("nothing was written, since a result is no program", file=sys.stderr)
+    elif given.write:
+        try:
+            write_all(writes)
+        except WriteFault as error:
+            print(f"nothing was written: {error}", file=sys.stderr)
+            return 3
+    return 3 if left else 1 if given.check and changed else 0
+
+
+if __name__ == "__main__":
+    sys.exit(main())

@@ -1,0 +1,161 @@
+"""The command `python -m stratbench.refactor`: what it prints, what it writes, and its status."""
+
+import os
+import shutil
+import subprocess
+import sys
+import tempfile
+
+from stratbench import refactor
+
+RULES = """module used
+rules
+  Old : Name("old",c) -> Name("new",c)
+  Wrong : Name("wrong",c) -> Name("not a name",c)
+"""
+EVERY = "topdown(try(Old <+ Wrong))"
+HUNK = "--- a.py\n+++ a.py\n@@ -1,3 +1,3 @@\n # \u00e9\n-old\n+new\n b\n"
+
+
+class Room:
+    """A folder with files, in which the command is run."""
+
+    def __init__(self, top, **files):
+        self.top, self.folder = top, tempfile.mkdtemp(prefix="stratbench-")
+        self.put("rules.str", RULES)
+        for name, contents in files.items():
+            self.put(f"{name}.py", contents)
+
+    def put(self, name, contents):
+        with open(f"{self.folder}/{name}", "wb") as it:
+            it.write(contents if isinstance(contents, bytes) else contents.encode())
+
+    def has(self, name):
+        with open(f"{self.folder}/{name}", "rb") as it:
+            return it.read().decode("latin-1" if name == "latin.py" else "utf-8")
+
+    def run(self, *words, strategy=EVERY, modules=None):
+        if modules is None:
+            modules = ["--module", f"python={self.top}/strategies/python.str", "--module", "rules=rules.str"]
+        command = [sys.executable, "-m", "stratbench.refactor", *modules, "--do", strategy, *words]
+        environment = {**os.environ, "PYTHONPATH": f"{self.top}/clients/python"}
+        ran = subprocess.run(command, cwd=self.folder, env=environment, capture_output=True)
+        return ran.returncode, ran.stdout.decode("utf-8", "replace"), ran.stderr.decode()
+
+
+def wanted(got, status, out=None, said=""):
+    """What is wrong with a run, or nothing."""
+    right = got[0] == status and (out is None or got[1] == out) and (said in got[2] if said else not got[2])
+    return "" if right else f"{got}, wanted {(status, out, said)}"
+
+
+A = "# \u00e9\nold\nb\n"
+
+
+def tests(top, everything):
+    room = Room(top, a=A, same="b\n", broken="def\n")
+    yield "a diff", wanted(room.run("a.py", "same.py"), 0, HUNK) or ("" if room.has("a.py") == A else "the file changed")
+    yield "--check where something changes", wanted(room.run("--check", "a.py"), 1, HUNK)
+    yield "--check where nothing does", wanted(room.run("--check", "same.py"), 0, "")
+    yield "a file with a syntax error", wanted(room.run("broken.py", "a.py"), 3, HUNK, "broken.py:1: no Python: ")
+    yield "a file that isn't there", wanted(room.run("none.py", "a.py"), 3, HUNK, "none.py: No such file")
+    yield "a folder", wanted(room.run("."), 3, None, "broken.py:1: no Python: ")
+    got = room.run("a.py", "same.py", strategy="sometd(Old)")
+    yield "a refusal has the file's name and the explanation", wanted(got, 3, HUNK, "same.py: refused 12 fails: ")
+    yield "a strategy that is none", wanted(room.run("a.py", strategy="topdown(try(Odl))"), 2, "", "there is `Old`") and wanted(
+        room.run("a.py", strategy="topdown(try(Odl))"), 2, "", "--do: refused 11 unknown Odl 0 0"
+    )
+    yield "a module that is none", module_fault(top)
+    yield "no such module", wanted(room.run("a.py", "--module", "x=none.str"), 2, "", "none.str")
+    yield "no --do", "" if refactor_status(top, ["a.py"]) == 2 else "another status"
+    yield from writing(top)
+    yield from bounds(top)
+    got = Room(top, a="x = x + 1\n").run("--modules", f"{top}/strategies", "a.py", strategy="bottomup(try(AugmentedNumber))", modules=())
+    yield "--modules loads a folder", wanted(got, 0, "--- a.py\n+++ a.py\n@@ -1 +1 @@\n-x = x + 1\n+x += 1\n")
+    many = {f"f{at}": f"old\n{at}\n" for at in range(40)}
+    room = Room(top, **many)
+    names = [f"{name}.py" for name in many]
+    one, two = room.run(*names), room.run("--jobs", "3", *names)
+    yield "--jobs gives the same", "" if one == two and one[0] == 0 and one[1].count("+new") == 40 else f"{one}\n{two}"
+
+
+def refactor_status(top, words):
+    environment = {**os.environ, "PYTHONPATH": f"{top}/clients/python"}
+    return subprocess.run([sys.executable, "-m", "stratbench.refactor", *words], env=environment, capture_output=True).returncode
+
+
+def module_fault(top):
+    room = Room(top, a=A)
+    room.put("rules.str", "module used\nrules\n  Old : Name(x,c)) -> x\n")
+    return wanted(room.run("a.py"), 2, "", "rules.str: refused 10 syntax: module rules: no module goes on with `)` at line 3, column 18")
+
+
+def writing(top):
+    room = Room(top, a=A, b="x = old  # b\n", broken="def\n")
+    room.put("latin.py", "# coding: latin-1\n'\u00e9'; old\n".encode("latin-1"))
+    os.chmod(f"{room.folder}/a.py", 0o755)
+    os.symlink("b.py", f"{room.folder}/link.py")
+    got = room.run("--write", "a.py", "link.py", "latin.py", "broken.py")
+    files = [room.has("a.py"), room.has("b.py"), room.has("latin.py")]
+    want = [A.replace("old", "new"), "x = new  # b\n", "# coding: latin-1\n'\u00e9'; new\n"]
+    kept = os.stat(f"{room.folder}/a.py").st_mode & 0o777 == 0o755 and os.path.islink(f"{room.folder}/link.py")
+    left = sorted(os.listdir(room.folder)) == "a.py b.py broken.py latin.py link.py rules.str".split()
+    yield "--write changes the files, and leaves a broken one", "" if got[0] == 3 and files == want and kept and left else f"{got} {files}"
+    room = Room(top, a=A, wrong="old; wrong\n")
+    got = room.run("--write", "a.py", "wrong.py")
+    fault = wanted(got, 3, HUNK, "wrong.py: the result is no program")
+    yield "a result that doesn't parse leaves all", fault or ("" if room.has("a.py") == A else "a file changed")
+    room = Room(top, a=A, fixed="old\n")
+    os.chmod(f"{room.folder}/fixed.py", 0o444)
+    got = room.run("--write", "a.py", "fixed.py")
+    fault = wanted(got, 3, None, "nothing was written: fixed.py: it may not be written")
+    yield "a file that may not be written leaves all", fault or ("" if room.has("a.py") == A else "a file changed")
+    yield "a fault while writing leaves all", half_written(top)
+    room = Room(top, a=A)
+    try:
+        refactor.write_all([(f"{room.folder}/a.py", b"other", b"new")])
+        yield "a file that changed meanwhile is left", "it was written"
+    except refactor.WriteFault:
+        yield "a file that changed meanwhile is left", "" if room.has("a.py") == A else "it was written"
+    shutil.rmtree(room.folder)
+
+
+def half_written(top):
+    room = Room(top, a="old\n", b="old\n")
+    replace, calls = os.replace, []
+
+    def failing(source, target):
+        calls.append(target)
+        if len(calls) == 2:
+            raise OSError(5, "no disk")
+        replace(source, target)
+
+    os.replace = failing
+    try:
+        refactor.write_all([(f"{room.folder}/{it}.py", b"old\n", b"new\n") for it in "ab"])
+        return "it was written"
+    except refactor.WriteFault:
+        left = sorted(os.listdir(room.folder))
+        return "" if room.has("a.py") == room.has("b.py") == "old\n" and left == ["a.py", "b.py", "rules.str"] else f"{left}"
+    finally:
+        os.replace = replace
+
+
+def bounds(top):
+    room = Room(top, a=A)
+    room.put("wide.py", f"a = [{', '.join(['1'] * 30_000)}]\n")
+    yield "a statement that is too large", wanted(room.run("wide.py", "a.py"), 3, HUNK, "wide.py: too large: line 1 is a statement of")
+    room.put("deep.py", " + ".join(["a"] * 1_500) + "\n")
+    yield "a tree that is too deep", wanted(room.run("deep.py", "a.py"), 3, HUNK, "deep.py: ")
+    room.put("long.py", "x = 1\n" * 5_000 + "old\n" + "x = 1\n" * 3_000)
+    got = room.run("--write", "long.py")
+    new = "x = 1\n" * 5_000 + "new\n" + "x = 1\n" * 3_000
+    yield "a module that is too large is given in parts", wanted(got, 0) or ("" if room.has("long.py") == new else "another text")
+    room.put("steps.py", "x = f(1, 2, 3)\n" * 10 + "old\n")
+    got = room.run("--within", "500", "--write", "steps.py")
+    new = "x = f(1, 2, 3)\n" * 10 + "new\n"
+    yield "a module whose steps are spent is given in parts", wanted(got, 0) or ("" if room.has("steps.py") == new else "another text")
+    got = room.run("--within", "50", "steps.py")
+    yield "a statement whose steps are spent", wanted(got, 3, "", "steps.py: line 1: refused 13 spent: ")
+    got = room.run("steps.py", "a.py", strategy="?Module(x,y); !Module(y,x); fail")
+    yield "a strategy that fails", wanted(got, 3, "", "a.py: refused 12 fails: ")

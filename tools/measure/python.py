@@ -1,0 +1,96 @@
+"""Measures refactorings of all modules of Python's standard library beside `ast.NodeTransformer`, on the built program.
+
+Run by hand at the top of the repository, after the program was built (README has the command):
+
+    python3 tools/measure/python.py [PROGRAM]
+
+It needs Python and GNU time. Three refactorings are done on each module that the Python that runs it has. The visitors are those of
+`clients/python/tests/try_modules.py`; both sides begin with the parsed tree, and end with the new one. The converter's share
+is taken apart: to terms and their texts before, from the texts that differ after. Memory is that of the program
+alone.
+"""
+
+import os
+import resource
+import sys
+import tempfile
+import time
+
+from files import most_memory
+from measure import TOP, built_program, heading
+
+sys.path[:0] = [f"{TOP}/clients/python", f"{TOP}/clients/python/tests"]
+
+import try_modules  # noqa: E402
+from stratbench import python, refactor, terms  # noqa: E402
+from stratbench.patch import patch  # noqa: E402
+
+
+def timed(work):
+    """Runs something, and returns what it gives with the seconds of processor time that this process and its children took."""
+    before = [resource.getrusage(who) for who in (resource.RUSAGE_SELF, resource.RUSAGE_CHILDREN)]
+    result = work()
+    after = [resource.getrusage(who) for who in (resource.RUSAGE_SELF, resource.RUSAGE_CHILDREN)]
+    spent = [two.ru_utime + two.ru_stime - one.ru_utime - one.ru_stime for one, two in zip(before, after)]
+    return result, spent[0], spent[1]
+
+
+def memory(texts):
+    """The most memory, in MB, of a run with the largest modules, each previewed."""
+    with tempfile.TemporaryDirectory() as room:
+        words = ["--library"]
+        for at, text in enumerate(sorted(texts, key=len)[-16:]):
+            with open(f"{room}/{at}", "w") as it:
+                it.write(text)
+            words += ["--tree", f"t{at}={room}/{at}"]
+        script = "".join(f"preview t{at} within 1000000 do topdown(id)\n" for at in range(16))
+        return most_memory(os.environ["STRATBENCH"], words, script)
+
+
+def main():
+    os.environ["STRATBENCH"] = built_program()
+    heading("Python: its standard library refactored")
+    contents = []
+    for file in try_modules.modules(True):
+        with open(file, "rb") as it:
+            contents.append(it.read())
+    trees, parsing, _ = timed(lambda: [try_modules.parsed(it) for it in contents])
+    sources, reading, _ = timed(lambda: [python.Source(it) for it in contents])
+    texts, writing, _ = timed(lambda: [terms.write(it.term) for it in sources])
+    back, reading_back, _ = timed(lambda: [terms.read(it) for it in texts])
+    _, building, _ = timed(lambda: [python.from_term(it) for it in back])
+    nodes = sum(1 for source in sources for _ in python.walk(source.term))
+    version = ".".join(map(str, sys.version_info[:3]))
+    print(f"{len(contents)} modules of Python {version}, {sum(map(len, contents)):,} bytes, {nodes:,} nodes, {sum(map(len, texts)):,} bytes of terms.\n")
+    print("| The converter, seconds | |\n|---|---|")
+    print(f"| `ast.parse` | {parsing:.1f} |")
+    print(f"| parsed, and to terms | {reading:.1f} |\n| terms to texts | {writing:.1f} |")
+    print(f"| texts to terms | {reading_back:.1f} |\n| terms to syntax trees | {building:.1f} |\n")
+    print("| Strategy | edits | the program | sizes, texts, results | patches | `ast.NodeTransformer` |\n|---|---|---|---|---|---|")
+    for transformer, names, strategy in try_modules.REFACTORINGS:
+        task = refactor.Task(try_modules.library(TOP, *names), strategy)
+
+        def transformed():
+            found = []
+            for at in range(0, len(sources), 16):
+                found += refactor.transformed(sources[at : at + 16], task)
+            return found
+
+        results, own, program = timed(transformed)
+        edits, patching, _ = timed(lambda: [patch(it, result.new) for it, result in zip(sources, results)])
+        fresh = [try_modules.parsed(it) for it in contents]
+        _, visiting, _ = timed(lambda: [transformer().visit(it) for it in fresh])
+        print(f"| `{strategy}` | {sum(map(len, edits))} | {program:.1f} | {own:.1f} | {patching:.1f} | {visiting:.1f} |")
+    print(f"\nThe program took at most {memory(texts):.0f} MB for the sixteen largest modules at a time.")
+    print("\n| `--jobs` | seconds for all modules, by the clock |\n|---|---|")
+    task = refactor.Task(try_modules.library(TOP, *try_modules.REFACTORINGS[1][1]), try_modules.REFACTORINGS[1][2])
+    work = [(str(at), it) for at, it in enumerate(contents)]
+    for jobs in (1, 2, 4):
+        begun = time.monotonic()
+        outcomes = list(refactor._outcomes(work, task, jobs))
+        assert not any(it.left for it in outcomes)
+        print(f"| {jobs} | {time.monotonic() - begun:.1f} |")
+
+
+if __name__ == "__main__":
+    main()
