@@ -1,7 +1,7 @@
 //! Checked programs.
 #![tactic(auto)]
 
-ghost use Rattle.std.specs.Prelude.{◌≡◌, ◌≤◌, ◌+◌, ℕ, true, [], length, map, IfOk, OnOk, IfErr};
+ghost use Rattle.std.specs.Prelude.{◌≡◌, ◌≤◌, ◌+◌, ◌++◌, ℕ, true, [], length, map, take, drop, IfOk, OnOk, IfErr};
 ghost use Rattle.strategy_check.specs.Faults.{faults, first, IsTold};
 ghost use Rattle.strategy_check.specs.Programs.{program, faults_of, resolved};
 ghost use Rattle.strategy_check.specs.Ranges.{IsInRange, BodiesInRange};
@@ -74,17 +74,67 @@ impl Program {
         ensures { OnOk result (self.new
             ≡ with_bodies table primitives.now first gone new.now self.old) }
     {
-        let numbers = new_numbers(alloc, &self.table, &table)?;
-        let mut joined = join_modules(alloc, &table, primitives, new)?;
-        let mut last = self.bodies.split_off(first + gone)?;
-        self.bodies.truncate(first);
-        renumber_bodies(&mut self.bodies, numbers.as_slice());
-        renumber_bodies(&mut last, numbers.as_slice());
-        self.bodies.append(&mut joined)?;
-        self.bodies.append(&mut last)?;
+        let changed = self.change_bodies(alloc, primitives, &table, first, gone, new);
         self.table = table;
-        Ok(())
+        changed
     }
+
+    // The bodies for a new table. It is borrowed, since its owner drops it on each way out.
+    fn change_bodies<M: Meaning>(
+        &mut self,
+        alloc: Global,
+        primitives: &Primitives<M>,
+        table: &Table,
+        first: usize,
+        gone: usize,
+        new: &[NamedModule],
+    ) -> Result<(), NoMemory>
+        requires { first + gone ≤ length self.old.bodies }
+        ensures { OnOk result (self.new.bodies
+            ≡ (with_bodies table.now primitives.now first gone new.now self.old).bodies) }
+    {
+        let numbers = new_numbers(alloc, &self.table, table)?;
+        let mut joined = join_modules(alloc, table, primitives, new)?;
+        put_bodies(
+            &mut self.bodies,
+            first,
+            gone,
+            &mut joined,
+            numbers.as_slice(),
+        )
+    }
+}
+
+// Puts new bodies in the places of `gone` ones, and gives the others their new numbers.
+fn put_bodies(
+    bodies: &mut Vec<Resolved>,
+    first: usize,
+    gone: usize,
+    new: &mut Vec<Resolved>,
+    numbers: &[usize],
+) -> Result<(), NoMemory>
+    requires { first + gone ≤ length bodies.old.items }
+    ensures { OnOk result (bodies.new.items
+        ≡ map (renumbered_definition numbers.now) (take first bodies.old.items)
+        ++ (new.old.items ++ map (renumbered_definition numbers.now) (drop (first + gone) bodies.old.items))) }
+{
+    let mut last = bodies.split_off(first + gone)?;
+    bodies.truncate(first);
+    renumber_bodies(bodies, numbers);
+    renumber_bodies(&mut last, numbers);
+    append_both(bodies, new, &mut last)
+}
+
+fn append_both(
+    bodies: &mut Vec<Resolved>,
+    new: &mut Vec<Resolved>,
+    last: &mut Vec<Resolved>,
+) -> Result<(), NoMemory>
+    ensures { OnOk result (bodies.new.items ≡ bodies.old.items ++ (new.old.items ++ last.old.items)) }
+{
+    bodies.append(new)?;
+    bodies.append(last)?;
+    Ok(())
 }
 
 fn renumber_bodies(bodies: &mut Vec<Resolved>, numbers: &[usize])

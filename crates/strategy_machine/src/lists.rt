@@ -201,12 +201,20 @@ pub(crate) fn give_head<'t>(
 {
     let Walk {
         node,
+        parts,
         level,
         edits,
         ..
     } = m.frames.pop_walk();
+    drop_parts(parts);
     m.level = level;
-    let rest = rest_of_part(alloc, &node, 1)?;
+    let rest = match rest_of_part(alloc, &node, 1) {
+        Ok(rest) => rest,
+        Err(error) => {
+            drop_part(node);
+            return Err(error);
+        }
+    };
     let child = mem::replace(&mut m.part, Part::new(rest));
     let now = m.trail.count;
     let first = where_changed(child, now != edits);
@@ -223,7 +231,12 @@ pub(crate) fn give_head<'t>(
 fn where_changed<'t>(part: Part<'t>, changed: bool) -> Option<Part<'t>>
     ensures { result ≡ cond changed (Some part.entry) None }
 {
-    if changed { Some(part) } else { None }
+    if changed {
+        Some(part)
+    } else {
+        drop_part(part);
+        None
+    }
 }
 
 // The part in the place of the first child.

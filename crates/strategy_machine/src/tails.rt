@@ -112,7 +112,7 @@ pub(crate) fn first_values<'t>(
         let Some(child) = child_now(node, parts, i)? else {
             return Ok(all);
         };
-        all.push(child.value()?)?;
+        all.push(child.into_value())?;
     }
     Ok(all)
 }
