@@ -3,12 +3,12 @@ use Rattle.std.proofs.Common.{◌≡◌, ℕ, suc, ◌+◌, ◌-◌, ◌<◌, �
 use Rattle.std.specs.List.{prefix_len}
 use Rattle.std.specs.Char.{is_ascii_digit}
 use Rattle.std.specs.declared.option.Option.{Option}
-use Rattle.std.specs.Option.{option_map}
+use Rattle.std.specs.Option.{option_map, option_map_or}
 use Rattle.std.proofs.lemmas.Bool.Decides.{nat_tests}
 use Rattle.term_core.specs.Word.{begins_word, continues_word, first_word}
 use Rattle.term_core.specs.Tree.{Tree}
 use Rattle.aterm_text.specs.Nesting.{greatest_open, outside_quotes, inside_quotes, after_backslash, open_after}
-use Rattle.aterm_text.specs.Tokens.{is_blank, without_blanks, NextQuoted, NextWord, integer_len, ReadsItems, item_at, escape_at, short_or_octal, octal_at, octal_value, is_octal_digit, are_octal_digits}
+use Rattle.aterm_text.specs.Tokens.{is_blank, without_blanks, NextQuoted, NextWord, integer_len, ReadsItems, item_at, escape_at, octal_at, octal_value, is_octal_digit, are_octal_digits}
 use Rattle.aterm_text.specs.inside.Beginnings.{Begins, beginning_of}
 use Rattle.aterm_text.specs.inside.TermStack.{TermStack, OpenBracket, on_top, with_top, inside, first_closing, closes_first, closes}
 use Rattle.aterm_text.specs.inside.Depth.{depth, IsTooDeep, IsAsDeep, KeepsDepth}
@@ -129,7 +129,7 @@ octal-inside a (b ∷ []) byte left h = absurd (cc)
 octal-inside a (b ∷ (c ∷ rest)) byte left h = octal_so a b c byte rest left _ refl h
 
 escape_so : (d : ℕ) (x : List ℕ) (byte : ℕ) (left : List ℕ) (q k n t r : Bool)
-    → short_or_octal (if q then Some 34 else if k then Some 92 else if n then Some 10 else if t then Some 9 else if r then Some 13 else None) d x ≡ Some (byte, left)
+    → option_map_or (λ (c : ℕ). Some (c, x)) (if q then Some 34 else if k then Some 92 else if n then Some 10 else if t then Some 9 else if r then Some 13 else None) (octal_at (d ∷ x)) ≡ Some (byte, left)
     → inside_quotes x ≡ inside_quotes left
 escape_so d x byte left true k n t r h = ap inside_quotes (same_pair 34 byte x left h).1
 escape_so d x byte left false true n t r h = ap inside_quotes (same_pair 92 byte x left h).1

@@ -5,7 +5,7 @@ use Rattle.std.specs.Int.{w64}
 use Rattle.std.specs.declared.option.Option.{Option}
 use Rattle.std.specs.Char.{is_ascii_digit}
 use Rattle.std.specs.List.{prefix_len}
-use Rattle.std.specs.Option.{option_map}
+use Rattle.std.specs.Option.{option_map, option_map_or}
 use Rattle.std.specs.Str.Parse.{IsNumeral, without_leading_sign, signed_digits_value}
 use Rattle.term_core.specs.Word.{first_word}
 use Rattle.term_core.specs.Tree.{Symbol}
@@ -83,14 +83,10 @@ octal_at (a ∷ []) = None
 octal_at (a ∷ (b ∷ [])) = None
 octal_at (a ∷ (b ∷ (c ∷ rest))) = option_map (λ byte. (byte, rest)) (octal_byte a b c)
 
-abbrev pub short_or_octal : Option ℕ → ℕ → List ℕ → Option (ℕ × List ℕ)
-short_or_octal (Some byte) b rest = Some (byte, rest)
-short_or_octal None b rest = octal_at (b ∷ rest)
-
 -- what follows a backslash: one of `" \ n t r`, or three octal digits
 abbrev pub escape_at : List ℕ → Option (ℕ × List ℕ)
 escape_at [] = None
-escape_at (b ∷ rest) = short_or_octal (short_escape b) b rest
+escape_at (b ∷ rest) = option_map_or (λ byte. Some (byte, rest)) (short_escape b) (octal_at (b ∷ rest))
 
 -- the first item between quotes, as the byte that it stands for, and the rest: any byte but a quote
 -- and a backslash stands for itself

@@ -8,10 +8,11 @@ use Rattle.std.specs.List.{prefix_len, slice_get}
 use Rattle.std.proofs.lemmas.List.{take-append-le}
 use Rattle.aterm_text.specs.Signs.{quote, minus, backslash}
 use Rattle.aterm_text.specs.Tokens.{is_blank}
+use Rattle.term_core.specs.Word.{begins_word}
 use Rattle.strategy_tokens.specs.declared.token.Token.{Token}
 use Rattle.strategy_tokens.specs.declared.token.Token.TheVariants.{Sign as ASign, Bad}
 use Rattle.strategy_tokens.specs.declared.token.Sign.TheVariants.{Arrow}
-use Rattle.strategy_tokens.specs.Tokens.{Lexeme, white, token_of, is_no_line_feed, begins_with, comment_len, closed_comment, comment_piece, begins_ident, continues_ident, ident_len, ident_token, integer_token, minus_piece, quote_at, quote_after, unescaped, text_or_bad, closed_string, sign_piece, piece_at, and_token, tokens_after, tokens}
+use Rattle.strategy_tokens.specs.Tokens.{Lexeme, white, token_of, is_no_line_feed, begins_with, comment_len, closed_comment, comment_piece, continues_ident, ident_len, ident_token, integer_token, minus_piece, quote_at, quote_after, unescaped, text_or_bad, closed_string, sign_piece, piece_at, and_token, tokens_after, tokens}
 use Rattle.strategy_tokens.specs.declared.place.TokenPlace.{TokenPlace}
 use Rattle.strategy_tokens.specs.Places.{and_place, place_at, places_after, places}
 
@@ -207,7 +208,7 @@ abbrev from_digit : ℕ → List ℕ → Lexeme
 from_digit b bs = if (is_ascii_digit b) then numbers b bs else from_minus b bs
 
 abbrev from_word : ℕ → List ℕ → Lexeme
-from_word b bs = if (begins_ident b) then words b bs else from_digit b bs
+from_word b bs = if (begins_word b) then words b bs else from_digit b bs
 
 abbrev from_slash : ℕ → List ℕ → Lexeme
 from_slash b bs = if (b == 47) then comment_piece bs else from_word b bs
@@ -216,7 +217,7 @@ pub piece-local : (b : ℕ) → Local 2 (piece_at b)
 piece-local b =
     local_if 2 (is_blank b) (λ bs. white 0) (from_slash b) (λ u v w h. refl)
     (local_if 2 (b == 47) comment_piece (from_word b) comment_piece-local
-    (local_if 2 (begins_ident b) (words b) (from_digit b) (words-local b)
+    (local_if 2 (begins_word b) (words b) (from_digit b) (words-local b)
     (local_if 2 (is_ascii_digit b) (numbers b) (from_minus b) (numbers-local b)
     (local_if 2 (b == minus) minus_piece (from_quote b) minus-local
     (local_if 2 (b == quote) strings (sign_piece b) strings-local (signs-local b))))))

@@ -8,8 +8,9 @@ use Rattle.std.specs.Str.Parse.{IsNumeral, AllDigits, without_leading_sign}
 use Rattle.std.proofs.lemmas.Grind.{common_steps}
 use Rattle.std.proofs.lemmas.Bool.Decides.{nat_tests}
 use Rattle.term_core.specs.Word.{is_word, continues_word}
+use Rattle.term_core.specs.Word.{begins_word}
 use Rattle.strategy_tokens.specs.declared.token.Token.{Token}
-use Rattle.strategy_tokens.specs.Tokens.{tokens_after, tokens, and_token, piece_at, begins_ident, continues_ident, begins_with, ident_len}
+use Rattle.strategy_tokens.specs.Tokens.{tokens_after, tokens, and_token, piece_at, continues_ident, begins_with, ident_len}
 
 pub drop-rest : {X : Type 0} (n : ℕ) (xs : List X) → n ≤ length xs → take (length xs - n) (drop n xs) ≡ drop n xs
 drop-rest n xs h = grind (arith, common_steps)
@@ -41,7 +42,7 @@ ident_bytes : (bs : List ℕ) → list_all continues_word (take (ident_len bs) b
 ident_bytes [] = refl
 ident_bytes (b ∷ bs) = ident_bytes_from b bs (continues_ident b bs) refl (ident_bytes bs)
 
-pub identifier : (k b : ℕ) (x bs : List ℕ) → k ≡ ident_len bs → x ≡ b ∷ bs → begins_ident b ≡ true
+pub identifier : (k b : ℕ) (x bs : List ℕ) → k ≡ ident_len bs → x ≡ b ∷ bs → begins_word b ≡ true
     → is_word (take (k + 1) x) ≡ true
 identifier k b x bs e f h =
     ap is_word (first_and k (ident_len bs) b x bs e f)

@@ -1,12 +1,13 @@
 -- Laws of what is between the quotes of a string.
 use Rattle.std.proofs.Common.{◌≡◌, ℕ, suc, ◌+◌, ◌==◌, cond, not, Bool, true, false, List, [], ◌∷◌, ◌++◌, length, take, drop, Some, None, refl, sym, ap, ◌∙◌, arith, append_assoc, append-nil}
 use Rattle.std.specs.declared.option.Option.{Option}
+use Rattle.std.specs.Prelude.{option_and_then}
 use Rattle.std.specs.Option.{option_map}
 use Rattle.std.specs.List.{prefix_len}
 use Rattle.std.proofs.lemmas.Grind.{common_steps}
 use Rattle.aterm_text.proofs.ScanLemmas.{prefix_len-rest}
 use Rattle.aterm_text.specs.Tokens.{octal_byte}
-use Rattle.strategy_tokens.specs.Tokens.{unescaped, after_backslash, after_octal, and_byte, and_found}
+use Rattle.strategy_tokens.specs.Tokens.{unescaped, after_backslash, after_octal, and_byte}
 use Rattle.strategy_tokens.specs.inside.Pieces.{is_no_backslash}
 
 -- these bytes, followed by those
@@ -33,7 +34,7 @@ and_byte-after b xs (Some l) = refl
 pub octal_items : (a b c byte : ℕ) (x y bs : List ℕ) → x ≡ b ∷ y → y ≡ c ∷ bs
     → Some byte ≡ octal_byte a b c → after_octal a x ≡ and_byte byte (unescaped bs)
 octal_items a b c byte x y bs e f g = ap (after_octal a) (e ∙ ap (λ l. b ∷ l) f)
-    ∙ ap (λ o. and_found o (unescaped bs)) (sym g)
+    ∙ ap (option_and_then (λ d. and_byte d (unescaped bs))) (sym g)
 
 -- ---- a leading run stands for itself
 

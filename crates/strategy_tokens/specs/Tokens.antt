@@ -1,12 +1,13 @@
 -- The tokens of strategy and module texts. A text is a sequence of pieces, each as long as
 -- possible: white space, comments, which count as white space, and tokens.
-use Rattle.std.specs.Prelude.{ℕ, zero, suc, ℤ, pos, negsuc, ◌^◌, ◌==◌, ◌||◌, ◌&&◌, not, nat_lt, Bool, true, false, List, [], ◌∷◌, ◌++◌, length, take, Some, None, if◌then◌else◌, codes}
+use Rattle.std.specs.Prelude.{ℕ, zero, suc, ℤ, pos, negsuc, ◌^◌, ◌==◌, ◌||◌, ◌&&◌, not, nat_lt, Bool, true, false, List, [], ◌∷◌, ◌++◌, length, take, Some, None, option_and_then, if◌then◌else◌, codes}
 use Rattle.std.specs.declared.option.Option.{Option}
-use Rattle.std.specs.Char.{is_ascii_alphabetic, is_ascii_alphanumeric, is_ascii_digit}
+use Rattle.std.specs.Char.{is_ascii_alphanumeric, is_ascii_digit}
 use Rattle.std.specs.List.{prefix_len}
-use Rattle.std.specs.Option.{option_map}
+use Rattle.std.specs.Option.{option_map, option_map_or}
 use Rattle.std.specs.Str.{bytes_eq}
 use Rattle.std.specs.Str.Parse.{signed_digits_value}
+use Rattle.term_core.specs.Word.{begins_word}
 use Rattle.aterm_text.specs.Signs.{quote, backslash, minus, comma, open_round, close_round, open_square, close_square, open_curly, close_curly}
 use Rattle.aterm_text.specs.Tokens.{is_blank, octal_byte, short_escape}
 use Rattle.strategy_tokens.specs.declared.token.Token.{Token}
@@ -58,12 +59,8 @@ comment_piece (b ∷ bs) =
 
 -- ---- identifiers and reserved words
 
--- A letter or `_`.
-abbrev pub begins_ident : ℕ → Bool
-begins_ident b = is_ascii_alphabetic b || (b == 95)
-
--- An identifier continues with letters, digits, `_`, `'` and `-`; but a `-` followed by `>` doesn't
--- belong to it.
+-- An identifier begins as a word of the term format does. It continues with letters, digits, `_`,
+-- `'` and `-`; but a `-` followed by `>` doesn't belong to it.
 abbrev pub continues_ident : ℕ → List ℕ → Bool
 continues_ident b bs =
     is_ascii_alphanumeric b || (b == 95) || (b == 39) || ((b == minus) && not (begins_with 62 bs))
@@ -73,13 +70,10 @@ abbrev pub ident_len : List ℕ → ℕ
 ident_len [] = 0
 ident_len (b ∷ bs) = if (continues_ident b bs) then suc (ident_len bs) else 0
 
-abbrev pub same_bytes : List ℕ → List ℕ → Bool
-same_bytes = bytes_eq
-
--- the value for these bytes in a table
-abbrev pub word_in : {X : Type 0} → List (List ℕ × X) → List ℕ → Option X
-word_in [] x = None
-word_in (row ∷ rows) x = if (same_bytes x row.0) then Some row.1 else word_in rows x
+-- the value for a key in a table, by a test of keys
+abbrev pub found_in : {K X : Type 0} → (K → K → Bool) → List (K × X) → K → Option X
+found_in same [] key = None
+found_in same (row ∷ rows) key = if (same key row.0) then Some row.1 else found_in same rows key
 
 abbrev pub module_keywords : List (List ℕ × Keyword)
 module_keywords =
@@ -96,16 +90,13 @@ strategy_keywords =
 
 -- the reserved word of these bytes, if they are one
 abbrev pub keyword_of : List ℕ → Option Keyword
-keyword_of x = word_in (module_keywords ++ strategy_keywords) x
-
-abbrev pub reserved_or_ident : Option Keyword → List ℕ → Token
-reserved_or_ident (Some k) x = Reserved k
-reserved_or_ident None x = Ident (record { text = x; is_quoted = false })
+keyword_of x = found_in bytes_eq (module_keywords ++ strategy_keywords) x
 
 -- the token of an identifier; `_` alone is the wildcard
 abbrev pub ident_token : List ℕ → Token
 ident_token x =
-    if (same_bytes x (codes "_")) then Wildcard else reserved_or_ident (keyword_of x) x
+    if (bytes_eq x (codes "_")) then Wildcard
+    else option_map_or Reserved (keyword_of x) (Ident (record { text = x; is_quoted = false }))
 
 -- ---- integers
 
@@ -134,15 +125,6 @@ minus_piece (b ∷ bs) =
 abbrev pub and_byte : ℕ → Option (List ℕ) → Option (List ℕ)
 and_byte b = option_map (λ l. b ∷ l)
 
-abbrev pub and_found : Option ℕ → Option (List ℕ) → Option (List ℕ)
-and_found None bytes = None
-and_found (Some b) bytes = and_byte b bytes
-
--- this byte followed by those, or else the alternative without it
-abbrev pub short_or : Option ℕ → Option (List ℕ) → Option (List ℕ) → Option (List ℕ)
-short_or (Some b) bytes other = and_byte b bytes
-short_or None bytes other = other
-
 -- The bytes that the items between the quotes stand for: any byte but a backslash stands for
 -- itself; after a backslash comes one of `" \ n t r`, or three octal digits. Nothing if an escape
 -- is invalid.
@@ -153,12 +135,12 @@ abbrev mutual
 
   pub after_backslash : List ℕ → Option (List ℕ)
   after_backslash [] = None
-  after_backslash (b ∷ bs) = short_or (short_escape b) (unescaped bs) (after_octal b bs)
+  after_backslash (b ∷ bs) = option_map_or (λ c. and_byte c (unescaped bs)) (short_escape b) (after_octal b bs)
 
   pub after_octal : ℕ → List ℕ → Option (List ℕ)
   after_octal a [] = None
   after_octal a (b ∷ []) = None
-  after_octal a (b ∷ (c ∷ bs)) = and_found (octal_byte a b c) (unescaped bs)
+  after_octal a (b ∷ (c ∷ bs)) = option_and_then (λ d. and_byte d (unescaped bs)) (octal_byte a b c)
 
 -- the number of bytes before the next `"` that isn't escaped, if there is one
 abbrev mutual
@@ -183,10 +165,6 @@ closed_string (Some n) bs = token_of (text_or_bad (unescaped (take n bs))) (suc 
 
 -- ---- signs
 
-abbrev pub sign_in : List (ℕ × Sign) → ℕ → Option Sign
-sign_in [] b = None
-sign_in (row ∷ rows) b = if (b == row.0) then Some row.1 else sign_in rows b
-
 abbrev pub short_signs : List (ℕ × Sign)
 short_signs =
     (open_round, OpenRound) ∷ ((close_round, CloseRound) ∷ ((open_square, OpenSquare)
@@ -195,16 +173,16 @@ short_signs =
     ∷ ((60, Less) ∷ ((62, Greater) ∷ ((43, Plus) ∷ ((42, Star) ∷ ((63, Question)
     ∷ ((33, Exclamation) ∷ ((64, At) ∷ ((backslash, Backslash) ∷ []))))))))))))))))))
 
-abbrev pub sign_or_bad : Option Sign → Token
-sign_or_bad (Some s) = ASign s
-sign_or_bad None = Bad
+-- the token of a byte that begins no other
+abbrev pub short_sign : ℕ → Token
+short_sign b = option_map_or ASign (found_in (λ c d. c == d) short_signs b) Bad
 
 -- `=>`, `<+` or a sign of one byte
 abbrev pub sign_piece : ℕ → List ℕ → Lexeme
 sign_piece b bs =
     if ((b == 61) && begins_with 62 bs) then token_of (ASign FatArrow) 1 else
     if ((b == 60) && begins_with 43 bs) then token_of (ASign LeftChoice) 1 else
-    token_of (sign_or_bad (sign_in short_signs b)) 0
+    token_of (short_sign b) 0
 
 -- ---- the tokens of a text
 
@@ -213,7 +191,7 @@ abbrev pub piece_at : ℕ → List ℕ → Lexeme
 piece_at b bs =
     if (is_blank b) then white 0 else
     if (b == 47) then comment_piece bs else
-    if (begins_ident b)
+    if (begins_word b)
     then (let n = ident_len bs in token_of (ident_token (b ∷ take n bs)) n) else
     if (is_ascii_digit b)
     then (let n = prefix_len is_ascii_digit bs in token_of (integer_token (b ∷ take n bs)) n) else

@@ -1,7 +1,8 @@
 //! Reserved words.
 
 ghost use Rattle.std.specs.Prelude.{◌≡◌};
-ghost use Rattle.strategy_tokens.specs.Tokens.{keyword_of, word_in, strategy_keywords};
+ghost use Rattle.std.specs.Str.{bytes_eq};
+ghost use Rattle.strategy_tokens.specs.Tokens.{keyword_of, found_in, strategy_keywords};
 
 use crate::Keyword;
 
@@ -27,7 +28,7 @@ pub fn keyword(word: &[u8]) -> Option<Keyword>
 }
 
 fn strategy_keyword(word: &[u8]) -> Option<Keyword>
-    ensures { result ≡ word_in strategy_keywords word.now }
+    ensures { result ≡ found_in bytes_eq strategy_keywords word.now }
 {
     if word == b"id".as_slice() {
         Some(Keyword::Id)

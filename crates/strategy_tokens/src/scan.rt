@@ -5,7 +5,8 @@ ghost use Rattle.std.specs.Prelude.{◌≡◌, ◌≤◌, ◌<◌, ◌==◌, ◌
 ghost use Rattle.std.specs.List.{prefix_len};
 ghost use Rattle.std.specs.Char.{is_ascii_digit};
 ghost use Rattle.aterm_text.specs.Signs.{minus};
-ghost use Rattle.strategy_tokens.specs.Tokens.{is_no_line_feed, comment_len, begins_ident, continues_ident, ident_len, ident_token, quote_at, piece_at, comment_piece, minus_piece, sign_piece, short_signs, sign_in, sign_or_bad, closed_string, integer_token, begins_with};
+ghost use Rattle.term_core.specs.Word.{begins_word};
+ghost use Rattle.strategy_tokens.specs.Tokens.{is_no_line_feed, comment_len, continues_ident, ident_len, ident_token, quote_at, piece_at, comment_piece, minus_piece, sign_piece, short_sign, closed_string, integer_token, begins_with};
 ghost use Rattle.std.specs.Str.Parse.{IsNumeral, without_leading_sign};
 ghost use Rattle.strategy_tokens.specs.inside.Pieces.{piece_token, HoldsWord};
 
@@ -31,7 +32,7 @@ pub enum Scanned<'a> {
 }
 
 fn begins_ident(b: u8) -> bool
-    ensures { result ≡ begins_ident b }
+    ensures { result ≡ begins_word b }
 {
     b.is_ascii_alphabetic() || b == b'_'
 }
@@ -183,7 +184,7 @@ fn sign(first: u8, rest: &[u8]) -> (Scanned<'static>, usize)
 }
 
 fn short_sign(byte: u8) -> Scanned<'static>
-    ensures token { piece_token result ≡ Some (sign_or_bad (sign_in short_signs byte)) }
+    ensures token { piece_token result ≡ Some (short_sign byte) }
     ensures word { HoldsWord result }
 {
     match byte {
@@ -213,7 +214,7 @@ fn short_sign(byte: u8) -> Scanned<'static>
 // What begins with a byte that may begin an identifier.
 fn word<'a>(text: &'a [u8], first: u8, rest: &'a [u8]) -> (Scanned<'a>, usize)
     requires front { text.now ≡ first ∷ rest.now }
-    requires begins { begins_ident first ≡ true }
+    requires begins { begins_word first ≡ true }
     ensures token { piece_token result.0
         ≡ Some (ident_token (first ∷ take (ident_len rest.now) rest.now)) }
     ensures more { result.1 ≡ ident_len rest.now }
