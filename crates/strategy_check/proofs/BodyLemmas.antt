@@ -12,10 +12,10 @@ use Rattle.strategy_syntax.proofs.ResolvedLemmas.{resolved_list-resolveds_of}
 use Rattle.strategy_syntax.proofs.StrategyLemmas.{depths-item}
 use Rattle.strategy_check.specs.Tables.{Table, definition_number}
 use Rattle.strategy_check.specs.Faults.{Primitives}
-use Rattle.strategy_check.specs.Binders.{Binder, binder_number}
+use Rattle.strategy_names.specs.Binders.{Binder, binder_number}
 use Rattle.strategy_check.specs.Resolving.{Scope, with_variables, places, name_or_other, definition_or_constructor, resolved_strategy, resolved_strategies}
 use Rattle.strategy_check.specs.inside.Closing.{without_variables}
-use Rattle.strategy_check.proofs.BinderLemmas.{drop-bound_from}
+use Rattle.strategy_names.proofs.BinderLemmas.{drop-bound_from}
 use Rattle.strategy_check.proofs.FaultLemmas.{pattern_count, strategy_count}
 
 pub closed_again : (E : Scope) (xs : List Symbol) → without_variables (with_variables E xs) (length xs) ≡ E

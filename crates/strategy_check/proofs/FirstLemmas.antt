@@ -8,7 +8,7 @@ use Rattle.strategy_syntax.specs.Modules.{Definition}
 use Rattle.strategy_check.specs.declared.fault.FaultKind.{FaultKind}
 use Rattle.strategy_check.specs.declared.fault.FaultKind.TheVariants.{Parameter, Twice, Clash, Unknown, Undeclared, Wild, Primitive}
 use Rattle.strategy_syntax.specs.Lists.{is_among, repeated, with_new}
-use Rattle.strategy_check.specs.Binders.{Binder, binder_number}
+use Rattle.strategy_names.specs.Binders.{Binder, binder_number}
 use Rattle.strategy_check.specs.Tables.{DefinitionKey, same_key, Table, is_defined, is_declared, Modules, key_of, keys_of}
 use Rattle.strategy_check.specs.Faults.{Fault, Primitives, is_primitive, fault_if, underscore, repeated_names, head_faults, pattern_faults, faults_of_patterns, name_faults, strategy_faults, faults_of_strategies, header_faults, parameter_names, definition_faults, module_faults, faults_from, first}
 use Rattle.strategy_check.specs.inside.FirstFault.{fault_when, first_repeated, first_in_head, first_in_pattern, first_in_patterns, first_in_name, first_in_strategy, first_in_strategies, first_in_header, first_in_definition, first_in_definitions, first_in_modules}

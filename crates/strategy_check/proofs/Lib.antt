@@ -1,7 +1,5 @@
-pub mod BinderLemmas
 pub mod FaultLemmas
 pub mod FirstLemmas
-pub mod FreeLemmas
 pub mod GroupLemmas
 pub mod PlaceLemmas
 pub mod BodyLemmas

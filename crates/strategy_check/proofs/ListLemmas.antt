@@ -1,4 +1,5 @@
 -- Lists without duplicates.
+use Rattle.strategy_names.proofs.BinderLemmas.{bound_count}
 use Rattle.std.proofs.Common.{◌≡◌, ℕ, suc, ◌+◌, ◌<◌, ◌≤◌, Bool, true, false, List, [], ◌∷◌, ◌++◌, length, get_or, drop, drop-cons, add-one, refl, sym, ap, ◌∙◌, append_assoc, append-nil}
 use Rattle.std.proofs.lemmas.List.{drop_all}
 use Rattle.std.specs.Prelude.{if◌then◌else◌}
@@ -32,3 +33,5 @@ module _ {S X Y : Type 0} (F : S → List X → Y) (one : S → X → S) (cons :
 
   pub end : (s : S) (whole : Y) → length xs ≤ i → F s (drop i xs) ≡ whole → F s [] ≡ whole
   end s whole ended same = sym (ap (F s) (drop_all i xs ended)) ∙ same
+
+pub ruleset binder_rules = (bound_count)

@@ -13,7 +13,7 @@ use Rattle.strategy_syntax.specs.Lists.{is_among}
 use Rattle.strategy_syntax.proofs.PatternLemmas.{patterns_depth-item}
 use Rattle.strategy_syntax.proofs.StrategyLemmas.{depths-item}
 use Rattle.strategy_check.specs.declared.fault.FaultKind.TheVariants.{Unknown, Undeclared, Wild, Parameter, Primitive}
-use Rattle.strategy_check.specs.Binders.{Binder, binder_number}
+use Rattle.strategy_names.specs.Binders.{Binder, binder_number}
 use Rattle.strategy_check.specs.Tables.{DefinitionKey, same_key, same_constructor, Table, is_defined, is_declared}
 use Rattle.strategy_check.specs.Faults.{Fault, Primitives, is_primitive, fault_if, repeated_names, head_faults, pattern_faults, faults_of_patterns, name_faults, strategy_faults, faults_of_strategies, parameter_names}
 use Rattle.strategy_check.specs.inside.Mentions.{HeadCovered, PatternCovered, PatternsCovered, NameCovered, Covered, AllCovered, BodiesCovered, Keeps}

@@ -4,7 +4,7 @@ use Rattle.std.proofs.Math.Seq.{take-suc}
 use Rattle.strategy_syntax.specs.Syntax.{Pattern, patterns_of}
 use Rattle.strategy_syntax.specs.Resolved.{Place, Places, no_places, and_place, places_of}
 use Rattle.strategy_syntax.proofs.PatternLemmas.{patterns_depth-item}
-use Rattle.strategy_check.specs.Binders.{Binder}
+use Rattle.strategy_names.specs.Binders.{Binder}
 use Rattle.strategy_check.specs.Resolving.{place, places}
 
 pub ruleset place_rules = (patterns_depth-item)

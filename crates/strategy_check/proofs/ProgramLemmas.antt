@@ -9,15 +9,15 @@ use Rattle.strategy_syntax.specs.Syntax.{Strategy}
 use Rattle.strategy_syntax.specs.Resolved.{ResolvedStrategy}
 use Rattle.strategy_syntax.specs.declared.resolved.Resolved.{Resolved}
 use Rattle.strategy_syntax.specs.Lists.{is_among, first_ones, with_new}
-use Rattle.strategy_check.specs.Binders.{Binder, binder_number, bound_from}
+use Rattle.strategy_names.specs.Binders.{Binder, binder_number, bound_from}
 use Rattle.strategy_check.specs.Tables.{DefinitionKey, same_key, Table, definition_number, Modules, keys_of, definitions_of, table_of}
 use Rattle.strategy_check.specs.Faults.{Primitives, header_faults, definition_faults, parameter_names, module_faults, faults_from, faults, strategy_faults}
-use Rattle.strategy_check.specs.Free.{free, free_variables}
+use Rattle.strategy_names.specs.Free.{free, free_variables}
 use Rattle.strategy_check.specs.Resolving.{resolved_strategy}
 use Rattle.strategy_check.specs.Programs.{Program, free_of, scope_of, variable_count, resolved_bodies, joined, term_count, joined_definition, is_number, of_number, groups_from, program, faults_of, resolved}
 use Rattle.strategy_check.specs.Ranges.{InRange, IsInRange, BodiesInRange}
-use Rattle.strategy_check.proofs.BinderLemmas.{bound_count}
-use Rattle.strategy_check.proofs.FreeLemmas.{bound_number, among-append, or-false}
+use Rattle.strategy_names.proofs.BinderLemmas.{bound_count}
+use Rattle.strategy_names.proofs.FreeLemmas.{bound_number, among-append, or-false}
 use Rattle.strategy_check.proofs.MentionLemmas.{Faultless}
 use Rattle.strategy_check.proofs.RangeLemmas.{AreBelow, AreBound, below-bound, left-none, right-none, numbered, strategy_range}
 

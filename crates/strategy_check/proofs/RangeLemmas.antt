@@ -13,13 +13,13 @@ use Rattle.strategy_syntax.specs.Syntax.{Pattern, wildcard, variable, at, number
 use Rattle.strategy_syntax.specs.Resolved.{Places, ResolvedStrategies, resolved_list, place_list}
 use Rattle.strategy_syntax.specs.Variables.{variables, variables_of_all}
 use Rattle.strategy_syntax.specs.Lists.{is_among, without}
-use Rattle.strategy_check.specs.Binders.{Binder, binder_number, bound_from}
+use Rattle.strategy_names.specs.Binders.{Binder, binder_number, bound_from}
 use Rattle.strategy_check.specs.Tables.{DefinitionKey, same_key, Table, definition_number}
 use Rattle.strategy_check.specs.Faults.{Fault, Primitives, is_primitive, fault_if, repeated_names, name_faults, faults_of_patterns, strategy_faults, faults_of_strategies}
-use Rattle.strategy_check.specs.Free.{free, free_in_all}
+use Rattle.strategy_names.specs.Free.{free, free_in_all}
 use Rattle.strategy_check.specs.Resolving.{Scope, with_variables, with_name, variable_number, place, places, name_or_other, definition_or_constructor, resolved_strategy, resolved_strategies}
 use Rattle.strategy_check.specs.Ranges.{PlaceInRange, PlacesInRange, InRange, AllInRange}
-use Rattle.strategy_check.proofs.FreeLemmas.{bound_number}
+use Rattle.strategy_names.proofs.FreeLemmas.{bound_number}
 
 -- ---- binders
 

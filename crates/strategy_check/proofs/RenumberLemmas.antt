@@ -8,7 +8,7 @@ use Rattle.strategy_syntax.specs.Modules.{Definition}
 use Rattle.strategy_syntax.specs.Renumbering.{new_number, renumbered, all_renumbered}
 use Rattle.strategy_syntax.specs.Resolved as resolved
 use Rattle.strategy_syntax.specs.Resolved.{Places, ResolvedStrategy, ResolvedStrategies}
-use Rattle.strategy_check.specs.Binders.{binder_number}
+use Rattle.strategy_names.specs.Binders.{binder_number}
 use Rattle.strategy_check.specs.Tables.{DefinitionKey, Table, definition_number}
 use Rattle.strategy_check.specs.Faults.{Primitives}
 use Rattle.strategy_check.specs.Resolving.{Scope, with_variables, with_name, places, name_or_other, definition_or_constructor, resolved_strategy, resolved_strategies}

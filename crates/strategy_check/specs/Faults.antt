@@ -10,7 +10,7 @@ use Rattle.strategy_check.specs.declared.fault.FaultKind.TheVariants.{Parameter,
 use Rattle.strategy_check.specs.declared.fault.CheckFault.{CheckFault}
 use Rattle.strategy_check.specs.declared.fault.CheckFault.TheVariants.{Memory, Fault as Told}
 use Rattle.strategy_syntax.specs.Lists.{is_among, with_new, repeated}
-use Rattle.strategy_check.specs.Binders.{Binder, binder_number, bound_from}
+use Rattle.strategy_names.specs.Binders.{Binder, binder_number, bound_from}
 use Rattle.strategy_check.specs.Tables.{DefinitionKey, same_key, Table, is_defined, is_declared, Modules, key_of, keys_of, table_of}
 
 -- a kind, a name and two numbers, as they are printed

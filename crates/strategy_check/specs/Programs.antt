@@ -6,10 +6,10 @@ use Rattle.strategy_syntax.specs.Syntax.{Strategy}
 use Rattle.strategy_syntax.specs.Modules.{Definition}
 use Rattle.strategy_syntax.specs.declared.resolved.Resolved.{Resolved}
 use Rattle.term_core.specs.Tree.{Symbol}
-use Rattle.strategy_check.specs.Binders.{bound_from}
+use Rattle.strategy_names.specs.Binders.{bound_from}
 use Rattle.strategy_check.specs.Tables.{DefinitionKey, Table, definition_number, table_of, Modules, definitions_of}
 use Rattle.strategy_check.specs.Faults.{Fault, Primitives, strategy_faults}
-use Rattle.strategy_check.specs.Free.{free_variables}
+use Rattle.strategy_names.specs.Free.{free_variables}
 use Rattle.strategy_check.specs.Resolving.{Scope, resolved_strategy}
 
 -- The definitions and declarations, and the body of each definition at its number.

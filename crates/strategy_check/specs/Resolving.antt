@@ -7,7 +7,7 @@ use Rattle.strategy_syntax.specs.Syntax as syntax
 use Rattle.strategy_syntax.specs.Syntax.{Pattern, Patterns, no_patterns, and_pattern, pattern_list, Strategy, Strategies, no_strategies, and_strategy, strategy_list}
 use Rattle.strategy_syntax.specs.Resolved.{Place, wildcard, variable, at, number, compound, with_tail, annotated, Places, no_places, and_place, ResolvedStrategy, id, fail, matches, builds, seq, guard, test, scope, param, call, congruence, tail_congruence, all, one, some, child, rec, prim, ResolvedStrategies}
 use Rattle.strategy_syntax.specs.Resolved as resolved
-use Rattle.strategy_check.specs.Binders.{Binder, binder_number, bound_from}
+use Rattle.strategy_names.specs.Binders.{Binder, binder_number, bound_from}
 use Rattle.strategy_check.specs.Tables.{Table, definition_number}
 use Rattle.strategy_check.specs.Faults.{Primitives}
 

@@ -1,4 +1,3 @@
-pub mod BinderView
 pub mod Changing
 pub mod CheckedCodes
 pub mod Closing
@@ -6,7 +5,6 @@ pub mod FirstFault
 pub mod Grouping
 pub mod Mentioned
 pub mod Mentions
-pub mod Met
 pub mod PatternUses
 pub mod ProgramCodes
 pub mod Replacing

@@ -9,7 +9,7 @@ ghost use Rattle.strategy_syntax.specs.Syntax as syntax;
 ghost use Rattle.strategy_syntax.specs.Syntax.{strategies_of, seq, guard, rec};
 ghost use Rattle.strategy_syntax.specs.Resolved.{resolveds_of, places_of};
 ghost use Rattle.strategy_syntax.specs.ResolvedView.{resolved_of};
-ghost use Rattle.strategy_check.specs.Binders.{binder_number};
+ghost use Rattle.strategy_names.specs.Binders.{binder_number};
 ghost use Rattle.strategy_check.specs.Tables.{definition_number};
 ghost use Rattle.strategy_check.specs.Resolving.{resolved_strategy, resolved_strategies, name_or_other, definition_or_constructor};
 

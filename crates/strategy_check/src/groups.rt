@@ -1,5 +1,5 @@
 //! The bodies of definitions, joined.
-#![tactic(auto, using(crate::proofs::BinderLemmas::binder_rules))]
+#![tactic(auto, using(crate::proofs::ListLemmas::binder_rules))]
 
 ghost use Rattle.std.specs.Prelude.{◌≡◌, ◌+◌, ◌∷◌, ◌++◌, [], length, map, replicate, IfOk, OnOk};
 ghost use Rattle.strategy_check.specs.Tables.{definitions_of};
@@ -7,15 +7,14 @@ ghost use Rattle.strategy_check.specs.Resolving.{resolved_strategy};
 ghost use Rattle.strategy_check.specs.Programs.{free_of, scope_of, variable_count, term_count, resolved_bodies, joined, joined_definition, groups};
 ghost use Rattle.strategy_check.specs.inside.Grouping.{with_definition, with_definitions};
 
-use crate::binders::Binders;
 use crate::bodies::resolve_strategy;
-use crate::free::free_variables;
 use crate::named::NamedModule;
 use crate::scope::Scope;
 use crate::table::Table;
 use prim_core::{Meaning, Primitives};
 use std::alloc::Global;
 use std::marker::Model;
+use strategy_names::{Binders, free_variables};
 use strategy_syntax::{Definition, Resolved, ResolvedForm, ResolvedStrategy};
 use term_core::NoMemory;
 

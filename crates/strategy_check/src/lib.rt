@@ -1,12 +1,10 @@
 //! Checks that modules and strategies keep the rules of names, and resolves names to numbers.
 #![tactic(auto)]
 
-mod binders;
 mod bodies;
 mod changes;
 mod checked;
 mod fault;
-mod free;
 mod groups;
 mod headers;
 mod key;

@@ -4,14 +4,14 @@
 ghost use Rattle.std.specs.Prelude.{◌≡◌, is_some, IfOk, OnOk};
 ghost use Rattle.strategy_syntax.specs.Syntax.{patterns_of, strategies_of};
 ghost use Rattle.strategy_syntax.specs.Heads.{head_of};
-ghost use Rattle.strategy_check.specs.Binders.{binder_number};
+ghost use Rattle.strategy_names.specs.Binders.{binder_number};
 ghost use Rattle.strategy_check.specs.inside.Changing.{mentioned};
 ghost use Rattle.strategy_check.specs.inside.Mentioned.{with_key, with_constructor, mentioned_by_head, mentioned_in_pattern, mentioned_in_patterns, mentioned_by_name, mentioned_in_strategy, mentioned_in_strategies, mentioned_in_body, mentioned_in_bodies};
 
-use crate::binders::Binders;
 use crate::key::DefinitionKey;
 use crate::table::Table;
 use std::alloc::Global;
+use strategy_names::Binders;
 use strategy_syntax::{
     Constructor, Definition, Head, Module, Pattern, PatternForm, Strategy, StrategyForm,
 };

@@ -5,7 +5,6 @@ ghost use Rattle.std.specs.Prelude.{[]};
 ghost use Rattle.strategy_check.specs.inside.FirstFault.{Tells, first_in_definition, first_in_definitions, first_in_modules};
 
 use crate::CheckFault;
-use crate::binders::Binders;
 use crate::headers::check_header;
 use crate::key::DefinitionKey;
 use crate::named::NamedModule;
@@ -14,6 +13,7 @@ use crate::table::{Table, add_definitions};
 use indexmap::IndexSet;
 use prim_core::{Meaning, Primitives};
 use std::alloc::Global;
+use strategy_names::Binders;
 use strategy_syntax::Definition;
 
 /// The first fault in modules, in order.

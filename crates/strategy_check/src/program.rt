@@ -10,10 +10,8 @@ ghost use Rattle.strategy_check.specs.inside.Replacing.{renumbered_definition};
 ghost use Rattle.strategy_check.specs.inside.Staying.{joined_bodies, with_bodies};
 
 use crate::CheckFault;
-use crate::binders::Binders;
 use crate::bodies::resolve_strategy;
 use crate::changes::new_numbers;
-use crate::free::free_variables;
 use crate::groups::{group_definitions, join_groups};
 use crate::modules::check_modules;
 use crate::named::NamedModule;
@@ -23,6 +21,7 @@ use crate::table::Table;
 use prim_core::{Meaning, Primitives};
 use std::alloc::Global;
 use std::marker::Model;
+use strategy_names::{Binders, free_variables};
 use strategy_syntax::{Resolved, Strategy};
 use term_core::NoMemory;
 

@@ -2,12 +2,12 @@
 #![tactic(auto)]
 
 ghost use Rattle.std.specs.Prelude.{◌≡◌, OnOk};
-ghost use Rattle.strategy_check.specs.Binders.{binder_number};
+ghost use Rattle.strategy_names.specs.Binders.{binder_number};
 ghost use Rattle.strategy_check.specs.Resolving.{variable_number, with_variables, with_name};
 ghost use Rattle.strategy_check.specs.inside.Closing.{without_variables, without_name};
 
-use crate::binders::Binders;
 use std::marker::Model;
+use strategy_names::Binders;
 use term_core::{Name, NoMemory};
 
 /// The binders of variables, the number of variables so far, and the binders of strategy names.

@@ -5,7 +5,6 @@ ghost use Rattle.std.specs.Prelude.{◌≡◌, OnOk};
 ghost use Rattle.strategy_syntax.specs.Syntax.{strategies_of};
 ghost use Rattle.strategy_check.specs.inside.FirstFault.{Tells, first_in_name, first_in_primitive, first_in_strategy, first_in_strategies};
 
-use crate::binders::Binders;
 use crate::fault::fault;
 use crate::headers::check_names;
 use crate::patterns::{PatternUse, check_pattern, check_patterns};
@@ -13,6 +12,7 @@ use crate::table::Table;
 use crate::{CheckFault, FaultKind};
 use prim_core::{Meaning, Primitives};
 use std::alloc::Global;
+use strategy_names::Binders;
 use strategy_syntax::{Strategy, StrategyForm};
 use term_core::Name;
 

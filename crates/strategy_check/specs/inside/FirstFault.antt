@@ -10,7 +10,7 @@ use Rattle.strategy_check.specs.declared.fault.FaultKind.{FaultKind}
 use Rattle.strategy_check.specs.declared.fault.FaultKind.TheVariants.{Parameter, Twice, Clash, Unknown, Undeclared, Wild, Primitive}
 use Rattle.strategy_check.specs.declared.fault.CheckFault.{CheckFault}
 use Rattle.strategy_syntax.specs.Lists.{is_among, with_new}
-use Rattle.strategy_check.specs.Binders.{Binder, binder_number}
+use Rattle.strategy_names.specs.Binders.{Binder, binder_number}
 use Rattle.strategy_check.specs.Tables.{DefinitionKey, same_key, Table, is_defined, is_declared, Modules, key_of, keys_of}
 use Rattle.strategy_check.specs.Faults.{Fault, IsTold, Primitives, is_primitive, underscore, parameter_names}
 

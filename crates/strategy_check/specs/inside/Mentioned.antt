@@ -4,7 +4,7 @@ use Rattle.indexmap.specs.IndexSet.{insert_key}
 use Rattle.term_core.specs.Tree.{Symbol, Head, application, list, tuple}
 use Rattle.strategy_syntax.specs.Syntax.{Pattern, wildcard, variable, at, number, compound, with_tail, annotated, Patterns, no_patterns, and_pattern, pattern_list, Strategy, id, fail, matches, builds, seq, guard, test, scope, uses, congruence, tail_congruence, all, one, some, child, rec, prim, Strategies, no_strategies, and_strategy, strategy_list}
 use Rattle.strategy_syntax.specs.Modules.{Definition}
-use Rattle.strategy_check.specs.Binders.{Binder, binder_number}
+use Rattle.strategy_names.specs.Binders.{Binder, binder_number}
 use Rattle.strategy_check.specs.Faults.{parameter_names}
 use Rattle.strategy_check.specs.Tables.{Table, same_key, same_constructor}
 

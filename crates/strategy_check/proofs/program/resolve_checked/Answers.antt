@@ -1,8 +1,8 @@
 use Rattle.std.proofs.Common.{◌≡◌, [], length, ap, ◌∙◌}
-use Rattle.strategy_check.specs.Free.{free_variables}
-use Rattle.strategy_check.specs.Binders.{bound_from}
+use Rattle.strategy_names.specs.Free.{free_variables}
+use Rattle.strategy_names.specs.Binders.{bound_from}
 use Rattle.strategy_check.specs.Resolving.{resolved_strategy}
-use Rattle.strategy_check.proofs.BinderLemmas.{bound_count}
+use Rattle.strategy_names.proofs.BinderLemmas.{bound_count}
 use Rattle.strategy_check.proofs.program.resolve_checked.Goals as goal
 
 pub returns : goal.returns

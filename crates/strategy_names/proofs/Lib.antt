@@ -1,0 +1,2 @@
+pub mod BinderLemmas
+pub mod FreeLemmas

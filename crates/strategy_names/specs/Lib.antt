@@ -1,0 +1,3 @@
+pub mod Binders
+pub mod Free
+pub mod inside

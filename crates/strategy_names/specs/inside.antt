@@ -1,0 +1,2 @@
+pub mod BinderView
+pub mod Met
