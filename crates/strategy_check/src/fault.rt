@@ -28,6 +28,9 @@ pub enum FaultKind {
     Primitive,
 }
 
+/// The kinds of faults, by the short name that they have beside `CheckFault`.
+pub type Kind = FaultKind;
+
 impl FaultKind {
     /// The word for the kind in a refusal.
     pub fn word(self) -> &'static str

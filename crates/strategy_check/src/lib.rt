@@ -19,6 +19,6 @@ mod strategies;
 mod table;
 
 pub use checked::Checked;
-pub use fault::{CheckFault, FaultKind};
+pub use fault::{CheckFault, FaultKind, Kind};
 pub use named::NamedModule;
 pub use program::{Program, check, resolve};
