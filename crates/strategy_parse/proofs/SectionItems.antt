@@ -1,6 +1,6 @@
 -- What a module gives after a sort, a declaration or a definition, and what may come after these.
 use Rattle.std.proofs.Common.{◌≡◌, false, refl, sym, ap, ◌∙◌, subst, inl, inr, List, [], ◌∷◌}
-use Rattle.std.specs.Prelude.{◌⊎◌}
+use Rattle.std.specs.Prelude.{◌⊎◌, map}
 use Rattle.std.specs.List.{flat_map}
 use Rattle.strategy_syntax.specs.Modules.{Module}
 use Rattle.strategy_tokens.specs.declared.token.Token.{Token}
@@ -8,8 +8,8 @@ use Rattle.strategy_tokens.specs.declared.token.Token.TheVariants.{Reserved}
 use Rattle.strategy_tokens.specs.declared.token.Keyword.{Keyword}
 use Rattle.strategy_tokens.specs.declared.token.Keyword.TheVariants.{Signature as KSignature, Sorts as KSorts, Constructors as KConstructors, Rules, Strategies, Where}
 use Rattle.strategy_parse.specs.Written.{Sort, Declaration, Defined, SignaturePart, sorts, constructors, Section, signature, definitions}
-use Rattle.strategy_parse.specs.GrammarModules.{ReadsSort, ReadsDeclaration, ReadsDefined, ReadsSorts, ReadsDeclarations, ReadsDefinitions, ReadsSignatureParts, ReadsSections}
-use Rattle.strategy_parse.specs.Core.{declared, core_definition, core_definitions}
+use Rattle.strategy_parse.specs.GrammarModules.{ReadsSort, ReadsDeclaration, ReadsDefined, ReadsSections, ReadsSignaturePart, ReadsAll}
+use Rattle.strategy_parse.specs.Core.{declared, core_definition}
 use Rattle.strategy_tokens.specs.Marks.{is_word}
 use Rattle.strategy_parse.specs.inside.Definitions.{DefinitionEnds}
 use Rattle.strategy_parse.specs.inside.Sections.{IsItem, joined, SectionsLeft, SignatureLeft, SortsLeft, DeclarationsLeft, DefinitionsLeft}
@@ -26,7 +26,7 @@ sections_item (definitions ds ∷ ss) x (v, (a, (inr k), reads), rest) i = item_
 pub outside_item : (x : List Token) (m : Module) → SectionsLeft x m → IsItem x → ⊥
 outside_item x m l i = sections_item l.sections x l.reads i
 
-signatures_item : (ps : List SignaturePart) (x y : List Token) (m : Module) → ReadsSignatureParts ps x y → SectionsLeft y m → IsItem x → ⊥
+signatures_item : (ps : List SignaturePart) (x y : List Token) (m : Module) → ReadsAll ReadsSignaturePart ps x y → SectionsLeft y m → IsItem x → ⊥
 signatures_item [] x y m r l i = outside_item y m l (subst IsItem (sym r) i)
 signatures_item (sorts ss ∷ ps) x y m r l i = item_is x r.1.0 KSorts r.1.1 i
 signatures_item (constructors ds ∷ ps) x y m r l i = item_is x r.1.0 KConstructors r.1.1 i
@@ -44,7 +44,7 @@ sections_front (signature ps ∷ ss) x r = inl (KSignature, r.1.0, r.1.1, refl)
 sections_front (definitions ds ∷ ss) x (v, (a, (inl k), reads), rest) = inl (Rules, a, k, refl)
 sections_front (definitions ds ∷ ss) x (v, (a, (inr k), reads), rest) = inl (Strategies, a, k, refl)
 
-signature_front : (ps : List SignaturePart) (x y : List Token) (m : Module) → ReadsSignatureParts ps x y → SectionsLeft y m → WordOrEnd x
+signature_front : (ps : List SignaturePart) (x y : List Token) (m : Module) → ReadsAll ReadsSignaturePart ps x y → SectionsLeft y m → WordOrEnd x
 signature_front [] x y m r l = subst WordOrEnd r (sections_front l.sections y l.reads)
 signature_front (sorts ss ∷ ps) x y m r l = inl (KSorts, r.1.0, r.1.1, refl)
 signature_front (constructors ds ∷ ps) x y m r l = inl (KConstructors, r.1.0, r.1.1, refl)
@@ -56,7 +56,7 @@ end_ends : (x : List Token) → WordOrEnd x → DefinitionEnds x
 end_ends x (inl h) = subst DefinitionEnds (sym h.2) (record { stops = refl; no_condition = h.3 })
 end_ends x (inr h) = subst DefinitionEnds (sym h) (record { stops = tt; no_condition = refl })
 
-definitions_end_at : (ds : List Defined) (x y : List Token) (m : Module) → ReadsDefinitions ds x y → SectionsLeft y m → DefinitionEnds x
+definitions_end_at : (ds : List Defined) (x y : List Token) (m : Module) → ReadsAll ReadsDefined ds x y → SectionsLeft y m → DefinitionEnds x
 definitions_end_at [] x y m r l = subst DefinitionEnds r (end_ends y (sections_front l.sections y l.reads))
 definitions_end_at (d ∷ ds) x y m r l = named_ends x (defined_named d x r.0 r.1)
 
@@ -71,11 +71,11 @@ apart_end : (x : List Token) → WordOrEnd x → DeclarationEnds x
 apart_end x (inl h) = subst DeclarationEnds (sym h.2) (record { round = refl; star = refl; arrow = refl })
 apart_end x (inr h) = subst DeclarationEnds (sym h) (record { round = refl; star = refl; arrow = refl })
 
-declarations_apart : (ds : List Declaration) (x y : List Token) (m : Module) → ReadsDeclarations ds x y → SignatureLeft y m → DeclarationEnds x
+declarations_apart : (ds : List Declaration) (x y : List Token) (m : Module) → ReadsAll ReadsDeclaration ds x y → SignatureLeft y m → DeclarationEnds x
 declarations_apart [] x y m r l = subst DeclarationEnds r (apart_end y (signature_front l.parts y l.rest l.after l.reads l.left))
 declarations_apart (d ∷ ds) x y m r l = apart_colon x (declaration_front d x r.0 r.1)
 
-sorts_apart : (ss : List Sort) (x y : List Token) (m : Module) → ReadsSorts ss x y → SignatureLeft y m → DeclarationEnds x
+sorts_apart : (ss : List Sort) (x y : List Token) (m : Module) → ReadsAll ReadsSort ss x y → SignatureLeft y m → DeclarationEnds x
 sorts_apart [] x y m r l = subst DeclarationEnds r (apart_end y (signature_front l.parts y l.rest l.after l.reads l.left))
 sorts_apart (s ∷ ss) x y m r l = apart_named x (sort_named s x r.0 r.1)
 
@@ -89,14 +89,14 @@ pub record DefinitionStep (x : List Token) (m : Module) : Type 0 where
   pub left : DefinitionsLeft rest after
   pub gives : joined [] (core_definition definition ∷ []) after ≡ m
 
-definitions_items : (ds : List Defined) (x y : List Token) (m : Module) → ReadsDefinitions ds x y → (k : Module) → SectionsLeft y k → joined [] (core_definitions ds) k ≡ m → IsItem x → DefinitionStep x m
+definitions_items : (ds : List Defined) (x y : List Token) (m : Module) → ReadsAll ReadsDefined ds x y → (k : Module) → SectionsLeft y k → joined [] (map core_definition ds) k ≡ m → IsItem x → DefinitionStep x m
 definitions_items [] x y m r k l e i = absurd (outside_item y k l (subst IsItem (sym r) i))
 definitions_items (d ∷ ds) x y m r k l e i = record {
   definition = d;
   rest = r.0;
   reads = r.1;
   ends = definitions_end_at ds r.0 y k r.2 l;
-  after = joined [] (core_definitions ds) k;
+  after = joined [] (map core_definition ds) k;
   left = record { definitions = ds; rest = y; reads = r.2; after = k; left = l; gives = refl };
   gives = e;
 }
@@ -123,7 +123,7 @@ pub record DeclarationStep (x : List Token) (m : Module) : Type 0 where
   pub left : DeclarationsLeft rest after
   pub gives : joined (declared declaration) [] after ≡ m
 
-declarations_items : (ds : List Declaration) (x y : List Token) (m : Module) → ReadsDeclarations ds x y → (k : Module) → SignatureLeft y k → joined (flat_map declared ds) [] k ≡ m → IsItem x → DeclarationStep x m
+declarations_items : (ds : List Declaration) (x y : List Token) (m : Module) → ReadsAll ReadsDeclaration ds x y → (k : Module) → SignatureLeft y k → joined (flat_map declared ds) [] k ≡ m → IsItem x → DeclarationStep x m
 declarations_items [] x y m r k l e i = absurd (signature_item y k l (subst IsItem (sym r) i))
 declarations_items (d ∷ ds) x y m r k l e i = record {
   declaration = d;
@@ -155,7 +155,7 @@ pub record SortStep (x : List Token) (m : Module) : Type 0 where
   pub ends : DeclarationEnds rest
   pub left : SortsLeft rest m
 
-sorts_items : (ss : List Sort) (x y : List Token) (m : Module) → ReadsSorts ss x y → SignatureLeft y m → IsItem x → SortStep x m
+sorts_items : (ss : List Sort) (x y : List Token) (m : Module) → ReadsAll ReadsSort ss x y → SignatureLeft y m → IsItem x → SortStep x m
 sorts_items [] x y m r l i = absurd (signature_item y m l (subst IsItem (sym r) i))
 sorts_items (s ∷ ss) x y m r l i = record {
   sort = s;

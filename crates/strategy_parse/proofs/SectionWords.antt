@@ -1,6 +1,6 @@
 -- What a module gives after a word that begins a part of it, and at the end of its text.
 use Rattle.std.proofs.Common.{◌≡◌, refl, sym, ap, ◌∙◌, subst, inl, inr, List, [], ◌∷◌, ◌++◌, Some, None, append_assoc}
-use Rattle.std.specs.Prelude.{◌⊎◌}
+use Rattle.std.specs.Prelude.{◌⊎◌, map}
 use Rattle.std.specs.declared.option.Option.{Option}
 use Rattle.std.specs.List.{flat_map}
 use Rattle.term_core.specs.Tree.{Symbol}
@@ -13,8 +13,8 @@ use Rattle.strategy_tokens.specs.declared.token.Sign.TheVariants.{Colon}
 use Rattle.strategy_parse.specs.declared.modules.sections.Context.{Context}
 use Rattle.strategy_parse.specs.declared.modules.sections.Context.TheVariants.{Outside, Signature as InSignature, Sorts, Constructors, Definitions}
 use Rattle.strategy_parse.specs.Written.{Sort, sort, no_sorts, and_sort, Declaration, constant, function, Defined, definition, rule, rule_where, SignaturePart, sorts, constructors, Section, signature, definitions}
-use Rattle.strategy_parse.specs.GrammarModules.{ReadsSort, ReadsDeclaration, ReadsDefined, ReadsSorts, ReadsDeclarations, ReadsDefinitions, ReadsSignatureParts, ReadsSections}
-use Rattle.strategy_parse.specs.Core.{declared, declared_in_part, core_definitions, core_module}
+use Rattle.strategy_parse.specs.GrammarModules.{ReadsSort, ReadsDeclaration, ReadsDefined, ReadsSections, ReadsSignaturePart, ReadsAll}
+use Rattle.strategy_parse.specs.Core.{declared, declared_in_part, core_module, core_definition}
 use Rattle.strategy_parse.specs.inside.Sections.{in_signature, next_context, IsItem, joined, SectionsLeft, SignatureLeft, SortsLeft, DeclarationsLeft, DefinitionsLeft, Left}
 
 -- an empty module
@@ -118,7 +118,7 @@ sections_step p w x y m e l = from_any p w x m (outside_step l.sections w x m (s
 abbrev IsInSignature : Context → Type 0
 IsInSignature p = (q : Context) → in_signature p q ≡ Some q
 
-signature_step : (p : Context) → IsInSignature p → (ps : List SignaturePart) (w : Keyword) (x y : List Token) (m : Module) → ReadsSignatureParts ps (Reserved w ∷ x) y → (k : Module) → SectionsLeft y k → joined (flat_map declared_in_part ps) [] k ≡ m → WordStep p w x m
+signature_step : (p : Context) → IsInSignature p → (ps : List SignaturePart) (w : Keyword) (x y : List Token) (m : Module) → ReadsAll ReadsSignaturePart ps (Reserved w ∷ x) y → (k : Module) → SectionsLeft y k → joined (flat_map declared_in_part ps) [] k ≡ m → WordStep p w x m
 signature_step p h [] w x y m r k l e = sections_step p w x y m r (subst (SectionsLeft y) e l)
 signature_step p h (sorts ss ∷ ps) w x y m r k l e = record {
   context = Sorts;
@@ -141,17 +141,17 @@ signature_step p h (constructors ds ∷ ps) w x y m r k l e = record {
 }
 
 in_signature_step : (p : Context) → IsInSignature p → (w : Keyword) (x y : List Token) (m : Module) → y ≡ Reserved w ∷ x → SignatureLeft y m → WordStep p w x m
-in_signature_step p h w x y m e l = signature_step p h l.parts w x l.rest m (subst (λ z. ReadsSignatureParts l.parts z l.rest) e l.reads) l.after l.left l.gives
+in_signature_step p h w x y m e l = signature_step p h l.parts w x l.rest m (subst (λ z. ReadsAll ReadsSignaturePart l.parts z l.rest) e l.reads) l.after l.left l.gives
 
-sorts_step : (ss : List Sort) (w : Keyword) (x y : List Token) (m : Module) → ReadsSorts ss (Reserved w ∷ x) y → SignatureLeft y m → WordStep Sorts w x m
+sorts_step : (ss : List Sort) (w : Keyword) (x y : List Token) (m : Module) → ReadsAll ReadsSort ss (Reserved w ∷ x) y → SignatureLeft y m → WordStep Sorts w x m
 sorts_step [] w x y m r l = in_signature_step Sorts (λ q. refl) w x y m r l
 sorts_step (s ∷ ss) w x y m r l = absurd (no_name (Reserved w ∷ x) x w refl (sort_named s (Reserved w ∷ x) r.0 r.1))
 
-declarations_step : (ds : List Declaration) (w : Keyword) (x y : List Token) (m : Module) → ReadsDeclarations ds (Reserved w ∷ x) y → (k : Module) → SignatureLeft y k → joined (flat_map declared ds) [] k ≡ m → WordStep Constructors w x m
+declarations_step : (ds : List Declaration) (w : Keyword) (x y : List Token) (m : Module) → ReadsAll ReadsDeclaration ds (Reserved w ∷ x) y → (k : Module) → SignatureLeft y k → joined (flat_map declared ds) [] k ≡ m → WordStep Constructors w x m
 declarations_step [] w x y m r k l e = in_signature_step Constructors (λ q. refl) w x y m r (subst (SignatureLeft y) e l)
 declarations_step (d ∷ ds) w x y m r k l e = absurd (no_name_or_colon (Reserved w ∷ x) x w refl (declaration_front d (Reserved w ∷ x) r.0 r.1))
 
-definitions_step : (ds : List Defined) (w : Keyword) (x y : List Token) (m : Module) → ReadsDefinitions ds (Reserved w ∷ x) y → (k : Module) → SectionsLeft y k → joined [] (core_definitions ds) k ≡ m → WordStep Definitions w x m
+definitions_step : (ds : List Defined) (w : Keyword) (x y : List Token) (m : Module) → ReadsAll ReadsDefined ds (Reserved w ∷ x) y → (k : Module) → SectionsLeft y k → joined [] (map core_definition ds) k ≡ m → WordStep Definitions w x m
 definitions_step [] w x y m r k l e = sections_step Definitions w x y m r (subst (SectionsLeft y) e l)
 definitions_step (d ∷ ds) w x y m r k l e = absurd (no_name (Reserved w ∷ x) x w refl (defined_named d (Reserved w ∷ x) r.0 r.1))
 
@@ -174,14 +174,14 @@ outside_rules : (x : List Token) (m : Module) → DefinitionsLeft x m → Sectio
 outside_rules x m l = record {
   sections = definitions l.definitions ∷ l.left.sections;
   reads = (l.rest, (x, inl refl, l.reads), l.left.reads);
-  gives = ap (joined [] (core_definitions l.definitions)) l.left.gives ∙ l.gives;
+  gives = ap (joined [] (map core_definition l.definitions)) l.left.gives ∙ l.gives;
 }
 
 outside_strategies : (x : List Token) (m : Module) → DefinitionsLeft x m → SectionsLeft (Reserved Strategies ∷ x) m
 outside_strategies x m l = record {
   sections = definitions l.definitions ∷ l.left.sections;
   reads = (l.rest, (x, inr refl, l.reads), l.left.reads);
-  gives = ap (joined [] (core_definitions l.definitions)) l.left.gives ∙ l.gives;
+  gives = ap (joined [] (map core_definition l.definitions)) l.left.gives ∙ l.gives;
 }
 
 signature_of : (x : List Token) (m : Module) → SectionsLeft x m → SignatureLeft x m
@@ -257,23 +257,23 @@ sections_end (definitions ds ∷ ss) m (v, (a, (inr k), reads), rest) e = absurd
 sections_done : (x : List Token) (m : Module) → x ≡ [] → SectionsLeft x m → nothing ≡ m
 sections_done x m e l = sections_end l.sections m (subst (λ z. ReadsSections l.sections z) e l.reads) l.gives
 
-signature_end : (ps : List SignaturePart) (y : List Token) (m : Module) → ReadsSignatureParts ps [] y → (k : Module) → SectionsLeft y k → joined (flat_map declared_in_part ps) [] k ≡ m → nothing ≡ m
+signature_end : (ps : List SignaturePart) (y : List Token) (m : Module) → ReadsAll ReadsSignaturePart ps [] y → (k : Module) → SectionsLeft y k → joined (flat_map declared_in_part ps) [] k ≡ m → nothing ≡ m
 signature_end [] y m r k l e = sections_done y m r (subst (SectionsLeft y) e l)
 signature_end (sorts ss ∷ ps) y m r k l e = let no : ◌≡◌ {A = List Token} [] (Reserved KSorts ∷ r.1.0) = r.1.1 in absurd (cc)
 signature_end (constructors ds ∷ ps) y m r k l e = let no : ◌≡◌ {A = List Token} [] (Reserved KConstructors ∷ r.1.0) = r.1.1 in absurd (cc)
 
 signature_done : (x : List Token) (m : Module) → x ≡ [] → SignatureLeft x m → nothing ≡ m
-signature_done x m e l = signature_end l.parts l.rest m (subst (λ z. ReadsSignatureParts l.parts z l.rest) e l.reads) l.after l.left l.gives
+signature_done x m e l = signature_end l.parts l.rest m (subst (λ z. ReadsAll ReadsSignaturePart l.parts z l.rest) e l.reads) l.after l.left l.gives
 
-sorts_end : (ss : List Sort) (y : List Token) (m : Module) → ReadsSorts ss [] y → SignatureLeft y m → nothing ≡ m
+sorts_end : (ss : List Sort) (y : List Token) (m : Module) → ReadsAll ReadsSort ss [] y → SignatureLeft y m → nothing ≡ m
 sorts_end [] y m r l = signature_done y m r l
 sorts_end (s ∷ ss) y m r l = absurd (no_end [] refl (sort_named s [] r.0 r.1))
 
-declarations_end : (ds : List Declaration) (y : List Token) (m : Module) → ReadsDeclarations ds [] y → (k : Module) → SignatureLeft y k → joined (flat_map declared ds) [] k ≡ m → nothing ≡ m
+declarations_end : (ds : List Declaration) (y : List Token) (m : Module) → ReadsAll ReadsDeclaration ds [] y → (k : Module) → SignatureLeft y k → joined (flat_map declared ds) [] k ≡ m → nothing ≡ m
 declarations_end [] y m r k l e = signature_done y m r (subst (SignatureLeft y) e l)
 declarations_end (d ∷ ds) y m r k l e = absurd (no_end_or_colon [] refl (declaration_front d [] r.0 r.1))
 
-definitions_end : (ds : List Defined) (y : List Token) (m : Module) → ReadsDefinitions ds [] y → (k : Module) → SectionsLeft y k → joined [] (core_definitions ds) k ≡ m → nothing ≡ m
+definitions_end : (ds : List Defined) (y : List Token) (m : Module) → ReadsAll ReadsDefined ds [] y → (k : Module) → SectionsLeft y k → joined [] (map core_definition ds) k ≡ m → nothing ≡ m
 definitions_end [] y m r k l e = sections_done y m r (subst (SectionsLeft y) e l)
 definitions_end (d ∷ ds) y m r k l e = absurd (no_end [] refl (defined_named d [] r.0 r.1))
 

@@ -69,30 +69,19 @@ ReadsDefined (rule_where h p q a) u v =
 
 -- ---- sections
 
-abbrev pub ReadsSorts : List Sort → Reading
-ReadsSorts [] u v = v ≡ u
-ReadsSorts (s ∷ ss) u v = (ReadsSort s ▸ ReadsSorts ss) u v
-
-abbrev pub ReadsDeclarations : List Declaration → Reading
-ReadsDeclarations [] u v = v ≡ u
-ReadsDeclarations (d ∷ ds) u v = (ReadsDeclaration d ▸ ReadsDeclarations ds) u v
+-- any number of these, one after the other
+abbrev pub ReadsAll : {X : Type 0} → (X → Reading) → List X → Reading
+ReadsAll Reads [] u v = v ≡ u
+ReadsAll Reads (x ∷ xs) u v = (Reads x ▸ ReadsAll Reads xs) u v
 
 abbrev pub ReadsSignaturePart : SignaturePart → Reading
-ReadsSignaturePart (sorts ss) u v = (Word KSorts ▸ ReadsSorts ss) u v
-ReadsSignaturePart (constructors ds) u v = (Word Constructors ▸ ReadsDeclarations ds) u v
-
-abbrev pub ReadsSignatureParts : List SignaturePart → Reading
-ReadsSignatureParts [] u v = v ≡ u
-ReadsSignatureParts (s ∷ ss) u v = (ReadsSignaturePart s ▸ ReadsSignatureParts ss) u v
-
-abbrev pub ReadsDefinitions : List Defined → Reading
-ReadsDefinitions [] u v = v ≡ u
-ReadsDefinitions (d ∷ ds) u v = (ReadsDefined d ▸ ReadsDefinitions ds) u v
+ReadsSignaturePart (sorts ss) u v = (Word KSorts ▸ ReadsAll ReadsSort ss) u v
+ReadsSignaturePart (constructors ds) u v = (Word Constructors ▸ ReadsAll ReadsDeclaration ds) u v
 
 abbrev pub ReadsSection : Section → Reading
-ReadsSection (signature ss) u v = (Word KSignature ▸ ReadsSignatureParts ss) u v
+ReadsSection (signature ss) u v = (Word KSignature ▸ ReadsAll ReadsSignaturePart ss) u v
 ReadsSection (definitions ds) u v =
-    ((λ x y. Word Rules x y ⊎ Word Strategies x y) ▸ ReadsDefinitions ds) u v
+    ((λ x y. Word Rules x y ⊎ Word Strategies x y) ▸ ReadsAll ReadsDefined ds) u v
 
 -- sections to the end of the text
 abbrev pub ReadsSections : List Section → List Token → Type 0

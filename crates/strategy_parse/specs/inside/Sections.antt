@@ -1,5 +1,5 @@
 -- What the rest of a module gives, depending on what was read last.
-use Rattle.std.specs.Prelude.{◌≡◌, List, [], ◌∷◌, ◌++◌, Some, None}
+use Rattle.std.specs.Prelude.{◌≡◌, List, [], ◌∷◌, ◌++◌, Some, None, map}
 use Rattle.std.specs.declared.option.Option.{Option}
 use Rattle.std.specs.List.{flat_map}
 use Rattle.strategy_syntax.specs.Modules.{Module, Constructor, Definition}
@@ -10,8 +10,8 @@ use Rattle.strategy_tokens.specs.declared.token.Keyword.TheVariants.{Signature a
 use Rattle.strategy_parse.specs.declared.modules.sections.Context.{Context}
 use Rattle.strategy_parse.specs.declared.modules.sections.Context.TheVariants.{Outside, Signature as InSignature, Sorts, Constructors, Definitions}
 use Rattle.strategy_parse.specs.Written.{Sort, Declaration, Defined, SignaturePart, Section}
-use Rattle.strategy_parse.specs.GrammarModules.{ReadsSorts, ReadsDeclarations, ReadsDefinitions, ReadsSignatureParts, ReadsSections}
-use Rattle.strategy_parse.specs.Core.{declared, declared_in_part, core_definitions, core_module}
+use Rattle.strategy_parse.specs.GrammarModules.{ReadsSections, ReadsSort, ReadsDeclaration, ReadsDefined, ReadsSignaturePart, ReadsAll}
+use Rattle.strategy_parse.specs.Core.{declared, declared_in_part, core_module, core_definition}
 
 -- ---- words
 
@@ -52,7 +52,7 @@ pub record SectionsLeft (x : List Token) (m : Module) : Type 0 where
 pub record SignatureLeft (x : List Token) (m : Module) : Type 0 where
   pub parts : List SignaturePart
   pub rest : List Token
-  pub reads : ReadsSignatureParts parts x rest
+  pub reads : ReadsAll ReadsSignaturePart parts x rest
   pub after : Module
   pub left : SectionsLeft rest after
   pub gives : joined (flat_map declared_in_part parts) [] after ≡ m
@@ -61,14 +61,14 @@ pub record SignatureLeft (x : List Token) (m : Module) : Type 0 where
 pub record SortsLeft (x : List Token) (m : Module) : Type 0 where
   pub sorts : List Sort
   pub rest : List Token
-  pub reads : ReadsSorts sorts x rest
+  pub reads : ReadsAll ReadsSort sorts x rest
   pub left : SignatureLeft rest m
 
 -- declarations, followed by the rest as in a signature
 pub record DeclarationsLeft (x : List Token) (m : Module) : Type 0 where
   pub declarations : List Declaration
   pub rest : List Token
-  pub reads : ReadsDeclarations declarations x rest
+  pub reads : ReadsAll ReadsDeclaration declarations x rest
   pub after : Module
   pub left : SignatureLeft rest after
   pub gives : joined (flat_map declared declarations) [] after ≡ m
@@ -77,10 +77,10 @@ pub record DeclarationsLeft (x : List Token) (m : Module) : Type 0 where
 pub record DefinitionsLeft (x : List Token) (m : Module) : Type 0 where
   pub definitions : List Defined
   pub rest : List Token
-  pub reads : ReadsDefinitions definitions x rest
+  pub reads : ReadsAll ReadsDefined definitions x rest
   pub after : Module
   pub left : SectionsLeft rest after
-  pub gives : joined [] (core_definitions definitions) after ≡ m
+  pub gives : joined [] (map core_definition definitions) after ≡ m
 
 abbrev pub Left : Context → List Token → Module → Type 0
 Left Outside x m = SectionsLeft x m
