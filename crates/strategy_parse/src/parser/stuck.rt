@@ -26,14 +26,23 @@ pub fn first_stuck(alloc: Global, tokens: &[Token]) -> Result<Option<usize>, NoM
             Ok(Effect::Goes(next)) => state = next,
             Ok(Effect::Ends(strategy)) => {
                 drop(strategy);
+                drop(stack);
                 return Ok(Some(taken));
             }
-            Err(SyntaxFault::Syntax) => return Ok(Some(taken)),
-            Err(SyntaxFault::Memory) => return Err(NoMemory),
+            Err(SyntaxFault::Syntax) => {
+                drop(stack);
+                return Ok(Some(taken));
+            }
+            Err(SyntaxFault::Memory) => {
+                drop(stack);
+                return Err(NoMemory);
+            }
         }
         taken += 1;
         left = rest;
     }
+    drop(state);
+    drop(stack);
     Ok(None)
 }
 
@@ -84,16 +93,29 @@ fn pass<'a>(
     while let Some((token, rest)) = left.split_first() {
         match pass_token(alloc, state, &mut stack, token) {
             Passed::Goes(next) => state = next,
-            Passed::Ends => return Ok(left),
-            Passed::Stuck => return Err(Stop::At(left)),
-            Passed::Memory => return Err(Stop::Memory),
+            Passed::Ends => {
+                drop(stack);
+                return Ok(left);
+            }
+            Passed::Stuck => {
+                drop(stack);
+                return Err(Stop::At(left));
+            }
+            Passed::Memory => {
+                drop(stack);
+                return Err(Stop::Memory);
+            }
         }
         if within_match && !stack.begins_with_match() {
+            drop(state);
+            drop(stack);
             return Ok(left);
         }
         left = rest;
     }
-    match pass_token(alloc, state, &mut stack, &Token::Bad) {
+    let passed = pass_token(alloc, state, &mut stack, &Token::Bad);
+    drop(stack);
+    match passed {
         Passed::Ends => Ok(left),
         Passed::Memory => Err(Stop::Memory),
         other => {
