@@ -11,7 +11,7 @@ use Rattle.strategy_parse.specs.Grammar.{Mark}
 use Rattle.strategy_parse.specs.GrammarModules.{ReadsSort, ReadsMoreSorts, ReadsOptionalName, ReadsDeclaration}
 use Rattle.strategy_parse.specs.Core.{sort_count, declared}
 use Rattle.strategy_parse.specs.inside.ModuleFronts.{after_mark, SortsLeft, sorts_at, sort_at, DeclaredLeft, named_constructor, after_result, without_arrow, after_arrow, after_arguments, after_colon, declaration_at}
-use Rattle.strategy_parse.proofs.SeenPatterns.{NoMark}
+use Rattle.strategy_parse.specs.inside.NextToken.{NoMark}
 use Rattle.strategy_parse.proofs.HeaderLemmas.{after_found, after_none, mark_found}
 use Rattle.strategy_parse.proofs.SortLemmas.{sorts_counted, sort_alone, to_arrow, at_arrow, SortsFound, sorts_found, sort_found}
 

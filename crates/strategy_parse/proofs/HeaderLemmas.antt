@@ -13,7 +13,7 @@ use Rattle.strategy_parse.specs.Grammar.{◌▸◌, Mark, ReadsNames, ReadsMoreN
 use Rattle.strategy_parse.specs.GrammarModules.{ReadsParameters, ReadsHeader}
 use Rattle.strategy_parse.specs.inside.ModuleFronts.{after_mark, NamesLeft, more_names, names_at, HeaderLeft, make_header, close_header, after_terms, after_bar, without_terms, after_strategies, parameters_at, after_name, header_at}
 use Rattle.strategy_tokens.proofs.MarkLemmas.{mark_self, mark_is}
-use Rattle.strategy_parse.proofs.SeenPatterns.{NoMark}
+use Rattle.strategy_parse.specs.inside.NextToken.{NoMark}
 
 -- ---- a sign that comes first
 

@@ -13,10 +13,6 @@ pub mod FrontGives
 pub mod StackLemmas
 pub mod NameLemmas
 pub mod VariableLemmas
-pub mod SeenPatterns
-pub mod SeenStrategies
-pub mod HiddenLemmas
-pub mod CountLemmas
 pub mod SortLemmas
 pub mod HeaderLemmas
 pub mod DeclarationLemmas
@@ -24,7 +20,6 @@ pub mod SectionWords
 pub mod SectionItems
 pub mod SectionLemmas
 pub mod TitleLemmas
-pub mod ConditionLemmas
 pub mod RuleLemmas
 pub mod ModuleFrames
 pub mod OneModule

@@ -3,7 +3,7 @@ use Rattle.std.proofs.Common.{◌≡◌, ℕ, zero, suc, ◌<◌, ◌≤◌, ref
 use Rattle.std.specs.declared.option.Option.{Option}
 use Rattle.term_core.specs.Tree.{Symbol, same_name}
 use Rattle.strategy_syntax.specs.Syntax as syntax
-use Rattle.strategy_syntax.specs.Syntax.{Pattern, Strategy, scope}
+use Rattle.strategy_syntax.specs.Syntax.{Pattern, Strategy}
 use Rattle.strategy_syntax.specs.Modules.{Module, Constructor, Definition}
 use Rattle.strategy_tokens.specs.declared.token.Token.{Token}
 use Rattle.strategy_tokens.specs.declared.token.Token.TheVariants.{Ident, Wildcard, Reserved, Integer, Text, Sign as ASign, Bad}
@@ -12,15 +12,11 @@ use Rattle.strategy_tokens.specs.declared.token.Keyword.TheVariants.{Module as K
 use Rattle.strategy_tokens.specs.declared.token.Sign.TheVariants.{Colon, Equals, Arrow as RightArrow}
 use Rattle.strategy_parse.specs.declared.modules.sections.Context.{Context}
 use Rattle.strategy_parse.specs.declared.modules.sections.Context.TheVariants.{Outside, Signature as InSignature, Sorts, Constructors, Definitions}
-use Rattle.strategy_parse.specs.Written.{Defined, definition, rule, rule_where}
-use Rattle.strategy_parse.specs.Grammar.{ReadsPattern}
+use Rattle.strategy_parse.specs.Written.{Choice, Defined, definition, rule, rule_where}
+use Rattle.strategy_parse.specs.Grammar.{ReadsPattern, ReadsChoice}
 use Rattle.strategy_parse.specs.GrammarModules.{ReadsDefined}
-use Rattle.strategy_syntax.specs.Variables.{variables}
-use Rattle.strategy_syntax.specs.Lists.{first_ones}
-use Rattle.strategy_parse.specs.Core.{core, core_definition, defined, declared, rewrite, rewrite_where}
+use Rattle.strategy_parse.specs.Core.{core, closed, core_definition, defined, declared, rewrite, rewrite_where}
 use Rattle.strategy_parse.specs.inside.Fronts.{Stops}
-use Rattle.strategy_parse.specs.inside.FreeNames.{names_seen}
-use Rattle.strategy_parse.specs.inside.Parser.{begin}
 use Rattle.strategy_parse.specs.inside.ModuleFronts.{after_mark, header_at, DeclaredLeft}
 use Rattle.strategy_parse.specs.inside.Definitions.{DefinitionEnds}
 use Rattle.strategy_parse.specs.Gives.{GivesModule}
@@ -28,9 +24,8 @@ use Rattle.strategy_parse.specs.inside.Sections.{IsItem, joined, SectionsLeft, S
 use Rattle.strategy_parse.proofs.HeaderLemmas.{after_found, header_named}
 use Rattle.strategy_parse.proofs.SortLemmas.{sort_alone}
 use Rattle.strategy_parse.proofs.DeclarationLemmas.{declaration_named}
-use Rattle.strategy_parse.proofs.FrontGives.{choice-front, pattern-front}
-use Rattle.strategy_parse.proofs.ConditionLemmas.{condition_only}
-use Rattle.strategy_parse.proofs.RuleLemmas.{PatternAt, Headed, headed, rule_only, where_only, body_only, ruled_only}
+use Rattle.strategy_parse.proofs.FrontGives.{choice-front, pattern-front, strategy-only}
+use Rattle.strategy_parse.proofs.RuleLemmas.{PatternAt, ChoiceAt, Headed, headed, rule_only, where_only, body_only, ruled_only}
 use Rattle.strategy_parse.proofs.SectionWords.{WordStep, word_step, left_end}
 use Rattle.strategy_parse.proofs.SectionItems.{outside_item, signature_item, SortStep, sort_step, DeclarationStep, declaration_step, DefinitionStep, definition_step}
 use Rattle.strategy_parse.proofs.TitleLemmas.{title_forth, untitled_forth}
@@ -54,6 +49,9 @@ pattern_at x p y h e = record {
       (is, pair-right (syntax.matches q) (syntax.matches p) z y same);
 }
 
+choice_at : (u : Choice) (x y : List Token) → ReadsChoice u x y → Stops y → ChoiceAt x (core u) y
+choice_at u x y h e = record { given = (u, h, refl); only = strategy-only x [] refl (core u) y (choice-front u x y h e) }
+
 -- any definition there is this one
 abbrev Only : List Token → Definition → List Token → Type 0
 Only x d y = (w : Defined) (z : List Token) → ReadsDefined w x z → DefinitionEnds z → (core_definition w ≡ d) × (z ≡ y)
@@ -72,7 +70,7 @@ definition_one (definition h u) x y r e =
       definition = defined h (core u);
       rest = y;
       only = body_only x h r.0 header r.2.0 sign (core u) y (defined h (core u))
-          (λ w z s k. condition_only r.2.0 (core u) y (choice-front u r.2.0 y r.2.2 e.stops) w z s k) refl;
+          (choice_at u r.2.0 y r.2.2 e.stops).only refl;
     }
 definition_one (rule h p q) x y r e =
     let t : Headed (rule h p q) x y = headed (rule h p q) x y r in
@@ -80,7 +78,7 @@ definition_one (rule h p q) x y r e =
     let plain : after_mark Equals r.0 ≡ None = ap (after_mark Equals) r.2.1 in
     let colon : after_mark Colon r.0 ≡ Some r.2.0 = ap (after_mark Colon) r.2.1 ∙ after_found Colon r.2.0 in
     let arrow : after_mark RightArrow r.2.2.0 ≡ Some r.2.2.2.0 = ap (after_mark RightArrow) r.2.2.2.1 ∙ after_found RightArrow r.2.2.2.0 in
-    let d : Definition = defined h (scope (first_ones same_name h.terms (variables p ++ variables q)) (rewrite p q)) in
+    let d : Definition = defined h (closed h.terms (rewrite p q)) in
     record {
       definition = d;
       rest = y;
@@ -94,15 +92,14 @@ definition_one (rule_where h p q u) x y r e =
     let plain : after_mark Equals r.0 ≡ None = ap (after_mark Equals) r.2.1 in
     let colon : after_mark Colon r.0 ≡ Some r.2.0 = ap (after_mark Colon) r.2.1 ∙ after_found Colon r.2.0 in
     let arrow : after_mark RightArrow r.2.2.0 ≡ Some r.2.2.2.0 = ap (after_mark RightArrow) r.2.2.2.1 ∙ after_found RightArrow r.2.2.2.0 in
-    let names : List Symbol = (variables p ++ variables q) ++ names_seen (begin []) r.2.2.2.2.2.0 in
-    let d : Definition = defined h (scope (first_ones same_name h.terms names) (rewrite_where p q (core u))) in
+    let d : Definition = defined h (closed h.terms (rewrite_where p q (core u))) in
     record {
       definition = d;
       rest = y;
       only = ruled_only x h r.0 header plain r.2.0 colon d y
           (where_only r.2.0 p r.2.2.0 (pattern_at r.2.0 p r.2.2.0 r.2.2.1 (subst Stops (sym r.2.2.2.1) refl)) r.2.2.2.0 arrow q r.2.2.2.2.0
           (pattern_at r.2.2.2.0 q r.2.2.2.2.0 r.2.2.2.2.1 (subst Stops (sym r.2.2.2.2.2.1) refl))
-          r.2.2.2.2.2.0 r.2.2.2.2.2.1 (core u) y (choice-front u r.2.2.2.2.2.0 y r.2.2.2.2.2.2 e.stops) h names d refl refl);
+          r.2.2.2.2.2.0 r.2.2.2.2.2.1 (core u) y (choice_at u r.2.2.2.2.2.0 y r.2.2.2.2.2.2 e.stops) h d refl);
     }
 
 -- ---- the rest is unique

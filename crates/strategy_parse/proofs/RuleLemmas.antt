@@ -1,8 +1,7 @@
 -- Rules and definitions, by the grammar and as the functions read them.
-use Rattle.std.proofs.Common.{◌≡◌, true, false, refl, sym, ap, ◌∙◌, subst, List, [], ◌∷◌, ◌++◌, Some, None, append_assoc}
+use Rattle.std.proofs.Common.{◌≡◌, true, false, refl, sym, ap, ◌∙◌, subst, List, [], ◌∷◌, Some, None}
 use Rattle.std.specs.declared.option.Option.{Option}
-use Rattle.term_core.specs.Tree.{Symbol, same_name}
-use Rattle.strategy_syntax.specs.Syntax.{Pattern, Strategy, scope}
+use Rattle.strategy_syntax.specs.Syntax.{Pattern, Strategy}
 use Rattle.strategy_syntax.specs.Modules.{Definition}
 use Rattle.strategy_tokens.specs.declared.token.Token.{Token}
 use Rattle.strategy_tokens.specs.declared.token.Token.TheVariants.{Reserved, Sign as ASign}
@@ -13,23 +12,26 @@ use Rattle.strategy_tokens.specs.Marks.{is_mark, is_word}
 use Rattle.strategy_parse.specs.Written.{Choice, Header, Defined, definition, rule, rule_where}
 use Rattle.strategy_parse.specs.Grammar.{ReadsPattern, ReadsChoice}
 use Rattle.strategy_parse.specs.GrammarModules.{ReadsHeader, ReadsDefined}
-use Rattle.strategy_syntax.specs.Variables.{variables}
-use Rattle.strategy_syntax.specs.Lists.{first_ones}
-use Rattle.strategy_parse.specs.Core.{core, core_definition, defined, rewrite, rewrite_where, free_in_choice}
+use Rattle.strategy_parse.specs.Core.{core, closed, core_definition, defined, rewrite, rewrite_where}
 use Rattle.strategy_parse.specs.inside.Fronts.{FrontGives, Stops}
-use Rattle.strategy_parse.specs.inside.FreeNames.{next_token, names_seen}
-use Rattle.strategy_parse.specs.inside.Parser.{begin, front}
+use Rattle.strategy_parse.specs.inside.NextToken.{next_token, NoMark}
 use Rattle.strategy_parse.specs.inside.ModuleFronts.{after_mark, header_at, HeaderLeft}
 use Rattle.strategy_parse.specs.inside.Definitions.{DefinitionEnds, DefinitionGives, header_of, ReadsRule, RuleGives}
-use Rattle.strategy_parse.proofs.SeenPatterns.{NoMark}
 use Rattle.strategy_parse.proofs.HeaderLemmas.{after_found, mark_found, header_named, header_found}
-use Rattle.strategy_parse.proofs.ConditionLemmas.{ConditionGives, condition_gives, condition_only, condition_none, names_only}
 
 -- ---- a pattern at the start of x, and the rest
 
 pub record PatternAt (x : List Token) (p : Pattern) (a : List Token) : Type 0 where
   pub given : ReadsPattern p x a
   pub only : (q : Pattern) (y : List Token) → ReadsPattern q x y → Stops y → (q ≡ p) × (y ≡ a)
+
+-- a choice there
+pub record ChoiceAt (x : List Token) (s : Strategy) (a : List Token) : Type 0 where
+  pub given : FrontGives x s a
+  pub only : (u : Choice) (y : List Token) → ReadsChoice u x y → Stops y → (core u ≡ s) × (y ≡ a)
+
+abbrev pub NoChoice : List Token → Type 0
+NoChoice x = (u : Choice) (y : List Token) → ReadsChoice u x y → Stops y → ⊥
 
 arrow_stops : (y z : List Token) → y ≡ ASign RightArrow ∷ z → Stops y
 arrow_stops y z e = subst Stops (sym e) refl
@@ -97,7 +99,7 @@ module _ (x : List Token) (p : Pattern) (a : List Token) (at_left : PatternAt x 
       both_are w y t = at_right.only t.right t.after_right (subst (λ l. ReadsPattern t.right l t.after_right) (right_is w y t) t.reads_right) t.stops
 
       -- both patterns were read, and no condition follows
-      pub rule_gives : (h : Header) (d : Definition) → d ≡ defined h (scope (first_ones same_name h.terms (variables p ++ variables q)) (rewrite p q)) → RuleGives h x d c
+      pub rule_gives : (h : Header) (d : Definition) → d ≡ defined h (closed h.terms (rewrite p q)) → RuleGives h x d c
       rule_gives h d e = record {
         written = rule h p q;
         header = refl;
@@ -108,7 +110,7 @@ module _ (x : List Token) (p : Pattern) (a : List Token) (at_left : PatternAt x 
       same_rule : (h k : Header) (l r : Pattern) → k ≡ h → l ≡ p → r ≡ q → core_definition (rule k l r) ≡ core_definition (rule h p q)
       same_rule h k l r e f g = λ i. core_definition (rule (e i) (f i) (g i))
 
-      pub rule_only : (h : Header) (d : Definition) → d ≡ defined h (scope (first_ones same_name h.terms (variables p ++ variables q)) (rewrite p q))
+      pub rule_only : (h : Header) (d : Definition) → d ≡ defined h (closed h.terms (rewrite p q))
           → is_word Where (next_token c) ≡ false → (w : Defined) (y : List Token) → header_of w ≡ h → ReadsRule w x y → DefinitionEnds y → (core_definition w ≡ d) × (y ≡ c)
       rule_only h d e none (definition k s) y f r ends = absurd r
       rule_only h d e none (rule k l s) y f r ends =
@@ -128,7 +130,7 @@ module _ (x : List Token) (p : Pattern) (a : List Token) (at_left : PatternAt x 
         no_plain : (y : List Token) → y ≡ c → DefinitionEnds y → ⊥
         no_plain y e ends = let no : true ≡ false = sym (ap (λ l. is_word Where (next_token l)) (e ∙ word)) ∙ ends.no_condition in cc
 
-        pub no_condition : front (begin []) z ≡ None → NoRule x
+        pub no_condition : NoChoice z → NoRule x
         no_condition none (definition k s) y r ends = absurd r
         no_condition none (rule k l s) y r ends =
             let t : Patterns (rule k l s) x y = patterns_of (rule k l s) x y r ends in
@@ -136,39 +138,20 @@ module _ (x : List Token) (p : Pattern) (a : List Token) (at_left : PatternAt x 
         no_condition none (rule_where k l s u) y r ends =
             let t : Patterns (rule_where k l s u) x y = patterns_of (rule_where k l s u) x y r ends in
             let at_z : r.2.2.2.0 ≡ z = rest-is r.2.2.2.0 z (sym (both_are (rule_where k l s u) y t).1 ∙ r.2.2.2.1) word in
-            condition_none z none u y (subst (λ m. ReadsChoice u m y) at_z r.2.2.2.2) ends.stops
+            none u y (subst (λ m. ReadsChoice u m y) at_z r.2.2.2.2) ends.stops
 
-        module _ (s : Strategy) (v : List Token) (run : front (begin []) z ≡ Some (s, v)) (h : Header) (names : List Symbol) (d : Definition)
-            (seen : names ≡ (variables p ++ variables q) ++ names_seen (begin []) z)
-            (is : d ≡ defined h (scope (first_ones same_name h.terms names) (rewrite_where p q s))) where
-          given : ConditionGives z s (names_seen (begin []) z) v
-          given = condition_gives z s v run
-
-          all_names : names ≡ variables p ++ (variables q ++ free_in_choice given.choice)
-          all_names =
-              seen ∙ ap (λ l. (variables p ++ variables q) ++ l) (sym given.names)
-              ∙ append_assoc (variables p) (variables q) (free_in_choice given.choice)
-
-          written_is : core_definition (rule_where h p q given.choice) ≡ d
-          written_is =
-              ap (λ l. defined h (scope (first_ones same_name h.terms l) (rewrite_where p q (core given.choice)))) (sym all_names)
-              ∙ ap (λ l. defined h (scope (first_ones same_name h.terms names) (rewrite_where p q l))) given.is ∙ sym is
-
+        module _ (s : Strategy) (v : List Token) (at_choice : ChoiceAt z s v) (h : Header) (d : Definition) (is : d ≡ defined h (closed h.terms (rewrite_where p q s))) where
           pub where_gives : RuleGives h x d v
           where_gives = record {
-            written = rule_where h p q given.choice;
+            written = rule_where h p q at_choice.given.0;
             header = refl;
-            reads = (a, at_left.given, (b, mark_found RightArrow a b arrow, (c, at_right.given, (z, word, given.reads))));
-            is = written_is;
+            reads = (a, at_left.given, (b, mark_found RightArrow a b arrow, (c, at_right.given, (z, word, at_choice.given.1))));
+            is = ap (λ l. defined h (closed h.terms (rewrite_where p q l))) at_choice.given.2 ∙ sym is;
           }
 
-          -- another choice there has the same core form and the same free names
-          same_where : (k : Header) (l r : Pattern) (u : Choice) → k ≡ h → l ≡ p → r ≡ q → core u ≡ s → free_in_choice u ≡ names_seen (begin []) z → core_definition (rule_where k l r u) ≡ d
-          same_where k l r u e f g o n =
-              (λ i. defined (e i) (scope (first_ones same_name (e i).terms (variables (f i) ++ (variables (g i) ++ n i))) (rewrite_where (f i) (g i) (o i))))
-              ∙ ap (λ m. defined h (scope (first_ones same_name h.terms m) (rewrite_where p q s)))
-              (sym (append_assoc (variables p) (variables q) (names_seen (begin []) z)) ∙ sym seen)
-              ∙ sym is
+          -- another choice there has the same core form
+          same_where : (k : Header) (l r : Pattern) (u : Choice) → k ≡ h → l ≡ p → r ≡ q → core u ≡ s → core_definition (rule_where k l r u) ≡ d
+          same_where k l r u e f g o = (λ i. defined (e i) (closed (e i).terms (rewrite_where (f i) (g i) (o i)))) ∙ sym is
 
           pub where_only : (w : Defined) (y : List Token) → header_of w ≡ h → ReadsRule w x y → DefinitionEnds y → (core_definition w ≡ d) × (y ≡ v)
           where_only (definition k t) y f r ends = absurd r
@@ -178,9 +161,8 @@ module _ (x : List Token) (p : Pattern) (a : List Token) (at_left : PatternAt x 
           where_only (rule_where k l t u) y f r ends =
               let m : Patterns (rule_where k l t u) x y = patterns_of (rule_where k l t u) x y r ends in
               let at_z : r.2.2.2.0 ≡ z = rest-is r.2.2.2.0 z (sym (both_are (rule_where k l t u) y m).1 ∙ r.2.2.2.1) word in
-              let reads : ReadsChoice u z y = subst (λ n. ReadsChoice u n y) at_z r.2.2.2.2 in
-              let only = condition_only z s v run u y reads ends.stops in
-              (same_where k l t u f (left_is (rule_where k l t u) y m).0 (both_are (rule_where k l t u) y m).0 only.0 (names_only u z y reads ends.stops), only.1)
+              let only = at_choice.only u y (subst (λ n. ReadsChoice u n y) at_z r.2.2.2.2) ends.stops in
+              (same_where k l t u f (left_is (rule_where k l t u) y m).0 (both_are (rule_where k l t u) y m).0 only.0, only.1)
 
 -- ---- definitions
 
@@ -298,19 +280,3 @@ module _ (x : List Token) (h : Header) (a : List Token) (at_header : header_at x
 
       pub no_ruled : NoRule b → NoDefinition x
       no_ruled none w y r ends = let t : Ruled w y = ruled w y r in none w y t.reads ends
-
--- ---- the parts of a rule
-
-pub rule_built : (h : Header) (p q : Pattern) (start names more : List Symbol) (body : Strategy) (d : Definition) → start ≡ [] → names ≡ start ++ variables p → more ≡ names ++ variables q
-    → body ≡ rewrite p q → d ≡ defined h (scope (first_ones same_name h.terms more) body) → d ≡ defined h (scope (first_ones same_name h.terms (variables p ++ variables q)) (rewrite p q))
-rule_built h p q start names more body d e f g b is =
-    let all : more ≡ variables p ++ variables q = g ∙ ap (λ l. l ++ variables q) (f ∙ ap (λ l. l ++ variables p) e) in
-    is ∙ (λ i. defined h (scope (first_ones same_name h.terms (all i)) (b i)))
-
-pub seen_built : (p q : Pattern) (start names more all l : List Symbol) → start ≡ [] → names ≡ start ++ variables p → more ≡ names ++ variables q
-    → all ≡ more ++ l → all ≡ (variables p ++ variables q) ++ l
-seen_built p q start names more all l e f g h = h ∙ ap (λ m. m ++ l) (g ∙ ap (λ m. m ++ variables q) (f ∙ ap (λ m. m ++ variables p) e))
-
-pub where_built : (h : Header) (p q : Pattern) (s body : Strategy) (names : List Symbol) (d : Definition) → body ≡ rewrite_where p q s → d ≡ defined h (scope (first_ones same_name h.terms names) body)
-    → d ≡ defined h (scope (first_ones same_name h.terms names) (rewrite_where p q s))
-where_built h p q s body names d b is = is ∙ ap (λ r. defined h (scope (first_ones same_name h.terms names) r)) b

@@ -4,6 +4,7 @@ use Rattle.std.specs.Prelude.{if◌then◌else◌}
 use Rattle.term_core.specs.Tree.{Symbol}
 use Rattle.strategy_tokens.specs.declared.token.Token.{Token}
 use Rattle.strategy_tokens.specs.declared.token.Token.TheVariants.{Ident, Wildcard, Reserved, Integer, Text, Sign as ASign, Bad}
+use Rattle.strategy_tokens.specs.declared.token.Sign.{Sign}
 use Rattle.strategy_tokens.specs.declared.token.Sign.TheVariants.{OpenRound, CloseRound, Comma, Arrow as RightArrow, Star}
 use Rattle.strategy_parse.specs.declared.modules.sorts.SortState.{SortState}
 use Rattle.strategy_parse.specs.declared.modules.sorts.SortState.TheVariants.{Begins, Named, Closed}
@@ -16,13 +17,16 @@ use Rattle.strategy_parse.specs.GrammarModules.{ReadsSort, ReadsMoreSorts}
 use Rattle.strategy_parse.specs.Core.{sort_count}
 use Rattle.strategy_parse.specs.inside.ModuleFronts.{SortsLeft, after_sort, begin_sort, sort_step, sort_goes, sorts_from, sorts_at, sort_at, one_sort}
 use Rattle.strategy_tokens.proofs.MarkLemmas.{mark_is}
-use Rattle.strategy_parse.proofs.SeenPatterns.{NoMark, no_mark}
+use Rattle.strategy_parse.specs.inside.NextToken.{next_token, NoMark}
 
 -- the tokens are unchanged
 abbrev pub Nothing : Reading
 Nothing u v = v ≡ u
 
 -- ---- from the grammar to the count
+
+no_mark : (m k : Sign) (y z : List Token) → y ≡ ASign k ∷ z → is_mark m (ASign k) ≡ false → NoMark m y
+no_mark m k y z h e = ap (λ l. is_mark m (next_token l)) h ∙ e
 
 named_closed : (d n : ℕ) (y : List Token) → NoMark OpenRound y → sorts_from Named d n y ≡ sorts_from Closed d n y
 named_closed d n [] e = refl

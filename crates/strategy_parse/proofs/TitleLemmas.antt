@@ -11,7 +11,7 @@ use Rattle.strategy_parse.specs.Written.{Section, signature, definitions}
 use Rattle.strategy_parse.specs.GrammarModules.{ReadsSections}
 use Rattle.strategy_tokens.specs.Marks.{is_word}
 use Rattle.strategy_parse.specs.inside.ModuleFronts.{after_ident}
-use Rattle.strategy_parse.specs.inside.FreeNames.{next_token}
+use Rattle.strategy_parse.specs.inside.NextToken.{next_token}
 use Rattle.strategy_parse.specs.Gives.{GivesModule}
 use Rattle.strategy_parse.specs.inside.Sections.{SectionsLeft, Left}
 

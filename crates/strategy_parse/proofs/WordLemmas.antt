@@ -4,7 +4,7 @@ use Rattle.strategy_tokens.specs.declared.token.Token.{Token}
 use Rattle.strategy_tokens.specs.declared.token.Token.TheVariants.{Reserved}
 use Rattle.strategy_tokens.specs.declared.token.Keyword.{Keyword}
 use Rattle.strategy_tokens.specs.Marks.{is_word}
-use Rattle.strategy_parse.specs.inside.FreeNames.{next_token}
+use Rattle.strategy_parse.specs.inside.NextToken.{next_token}
 use Rattle.strategy_tokens.proofs.MarkLemmas.{word_is}
 
 pub word_first : (w : Keyword) (x : List Token) (t : Token) (ts : List Token) → x ≡ t ∷ ts → is_word w t ≡ true → x ≡ Reserved w ∷ ts

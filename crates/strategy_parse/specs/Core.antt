@@ -1,59 +1,15 @@
 -- The translation of a text's syntax into core forms.
-use Rattle.std.specs.Prelude.{ℕ, suc, List, [], ◌∷◌, ◌++◌, Some, None}
+use Rattle.std.specs.Prelude.{ℕ, suc, List, [], ◌∷◌, map, Some, None}
 use Rattle.std.specs.List.{flat_map}
 use Rattle.term_core.specs.Tree.{Symbol, same_name, list, tuple}
 use Rattle.strategy_syntax.specs.Syntax.{Pattern, Patterns, no_patterns, and_pattern, Strategy, id, fail, matches, builds, seq, guard, test, scope, uses, congruence, tail_congruence, all, one, some, child as nth_child, rec, prim, Strategies, no_strategies, and_strategy}
 use Rattle.strategy_syntax.specs.Modules as syntax
-use Rattle.strategy_syntax.specs.Lists.{first_ones, without}
-use Rattle.strategy_syntax.specs.Variables.{variables, variables_of_all}
+use Rattle.strategy_syntax.specs.Lists.{first_ones}
+use Rattle.strategy_syntax.specs.Variables.{variables}
+use Rattle.strategy_names.specs.Free.{free_variables}
 use Rattle.strategy_parse.specs.declared.parser.state.Operator.{Operator}
 use Rattle.strategy_parse.specs.declared.parser.state.Operator.TheVariants.{All, One, Some as SomeChild, Not, Where, Test}
 use Rattle.strategy_parse.specs.Written.{Choice, sequence, left_choice, guarded_choice, Seq, last, before, Arrow, arrow, Prefix, question, exclamation, application, identity, failure, operator, if_then, if_then_else, recursion, primitive, local, closure, closure_where, round, square, square_with_tail, name, call, call_with_terms, child, Choices, no_choices, and_choice, Sorts, no_sorts, and_sort, Declaration, constant, function, Header, Defined, definition, rule, rule_where, SignaturePart, sorts, constructors, Section, signature, definitions}
-
--- ---- variables
-
--- The variables free in a strategy, in the order of the text: each occurrence in a pattern that no
--- enclosing scope binds. A closure is a scope of the variables of its left side.
-abbrev mutual
-  pub free_in_choice : Choice → List Symbol
-  free_in_choice (sequence a) = free_in_seq a
-  free_in_choice (left_choice a b) = free_in_seq a ++ free_in_choice b
-  free_in_choice (guarded_choice a b c) = free_in_seq a ++ (free_in_seq b ++ free_in_choice c)
-
-  pub free_in_seq : Seq → List Symbol
-  free_in_seq (last a) = free_in_arrow a
-  free_in_seq (before a b) = free_in_arrow a ++ free_in_seq b
-
-  pub free_in_arrow : Arrow → List Symbol
-  free_in_arrow (arrow a ps) = free_in_prefix a ++ variables_of_all ps
-
-  pub free_in_prefix : Prefix → List Symbol
-  free_in_prefix (question p) = variables p
-  free_in_prefix (exclamation p) = variables p
-  free_in_prefix (application a p) = free_in_choice a ++ variables p
-  free_in_prefix identity = []
-  free_in_prefix failure = []
-  free_in_prefix (operator o a) = free_in_choice a
-  free_in_prefix (if_then a b) = free_in_choice a ++ free_in_choice b
-  free_in_prefix (if_then_else a b c) =
-      free_in_choice a ++ (free_in_choice b ++ free_in_choice c)
-  free_in_prefix (recursion f a) = free_in_choice a
-  free_in_prefix (primitive n ps) = variables_of_all ps
-  free_in_prefix (local fs a) = without same_name fs (free_in_choice a)
-  free_in_prefix (closure p q) = without same_name (variables p) (variables q)
-  free_in_prefix (closure_where p q a) =
-      without same_name (variables p) (variables q ++ free_in_choice a)
-  free_in_prefix (round cs) = free_in_choices cs
-  free_in_prefix (square cs) = free_in_choices cs
-  free_in_prefix (square_with_tail cs a) = free_in_choices cs ++ free_in_choice a
-  free_in_prefix (name f) = []
-  free_in_prefix (call f cs) = free_in_choices cs
-  free_in_prefix (call_with_terms f cs ps) = free_in_choices cs ++ variables_of_all ps
-  free_in_prefix (child i a) = free_in_choice a
-
-  pub free_in_choices : Choices → List Symbol
-  free_in_choices no_choices = []
-  free_in_choices (and_choice a cs) = free_in_choice a ++ free_in_choices cs
 
 -- ---- core forms
 
@@ -143,16 +99,16 @@ defined h s = record {
   body = s;
 }
 
+-- the strategy in a scope of the variables that are free in it, except for these parameters
+abbrev pub closed : List Symbol → Strategy → Strategy
+closed parameters s = scope (free_variables parameters s) s
+
 -- A rule is a definition whose body is a scope of the variables free in it, except for its term
 -- parameters.
 abbrev pub core_definition : Defined → syntax.Definition
 core_definition (definition h a) = defined h (core a)
-core_definition (rule h p q) =
-    defined h (scope (first_ones same_name h.terms (variables p ++ variables q)) (rewrite p q))
-core_definition (rule_where h p q a) =
-    defined h
-    (scope (first_ones same_name h.terms (variables p ++ (variables q ++ free_in_choice a)))
-    (rewrite_where p q (core a)))
+core_definition (rule h p q) = defined h (closed h.terms (rewrite p q))
+core_definition (rule_where h p q a) = defined h (closed h.terms (rewrite_where p q (core a)))
 
 abbrev pub declared_in_part : SignaturePart → List syntax.Constructor
 declared_in_part (sorts ss) = []
@@ -162,13 +118,9 @@ abbrev pub declared_in : Section → List syntax.Constructor
 declared_in (signature parts) = flat_map declared_in_part parts
 declared_in (definitions ds) = []
 
-abbrev pub core_definitions : List Defined → List syntax.Definition
-core_definitions [] = []
-core_definitions (d ∷ ds) = core_definition d ∷ core_definitions ds
-
 abbrev pub defined_in : Section → List syntax.Definition
 defined_in (signature parts) = []
-defined_in (definitions ds) = core_definitions ds
+defined_in (definitions ds) = map core_definition ds
 
 -- The declarations and definitions of a module's sections, in the order of the text. Definitions of
 -- the same name are kept apart here: which of them are one definition depends on all loaded modules

@@ -1,7 +1,6 @@
-pub mod Counts
 pub mod Definitions
 pub mod Forms
-pub mod FreeNames
+pub mod NextToken
 pub mod Fronts
 pub mod Parser
 pub mod ModuleFronts

@@ -9,7 +9,7 @@ use Rattle.strategy_parse.specs.Grammar.{Reading, ◌▸◌, Word, Mark, ReadsPa
 use Rattle.strategy_parse.specs.GrammarModules.{ReadsDefined}
 use Rattle.strategy_parse.specs.Core.{core_definition}
 use Rattle.strategy_parse.specs.inside.Fronts.{Stops}
-use Rattle.strategy_parse.specs.inside.FreeNames.{next_token}
+use Rattle.strategy_parse.specs.inside.NextToken.{next_token}
 use Rattle.strategy_tokens.specs.Marks.{is_word}
 
 -- the next token doesn't continue a definition

@@ -1,25 +1,23 @@
 //! Rules, which are definitions whose body is a scope of their variables.
 
 ghost use Rattle.std.specs.Prelude.{◌≡◌, List, IfOk, Err};
-ghost use Rattle.strategy_syntax.specs.Lists.{first_ones};
-ghost use Rattle.strategy_syntax.specs.Syntax.{scope};
-ghost use Rattle.strategy_parse.specs.Core.{core_definition, defined};
+ghost use Rattle.strategy_parse.specs.Core.{closed, core_definition, defined};
 ghost use Rattle.strategy_parse.specs.inside.Definitions.{DefinitionEnds, header_of, ReadsRule, RuleGives};
 ghost use Rattle.strategy_parse.specs.inside.ModuleFronts.{make_header};
 ghost use Rattle.strategy_parse.specs.Written.{Defined};
 ghost use Rattle.strategy_tokens.specs.declared.token.Token.{Token};
-ghost use Rattle.term_core.specs.Tree.{same_name};
 
 use crate::modules::headers::Header;
 use crate::modules::tokens::{after_word, expect_mark};
 use crate::parser::{
-    Condition, ItemList, SyntaxFault, add_variables, first_ones, make_rewrite, make_rewrite_where,
-    make_scope, read_condition, read_pattern,
+    ItemList, SyntaxFault, make_rewrite, make_rewrite_where, make_scope, read_pattern,
+    read_strategy,
 };
 use std::alloc::Global;
-use strategy_syntax::{Definition, Pattern, Strategy};
+use strategy_names::free_names;
+use strategy_syntax::{Definition, Strategy};
 use strategy_tokens::{Keyword, Sign, Token};
-use term_core::{Name, NoMemory};
+use term_core::NoMemory;
 
 /// The rule with this header, whose patterns are at the start of the tokens, and the rest.
 pub fn read_rule<'a>(
@@ -66,34 +64,25 @@ fn read_body<'a>(
     let (before, left) = read_pattern(alloc, tokens)?;
     let rest = expect_mark(left, Sign::Arrow)?;
     let (after, left) = read_pattern(alloc, rest)?;
-    let names = add_variables(&before, ItemList::new(alloc))?;
-    let names = add_variables(&after, names)?;
     let Some(rest) = after_word(left, Keyword::Where) else {
-        let body = make_rewrite(alloc, before, after)?;
-        let body = make_body(alloc, header, &names, body)?;
+        let action = make_rewrite(alloc, before, after)?;
+        let body = close(alloc, header, action)?;
         return Ok((body, left));
     };
-    let (condition, later) = read_condition(alloc, names, rest)?;
-    let Condition { strategy, names } = condition;
-    let body = make_rewrite_where(alloc, before, after, strategy)?;
-    let body = make_body(alloc, header, &names, body)?;
+    let (condition, later) = read_strategy(alloc, rest)?;
+    let action = make_rewrite_where(alloc, before, after, condition)?;
+    let body = close(alloc, header, action)?;
     Ok((body, later))
 }
 
-// The body of a rule: its action in a scope of the names that are no term parameters.
-fn make_body(
-    alloc: Global,
-    header: &Header,
-    names: &ItemList<Name>,
-    body: Strategy,
-) -> Result<Strategy, NoMemory>
-    ensures { IfOk result (λ made. made
-        ≡ scope (first_ones same_name header.now.terms names.now) body) }
+// The action of a rule in a scope of its free variables, except for the term parameters.
+fn close(alloc: Global, header: &Header, action: Strategy) -> Result<Strategy, NoMemory>
+    ensures { IfOk result (λ made. made ≡ closed header.now.terms action) }
 {
-    match first_ones(alloc, names.as_slice(), header.terms.as_slice()) {
-        Ok(names) => make_scope(alloc, names, body),
+    match free_names(alloc, header.terms.as_slice(), &action) {
+        Ok(names) => make_scope(alloc, ItemList::from_vec(names), action),
         Err(error) => {
-            drop(body);
+            drop(action);
             Err(error)
         }
     }

@@ -2,7 +2,7 @@
 #![tactic(auto, using(crate::proofs::WordLemmas::word_rules))]
 
 ghost use Rattle.std.specs.Prelude.{◌≡◌, ◌∷◌, IfOk, IfSome, IfNone, Err, Some, None, false};
-ghost use Rattle.strategy_parse.specs.inside.FreeNames.{next_token};
+ghost use Rattle.strategy_parse.specs.inside.NextToken.{next_token};
 ghost use Rattle.strategy_tokens.specs.Marks.{is_word};
 ghost use Rattle.strategy_parse.specs.inside.ModuleFronts.{after_ident, after_mark};
 

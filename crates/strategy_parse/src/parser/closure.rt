@@ -22,9 +22,9 @@ pub fn scope_of(alloc: Global, left: &Pattern) -> Result<ItemList<Name>, NoMemor
     Ok(kept)
 }
 
-/// The names followed by the variables of the pattern.
+// The names followed by the variables of the pattern.
 #[cycle(variables)]
-pub fn add_variables(pattern: &Pattern, names: ItemList<Name>) -> Result<ItemList<Name>, NoMemory>
+fn add_variables(pattern: &Pattern, names: ItemList<Name>) -> Result<ItemList<Name>, NoMemory>
     ensures { IfOk result (λ more. more ≡ names ++ variables pattern.now) }
 {
     match pattern.form() {

@@ -32,6 +32,13 @@ impl<T: Drop> ItemList<T> {
         }
     }
 
+    /// These items.
+    pub fn from_vec(items: Vec<T>) -> ItemList<T>
+        ensures { result ≡ items.items }
+    {
+        ItemList { items }
+    }
+
     /// The list with one more item.
     pub fn with(self, item: T) -> Result<ItemList<T>, NoMemory>
         ensures { IfOk result (λ more. more ≡ self ++ item ∷ []) }

@@ -5,8 +5,6 @@
 
 mod after;
 mod closure;
-mod condition;
-mod counts;
 mod expect;
 mod fault;
 mod group;
@@ -21,11 +19,8 @@ mod step;
 mod strategies;
 mod stuck;
 
-pub use closure::add_variables;
-pub use condition::{Condition, read_condition};
 pub use fault::SyntaxFault;
 pub use lists::ItemList;
 pub use make::{make_rewrite, make_rewrite_where, make_scope};
-pub use names::first_ones;
 pub use run::{read_pattern, read_strategy};
 pub use stuck::{Stop, first_stuck, pass_pattern, pass_strategy};
