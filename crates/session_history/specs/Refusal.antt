@@ -5,45 +5,32 @@ use Rattle.term_core.specs.declared.label.LabelFault.TheVariants.{Name as NoLabe
 use Rattle.session_history.specs.declared.refusal.Refusal.{Refusal}
 use Rattle.session_history.specs.declared.refusal.Refusal.TheVariants.{Memory, Line, Long, Name, NoTree, NoModule, Term, Deep, Path, Syntax, Check, Fails, Spent, Big, NoUndo, NoRedo, Group, NoGroup}
 
+-- the number and the word of each refusal
+abbrev pub known_as : Refusal → ℕ × List ℕ
+known_as Memory = (1, codes "memory")
+known_as Line = (2, codes "line")
+known_as Long = (3, codes "long")
+known_as Name = (4, codes "name")
+known_as NoTree = (5, codes "notree")
+known_as NoModule = (6, codes "nomodule")
+known_as Term = (7, codes "term")
+known_as Deep = (8, codes "deep")
+known_as Path = (9, codes "path")
+known_as Syntax = (10, codes "syntax")
+known_as (Check kind name n m) = (11, codes "check")
+known_as Fails = (12, codes "fails")
+known_as Spent = (13, codes "spent")
+known_as Big = (14, codes "big")
+known_as NoUndo = (15, codes "noundo")
+known_as NoRedo = (16, codes "noredo")
+known_as Group = (17, codes "group")
+known_as NoGroup = (18, codes "nogroup")
+
 abbrev pub number_of : Refusal → ℕ
-number_of Memory = 1
-number_of Line = 2
-number_of Long = 3
-number_of Name = 4
-number_of NoTree = 5
-number_of NoModule = 6
-number_of Term = 7
-number_of Deep = 8
-number_of Path = 9
-number_of Syntax = 10
-number_of (Check kind name n m) = 11
-number_of Fails = 12
-number_of Spent = 13
-number_of Big = 14
-number_of NoUndo = 15
-number_of NoRedo = 16
-number_of Group = 17
-number_of NoGroup = 18
+number_of refusal = (known_as refusal).0
 
 abbrev pub word_of : Refusal → List ℕ
-word_of Memory = codes "memory"
-word_of Line = codes "line"
-word_of Long = codes "long"
-word_of Name = codes "name"
-word_of NoTree = codes "notree"
-word_of NoModule = codes "nomodule"
-word_of Term = codes "term"
-word_of Deep = codes "deep"
-word_of Path = codes "path"
-word_of Syntax = codes "syntax"
-word_of (Check kind name n m) = codes "check"
-word_of Fails = codes "fails"
-word_of Spent = codes "spent"
-word_of Big = codes "big"
-word_of NoUndo = codes "noundo"
-word_of NoRedo = codes "noredo"
-word_of Group = codes "group"
-word_of NoGroup = codes "nogroup"
+word_of refusal = (known_as refusal).1
 
 -- the refusal for a text that is no label
 abbrev pub label_refusal : LabelFault → Refusal
