@@ -1,33 +1,14 @@
 -- One step back and one step forward are inverse, and so are any number of them.
-use Rattle.std.proofs.Common.{◌≡◌, ◌<◌, ℕ, zero, suc, List, [], ◌∷◌, ◌++◌, length, arith, true, cond, is_none, Some, None, Ok, Err, Option, option_and_then, ok_or, refl, sym, ap, subst, ◌∙◌}
+use Rattle.std.proofs.Common.{◌≡◌, ◌<◌, ℕ, zero, suc, List, [], ◌∷◌, length, arith, true, cond, is_none, Some, None, Ok, Err, Option, option_and_then, ok_or, refl, sym, ap, subst, ◌∙◌}
 use Rattle.std.specs.Option.{option_map_or}
 use Rattle.term_changes.specs.Contents.{Contents}
 use Rattle.session_history.specs.Modules.{Checks}
-use Rattle.session_history.specs.History.{HistoryGroup, History, stepped, newest, older, back_to, step_back, step_forward, moved, undone, redone}
+use Rattle.session_history.specs.History.{HistoryGroup, History, stepped, step_back, step_forward, moved, undone, redone}
 use Rattle.session_history.specs.Acts.{ActResult, Passing, Holding, Given, Leaves, ComesTo, committed, undo, redo}
 use Rattle.session_history.specs.Laws.{ChangeIsUndone, GroupIsUndone, RedoTakesUndoBack, UndoTakesRedoBack}
 use Rattle.session_history.specs.declared.refusal.Refusal.{Refusal}
 use Rattle.session_history.specs.declared.refusal.Refusal.TheVariants.{NoUndo, NoRedo, Group, NoGroup}
 use Rattle.session_history.proofs.StepLemmas.{same_Ok, passing_Ok, holding_Ok, given_Ok, passed, stopped, held, ok_or-Ok, none_of}
-
--- ---- the last of a list
-
-older-append : (c : Contents) (cs : List Contents) (x : Contents) → older c (cs ++ x ∷ []) ≡ c ∷ cs
-older-append c [] x = refl
-older-append c (d ∷ ds) x = ap (λ l. c ∷ l) (older-append d ds x)
-
-newest-append : (c : Contents) (cs : List Contents) (x : Contents) → newest c (cs ++ x ∷ []) ≡ x
-newest-append c [] x = refl
-newest-append c (d ∷ ds) x = newest-append d ds x
-
-older-newest : (c : Contents) (cs : List Contents) → older c cs ++ newest c cs ∷ [] ≡ c ∷ cs
-older-newest c [] = refl
-older-newest c (d ∷ ds) = ap (λ l. c ∷ l) (older-newest d ds)
-
-pub back_to-append : (h : History) (past : List Contents) (x : Contents)
-    → back_to h (past ++ x ∷ []) ≡ Some (record h { past = past; now = x; later = h.now ∷ h.later })
-back_to-append h [] x = refl
-back_to-append h (c ∷ cs) x = λ i. Some (record h { past = older-append c cs x i; now = newest-append c cs x i; later = h.now ∷ h.later })
 
 -- ---- one step
 
@@ -35,10 +16,10 @@ pub same_Some : (g h : History) → Some g ≡ Some h → g ≡ h
 same_Some g h e = cc
 
 step_back-step_forward : (h g : History) → step_forward h ≡ Some g → step_back g ≡ Some h
-step_back-step_forward h g e = grind (arith, back_to-append g h.past h.now)
+step_back-step_forward h g e = grind arith
 
 step_forward-step_back : (h g : History) → step_back h ≡ Some g → step_forward g ≡ Some h
-step_forward-step_back h g e = grind (arith, older-newest)
+step_forward-step_back h g e = grind arith
 
 -- ---- several steps
 
@@ -75,13 +56,9 @@ module _ (move back : History → Option History) (taken : (h m : History) → m
       by (Some m) p rest q = moved_last back k g ∙ ap (option_and_then back) (rest m q) ∙ taken h m p
 
 -- fewer steps than asked for
-length-older : (c : Contents) (cs : List Contents) → length (older c cs) ≡ length cs
-length-older c [] = refl
-length-older c (d ∷ ds) = ap suc (length-older d ds)
-
 pub undone_past : (k : ℕ) (h : History) → length h.past < k → undone k h ≡ None
 undone_past zero h l = absurd (omega (arith, l))
-undone_past (suc k) h l = grind (arith, undone_past k, length-older)
+undone_past (suc k) h l = grind (arith, undone_past k)
 
 pub redone_past : (k : ℕ) (h : History) → length h.later < k → redone k h ≡ None
 redone_past zero h l = absurd (omega (arith, l))
@@ -136,7 +113,7 @@ step_is_undone from c h none g e =
     let then : History = record (stepped from h) { now = c } in
     let back : History = record h { now = from; later = c ∷ [] } in
     subst Back e (
-      goes then back (undone 1 then) NoUndo none (and_then-Some _ ∙ back_to-append then h.past from),
+      goes then back (undone 1 then) NoUndo none refl,
       goes back then (redone 1 back) NoRedo none refl,
     )
 

@@ -24,7 +24,6 @@ use Rattle.session_history.specs.declared.timeline.OpenGroup.{OpenGroup}
 use Rattle.session_history.proofs.AllLemmas.{all_and, all_take, all_set, all_at}
 use Rattle.session_history.proofs.TimelineLemmas.{fits-append, IsGrowth, rewound_grown, past_grown, later_grown, length-past_of, length-later_of, grouped_past, grouped_later, grouped_back, grouped_forward, grouped_within, back_past, back_later, back_back, back_forward, forward_later, forward_past, forward_back, forward_forward}
 use Rattle.session_history.proofs.StepLemmas.{some_there}
-use Rattle.session_history.proofs.HistoryLemmas.{back_to-append}
 
 -- ---- slots
 
@@ -183,9 +182,9 @@ module _ (t : Logged) (s : Store) (logs : List (List Entry)) (log new : List Ent
 
   many_unfolded : (ps : List Signature) → unfolded ps (record t { store = s; logs = logs; position = q }) ≡ changed (contents s) (unfolded ps t)
   many_unfolded ps =
-      let past : past_of (take q logs) (before t.current s) ≡ past_of (take t.position t.logs) (before t.current t.store) ++ contents t.store ∷ [] =
+      let past : past_of (take q logs) (before t.current s) ≡ contents t.store ∷ past_of (take t.position t.logs) (before t.current t.store) =
       (λ i. past_of (take (next i) (step.all i)) (bare_now i)) ∙ grouped_past t.logs t.position s step.left h.within
-      ∙ (λ i. past_of (take t.position t.logs) ((leads_back ∙ sym bare_then) i) ++ contents (leads_back i) ∷ []) in
+      ∙ (λ i. contents (leads_back i) ∷ past_of (take t.position t.logs) ((leads_back ∙ sym bare_then) i)) in
       let later : later_of (drop q logs) (before t.current s) ≡ [] =
       (λ i. later_of (drop (next i) (step.all i)) (bare_now i)) ∙ grouped_later t.logs t.position s step.left h.within in
       rw closed (cc (past, later))
@@ -253,14 +252,13 @@ module _ (t : Logged) (q : ℕ) (s : Store) (logs : List (List Entry)) (log : Li
 
     pub unfolded_back : (ps : List Signature) → step_back (unfolded ps t) ≡ Some (unfolded ps (record t { store = s; logs = logs; position = q }))
     unfolded_back ps =
-        let past : past_of (take t.position t.logs) (before t.current t.store) ≡ past_of (take q logs) (before t.current s) ++ contents s ∷ [] =
+        let past : past_of (take t.position t.logs) (before t.current t.store) ≡ contents s ∷ past_of (take q logs) (before t.current s) =
         (λ i. past_of (take (sym back i) t.logs) (start t.store i)) ∙ back_past t.logs q t.store log at inside
-        ∙ (λ i. past_of (take q (sym all i)) (sym now_is i) ++ contents (sym is i) ∷ []) in
+        ∙ (λ i. contents (sym is i) ∷ past_of (take q (sym all i)) (sym now_is i)) in
         let later : contents t.store ∷ later_of (drop t.position t.logs) (before t.current t.store) ≡ later_of (drop q logs) (before t.current s) =
         (λ i. contents t.store ∷ later_of (drop (sym back i) t.logs) (start t.store i)) ∙ sym (back_later t.logs q t.store log at inside)
         ∙ (λ i. later_of (drop q (sym all i)) (sym now_is i)) in
-        ap (back_to (unfolded ps t)) past ∙ back_to-append (unfolded ps t) (past_of (take q logs) (before t.current s)) (contents s)
-        ∙ rw closed (cc later)
+        ap (back_to (unfolded ps t)) past ∙ rw closed (cc later)
 
   module _ (forth : q ≡ t.position) (is : s ≡ after log t.store) (all : logs ≡ set t.logs q (flipped_forward log t.store)) where
     fit_after : FitBack (take q t.logs) t.store
@@ -287,8 +285,8 @@ module _ (t : Logged) (q : ℕ) (s : Store) (logs : List (List Entry)) (log : Li
         let later : later_of (drop t.position t.logs) (before t.current t.store) ≡ contents s ∷ later_of (drop (q + 1) logs) (before t.current s) =
         (λ i. later_of (drop (sym forth i) t.logs) (start t.store i)) ∙ forward_later t.logs q t.store log at inside
         ∙ (λ i. contents (sym is i) ∷ later_of (drop (q + 1) (sym all i)) (sym then_is i)) in
-        let past : past_of (take t.position t.logs) (before t.current t.store) ++ contents t.store ∷ [] ≡ past_of (take (q + 1) logs) (before t.current s) =
-        (λ i. past_of (take (sym forth i) t.logs) (start t.store i) ++ contents t.store ∷ []) ∙ sym (forward_past t.logs q t.store log at inside)
+        let past : contents t.store ∷ past_of (take t.position t.logs) (before t.current t.store) ≡ past_of (take (q + 1) logs) (before t.current s) =
+        (λ i. contents t.store ∷ past_of (take (sym forth i) t.logs) (start t.store i)) ∙ sym (forward_past t.logs q t.store log at inside)
         ∙ (λ i. past_of (take (q + 1) (sym all i)) (sym then_is i)) in
         ap (forward_to (unfolded ps t)) later ∙ rw closed (cc past)
 
@@ -351,8 +349,8 @@ module _ (t : Logged) (changed : Bool) (there : IsSome t.group) (flag : changed 
     committed_unfolded : changed ≡ true → (ps : List Signature)
         → IsSomeAnd (unfolded ps t).group (λ k. unfolded ps (record t { logs = logs; position = q; group = None; current = new }) ≡ committed k (unfolded ps t))
     committed_unfolded some ps =
-        let past : past_of (take t.position t.logs) (before t.current t.store) ++ contents (before t.current t.store) ∷ [] ≡ past_of (take q logs) (before new t.store) =
-        (λ i. past_of (take t.position t.logs) (sym left_back i) ++ contents (sym left_back i) ∷ []) ∙ sym (grouped_past t.logs t.position t.store step.left h.within) ∙ (λ i. past_of (take (sym next i) (sym step.all i)) (sym begins i)) in
+        let past : contents (before t.current t.store) ∷ past_of (take t.position t.logs) (before t.current t.store) ≡ past_of (take q logs) (before new t.store) =
+        (λ i. contents (sym left_back i) ∷ past_of (take t.position t.logs) (sym left_back i)) ∙ sym (grouped_past t.logs t.position t.store step.left h.within) ∙ (λ i. past_of (take (sym next i) (sym step.all i)) (sym begins i)) in
         let later : [] ≡ later_of (drop q logs) (before new t.store) =
         sym (grouped_later t.logs t.position t.store step.left h.within) ∙ (λ i. later_of (drop (sym next i) (sym step.all i)) (sym begins i)) in
         committing ps (unfolded ps (record t { logs = logs; position = q; group = None; current = new }))

@@ -21,13 +21,12 @@ use Rattle.strategy_syntax.specs.Syntax.{Strategy}
 use Rattle.strategy_meaning.specs.Applied.{Outcome as Ending, gives, fails, stops, IfGiven, applied}
 use Rattle.strategy_meaning.specs.Laws.{AppliedKeepsHeights}
 use Rattle.session_history.specs.Modules.{Texts, ReadsAsModule, AreReadable, AreRead, Finds, GivesProgram, Checks}
-use Rattle.session_history.specs.History.{HistoryGroup, History, stepped, changed, newest, older, back_to, forward_to, step_back, step_forward, undone, redone, AreLow, AreFormed, AreSound, IsSoundNow, HasSoundContents}
+use Rattle.session_history.specs.History.{HistoryGroup, History, stepped, changed, back_to, forward_to, step_back, step_forward, undone, redone, AreLow, AreFormed, AreSound, IsSoundNow, HasSoundContents}
 use Rattle.session_history.specs.Acts.{Act, set_tree, copy_tree, drop_tree, put, annotate, set_module, unload, apply, undo, redo, begin, commit, abandon, Passing, Leaves, ChangesTo, ChangesModules, Given, PutsAt, AnnotatesAt, AppliesAt, Located, ActResult, ComesTo, tree_of, module_text_of, place_of, committed}
 use Rattle.session_history.specs.Applying.{ReadsAsStrategy, resolved_in, world_in, given_by}
 use Rattle.session_history.specs.Laws.{ChangeIsToContents}
 use Rattle.session_history.specs.declared.refusal.Refusal.{Refusal}
 use Rattle.session_history.specs.declared.refusal.Refusal.TheVariants.{NoTree, Big, NoUndo, NoRedo, Group, NoGroup}
-use Rattle.session_history.proofs.AllLemmas.{all_and}
 use Rattle.session_history.proofs.HistoryLemmas.{same_Some, moved_keeps}
 use Rattle.session_history.proofs.MapLemmas.{no_keys}
 use Rattle.session_history.proofs.StepLemmas.{same_Ok, passing_Ok, holding_Ok, given_Ok, ok_or-Ok, none_of, place_tree}
@@ -135,15 +134,6 @@ height_of_annotated t us p h f =
 
 -- ---- histories
 
-module _ (P : Contents → Type 0) where
-  All-older : (c : Contents) (cs : List Contents) → AllByRecursion P (c ∷ cs) → AllByRecursion P (older c cs)
-  All-older c [] h = tt
-  All-older c (d ∷ ds) h = (h.0, All-older d ds h.1)
-
-  All-newest : (c : Contents) (cs : List Contents) → AllByRecursion P (c ∷ cs) → P (newest c cs)
-  All-newest c [] h = h.0
-  All-newest c (d ∷ ds) h = All-newest d ds h.1
-
 -- the current contents are well formed, and outside a group they are sound
 pub formed_now : (ps : Primitives) (c : Contents) (o : Option HistoryGroup) → IsSoundNow ps c o → AreFormed c
 formed_now ps c o s = grind arith
@@ -159,7 +149,7 @@ sound_changed c h s k f = by h.group refl s.1
   where
     by : (o : Option HistoryGroup) → h.group ≡ o → IsSoundNow h.primitives h.now o
         → HasSoundContents (option_map_or (λ g. record h { now = c; group = Some (record g { changed = true }) }) o (record (stepped h.now h) { now = c }))
-    by None e n = (all_and (AreSound h.primitives) h.past h.now s.0 n, subst (IsSoundNow h.primitives c) (sym e) (k, f e), tt)
+    by None e n = ((n, s.0), subst (IsSoundNow h.primitives c) (sym e) (k, f e), tt)
     by (Some group) e n = (s.0, (k, n.1, tt), s.2)
 
 -- a sound history without an open group
@@ -178,14 +168,14 @@ whole_back h g w e = by h.past w.1.0 e
     by : (past : List Contents) → AllByRecursion (AreSound h.primitives) past → back_to h past ≡ Some g → Whole g
     by [] a e = absurd (cc)
     by (c ∷ cs) a e =
-        subst Whole (same_Some _ _ e) (w.0, (All-older (AreSound h.primitives) c cs a, All-newest (AreSound h.primitives) c cs a, (w.1.1, w.1.2)))
+        subst Whole (same_Some _ _ e) (w.0, (a.1, a.0, (w.1.1, w.1.2)))
 
 whole_forward : (h g : History) → Whole h → step_forward h ≡ Some g → Whole g
 whole_forward h g w e = by h.later w.1.2 e
   where
     by : (later : List Contents) → AllByRecursion (AreSound h.primitives) later → forward_to h later ≡ Some g → Whole g
     by [] a e = absurd (cc)
-    by (c ∷ cs) a e = subst Whole (same_Some _ _ e) (w.0, (all_and (AreSound h.primitives) h.past h.now w.1.0 w.1.1, a.0, a.1))
+    by (c ∷ cs) a e = subst Whole (same_Some _ _ e) (w.0, ((w.1.1, w.1.0), a.0, a.1))
 
 -- ---- acts
 
@@ -193,7 +183,7 @@ pub sound_committed : (group : HistoryGroup) (h : History) → HasSoundContents 
 sound_committed group h s inside found =
     let now : AreSound h.primitives h.now = (formed_now h.primitives h.now h.group s.1, found) in
     elim group.changed as (λ b. HasSoundContents (cond b (record (stepped group.begun h) { group = None }) (record h { group = None }))) [
-      | true ↦ (all_and (AreSound h.primitives) h.past group.begun s.0 (sound_begun h group s inside), now, tt)
+      | true ↦ ((sound_begun h group s inside, s.0), now, tt)
       | false ↦ (s.0, now, s.2)
     ]
 

@@ -14,9 +14,9 @@ pub rewound-append : (ls : List (List Entry)) (l : List Entry) (s : Store) → r
 rewound-append [] l s = refl
 rewound-append (k ∷ ls) l s = ap (before k) (rewound-append ls l s)
 
-pub past_of-append : (ls : List (List Entry)) (l : List Entry) (s : Store) → past_of (ls ++ l ∷ []) s ≡ past_of ls (before l s) ++ contents (before l s) ∷ []
+pub past_of-append : (ls : List (List Entry)) (l : List Entry) (s : Store) → past_of (ls ++ l ∷ []) s ≡ contents (before l s) ∷ past_of ls (before l s)
 past_of-append [] l s = refl
-past_of-append (k ∷ ls) l s = λ i. contents (before k (rewound-append ls l s i)) ∷ past_of-append ls l s i
+past_of-append (k ∷ ls) l s = λ i. past_of-append ls l s i ++ contents (before k (rewound-append ls l s i)) ∷ []
 
 pub FitBack-append : (ls : List (List Entry)) (l : List Entry) (s : Store) → FitBack ls (before l s) → Fits l s → FitBack (ls ++ l ∷ []) s
 FitBack-append [] l s h f = (f, tt)
@@ -51,7 +51,7 @@ module _ {A : Type 0} where
 
 pub length-past_of : (ls : List (List Entry)) (s : Store) → length (past_of ls s) ≡ length ls
 length-past_of [] s = refl
-length-past_of (l ∷ ls) s = ap suc (length-past_of ls s)
+length-past_of (l ∷ ls) s = omega (arith, length-past_of ls s, length-append (past_of ls s) (contents (before l (rewound ls s)) ∷ []))
 
 pub length-later_of : (ls : List (List Entry)) (s : Store) → length (later_of ls s) ≡ length ls
 length-later_of [] s = refl
@@ -90,7 +90,7 @@ module _ (grow : Store → Store) (is : IsGrowth grow) where
   pub past_grown : (ls : List (List Entry)) (s : Store) → FitBack ls s → past_of ls (grow s) ≡ past_of ls s
   past_grown [] s h = refl
   past_grown (l ∷ ls) s h =
-      λ i. (ap contents ((rewound_grown (l ∷ ls) s h).1) ∙ is.same (before l (rewound ls s))) i ∷ past_grown ls s h.1 i
+      λ i. past_grown ls s h.1 i ++ (ap contents ((rewound_grown (l ∷ ls) s h).1) ∙ is.same (before l (rewound ls s))) i ∷ []
 
   pub later_grown : (ls : List (List Entry)) (s : Store) → FitForward ls s → FitForward ls (grow s) × (later_of ls (grow s) ≡ later_of ls s)
   later_grown [] s h = (tt, refl)
@@ -104,7 +104,7 @@ module _ (grow : Store → Store) (is : IsGrowth grow) where
 -- ---- a group as a step
 
 module _ (ls : List (List Entry)) (p : ℕ) (s : Store) (log : List Entry) (inside : p ≤ length ls) where
-  pub grouped_past : past_of (take (p + 1) (take p ls ++ log ∷ [])) s ≡ past_of (take p ls) (before log s) ++ contents (before log s) ∷ []
+  pub grouped_past : past_of (take (p + 1) (take p ls ++ log ∷ [])) s ≡ contents (before log s) ∷ past_of (take p ls) (before log s)
   grouped_past = ap (λ l. past_of l s) (take_pushed p ls log inside) ∙ past_of-append (take p ls) log s
 
   pub grouped_later : later_of (drop (p + 1) (take p ls ++ log ∷ [])) s ≡ []
@@ -126,10 +126,10 @@ module _ (ls : List (List Entry)) (q : ℕ) (s : Store) (log : List Entry) (at :
   abbrev pub flipped : List Entry
   flipped = flipped_back log s
 
-  pub back_past : past_of (take (q + 1) ls) s ≡ past_of (take q (set ls q flipped)) (before log s) ++ contents (before log s) ∷ []
+  pub back_past : past_of (take (q + 1) ls) s ≡ contents (before log s) ∷ past_of (take q (set ls q flipped)) (before log s)
   back_past =
       ap (λ l. past_of l s) (take_next q ls log at) ∙ past_of-append (take q ls) log s
-      ∙ ap (λ l. past_of l (before log s) ++ contents (before log s) ∷ []) (sym (take-set ls q flipped))
+      ∙ ap (λ l. contents (before log s) ∷ past_of l (before log s)) (sym (take-set ls q flipped))
 
   pub back_later : later_of (drop q (set ls q flipped)) (before log s) ≡ contents s ∷ later_of (drop (q + 1) ls) s
   back_later =
@@ -158,10 +158,10 @@ module _ (ls : List (List Entry)) (q : ℕ) (s : Store) (log : List Entry) (at :
   forward_later =
       ap (λ l. later_of l s) (drop_next q ls log at) ∙ ap (λ l. contents (after log s) ∷ later_of l (after log s)) (sym (drop-set-lt (q + 1) ls q returned (omega arith)))
 
-  pub forward_past : past_of (take (q + 1) (set ls q returned)) (after log s) ≡ past_of (take q ls) s ++ contents s ∷ []
+  pub forward_past : past_of (take (q + 1) (set ls q returned)) (after log s) ≡ contents s ∷ past_of (take q ls) s
   forward_past =
       ap (λ l. past_of l (after log s)) (take_more_set ls q returned inside) ∙ past_of-append (take q ls) returned (after log s)
-      ∙ ap (λ t. past_of (take q ls) t ++ contents t ∷ []) (store_from_before log s)
+      ∙ ap (λ t. contents t ∷ past_of (take q ls) t) (store_from_before log s)
 
   led : FitForward (drop q ls) s → FitsForward log s × FitForward (drop (q + 1) ls) (after log s)
   led f = subst (λ l. FitForward l s) (drop_next q ls log at) f

@@ -1,6 +1,6 @@
 -- What a session holds: the current contents, those from before each step, those that were undone,
 -- and the open group.
-use Rattle.std.specs.Prelude.{◌≡◌, ◌≤◌, ℕ, zero, suc, Bool, true, List, [], ◌∷◌, ◌++◌, Some, None, IfSome, option_and_then}
+use Rattle.std.specs.Prelude.{◌≡◌, ◌≤◌, ℕ, zero, suc, Bool, true, List, [], ◌∷◌, Some, None, IfSome, option_and_then}
 use Rattle.std.specs.declared.option.Option.{Option}
 use Rattle.std.specs.Option.{option_map_or}
 use Rattle.std.specs.Bool.{OnFalse}
@@ -19,7 +19,7 @@ pub record HistoryGroup : Type 0 where
   pub begun : Contents
   pub changed : Bool
 
--- The primitives of the session; the contents from before each step, the newest last; the current
+-- The primitives of the session; the contents from before each step, the newest first; the current
 -- contents; those that were undone, the nearest first; and the open group, if there is one.
 pub record History : Type 0 where
   pub primitives : List Signature
@@ -36,7 +36,7 @@ empty_history primitives =
 -- One more step, from these contents to the current ones: the former become past, and nothing is
 -- later.
 abbrev pub stepped : Contents → History → History
-stepped from h = record h { past = h.past ++ from ∷ []; later = [] }
+stepped from h = record h { past = from ∷ h.past; later = [] }
 
 -- An accepted change to these contents. It is a step of its own or, in a group, part of the group's
 -- step.
@@ -45,22 +45,11 @@ changed c h =
     option_map_or (λ g. record h { now = c; group = Some (record g { changed = true }) }) h.group
     (record (stepped h.now h) { now = c })
 
--- the last of c and the contents after it
-abbrev pub newest : Contents → List Contents → Contents
-newest c [] = c
-newest c (d ∷ ds) = newest d ds
-
--- c and the contents after it, without the last
-abbrev pub older : Contents → List Contents → List Contents
-older c [] = []
-older c (d ∷ ds) = c ∷ older d ds
-
 -- One step back, if there is a past: the newest past contents become current, and the current ones
 -- become the nearest later ones.
 abbrev pub back_to : History → List Contents → Option History
 back_to h [] = None
-back_to h (c ∷ cs) =
-    Some (record h { past = older c cs; now = newest c cs; later = h.now ∷ h.later })
+back_to h (c ∷ cs) = Some (record h { past = cs; now = c; later = h.now ∷ h.later })
 
 abbrev pub step_back : History → Option History
 step_back h = back_to h h.past
@@ -69,7 +58,7 @@ step_back h = back_to h h.past
 -- current ones become the newest past ones.
 abbrev pub forward_to : History → List Contents → Option History
 forward_to h [] = None
-forward_to h (c ∷ cs) = Some (record h { past = h.past ++ h.now ∷ []; now = c; later = cs })
+forward_to h (c ∷ cs) = Some (record h { past = h.now ∷ h.past; now = c; later = cs })
 
 abbrev pub step_forward : History → Option History
 step_forward h = forward_to h h.later

@@ -1,5 +1,5 @@
 -- What the logs of a session represent: the whole contents before and after each step.
-use Rattle.std.specs.Prelude.{◌≡◌, ◌≤◌, ℕ, List, [], ◌∷◌, length, take, drop, true, Some, None, option_map}
+use Rattle.std.specs.Prelude.{◌≡◌, ◌≤◌, ℕ, List, [], ◌∷◌, ◌++◌, length, take, drop, true, Some, None, option_map}
 use Rattle.std.specs.declared.option.Option.{Option}
 use Rattle.std.specs.Bool.{OnFalse}
 use Rattle.std.specs.List.{AllByRecursion}
@@ -27,10 +27,10 @@ abbrev pub rewound : List (List Entry) → Store → Store
 rewound [] s = s
 rewound (log ∷ logs) s = before log (rewound logs s)
 
--- the contents before each of the steps
+-- the contents before each of the steps, the newest first
 abbrev pub past_of : List (List Entry) → Store → List Contents
 past_of [] s = []
-past_of (log ∷ logs) s = contents (before log (rewound logs s)) ∷ past_of logs s
+past_of (log ∷ logs) s = past_of logs s ++ contents (before log (rewound logs s)) ∷ []
 
 -- the contents after each of the steps that these logs redo, the nearest first
 abbrev pub later_of : List (List Entry) → Store → List Contents
