@@ -1,34 +1,47 @@
 -- The text of a preview, by the entries of its plan.
-use Rattle.std.proofs.Common.{◌≡◌, ℕ, List, [], ◌∷◌, ◌++◌, length, map, Some, refl, sym, ap, subst, ◌∙◌}
-use Rattle.std.proofs.lemmas.List.{length-map}
+use Rattle.std.proofs.Common.{◌≡◌, ℕ, List, [], ◌∷◌, ◌++◌, length, Some, refl, sym, ap, subst, ◌∙◌}
+use Rattle.std.proofs.lemmas.Slice.Zip.{AllZip-long}
 use Rattle.std.specs.Prelude.{unwrap_or}
-use Rattle.std.specs.List.{flat_map}
+use Rattle.std.specs.List.{flat_map, AllZip}
 use Rattle.term_core.specs.Tree.{Tree}
-use Rattle.term_changes.specs.Entries.{Entry}
-use Rattle.session_history.specs.Preview.{Replacement, Preview, part_at}
-use Rattle.session_core.specs.Previewing.{entry_for, AreThere}
+use Rattle.term_paths.specs.Paths.{at}
+use Rattle.term_changes.specs.Entries.{Entry, slot_tree, subterm, subterm_annotations, slot_text}
+use Rattle.session_history.specs.Preview.{Replacement, Preview}
+use Rattle.session_core.specs.Previewing.{IsEntryFor, AreThere}
 use Rattle.script_text.specs.Replies.{replacement_line, preview_line, preview_text}
-use Rattle.script_core.specs.inside.PreviewLines.{AreSubterms, entry_line}
+use Rattle.script_core.specs.inside.PreviewLines.{AreSubterms, part_at, entry_line}
 
-subterms_of : (slot : ℕ) (rs : List Replacement) → AreSubterms (map (entry_for slot) rs)
-subterms_of slot [] = tt
-subterms_of slot (r ∷ rs) = subterms_of slot rs
+pub are_subterms : (plan : List Entry) (rs : List Replacement) → AllZip IsEntryFor plan rs → AreSubterms plan
+are_subterms [] rs are = tt
+are_subterms (subterm slot path t ∷ es) [] are = absurd are
+are_subterms (subterm slot path t ∷ es) (r ∷ rs) are = are_subterms es rs are.1
+are_subterms (slot_tree slot t ∷ es) [] are = absurd are
+are_subterms (slot_tree slot t ∷ es) (r ∷ rs) are = absurd are.0
+are_subterms (subterm_annotations slot path ts ∷ es) [] are = absurd are
+are_subterms (subterm_annotations slot path ts ∷ es) (r ∷ rs) are = absurd are.0
+are_subterms (slot_text slot x ∷ es) [] are = absurd are
+are_subterms (slot_text slot x ∷ es) (r ∷ rs) are = absurd are.0
 
-pub are_subterms : (slot : ℕ) (plan : List Entry) (rs : List Replacement) → plan ≡ map (entry_for slot) rs → AreSubterms plan
-are_subterms slot plan rs is = subst AreSubterms (sym is) (subterms_of slot rs)
+entry_line-is : (tree : Tree) (e : Entry) (r : Replacement) → IsEntryFor e r → at tree r.path ≡ Some r.old → entry_line tree e ≡ replacement_line r
+entry_line-is tree (subterm slot path t) r is there =
+    let old : part_at tree path ≡ r.old = ap (part_at tree) is.0 ∙ ap (λ o. unwrap_or o tree) there in
+    (λ i. replacement_line (record { path = is.0 i; old = old i; new = is.1 i }))
+entry_line-is tree (slot_tree slot t) r is there = absurd is
+entry_line-is tree (subterm_annotations slot path ts) r is there = absurd is
+entry_line-is tree (slot_text slot x) r is there = absurd is
 
-lines_of : (tree : Tree) (slot : ℕ) (rs : List Replacement) → AreThere tree rs → flat_map (entry_line tree) (map (entry_for slot) rs) ≡ flat_map replacement_line rs
-lines_of tree slot [] there = refl
-lines_of tree slot (r ∷ rs) there =
-    let old : part_at tree r.path ≡ r.old = ap (λ o. unwrap_or o tree) there.0 in
-    (λ i. replacement_line (record { path = r.path; old = old i; new = r.new }) ++ lines_of tree slot rs there.1 i)
+lines_of : (tree : Tree) (plan : List Entry) (rs : List Replacement) → AllZip IsEntryFor plan rs → AreThere tree rs → flat_map (entry_line tree) plan ≡ flat_map replacement_line rs
+lines_of tree [] [] are there = refl
+lines_of tree [] (r ∷ rs) are there = absurd are
+lines_of tree (e ∷ es) [] are there = absurd are
+lines_of tree (e ∷ es) (r ∷ rs) are there = λ i. entry_line-is tree e r are.0 there.0 i ++ lines_of tree es rs are.1 there.1 i
 
 pub same_tree : (t u : Tree) → Some t ≡ Some u → t ≡ u
 same_tree t u e = cc
 
-pub text_of_plan : (tree : Tree) (slot : ℕ) (plan : List Entry) (steps : ℕ) (shown : Preview) → plan ≡ map (entry_for slot) shown.replacements → steps ≡ shown.steps
+pub text_of_plan : (tree : Tree) (plan : List Entry) (steps : ℕ) (shown : Preview) → AllZip IsEntryFor plan shown.replacements → steps ≡ shown.steps
     → AreThere tree shown.replacements → preview_line (length plan) steps ++ flat_map (entry_line tree) plan ≡ preview_text shown
-text_of_plan tree slot plan steps shown is same there =
-    let count = ap length is ∙ length-map shown.replacements (entry_for slot) in
-    let lines = ap (flat_map (entry_line tree)) is ∙ lines_of tree slot shown.replacements there in
+text_of_plan tree plan steps shown are same there =
+    let count = sym (AllZip-long IsEntryFor plan shown.replacements are) in
+    let lines = lines_of tree plan shown.replacements are there in
     (λ i. preview_line (count i) (same i) ++ lines i)

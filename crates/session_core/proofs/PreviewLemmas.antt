@@ -1,17 +1,18 @@
 -- What a run foresees, in the words of a session.
 use Rattle.std.proofs.Common.{◌≡◌, ◌-◌, ◌⊎◌, ℕ, List, [], ◌∷◌, ◌++◌, length, map, Option, Some, None, IsSome, Result, Ok, Err, IfOk, IfErr, inl, inr, refl, sym, ap, subst, ◌∙◌, arith}
 use Rattle.std.specs.Prelude.{option_and_then, unwrap_or}
+use Rattle.std.specs.List.{AllZip}
 use Rattle.prim_core.specs.Signature.{Signature}
 use Rattle.term_core.specs.Tree.{Tree}
 use Rattle.term_paths.specs.Paths.{at, set_at}
 use Rattle.term_paths.specs.Laws.{AreApart}
-use Rattle.term_paths.specs.Edits.{Edits, Replaces, prefixed, edited}
+use Rattle.term_paths.specs.Edits.{Edit, Edits, Replaces, prefixed, edited}
 use Rattle.term_paths.proofs.PathLemmas.{at-append}
 use Rattle.term_paths.proofs.LawLemmas.{set_is_there}
 use Rattle.term_paths.proofs.ApartLemmas.{apart_is_left}
 use Rattle.term_changes.specs.Putting.{ApartFromAll, entries_at}
 use Rattle.term_changes.proofs.OrderLemmas.{left_apart}
-use Rattle.term_changes.specs.Entries.{subterm, subterm_in}
+use Rattle.term_changes.specs.Entries.{subterm_in}
 use Rattle.strategy_syntax.specs.declared.resolved.Resolved.{Resolved}
 use Rattle.strategy_check.specs.Programs.{Program}
 use Rattle.strategy_meaning.specs.Answer.{Answer, done, failed, stopped}
@@ -21,14 +22,14 @@ use Rattle.strategy_meaning.specs.Meaning.{run_whole}
 use Rattle.strategy_meaning.specs.Outermost.{IsBefore, IsBeforeAll, AreInOrder}
 use Rattle.session_history.specs.Applying.{Meaning, world_in, given_by, stopped_as}
 use Rattle.session_history.specs.History.{History}
-use Rattle.session_history.specs.Preview.{part_at, replacement, Foresees as Shows, ForeseesAt, Previews}
+use Rattle.session_history.specs.Preview.{Replacement, IsShown, Foresees as Shows, ForeseesAt, Previews}
 use Rattle.session_history.specs.Preview as definition
 use Rattle.session_history.specs.Acts.{Located}
 use Rattle.session_history.specs.Unfolded.{Logged, unfolded}
 use Rattle.session_history.specs.declared.refusal.Refusal.{Refusal}
 use Rattle.session_history.specs.declared.refusal.Refusal.TheVariants.{Memory, Fails}
 use Rattle.session_history.proofs.ActLemmas.{place_held, part_there, the_place}
-use Rattle.session_core.specs.Previewing.{entry_for, AreThere, ShowsPreview, AnswersPreview}
+use Rattle.session_core.specs.Previewing.{IsEntryFor, AreThere, ShowsPreview, AnswersPreview}
 use Rattle.session_core.specs.declared.preview.Preview.{Preview}
 use Rattle.session_core.specs.inside.Foreseen.{Foresees, IsRefusedRun}
 use Rattle.session_core.specs.inside.Resolved.{ResolvesTo, IsUnresolved}
@@ -59,17 +60,14 @@ there_of : (o : Option Tree) → IsSome o → (u : Tree) × (o ≡ Some u)
 there_of None h = absurd (cc)
 there_of (Some u) h = (u, refl)
 
+-- the replacement that a place shows
+abbrev shown_at : List ℕ → Tree → Edit → Replacement
+shown_at path before x = record { path = path ++ x.path; old = unwrap_or (at before x.path) before; new = x.new }
+
 -- the entries of the places are those of the replacements
-module _ (slot : ℕ) (path : List ℕ) (before after : Tree) where
-  pub entries_for : (e : Edits) (t : Tree) → Replaces e t after → AreInOrder e → entries_at slot (prefixed path e) ≡ map (entry_for slot) (map (replacement path before after) e)
-  entries_for [] t made order = refl
-  entries_for (x ∷ e) t made order =
-      let u = there_of (at t x.path) made.0 in
-      let next = set_at t x.path x.new in
-      let is : at after x.path ≡ Some x.new =
-      ap (λ y. at y x.path) (sym (replaces_edited e next after made.1)) ∙ left_apart e x.path next (before_apart_all x.path e order.0) ∙ set_is_there t x.new u.0 x.path u.1 in
-      let new : x.new ≡ part_at after x.path = sym (ap (λ o. unwrap_or o after) is) in
-      (λ i. subterm slot (path ++ x.path) (new i) ∷ entries_for e next made.1 order.1 i)
+entries_for : (slot : ℕ) (path : List ℕ) (before : Tree) (e : Edits) → AllZip IsEntryFor (entries_at slot (prefixed path e)) (map (shown_at path before) e)
+entries_for slot path before [] = tt
+entries_for slot path before (x ∷ e) = ((refl, refl), entries_for slot path before e)
 
 -- ---- places that are set one after the other are there at the start
 
@@ -86,15 +84,27 @@ all_some [] t u made order = tt
 all_some (x ∷ e) t u made order =
     (made.0, some_before e t x.new x.path (before_apart_all x.path e order.0) (all_some e (set_at t x.path x.new) u made.1 order.1))
 
-module _ (path : List ℕ) (tree before after : Tree) (here : at tree path ≡ Some before) where
-  are_there : (e : Edits) → AllSome before e → AreThere tree (map (replacement path before after) e)
+old_there : (t u : Tree) (p : List ℕ) → IsSome (at t p) → at t p ≡ Some (unwrap_or (at t p) u)
+old_there t u p some = let there = there_of (at t p) some in there.1 ∙ ap (λ o. Some (unwrap_or o u)) (sym there.1)
+
+-- each place shows what is there before and after
+module _ (path : List ℕ) (before after : Tree) where
+  are_shown : (e : Edits) (t : Tree) → Replaces e t after → AreInOrder e → AllSome before e → AllZip (IsShown path before after) e (map (shown_at path before) e)
+  are_shown [] t made order some = tt
+  are_shown (x ∷ e) t made order some =
+      let u = there_of (at t x.path) made.0 in
+      let next = set_at t x.path x.new in
+      let new : at after x.path ≡ Some x.new =
+      ap (λ y. at y x.path) (sym (replaces_edited e next after made.1)) ∙ left_apart e x.path next (before_apart_all x.path e order.0) ∙ set_is_there t x.new u.0 x.path u.1 in
+      ((refl, old_there before before x.path some.0, new), are_shown e next made.1 order.1 some.1)
+
+module _ (path : List ℕ) (tree before : Tree) (here : at tree path ≡ Some before) where
+  are_there : (e : Edits) → AllSome before e → AreThere tree (map (shown_at path before) e)
   are_there [] some = tt
-  are_there (x ∷ e) some =
-      let u = there_of (at before x.path) some.0 in
-      let old : u.0 ≡ part_at before x.path = sym (ap (λ o. unwrap_or o before) u.1) in (
-        at-append tree path x.path ∙ ap (option_and_then (λ y. at y x.path)) here ∙ u.1 ∙ ap (λ y. Some y) old,
-        are_there e some.1,
-      )
+  are_there (x ∷ e) some = (
+    at-append tree path x.path ∙ ap (option_and_then (λ y. at y x.path)) here ∙ old_there before before x.path some.0,
+    are_there e some.1,
+  )
 
 -- ---- a run in the slot is a run at the place
 
@@ -134,18 +144,18 @@ module _ (meaning : Meaning) (ps : List Signature) (t : Logged) (name path text 
     shows_preview : (preview : Preview) → Foresees (world_in meaning lent ps) t.store i path whole steps preview.plan preview.steps → ShowsPreview meaning name path steps text now preview
     shows_preview preview f =
         let g = f.gives in
-        let list = map (replacement path f.part g.after) f.places in
+        let list = map (shown_at path f.part) f.places in
+        let some = all_some f.places f.part g.after g.made g.outermost.order in
         let shown : definition.Preview = record { replacements = list; steps = preview.steps } in
         let is : ◌≡◌ {A = Result definition.Preview Refusal} (Ok shown) (Ok (record { replacements = list; steps = steps - g.left })) = ap (λ n. Ok (record { replacements = list; steps = n })) g.took in
         record {
           shown = shown;
-          previews = at_part f.part f.there (Ok shown) (subst (λ a. Shows path steps f.part a (Ok shown)) (sym g.is) (f.places, g.outermost, is));
-          slot = i;
-          plan = f.plan ∙ entries_for i path f.part g.after f.places f.part g.made g.outermost.order;
+          previews = at_part f.part f.there (Ok shown) (subst (λ a. Shows path steps f.part a (Ok shown)) (sym g.is) (f.places, list, g.outermost, are_shown path f.part g.after f.places f.part g.made g.outermost.order some, is));
+          plan = subst (λ es. AllZip IsEntryFor es list) (sym f.plan) (entries_for i path f.part f.places);
           steps = refl;
           tree = r.there.tree;
           held = place_held t name path i r.there;
-          there = are_there path r.there.tree f.part g.after (found f.part f.there) f.places (all_some f.places f.part g.after g.made g.outermost.order);
+          there = are_there path r.there.tree f.part (found f.part f.there) f.places some;
         }
 
     -- a run that gives no tree

@@ -1,5 +1,6 @@
 -- What a preview lists.
-use Rattle.std.specs.Prelude.{◌≡◌, ◌⊎◌, ℕ, List, [], ◌∷◌, map, Some, None, Ok, Err, IfOk, IfErr}
+use Rattle.std.specs.Prelude.{◌≡◌, ◌⊎◌, ℕ, List, [], ◌∷◌, Some, None, Ok, Err, IfOk, IfErr}
+use Rattle.std.specs.List.{AllZip}
 use Rattle.std.specs.FinMap as finmap
 use Rattle.std.specs.declared.option.Option.{Option}
 use Rattle.std.specs.declared.result.Result.{Result}
@@ -14,22 +15,24 @@ use Rattle.session_history.specs.declared.refusal.Refusal.{Refusal}
 use Rattle.session_history.specs.declared.refusal.Refusal.TheVariants.{Memory}
 use Rattle.session_core.specs.declared.preview.Preview.{Preview}
 
--- what would be put at the place, in the tree of a slot
-abbrev pub entry_for : ℕ → Replacement → Entry
-entry_for slot r = subterm slot r.path r.new
+-- an entry that puts what would be there at the place, in whatever slot
+abbrev pub IsEntryFor : Entry → Replacement → Type 0
+IsEntryFor (subterm slot path t) r = (path ≡ r.path) × (t ≡ r.new)
+IsEntryFor (slot_tree slot t) r = ⊥
+IsEntryFor (subterm_annotations slot path ts) r = ⊥
+IsEntryFor (slot_text slot x) r = ⊥
 
 -- what is there now is at its path in the tree
 abbrev pub AreThere : Tree → List Replacement → Type 0
 AreThere tree [] = Unit {0}
 AreThere tree (r ∷ rs) = (at tree r.path ≡ Some r.old) × AreThere tree rs
 
--- It lists what applying would replace, as the plan of it for some slot, and has the number of
--- steps. What is there now is found in the tree.
+-- It lists what applying would replace, as entries, and has the number of steps. What is there now is
+-- found in the tree.
 pub record ShowsPreview (meaning : Meaning) (name path : List ℕ) (b : ℕ) (text : List ℕ) (h : History) (preview : Preview) : Type 0 where
   pub shown : definition.Preview
   pub previews : Previews meaning name path b text h (Ok shown)
-  pub slot : ℕ
-  pub plan : preview.plan ≡ map (entry_for slot) shown.replacements
+  pub plan : AllZip IsEntryFor preview.plan shown.replacements
   pub steps : preview.steps ≡ shown.steps
   pub tree : Tree
   pub held : finmap.get h.now.trees name ≡ Some tree

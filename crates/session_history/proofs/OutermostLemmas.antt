@@ -1,8 +1,11 @@
 -- Edits have one list of outermost places.
-use Rattle.std.proofs.Common.{◌≡◌, ◌⊎◌, ℕ, List, [], ◌∷◌, ◌++◌, length, map, inl, inr, refl, sym, ap, subst, ◌∙◌, arith, length-append}
-use Rattle.term_paths.specs.Paths.{LiesWithin}
+use Rattle.std.proofs.Common.{◌≡◌, ◌⊎◌, ℕ, List, [], ◌∷◌, ◌++◌, length, Some, inl, inr, refl, sym, ap, subst, ◌∙◌, arith, length-append}
+use Rattle.std.specs.List.{AllZip}
+use Rattle.term_core.specs.Tree.{Tree}
+use Rattle.term_paths.specs.Paths.{at, LiesWithin}
 use Rattle.term_paths.specs.Edits.{Edits, paths}
 use Rattle.strategy_meaning.specs.Outermost.{IsOf, IsBefore, IsBeforeAll, AreInOrder, AreOutermost}
+use Rattle.session_history.specs.Preview.{Replacement, IsShown}
 
 -- ---- the order of paths
 
@@ -98,10 +101,29 @@ same_paths (p ∷ ps) (q ∷ qs) h g forth back =
 pub outermost_paths : (ps qs e : Edits) → AreOutermost ps e → AreOutermost qs e → paths ps ≡ paths qs
 outermost_paths ps qs e p q = same_paths ps qs p.order q.order (same_places ps qs e p q) (same_places qs ps e q p)
 
--- what depends on their paths alone
-pub map_paths : {X : Type 0} (f : List ℕ → X) (ps qs : Edits) → paths ps ≡ paths qs → map (λ x. f x.path) ps ≡ map (λ x. f x.path) qs
-map_paths f ps qs same = by_paths ps ∙ ap (map f) same ∙ sym (by_paths qs)
-  where
-    by_paths : (ps : Edits) → map (λ x. f x.path) ps ≡ map f (paths ps)
-    by_paths [] = refl
-    by_paths (p ∷ ps) = ap (λ l. f p.path ∷ l) (by_paths ps)
+-- ---- what places show depends on their paths alone
+
+same_tree : (t u : Tree) → Some t ≡ Some u → t ≡ u
+same_tree t u e = cc
+
+same_replacement : (r s : Replacement) → r.path ≡ s.path → r.old ≡ s.old → r.new ≡ s.new → r ≡ s
+same_replacement r s path old new = λ i. record { path = path i; old = old i; new = new i }
+
+module _ (path : List ℕ) (before after : Tree) where
+  shown_same : (p q : List ℕ) (r s : Replacement) → p ≡ q → (r.path ≡ path ++ p) × (at before p ≡ Some r.old) × (at after p ≡ Some r.new) → (s.path ≡ path ++ q) × (at before q ≡ Some s.old) × (at after q ≡ Some s.new) → r ≡ s
+  shown_same p q r s e x y =
+      same_replacement r s (x.0 ∙ ap (λ l. path ++ l) e ∙ sym y.0) (same_tree r.old s.old (sym x.1 ∙ ap (at before) e ∙ y.1))
+      (same_tree r.new s.new (sym x.2 ∙ ap (at after) e ∙ y.2))
+
+  pub shown_one : (ps qs : Edits) (rs ss : List Replacement) → paths ps ≡ paths qs → AllZip (IsShown path before after) ps rs → AllZip (IsShown path before after) qs ss → rs ≡ ss
+  shown_one [] [] [] [] same p q = refl
+  shown_one [] [] [] (s ∷ ss) same p q = absurd q
+  shown_one [] [] (r ∷ rs) ss same p q = absurd p
+  shown_one [] (y ∷ qs) rs ss same p q = absurd (cc)
+  shown_one (x ∷ ps) [] rs ss same p q = absurd (cc)
+  shown_one (x ∷ ps) (y ∷ qs) [] ss same p q = absurd p
+  shown_one (x ∷ ps) (y ∷ qs) (r ∷ rs) [] same p q = absurd q
+  shown_one (x ∷ ps) (y ∷ qs) (r ∷ rs) (s ∷ ss) same p q =
+      let here : x.path ≡ y.path = cc in
+      let others : paths ps ≡ paths qs = cc in
+      λ i. shown_same x.path y.path r s here p.0 q.0 i ∷ shown_one ps qs rs ss others p.1 q.1 i

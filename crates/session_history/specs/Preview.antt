@@ -1,5 +1,6 @@
 -- What applying a strategy would change, without changing it.
-use Rattle.std.specs.Prelude.{◌≡◌, ℕ, ◌-◌, List, ◌++◌, length, map, Ok, Err, unwrap_or}
+use Rattle.std.specs.Prelude.{◌≡◌, ℕ, ◌-◌, List, ◌++◌, length, Some, Ok, Err}
+use Rattle.std.specs.List.{AllZip}
 use Rattle.std.specs.declared.result.Result.{Result}
 use Rattle.term_core.specs.Tree.{Tree}
 use Rattle.term_paths.specs.Paths.{at}
@@ -26,21 +27,19 @@ pub record Preview : Type 0 where
   pub replacements : List Replacement
   pub steps : ℕ
 
--- the subterm at the path, which is there
-abbrev pub part_at : Tree → List ℕ → Tree
-part_at t p = unwrap_or (at t p) t
-
--- the replacement at a place of an edit, in the subterm at the path
-abbrev pub replacement : List ℕ → Tree → Tree → Edit → Replacement
-replacement path before after x =
-    record { path = path ++ x.path; old = part_at before x.path; new = part_at after x.path }
+-- It is the replacement at the place of an edit, in the subterm at the path: what is there before
+-- the run and after it.
+abbrev pub IsShown : List ℕ → Tree → Tree → Edit → Replacement → Type 0
+IsShown path before after x r =
+    (r.path ≡ path ++ x.path) × (at before x.path ≡ Some r.old) × (at after x.path ≡ Some r.new)
 
 -- What a run of b steps on the subterm at the path leads to: the outermost places of its edits, in their
 -- order.
 abbrev pub Foresees : List ℕ → ℕ → Tree → Answer → Result Preview Refusal → Type 0
 Foresees path b before (done after bindings left edits) outcome =
-    (places : Edits) × AreOutermost places edits
-    × (outcome ≡ Ok (record { replacements = map (replacement path before after) places; steps = b - left }))
+    (places : Edits) × (shown : List Replacement) × AreOutermost places edits
+    × AllZip (IsShown path before after) places shown
+    × (outcome ≡ Ok (record { replacements = shown; steps = b - left }))
 Foresees path b before (failed left) outcome = outcome ≡ Err Fails
 Foresees path b before (stopped why) outcome = outcome ≡ Err (stopped_as why)
 

@@ -7,7 +7,7 @@ use Rattle.script_core.proofs.PreviewLemmas.{are_subterms, same_tree, text_of_pl
 use Rattle.script_core.proofs.preview.show_preview.Goals as goal
 
 pub write_preview-requires : goal.write_preview-requires
-write_preview-requires g c = let p = c.in_ok-preview.ensures.answers.ok in are_subterms p.slot c.in_ok-preview.preview.plan p.shown.replacements p.plan
+write_preview-requires g c = let p = c.in_ok-preview.ensures.answers.ok in are_subterms c.in_ok-preview.preview.plan p.shown.replacements p.plan
 
 pub returns : goal.returns
 returns g c =
@@ -16,5 +16,5 @@ returns g c =
     let tree : c.in-Some.tree.now ≡ p.tree =
     same_tree c.in-Some.tree.now p.tree (c.in-Some.ensures.value ∙ ap (λ (h : History). finmap.get h.now.trees c.args.name.now) same ∙ p.held) in
     let there = subst (λ t. AreThere t p.shown.replacements) (sym tree) p.there in
-    let text = c.in_ok-write_preview.ensures ∙ text_of_plan c.in-Some.tree.now p.slot c.in_ok-preview.preview.plan c.in_ok-preview.preview.steps p.shown p.plan p.steps there in
+    let text = c.in_ok-write_preview.ensures ∙ text_of_plan c.in-Some.tree.now c.in_ok-preview.preview.plan c.in_ok-preview.preview.steps p.shown p.plan p.steps there in
     record { ok = (Ok p.shown, p.previews, (λ i. Ok (told_of (same i) (text i)))); refused = tt; err = tt }
