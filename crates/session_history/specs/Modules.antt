@@ -30,14 +30,17 @@ use Rattle.session_history.specs.declared.refusal.Refusal.TheVariants.{Memory, D
 abbrev pub Texts : Type 0
 Texts = Named (List ℕ)
 
--- What a text is parsed to, by a relation on its tokens. A text of over 4,000 tokens is refused
--- before it is parsed.
+-- What a text is read as, by a condition on what it gives. A text that has n of something, where at
+-- most so many are allowed, is refused before it is read; one that gives nothing has a refusal of its
+-- own.
+abbrev pub ReadsWithin : {X : Type 0} → ℕ → ℕ → (X → Type 0) → Refusal → Result X Refusal → Type 0
+ReadsWithin n most Gives none (Ok x) = (n ≤ most) × Gives x
+ReadsWithin {X} n most Gives none (Err refusal) =
+    ((refusal ≡ Deep) × (most < n)) ⊎ ((refusal ≡ none) × (n ≤ most) × ((x : X) → Gives x → ⊥))
+
+-- What a text is parsed to, by a relation on its tokens, of which it may have 4,000.
 abbrev pub ReadsBy : {X : Type 0} → (List Token → X → Type 0) → List ℕ → Result X Refusal → Type 0
-ReadsBy Gives text (Ok x) = (length (tokens text) ≤ MAX_TOKENS) × Gives (tokens text) x
-ReadsBy {X} Gives text (Err refusal) =
-    ((refusal ≡ Deep) × (MAX_TOKENS < length (tokens text)))
-    ⊎ ((refusal ≡ Syntax) × (length (tokens text) ≤ MAX_TOKENS)
-    × ((x : X) → Gives (tokens text) x → ⊥))
+ReadsBy Gives text = ReadsWithin (length (tokens text)) MAX_TOKENS (Gives (tokens text)) Syntax
 
 -- what a module text is parsed to
 abbrev pub ReadsAsModule : List ℕ → Result Module Refusal → Type 0
