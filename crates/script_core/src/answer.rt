@@ -5,12 +5,12 @@ ghost use Rattle.aterm_text.specs.Grammar.{Spells, SpellsAnnotations};
 ghost use Rattle.term_core.specs.Tree.{Tree};
 ghost use Rattle.session_history.specs.Acts.{place_of};
 ghost use Rattle.session_history.specs.Budget.{IsBudget};
-ghost use Rattle.script_text.specs.Form.{tree, put, annotate, tree_form, put_form, HasBudget, is_without_memory};
+ghost use Rattle.script_text.specs.Form.{tree, put, annotate, HasBudget, is_without_memory};
 ghost use Rattle.script_text.specs.FedRight.{handed_out};
 ghost use Rattle.script_text.specs.Replies.{ReadAs, Replies, line};
 ghost use Rattle.script_text.specs.Answer.{Answered, ReplyInRun, TellsRefusal};
 ghost use Rattle.script_text.specs.CommandView.{form as form_seen};
-ghost use Rattle.script_text.specs.KeywordView.{form_after, is_without_memory_after};
+ghost use Rattle.script_text.specs.KeywordView.{form_after, is_without_memory_after, tree_form, put_form};
 ghost use Rattle.script_core.specs.inside.Performing.{PerformedRight, ReplyToForm, ToldRight, reading_refusal};
 
 use crate::buffer::Answer;

@@ -18,7 +18,8 @@ use Rattle.script_text.specs.declared.framing.Framing.{Framing}
 use Rattle.script_text.specs.declared.framing.Framing.TheVariants.{Continued, Lines}
 use Rattle.script_text.specs.Script.{is_line_feed, is_carriage_return, without_end, is_comment, lines, begins_command, Cut, cut, commands, without_start, is_command}
 use Rattle.script_text.specs.Laws.{IsCommandText, GoOn}
-use Rattle.script_text.specs.Form.{Form, tree, set_module, front_word, after_word, has_bytes, with_word, last_text, module_form, form_with, checked, command_of}
+use Rattle.script_text.specs.Form.{Form, tree, set_module, front_word, after_word, has_bytes, with_word, last_text, form_with, checked, command_of}
+use Rattle.script_text.specs.KeywordView.{module_form}
 use Rattle.script_text.proofs.LineLemmas.{IsCore, with_line, first_piece, lines-line_feed, lines-kept, kept-core}
 use Rattle.script_text.proofs.OwnLineLemmas.{own_command}
 

@@ -1,9 +1,9 @@
 -- The forms of commands, as their bytes spell them.
-use Rattle.std.specs.Prelude.{ℕ, Bool, true, false, not, ◌||◌, ◌&&◌, nat_eq, nat_le, List, [], ◌∷◌, drop, codes, Some, None, Ok, Err, is_some, option_map, option_and_then, if◌then◌else◌}
+use Rattle.std.specs.Prelude.{ℕ, Bool, true, false, not, ◌||◌, ◌&&◌, nat_le, List, [], ◌∷◌, drop, codes, Some, None, Ok, Err, is_some, option_map, option_and_then, if◌then◌else◌}
 use Rattle.std.specs.declared.option.Option.{Option}
 use Rattle.std.specs.declared.result.Result.{Result}
 use Rattle.std.specs.List.{before_first, position_or_len}
-use lib.Pointwise.{pointwise}
+use Rattle.std.specs.Str.{bytes_eq}
 use Rattle.term_core.specs.Word.{label_of}
 use Rattle.term_paths.specs.PathText.{path_of, part_of}
 use Rattle.aterm_text.specs.Tokens.{is_blank, without_blanks}
@@ -53,10 +53,6 @@ has_bytes (b ∷ bytes) = true
 abbrev pub has_word : List ℕ → Bool
 has_word text = has_bytes (front_word text)
 
--- whether the word has the bytes of the other
-abbrev pub is_same : List ℕ → List ℕ → Bool
-is_same word other = pointwise nat_eq word other
-
 -- ---- parts of forms
 
 -- A form that continues with a word, given what that makes of the rest.
@@ -96,11 +92,11 @@ last_steps rest =
 -- An optional keyword followed by a word: that word, if the keyword comes next, and the rest.
 abbrev pub option_word : List ℕ → List ℕ → Option (List ℕ)
 option_word keyword rest =
-    if is_same (front_word rest) keyword then Some (front_word (after_word rest)) else None
+    if bytes_eq (front_word rest) keyword then Some (front_word (after_word rest)) else None
 
 abbrev pub after_option : List ℕ → List ℕ → List ℕ
 after_option keyword rest =
-    if is_same (front_word rest) keyword then after_word (after_word rest) else rest
+    if bytes_eq (front_word rest) keyword then after_word (after_word rest) else rest
 
 -- the path of a word, or the root if there is none
 abbrev pub path_or_root : Option (List ℕ) → Option (List ℕ)
@@ -121,7 +117,7 @@ last_place rest =
 -- A form that ends with `do` and a text.
 abbrev pub with_do : (List ℕ → Form) → List ℕ → Option Form
 with_do form rest =
-    if is_same (front_word rest) (codes "do") then Some (form (last_text (after_word rest))) else None
+    if bytes_eq (front_word rest) (codes "do") then Some (form (last_text (after_word rest))) else None
 
 -- A form that continues with `within` and a budget, both optional, and ends with `do` and a text.
 abbrev pub with_budget : ℕ → (ℕ → List ℕ → Form) → List ℕ → Option Form
@@ -131,28 +127,6 @@ with_budget budget form rest =
 
 -- ---- forms
 
-abbrev pub tree_form : List ℕ → Option Form
-tree_form rest = with_word rest (λ name after. Some (tree name (last_text after)))
-
-abbrev pub copy_form : List ℕ → Option Form
-copy_form rest =
-    with_word rest (λ name after. with_word after (λ other end. ended (copy name other) end))
-
-abbrev pub drop_form : List ℕ → Option Form
-drop_form rest = option_map drop_tree (last_name rest)
-
-abbrev pub put_form : List ℕ → Option Form
-put_form rest = with_word rest (λ name after. with_path_and_text (put name) after)
-
-abbrev pub annotate_form : List ℕ → Option Form
-annotate_form rest = with_word rest (λ name after. with_path_and_text (annotate name) after)
-
-abbrev pub module_form : List ℕ → Option Form
-module_form rest = with_word rest (λ name after. Some (set_module name (last_text after)))
-
-abbrev pub unload_form : List ℕ → Option Form
-unload_form rest = option_map unload (last_name rest)
-
 -- Both `at` and `within`, in this order, are optional.
 abbrev pub strategy_form : (List ℕ → List ℕ → ℕ → List ℕ → Form) → ℕ → List ℕ → Option Form
 strategy_form form budget rest =
@@ -160,35 +134,33 @@ strategy_form form budget rest =
     (λ path. with_budget budget (form name path) (after_option (codes "at") after))
     (path_or_root (option_word (codes "at") after)))
 
-abbrev pub text_form : List ℕ → Option Form
-text_form rest = option_map module_text (last_name rest)
-
-abbrev pub show_form : List ℕ → Option Form
-show_form rest = with_word rest (λ name after. option_map (show name) (last_place after))
-
 -- the form that a keyword starts, given the budget of a command that names none
 abbrev pub form_with : ℕ → List ℕ → List ℕ → Option Form
 form_with budget keyword rest =
-    if is_same keyword (codes "tree") then tree_form rest else
-    if is_same keyword (codes "copy") then copy_form rest else
-    if is_same keyword (codes "drop") then drop_form rest else
-    if is_same keyword (codes "put") then put_form rest else
-    if is_same keyword (codes "annotate") then annotate_form rest else
-    if is_same keyword (codes "module") then module_form rest else
-    if is_same keyword (codes "unload") then unload_form rest else
-    if is_same keyword (codes "apply") then strategy_form apply budget rest else
-    if is_same keyword (codes "preview") then strategy_form preview budget rest else
-    if is_same keyword (codes "undo") then option_map undo (last_steps rest) else
-    if is_same keyword (codes "redo") then option_map redo (last_steps rest) else
-    if is_same keyword (codes "begin") then ended begin rest else
-    if is_same keyword (codes "commit") then ended commit rest else
-    if is_same keyword (codes "abandon") then ended abandon rest else
-    if is_same keyword (codes "show") then show_form rest else
-    if is_same keyword (codes "trees") then ended trees rest else
-    if is_same keyword (codes "modules") then ended modules rest else
-    if is_same keyword (codes "text") then text_form rest else
-    if is_same keyword (codes "history") then ended history rest else
-    if is_same keyword (codes "dump") then ended dump rest else None
+    if bytes_eq keyword (codes "tree") then with_word rest (λ name after. Some (tree name (last_text after))) else
+    if bytes_eq keyword (codes "copy")
+    then with_word rest (λ name after. with_word after (λ other end. ended (copy name other) end)) else
+    if bytes_eq keyword (codes "drop") then option_map drop_tree (last_name rest) else
+    if bytes_eq keyword (codes "put") then with_word rest (λ name after. with_path_and_text (put name) after) else
+    if bytes_eq keyword (codes "annotate")
+    then with_word rest (λ name after. with_path_and_text (annotate name) after) else
+    if bytes_eq keyword (codes "module")
+    then with_word rest (λ name after. Some (set_module name (last_text after))) else
+    if bytes_eq keyword (codes "unload") then option_map unload (last_name rest) else
+    if bytes_eq keyword (codes "apply") then strategy_form apply budget rest else
+    if bytes_eq keyword (codes "preview") then strategy_form preview budget rest else
+    if bytes_eq keyword (codes "undo") then option_map undo (last_steps rest) else
+    if bytes_eq keyword (codes "redo") then option_map redo (last_steps rest) else
+    if bytes_eq keyword (codes "begin") then ended begin rest else
+    if bytes_eq keyword (codes "commit") then ended commit rest else
+    if bytes_eq keyword (codes "abandon") then ended abandon rest else
+    if bytes_eq keyword (codes "show")
+    then with_word rest (λ name after. option_map (show name) (last_place after)) else
+    if bytes_eq keyword (codes "trees") then ended trees rest else
+    if bytes_eq keyword (codes "modules") then ended modules rest else
+    if bytes_eq keyword (codes "text") then option_map module_text (last_name rest) else
+    if bytes_eq keyword (codes "history") then ended history rest else
+    if bytes_eq keyword (codes "dump") then ended dump rest else None
 
 -- the form of a command, without the blanks at its end, given that budget
 abbrev pub form_of : ℕ → List ℕ → Option Form
@@ -208,7 +180,15 @@ has_labels (apply name path budget text) = is_some (label_of name)
 has_labels (preview name path budget text) = is_some (label_of name)
 has_labels (show name path) = is_some (label_of name)
 has_labels (module_text name) = is_some (label_of name)
-has_labels form = true
+has_labels (undo n) = true
+has_labels (redo n) = true
+has_labels begin = true
+has_labels commit = true
+has_labels abandon = true
+has_labels trees = true
+has_labels modules = true
+has_labels history = true
+has_labels dump = true
 
 -- The form is tested before the names.
 abbrev pub checked : Option Form → Result Form Refusal
@@ -230,8 +210,8 @@ HasBudget form = Unit {0}
 -- whether a keyword is `undo`, `redo`, `begin` or `abandon`
 abbrev pub takes_no_memory_with : List ℕ → Bool
 takes_no_memory_with word =
-    is_same word (codes "undo") || is_same word (codes "redo")
-    || is_same word (codes "begin") || is_same word (codes "abandon")
+    bytes_eq word (codes "undo") || bytes_eq word (codes "redo")
+    || bytes_eq word (codes "begin") || bytes_eq word (codes "abandon")
 
 abbrev pub takes_no_memory : List ℕ → Bool
 takes_no_memory command = takes_no_memory_with (front_word (without_end is_blank command))
@@ -242,4 +222,19 @@ is_without_memory (undo n) = true
 is_without_memory (redo n) = true
 is_without_memory begin = true
 is_without_memory abandon = true
-is_without_memory form = false
+is_without_memory (tree name text) = false
+is_without_memory (copy name other) = false
+is_without_memory (drop_tree name) = false
+is_without_memory (put name path text) = false
+is_without_memory (annotate name path text) = false
+is_without_memory (set_module name text) = false
+is_without_memory (unload name) = false
+is_without_memory (apply name path budget text) = false
+is_without_memory (preview name path budget text) = false
+is_without_memory commit = false
+is_without_memory (show name path) = false
+is_without_memory trees = false
+is_without_memory modules = false
+is_without_memory (module_text name) = false
+is_without_memory history = false
+is_without_memory dump = false

@@ -7,9 +7,9 @@ ghost use Rattle.term_paths.specs.PathText.{path_of};
 ghost use Rattle.aterm_text.specs.Tokens.{is_blank, without_blanks};
 ghost use Rattle.session_history.specs.Budget.{IsBudget};
 ghost use Rattle.script_text.specs.Script.{without_end};
-ghost use Rattle.script_text.specs.Form.{tree, put, annotate, set_module, apply, preview, command_of, form_of, checked, tree_form, copy_form, put_form, annotate_form, module_form, strategy_form, show_form, last_name, last_steps, option_word, after_option, path_or_root, budget_or, up_to, ended, HasBudget, is_without_memory, takes_no_memory, front_word, after_word, has_word};
+ghost use Rattle.script_text.specs.Form.{tree, put, annotate, set_module, apply, preview, command_of, form_of, checked, strategy_form, last_name, last_steps, option_word, after_option, path_or_root, budget_or, up_to, ended, HasBudget, is_without_memory, takes_no_memory, front_word, after_word, has_word};
 ghost use Rattle.script_text.specs.CommandView.{form as form_seen};
-ghost use Rattle.script_text.specs.KeywordView.{form_after, is_without_memory_after};
+ghost use Rattle.script_text.specs.KeywordView.{form_after, is_without_memory_after, tree_form, copy_form, put_form, annotate_form, module_form, show_form};
 ghost use Rattle.script_text.specs.Reading.{ReadRight};
 
 use crate::keyword::{Keyword, keyword_of};
