@@ -17,7 +17,8 @@ use Rattle.session_history.specs.declared.refusal.Refusal.TheVariants.{Memory, N
 use Rattle.script_text.specs.declared.keyword.Keyword.{Keyword}
 use Rattle.script_text.specs.Script.{without_end}
 use Rattle.script_text.specs.Handed.{Handed, text as handed_text, long}
-use Rattle.script_text.specs.Form.{Form, is_without_memory, undo, redo, begin, abandon, checked, form_of, form_with, is_same, last_steps, has_word, front_word, after_word, takes_no_memory, takes_no_memory_with}
+use Rattle.std.specs.Str.{bytes_eq}
+use Rattle.script_text.specs.Form.{Form, is_without_memory, undo, redo, begin, abandon, checked, form_of, form_with, last_steps, has_word, front_word, after_word, takes_no_memory, takes_no_memory_with}
 use Rattle.script_text.specs.CommandView.{form}
 use Rattle.script_text.specs.Replies.{Reply, ReadAs, Told, done, told_of, Replies, ReplyTo, ReplyToText, refused, line}
 use Rattle.script_text.specs.Answer.{Answered, ReplyInRun, TellsRefusal, takes_none, is_fault}
@@ -160,10 +161,10 @@ module _ (meaning : Meaning) (budget : ℕ) (h : History) (reply : Reply) where
   abandon_said false m = ap tells_fault m.2 ∙ leaving h.group (λ g. record h { now = g.begun; group = None }) m.0 m.1
 
   module _ (keyword rest : List ℕ) (m : Says (form_with budget keyword rest)) where
-    said_as : (word : List ℕ) → true ≡ is_same keyword word → Says (form_with budget word rest)
+    said_as : (word : List ℕ) → true ≡ bytes_eq keyword word → Says (form_with budget word rest)
     said_as word e = let P : List ℕ → Type 0 = λ w. Says (form_with budget w rest) in subst P (same_text keyword word e) m
 
-    by_word : (a b c d : Bool) → a ≡ is_same keyword (codes "undo") → b ≡ is_same keyword (codes "redo") → c ≡ is_same keyword (codes "begin") → d ≡ is_same keyword (codes "abandon") →
+    by_word : (a b c d : Bool) → a ≡ bytes_eq keyword (codes "undo") → b ≡ bytes_eq keyword (codes "redo") → c ≡ bytes_eq keyword (codes "begin") → d ≡ bytes_eq keyword (codes "abandon") →
         (a || b || c || d) ≡ true → tells_fault reply ≡ false
     by_word true b c d ea eb ec ed h = undo_said (last_steps rest) (said_as (codes "undo") ea)
     by_word false true c d ea eb ec ed h = redo_said (last_steps rest) (said_as (codes "redo") eb)
@@ -172,7 +173,7 @@ module _ (meaning : Meaning) (budget : ℕ) (h : History) (reply : Reply) where
     by_word false false false false ea eb ec ed h = absurd (cc)
 
     said_shortly : takes_no_memory_with keyword ≡ true → tells_fault reply ≡ false
-    said_shortly = by_word (is_same keyword (codes "undo")) (is_same keyword (codes "redo")) (is_same keyword (codes "begin")) (is_same keyword (codes "abandon")) refl refl refl refl
+    said_shortly = by_word (bytes_eq keyword (codes "undo")) (bytes_eq keyword (codes "redo")) (bytes_eq keyword (codes "begin")) (bytes_eq keyword (codes "abandon")) refl refl refl refl
 
 told_shortly : (meaning : Meaning) (budget : ℕ) (command : Handed) (h : History) (refusal : Refusal) → is_fault refusal ≡ true → ReplyTo meaning budget command h (Err refusal) → takes_none command ≡ false
 told_shortly meaning budget (handed_text c) h refusal fault reply = at (takes_no_memory c) refl

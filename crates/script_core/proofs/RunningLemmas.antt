@@ -23,7 +23,7 @@ use Rattle.script_core.specs.Ran.{ByBudget, Calm, RunRight, Streams}
 use Rattle.script_core.specs.inside.Running.{GoesOnBy, Counts, AnswersReady, AnswersBytes, Underway, HandsAfter, Breaks, Ends, TurnRight}
 use Rattle.script_text.proofs.WriteLemmas.{Appends-after}
 use Rattle.script_text.proofs.RunLemmas.{one_if-total, Completes-none, Completes-append, Completes-stopped, Completes-by, BreaksOff-append, BreaksOff-longer, BreaksOff-flush}
-use Rattle.script_text.proofs.SplitLemmas.{StandsAfter-end, StandsAfter-out}
+use Rattle.script_text.proofs.SplitLemmas.{StandsAfter-out}
 
 pub OnErr-from : {T E P : Type 0} (r : Result T E) → P → OnErr r P
 OnErr-from (Ok x) p = tt
@@ -75,6 +75,11 @@ module _ (Rule : ByBudget) where
   hands_after : (old new : Split) (taken rest : List ℕ) (commands : List Handed) → GoesAfter old new taken commands → HandsAfter handed old (taken ++ rest) (commands ++ rest_of new.left rest)
   hands_after old new taken rest commands b framing x out h =
       ap (handed framing) (sym (append_assoc x taken rest)) ∙ (b framing x out h).rest rest ∙ append_assoc out commands (rest_of new.left rest)
+
+  -- so are those that are complete
+  completed_after : (old new : Split) (taken rest : List ℕ) (commands : List Handed) → GoesAfter old new taken commands → HandsAfter completed old (taken ++ rest) (commands ++ out_of new.left rest)
+  completed_after old new taken rest commands b framing x out h =
+      sym (ap (completed framing) (append_assoc x taken rest)) ∙ StandsAfter-out framing rest (x ++ taken) (out ++ commands) new.left (b framing x out h) ∙ append_assoc out commands (out_of new.left rest)
 
   goes_append : (stop goes_on : Bool) (n m : ℕ) → (stop ≡ true → n ≡ 0) → GoesOnBy stop m goes_on → GoesOnBy stop (n + m) goes_on
   goes_append stop true n m p q = λ e. omega (arith, p e, q e)
@@ -164,12 +169,12 @@ module _ (Rule : ByBudget) where
           few = omega (arith, u.few, length-append u.commands (fed.2 ∷ []), length-append u.taken (take n rest), length-take n rest, fed.0, fed.1);
         }
 
-    pub Breaks-more : (command : Handed) → t.splitter.to_hand_out ≡ Some command → BreaksOff t.settings.stop (Rule t.settings.steps) (command ∷ []) g k b c → Breaks Rule old h k a c bytes
+    pub Breaks-more : (command : Handed) → t.splitter.to_hand_out ≡ Some command → BreaksOff t.settings.stop (Rule t.settings.steps) (command ∷ []) g k b c → Breaks Rule completed old h k a c bytes
     Breaks-more command ready broken =
         let is : fed.2 ≡ command = cc in
         record {
-          all = (u.commands ++ fed.2 ∷ []) ++ rest_of t.splitter.left after;
-          hands = rw split (hands_after old.splitter t.splitter (u.taken ++ take n rest) after (u.commands ++ fed.2 ∷ []) goes);
+          all = (u.commands ++ fed.2 ∷ []) ++ out_of t.splitter.left after;
+          hands = rw split (completed_after old.splitter t.splitter (u.taken ++ take n rest) after (u.commands ++ fed.2 ∷ []) goes);
           breaks = BreaksOff-longer old.settings.stop (Rule old.settings.steps) (u.commands ++ fed.2 ∷ []) _ h k a c
               (BreaksOff-append old.settings.stop (Rule old.settings.steps) u.commands (fed.2 ∷ []) h g k a b c u.counts.yes u.counts.no u.counts.goes u.counts.completes
               (rw (sym (settings ∙ u.counts.settings), is) broken));
@@ -198,7 +203,7 @@ module _ (Rule : ByBudget) where
     pub Ends-ready : (new : Running) (g : History) (b : Option (List ℕ)) (goes_on : Bool) → AnswersReady Rule mid new h g a b goes_on → Ends Rule handed old new h g a b [] goes_on
     Ends-ready new g b goes_on r = record { all = r.0 ∷ []; hands = last_hands (Some r.0) r.1; counts = Counts-from old mid new h g a b (r.0 ∷ []) goes_on summary settings r.2 }
 
-    pub Breaks-ready : (g : History) (b : Option (List ℕ)) (command : Handed) → mid.splitter.to_hand_out ≡ Some command → BreaksOff mid.settings.stop (Rule mid.settings.steps) (command ∷ []) h g a b → Breaks Rule old h g a b []
+    pub Breaks-ready : (g : History) (b : Option (List ℕ)) (command : Handed) → mid.splitter.to_hand_out ≡ Some command → BreaksOff mid.settings.stop (Rule mid.settings.steps) (command ∷ []) h g a b → Breaks Rule handed old h g a b []
     Breaks-ready g b command ready broken = record { all = command ∷ []; hands = last_hands (Some command) ready; breaks = rw (sym settings) broken }
 
     pub Ends-none : is_some mid.splitter.to_hand_out ≡ false → Ends Rule handed old mid h h a a [] true
@@ -207,11 +212,11 @@ module _ (Rule : ByBudget) where
   -- ---- a turn
 
   -- a flush that failed
-  pub Breaks-flush : (old : Running) (h : History) (a b : Option (List ℕ)) → Keeps a b → Breaks Rule old h h a b []
+  pub Breaks-flush : (old : Running) (h : History) (a b : Option (List ℕ)) → Keeps a b → Breaks Rule completed old h h a b []
   Breaks-flush old h a b k = record {
-    all = option_to_list old.splitter.left.command;
-    hands = λ framing x out s. ap (handed framing) (append-nil x) ∙ StandsAfter-end framing x out old.splitter.left s;
-    breaks = BreaksOff-longer old.settings.stop (Rule old.settings.steps) [] (option_to_list old.splitter.left.command) h h a b (BreaksOff-flush old.settings.stop (Rule old.settings.steps) [] h h a a b 0 0 (Completes-none old.settings.stop (Rule old.settings.steps) h a) k);
+    all = [];
+    hands = λ framing x out s. ap (completed framing) (append-nil x) ∙ sym s.complete ∙ sym (append-nil out);
+    breaks = BreaksOff-flush old.settings.stop (Rule old.settings.steps) [] h h a a b 0 0 (Completes-none old.settings.stop (Rule old.settings.steps) h a) k;
   }
 
   Underway-after : (old new : Running) (h g : History) (a b c : Option (List ℕ)) (bytes rest : List ℕ) (goes_on : Bool) → Keeps a b → Underway Rule old new h g b c bytes rest goes_on →
@@ -237,8 +242,7 @@ module _ (Rule : ByBudget) where
     Stops-stopped : Ends Rule completed old new h g a b bytes false
     Stops-stopped = record {
       all = u.commands ++ out_of new.splitter.left rest;
-      hands = λ framing x out s. ap (λ (xs : List ℕ). completed framing (x ++ xs)) u.all ∙ sym (ap (completed framing) (append_assoc x u.taken rest))
-          ∙ StandsAfter-out framing rest (x ++ u.taken) (out ++ u.commands) new.splitter.left (u.after framing x out s) ∙ append_assoc out u.commands (out_of new.splitter.left rest);
+      hands = rw u.all (completed_after old.splitter new.splitter u.taken rest u.commands u.after);
       counts = Counts-stopped old new h g a b u.commands _ u.counts;
     }
 
@@ -320,11 +324,20 @@ module _ (Rule : ByBudget) where
       record {
         part = p.script ++ bytes;
         read = Consumes-trans a.left b.left c.left p.script bytes p.read read;
-        breaks = rw (broken.hands old.settings.framing p.script p.done p.stands)
-            (BreaksOff-append old.settings.stop (Rule old.settings.steps) p.done broken.all h g k a.held b.held c.held p.counts.yes p.counts.no p.counts.goes p.counts.completes
-            (rw (sym p.counts.settings) broken.breaks));
+        breaks = either broken;
       },
     )
+      where
+        broken_all : (which : Framing → List ℕ → List Handed) → Breaks Rule which s g k b.held c.held bytes → BreaksOff old.settings.stop (Rule old.settings.steps) (which old.settings.framing (p.script ++ bytes)) h k a.held c.held
+        broken_all which broken = rw (broken.hands old.settings.framing p.script p.done p.stands)
+            (BreaksOff-append old.settings.stop (Rule old.settings.steps) p.done broken.all h g k a.held b.held c.held p.counts.yes p.counts.no p.counts.goes p.counts.completes
+            (rw (sym p.counts.settings) broken.breaks))
+
+        either : Breaks Rule completed s g k b.held c.held bytes ⊎ (IsAtEnd c.left × Breaks Rule handed s g k b.held c.held bytes)
+            → BreaksOff old.settings.stop (Rule old.settings.steps) (completed old.settings.framing (p.script ++ bytes)) h k a.held c.held
+            ⊎ (IsAtEnd c.left × BreaksOff old.settings.stop (Rule old.settings.steps) (handed old.settings.framing (p.script ++ bytes)) h k a.held c.held)
+        either (inl broken) = inl (broken_all completed broken)
+        either (inr broken) = inr (broken.0, broken_all handed broken.1)
     Progress-fault t k c most Turns r = absurd r
     Progress-fault t k c most Memory r = absurd r
 
@@ -336,8 +349,7 @@ module _ (Rule : ByBudget) where
       record {
         part = p.script;
         read = rw (← read) p.read;
-        breaks = rw (StandsAfter-end old.settings.framing p.script p.done s.splitter.left p.stands)
-            (BreaksOff-longer old.settings.stop (Rule old.settings.steps) p.done (option_to_list s.splitter.left.command) h g a.held c.held
+        breaks = inl (rw (← p.stands.complete)
             (BreaksOff-flush old.settings.stop (Rule old.settings.steps) p.done h g a.held b.held c.held p.counts.yes p.counts.no p.counts.completes held));
       },
     )
@@ -381,17 +393,26 @@ module _ (Rule : ByBudget) where
             (Completes-by _ _ (p.done ++ e.all) h k a.held c.held a.held d.held counted.yes counted.no (λ bytes w. Appends-kept a.held c.held d.held bytes w held) counted.completes))
 
       pub Progress-last-unflushed : d.write_failures ≡ c.write_failures + 1 → d.read_failures ≡ c.read_failures → RunRight Rule (Err Write) old.settings h k a d
-      Progress-last-unflushed count reads =
-          let ends = r.1.2.1 in
-          let whole = counted handed r.1.2.0 ends in (
-            omega (arith, count, r.0.1, p.calm.1),
-            reads ∙ r.0.0 ∙ p.calm.0,
-            record {
-              part = script;
-              read = all_read;
-              breaks = rw (handed_is handed r.1.2.0 ends) (BreaksOff-flush old.settings.stop (Rule old.settings.steps) (p.done ++ ends.all) h k a.held c.held d.held whole.yes whole.no whole.completes held);
-            },
-          )
+      Progress-last-unflushed count reads = (
+        omega (arith, count, r.0.1, p.calm.1),
+        reads ∙ r.0.0 ∙ p.calm.0,
+        record {
+          part = script;
+          read = all_read;
+          breaks = either r.1.3;
+        },
+      )
+        where
+          broken_all : (which : Framing → List ℕ → List Handed) (goes_on : Bool) → Ends Rule which s t g k b.held c.held r.1.0 goes_on → BreaksOff old.settings.stop (Rule old.settings.steps) (which old.settings.framing script) h k a.held d.held
+          broken_all which goes_on ends =
+              let whole = counted which goes_on ends in
+              rw (handed_is which goes_on ends) (BreaksOff-flush old.settings.stop (Rule old.settings.steps) (p.done ++ ends.all) h k a.held c.held d.held whole.yes whole.no whole.completes held)
+
+          either : IsAtEnd c.left ⊎ Ends Rule completed s t g k b.held c.held r.1.0 false
+              → BreaksOff old.settings.stop (Rule old.settings.steps) (completed old.settings.framing script) h k a.held d.held
+              ⊎ (IsAtEnd d.left × BreaksOff old.settings.stop (Rule old.settings.steps) (handed old.settings.framing script) h k a.held d.held)
+          either (inl end) = inr (rw (← read) end, broken_all handed r.1.2.0 r.1.2.1)
+          either (inr ends) = inl (broken_all completed false ends)
 
       pub Progress-last : old.summary.accepted ≡ 0 → old.summary.refused ≡ 0 → Calm c d → RunRight Rule (Ok t.summary) old.settings h k a d
       Progress-last zero_accepted zero_refused calm = (

@@ -2,7 +2,7 @@
 //! the answers.
 
 ghost use Rattle.std.specs.Prelude.{◌≡◌, ◌≤◌, ◌<◌, ◌+◌, ◌*◌, ◌^◌, ◌∷◌, [], Bool, Ok, Err, OnOk, OnErr, IfOk, true, false, not, is_some, Some, length};
-ghost use Rattle.script_text.specs.Handed.{Handed, handed};
+ghost use Rattle.script_text.specs.Handed.{Handed, handed, completed};
 ghost use Rattle.script_text.specs.Splitting.{StandsAfter};
 ghost use Rattle.session_history.specs.Budget.{IsBudget};
 ghost use Rattle.script_text.specs.Answer.{ReplyInRun};
@@ -75,8 +75,8 @@ struct Running {
 /// line feed; or at the end. The sink is flushed before each read and at the end.
 ///
 /// Errors: `Memory` only before the first command. After `Read` and `Turns` all complete commands
-/// of the bytes read are answered; an incomplete one isn't run. After `Write` some first commands
-/// are answered, and the sink took their answers, except perhaps for a suffix of the last.
+/// of the bytes read are answered; an incomplete one isn't run. After `Write` the first of these are
+/// answered, and the sink took their answers, except perhaps for a suffix of the last.
 pub fn run<M: Meaning, I: Source, O: Sink>(
     alloc: Global,
     session: &mut Session<M>,
@@ -106,7 +106,7 @@ pub fn run<M: Meaning, I: Source, O: Sink>(
         × AnswersPart settings.framing settings.stop (ReplyInRun M.meaning settings.steps) session.old session.new
         (I.left source.old) (I.left source.new) (O.held sink.old) (O.held sink.new) MAX_READS }
 
-    // If a write or a flush fails, some first commands of what was read are answered.
+    // If a write or a flush fails, the first of the complete commands are answered.
     ensures write { result ≡ Err RunFault.Write → (O.failed sink.new ≡ O.failed sink.old + 1)
         × (I.failed source.new ≡ I.failed source.old)
         × AnswersFirst settings.framing settings.stop (ReplyInRun M.meaning settings.steps) session.old session.new
@@ -209,7 +209,7 @@ impl Running {
         ensures answers { IfOk result (AnswersBytes (ReplyInRun M.meaning) self.old self.new session.old session.new
             (O.held sink.old) (O.held sink.new) bytes.now) }
         ensures same { OnOk result (O.failed sink.new ≡ O.failed sink.old) }
-        ensures breaks { OnErr result (Breaks (ReplyInRun M.meaning) self.old session.old session.new
+        ensures breaks { OnErr result (Breaks (ReplyInRun M.meaning) completed self.old session.old session.new
             (O.held sink.old) (O.held sink.new) bytes.now) }
         ensures count { OnErr result (O.failed sink.new ≡ O.failed sink.old + 1) }
     {
@@ -239,7 +239,7 @@ impl Running {
         ensures ends { OnOk result ((goes_on : Bool) × Ends (ReplyInRun M.meaning) handed self.old self.new session.old session.new
             (O.held sink.old) (O.held sink.new) [] goes_on) }
         ensures same { OnOk result (O.failed sink.new ≡ O.failed sink.old) }
-        ensures breaks { OnErr result (Breaks (ReplyInRun M.meaning) self.old session.old session.new
+        ensures breaks { OnErr result (Breaks (ReplyInRun M.meaning) handed self.old session.old session.new
             (O.held sink.old) (O.held sink.new) []) }
         ensures count { OnErr result (O.failed sink.new ≡ O.failed sink.old + 1) }
     {

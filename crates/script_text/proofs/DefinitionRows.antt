@@ -98,9 +98,9 @@ commit_may_not = refl
 -- ---- runs
 
 -- nothing after the refusal at which the run stops is replied to
-stops_at_a_refusal : Replied true (ReplyInRun (λ name terms. None) 1) (handed Continued (codes "undo 0" ++ 10 ∷ codes "trees")) (false ∷ []) (empty_history []) (Err Line ∷ [])
-stops_at_a_refusal = (refl, (refl, refl))
+stops_at_a_refusal : Replied true (ReplyInRun (λ name terms. None) 1) (handed Continued (codes "undo 0" ++ 10 ∷ codes "trees")) (false ∷ []) (empty_history []) (Err Line ∷ []) (empty_history [])
+stops_at_a_refusal = (refl, (refl, refl, refl))
 
 -- otherwise the next command is replied to, at the same history; or memory couldn't grow in it
-goes_on_without_memory : Replied false (ReplyInRun (λ name terms. None) 1) (handed Continued (codes "undo 0" ++ 10 ∷ codes "trees")) (false ∷ (true ∷ [])) (empty_history []) (Err Line ∷ (Err Memory ∷ []))
-goes_on_without_memory = (refl, ((refl, refl), tt))
+goes_on_without_memory : Replied false (ReplyInRun (λ name terms. None) 1) (handed Continued (codes "undo 0" ++ 10 ∷ codes "trees")) (false ∷ (true ∷ [])) (empty_history []) (Err Line ∷ (Err Memory ∷ [])) (empty_history [])
+goes_on_without_memory = (refl, ((refl, refl), refl))

@@ -33,7 +33,7 @@ use Rattle.script_text.specs.Handed.{Handed, text, long, handed_as, handed}
 use Rattle.script_text.specs.Replies.{Reply, line, ok_with, Replies, ReplyTo, history_after}
 use Rattle.script_text.specs.Answer.{ReplyInRun}
 use Rattle.session_history.specs.Applying.{Meaning}
-use Rattle.script_text.specs.Run.{Replied, history_after_all, out}
+use Rattle.script_text.specs.Run.{Replied, out}
 use Rattle.script_text.specs.Laws.{OneRun, CanBeGiven, IsBare, AreClear, DumpReadsBack, DumpIsAnswered}
 use Rattle.script_text.proofs.RunLemmas.{end_of_one}
 use Rattle.script_text.proofs.DumpText.{tree_command, module_command, IsDumped, IsWhole, script_of, commands-script, command-is, module_command-is, tree_whole, module_whole, begin_whole, commit_whole}
@@ -134,10 +134,6 @@ module _ (meaning : Meaning) (budget : ℕ) where
   abbrev replies_of : (cs : List (List ℕ)) (h g : History) → Oks cs h g → List Reply
   replies_of [] h g o = []
   replies_of (c ∷ cs) h g o = Ok (ok_with o.0) ∷ replies_of cs o.0 g o.2
-
-  history-is : (cs : List (List ℕ)) (h g : History) (o : Oks cs h g) → history_after_all h (replies_of cs h g o) ≡ g
-  history-is [] h g o = o
-  history-is (c ∷ cs) h g o = history-is cs o.0 g o.2
 
   out-is : (cs : List (List ℕ)) (h g : History) (o : Oks cs h g) → out (replies_of cs h g o) ≡ repeat (length cs) (line (codes "ok"))
   out-is [] h g o = refl
@@ -254,24 +250,26 @@ module _ (one : OneRun) (stop : Bool) (meaning : Meaning) (budget : ℕ) where
   one_reply : (c : List ℕ) (h : History) (r s : Reply) → ReplyInRun meaning budget (text c) false h r → ReplyInRun meaning budget (text c) false h s → r ≡ s
   one_reply c h r s p q =
       let singles : r ∷ [] ≡ s ∷ [] =
-      one meaning stop budget (text c ∷ []) (false ∷ []) h (r ∷ []) (s ∷ []) (p, end_of_one (stop && is_err r)) (q, end_of_one (stop && is_err s)) in
+      (one meaning stop budget (text c ∷ []) (false ∷ []) h (history_after h r) (history_after h s) (r ∷ []) (s ∷ []) (p, end_of_one (stop && is_err r) (history_after h r) (history_after h r) refl)
+      (q, end_of_one (stop && is_err s) (history_after h s) (history_after h s) refl)).0 in
       cc
 
-  only : (cs : List (List ℕ)) (h g : History) (o : Oks meaning budget cs h g) (flags : List Bool) → AreClear flags → (rs : List Reply) → Replied stop (ReplyInRun meaning budget) (map (λ c. text c) cs) flags h rs → rs ≡ replies_of meaning budget cs h g o
-  only [] h g o [] clear [] p = refl
-  only (c ∷ cs) h g o (flag ∷ flags) clear (r ∷ rs) p =
+  only : (cs : List (List ℕ)) (h g : History) (o : Oks meaning budget cs h g) (flags : List Bool) → AreClear flags → (rs : List Reply) (k : History) → Replied stop (ReplyInRun meaning budget) (map (λ c. text c) cs) flags h rs k → (rs ≡ replies_of meaning budget cs h g o) × (k ≡ g)
+  only [] h g o [] clear [] k p = (refl, p ∙ o)
+  only (c ∷ cs) h g o (flag ∷ flags) clear (r ∷ rs) k p =
       let first : r ≡ Ok (ok_with o.0) = one_reply c h r (Ok (ok_with o.0)) (subst (λ (f : Bool). ReplyInRun meaning budget (text c) f h r) clear.0 p.0) o.1 in
-      let rest : Replied stop (ReplyInRun meaning budget) (map (λ c. text c) cs) flags o.0 rs =
-      subst (λ (b : Bool). MatchBool b ((flags ≡ []) × (rs ≡ [])) (Replied stop (ReplyInRun meaning budget) (map (λ c. text c) cs) flags o.0 rs)) (and-false stop)
-      (subst (λ (x : Reply). MatchBool (stop && is_err x) ((flags ≡ []) × (rs ≡ [])) (Replied stop (ReplyInRun meaning budget) (map (λ c. text c) cs) flags (history_after h x) rs)) first p.1) in
-      λ i. first i ∷ only cs o.0 g o.2 flags clear.1 rs rest i
-  only cs h g o flags clear rs p = absurd p
+      let rest : Replied stop (ReplyInRun meaning budget) (map (λ c. text c) cs) flags o.0 rs k =
+      subst (λ (b : Bool). MatchBool b ((flags ≡ []) × (rs ≡ []) × (k ≡ o.0)) (Replied stop (ReplyInRun meaning budget) (map (λ c. text c) cs) flags o.0 rs k)) (and-false stop)
+      (subst (λ (x : Reply). MatchBool (stop && is_err x) ((flags ≡ []) × (rs ≡ []) × (k ≡ history_after h x)) (Replied stop (ReplyInRun meaning budget) (map (λ c. text c) cs) flags (history_after h x) rs k)) first p.1) in
+      let later = only cs o.0 g o.2 flags clear.1 rs k rest in
+      (λ i. first i ∷ later.0 i, later.1)
+  only cs h g o flags clear rs k p = absurd p
 
-answered : (stop : Bool) (meaning : Meaning) (budget : ℕ) (cs : List (List ℕ)) (h g : History) (o : Oks meaning budget cs h g) → Replied stop (ReplyInRun meaning budget) (map (λ c. text c) cs) (falses cs) h (replies_of meaning budget cs h g o)
-answered stop meaning budget [] h g o = tt
+answered : (stop : Bool) (meaning : Meaning) (budget : ℕ) (cs : List (List ℕ)) (h g : History) (o : Oks meaning budget cs h g) → Replied stop (ReplyInRun meaning budget) (map (λ c. text c) cs) (falses cs) h (replies_of meaning budget cs h g o) g
+answered stop meaning budget [] h g o = sym o
 answered stop meaning budget (c ∷ cs) h g o = (
   o.1,
-  subst (λ (b : Bool). MatchBool b ((falses cs ≡ []) × (replies_of meaning budget cs o.0 g o.2 ≡ [])) (Replied stop (ReplyInRun meaning budget) (map (λ c. text c) cs) (falses cs) o.0 (replies_of meaning budget cs o.0 g o.2)))
+  subst (λ (b : Bool). MatchBool b ((falses cs ≡ []) × (replies_of meaning budget cs o.0 g o.2 ≡ []) × (g ≡ o.0)) (Replied stop (ReplyInRun meaning budget) (map (λ c. text c) cs) (falses cs) o.0 (replies_of meaning budget cs o.0 g o.2) g))
       (sym (and-false stop)) (answered stop meaning budget cs o.0 g o.2),
 )
 
@@ -385,14 +383,15 @@ module _ (back : PrintedTextReadsBack) (oneline : PrintedTextIsOneLine) (nests :
         }
 
   pub dump_read_back : OneRun → DumpReadsBack
-  dump_read_back one meaning framing stop budget c h g flags replies can bare clear leads =
+  dump_read_back one meaning framing stop budget c h g flags replies can bare clear replied =
       let there = led meaning framing budget c h can bare in
       let cs : List (List ℕ) = all_commands meaning framing budget c h can in
       let count = ap length (commands-are meaning framing budget c h can) in
-      let are : replies ≡ replies_of meaning budget cs h there.last there.oks =
-      only one stop meaning budget cs h there.last there.oks flags clear replies (subst (λ (cs : List Handed). Replied stop (ReplyInRun meaning budget) cs flags h replies) (handed-are meaning framing budget c h can) leads.replied) in
+      let ends : (replies ≡ replies_of meaning budget cs h there.last there.oks) × (g ≡ there.last) =
+      only one stop meaning budget cs h there.last there.oks flags clear replies g (subst (λ (cs : List Handed). Replied stop (ReplyInRun meaning budget) cs flags h replies g) (handed-are meaning framing budget c h can) replied) in
+      let are = ends.0 in
       record {
-        contents = ap (λ (x : History). x.now) leads.history ∙ ap (λ (rs : List Reply). (history_after_all h rs).now) are ∙ ap (λ (x : History). x.now) (history-is meaning budget cs h there.last there.oks) ∙ there.now;
+        contents = ap (λ (x : History). x.now) ends.1 ∙ there.now;
         answers = ap out are ∙ out-is meaning budget cs h there.last there.oks ∙ ap (λ (n : ℕ). repeat n (line (codes "ok"))) (sym count);
         accepted = ap (count_by is_ok) are ∙ accepted-is meaning budget cs h there.last there.oks ∙ sym count;
         refused = ap (count_by is_err) are ∙ refused-is meaning budget cs h there.last there.oks;
@@ -404,7 +403,8 @@ module _ (back : PrintedTextReadsBack) (oneline : PrintedTextIsOneLine) (nests :
       let cs : List (List ℕ) = all_commands meaning framing budget c h can in (
         falses cs,
         replies_of meaning budget cs h there.last there.oks,
+        there.last,
         all-clear cs,
-        subst (λ (cs : List Handed). Replied stop (ReplyInRun meaning budget) cs (falses (all_commands meaning framing budget c h can)) h (replies_of meaning budget (all_commands meaning framing budget c h can) h there.last there.oks)) (sym (handed-are meaning framing budget c h can))
+        subst (λ (cs : List Handed). Replied stop (ReplyInRun meaning budget) cs (falses (all_commands meaning framing budget c h can)) h (replies_of meaning budget (all_commands meaning framing budget c h can) h there.last there.oks) there.last) (sym (handed-are meaning framing budget c h can))
             (answered stop meaning budget cs h there.last there.oks),
       )

@@ -30,41 +30,31 @@ use Rattle.strategy_meaning.specs.Answer.{Answer, done as run_done, failed, stop
 use Rattle.strategy_meaning.specs.Meaning.{run_whole}
 use Rattle.strategy_meaning.specs.Applied.{applied}
 use Rattle.session_history.specs.Applying.{Meaning, ReadsAsStrategy, resolved_in, world_in, given_by}
-use Rattle.session_history.specs.Modules.{Texts, ReadsBy, ReadsAsModule, AreRead, Finds, GivesProgram, Checks, refusal_of}
+use Rattle.session_history.specs.Modules.{Texts, ReadsWithin, ReadsBy, ReadsAsModule, AreRead, Finds, GivesProgram, Checks, refusal_of}
 use Rattle.session_history.specs.History.{HistoryGroup, History, changed, undone, redone}
 use Rattle.session_history.specs.Acts.{Act, set_tree as set_tree_act, copy_tree, drop_tree as drop_tree_act, put as put_act, annotate as annotate_act, set_module as set_module_act, unload as unload_act, apply as apply_act, undo as undo_act, redo as redo_act, begin as begin_act, commit as commit_act, abandon as abandon_act, ActResult, Passing, Holding, Given, Leaves, ChangesTo, ChangesModules, PutsAt, AnnotatesAt, AppliesAt, Located, Resolving, ComesTo, committed, tree_of, module_text_of, place_of}
-use Rattle.session_history.specs.Preview.{Preview, part_at, Foresees, ForeseesAt, Previews}
-use Rattle.session_history.proofs.OutermostLemmas.{outermost_paths, map_paths}
+use Rattle.session_history.specs.Preview.{Preview, Foresees, ForeseesAt, Previews}
+use Rattle.session_history.proofs.OutermostLemmas.{outermost_paths, shown_one}
 use Rattle.session_history.specs.declared.refusal.Refusal.{Refusal}
-use Rattle.session_history.specs.declared.refusal.Refusal.TheVariants.{Deep, Term, Syntax, Big, NoUndo, NoRedo, Group, NoGroup}
+use Rattle.session_history.specs.declared.refusal.Refusal.TheVariants.{Term, Syntax, Big, NoUndo, NoRedo, Group, NoGroup}
 use Rattle.script_text.specs.Form.{Form, tree, copy, drop_tree, put, annotate, set_module, unload, apply, preview, undo, redo, begin, commit, abandon, command_of}
 use Rattle.script_text.specs.Handed.{Handed, text, long}
-use Rattle.script_text.specs.Replies.{ReadAs, Told, done, previewed, Reply, Replies, history_after}
+use Rattle.script_text.specs.Replies.{ReadAs, Told, done, shown, preview_text, Reply, Replies, history_after}
 use Rattle.script_text.specs.Answer.{ReplyInRun}
 use Rattle.script_text.specs.Run.{Replied}
 
--- What a text is read as, if its count of something is at most the bound: else the first refusal,
--- and the second if it can't be read.
-abbrev Reading : {X : Type 0} → (X → Type 0) → ℕ → ℕ → Refusal → Refusal → Result X Refusal → Type 0
-Reading Gives n most over miss (Ok x) = (n ≤ most) × Gives x
-Reading Gives n most over miss (Err refusal) = ((refusal ≡ over) × (most < n)) ⊎ ((refusal ≡ miss) × (n ≤ most) × ((x : _) → Gives x → ⊥))
-
-module _ {X : Type 0} (Gives : X → Type 0) (n most : ℕ) (over miss : Refusal) (one : (a b : X) → Gives a → Gives b → a ≡ b) where
-  outcome-one : (a b : Result X Refusal) → Reading Gives n most over miss a → Reading Gives n most over miss b → a ≡ b
+module _ {X : Type 0} (Gives : X → Type 0) (n most : ℕ) (none : Refusal) (one : (a b : X) → Gives a → Gives b → a ≡ b) where
+  outcome-one : (a b : Result X Refusal) → ReadsWithin n most Gives none a → ReadsWithin n most Gives none b → a ≡ b
   outcome-one (Ok t) (Ok u) p q = ap Ok (one t u p.1 q.1)
   outcome-one (Ok t) (Err r) p (inl deep) = absurd (omega (arith, p.0, deep.1))
-  outcome-one (Ok t) (Err r) p (inr none) = absurd (none.2 t p.1)
+  outcome-one (Ok t) (Err r) p (inr never) = absurd (never.2 t p.1)
   outcome-one (Err r) (Ok u) (inl deep) q = absurd (omega (arith, q.0, deep.1))
-  outcome-one (Err r) (Ok u) (inr none) q = absurd (none.2 u q.1)
+  outcome-one (Err r) (Ok u) (inr never) q = absurd (never.2 u q.1)
   outcome-one (Err r) (Err s) p q = grind arith
 
 module _ {X : Type 0} (Spelled : List ℕ → X → Type 0) (one : (x : List ℕ) (a b : X) → Spelled x a → Spelled x b → a ≡ b) where
   ReadAs-one : (x : List ℕ) (a b : Result X Refusal) → ReadAs Spelled x a → ReadAs Spelled x b → a ≡ b
-  ReadAs-one x a b p q = outcome-one (Spelled x) (nesting x) MAX_NESTING Deep Term (one x) a b (reading a p) (reading b q)
-    where
-      reading : (r : Result X Refusal) → ReadAs Spelled x r → Reading (Spelled x) (nesting x) MAX_NESTING Deep Term r
-      reading (Ok t) p = p
-      reading (Err refusal) p = p
+  ReadAs-one x a b p q = outcome-one (Spelled x) (nesting x) MAX_NESTING Term (one x) a b p q
 
 -- ---- tests in order
 
@@ -103,15 +93,8 @@ same_fault : (f g : Fault) → Some f ≡ Some g → f ≡ g
 same_fault f g e = cc
 
 module _ {X : Type 0} (Gives : List Token → X → Type 0) (one : (x : List ℕ) (a b : X) → Gives (tokens x) a → Gives (tokens x) b → a ≡ b) where
-  abbrev From : List ℕ → X → Type 0
-  From x m = Gives (tokens x) m
-
   ReadsBy-one : (x : List ℕ) (a b : Result X Refusal) → ReadsBy Gives x a → ReadsBy Gives x b → a ≡ b
-  ReadsBy-one x a b p q = outcome-one (From x) (length (tokens x)) MAX_TOKENS Deep Syntax (one x) a b (reading a p) (reading b q)
-    where
-      reading : (r : Result X Refusal) → ReadsBy Gives x r → Reading (From x) (length (tokens x)) MAX_TOKENS Deep Syntax r
-      reading (Ok m) p = p
-      reading (Err refusal) p = p
+  ReadsBy-one x a b p q = outcome-one (Gives (tokens x)) (length (tokens x)) MAX_TOKENS Syntax (one x) a b p q
 
 AppliesAt-one : (meaning : Meaning) (name path : List ℕ) (n : ℕ) (h : History) (place : Located) (program : Program) (strategy : Resolved) (a b : ActResult) → AppliesAt meaning name path n h place program strategy a
     → AppliesAt meaning name path n h place program strategy b → a ≡ b
@@ -120,8 +103,8 @@ AppliesAt-one meaning name path n h place program strategy =
 
 Foresees-one : (path : List ℕ) (n : ℕ) (before : Tree) (answer : Answer) (a b : Result Preview Refusal) → Foresees path n before answer a → Foresees path n before answer b → a ≡ b
 Foresees-one path n before (run_done after bindings left edits) a b p q =
-    let same = map_paths (λ x. record { path = path ++ x; old = part_at before x; new = part_at after x }) p.0 q.0 (outermost_paths p.0 q.0 edits p.1 q.1) in
-    p.2 ∙ ap (λ l. Ok (record { replacements = l; steps = n - left })) same ∙ sym q.2
+    let same = shown_one path before after p.0 q.0 p.1 q.1 (outermost_paths p.0 q.0 edits p.2 q.2) p.3 q.3 in
+    p.4 ∙ ap (λ l. Ok (record { replacements = l; steps = n - left })) same ∙ sym q.4
 Foresees-one path n before (failed left) a b p q = p ∙ sym q
 Foresees-one path n before (run_stopped why) a b p q = p ∙ sym q
 
@@ -227,7 +210,7 @@ module _ (one : OneTerm) (one_module : OneModule) (one_strategy : OneResult) (me
   Replies-one (set_module name x) h = Told-one (ComesTo (set_module_act name x) h) (ComesTo-one one_module one_strategy (set_module_act name x) h)
   Replies-one (unload name) h = Told-one (ComesTo (unload_act name) h) (ComesTo-one one_module one_strategy (unload_act name) h)
   Replies-one (apply name path n x) h = Told-one (ComesTo (apply_act meaning name path n x) h) (ComesTo-one one_module one_strategy (apply_act meaning name path n x) h)
-  Replies-one (preview name path n x) h = λ r s p q. p.2 ∙ ap (previewed h) (Previews-one one_module one_strategy meaning name path n x h p.0 q.0 p.1 q.1) ∙ sym q.2
+  Replies-one (preview name path n x) h = λ r s p q. p.2 ∙ ap (shown preview_text h) (Previews-one one_module one_strategy meaning name path n x h p.0 q.0 p.1 q.1) ∙ sym q.2
   Replies-one (undo n) h = Told-one (ComesTo (undo_act n) h) (ComesTo-one one_module one_strategy (undo_act n) h)
   Replies-one (redo n) h = Told-one (ComesTo (redo_act n) h) (ComesTo-one one_module one_strategy (redo_act n) h)
   Replies-one begin h = Told-one (ComesTo begin_act h) (ComesTo-one one_module one_strategy begin_act h)
@@ -245,17 +228,18 @@ module _ (one : OneTerm) (one_module : OneModule) (one_strategy : OneResult) (me
   ReplyInRun-one budget long false h r s p q = p ∙ sym q
   ReplyInRun-one budget command true h r s p q = p.1 ∙ sym q.1
 
-  pub Replied-one : (stop : Bool) (budget : ℕ) (commands : List Handed) (flags : List Bool) (h : History) (rs ss : List Reply) → Replied stop (ReplyInRun meaning budget) commands flags h rs → Replied stop (ReplyInRun meaning budget) commands flags h ss → rs ≡ ss
-  Replied-one stop budget [] [] h [] [] p q = refl
-  Replied-one stop budget (c ∷ cs) (f ∷ fs) h (r ∷ rs) (s ∷ ss) p q =
+  pub Replied-one : (stop : Bool) (budget : ℕ) (commands : List Handed) (flags : List Bool) (h g k : History) (rs ss : List Reply) → Replied stop (ReplyInRun meaning budget) commands flags h rs g → Replied stop (ReplyInRun meaning budget) commands flags h ss k → (rs ≡ ss) × (g ≡ k)
+  Replied-one stop budget [] [] h g k [] [] p q = (refl, p ∙ sym q)
+  Replied-one stop budget (c ∷ cs) (f ∷ fs) h g k (r ∷ rs) (s ∷ ss) p q =
       let first = ReplyInRun-one budget c f h r s p.0 q.0 in
-      later (stop && is_err r) first p.1 (subst (λ (x : Reply). MatchBool (stop && is_err x) ((fs ≡ []) × (ss ≡ [])) (Replied stop (ReplyInRun meaning budget) cs fs (history_after h x) ss)) (sym first) q.1)
-      (Replied-one stop budget cs fs (history_after h r) rs ss)
+      later (stop && is_err r) first p.1 (subst (λ (x : Reply). MatchBool (stop && is_err x) ((fs ≡ []) × (ss ≡ []) × (k ≡ history_after h x)) (Replied stop (ReplyInRun meaning budget) cs fs (history_after h x) ss k)) (sym first) q.1)
+      (Replied-one stop budget cs fs (history_after h r) g k rs ss)
     where
-      later : (b : Bool) → r ≡ s → MatchBool b ((fs ≡ []) × (rs ≡ [])) (Replied stop (ReplyInRun meaning budget) cs fs (history_after h r) rs) → MatchBool b ((fs ≡ []) × (ss ≡ [])) (Replied stop (ReplyInRun meaning budget) cs fs (history_after h r) ss) →
-          (Replied stop (ReplyInRun meaning budget) cs fs (history_after h r) rs → Replied stop (ReplyInRun meaning budget) cs fs (history_after h r) ss → rs ≡ ss) → r ∷ rs ≡ s ∷ ss
-      later true e a b rest = ap (λ (x : Reply). x ∷ rs) e ∙ ap (λ (xs : List Reply). s ∷ xs) (a.1 ∙ sym b.1)
-      later false e a b rest = ap (λ (x : Reply). x ∷ rs) e ∙ ap (λ (xs : List Reply). s ∷ xs) (rest a b)
-  Replied-one stop budget [] [] h [] (s ∷ ss) p q = absurd q
-  Replied-one stop budget (c ∷ cs) (f ∷ fs) h (r ∷ rs) [] p q = absurd q
-  Replied-one stop budget cs fs h rs ss p q = absurd p
+      later : (b : Bool) → r ≡ s → MatchBool b ((fs ≡ []) × (rs ≡ []) × (g ≡ history_after h r)) (Replied stop (ReplyInRun meaning budget) cs fs (history_after h r) rs g) →
+          MatchBool b ((fs ≡ []) × (ss ≡ []) × (k ≡ history_after h r)) (Replied stop (ReplyInRun meaning budget) cs fs (history_after h r) ss k) →
+          (Replied stop (ReplyInRun meaning budget) cs fs (history_after h r) rs g → Replied stop (ReplyInRun meaning budget) cs fs (history_after h r) ss k → (rs ≡ ss) × (g ≡ k)) → (r ∷ rs ≡ s ∷ ss) × (g ≡ k)
+      later true e a b rest = (ap (λ (x : Reply). x ∷ rs) e ∙ ap (λ (xs : List Reply). s ∷ xs) (a.1 ∙ sym b.1), a.2 ∙ sym b.2)
+      later false e a b rest = (ap (λ (x : Reply). x ∷ rs) e ∙ ap (λ (xs : List Reply). s ∷ xs) (rest a b).0, (rest a b).1)
+  Replied-one stop budget [] [] h g k [] (s ∷ ss) p q = absurd q
+  Replied-one stop budget (c ∷ cs) (f ∷ fs) h g k (r ∷ rs) [] p q = absurd q
+  Replied-one stop budget cs fs h g k rs ss p q = absurd p

@@ -11,15 +11,11 @@ use Rattle.session_history.specs.History.{History}
 use Rattle.script_text.specs.Handed.{Handed}
 use Rattle.script_text.specs.Replies.{Reply, Replying, history_after, written}
 use Rattle.script_text.specs.Answer.{Answered}
-use Rattle.script_text.specs.Run.{Replied, history_after_all, out, last_answer, RunLeads, Completes, WritesFront, BreaksOff}
+use Rattle.script_text.specs.Run.{Replied, out, last_answer, Completes, WritesFront, BreaksOff}
 use Rattle.script_text.specs.inside.Counting.{one_if}
 use Rattle.script_text.proofs.WriteLemmas.{Appends-none}
 
 -- ---- lists of replies
-
-history_after_all-append : (h : History) (rs ss : List Reply) → history_after_all h (rs ++ ss) ≡ history_after_all (history_after_all h rs) ss
-history_after_all-append h [] ss = refl
-history_after_all-append h (r ∷ rs) ss = history_after_all-append (history_after h r) rs ss
 
 -- a run that doesn't stop at these replies
 abbrev pub GoesAfter : Bool → List Reply → Type 0
@@ -39,32 +35,32 @@ goes-rest stop (Ok x) rs g e = g e
 goes-rest stop (Err x) rs g e = absurd (some_refused (Err x) rs (g e) refl)
 
 -- the replies after which the run goes on, followed by those to the later commands
-Replied-append : (stop : Bool) (Rule : Replying) (cs ds : List Handed) (fs gs : List Bool) (h : History) (rs ss : List Reply) → GoesAfter stop rs → Replied stop Rule cs fs h rs →
-    Replied stop Rule ds gs (history_after_all h rs) ss → Replied stop Rule (cs ++ ds) (fs ++ gs) h (rs ++ ss)
-Replied-append stop Rule [] ds [] gs h [] ss g p q = q
-Replied-append stop Rule (c ∷ cs) ds (f ∷ fs) gs h (r ∷ rs) ss g p q =
-    let goes = goes-first stop r rs g in
-    let rest : Replied stop Rule cs fs (history_after h r) rs = subst (λ (b : Bool). MatchBool b ((fs ≡ []) × (rs ≡ [])) (Replied stop Rule cs fs (history_after h r) rs)) goes p.1 in (
+Replied-append : (stop : Bool) (Rule : Replying) (cs ds : List Handed) (h g k : History) (fs gs : List Bool) (rs ss : List Reply) → GoesAfter stop rs → Replied stop Rule cs fs h rs g →
+    Replied stop Rule ds gs g ss k → Replied stop Rule (cs ++ ds) (fs ++ gs) h (rs ++ ss) k
+Replied-append stop Rule [] ds h g k [] gs [] ss goes p q = subst (λ (x : History). Replied stop Rule ds gs x ss k) p q
+Replied-append stop Rule (c ∷ cs) ds h g k (f ∷ fs) gs (r ∷ rs) ss goes p q =
+    let on = goes-first stop r rs goes in
+    let rest : Replied stop Rule cs fs (history_after h r) rs g = subst (λ (b : Bool). MatchBool b ((fs ≡ []) × (rs ≡ []) × (g ≡ history_after h r)) (Replied stop Rule cs fs (history_after h r) rs g)) on p.1 in (
       p.0,
-      subst (λ (b : Bool). MatchBool b ((fs ++ gs ≡ []) × (rs ++ ss ≡ [])) (Replied stop Rule (cs ++ ds) (fs ++ gs) (history_after h r) (rs ++ ss))) (sym goes)
-          (Replied-append stop Rule cs ds fs gs (history_after h r) rs ss (goes-rest stop r rs g) rest q),
+      subst (λ (b : Bool). MatchBool b ((fs ++ gs ≡ []) × (rs ++ ss ≡ []) × (k ≡ history_after h r)) (Replied stop Rule (cs ++ ds) (fs ++ gs) (history_after h r) (rs ++ ss) k)) (sym on)
+          (Replied-append stop Rule cs ds (history_after h r) g k fs gs rs ss (goes-rest stop r rs goes) rest q),
     )
-Replied-append stop Rule cs ds fs gs h rs ss g p q = absurd p
+Replied-append stop Rule cs ds h g k fs gs rs ss goes p q = absurd p
 
 -- if the run stopped, no later command is replied to
-Replied-stopped : (stop : Bool) (Rule : Replying) (cs ds : List Handed) (fs : List Bool) (h : History) (rs : List Reply) → stop ≡ true → 0 < count_by is_err rs → Replied stop Rule cs fs h rs →
-    Replied stop Rule (cs ++ ds) fs h rs
-Replied-stopped stop Rule [] ds [] h [] e some p = absurd (omega (arith, some))
-Replied-stopped stop Rule (c ∷ cs) ds (f ∷ fs) h (Ok x ∷ rs) e some p =
-    let After : Bool → List Handed → Type 0 = λ b commands. MatchBool (b && false) ((fs ≡ []) × (rs ≡ [])) (Replied stop Rule commands fs (history_after h (Ok x)) rs) in
-    let rest = Replied-stopped stop Rule cs ds fs (history_after h (Ok x)) rs e some (subst (λ (b : Bool). After b cs) e p.1) in (
+Replied-stopped : (stop : Bool) (Rule : Replying) (cs ds : List Handed) (fs : List Bool) (h g : History) (rs : List Reply) → stop ≡ true → 0 < count_by is_err rs → Replied stop Rule cs fs h rs g →
+    Replied stop Rule (cs ++ ds) fs h rs g
+Replied-stopped stop Rule [] ds [] h g [] e some p = absurd (omega (arith, some))
+Replied-stopped stop Rule (c ∷ cs) ds (f ∷ fs) h g (Ok x ∷ rs) e some p =
+    let After : Bool → List Handed → Type 0 = λ b commands. MatchBool (b && false) ((fs ≡ []) × (rs ≡ []) × (g ≡ history_after h (Ok x))) (Replied stop Rule commands fs (history_after h (Ok x)) rs g) in
+    let rest = Replied-stopped stop Rule cs ds fs (history_after h (Ok x)) g rs e some (subst (λ (b : Bool). After b cs) e p.1) in (
       p.0,
       subst (λ (b : Bool). After b (cs ++ ds)) (sym e) rest,
     )
-Replied-stopped stop Rule (c ∷ cs) ds (f ∷ fs) h (Err x ∷ rs) e some p =
-    let After : Bool → List Handed → Type 0 = λ b commands. MatchBool (b && true) ((fs ≡ []) × (rs ≡ [])) (Replied stop Rule commands fs (history_after h (Err x)) rs) in
+Replied-stopped stop Rule (c ∷ cs) ds (f ∷ fs) h g (Err x ∷ rs) e some p =
+    let After : Bool → List Handed → Type 0 = λ b commands. MatchBool (b && true) ((fs ≡ []) × (rs ≡ []) × (g ≡ history_after h (Err x))) (Replied stop Rule commands fs (history_after h (Err x)) rs g) in
     let ends = subst (λ (b : Bool). After b cs) e p.1 in (p.0, subst (λ (b : Bool). After b (cs ++ ds)) (sym e) ends)
-Replied-stopped stop Rule cs ds fs h rs e some p = absurd p
+Replied-stopped stop Rule cs ds fs h g rs e some p = absurd p
 
 last_answer-append : (rs : List Reply) (s : Reply) (ss : List Reply) → last_answer (rs ++ (s ∷ ss)) ≡ last_answer (s ∷ ss)
 last_answer-append [] s ss = refl
@@ -74,13 +70,6 @@ last_answer-append (r ∷ (t ∷ rs)) s ss = last_answer-append (t ∷ rs) s ss
 append-empty : {A : Type 0} (xs ys : List A) → [] ≡ xs ++ ys → ys ≡ []
 append-empty [] ys e = sym e
 append-empty (x ∷ xs) ys e = absurd (cc)
-
-Leads-append : (stop : Bool) (Rule : Replying) (cs ds : List Handed) (h g k : History) (fs gs : List Bool) (rs ss : List Reply) → GoesAfter stop rs → RunLeads stop Rule cs h g fs rs → RunLeads stop Rule ds g k gs ss →
-    RunLeads stop Rule (cs ++ ds) h k (fs ++ gs) (rs ++ ss)
-Leads-append stop Rule cs ds h g k fs gs rs ss goes p q = record {
-  replied = Replied-append stop Rule cs ds fs gs h rs ss goes p.replied (subst (λ (x : History). Replied stop Rule ds gs x ss) p.history q.replied);
-  history = q.history ∙ ap (λ (x : History). history_after_all x ss) p.history ∙ sym (history_after_all-append h rs ss);
-}
 
 count_by-append : (p : Reply → Bool) (rs ss : List Reply) → count_by p (rs ++ ss) ≡ count_by p rs + count_by p ss
 count_by-append p rs ss = sum_by-append (λ r. cond (p r) 1 0) rs ss
@@ -92,16 +81,13 @@ one_if-total false = refl
 -- ---- one command
 
 -- whether or not the run stops at it, nothing is left
-pub end_of_one : (b : Bool) → MatchBool b ((◌≡◌ {A = List Bool} [] []) × (◌≡◌ {A = List Reply} [] [])) (Unit {0})
-end_of_one true = (refl, refl)
-end_of_one false = tt
+pub end_of_one : (b : Bool) (g k : History) → g ≡ k → MatchBool b ((◌≡◌ {A = List Bool} [] []) × (◌≡◌ {A = List Reply} [] []) × (g ≡ k)) (g ≡ k)
+end_of_one true g k e = (refl, refl, e)
+end_of_one false g k e = e
 
-Replied-one : (stop : Bool) (Rule : Replying) (command : Handed) (flag : Bool) (h : History) (r : Reply) → Rule command flag h r → Replied stop Rule (command ∷ []) (flag ∷ []) h (r ∷ [])
-Replied-one stop Rule command flag h r p = (p, end_of_one (stop && is_err r))
-
-Leads-one : (stop : Bool) (Rule : Replying) (command : Handed) (h g : History) (answer : List ℕ) (verdict : Bool) (a : Answered Rule command h g answer verdict) →
-    RunLeads stop Rule (command ∷ []) h g (a.flag ∷ []) (a.reply ∷ [])
-Leads-one stop Rule command h g answer verdict a = record { replied = Replied-one stop Rule command a.flag h a.reply a.replied; history = a.history }
+Replied-one : (stop : Bool) (Rule : Replying) (command : Handed) (h g : History) (answer : List ℕ) (verdict : Bool) (a : Answered Rule command h g answer verdict) →
+    Replied stop Rule (command ∷ []) (a.flag ∷ []) h (a.reply ∷ []) g
+Replied-one stop Rule command h g answer verdict a = (a.replied, end_of_one (stop && is_err a.reply) g (history_after h a.reply) a.history)
 
 one_ok : (verdict : Bool) (reply : Reply) → verdict ≡ is_ok reply → (one_if verdict ≡ count_by is_ok (reply ∷ [])) × (one_if (not verdict) ≡ count_by is_err (reply ∷ []))
 one_ok verdict reply e = (grind arith, grind arith)
@@ -112,7 +98,7 @@ pub Completes-one : (stop : Bool) (Rule : Replying) (command : Handed) (h g : Hi
 Completes-one stop Rule command h g answer sent verdict old new e a w = record {
   flags = a.flag ∷ [];
   replies = a.reply ∷ [];
-  leads = Leads-one stop Rule command h g answer verdict a;
+  replied = Replied-one stop Rule command h g answer verdict a;
   written = subst (λ (xs : List ℕ). Appends old new xs) (e ∙ a.written ∙ sym (append-nil (written a.reply))) w;
   accepted = (one_ok verdict a.reply a.accepted).0;
   refused = (one_ok verdict a.reply a.accepted).1;
@@ -126,7 +112,7 @@ BreaksOff-one stop Rule command h g answer sent verdict old new lost e a w = rec
   split = refl;
   flags = a.flag ∷ [];
   replies = a.reply ∷ [];
-  leads = Leads-one stop Rule command h g answer verdict a;
+  replied = Replied-one stop Rule command h g answer verdict a;
   lost = lost;
   written = record { kept = w.kept; all = append-nil (written a.reply) ∙ sym a.written ∙ sym e ∙ w.all; written = w.written };
   front = w.kept;
@@ -136,7 +122,7 @@ BreaksOff-one stop Rule command h g answer sent verdict old new lost e a w = rec
 -- ---- several in order
 
 pub Completes-none : (stop : Bool) (Rule : Replying) (h : History) (a : Option (List ℕ)) → Completes stop Rule [] h h a a 0 0
-Completes-none stop Rule h a = record { flags = []; replies = []; leads = record { replied = tt; history = refl }; written = Appends-none a a (kept a); accepted = refl; refused = refl }
+Completes-none stop Rule h a = record { flags = []; replies = []; replied = refl; written = Appends-none a a (kept a); accepted = refl; refused = refl }
   where
     kept : (o : Option (List ℕ)) → Keeps o o
     kept None = tt
@@ -150,7 +136,7 @@ pub Completes-append : (stop : Bool) (Rule : Replying) (cs ds : List Handed) (h 
 Completes-append stop Rule cs ds h g k a b c y n z m goes p q = record {
   flags = p.flags ++ q.flags;
   replies = p.replies ++ q.replies;
-  leads = Leads-append stop Rule cs ds h g k p.flags q.flags p.replies q.replies (goes_from stop n p.replies p.refused goes) p.leads q.leads;
+  replied = Replied-append stop Rule cs ds h g k p.flags q.flags p.replies q.replies (goes_from stop n p.replies p.refused goes) p.replied q.replied;
   written = subst (λ (xs : List ℕ). Appends a c xs) (sym (flat_map-append written p.replies q.replies)) (Appends-trans a b c _ _ p.written q.written);
   accepted = omega (arith, p.accepted, q.accepted, count_by-append is_ok p.replies q.replies);
   refused = omega (arith, p.refused, q.refused, count_by-append is_err p.replies q.replies);
@@ -161,10 +147,7 @@ pub Completes-stopped : (stop : Bool) (Rule : Replying) (cs ds : List Handed) (h
 Completes-stopped stop Rule cs ds h g a b y n e some p = record {
   flags = p.flags;
   replies = p.replies;
-  leads = record {
-    replied = Replied-stopped stop Rule cs ds p.flags h p.replies e (omega (arith, some, p.refused)) p.leads.replied;
-    history = p.leads.history;
-  };
+  replied = Replied-stopped stop Rule cs ds p.flags h g p.replies e (omega (arith, some, p.refused)) p.replied;
   written = p.written;
   accepted = p.accepted;
   refused = p.refused;
@@ -178,7 +161,7 @@ BreaksOff-append stop Rule cs ds h g k a b c y n goes p q = record {
   split = ap (λ (xs : List Handed). cs ++ xs) q.split ∙ sym (append_assoc cs q.first q.others);
   flags = p.flags ++ q.flags;
   replies = p.replies ++ q.replies;
-  leads = Leads-append stop Rule cs q.first h g k p.flags q.flags p.replies q.replies (goes_from stop n p.replies p.refused goes) p.leads q.leads;
+  replied = Replied-append stop Rule cs q.first h g k p.flags q.flags p.replies q.replies (goes_from stop n p.replies p.refused goes) p.replied q.replied;
   lost = q.lost;
   written = record {
     kept = out p.replies ++ q.written.kept;
@@ -201,7 +184,7 @@ BreaksOff-longer stop Rule cs ds h g a b p = record {
   split = ap (λ (xs : List Handed). xs ++ ds) p.split ∙ append_assoc p.first p.others ds;
   flags = p.flags;
   replies = p.replies;
-  leads = p.leads;
+  replied = p.replied;
   lost = p.lost;
   written = p.written;
   front = p.front;
@@ -215,7 +198,7 @@ pub Completes-by : (stop : Bool) (Rule : Replying) (cs : List Handed) (h g : His
 Completes-by stop Rule cs h g a b c d y n writes p = record {
   flags = p.flags;
   replies = p.replies;
-  leads = p.leads;
+  replied = p.replied;
   written = writes _ p.written;
   accepted = p.accepted;
   refused = p.refused;
@@ -228,7 +211,7 @@ BreaksOff-flush stop Rule cs h g a b c y n p k = record {
   split = sym (append-nil cs);
   flags = p.flags;
   replies = p.replies;
-  leads = p.leads;
+  replied = p.replied;
   lost = [];
   written = record { kept = out p.replies; all = sym (append-nil _); written = Appends-kept a b c _ p.written k };
   front = last_answer p.replies;

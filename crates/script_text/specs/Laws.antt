@@ -15,15 +15,15 @@ use Rattle.script_text.specs.Script.{is_line_feed, is_carriage_return, begins_co
 use Rattle.script_text.specs.Handed.{Handed, handed}
 use Rattle.script_text.specs.Replies.{Reply, line}
 use Rattle.script_text.specs.Answer.{ReplyInRun}
-use Rattle.script_text.specs.Run.{Replied, RunLeads, out}
+use Rattle.script_text.specs.Run.{Replied, out}
 
 -- The commands, the flags and the history before them determine the replies, and so everything that
 -- is written and the history after them, given the meaning of primitives.
 abbrev pub OneRun : Type 0
 OneRun =
-    (meaning : Meaning) (stop : Bool) (budget : ℕ) (commands : List Handed) (flags : List Bool) (h : History)
-    (replies others : List Reply) → Replied stop (ReplyInRun meaning budget) commands flags h replies
-    → Replied stop (ReplyInRun meaning budget) commands flags h others → replies ≡ others
+    (meaning : Meaning) (stop : Bool) (budget : ℕ) (commands : List Handed) (flags : List Bool) (h g k : History)
+    (replies others : List Reply) → Replied stop (ReplyInRun meaning budget) commands flags h replies g
+    → Replied stop (ReplyInRun meaning budget) commands flags h others k → (replies ≡ others) × (g ≡ k)
 
 -- ---- dumps
 
@@ -72,7 +72,7 @@ abbrev pub DumpReadsBack : Type 0
 DumpReadsBack =
     (meaning : Meaning) (framing : Framing) (stop : Bool) (budget : ℕ) (c : Contents) (h g : History) (flags : List Bool)
     (replies : List Reply) → CanBeGiven framing h.primitives c → IsBare h → AreClear flags
-    → RunLeads stop (ReplyInRun meaning budget) (handed framing (dumped c)) h g flags replies → GivesAgain framing c g replies
+    → Replied stop (ReplyInRun meaning budget) (handed framing (dumped c)) flags h replies g → GivesAgain framing c g replies
 
 -- Such a run exists on each such session: the dump is answered, and memory can grow in all its
 -- commands.
@@ -80,5 +80,5 @@ abbrev pub DumpIsAnswered : Type 0
 DumpIsAnswered =
     (meaning : Meaning) (framing : Framing) (stop : Bool) (budget : ℕ) (c : Contents) (h : History)
     → CanBeGiven framing h.primitives c → IsBare h
-    → (flags : List Bool) × (replies : List Reply)
-    × AreClear flags × Replied stop (ReplyInRun meaning budget) (handed framing (dumped c)) flags h replies
+    → (flags : List Bool) × (replies : List Reply) × (g : History)
+    × AreClear flags × Replied stop (ReplyInRun meaning budget) (handed framing (dumped c)) flags h replies g

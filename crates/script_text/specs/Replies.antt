@@ -1,5 +1,5 @@
 -- The reply to each command, and the history after it.
-use Rattle.std.specs.Prelude.{◌≡◌, ◌<◌, ◌≤◌, ◌⊎◌, ℕ, Bool, List, [], ◌∷◌, ◌++◌, length, codes, decimal, Ok, Err, MatchResult}
+use Rattle.std.specs.Prelude.{◌≡◌, ℕ, Bool, List, [], ◌∷◌, ◌++◌, length, codes, decimal, Ok, Err, MatchResult}
 use Rattle.std.specs.declared.result.Result.{Result}
 use Rattle.std.specs.List.{flat_map}
 use Rattle.std.specs.FinMap as finmap
@@ -9,13 +9,14 @@ use Rattle.aterm_text.specs.Grammar.{Spells, SpellsAnnotations}
 use Rattle.aterm_text.specs.Printed.{print, print_name as print_symbol}
 use Rattle.strategy_check.specs.Words.{word_of as kind_word}
 use Rattle.session_history.specs.History.{History}
+use Rattle.session_history.specs.Modules.{ReadsWithin}
 use Rattle.session_history.specs.Applying.{Meaning}
 use Rattle.session_history.specs.Acts as session
 use Rattle.session_history.specs.Preview.{Replacement, Preview, Previews}
 use Rattle.session_history.specs.Dump.{dumped}
 use Rattle.session_history.specs.Refusal.{number_of, word_of}
 use Rattle.session_history.specs.declared.refusal.Refusal.{Refusal}
-use Rattle.session_history.specs.declared.refusal.Refusal.TheVariants.{Long, Term, Deep, Check}
+use Rattle.session_history.specs.declared.refusal.Refusal.TheVariants.{Long, Term, Check}
 use Rattle.script_text.specs.Handed.{Handed, text as handed_text, long}
 use Rattle.script_text.specs.Form.{Form, tree, copy, drop_tree, put, annotate, set_module, unload, apply, preview, undo, redo, begin, commit, abandon, show, trees, modules, module_text, history, dump, command_of}
 
@@ -31,13 +32,9 @@ Reply = Result Accepted Refusal
 abbrev pub line : List ℕ → List ℕ
 line text = text ++ 10 ∷ []
 
--- What a text is read as, by a relation on its bytes. A text with over 1,000 brackets open at one
--- place is refused before it is read.
+-- What a text is read as, by a relation on its bytes. At one place 1,000 brackets may be open.
 abbrev pub ReadAs : {X : Type 0} → (List ℕ → X → Type 0) → List ℕ → Result X Refusal → Type 0
-ReadAs Spelled text (Ok x) = (nesting text ≤ MAX_NESTING) × Spelled text x
-ReadAs Spelled text (Err refusal) =
-    ((refusal ≡ Deep) × (MAX_NESTING < nesting text))
-    ⊎ ((refusal ≡ Term) × (nesting text ≤ MAX_NESTING) × ((x : _) → Spelled text x → ⊥))
+ReadAs Spelled text = ReadsWithin (nesting text) MAX_NESTING (Spelled text) Term
 
 -- an answer that leaves the history unchanged
 abbrev pub told_of : History → List ℕ → Accepted
@@ -55,10 +52,10 @@ done (Err refusal) = Err refusal
 abbrev pub Told : (session.ActResult → Type 0) → Reply → Type 0
 Told Comes reply = (outcome : session.ActResult) × Comes outcome × (reply ≡ done outcome)
 
--- the answer that shows a place, if it exists
-abbrev pub shown : History → Result session.Located Refusal → Reply
-shown h (Ok place) = Ok (told_of h (line (print place.part)))
-shown h (Err refusal) = Err refusal
+-- the answer that shows what was found, as this text of it, or the refusal
+abbrev pub shown : {X : Type 0} → (X → List ℕ) → History → Result X Refusal → Reply
+shown text h (Ok x) = Ok (told_of h (text x))
+shown text h (Err refusal) = Err refusal
 
 -- a path as a command gives it: `/` for the root, else a `/` and a number for each part
 abbrev pub path_text : List ℕ → List ℕ
@@ -77,26 +74,13 @@ preview_line places steps = line (codes "changes " ++ decimal places ++ codes " 
 abbrev pub preview_text : Preview → List ℕ
 preview_text p = preview_line (length p.replacements) p.steps ++ flat_map replacement_line p.replacements
 
--- the answer that shows a preview, if there is one
-abbrev pub previewed : History → Result Preview Refusal → Reply
-previewed h (Ok p) = Ok (told_of h (preview_text p))
-previewed h (Err refusal) = Err refusal
-
 -- a word, followed by a space and a name for each of these, on one line
 abbrev pub listed : List ℕ → List (List ℕ) → List ℕ
 listed word names = line (word ++ flat_map (λ name. 32 ∷ name) names)
 
--- the answer that shows a module's text, if it exists
-abbrev pub shown_text : History → Result (List ℕ) Refusal → Reply
-shown_text h (Ok text) = Ok (told_of h (line text))
-shown_text h (Err refusal) = Err refusal
-
 -- the numbers of steps to undo and to redo
 abbrev pub counted : History → List ℕ
 counted h = line (codes "undo " ++ decimal (length h.past) ++ codes " redo " ++ decimal (length h.later))
-
-abbrev pub told : History → List ℕ → Reply
-told h answer = Ok (told_of h answer)
 
 abbrev pub Is : Reply → Reply → Type 0
 Is is reply = reply ≡ is
@@ -119,18 +103,18 @@ Replies meaning (unload name) h = Told (session.ComesTo (session.unload name) h)
 Replies meaning (apply name path budget text) h =
     Told (session.ComesTo (session.apply meaning name path budget text) h)
 Replies meaning (preview name path budget text) h =
-    (λ reply. (shown : Result Preview Refusal) × Previews meaning name path budget text h shown × (reply ≡ previewed h shown))
+    (λ reply. (found : Result Preview Refusal) × Previews meaning name path budget text h found × (reply ≡ shown preview_text h found))
 Replies meaning (undo n) h = Told (session.ComesTo (session.undo n) h)
 Replies meaning (redo n) h = Told (session.ComesTo (session.redo n) h)
 Replies meaning begin h = Told (session.ComesTo session.begin h)
 Replies meaning commit h = Told (session.ComesTo session.commit h)
 Replies meaning abandon h = Told (session.ComesTo session.abandon h)
-Replies meaning (show name path) h = Is (shown h (session.place_of h.now name path))
-Replies meaning trees h = Is (told h (listed (codes "trees") (finmap.keys h.now.trees)))
-Replies meaning modules h = Is (told h (listed (codes "modules") (finmap.keys h.now.modules)))
-Replies meaning (module_text name) h = Is (shown_text h (session.module_text_of h.now name))
-Replies meaning history h = Is (told h (counted h))
-Replies meaning dump h = Is (told h (dumped h.now))
+Replies meaning (show name path) h = Is (shown (λ place. line (print place.part)) h (session.place_of h.now name path))
+Replies meaning trees h = Is (Ok (told_of h (listed (codes "trees") (finmap.keys h.now.trees))))
+Replies meaning modules h = Is (Ok (told_of h (listed (codes "modules") (finmap.keys h.now.modules))))
+Replies meaning (module_text name) h = Is (shown line h (session.module_text_of h.now name))
+Replies meaning history h = Is (Ok (told_of h (counted h)))
+Replies meaning dump h = Is (Ok (told_of h (dumped h.now)))
 
 -- The reply to a text that is a command, with this budget if it names none.
 abbrev pub ReplyToText : Meaning → ℕ → List ℕ → History → Reply → Type 0

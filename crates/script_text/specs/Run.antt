@@ -9,21 +9,16 @@ use Rattle.script_text.specs.declared.framing.Framing.{Framing}
 use Rattle.script_text.specs.Handed.{Handed, handed, completed}
 use Rattle.script_text.specs.Replies.{Reply, Replying, history_after, written}
 
--- The replies to commands in order, each at the history that the one before leaves. The flag of
--- each says whether memory couldn't grow. If a refusal stops the run, nothing after it is replied
--- to.
-abbrev pub Replied : Bool → Replying → List Handed → List Bool → History → List Reply → Type 0
-Replied stop Rule [] [] h [] = Unit {0}
-Replied stop Rule (command ∷ commands) (flag ∷ flags) h (reply ∷ replies) =
+-- The replies to commands in order, each at the history that the one before leaves; g is the last
+-- history. The flag of each says whether memory couldn't grow. If a refusal stops the run, nothing
+-- after it is replied to.
+abbrev pub Replied : Bool → Replying → List Handed → List Bool → History → List Reply → History → Type 0
+Replied stop Rule [] [] h [] g = g ≡ h
+Replied stop Rule (command ∷ commands) (flag ∷ flags) h (reply ∷ replies) g =
     Rule command flag h reply
-    × MatchBool (stop && is_err reply) ((flags ≡ []) × (replies ≡ []))
-    (Replied stop Rule commands flags (history_after h reply) replies)
-Replied stop Rule commands flags h replies = ⊥
-
--- the history after all replies
-abbrev pub history_after_all : History → List Reply → History
-history_after_all h [] = h
-history_after_all h (reply ∷ replies) = history_after_all (history_after h reply) replies
+    × MatchBool (stop && is_err reply) ((flags ≡ []) × (replies ≡ []) × (g ≡ history_after h reply))
+    (Replied stop Rule commands flags (history_after h reply) replies g)
+Replied stop Rule commands flags h replies g = ⊥
 
 -- all answers, one after the other
 abbrev pub out : List Reply → List ℕ
@@ -35,19 +30,13 @@ last_answer [] = []
 last_answer (reply ∷ []) = written reply
 last_answer (reply ∷ (next ∷ replies)) = last_answer (next ∷ replies)
 
--- These commands lead from the history h to g with these replies.
-pub record RunLeads (stop : Bool) (Rule : Replying) (commands : List Handed) (h g : History) (flags : List Bool)
-    (replies : List Reply) : Type 0 where
-  pub replied : Replied stop Rule commands flags h replies
-  pub history : g ≡ history_after_all h replies
-
--- The commands are answered and their answers written: this many were accepted, and this many
--- refused. What is written is known if the writer's bytes are.
+-- The commands are answered, which leads from the history h to g, and their answers written: this
+-- many were accepted, and this many refused. What is written is known if the writer's bytes are.
 pub record Completes (stop : Bool) (Rule : Replying) (commands : List Handed) (h g : History)
     (old new : Option (List ℕ)) (yes no : ℕ) : Type 0 where
   pub flags : List Bool
   pub replies : List Reply
-  pub leads : RunLeads stop Rule commands h g flags replies
+  pub replied : Replied stop Rule commands flags h replies g
   pub written : Appends old new (out replies)
   pub accepted : yes ≡ count_by is_ok replies
   pub refused : no ≡ count_by is_err replies
@@ -67,7 +56,7 @@ pub record BreaksOff (stop : Bool) (Rule : Replying) (commands : List Handed) (h
   pub split : commands ≡ first ++ others
   pub flags : List Bool
   pub replies : List Reply
-  pub leads : RunLeads stop Rule first h g flags replies
+  pub replied : Replied stop Rule first flags h replies g
   pub lost : List ℕ
   pub written : WritesFront old new (out replies) lost
   pub front : List ℕ
@@ -97,9 +86,11 @@ pub record AnswersPart (framing : Framing) (stop : Bool) (Rule : Replying) (h g 
   pub goes_on : stop ≡ true → no ≡ 0
   pub long : least ≤ length part
 
--- A prefix of the script was read, and the first of its commands are answered.
+-- A prefix of the script was read, and the first of its complete commands are answered; at the end of
+-- the script its last command is complete, too.
 pub record AnswersFirst (framing : Framing) (stop : Bool) (Rule : Replying) (h g : History)
     (left left' held held' : Option (List ℕ)) : Type 0 where
   pub part : List ℕ
   pub read : Consumes left left' part
-  pub breaks : BreaksOff stop Rule (handed framing part) h g held held'
+  pub breaks : BreaksOff stop Rule (completed framing part) h g held held'
+      ⊎ (IsAtEnd left' × BreaksOff stop Rule (handed framing part) h g held held')

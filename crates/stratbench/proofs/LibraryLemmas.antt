@@ -11,7 +11,7 @@ use Rattle.script_text.specs.declared.framing.Framing.TheVariants.{Continued}
 use Rattle.script_text.specs.Handed.{Handed, handed, completed, text}
 use Rattle.script_text.specs.Replies.{Reply, Replies, Told, done, history_after}
 use Rattle.script_text.specs.Answer.{ReplyInRun}
-use Rattle.script_text.specs.Run.{Answers, AnswersPart, Completes, Replied, history_after_all}
+use Rattle.script_text.specs.Run.{Answers, AnswersPart, Completes, Replied}
 use Rattle.script_core.specs.declared.running.RunFault.{RunFault}
 use Rattle.script_core.specs.declared.running.RunFault.TheVariants.{Read, Write, Turns, Memory}
 use Rattle.script_core.specs.declared.running.TheConstants.{MAX_READS}
@@ -54,13 +54,13 @@ of_rule meaning h g false reply replied e =
     subst (λ (r : _). MatchResult r (λ f. Replies meaning f h reply) (λ refusal. reply ≡ Err refusal)) sets_module replied in
     of_reply h g reply told.0 told.1 told.2 e
 
-of_replies : (meaning : Meaning) (h g : History) (flags : List Bool) (replies : List Reply) → Replied false (ReplyInRun meaning MAX_BUDGET) (text command ∷ []) flags h replies → g ≡ history_after_all h replies →
+of_replies : (meaning : Meaning) (h g : History) (flags : List Bool) (replies : List Reply) → Replied false (ReplyInRun meaning MAX_BUDGET) (text command ∷ []) flags h replies g →
     LoadsOrStays (count_by is_ok replies) h g
-of_replies meaning h g [] replies replied e = absurd replied
-of_replies meaning h g (flag ∷ flags) [] replied e = absurd replied
-of_replies meaning h g (flag ∷ []) (reply ∷ []) replied e = of_rule meaning h g flag reply replied.0 e
-of_replies meaning h g (flag ∷ []) (reply ∷ (next ∷ replies)) replied e = absurd replied.1
-of_replies meaning h g (flag ∷ (another ∷ flags)) (reply ∷ replies) replied e = absurd replied.1
+of_replies meaning h g [] replies replied = absurd replied
+of_replies meaning h g (flag ∷ flags) [] replied = absurd replied
+of_replies meaning h g (flag ∷ []) (reply ∷ []) replied = of_rule meaning h g flag reply replied.0 replied.1
+of_replies meaning h g (flag ∷ []) (reply ∷ (next ∷ replies)) replied = absurd replied.1
+of_replies meaning h g (flag ∷ (another ∷ flags)) (reply ∷ replies) replied = absurd replied.1
 
 -- ---- a run over it
 
@@ -77,9 +77,9 @@ of_answers meaning h g given left old new accepted refused is a = of_end a.end
     of_end (inl end) =
         let read : Consumes (Some LIBRARY.now) left a.script = subst (λ (it : Option (List ℕ)). Consumes it left a.script) is a.read in
         let all : handed Continued a.script ≡ text command ∷ [] = ap (handed Continued) (read_whole left a.script read end) ∙ one_command in
-        let replied : Replied false (ReplyInRun meaning MAX_BUDGET) (text command ∷ []) a.completes.flags h a.completes.replies =
-        subst (λ (cs : List Handed). Replied false (ReplyInRun meaning MAX_BUDGET) cs a.completes.flags h a.completes.replies) all a.completes.leads.replied in
-        subst (λ (n : ℕ). LoadsOrStays n h g) (sym a.completes.accepted) (of_replies meaning h g a.completes.flags a.completes.replies replied a.completes.leads.history)
+        let replied : Replied false (ReplyInRun meaning MAX_BUDGET) (text command ∷ []) a.completes.flags h a.completes.replies g =
+        subst (λ (cs : List Handed). Replied false (ReplyInRun meaning MAX_BUDGET) cs a.completes.flags h a.completes.replies g) all a.completes.replied in
+        subst (λ (n : ℕ). LoadsOrStays n h g) (sym a.completes.accepted) (of_replies meaning h g a.completes.flags a.completes.replies replied)
     of_end (inr stopped) =
         let never : false ≡ true = stopped.0 in
         absurd (cc)

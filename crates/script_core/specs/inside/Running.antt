@@ -64,11 +64,11 @@ HandsAfter which old bytes all =
     → which framing (x ++ bytes) ≡ out ++ all
 
 -- Answering these bytes fails partway.
-pub record Breaks (Rule : ByBudget) (old : Running) (h g : History) (held held' : Option (List ℕ)) (bytes : List ℕ) : Type 0
-  where
-    pub all : List Handed
-    pub hands : HandsAfter handed old.splitter bytes all
-    pub breaks : BreaksOff old.settings.stop (Rule old.settings.steps) all h g held held'
+pub record Breaks (Rule : ByBudget) (which : Framing → List ℕ → List Handed) (old : Running) (h g : History)
+    (held held' : Option (List ℕ)) (bytes : List ℕ) : Type 0 where
+  pub all : List Handed
+  pub hands : HandsAfter which old.splitter bytes all
+  pub breaks : BreaksOff old.settings.stop (Rule old.settings.steps) all h g held held'
 
 -- The commands of these bytes are answered: all of them, or all that are complete.
 pub record Ends (Rule : ByBudget) (which : Framing → List ℕ → List Handed) (old new : Running) (h g : History)
@@ -94,6 +94,7 @@ TurnRight Rule (Err Read) old new h g a b most =
     × Keeps a.left b.left × (g ≡ h) × Keeps a.held b.held
 TurnRight Rule (Err Write) old new h g a b most =
     (b.write_failures ≡ a.write_failures + 1) × (b.read_failures ≡ a.read_failures)
-    × ((bytes : List ℕ) × Consumes a.left b.left bytes × Breaks Rule old h g a.held b.held bytes)
+    × ((bytes : List ℕ) × Consumes a.left b.left bytes
+    × (Breaks Rule completed old h g a.held b.held bytes ⊎ (IsAtEnd b.left × Breaks Rule handed old h g a.held b.held bytes)))
 TurnRight Rule (Err Turns) old new h g a b most = ⊥
 TurnRight Rule (Err Memory) old new h g a b most = ⊥

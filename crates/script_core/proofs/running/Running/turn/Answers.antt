@@ -1,4 +1,4 @@
-use Rattle.std.proofs.Common.{[], refl, ◌∙◌, arith}
+use Rattle.std.proofs.Common.{[], inl, refl, ◌∙◌, arith}
 use Rattle.std.proofs.lemmas.List.{length-take}
 use Rattle.std.proofs.KnownBytes.{Consumes-nil}
 use Rattle.script_text.specs.Answer.{ReplyInRun}
@@ -6,7 +6,7 @@ use Rattle.script_core.proofs.RunningLemmas.{Breaks-flush, turned}
 use Rattle.script_core.proofs.running.Running.turn.Goals as goal
 
 pub returns-in_default-clause-right : goal.returns-in_default-clause-right
-returns-in_default-clause-right g c = (c.in_default.ensures.count, refl, ([], Consumes-nil _, Breaks-flush (ReplyInRun g.M.Meaning.meaning) _ _ _ _ c.flush.ensures.keeps))
+returns-in_default-clause-right g c = (c.in_default.ensures.count, refl, ([], Consumes-nil _, inl (Breaks-flush (ReplyInRun g.M.Meaning.meaning) _ _ _ _ c.flush.ensures.keeps)))
 
 pub returns-in-Ok-answer_bytes-clause-right : goal.returns-in-Ok-answer_bytes-clause-right
 returns-in-Ok-answer_bytes-clause-right g c =
