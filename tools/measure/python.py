@@ -7,11 +7,13 @@ Run by hand at the top of the repository, after the program was built (README ha
 It needs Python and GNU time. Three refactorings are done on each module that the Python that runs it has. The visitors are those of
 `clients/python/tests/try_modules.py`; both sides begin with the parsed tree, and end with the new one. The converter's share
 is taken apart: to terms and their texts before, from the texts that differ after. Memory is that of the program
-alone.
+alone. At last the command does all modules in processes side by side, and on workers of a Dask cluster of this machine, with a Python
+that has `distributed`, where there is one.
 """
 
 import os
 import resource
+import subprocess
 import sys
 import tempfile
 import time
@@ -21,9 +23,13 @@ from measure import TOP, built_program, heading
 
 sys.path[:0] = [f"{TOP}/clients/python", f"{TOP}/clients/python/tests"]
 
+import try_cluster  # noqa: E402
 import try_modules  # noqa: E402
 from stratbench import python, refactor, terms  # noqa: E402
 from stratbench.patch import patch  # noqa: E402
+
+# Processes, and workers.
+COUNTS = (1, 2, 4)
 
 
 def timed(work):
@@ -82,14 +88,40 @@ def main():
         _, visiting, _ = timed(lambda: [transformer().visit(it) for it in fresh])
         print(f"| `{strategy}` | {sum(map(len, edits))} | {program:.1f} | {own:.1f} | {patching:.1f} | {visiting:.1f} |")
     print(f"\nThe program took at most {memory(texts):.0f} MB for the sixteen largest modules at a time.")
-    print("\n| `--jobs` | seconds for all modules, by the clock |\n|---|---|")
-    task = refactor.Task(try_modules.library(TOP, *try_modules.REFACTORINGS[1][1]), try_modules.REFACTORINGS[1][2])
-    work = [(str(at), it) for at, it in enumerate(contents)]
-    for jobs in (1, 2, 4):
-        begun = time.monotonic()
-        outcomes = list(refactor._outcomes(work, task, jobs))
-        assert not any(it.left for it in outcomes)
-        print(f"| {jobs} | {time.monotonic() - begun:.1f} |")
+    side_by_side(contents)
+
+
+def command(python, folder, *words):
+    """The seconds, by the clock, that the command takes for the files of a folder."""
+    _, names, strategy = try_modules.REFACTORINGS[1]
+    modules = [word for name in names for word in ("--module", f"{name}={TOP}/strategies/{name}.str")]
+    called = [python, "-m", "stratbench.refactor", *modules, "--do", strategy, *words, folder]
+    begun = time.monotonic()
+    ran = subprocess.run(called, env={**os.environ, "PYTHONPATH": f"{TOP}/clients/python"}, capture_output=True)
+    assert ran.returncode == 0, ran.stderr.decode()
+    return time.monotonic() - begun
+
+
+def side_by_side(contents):
+    """The whole command on all modules, in processes and on workers."""
+    python = try_cluster.interpreter()
+    with tempfile.TemporaryDirectory() as folder:
+        for at, text in enumerate(contents):
+            with open(f"{folder}/m{at:03}.py", "wb") as it:
+                it.write(text)
+        print(f"\n| `{try_modules.REFACTORINGS[1][2]}` by the command, seconds by the clock | 1 | 2 | 4 |\n|---|---|---|---|")
+        print("| `--jobs` |", " | ".join(f"{command(python or sys.executable, folder, '--jobs', str(it)):.1f}" for it in COUNTS), "|", flush=True)
+        if python is None:
+            print("\nNo Python here has `distributed`, so no cluster was measured.")
+            return
+        taken = []
+        for count in COUNTS:
+            with try_cluster.Workers(python) as workers:
+                for at in range(count):
+                    workers.worker(f"w{at}", program=os.environ["STRATBENCH"])
+                workers.wait(count)
+                taken.append(command(python, folder, "--cluster", workers.address))
+        print("| workers of `--cluster`, with a thread each |", " | ".join(f"{it:.1f}" for it in taken), "|")
 
 
 if __name__ == "__main__":
