@@ -6,9 +6,9 @@ Run by hand at the top of the repository, after the program was built (README ha
 
 It needs Python and GNU time. Three refactorings are done on each module that the Python that runs it has. The visitors are those of
 `clients/python/tests/try_modules.py`; both sides begin with the parsed tree, and end with the new one. The converter's share
-is taken apart: to terms and their texts before, from the texts that differ after. Memory is that of the program
-alone. At last the command does all modules in processes side by side, and on workers of a Dask cluster of this machine, with a Python
-that has `distributed`, where there is one.
+is taken apart: to terms and their texts before, from the texts that differ after. Memory is the most that any process of a
+command took. At last the command does all modules in processes side by side, and on workers of a Dask cluster of this machine, with a
+Python that has `distributed`, where there is one.
 """
 
 import os
@@ -30,6 +30,14 @@ from stratbench.patch import patch  # noqa: E402
 
 # Processes, and workers.
 COUNTS = (1, 2, 4)
+
+# The same refactoring by a visitor, of each file of a folder.
+VISITED = """
+import glob, sys, try_modules
+for file in sorted(glob.glob(sys.argv[1] + "/*")):
+    with open(file, "rb") as it:
+        try_modules.Branches().visit(try_modules.parsed(it.read()))
+"""
 
 
 def timed(work):
@@ -91,28 +99,39 @@ def main():
     side_by_side(contents)
 
 
+def ran(words):
+    """The seconds, by the clock, and the MB of its largest process, that a command takes."""
+    begun = time.monotonic()
+    environment = {**os.environ, "PYTHONPATH": f"{TOP}/clients/python:{TOP}/clients/python/tests"}
+    process = subprocess.Popen(words, env=environment, stdout=subprocess.DEVNULL)
+    _, status, usage = os.wait4(process.pid, 0)
+    process.returncode = status
+    assert status == 0
+    return time.monotonic() - begun, usage.ru_maxrss / 1024
+
+
 def command(python, folder, *words):
-    """The seconds, by the clock, that the command takes for the files of a folder."""
+    """What the command takes for the files of a folder."""
     _, names, strategy = try_modules.REFACTORINGS[1]
     modules = [word for name in names for word in ("--module", f"{name}={TOP}/strategies/{name}.str")]
-    called = [python, "-m", "stratbench.refactor", *modules, "--do", strategy, *words, folder]
-    begun = time.monotonic()
-    ran = subprocess.run(called, env={**os.environ, "PYTHONPATH": f"{TOP}/clients/python"}, capture_output=True)
-    assert ran.returncode == 0, ran.stderr.decode()
-    return time.monotonic() - begun
+    return ran([python, "-m", "stratbench.refactor", *modules, "--do", strategy, *words, folder])
 
 
 def side_by_side(contents):
     """The whole command on all modules, in processes and on workers."""
     python = try_cluster.interpreter()
+    usual = python or sys.executable
     with tempfile.TemporaryDirectory() as folder:
         for at, text in enumerate(contents):
             with open(f"{folder}/m{at:03}.py", "wb") as it:
                 it.write(text)
+        jobs = [command(usual, folder, "--jobs", str(it)) for it in COUNTS]
         print(f"\n| `{try_modules.REFACTORINGS[1][2]}` by the command, seconds by the clock | 1 | 2 | 4 |\n|---|---|---|---|")
-        print("| `--jobs` |", " | ".join(f"{command(python or sys.executable, folder, '--jobs', str(it)):.1f}" for it in COUNTS), "|", flush=True)
+        print("| `--jobs` |", " | ".join(f"{seconds:.1f}" for seconds, _ in jobs), "|", flush=True)
+        _, visited = ran([usual, "-c", VISITED, folder])
+        largest = f"The command with one process takes at most {jobs[0][1]:.0f} MB; `ast.NodeTransformer`, file by file, {visited:.0f} MB"
         if python is None:
-            print("\nNo Python here has `distributed`, so no cluster was measured.")
+            print(f"\n{largest}.\n\nNo Python here has `distributed`, so no cluster was measured.")
             return
         taken = []
         for count in COUNTS:
@@ -121,7 +140,8 @@ def side_by_side(contents):
                     workers.worker(f"w{at}", program=os.environ["STRATBENCH"])
                 workers.wait(count)
                 taken.append(command(python, folder, "--cluster", workers.address))
-        print("| workers of `--cluster`, with a thread each |", " | ".join(f"{it:.1f}" for it in taken), "|")
+        print("| workers of `--cluster`, with a thread each |", " | ".join(f"{seconds:.1f}" for seconds, _ in taken), "|")
+        print(f"\n{largest}.")
 
 
 if __name__ == "__main__":
