@@ -23,10 +23,10 @@ from concurrent.futures.process import BrokenProcessPool
 from itertools import repeat
 from typing import Final, NamedTuple
 
-from . import _one_line
 from .cluster import Cluster, Lost, Unreachable
 from .diff import unified
 from .patch import Unwritable, apply_edits, patch
+from .places import Command, Text
 from .python import Source, deep, position
 from .terms import LIST, NoTerm, Term, exchange, height, read, size, write
 
@@ -196,7 +196,7 @@ class _Bench:
 
     def __init__(self, room: str, task: Task) -> None:
         self.room, self.task = room, task
-        self.words = [task.program or os.environ.get("STRATBENCH") or "stratbench", "--lines", "--library", "--explain"]
+        self.words = [task.program or os.environ.get("STRATBENCH") or "stratbench", "--library", "--explain"]
         for at, (name, text) in enumerate(task.modules):
             file = f"{room}/{at}.str"
             with open(file, "wb") as it:
@@ -216,10 +216,8 @@ class _Bench:
                 it.write(write(tree))
             words += ["--tree", f"t{at}={file}"]
         given = strategies or [self.task.strategy] * len(places)
-        script = "".join(
-            f"preview t{tree} at {_written(path)} within {self.task.within} do {_one_line(strategy)}\n"
-            for (tree, path), strategy in zip(places, given)
-        )
+        commands = self.commands([f"t{tree} at {_written(path)}" for tree, path in places], given)
+        script = "".join(f"{it.sent}\n" for it in commands)
         ran = subprocess.run(words, input=script.encode(errors="surrogateescape"), capture_output=True)
         lines = ran.stdout.split(b"\n")
         said = _explanations(ran.stderr.decode(errors="replace"))
@@ -228,15 +226,24 @@ class _Bench:
             raise _Left(re.sub(r"^stratbench: (/\S+: )?", "", why))
         found: list[dict[tuple[int, ...], Term] | _Refused] = []
         at = 0
-        for number in range(1, len(places) + 1):
+        for command in commands:
             answer = lines[at].decode(errors="replace")
             at += 1
             if answer.startswith("refused "):
-                found.append(_Refused(int(answer.split()[1]), said.get(number, answer)))
+                found.append(_Refused(int(answer.split()[1]), command.explained(said.get(command.line, answer))[0]))
                 continue
             count = int(answer.split()[1])
             found.append(dict(_replacement(line) for line in lines[at : at + count]))
             at += count
+        return found
+
+
+    def commands(self, places: Sequence[str], strategies: Sequence[str], line: int = 1) -> list[Command]:
+        """The previews of these strategies at these places, from this line of a script on."""
+        found: list[Command] = []
+        for place, strategy in zip(places, strategies):
+            found.append(Command(f"preview {place} within {self.task.within} do ", Text(strategy), line, 0))
+            line += found[-1].sent.count("\n") + 1
         return found
 
 
@@ -277,7 +284,8 @@ def check_texts(task: Task, files: Sequence[str]) -> str:
             if place and words[place - 1] == "--module":
                 words[place] = f"{word.partition('=')[0]}={files[at]}"
                 at += 1
-        script = f"tree t Module([],[])\npreview t within {task.within} do {_one_line(task.strategy)}\n"
+        [command] = bench.commands(["t"], [task.strategy], line=2)
+        script = f"tree t Module([],[])\n{command.sent}\n"
         try:
             ran = subprocess.run(words, input=script.encode(errors="surrogateescape"), capture_output=True)
         except OSError as error:
@@ -290,7 +298,7 @@ def check_texts(task: Task, files: Sequence[str]) -> str:
     if len(answers) < 2:
         return said.strip() or f"{words[0]} ended with status {ran.returncode}"
     if answers[1].startswith("refused ") and int(answers[1].split()[1]) in _OF_TEXTS:
-        return "--do: " + _explanations(said).get(2, answers[1])
+        return "--do: " + command.explained(_explanations(said).get(command.line, answers[1]))[0]
     return ""
 
 
