@@ -17,6 +17,7 @@ import subprocess
 import sys
 import tempfile
 import time
+import zlib
 
 from files import most_memory
 from measure import TOP, built_program, heading
@@ -25,11 +26,12 @@ sys.path[:0] = [f"{TOP}/clients/python", f"{TOP}/clients/python/tests"]
 
 import try_cluster  # noqa: E402
 import try_modules  # noqa: E402
-from stratbench import python, refactor, terms  # noqa: E402
+from stratbench import Refused, Stratbench, cluster, python, refactor, terms  # noqa: E402
 from stratbench.patch import patch  # noqa: E402
 
 # Processes, and workers.
 COUNTS = (1, 2, 4)
+CALLS = 5_000
 
 # The same refactoring by a visitor, of each file of a folder.
 VISITED = """
@@ -97,6 +99,26 @@ def main():
         print(f"| `{strategy}` | {sum(map(len, edits))} | {program:.1f} | {own:.1f} | {patching:.1f} | {visiting:.1f} |")
     print(f"\nThe program took at most {memory(texts):.0f} MB for the sixteen largest modules at a time.")
     side_by_side(contents)
+    calls()
+
+
+def calls():
+    """What calls of a session take, by the clock."""
+
+    def each(call):
+        begun = time.monotonic()
+        for _ in range(CALLS):
+            try:
+                call()
+            except Refused:
+                pass
+        return (time.monotonic() - begun) / CALLS * 1e6
+
+    with Stratbench() as bench:
+        bench.tree("t", "f(a,b)")
+        taken = [each(lambda: bench.show("t")), each(lambda: bench.apply("t", "id")), each(lambda: bench.apply("t", "?1"))]
+    print("\n| Calls of a session, microseconds by the clock | `show` | `apply` | an `apply` that fails, with why |\n|---|---|---|---|")
+    print("| of a tree of three terms |", " | ".join(f"{it:.0f}" for it in taken), "|")
 
 
 def ran(words):
@@ -142,6 +164,8 @@ def side_by_side(contents):
                 taken.append(command(python, folder, "--cluster", workers.address))
         print("| workers of `--cluster`, with a thread each |", " | ".join(f"{seconds:.1f}" for seconds, _ in taken), "|")
         print(f"\n{largest}.")
+        sent = sum(len(zlib.compress(it)) for it in contents) / len(contents)
+        print(f"\nA file has {sum(map(len, contents)) / len(contents):,.0f} bytes, {sent:,.0f} as it is sent, and the client {len(cluster.packed()):,}, for each batch.")
 
 
 if __name__ == "__main__":
