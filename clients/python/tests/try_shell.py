@@ -88,6 +88,18 @@ class Terminal:
         self.type("\n")
         return self.see(rf"(?s:{wanted}.*)\n>>? ?$")
 
+    def cancel(self):
+        """Types Ctrl-C. Python misses one that comes while it shows the key before, so it's typed again as a person would."""
+        for _ in range(5):
+            time.sleep(0.1)
+            self.type("\x03")
+            try:
+                self.see(r"\n> ?$", seconds=2)
+                return
+            except Unlike:
+                pass
+        raise Unlike(f"Ctrl-C cancels nothing: {self.seen[self.at :]!r}")
+
     def program(self):
         """The process of the program."""
         with open(f"/proc/{self.ran.pid}/task/{self.ran.pid}/children") as it:
@@ -165,8 +177,7 @@ def second(it, folder):
     it.at = len(it.seen)
     it.type("tree v f(")
     it.see(r"f\(")
-    it.type("\x03")
-    it.see(r"\n> ?$")
+    it.cancel()
     it.do("trees", "^trees t u$")
     it.at = len(it.seen)
     it.type("module m\n\n")
