@@ -6,24 +6,40 @@ Run by hand at the top of the repository, after the program was built (README ha
 
 It needs Python and GNU time. Three refactorings are done on each module that the Python that runs it has. The visitors are those of
 `clients/python/tests/try_modules.py`; both sides begin with the parsed tree, and end with the new one. The converter's share
-is taken apart: to terms and their texts before, from the texts that differ after. Memory is that of the program
-alone.
+is taken apart: to terms and their texts before, from the texts that differ after. Memory is the most that any process of a
+command took. At last the command does all modules in processes side by side, and on workers of a Dask cluster of this machine, with a
+Python that has `distributed`, where there is one.
 """
 
 import os
 import resource
+import subprocess
 import sys
 import tempfile
 import time
+import zlib
 
 from files import most_memory
 from measure import TOP, built_program, heading
 
 sys.path[:0] = [f"{TOP}/clients/python", f"{TOP}/clients/python/tests"]
 
+import try_cluster  # noqa: E402
 import try_modules  # noqa: E402
-from stratbench import python, refactor, terms  # noqa: E402
+from stratbench import Refused, Stratbench, cluster, python, refactor, terms  # noqa: E402
 from stratbench.patch import patch  # noqa: E402
+
+# Processes, and workers.
+COUNTS = (1, 2, 4)
+CALLS = 5_000
+
+# The same refactoring by a visitor, of each file of a folder.
+VISITED = """
+import glob, sys, try_modules
+for file in sorted(glob.glob(sys.argv[1] + "/*")):
+    with open(file, "rb") as it:
+        try_modules.Branches().visit(try_modules.parsed(it.read()))
+"""
 
 
 def timed(work):
@@ -82,14 +98,74 @@ def main():
         _, visiting, _ = timed(lambda: [transformer().visit(it) for it in fresh])
         print(f"| `{strategy}` | {sum(map(len, edits))} | {program:.1f} | {own:.1f} | {patching:.1f} | {visiting:.1f} |")
     print(f"\nThe program took at most {memory(texts):.0f} MB for the sixteen largest modules at a time.")
-    print("\n| `--jobs` | seconds for all modules, by the clock |\n|---|---|")
-    task = refactor.Task(try_modules.library(TOP, *try_modules.REFACTORINGS[1][1]), try_modules.REFACTORINGS[1][2])
-    work = [(str(at), it) for at, it in enumerate(contents)]
-    for jobs in (1, 2, 4):
+    side_by_side(contents)
+    calls()
+
+
+def calls():
+    """What calls of a session take, by the clock."""
+
+    def each(call):
         begun = time.monotonic()
-        outcomes = list(refactor._outcomes(work, task, jobs))
-        assert not any(it.left for it in outcomes)
-        print(f"| {jobs} | {time.monotonic() - begun:.1f} |")
+        for _ in range(CALLS):
+            try:
+                call()
+            except Refused:
+                pass
+        return (time.monotonic() - begun) / CALLS * 1e6
+
+    with Stratbench() as bench:
+        bench.tree("t", "f(a,b)")
+        taken = [each(lambda: bench.show("t")), each(lambda: bench.apply("t", "id")), each(lambda: bench.apply("t", "?1"))]
+    print("\n| Calls of a session, microseconds by the clock | `show` | `apply` | an `apply` that fails, with why |\n|---|---|---|---|")
+    print("| of a tree of three terms |", " | ".join(f"{it:.0f}" for it in taken), "|")
+
+
+def ran(words):
+    """The seconds, by the clock, and the MB of its largest process, that a command takes."""
+    begun = time.monotonic()
+    environment = {**os.environ, "PYTHONPATH": f"{TOP}/clients/python:{TOP}/clients/python/tests"}
+    process = subprocess.Popen(words, env=environment, stdout=subprocess.DEVNULL)
+    _, status, usage = os.wait4(process.pid, 0)
+    process.returncode = status
+    assert status == 0
+    return time.monotonic() - begun, usage.ru_maxrss / 1024
+
+
+def command(python, folder, *words):
+    """What the command takes for the files of a folder."""
+    _, names, strategy = try_modules.REFACTORINGS[1]
+    modules = [word for name in names for word in ("--module", f"{name}={TOP}/strategies/{name}.str")]
+    return ran([python, "-m", "stratbench.refactor", *modules, "--do", strategy, *words, folder])
+
+
+def side_by_side(contents):
+    """The whole command on all modules, in processes and on workers."""
+    python = try_cluster.interpreter()
+    usual = python or sys.executable
+    with tempfile.TemporaryDirectory() as folder:
+        for at, text in enumerate(contents):
+            with open(f"{folder}/m{at:03}.py", "wb") as it:
+                it.write(text)
+        jobs = [command(usual, folder, "--jobs", str(it)) for it in COUNTS]
+        print(f"\n| `{try_modules.REFACTORINGS[1][2]}` by the command, seconds by the clock | 1 | 2 | 4 |\n|---|---|---|---|")
+        print("| `--jobs` |", " | ".join(f"{seconds:.1f}" for seconds, _ in jobs), "|", flush=True)
+        _, visited = ran([usual, "-c", VISITED, folder])
+        largest = f"The command with one process takes at most {jobs[0][1]:.0f} MB; `ast.NodeTransformer`, file by file, {visited:.0f} MB"
+        if python is None:
+            print(f"\n{largest}.\n\nNo Python here has `distributed`, so no cluster was measured.")
+            return
+        taken = []
+        for count in COUNTS:
+            with try_cluster.Workers(python) as workers:
+                for at in range(count):
+                    workers.worker(f"w{at}", program=os.environ["STRATBENCH"])
+                workers.wait(count)
+                taken.append(command(python, folder, "--cluster", workers.address))
+        print("| workers of `--cluster`, with a thread each |", " | ".join(f"{seconds:.1f}" for seconds, _ in taken), "|")
+        print(f"\n{largest}.")
+        sent = sum(len(zlib.compress(it)) for it in contents) / len(contents)
+        print(f"\nA file has {sum(map(len, contents)) / len(contents):,.0f} bytes, {sent:,.0f} as it is sent, and the client {len(cluster.packed()):,}, for each batch.")
 
 
 if __name__ == "__main__":

@@ -17,8 +17,7 @@
     >>> bench.close()
     0
 
-The program is looked for in PATH; the environment's STRATBENCH names another. It is run with `--lines`: a line is a
-command, and is answered before the next is sent. Texts may have many lines: they are sent on one, without comments.
+The program is looked for in PATH; the environment's STRATBENCH names another. Each command is answered before the next is sent.
 """
 
 from __future__ import annotations
@@ -26,17 +25,47 @@ from __future__ import annotations
 import contextlib
 import os
 import re
-import subprocess
+import time
 from collections.abc import Iterator, Sequence
 from types import TracebackType
+from typing import Final, NamedTuple, Union
+
+from .parts import Step, TooLong, in_parts
+from .places import Command, Text
+from .process import Process
+from .terms import NoTerm, Term, read, write
+
+# A path as it is written, `/0/2`, or the steps of one, `(0, 2)`; and a term as a text, or as a value.
+Path = Union[str, Sequence[int]]
+TermText = Union[str, Term]
+
+# A command is complete when the next begins. So the start of the next is sent with each: a carriage return and a blank, which
+# are skipped where a command follows them.
+_BEGINS: Final = "\r "
+# The most bytes of a command with that start, those of a part of a term that is longer, and the most steps of an `apply`.
+_MOST: Final = 65_536 - len(_BEGINS)
+_PART: Final = 50_000
+_MOST_STEPS: Final = 1_000_000
 
 
 class Refused(Exception):
-    """A command that was refused, and changed nothing: its `number` and `word`, and for the number 11, whose word
-    is `check`, the `fault`, as `('unknown', 'f', 0, 0)`, of which the first is its kind. Names that aren't words have their quotes."""
+    """A command that was refused, and changed nothing.
 
-    def __init__(self, answer: str) -> None:
-        super().__init__(answer)
+    `number` and `word` are those of the refusal; for the number 11, whose word is `check`, there is the `fault`, as
+    `('unknown', 'f', 0, 0)`, of which the first is its kind. Names that aren't words have their quotes. `explanation` says
+    what was wrong; a line and a column in it are those of the text that the caller gave, as `place` is, the first of these.
+
+        >>> with Stratbench() as bench:
+        ...     bench.module("m", "strategies\\n  f = id\\n  g = f)\\n")
+        Traceback (most recent call last):
+        stratbench.Refused: refused 10 syntax: module m: no module goes on with `)` at line 3, column 8
+              g = f)
+                   ^
+    """
+
+    def __init__(self, answer: str, explanation: str = "", place: tuple[int, int] | None = None) -> None:
+        super().__init__(answer, explanation, place)
+        self.explanation, self.place = explanation, place
         _, number, self.word = answer.split(" ", 2)
         self.number = int(number)
         self.fault: tuple[str, str, int, int] | None = None
@@ -45,27 +74,76 @@ class Refused(Exception):
             name, first, second = rest.rsplit(" ", 2)
             self.word, self.fault = "check", (kind, name, int(first), int(second))
 
+    def __str__(self) -> str:
+        return f"{self.args[0]}: {self.explanation}" if self.explanation else str(self.args[0])
+
+
+class Ended(EOFError):
+    """The program has ended: `status` is its exit status, and `said` what it said on standard error.
+
+        >>> Stratbench(options=["--tree", "t=/none"])
+        Traceback (most recent call last):
+        stratbench.Ended: the session has ended with status 3: read fault: /none
+    """
+
+    def __init__(self, status: int, said: str) -> None:
+        super().__init__(status, said)
+        self.status, self.said = status, said
+
+    def __str__(self) -> str:
+        return f"the session has ended with status {self.status}" + (f": {self.said}" if self.said else "")
+
+
+class Replacement(NamedTuple):
+    """What an `apply` would replace: a path, the subterm there, and the term that would be there."""
+
+    path: tuple[int, ...]
+    old: Term
+    new: Term
+
+    @classmethod
+    def read(cls, line: str) -> Replacement:
+        """Returns what a line of a `preview` says."""
+        place, old, new = _replacement(line)
+        return cls(_steps(place), read(old), read(new))
+
 
 class Stratbench:
     """A session. `library` loads the usual traversals first, `steps` is the budget of `apply` where it names none, and
     `options` are further words of the command line, as `["--tree", "t=in.aterm"]`. It can be a context manager, which
-    closes it. Where the program has ended, as for a file that isn't there, a call raises `EOFError`; the program says why
-    on standard error.
+    closes it.
 
-        >>> with Stratbench() as bench:
-        ...     bench.tree("t", "f(1")
+    A call that takes more than `seconds` raises `TimeoutError`, and ends the session; the attribute may be changed. What the
+    program says of an accepted command, as the warnings of a module, is in `warnings` until the next command.
+
+        >>> bench = Stratbench(seconds=10)
+        >>> bench.module("m", "rules R : x -> y")
+        >>> bench.warnings
+        ['in `R`, line 1, column 16: `y` is only on the right side: nothing binds it']
+        >>> bench.tree("t", "a")
+        >>> bench.seconds = 0.001
+        >>> bench.apply("t", "rec x(x)", within=1_000_000)
         Traceback (most recent call last):
-        stratbench.Refused: refused 7 term
+        TimeoutError: no answer after 0.001 seconds
     """
 
     def __init__(
-        self, library: bool = False, steps: int | None = None, options: Sequence[str] = (), program: str | None = None
+        self,
+        library: bool = False,
+        steps: int | None = None,
+        options: Sequence[str] = (),
+        program: str | None = None,
+        seconds: float | None = None,
     ) -> None:
-        words = [program or os.environ.get("STRATBENCH") or "stratbench", "--lines", *options]
+        words = [program or os.environ.get("STRATBENCH") or "stratbench", *options]
+        words += ["--explain"] * ("--explain" not in options)
         words += ["--library"] * library + (["--steps", str(steps)] if steps else [])
-        self._ran = subprocess.Popen(words, stdin=subprocess.PIPE, stdout=subprocess.PIPE)
-        assert self._ran.stdin and self._ran.stdout
-        self._commands, self._answers = self._ran.stdin, self._ran.stdout
+        self.seconds = seconds
+        self.warnings: list[str] = []
+        self._line = 1
+        self._grouped = False
+        self._process = Process(words)
+        self._answer("history")
 
     def __enter__(self) -> Stratbench:
         return self
@@ -74,192 +152,285 @@ class Stratbench:
         self.close()
 
     def close(self) -> int:
-        """Ends the session, and returns the exit status of the program."""
-        with contextlib.suppress(BrokenPipeError):
-            self._commands.close()
-        self._answers.close()
-        return self._ran.wait()
+        """Ends the session, and returns the exit status of the program. What it said at its end is in `warnings`.
 
-    def tree(self, name: str, text: str) -> None:
-        """Gives the name the tree that the text spells."""
-        self._do(f"tree {name} {_one_line(text, comments=False)}")
+        >>> bench = Stratbench()
+        >>> bench.close(), bench.close()
+        (0, 0)
+        >>> bench.trees()
+        Traceback (most recent call last):
+        stratbench.Ended: the session has ended with status 0
+        """
+        if self._process.status is None:
+            with contextlib.suppress(EOFError):
+                # which completes what was begun
+                self._process.write("history\n")
+            self._process.end()
+            self.warnings = [re.sub(r"^line \d+: warning: ", "", it) for it in self._process.said()]
+        return self._process.end()
 
-    def put(self, name: str, at: str, text: str) -> None:
+    def run(self, command: str) -> str:
+        """Runs a command as scripts have it, and returns its answer.
+
+        >>> with Stratbench() as bench:
+        ...     bench.run("tree t f(a,b)"), bench.run("show t at /1"), bench.run("trees")
+        ('ok', 'b', 'trees t')
+        """
+        word = command.split(None, 1)[0] if command.strip() and not command.startswith("#") else ""
+        if not word:
+            raise ValueError("no command")
+        return "\n".join(self._answer("", Text(command, comments=word not in ("tree", "put", "annotate"))))
+
+    def tree(self, name: str, text: TermText) -> None:
+        """Gives the name the tree that the text spells. A text that is too long for a command is given in parts, as one step.
+
+        >>> bench = Stratbench()
+        >>> bench.tree("t", "[" + ",".join(map(str, range(50_000))) + "]")
+        >>> bench.show("t", at=(49_999,)), bench.history()
+        ('49999', (1, 0))
+        >>> bench.tree("u", Term("f", (Term(1), Term(b"a string"))))
+        >>> bench.show("u")
+        'f(1,"a string")'
+        """
+        self._give(f"tree {name} ", name, (), text)
+
+    def put(self, name: str, at: Path, text: TermText) -> None:
         """Replaces the subterm at the path by what the text spells.
 
-            >>> bench = Stratbench()
-            >>> bench.tree("t", "f(a,b)")
-            >>> bench.put("t", "/1", "g(c)")
-            >>> bench.annotate("t", "/0", "{1}")
-            >>> bench.copy("t", "u")
-            >>> bench.drop("t")
-            >>> bench.trees(), bench.show("u")
-            (['u'], 'f(a{1},g(c))')
+        >>> bench = Stratbench()
+        >>> bench.tree("t", "f(a,b)")
+        >>> bench.put("t", "/1", "g(c)")
+        >>> bench.annotate("t", (0,), "{1}")
+        >>> bench.copy("t", "u")
+        >>> bench.drop("t")
+        >>> bench.trees(), bench.show("u"), bench.term("u", at="/1").head
+        (['u'], 'f(a{1},g(c))', 'g')
         """
-        self._do(f"put {name} {at} {_one_line(text, comments=False)}")
+        self._give(f"put {name} {_path(at)} ", name, _steps(at), text)
 
-    def annotate(self, name: str, at: str, text: str) -> None:
+    def annotate(self, name: str, at: Path, text: str) -> None:
         """Replaces the annotations of the subterm at the path by those of the text, `{..}`."""
-        self._do(f"annotate {name} {at} {_one_line(text, comments=False)}")
+        self._answer(f"annotate {name} {_path(at)} ", Text(text, comments=False))
 
     def copy(self, name: str, to: str) -> None:
         """Gives the other name a copy of the tree."""
-        self._do(f"copy {name} {to}")
+        self._answer(f"copy {name} {to}")
 
     def drop(self, name: str) -> None:
         """Takes a tree away."""
-        self._do(f"drop {name}")
+        self._answer(f"drop {name}")
 
     def module(self, name: str, text: str) -> None:
         """Gives the name a module of strategies."""
-        self._do(f"module {name} {_one_line(text)}")
+        self._answer(f"module {name} ", Text(text))
 
     def unload(self, name: str) -> None:
         """Takes a module away."""
-        self._do(f"unload {name}")
+        self._answer(f"unload {name}")
 
     def trees(self) -> list[str]:
         """Returns the names of the trees."""
-        return self._answer("trees").split(" ")[1:]
+        return self._answer("trees")[0].split(" ")[1:]
 
     def modules(self) -> list[str]:
         """Returns the names of the modules."""
-        return self._answer("modules").split(" ")[1:]
+        return self._answer("modules")[0].split(" ")[1:]
 
-    def apply(self, name: str, strategy: str, at: str | None = None, within: int | None = None) -> None:
+    def apply(self, name: str, strategy: str, at: Path | None = None, within: int | None = None) -> None:
         """Replaces the tree, or its subterm at the path, by what the strategy gives for it in at most `within` steps.
 
-            >>> bench = Stratbench()
-            >>> bench.tree("t", "[1,2]")
-            >>> bench.apply("t", '?x; prim("addi",x,40)', at="/1")
-            >>> bench.show("t"), bench.show("t", at="/1")
-            ('[1,42]', '42')
-            >>> bench.apply("t", "f")
-            Traceback (most recent call last):
-            stratbench.Refused: refused 11 unknown f 0 0
-            >>> try:
-            ...     bench.apply("t", "rec x(x)", within=10)
-            ... except Refused as refused:
-            ...     print(refused.number, refused.word, refused.fault)
-            13 spent None
+        >>> bench = Stratbench()
+        >>> bench.tree("t", "[1,2]")
+        >>> bench.apply("t", '?x; prim("addi",x,40)', at="/1")
+        >>> bench.show("t"), bench.show("t", at="/1")
+        ('[1,42]', '42')
+        >>> bench.apply("t", "f")
+        Traceback (most recent call last):
+        stratbench.Refused: refused 11 unknown f 0 0: at line 1, column 1
+            f
+            ^
+        >>> try:
+        ...     bench.apply("t", "rec x(x)", within=10)
+        ... except Refused as refused:
+        ...     print(refused.number, refused.word, refused.fault)
+        13 spent None
         """
-        self._do(f"apply {name}{_place(at, within)} do {_one_line(strategy)}")
+        self._answer(f"apply {name}{_place(at, within)} do ", Text(strategy))
 
     def preview(
-        self, name: str, strategy: str, at: str | None = None, within: int | None = None
+        self, name: str, strategy: str, at: Path | None = None, within: int | None = None
     ) -> tuple[int, list[tuple[str, str, str]]]:
         """Returns how many steps such an `apply` would take, and what it would replace: for each place its path, the
         subterm there, and the term that would be there. Nothing changes.
 
-            >>> bench = Stratbench()
-            >>> bench.tree("t", 'f(a,"x => y")')
-            >>> bench.preview("t", "all({x: ?x; ![x]})")
-            (9, [('/0', 'a', '[a]'), ('/1', '"x => y"', '["x => y"]')])
-            >>> bench.show("t")
-            'f(a,"x => y")'
+        >>> bench = Stratbench()
+        >>> bench.tree("t", 'f(a,"x => y")')
+        >>> bench.preview("t", "all({x: ?x; ![x]})")
+        (9, [('/0', 'a', '[a]'), ('/1', '"x => y"', '["x => y"]')])
+        >>> bench.show("t")
+        'f(a,"x => y")'
         """
-        first = self._answer(f"preview {name}{_place(at, within)} do {_one_line(strategy)}")
-        changes, steps = map(int, re.findall(r"\d+", first))
-        return steps, [_replacement(self._read()) for _ in range(changes)]
+        first, *lines = self._answer(f"preview {name}{_place(at, within)} do ", Text(strategy))
+        return int(first.split(" ")[-1]), [_replacement(line) for line in lines]
 
-    def show(self, name: str, at: str | None = None) -> str:
+    def replacements(self, name: str, strategy: str, at: Path | None = None, within: int | None = None) -> list[Replacement]:
+        """Returns what such an `apply` would replace, as terms. Nothing changes.
+
+        >>> bench = Stratbench()
+        >>> bench.tree("t", "f(a,g(b))")
+        >>> bench.replacements("t", "all(all(!1))")
+        [Replacement(path=(1, 0), old=b, new=1)]
+        """
+        _, *lines = self._answer(f"preview {name}{_place(at, within)} do ", Text(strategy))
+        return [Replacement.read(line) for line in lines]
+
+    def show(self, name: str, at: Path | None = None) -> str:
         """Returns the tree, or its subterm at the path, as a text."""
-        return self._answer(f"show {name}" + (f" at {at}" if at is not None else ""))
+        return self._answer(f"show {name}{_place(at)}")[0]
+
+    def term(self, name: str, at: Path | None = None) -> Term:
+        """Returns the tree, or its subterm at the path, as a term."""
+        return read(self.show(name, at))
 
     def text(self, name: str) -> str:
         """Returns the text of a module.
 
-            >>> bench = Stratbench()
-            >>> bench.module("m", "strategies  f = id")
-            >>> bench.text("m")
-            'strategies  f = id'
+        >>> bench = Stratbench()
+        >>> bench.module("m", "strategies\\n  f = id // nothing")
+        >>> bench.text("m")
+        'strategies\\n  f = id // nothing'
         """
-        return self._lines(f"text {name}")
+        return "\n".join(self._answer(f"text {name}"))
 
     def dump(self) -> str:
         """Returns a script that makes the trees and the modules again.
 
-            >>> bench = Stratbench()
-            >>> bench.tree("t", "f(A)")
-            >>> bench.module("m", "strategies f = id")
-            >>> print(bench.dump())
-            tree t f(A)
-            begin
-            module m strategies f = id
-            commit
+        >>> bench = Stratbench()
+        >>> bench.tree("t", "f(A)")
+        >>> bench.module("m", "strategies f = id")
+        >>> print(bench.dump())
+        tree t f(A)
+        begin
+        module m strategies f = id
+        commit
         """
-        return self._lines("dump")
+        return "\n".join(self._answer("dump"))
 
     def undo(self, steps: int = 1) -> None:
         """Undoes this many steps."""
-        self._do(f"undo {steps}")
+        self._answer(f"undo {steps}")
 
     def redo(self, steps: int = 1) -> None:
         """Redoes this many undone steps."""
-        self._do(f"redo {steps}")
+        self._answer(f"redo {steps}")
 
     @contextlib.contextmanager
     def group(self) -> Iterator[Stratbench]:
         """Makes one step of the changes in it. An exception undoes them all.
 
-            >>> bench = Stratbench()
-            >>> bench.tree("t", "a")
-            >>> with bench.group():
-            ...     bench.tree("t", "b")
-            ...     bench.apply("t", "fail")
-            Traceback (most recent call last):
-            stratbench.Refused: refused 12 fails
-            >>> bench.show("t"), bench.history()
-            ('a', (1, 0))
+        >>> bench = Stratbench()
+        >>> bench.tree("t", "a")
+        >>> with bench.group():
+        ...     bench.tree("t", "b")
+        ...     bench.apply("t", "fail")
+        Traceback (most recent call last):
+        stratbench.Refused: refused 12 fails: it was applied to the constant `b`
+        >>> bench.show("t"), bench.history()
+        ('a', (1, 0))
         """
-        self._do("begin")
+        self._answer("begin")
         try:
             yield self
-            self._do("commit")
+            self._answer("commit")
         except BaseException:
-            self._do("abandon")
+            # where the program has ended there is nothing to take back
+            with contextlib.suppress(Ended):
+                self._answer("abandon")
             raise
 
     def history(self) -> tuple[int, int]:
         """Returns the numbers of steps that can be undone and redone."""
-        undone, redone = map(int, re.findall(r"\d+", self._answer("history")))
+        undone, redone = map(int, re.findall(r"\d+", self._answer("history")[0]))
         return undone, redone
 
-    # The answer to `history` begins with `undo `. No line of a module's text or a dump does.
-    def _lines(self, command: str) -> str:
-        self._send(command)
-        self._send("history")
-        lines = [self._read()]
-        while not lines[-1].startswith("undo "):
-            lines.append(self._read())
-        if lines[0].startswith("refused "):
-            raise Refused(lines[0])
-        return "\n".join(lines[:-1])
-
-    def _do(self, command: str) -> None:
-        self._answer(command)
-
-    def _answer(self, command: str) -> str:
-        self._send(command)
-        answer = self._read()
-        if answer.startswith("refused "):
-            raise Refused(answer)
-        return answer
-
-    def _send(self, command: str) -> None:
-        if "\n" in command:
-            raise ValueError("a line feed in a name or a path")
+    # Gives a tree, or a subterm of one, in parts where it is too long for a command.
+    def _give(self, head: str, name: str, path: tuple[int, ...], given: TermText) -> None:
+        text = Text(write(given) if isinstance(given, Term) else given, comments=False)
+        if len(head) + len(text.sent) <= _MOST // 2 or len((head + text.sent).encode(errors="surrogateescape")) <= _MOST:
+            self._answer(head, text)
+            return
         try:
-            self._commands.write(command.encode(errors="surrogateescape") + b"\n")
-            self._commands.flush()
-        except BrokenPipeError:
-            raise EOFError("the program has ended") from None
+            steps = list(in_parts(given if isinstance(given, Term) else read(given), path, _PART))
+        except NoTerm as error:
+            raise Refused("refused 7 term", str(error)) from None
+        except TooLong as error:
+            raise Refused("refused 3 long", str(error)) from None
+        begins = head.split(" ")[0]
+        if not self._grouped:
+            with self.group():
+                self._give_parts(name, begins, steps)
+            return
+        # in a group of the caller's a copy gets the parts, so that nothing has changed where one is refused
+        trees = self.trees()
+        aside = next(it for it in map("aside{}".format, range(len(trees) + 1)) if it not in trees)
+        if begins == "put":
+            self.copy(name, aside)
+        try:
+            self._give_parts(aside, begins, steps)
+            self.copy(aside, name)
+        finally:
+            with contextlib.suppress(Refused):
+                self.drop(aside)
 
-    def _read(self) -> str:
-        line = self._answers.readline()
-        if not line.endswith(b"\n"):
-            raise EOFError("the program has ended")
-        return line[:-1].decode(errors="surrogateescape")
+    def _give_parts(self, name: str, begins: str, steps: list[Step]) -> None:
+        for at, (kind, path, text) in enumerate(steps):
+            if kind == "join":
+                self.apply(name, text, path, within=_MOST_STEPS)
+            elif at == 0 and begins == "tree":
+                self._answer(f"tree {name} ", Text(text, comments=False))
+            else:
+                self._answer(f"{kind} {name} {_path(path)} ", Text(text, comments=False))
+
+    # Sends a command, and returns the lines of its answer.
+    def _answer(self, head: str, text: Text | None = None) -> list[str]:
+        if "\n" in head or "\r" in head:
+            raise ValueError("a line feed in a name or a path")
+        command = Command(head, text or Text(""), self._line, 0 if self._line == 1 else len(_BEGINS))
+        word = (command.sent.split(None, 1) or [""])[0]
+        self.warnings = []
+        try:
+            lines = self._lines(word, command.sent)
+        except EOFError:
+            raise Ended(self._process.end(), "\n".join(self._process.said())) from None
+        except BaseException as error:
+            # the answer would be taken for that of the next command
+            self._process.end(kill=True)
+            if isinstance(error, TimeoutError):
+                raise TimeoutError(f"no answer after {self.seconds} seconds") from None
+            raise
+        said = self._process.said()
+        if lines[0].startswith("refused "):
+            begins = f"line {command.line}: {lines[0]}"
+            found = next((it for it in said if it.startswith(begins)), begins)
+            raise Refused(lines[0], *command.explained(found[len(begins) :].removeprefix(": ")))
+        self.warnings = [command.explained(it.removeprefix(f"line {command.line}: warning: "))[0] for it in said]
+        self._grouped = word == "begin" or self._grouped and word not in ("commit", "abandon")
+        return lines
+
+    def _lines(self, word: str, command: str) -> list[str]:
+        # the answers to these have any number of lines, and that to `history` begins with `undo `, as none of theirs does
+        script = [command, "history"] if word in ("text", "dump") else [command]
+        self._process.write("".join(f"{it}\n{_BEGINS}" for it in script))
+        self._line += command.count("\n") + len(script)
+        until = None if self.seconds is None else time.monotonic() + self.seconds
+        lines = [self._process.line(until)]
+        if word == "preview" and lines[0].startswith("changes "):
+            lines += [self._process.line(until) for _ in range(int(lines[0].split(" ")[1]))]
+        elif len(script) > 1:
+            while not lines[-1].startswith("undo "):
+                lines.append(self._process.line(until))
+            lines.pop()
+        return lines
 
 
 # A line of `preview`: a path, the term that is there, and the one that would be there.
@@ -270,20 +441,13 @@ def _replacement(line: str) -> tuple[str, str, str]:
     return at, rest[:end], rest[end + len(" => ") :]
 
 
-def _place(at: str | None, within: int | None) -> str:
-    return (f" at {at}" if at is not None else "") + (f" within {within}" if within is not None else "")
+def _path(at: Path) -> str:
+    return at if isinstance(at, str) else "/" + "/".join(map(str, at))
 
 
-# A text on one line: with a space for line feeds, in strings with the escapes for them, and without the comments that
-# strategies and modules may have.
-def _one_line(text: str, comments: bool = True) -> str:
-    def flat(found: re.Match[str]) -> str:
-        part = found.group()
-        if not part.startswith('"'):
-            return " "
-        if re.search(r"\\[\r\n]", part):
-            raise ValueError("a backslash before a line feed in a string")
-        return part.replace("\n", "\\n").replace("\r", "\\r")
+def _steps(at: Path) -> tuple[int, ...]:
+    return tuple(int(step) for step in at.split("/") if step) if isinstance(at, str) else tuple(at)
 
-    between = r"/\*.*?\*/|//[^\n]*|[\r\n]+" if comments else r"[\r\n]+"
-    return re.sub(r'"(?:\\.|[^"\\])*"|' + between, flat, text, flags=re.DOTALL)
+
+def _place(at: Path | None, within: int | None = None) -> str:
+    return (f" at {_path(at)}" if at is not None else "") + (f" within {within}" if within is not None else "")

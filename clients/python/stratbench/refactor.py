@@ -11,6 +11,7 @@ from __future__ import annotations
 import argparse
 import contextlib
 import os
+import pickle
 import re
 import stat
 import subprocess
@@ -19,11 +20,13 @@ import tempfile
 from collections.abc import Iterable, Iterator, Sequence
 from concurrent.futures import ProcessPoolExecutor
 from concurrent.futures.process import BrokenProcessPool
+from itertools import repeat
 from typing import Final, NamedTuple
 
-from . import _one_line
+from .cluster import Cluster, Lost, Unreachable
 from .diff import unified
 from .patch import Unwritable, apply_edits, patch
+from .places import Command, Text
 from .python import Source, deep, position
 from .terms import LIST, NoTerm, Term, exchange, height, read, size, write
 
@@ -35,8 +38,11 @@ MOST_STEPS: Final = 1_000_000
 # Refusals after which a module is given in parts: the steps are spent, or a term is too big.
 _IN_PARTS: Final = (13, 14)
 _FAILS: Final = 12
-# The most files that a process of the workbench does.
+# The most files that a process of the workbench does, and their most bytes where there are more files. Where processes run side by
+# side, each gets so many of such batches at least, if there are the files, so that all end at about the same time.
 _BATCH: Final = 16
+_BYTES: Final = 1_000_000
+_SHARE: Final = 4
 # Refusals of the strategy or the modules themselves, whatever the tree is.
 _OF_TEXTS: Final = (2, 3, 8, 10, 11)
 
@@ -190,7 +196,7 @@ class _Bench:
 
     def __init__(self, room: str, task: Task) -> None:
         self.room, self.task = room, task
-        self.words = [task.program or os.environ.get("STRATBENCH") or "stratbench", "--lines", "--library", "--explain"]
+        self.words = [task.program or os.environ.get("STRATBENCH") or "stratbench", "--library", "--explain"]
         for at, (name, text) in enumerate(task.modules):
             file = f"{room}/{at}.str"
             with open(file, "wb") as it:
@@ -210,10 +216,8 @@ class _Bench:
                 it.write(write(tree))
             words += ["--tree", f"t{at}={file}"]
         given = strategies or [self.task.strategy] * len(places)
-        script = "".join(
-            f"preview t{tree} at {_written(path)} within {self.task.within} do {_one_line(strategy)}\n"
-            for (tree, path), strategy in zip(places, given)
-        )
+        commands = self.commands([f"t{tree} at {_written(path)}" for tree, path in places], given)
+        script = "".join(f"{it.sent}\n" for it in commands)
         ran = subprocess.run(words, input=script.encode(errors="surrogateescape"), capture_output=True)
         lines = ran.stdout.split(b"\n")
         said = _explanations(ran.stderr.decode(errors="replace"))
@@ -222,15 +226,24 @@ class _Bench:
             raise _Left(re.sub(r"^stratbench: (/\S+: )?", "", why))
         found: list[dict[tuple[int, ...], Term] | _Refused] = []
         at = 0
-        for number in range(1, len(places) + 1):
+        for command in commands:
             answer = lines[at].decode(errors="replace")
             at += 1
             if answer.startswith("refused "):
-                found.append(_Refused(int(answer.split()[1]), said.get(number, answer)))
+                found.append(_Refused(int(answer.split()[1]), command.explained(said.get(command.line, answer))[0]))
                 continue
             count = int(answer.split()[1])
             found.append(dict(_replacement(line) for line in lines[at : at + count]))
             at += count
+        return found
+
+
+    def commands(self, places: Sequence[str], strategies: Sequence[str], line: int = 1) -> list[Command]:
+        """The previews of these strategies at these places, from this line of a script on."""
+        found: list[Command] = []
+        for place, strategy in zip(places, strategies):
+            found.append(Command(f"preview {place} within {self.task.within} do ", Text(strategy), line, 0))
+            line += found[-1].sent.count("\n") + 1
         return found
 
 
@@ -271,7 +284,8 @@ def check_texts(task: Task, files: Sequence[str]) -> str:
             if place and words[place - 1] == "--module":
                 words[place] = f"{word.partition('=')[0]}={files[at]}"
                 at += 1
-        script = f"tree t Module([],[])\npreview t within {task.within} do {_one_line(task.strategy)}\n"
+        [command] = bench.commands(["t"], [task.strategy], line=2)
+        script = f"tree t Module([],[])\n{command.sent}\n"
         try:
             ran = subprocess.run(words, input=script.encode(errors="surrogateescape"), capture_output=True)
         except OSError as error:
@@ -284,7 +298,7 @@ def check_texts(task: Task, files: Sequence[str]) -> str:
     if len(answers) < 2:
         return said.strip() or f"{words[0]} ended with status {ran.returncode}"
     if answers[1].startswith("refused ") and int(answers[1].split()[1]) in _OF_TEXTS:
-        return "--do: " + _explanations(said).get(2, answers[1])
+        return "--do: " + command.explained(_explanations(said).get(command.line, answers[1]))[0]
     return ""
 
 
@@ -340,24 +354,41 @@ def _files(names: Iterable[str]) -> Iterator[str]:
             yield from (os.path.join(folder, it) for it in sorted(found) if it.endswith(".py"))
 
 
-def _batch(work: tuple[list[tuple[str, bytes]], Task]) -> list[Outcome]:
-    return refactored(*work)
-
-
 # Files are done a few at a time: a process of the workbench loads the modules once for them.
-def _outcomes(work: list[tuple[str, bytes]], task: Task, jobs: int) -> Iterator[Outcome]:
-    most = max(1, min(_BATCH, -(-len(work) // jobs)))
-    batches = [(work[at : at + most], task) for at in range(0, len(work), most)]
-    if jobs == 1 or len(batches) < 2:
-        for batch in batches:
-            yield from _batch(batch)
-        return
-    with ProcessPoolExecutor(jobs) as pool:
-        try:
-            for outcomes in pool.map(_batch, batches):
-                yield from outcomes
-        except BrokenProcessPool:
-            raise SystemExit("stratbench.refactor: a process ended; nothing was written") from None
+def _batches(work: Sequence[tuple[str, bytes]], jobs: int) -> Iterator[list[tuple[str, bytes]]]:
+    most = _BATCH if jobs == 1 else max(1, min(_BATCH, -(-len(work) // (_SHARE * jobs))))
+    batch: list[tuple[str, bytes]] = []
+    for one in work:
+        if len(batch) == most or batch and sum(len(it) for _, it in [*batch, one]) > _BYTES:
+            yield batch
+            batch = []
+        batch.append(one)
+    if batch:
+        yield batch
+
+
+def answered(batch: bytes) -> bytes:
+    """Does a batch of a cluster's, in a process of its worker, and returns the outcomes."""
+    work, task = pickle.loads(batch)
+    return pickle.dumps([tuple(it) for it in refactored(work, Task(*task))])
+
+
+def _outcomes(work: list[tuple[str, bytes]], task: Task, jobs: int, cluster: str | None = None) -> Iterator[Outcome]:
+    if cluster is not None:
+        with Cluster(cluster) as workers:
+            batches = [pickle.dumps((batch, tuple(task))) for batch in _batches(work, workers.threads())]
+            for answer in workers.answers(("stratbench.refactor", "answered"), batches):
+                yield from (Outcome(*it) for it in pickle.loads(answer))
+    elif jobs == 1:
+        for batch in _batches(work, jobs):
+            yield from refactored(batch, task)
+    else:
+        with ProcessPoolExecutor(jobs) as pool:
+            try:
+                for outcomes in pool.map(refactored, _batches(work, jobs), repeat(task)):
+                    yield from outcomes
+            except BrokenProcessPool:
+                raise Lost("a process ended") from None
 
 
 def _arguments(words: Sequence[str] | None) -> argparse.Namespace:
@@ -371,7 +402,9 @@ def _arguments(words: Sequence[str] | None) -> argparse.Namespace:
     parser.add_argument("--modules", action="append", default=[], metavar="FOLDER", help="load the modules of a folder, as strategies")
     parser.add_argument("--do", required=True, metavar="STRATEGY", help="the strategy that is applied to each file's tree")
     parser.add_argument("--within", type=int, default=MOST_STEPS, metavar="K", help="the most steps that it may take")
-    parser.add_argument("--jobs", type=int, default=1, metavar="N", help="do N files at a time")
+    where = parser.add_mutually_exclusive_group()
+    where.add_argument("--jobs", type=int, default=1, metavar="N", help="do the files in N processes side by side")
+    where.add_argument("--cluster", metavar="ADDRESS", help="do the files on the workers of the Dask cluster with this scheduler")
     parser.add_argument("--program", metavar="FILE", help="stratbench, where it isn't in PATH or STRATBENCH")
     how = parser.add_mutually_exclusive_group()
     how.add_argument("--write", action="store_true", help="change the files, all or none")
@@ -416,6 +449,20 @@ def _task(given: argparse.Namespace) -> tuple[Task, list[str]]:
     return Task(tuple(modules), given.do, given.within, given.program), files
 
 
+# The files with their contents, and how many can't be read.
+def _read(names: Iterable[str]) -> tuple[list[tuple[str, bytes]], int]:
+    found: list[tuple[str, bytes]] = []
+    left = 0
+    for name in names:
+        try:
+            with open(name, "rb") as it:
+                found.append((name, it.read()))
+        except OSError as error:
+            print(f"{name}: {error.strerror}", file=sys.stderr)
+            left += 1
+    return found, left
+
+
 def main(words: Sequence[str] | None = None) -> int:
     """Runs the command, and returns its status."""
     given = _arguments(words)
@@ -427,36 +474,33 @@ def main(words: Sequence[str] | None = None) -> int:
     if fault:
         print(fault, file=sys.stderr)
         return 2
-    left = changed = 0
-    faults = False
-    work: list[tuple[str, bytes]] = []
-    for name in _files(given.files):
-        try:
-            with open(name, "rb") as it:
-                work.append((name, it.read()))
-        except OSError as error:
-            print(f"{name}: {error.strerror}", file=sys.stderr)
-            left += 1
+    work, left = _read(_files(given.files))
     writes: list[tuple[str, bytes, bytes]] = []
-    for (name, before), outcome in zip(work, _outcomes(work, task, given.jobs)):
-        sys.stdout.buffer.write(outcome.diff)
-        sys.stdout.buffer.flush()
-        if outcome.left:
-            print(outcome.left, file=sys.stderr)
-            left += 1
-            faults = faults or outcome.fault
-        elif outcome.contents is not None:
-            writes.append((name, before, outcome.contents))
-            changed += 1
-    if given.write and faults:
-        print("nothing was written, since a result is no program", file=sys.stderr)
-    elif given.write:
-        try:
+    faults = False
+    try:
+        for (name, before), outcome in zip(work, _outcomes(work, task, given.jobs, given.cluster)):
+            sys.stdout.buffer.write(outcome.diff)
+            sys.stdout.buffer.flush()
+            if outcome.left:
+                print(outcome.left, file=sys.stderr)
+                left += 1
+                faults = faults or outcome.fault
+            elif outcome.contents is not None:
+                writes.append((name, before, outcome.contents))
+        if given.write and faults:
+            print("nothing was written, since a result is no program", file=sys.stderr)
+        elif given.write:
             write_all(writes)
-        except WriteFault as error:
-            print(f"nothing was written: {error}", file=sys.stderr)
-            return 3
-    return 3 if left else 1 if given.check and changed else 0
+    except Unreachable as error:
+        print(error, file=sys.stderr)
+        return 2
+    except Lost as error:
+        print(f"not all files were done, and nothing was written: {error}", file=sys.stderr)
+        return 3
+    except WriteFault as error:
+        print(f"nothing was written: {error}", file=sys.stderr)
+        return 3
+    return 3 if left else 1 if given.check and writes else 0
 
 
 if __name__ == "__main__":

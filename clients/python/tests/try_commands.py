@@ -34,6 +34,9 @@ class Room:
         with open(f"{self.folder}/{name}", "rb") as it:
             return it.read().decode("latin-1" if name == "latin.py" else "utf-8")
 
+    def close(self):
+        shutil.rmtree(self.folder)
+
     def run(self, *words, strategy=EVERY, modules=None):
         if modules is None:
             modules = ["--module", f"python={self.top}/strategies/python.str", "--module", "rules=rules.str"]
@@ -77,6 +80,10 @@ def tests(top, everything):
     names = [f"{name}.py" for name in many]
     one, two = room.run(*names), room.run("--jobs", "3", *names)
     yield "--jobs gives the same", "" if one == two and one[0] == 0 and one[1].count("+new") == 40 else f"{one}\n{two}"
+    room.put("ends", f'#!/bin/sh\ncase "$*" in *--tree*) kill -9 $PPID ;; esac\nexec {os.environ["STRATBENCH"]} "$@"\n')
+    os.chmod(f"{room.folder}/ends", 0o755)
+    got = room.run("--jobs", "2", "--write", "--program", "./ends", *names)
+    yield "a process of --jobs that ends", wanted(got, 3, "", "nothing was written: a process ended") or ("" if room.has(names[0]) == many["f0"] else "a file changed")
 
 
 def refactor_status(top, words):
