@@ -68,7 +68,7 @@ declared-right : (a b : List syntax.Constructor) (x y : List Token) → ◌≡�
 declared-right a b x y e = let pair : ◌≡◌ {A = List syntax.Constructor × List Token} (a, x) (b, y) = cc in ap (λ (q : List syntax.Constructor × List Token). q.1) pair
 
 module _ (f : Option Symbol) (x z b : List Token) (name : ReadsOptionalName f x z) (colon : z ≡ ASign Colon ∷ b) where
-  make_function : (n : ℕ) (a c y : List Token) (cs : List syntax.Constructor) → SortsFound b n a → a ≡ ASign RightArrow ∷ c → (r : Sort) × ReadsSort r c y → named_constructor f n ≡ cs → DeclarationFound x cs y
+  pub make_function : (n : ℕ) (a c y : List Token) (cs : List syntax.Constructor) → SortsFound b n a → a ≡ ASign RightArrow ∷ c → (r : Sort) × ReadsSort r c y → named_constructor f n ≡ cs → DeclarationFound x cs y
   make_function n a c y cs s e result is = record {
     declaration = function f (and_sort s.first s.more) result.0;
     reads = (z, name, (b, colon, (s.after, s.reads, (c, at_arrow s.more s.after c (subst (λ l. ReadsMoreSorts s.more Star (λ u v. v ≡ u) s.after l) e s.reads_more), result.1))));
@@ -85,7 +85,7 @@ only_sort : (s : Sort) (ss : Sorts) (x a y : List Token) → 1 ≡ sort_count (a
 only_sort s no_sorts x a y c h k = subst (λ l. ReadsSort s x l) (sym k) h
 only_sort s (and_sort r ss) x a y c h k = absurd (omega arith)
 
-constant_found : (f : Option Symbol) (x z b : List Token) → ReadsOptionalName f x z → z ≡ ASign Colon ∷ b → (n : ℕ) (a : List Token) (cs : List syntax.Constructor) (y : List Token) → SortsFound b n a → without_arrow f n a ≡ Some (cs, y) → DeclarationFound x cs y
+pub constant_found : (f : Option Symbol) (x z b : List Token) → ReadsOptionalName f x z → z ≡ ASign Colon ∷ b → (n : ℕ) (a : List Token) (cs : List syntax.Constructor) (y : List Token) → SortsFound b n a → without_arrow f n a ≡ Some (cs, y) → DeclarationFound x cs y
 constant_found None x z b name colon n a cs y s k = absurd (cc)
 constant_found (Some f) x z b name colon zero a cs y s k = absurd (cc)
 constant_found (Some f) x z b name colon (suc (suc n)) a cs y s k = absurd (cc)

@@ -1,8 +1,6 @@
 -- Wherever the machine is, there are tokens with which it reads a whole strategy.
-use Rattle.std.proofs.Common.{◌≡◌, ℕ, suc, refl, sym, ap, ◌∙◌, subst, List, [], ◌∷◌, ◌++◌, take, Some, None}
+use Rattle.std.proofs.Common.{◌≡◌, refl, ap, ◌∙◌, List, [], ◌∷◌, ◌++◌}
 use Rattle.std.specs.Prelude.{codes, false}
-use Rattle.std.specs.declared.option.Option.{Option}
-use Rattle.std.specs.Option.{option_map}
 use Rattle.term_core.specs.Tree.{Symbol, same_name}
 use Rattle.strategy_syntax.specs.Syntax as syntax
 use Rattle.strategy_syntax.specs.Syntax.{Pattern, wildcard, variable, annotated, with_tail, no_patterns, patterns_of, Strategy, strategies_of}
@@ -25,15 +23,11 @@ use Rattle.strategy_parse.specs.declared.parser.state.StrategyGroup.{StrategyGro
 use Rattle.strategy_parse.specs.declared.parser.state.PatternGroup.{PatternGroup}
 use Rattle.strategy_parse.specs.declared.parser.state.PatternGroup.TheVariants.{Application as PApplication, List as PList, Tuple as PTuple, Annotations, Terms, Prim}
 use Rattle.strategy_parse.specs.Core.{operated, rewrite, rewrite_where}
-use Rattle.strategy_parse.specs.inside.Parser.{Next, goes, ends, stuck, closing, grouped, after_element, in_frame, after_choice, after_seq, after_arrow, after, closing_sign, close_patterns, after_one, pattern_in_frame, after_pattern, after_base, step}
-use Rattle.strategy_parse.specs.Stuck.{Begin, StuckAt}
-use Rattle.strategy_parse.specs.inside.StuckPlaces.{or_later, stuck_at}
+use Rattle.strategy_parse.specs.inside.Parser.{Next, goes, closing, grouped, after_element, in_frame, after_choice, after_seq, after_arrow, after, closing_sign, close_patterns, after_one, pattern_in_frame, after_pattern, after_base, step}
 use Rattle.strategy_parse.proofs.Runs.{Accepts, resume, go_on}
 use Rattle.strategy_parse.proofs.CompletePatterns.{base_in, named_in, list_in, rest_in}
 use Rattle.strategy_parse.proofs.CompleteStrategies.{arrow_in, used_in, choice_in, closes_first, closes_more}
-use Rattle.strategy_parse.proofs.SoundStrategies.{read_all}
-use Rattle.strategy_parse.proofs.StuckLemmas.{one_less, there, begin-none}
-use Rattle.strategy_parse.proofs.FitLemmas.{Position, sequences, choices, others, patterns, below_group, below, Fits, stands, FitsNext, step-fits}
+use Rattle.strategy_parse.proofs.FitLemmas.{Position, sequences, choices, others, patterns, below_group, below, Fits, stands}
 
 -- some tokens are accepted, where f says where the first one leads to
 abbrev pub Ends : (Token → Next) → Type 0
@@ -138,7 +132,7 @@ pub finish : (S : List ParserFrame) (k : Position) → Fits k S → Finish k S
 finish [] sequences h = λ s. ([], s, refl)
 finish [] choices h = λ s. ([], s, refl)
 finish [] others h = absurd h
-finish [] patterns h = absurd h
+finish [] patterns h = λ p. ([], syntax.matches p, refl)
 finish (Operand Before r ∷ S) sequences h = λ s. finish S sequences h (syntax.seq r s)
 finish (Operand Before r ∷ S) choices h = absurd h
 finish (Operand Before r ∷ S) others h = absurd h
@@ -171,7 +165,7 @@ finish (ForPattern F ∷ S) patterns h = λ p. pattern_frame_ends F S (finish S 
 
 -- ---- in each state
 
-some_name : Symbol
+pub some_name : Symbol
 some_name = record { text = codes "x"; is_quoted = false }
 
 module _ (S : List ParserFrame) where
@@ -230,74 +224,3 @@ module _ (S : List ParserFrame) where
       lifted (after_base (variable f) S) (step (Named f) S) (λ y r k. named_in f S y r k) (base_at h (variable f))
   state_ends (Base p) h = base_at h p
   state_ends (Whole p) h = finish S patterns h p
-
--- ---- the tokens that it takes begin a strategy
-
--- with some tokens after them, these are accepted
-abbrev From : (Token → Next) → List Token → Type 0
-From f ts = (c : List Token) × (r : Strategy) × Accepts f (ts ++ c) r
-
-from_next : (f : Token → Next) (t : Token) (ts : List Token) (q : ParserState) (S : List ParserFrame) → f t ≡ goes q S → From (step q S) ts → From f (t ∷ ts)
-from_next f t ts q S e more = (more.0, more.1, ap (go_on (λ p R. resume (step p R) (ts ++ more.0))) e ∙ more.2)
-
-abbrev UpTo : (Token → Next) → List Token → Type 0
-UpTo f ts = (k : ℕ) → stuck_at f ts ≡ Some k → From f (take k ts)
-
-up_to_in : (f : Token → Next) (t : Token) (ts : List Token) (n : Next) → f t ≡ n → FitsNext n → Ends f
-    → ((q : ParserState) (S : List ParserFrame) → Fits (stands q) S → UpTo (step q S) ts)
-    → (k : ℕ) → or_later (λ q S. stuck_at (step q S) ts) n ≡ Some k → From f (take k (t ∷ ts))
-up_to_in f t ts (goes q S) e fits here more k at =
-    let less = one_less (stuck_at (step q S) ts) k at in
-    subst (λ m. From f (take m (t ∷ ts))) (sym less.2) (from_next f t (take less.0 ts) q S e (more q S fits less.0 less.1))
-up_to_in f t ts (ends s) e fits here more k at =
-    let same : ◌≡◌ {A = Option ℕ} (Some 0) (Some k) = at in
-    let is : 0 ≡ k = cc in
-    subst (λ m. From f (take m (t ∷ ts))) is here
-up_to_in f t ts stuck e fits here more k at =
-    let same : ◌≡◌ {A = Option ℕ} (Some 0) (Some k) = at in
-    let is : 0 ≡ k = cc in
-    subst (λ m. From f (take m (t ∷ ts))) is here
-
-up_to : (ts : List Token) (q : ParserState) (S : List ParserFrame) → Fits (stands q) S → UpTo (step q S) ts
-up_to [] q S fits k at = let no : ◌≡◌ {A = Option ℕ} None (Some k) = at in cc
-up_to (t ∷ ts) q S fits k at = up_to_in (step q S) t ts (step q S t) refl (step-fits q S t fits) (state_ends S q fits) (up_to ts) k at
-
-none_less : (o : Option ℕ) → option_map suc o ≡ None → o ≡ None
-none_less None e = refl
-none_less (Some j) e = let no : ◌≡◌ {A = Option ℕ} (Some (suc j)) None = e in cc
-
-all_in : (f : Token → Next) (t : Token) (ts : List Token) (n : Next) → f t ≡ n → FitsNext n
-    → ((q : ParserState) (S : List ParserFrame) → Fits (stands q) S → stuck_at (step q S) ts ≡ None → From (step q S) ts)
-    → or_later (λ q S. stuck_at (step q S) ts) n ≡ None → From f (t ∷ ts)
-all_in f t ts (goes q S) e fits more at = from_next f t ts q S e (more q S fits (none_less (stuck_at (step q S) ts) at))
-all_in f t ts (ends s) e fits more at = let no : ◌≡◌ {A = Option ℕ} (Some 0) None = at in cc
-all_in f t ts stuck e fits more at = let no : ◌≡◌ {A = Option ℕ} (Some 0) None = at in cc
-
-all : (ts : List Token) (q : ParserState) (S : List ParserFrame) → Fits (stands q) S → stuck_at (step q S) ts ≡ None → From (step q S) ts
-all [] q S fits at = state_ends S q fits
-all (t ∷ ts) q S fits at = all_in (step q S) t ts (step q S t) refl (step-fits q S t fits) (all ts) at
-
-begins : (ts : List Token) → From (step ToStrategy []) ts → Begin ts
-begins ts from = (from.0, from.1, read_all (ts ++ from.0) from.1 from.2)
-
-pub begin-up_to : (ts : List Token) (k : ℕ) → stuck_at (step ToStrategy []) ts ≡ Some k → Begin (take k ts)
-begin-up_to ts k at = begins (take k ts) (up_to ts ToStrategy [] tt k at)
-
-pub begin-all : (ts : List Token) → stuck_at (step ToStrategy []) ts ≡ None → Begin ts
-begin-all ts at = begins ts (all ts ToStrategy [] tt at)
-
--- where the machine is stuck, the text stops beginning a strategy
-pub stuck-at : (ts : List Token) (k : ℕ) → stuck_at (step ToStrategy []) ts ≡ Some k → StuckAt ts k
-stuck-at ts k at = record {
-  there = there ts (step ToStrategy []) k at;
-  begin = begin-up_to ts k at;
-  begin_none = begin-none ts k at;
-}
-
--- ---- what the code says of a text
-
-pub found-stuck : (x ts : List Token) (o : Option ℕ) (k : ℕ) → x ≡ ts → o ≡ stuck_at (step ToStrategy []) x → o ≡ Some k → StuckAt ts k
-found-stuck x ts o k same e is = stuck-at ts k (ap (stuck_at (step ToStrategy [])) (sym same) ∙ (sym e ∙ is))
-
-pub found-none : (x ts : List Token) (o : Option ℕ) → x ≡ ts → o ≡ stuck_at (step ToStrategy []) x → o ≡ None → Begin ts
-found-none x ts o same e is = begin-all ts (ap (stuck_at (step ToStrategy [])) (sym same) ∙ (sym e ∙ is))

@@ -75,7 +75,7 @@ Fits others (Operand Otherwise s ∷ S) = ⊥
 Fits others (ForStrategy F ∷ S) = ⊥
 Fits others (At x ∷ S) = ⊥
 Fits others (ForPattern F ∷ S) = ⊥
-Fits patterns [] = ⊥
+Fits patterns [] = Unit {0}
 Fits patterns (Operand i s ∷ S) = ⊥
 Fits patterns (ForStrategy F ∷ S) = ⊥
 Fits patterns (At x ∷ S) = Fits patterns S
@@ -252,7 +252,7 @@ pattern_frame-fits (Patterns g ps) p S t h = one-fits g (ps ++ p ∷ []) S t h
 pattern_frame-fits (PatternTail ps) p S t h = either (is_mark CloseSquare t) _ _ h tt
 
 after_pattern-fits : (S : List ParserFrame) (p : Pattern) (t : Token) → Fits patterns S → FitsNext (after_pattern p S t)
-after_pattern-fits [] p t h = absurd h
+after_pattern-fits [] p t h = tt
 after_pattern-fits (At x ∷ S) p t h = after_pattern-fits S (syntax.at x p) t h
 after_pattern-fits (ForPattern F ∷ S) p t h = pattern_frame-fits F p S t h
 after_pattern-fits (Operand i s ∷ S) p t h = absurd h

@@ -1,24 +1,22 @@
 -- At the start of some tokens the machine and the grammar give the same.
-use Rattle.std.proofs.Common.{◌≡◌, refl, sym, ap, ◌∙◌, subst, List, [], ◌∷◌, ◌++◌, Some, None, append-nil}
+use Rattle.std.proofs.Common.{◌≡◌, refl, sym, ap, ◌∙◌, subst, List, [], ◌∷◌, ◌++◌, Some, None, length, arith, append-nil}
 use Rattle.std.specs.declared.option.Option.{Option}
 use Rattle.strategy_syntax.specs.Syntax as syntax
-use Rattle.strategy_syntax.specs.Syntax.{Pattern, Strategy, Patterns, no_patterns, and_pattern}
+use Rattle.strategy_syntax.specs.Syntax.{Pattern, Strategy}
 use Rattle.strategy_syntax.specs.StrategyView.{strategy_of}
 use Rattle.strategy_syntax.specs.declared.strategy.StrategyForm.{StrategyForm}
 use Rattle.strategy_syntax.specs.declared.strategy.StrategyForm.TheVariants as form
 use Rattle.strategy_tokens.specs.declared.token.Token.{Token}
-use Rattle.strategy_tokens.specs.declared.token.Token.TheVariants.{Sign as ASign}
-use Rattle.strategy_tokens.specs.declared.token.Sign.TheVariants.{Question}
 use Rattle.strategy_parse.specs.declared.parser.state.ParserState.TheVariants.{Strategy as ToStrategy, Pattern as ToPattern}
 use Rattle.strategy_parse.specs.declared.parser.state.ParserFrame.{ParserFrame}
-use Rattle.strategy_parse.specs.declared.parser.state.ParserFrame.TheVariants.{Pattern as ForPattern}
-use Rattle.strategy_parse.specs.declared.parser.state.PatternFrame.TheVariants.{Match}
-use Rattle.strategy_parse.specs.Written.{Choice, sequence, left_choice, guarded_choice, last, before, Arrow, arrow, Prefix, question, exclamation, application, identity, failure, operator, if_then, if_then_else, recursion, primitive, local, closure, closure_where, round, square, square_with_tail, name, call, call_with_terms, child}
-use Rattle.strategy_parse.specs.Grammar.{ReadsPattern, ReadsChoice, ReadsArrow, ReadsPrefix, Reading}
-use Rattle.strategy_parse.specs.Core.{core, core_prefix, then_matched}
-use Rattle.strategy_parse.specs.inside.Parser.{step, front}
+use Rattle.strategy_parse.specs.Written.{Choice}
+use Rattle.strategy_parse.specs.Grammar.{ReadsPattern, ReadsChoice, Reading}
+use Rattle.strategy_parse.specs.Core.{core}
+use Rattle.strategy_parse.specs.inside.Parser.{begin_pattern, after_pattern, step, front}
 use Rattle.strategy_parse.specs.inside.Fronts.{Stops, FrontGives}
+use Rattle.strategy_parse.proofs.Runs.{Accepts}
 use Rattle.strategy_parse.proofs.CompletePatterns.{pattern_in}
+use Rattle.strategy_parse.proofs.SoundPatterns.{FoundPattern, pattern_found}
 use Rattle.strategy_parse.proofs.CompleteStrategies.{reads_all}
 use Rattle.strategy_parse.proofs.SoundStrategies.{read_all}
 use Rattle.strategy_parse.proofs.Frames.{Front, Framed, choice_framed, pattern_framed}
@@ -46,60 +44,33 @@ choice-front a x y h stops =
     let run = resumed_front f.taken ToStrategy [] y (core a) stops (reads_all a f.taken (alone (ReadsChoice a) x y f)) in
     ap (front (step ToStrategy [])) f.splits ∙ run
 
--- ---- a pattern after a `?`
+-- ---- a pattern alone
 
-seq-matches : (ps : Patterns) (s r : Strategy) (q : Pattern) → then_matched (syntax.seq s r) ps ≡ syntax.matches q → ⊥
-seq-matches no_patterns s r q e = cc
-seq-matches (and_pattern p ps) s r q e = seq-matches ps (syntax.seq s r) (syntax.matches p) q e
+-- x begins with a pattern, given as the strategy that matches it, and y is the rest
+abbrev pub FrontPattern : List Token → Strategy → List Token → Type 0
+FrontPattern x s y = (p : Pattern) × ReadsPattern p x y × (s ≡ syntax.matches p)
 
-prefix-question : (a : Prefix) (w v : List Token) (q : Pattern) → ReadsPrefix a (ASign Question ∷ w) v → core_prefix a ≡ syntax.matches q → ReadsPattern q w v
-prefix-question (question p) w v q h e =
-    let same : p ≡ q = cc in
-    let rest : w ≡ h.0 = cc (h.1) in
-    subst (λ l. ReadsPattern q l v) (sym rest) (subst (λ l. ReadsPattern l h.0 v) same h.2)
-prefix-question (exclamation p) w v q h e = absurd (cc (h.1))
-prefix-question (application a p) w v q h e = absurd (cc (h.1))
-prefix-question identity w v q h e = absurd (cc)
-prefix-question failure w v q h e = absurd (cc)
-prefix-question (operator o a) w v q h e = absurd (cc (h.1))
-prefix-question (if_then a b) w v q h e = absurd (cc (h.1))
-prefix-question (if_then_else a b c) w v q h e = absurd (cc (h.1))
-prefix-question (recursion f a) w v q h e = absurd (cc (h.1))
-prefix-question (primitive n ps) w v q h e = absurd (cc (h.1))
-prefix-question (local fs a) w v q h e = absurd (cc (h.1))
-prefix-question (closure p r) w v q h e = absurd (cc (h.1))
-prefix-question (closure_where p r a) w v q h e = absurd (cc (h.1))
-prefix-question (round cs) w v q h e = absurd (cc (h.1))
-prefix-question (square cs) w v q h e = absurd (cc (h.1))
-prefix-question (square_with_tail cs a) w v q h e = absurd (cc (h.1))
-prefix-question (name f) w v q h e = absurd (cc)
-prefix-question (call f cs) w v q h e = absurd (cc (h.1))
-prefix-question (call_with_terms f cs ps) w v q h e = absurd (cc (h.1))
-prefix-question (child i a) w v q h e = absurd (cc (h.1.1))
+read_alone : (p : Pattern) (x y : List Token) (s : Strategy) → ReadsPattern p x y → Accepts (after_pattern p []) y s → FrontPattern x s []
+read_alone p x [] s h e = let same : ◌≡◌ {A = Option Strategy} (Some (syntax.matches p)) (Some s) = e in (p, h, cc)
+read_alone p x (t ∷ ts) s h e = let no : ◌≡◌ {A = Option Strategy} None (Some s) = e in absurd (cc)
 
-arrow-question : (a : Arrow) (w v : List Token) (q : Pattern) → ReadsArrow a (ASign Question ∷ w) v → core (sequence (last a)) ≡ syntax.matches q → ReadsPattern q w v
-arrow-question (arrow a no_patterns) w v q h e =
-    subst (λ l. ReadsPattern q w l) (sym h.2) (prefix-question a w h.0 q h.1 e)
-arrow-question (arrow a (and_pattern p ps)) w v q h e = absurd (seq-matches ps (core_prefix a) (syntax.matches p) q e)
+alone_found : (w : List Token) (s : Strategy) → Accepts (begin_pattern []) w s → FrontPattern w s []
+alone_found w s e =
+    let found : FoundPattern [] w s = pattern_found (length w) [] w s (omega arith) e in
+    read_alone found.pattern w found.rest s found.reads found.accepts
 
-choice-question : (a : Choice) (w v : List Token) (q : Pattern) → ReadsChoice a (ASign Question ∷ w) v → core a ≡ syntax.matches q → ReadsPattern q w v
-choice-question (sequence (last a)) w v q h e = arrow-question a w v q h e
-choice-question (sequence (before a b)) w v q h e = absurd (cc)
-choice-question (left_choice a b) w v q h e = absurd (cc)
-choice-question (guarded_choice a b c) w v q h e = absurd (cc)
+pub front-pattern : (x : List Token) (s : Strategy) (y : List Token) → front (step ToPattern []) x ≡ Some (s, y) → FrontPattern x s y
+front-pattern x s y e =
+    let t = front_taken x ToPattern [] s y e in
+    let found = alone_found t.taken s t.gives in
+    (found.0, subst (λ l. ReadsPattern found.0 l y) (sym t.splits) (in_front (ReadsPattern found.0) (pattern_framed found.0) t.taken y found.1), found.2)
 
-pub front-pattern : (x : List Token) (p : Pattern) (y : List Token) → front (step ToPattern (ForPattern Match ∷ [])) x ≡ Some (syntax.matches p, y) → ReadsPattern p x y
-front-pattern x p y e =
-    let t = front_taken x ToPattern (ForPattern Match ∷ []) (syntax.matches p) y e in
-    let found = read_all (ASign Question ∷ t.taken) (syntax.matches p) t.gives in
-    subst (λ l. ReadsPattern p l y) (sym t.splits) (in_front (ReadsPattern p) (pattern_framed p) t.taken y (choice-question found.0 t.taken [] p found.1 found.2))
-
-pub pattern-front : (p : Pattern) (x y : List Token) → ReadsPattern p x y → Stops y → front (step ToPattern (ForPattern Match ∷ [])) x ≡ Some (syntax.matches p, y)
+pub pattern-front : (p : Pattern) (x y : List Token) → ReadsPattern p x y → Stops y → front (step ToPattern []) x ≡ Some (syntax.matches p, y)
 pattern-front p x y h stops =
     let f = (pattern_framed p).frames x y h in
-    let run = resumed_front f.taken ToPattern (ForPattern Match ∷ []) y (syntax.matches p) stops
-    (pattern_in p (ForPattern Match ∷ []) f.taken [] (syntax.matches p) (alone (ReadsPattern p) x y f) refl) in
-    ap (front (step ToPattern (ForPattern Match ∷ []))) f.splits ∙ run
+    let run = resumed_front f.taken ToPattern [] y (syntax.matches p) stops
+    (pattern_in p [] f.taken [] (syntax.matches p) (alone (ReadsPattern p) x y f) refl) in
+    ap (front (step ToPattern [])) f.splits ∙ run
 
 -- ---- what the code says about the start
 
@@ -124,10 +95,13 @@ module _ (x : List Token) (S : List ParserFrame) (bottom : S ≡ []) where
   pub strategy-none : front (step ToStrategy S) x ≡ None → (a : Choice) (y : List Token) → ReadsChoice a x y → Stops y → ⊥
   strategy-none e a y h stops = no_front (front (step ToStrategy S) x) (core a, y) e (reached a y h stops)
 
-module _ (x : List Token) (S : List ParserFrame) (bottom : S ≡ ForPattern Match ∷ []) where
+module _ (x : List Token) (S : List ParserFrame) (bottom : S ≡ []) where
   pub pattern-given : (s : Strategy) (p : Pattern) (y : List Token) → front (step ToPattern S) x ≡ Some (s, y) → s ≡ syntax.matches p → ReadsPattern p x y
   pattern-given s p y e same =
-      front-pattern x p y (subst (λ l. front (step ToPattern l) x ≡ Some (syntax.matches p, y)) bottom (subst (λ r. front (step ToPattern S) x ≡ Some (r, y)) same e))
+      let found = front-pattern x s y (subst (λ l. front (step ToPattern l) x ≡ Some (s, y)) bottom e) in
+      let both : syntax.matches found.0 ≡ syntax.matches p = sym found.2 ∙ same in
+      let is : found.0 ≡ p = cc in
+      subst (λ q. ReadsPattern q x y) is found.1
 
   pattern-reached : (p : Pattern) (y : List Token) → ReadsPattern p x y → Stops y → front (step ToPattern S) x ≡ Some (syntax.matches p, y)
   pattern-reached p y h stops = subst (λ l. front (step ToPattern l) x ≡ Some (syntax.matches p, y)) (sym bottom) (pattern-front p x y h stops)

@@ -62,7 +62,7 @@ pub record Quiet (u : Token) : Type 0 where
   pub choice : is_mark LeftChoice u ≡ false
   pub less : is_mark Less u ≡ false
 
-bad_quiet : Quiet Bad
+pub bad_quiet : Quiet Bad
 bad_quiet = record {
   round = refl;
   curly = refl;
@@ -164,7 +164,7 @@ module _ (t u : Token) (k : Quiet u) where
   pattern_frame-ends (PatternTail ps) p S r e = absurd (only-no (is_mark CloseSquare t) _ _ r e)
 
   pattern-ends : (S : List ParserFrame) (p : Pattern) (r : Strategy) → after_pattern p S t ≡ ends r → after_pattern p S u ≡ ends r
-  pattern-ends [] p r e = absurd (cc)
+  pattern-ends [] p r e = e
   pattern-ends (At x ∷ S) p r e = pattern-ends S (syntax.at x p) r e
   pattern-ends (ForPattern F ∷ S) p r e = pattern_frame-ends F p S r e
   pattern-ends (Operand Before a ∷ S) p r e = absurd (cc)
@@ -234,7 +234,7 @@ scope-no (Ident f) xs S r e = cc
 scope-no t xs S r e = cc
 
 module _ (t u : Token) (k : Quiet u) where
-  step-ends : (q : ParserState) (S : List ParserFrame) (r : Strategy) → step q S t ≡ ends r → step q S u ≡ ends r
+  pub step-ends : (q : ParserState) (S : List ParserFrame) (r : Strategy) → step q S t ≡ ends r → step q S u ≡ ends r
   step-ends ToStrategy S r e = absurd (begin-no t S r e)
   step-ends (FirstStrategy g) S r e = absurd (first-no r e) where
     bar-no : (h : StrategyGroup) → NoEnd (empty_bar h S)

@@ -29,4 +29,7 @@ pub mod StuckLemmas
 pub mod FitLemmas
 pub mod FinishLemmas
 pub mod StuckTexts
+pub mod PlaceRests
+pub mod PlaceSteps
+pub mod PlaceLemmas
 pub mod StuckModules

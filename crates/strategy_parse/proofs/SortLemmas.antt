@@ -241,7 +241,7 @@ sorts_found x n y h =
     }
 
 -- one sort
-one_is : (r : SortsLeft) (y : List Token) → one_sort r ≡ Some y → r ≡ Some (1, y)
+pub one_is : (r : SortsLeft) (y : List Token) → one_sort r ≡ Some y → r ≡ Some (1, y)
 one_is None y h = absurd (cc)
 one_is (Some (zero, x)) y h = absurd (cc)
 one_is (Some (suc zero, x)) y h = let same : x ≡ y = cc in ap (λ l. Some (1, l)) same
@@ -255,6 +255,54 @@ pub sort_found : (x y : List Token) → sort_at x ≡ Some y → (s : Sort) × R
 sort_found x y h =
     let found : SortsFound x 1 y = sorts_found x 1 y (one_is (sorts_at x) y h) in
     (found.first, only_first found.first found.more x found.after y found.count found.reads found.reads_more)
+
+-- no sort that was counted is taken back
+pub sorts_least : (n k : ℕ) (x y : List Token) → sorts_from Begins 0 n x ≡ Some (k, y) → n ≤ k
+sorts_least n k x y h =
+    let b : Begun 0 n x k y = (sound x).begins 0 n k y h in
+    let a : After 0 n b.rest k y = b.after in
+    let c : k ≡ sort_count a.sorts + n = a.count in
+    omega arith
+
+-- ---- one sort more
+
+abbrev one_more_of : SortsLeft → SortsLeft
+one_more_of None = None
+one_more_of (Some (k, y)) = Some (suc k, y)
+
+more_of_end : (n : ℕ) (u : Turn) → sort_goes (λ q e. None) (Some (suc n, [])) u ≡ one_more_of (sort_goes (λ q e. None) (Some (n, [])) u)
+more_of_end n (Reads q e) = refl
+more_of_end n Ends = refl
+more_of_end n Stuck = refl
+
+abbrev More : List Token → Type 0
+More x = (p : SortState) (d n : ℕ) → sorts_from p d (suc n) x ≡ one_more_of (sorts_from p d n x)
+
+more_of_next : (t : Token) (ts : List Token) → More ts → (n : ℕ) (u : Turn) (b : Bool)
+    → sort_goes (λ q e. sorts_from q e (suc n) ts) (if b then sorts_from Begins 0 (suc (suc n)) ts else Some (suc n, t ∷ ts)) u
+    ≡ one_more_of (sort_goes (λ q e. sorts_from q e n ts) (if b then sorts_from Begins 0 (suc n) ts else Some (n, t ∷ ts)) u)
+more_of_next t ts more n (Reads q e) b = more q e n
+more_of_next t ts more n Ends true = more Begins 0 (suc n)
+more_of_next t ts more n Ends false = refl
+more_of_next t ts more n Stuck b = refl
+
+more_of : (x : List Token) → More x
+more_of [] p d n = more_of_end n (sort_step p d Bad)
+more_of (t ∷ ts) p d n = more_of_next t ts (more_of ts) n (sort_step p d t) (is_mark Star t)
+
+pub star_more : (n k : ℕ) (x y : List Token) → sorts_from Begins 0 n x ≡ Some (k, y) → sorts_from Begins 0 (suc n) x ≡ Some (suc k, y)
+star_more n k x y h = more_of x Begins 0 n ∙ ap one_more_of h
+
+-- the number without one sort
+abbrev pub OneLess : SortsLeft → ℕ → List Token → Type 0
+OneLess r c y = (k : ℕ) × (c ≡ suc k) × (r ≡ Some (k, y))
+
+one_less : (r : SortsLeft) (c : ℕ) (y : List Token) → one_more_of r ≡ Some (c, y) → OneLess r c y
+one_less None c y e = absurd (cc)
+one_less (Some (k, z)) c y e = (k, sym (some-left (suc k) c z y e), ap (λ l. Some (k, l)) (some-right (suc k) c z y e))
+
+pub star_less : (n c : ℕ) (x y : List Token) → sorts_from Begins 0 (suc n) x ≡ Some (c, y) → OneLess (sorts_from Begins 0 n x) c y
+star_less n c x y h = one_less (sorts_from Begins 0 n x) c y (sym (more_of x Begins 0 n) ∙ h)
 
 -- ---- the loop over sorts
 
@@ -289,7 +337,7 @@ begin-ends d (Text f) e = cc
 begin-ends d (ASign s) e = cc
 begin-ends d Bad e = cc
 
-ends-at : (p : SortState) (d : ℕ) (t : Token) → Ends ≡ sort_step p d t → d ≡ 0
+pub ends-at : (p : SortState) (d : ℕ) (t : Token) → Ends ≡ sort_step p d t → d ≡ 0
 ends-at Begins d t e = absurd (begin-ends d t e)
 ends-at Closed d t e = ends_after d t e
 ends-at Named d t e = at_open (is_mark OpenRound t) e where

@@ -6,3 +6,4 @@ pub mod Parser
 pub mod ModuleFronts
 pub mod Sections
 pub mod StuckPlaces
+pub mod ModulePlaces

@@ -240,9 +240,10 @@ pattern_in_frame p (Patterns g ps) S t = after_one g (ps ++ p ∷ []) S t
 pattern_in_frame p (PatternTail ps) S t =
     if (is_mark CloseSquare t) then goes (Base (syntax.with_tail (patterns_of ps) p)) S else stuck
 
+-- a pattern that stands alone ends as the strategy that matches it
 abbrev pub after_pattern : Pattern → List ParserFrame → Token → Next
 after_pattern p (At x ∷ S) t = after_pattern (syntax.at x p) S t
-after_pattern p [] t = stuck
+after_pattern p [] t = ends (syntax.matches p)
 after_pattern p (ForPattern F ∷ S) t = pattern_in_frame p F S t
 after_pattern p (F ∷ S) t = stuck
 

@@ -7,7 +7,7 @@ mod definitions;
 mod headers;
 mod items;
 mod parse;
-mod passing;
+mod place;
 mod rules;
 mod sections;
 mod sorts;

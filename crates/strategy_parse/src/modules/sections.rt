@@ -90,8 +90,8 @@ pub fn read_next<'a>(
     Ok((context, after))
 }
 
-// The context after a reserved word that begins a part of a module, if it may come here.
-fn next_context(context: Context, word: Keyword) -> Option<Context>
+/// The context after a reserved word that begins a part of a module, if it may come here.
+pub fn next_context(context: Context, word: Keyword) -> Option<Context>
     ensures { result ≡ next_context context word }
 {
     match word {

@@ -1,30 +1,30 @@
-//! Where a text stops being a module.
+//! Where a text stops being the beginning of a module.
 
-ghost use Rattle.std.specs.Prelude.{◌≡◌, ◌↔◌, ◌<◌, ◌≤◌, length, take, IfOk, IfSome, IfNone, Err, true, false};
-ghost use Rattle.strategy_parse.specs.StuckModules.{GiveModule, GiveNone};
+ghost use Rattle.std.specs.Prelude.{◌≡◌, ◌↔◌, ◌<◌, ◌⊎◌, length, IfOk, IfSome, IfNone, Err, true, false};
+ghost use Rattle.strategy_parse.specs.StuckModules.{GiveModule, GiveNone, ModuleStuckAt};
+ghost use Rattle.strategy_parse.specs.inside.ModulePlaces.{CanEnd};
 ghost use Rattle.strategy_tokens.specs.Tokens.{tokens};
 
 use crate::modules::parse::after_title;
-use crate::modules::passing::left_of_item;
-use crate::modules::sections::{Built, Context, read_next, read_sections};
-use crate::modules::tokens::after_word;
+use crate::modules::place::{Place, cross, ends_before, next_place};
+use crate::modules::sections::read_sections;
 use crate::parser::SyntaxFault;
 use std::alloc::Global;
-use strategy_tokens::{Keyword, MAX_TOKENS, Token, TokensFault, read_tokens};
+use strategy_tokens::{MAX_TOKENS, Token, TokensFault, read_tokens};
 use term_core::NoMemory;
 
-/// Where a text stops being a module. Tokens are counted from 0.
+/// Where a text stops being the beginning of a module. Tokens are counted from 0.
 #[derive(Clone, Copy, Debug, PartialEq, Eq)]
 pub struct StuckModule {
     /// The number of the token that begins the item: a sort, a declaration, a definition, or the
     /// word of a section. The tokens before it are a module.
     pub item: usize,
-    /// The number of the token with which the item can't go on. It is the number of all tokens if
-    /// the text ends too early.
+    /// The number of the token with which the item can't go on, whatever tokens follow. It is the
+    /// number of all tokens if the text ends too early.
     pub token: usize,
 }
 
-/// Where the text stops being a module; `None` if it is one.
+/// Where the text stops being the beginning of a module; `None` if it is a module.
 ///
 /// Errors: `Deep` if the text has more than 4,000 tokens, which is tested first; `Memory` if memory
 /// can't grow.
@@ -32,10 +32,8 @@ pub fn stuck_module(alloc: Global, text: &[u8]) -> Result<Option<StuckModule>, T
     ensures deep { (result ≡ Err TokensFault.Deep) ↔ (MAX_TOKENS < length (tokens text.now)) }
     ensures none { IfOk result (λ found. IfNone found (GiveModule (tokens text.now))) }
     ensures some { IfOk result (λ found. IfSome found (λ s. GiveNone (tokens text.now))) }
-    ensures front { IfOk result (λ found. IfSome found (λ s.
-        GiveModule (take s.item (tokens text.now)))) }
-    ensures order { IfOk result (λ found. IfSome found (λ s. (s.item ≤ s.token)
-        × (s.token ≤ length (tokens text.now)))) }
+    ensures stuck { IfOk result (λ found. IfSome found (λ s.
+        ModuleStuckAt (tokens text.now) s.item s.token)) }
 {
     let tokens = read_tokens(alloc, text)?;
     match first_stuck_item(alloc, &tokens) {
@@ -44,21 +42,16 @@ pub fn stuck_module(alloc: Global, text: &[u8]) -> Result<Option<StuckModule>, T
     }
 }
 
-// Where the tokens stop being a module.
+// Where the tokens stop being the beginning of a module, if they are none.
 fn first_stuck_item(alloc: Global, tokens: &[Token]) -> Result<Option<StuckModule>, NoMemory>
     ensures none { IfOk result (λ found. IfNone found (GiveModule tokens.now)) }
     ensures some { IfOk result (λ found. IfSome found (λ s. GiveNone tokens.now)) }
-    ensures front { IfOk result (λ found. IfSome found (λ s. GiveModule (take s.item tokens.now))) }
-    ensures order { IfOk result (λ found. IfSome found (λ s. (s.item ≤ s.token)
-        × (s.token ≤ length tokens.now))) }
+    ensures stuck { IfOk result (λ found. IfSome found (λ s. ModuleStuckAt tokens.now s.item s.token)) }
 {
     if is_module(alloc, tokens)? {
         return Ok(None);
     }
-    let (left, after) = unread(alloc, tokens)?;
-    let item = module_front(alloc, tokens, tokens.len().saturating_sub(left.len()))?;
-    let token = tokens.len().saturating_sub(after.len()).max(item);
-    Ok(Some(StuckModule { item, token }))
+    Ok(Some(follow(alloc, tokens)?))
 }
 
 // Whether the tokens are a module.
@@ -82,47 +75,44 @@ fn is_module(alloc: Global, tokens: &[Token]) -> Result<bool, NoMemory>
     }
 }
 
-// So many tokens, if the first ones are a module; else 0. It is a second look, so that what is said
-// of an item doesn't rest on how it was found.
-#[tactic(auto, using(crate::proofs::StuckModules::module_rules))]
-fn module_front(alloc: Global, tokens: &[Token], count: usize) -> Result<usize, NoMemory>
-    ensures front { IfOk result (λ n. GiveModule (take n tokens.now)) }
-    ensures bound { IfOk result (λ n. n ≤ length tokens.now) }
+// Follows the tokens from place to place, up to the first one with which no module goes on.
+fn follow(alloc: Global, tokens: &[Token]) -> Result<StuckModule, NoMemory>
+    ensures { IfOk result (λ s. ModuleStuckAt tokens.now s.item s.token) }
 {
-    if count <= tokens.len() && is_module(alloc, &tokens[..count])? {
-        return Ok(count);
-    }
-    Ok(0)
-}
-
-// The tokens from the item on that can't go on, and from the token on with which it can't.
-fn unread<'a>(alloc: Global, tokens: &'a [Token]) -> Result<(&'a [Token], &'a [Token]), NoMemory> {
-    let Ok(sections) = after_title(tokens) else {
-        let after = after_word(tokens, Keyword::Module).unwrap_or(tokens);
-        return Ok((tokens, after));
-    };
-    let (context, left) = read_items(alloc, sections)?;
-    let after = left_of_item(alloc, context, left)?;
-    Ok((left, after))
-}
-
-// The context in which the reader stops, and the tokens that it leaves.
-fn read_items<'a>(alloc: Global, tokens: &'a [Token]) -> Result<(Context, &'a [Token]), NoMemory> {
-    let mut built = Built {
-        constructors: Vec::new(alloc),
-        definitions: Vec::new(alloc),
-    };
-    let mut context = Context::Outside;
+    let mut place = Place::Start;
+    let mut item = 0usize;
     let mut left = tokens;
     while let Some((token, rest)) = left.split_first() {
-        match read_next(alloc, context, token, left, rest, &mut built) {
-            Ok((next, after)) => {
-                context = next;
-                left = after;
-            }
-            Err(SyntaxFault::Syntax) => return Ok((context, left)),
-            Err(SyntaxFault::Memory) => return Err(NoMemory),
+        item = item_before(place, token, item, tokens.len() - left.len());
+        let Some(next) = next_place(place, token) else {
+            return Ok(StuckModule {
+                item,
+                token: tokens.len() - left.len(),
+            });
+        };
+        let (goes_on, after) = cross(alloc, next, rest)?;
+        if !goes_on {
+            return Ok(StuckModule {
+                item,
+                token: tokens.len() - after.len(),
+            });
         }
+        place = next;
+        left = after;
     }
-    Ok((context, left))
+    Ok(StuckModule {
+        item,
+        token: tokens.len(),
+    })
+}
+
+// The number of the token if an item may begin with it; else that of the item before.
+fn item_before(place: Place, token: &Token, item: usize, number: usize) -> usize
+    ensures { (result ≡ item) ⊎ ((result ≡ number) × CanEnd place) }
+{
+    if ends_before(place, token) {
+        number
+    } else {
+        item
+    }
 }

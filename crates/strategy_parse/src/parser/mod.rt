@@ -23,4 +23,4 @@ pub use fault::SyntaxFault;
 pub use lists::ItemList;
 pub use make::{make_rewrite, make_rewrite_where, make_scope};
 pub use run::{read_pattern, read_strategy};
-pub use stuck::{Stop, first_stuck, pass_pattern, pass_strategy};
+pub use stuck::{first_stuck, pass_pattern, pass_strategy};

@@ -126,7 +126,8 @@ fn make_at(alloc: Global, name: Name, pattern: Pattern) -> Result<Pattern, NoMem
     Ok(Pattern::new(PatternForm::At(name, pattern)))
 }
 
-// After a whole pattern without an `x@` before it.
+// After a whole pattern without an `x@` before it. One that stands alone ends as the strategy that
+// matches it.
 fn leave_pattern(
     alloc: Global,
     pattern: Pattern,
@@ -146,7 +147,7 @@ fn leave_pattern(
             drop(other);
             Err(SyntaxFault::Syntax)
         }
-        None => Err(SyntaxFault::Syntax),
+        None => Ok(Effect::Ends(make_match(pattern))),
     }
 }
 

@@ -12,7 +12,7 @@ ghost use Rattle.strategy_tokens.specs.declared.token.Token.{Token};
 
 use crate::parser::fault::SyntaxFault;
 use crate::parser::stack::ParserStack;
-use crate::parser::state::{Effect, ParserFrame, ParserState, PatternFrame};
+use crate::parser::state::{Effect, ParserState};
 use crate::parser::step::step;
 use std::alloc::Global;
 use strategy_syntax::{Pattern, Strategy, StrategyForm};
@@ -48,9 +48,7 @@ pub fn read_pattern<'a>(
     ensures none { result ≡ Err SyntaxFault.Syntax → (p : syntax.Pattern) (y : List Token)
         → ReadsPattern p tokens.now y → Stops y → ⊥ }
 {
-    let mut stack = ParserStack::new(alloc);
-    stack.push(ParserFrame::Pattern(PatternFrame::Match))?;
-    let (strategy, left) = run(alloc, ParserState::Pattern, stack, tokens)?;
+    let (strategy, left) = run(alloc, ParserState::Pattern, ParserStack::new(alloc), tokens)?;
     match strategy.into_form() {
         StrategyForm::Match(pattern) => Ok((pattern, left)),
         other => {

@@ -1,7 +1,7 @@
 //! The open forms, the innermost on top.
 #![tactic(auto, unfolding(crate::specs::inside::Forms::forms))]
 
-use crate::parser::state::{Infix, ParserFrame, PatternFrame};
+use crate::parser::state::{Infix, ParserFrame};
 use std::alloc::Global;
 use strategy_syntax::Strategy;
 use term_core::{Name, NoMemory};
@@ -51,14 +51,6 @@ impl ParserStack {
             Some(ParserFrame::Operand(found, _)) => *found == operator,
             _ => false,
         }
-    }
-
-    /// Whether the outermost form is the pattern of a match.
-    pub fn begins_with_match(&self) -> bool {
-        matches!(
-            self.frames.first(),
-            Some(ParserFrame::Pattern(PatternFrame::Match))
-        )
     }
 
     /// Closes the innermost form if it is a strategy with this operator.
