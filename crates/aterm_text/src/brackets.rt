@@ -40,7 +40,8 @@ impl Quoting {
 
 /// The greatest number of brackets `(`, `[` and `{` that are open at one place of the text. A
 /// closing bracket of any kind closes one, if one is open. Quoted bytes aren't counted; a backslash
-/// there escapes the next byte, and a quote that isn't closed extends to the end.
+/// there escapes the next byte, and a quote that isn't closed extends to the end. Of `f([a],(b))`
+/// it is 2, of `f("((")` 1, of `])[` 1.
 pub fn nesting(text: &[u8]) -> u64
     ensures { result ≡ nesting_of text.now }
 {

@@ -4,7 +4,8 @@
 ghost use Rattle.std.specs.Prelude.{◌≡◌};
 ghost use Rattle.aterm_text.specs.Tokens.{octal_byte, short_escape, is_octal_digit};
 
-/// The byte that one of `"`, `\`, `n`, `t` and `r` stands for, or `None` for any other byte.
+/// The byte that one of `"`, `\`, `n`, `t` and `r` stands for after a backslash, or `None` for any
+/// other byte: a line feed for `n`, for example.
 pub fn short_escape(byte: u8) -> Option<u8>
     ensures { result ≡ short_escape byte }
 {
@@ -19,7 +20,7 @@ pub fn short_escape(byte: u8) -> Option<u8>
 }
 
 /// The byte that three octal digits stand for, or `None` if they are no octal digits or stand for
-/// more than 255.
+/// more than 255: 65 for `101`, 255 for `377`, `None` for `400`.
 pub fn octal_byte(a: u8, b: u8, c: u8) -> Option<u8>
     ensures { result ≡ octal_byte a b c }
 {

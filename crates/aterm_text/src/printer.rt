@@ -18,6 +18,8 @@ const QUOTE: u8 = b'"';
 /// Appends the printed text of the term, which has no white space between tokens and reads back as
 /// this term. The recursion is as deep as the term is high.
 ///
+/// For example, the term of `f ( "x\n\101" , -007 )` is printed as `f("x\nA",-7)`.
+///
 /// If memory can't grow, `out` is unchanged, except that its capacity may have grown.
 pub fn print(term: &Term, out: &mut Vec<u8>) -> Result<(), NoMemory>
     ensures ok { OnOk result (out.new.items ≡ out.old.items ++ print_of term.now) }

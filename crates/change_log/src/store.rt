@@ -141,7 +141,7 @@ impl Store {
         self.trees.exchange(slot, path, patch);
     }
 
-    // The same as `exchange` for everything but a subterm.
+    // `exchange` for everything but a subterm.
     #[inline(never)]
     fn exchange_other(&mut self, slot: usize, path: &[usize], kept: &mut Kept)
         ensures store { self.new ≡ put (entry_of slot path.now kept.old) self.old }

@@ -1,9 +1,7 @@
 //! Applying strategies to the trees of a session.
 
-ghost use Rattle.std.specs.Prelude.{◌≡◌, ℕ, IfOk, IfErr, OnOk, OnErr, option_copied};
+ghost use Rattle.std.specs.Prelude.{IfErr, OnOk, OnErr};
 ghost use Rattle.term_changes.specs.Slots.{contents};
-ghost use Rattle.term_changes.specs.Entries.{subterm_in};
-ghost use Rattle.term_changes.specs.PatchLaws.{patch_entries};
 ghost use Rattle.strategy_run.specs.Applies.{applied_in};
 ghost use Rattle.session_history.specs.Applying.{world_in};
 ghost use Rattle.session_history.specs.inside.Giving.{GivesIn};
@@ -11,19 +9,16 @@ ghost use Rattle.session_history.specs.History.{AreFormed};
 ghost use Rattle.session_history.specs.Modules.{IsKept};
 ghost use Rattle.session_history.specs.Acts.{apply};
 ghost use Rattle.session_history.specs.Moving.{KeepsHistory, Changes, PerformsBy};
-ghost use Rattle.session_core.specs.inside.Foreseen.{IsLowIn, Foresees, IsRefusedRun};
-ghost use Rattle.session_core.specs.inside.Resolved.{replaced_of};
+ghost use Rattle.session_core.specs.inside.Foreseen.{IsLowIn, IsRefusedRun};
 
-use crate::preview::preview_in_slot;
+use crate::planning::plan_in_slot;
 use crate::resolving::resolve_at;
 use prim_core::{Meaning, Primitives};
 use session_history::{KeptModules, Refusal, Timeline};
 use strategy_check::Program;
-use strategy_run::{Ended, plan_patch};
 use strategy_syntax::Resolved;
-use term_changes::Patch;
-use term_core::{Label, NoMemory, Term};
-use term_paths::{Path, at};
+use term_core::Label;
+use term_paths::Path;
 
 /// Applies the strategy given as text to the subterm at the path of the name's tree, within
 /// this budget. The modules are checked unless they are kept, and are kept then.
@@ -72,68 +67,17 @@ fn apply_in_slot<M: Meaning>(
         timeline.old.store.trees slot path.now strategy.now budget)) }
     ensures err { OnErr result (KeepsHistory timeline.old timeline.new) }
 {
+    let planned = plan_in_slot(timeline, program, primitives, slot, path, strategy, budget)?;
     if timeline.in_group() {
-        let found = preview_in_slot(timeline, program, primitives, slot, path, strategy, budget)?;
-        timeline.plan_in_group(found.plan)?;
+        let plan = planned
+            .patch
+            .into_plan(timeline.allocator(), slot, path.parts())?;
+        timeline.plan_in_group(plan)?;
         return Ok(());
     }
-    let patch = patch_in_slot(timeline, program, primitives, slot, path, strategy, budget)?;
     let Ok(place) = Vec::from_slice(timeline.allocator(), path.parts()) else {
         return Err(Refusal::Memory);
     };
-    timeline.patch_as_step(slot, place, patch)?;
+    timeline.patch_as_step(slot, place, planned.patch)?;
     Ok(())
-}
-
-// What the strategy replaces in the tree of a slot, as a patch of the subterm at the path.
-fn patch_in_slot<M: Meaning>(
-    timeline: &Timeline,
-    program: &Program,
-    primitives: &Primitives<M>,
-    slot: usize,
-    path: &Path,
-    strategy: &Resolved,
-    budget: u32,
-) -> Result<Patch, Refusal>
-    requires low { IsLowIn timeline.now.store slot path.now }
-    ensures ok { IfOk result (λ patch. (taken : ℕ) × Foresees (world_in M.meaning program.now primitives.now)
-        timeline.now.store slot path.now strategy.now budget (patch_entries slot path.now patch) taken) }
-    ensures refused { IfErr result (IsRefusedRun (applied_in (world_in M.meaning program.now primitives.now)
-        timeline.now.store.trees slot path.now strategy.now budget)) }
-{
-    let Some(part) = part_in_slot(timeline, slot, path) else {
-        return Err(Refusal::Fails);
-    };
-    let ended = plan_patch(
-        timeline.allocator(),
-        program,
-        primitives,
-        part,
-        path.len() as u64,
-        strategy,
-        budget as u64,
-    );
-    let planned = replaced(ended)?;
-    Ok(planned.places)
-}
-
-// The subterm at the path of the slot's tree, if there is one.
-pub(crate) fn part_in_slot<'a>(timeline: &'a Timeline, slot: usize, path: &Path) -> Option<&'a Term>
-    ensures { option_copied result ≡ subterm_in timeline.now.store.trees slot path.now }
-{
-    let tree = timeline.store().tree(slot)?;
-    at(tree, path)
-}
-
-// What is replaced, or the refusal.
-pub(crate) fn replaced<R: Drop>(ended: Result<Ended<R>, NoMemory>) -> Result<R, Refusal>
-    ensures { result ≡ replaced_of ended }
-{
-    match ended {
-        Ok(Ended::Done(planned)) => Ok(planned),
-        Ok(Ended::Failed) => Err(Refusal::Fails),
-        Ok(Ended::Spent) => Err(Refusal::Spent),
-        Ok(Ended::Big) => Err(Refusal::Big),
-        Err(_) => Err(Refusal::Memory),
-    }
 }

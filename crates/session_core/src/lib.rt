@@ -3,6 +3,7 @@
 
 mod applying;
 pub mod laws;
+mod planning;
 mod preview;
 mod resolving;
 mod session;

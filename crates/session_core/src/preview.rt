@@ -10,14 +10,13 @@ ghost use Rattle.session_history.specs.Unfolded.{unfolded};
 ghost use Rattle.session_core.specs.Previewing.{AnswersPreview, IsNext};
 ghost use Rattle.session_core.specs.inside.Foreseen.{IsLowIn, Foresees, IsRefusedRun};
 
-use crate::applying::{part_in_slot, replaced};
+use crate::planning::plan_in_slot;
 use crate::resolving::resolve_at;
 use change_log::Plan;
 use prim_core::{Meaning, Primitives};
 use session_history::{KeptModules, Refusal, Timeline};
 use std::marker::Model;
 use strategy_check::Program;
-use strategy_run::plan_entries;
 use strategy_syntax::Resolved;
 use term_changes::{Kept, Replaced};
 use term_core::{Label, Term};
@@ -77,7 +76,7 @@ impl<'a> Places<'a> {
         self.changes.len()
     }
 
-    /// The path of the next place, and the term for it.
+    /// The path of the next place, and the term for it; `None` after the last one.
     pub fn next(&mut self) -> Option<(&'a [usize], &'a Term)>
         ensures { IsNext self.old (option_map (λ x. (x.0.now, x.1.now)) result) self.new }
     {
@@ -120,8 +119,8 @@ pub(crate) fn preview_strategy<M: Meaning>(
     outcome
 }
 
-// The same in the tree of a slot.
-pub(crate) fn preview_in_slot<M: Meaning>(
+// What applying a resolved strategy in the tree of a slot would replace.
+fn preview_in_slot<M: Meaning>(
     timeline: &Timeline,
     program: &Program,
     primitives: &Primitives<M>,
@@ -136,22 +135,12 @@ pub(crate) fn preview_in_slot<M: Meaning>(
     ensures refused { IfErr result (IsRefusedRun (applied_in (world_in M.meaning program.now primitives.now)
         timeline.now.store.trees slot path.now strategy.now budget)) }
 {
-    let Some(part) = part_in_slot(timeline, slot, path) else {
-        return Err(Refusal::Fails);
-    };
-    let ended = plan_entries(
-        timeline.allocator(),
-        program,
-        primitives,
-        part,
-        slot,
-        path,
-        strategy,
-        budget as u64,
-    );
-    let planned = replaced(ended)?;
+    let planned = plan_in_slot(timeline, program, primitives, slot, path, strategy, budget)?;
+    let plan = planned
+        .patch
+        .into_plan(timeline.allocator(), slot, path.parts())?;
     Ok(Preview {
-        plan: planned.places,
+        plan,
         steps: planned.taken,
     })
 }

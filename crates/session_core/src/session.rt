@@ -101,8 +101,9 @@ impl<M: Meaning> Session<M> {
         self.timeline.module_names()
     }
 
-    /// The number of steps that can be undone, and of those that can be redone. In a group these
-    /// are the numbers from outside it.
+    /// The number of steps that can be undone, and of those that can be redone: (2, 1), for
+    /// example, after three changes and `undo(1)`. In a group these are the numbers from outside
+    /// it.
     pub fn counts(&self) -> (u64, u64)
         ensures undo { result.0 ≡ length self.now.past }
         ensures redo { result.1 ≡ length self.now.later }
@@ -114,6 +115,8 @@ impl<M: Meaning> Session<M> {
     /// there are modules, a group of commands follows that restores them, with `module`, the name
     /// and the text of each. If memory can't grow, `out` is unchanged, except that its capacity may
     /// have grown.
+    ///
+    /// For example, `tree t f(a)`, `begin`, `module m strategies g = id` and `commit`, a line each.
     pub fn dump(&self, out: &mut Vec<u8>) -> Result<(), NoMemory>
         ensures ok { OnOk result (out.new.items ≡ out.old.items ++ dumped self.now.now) }
         ensures terms { OnOk result (AreNamedTerms self.now.now) }
@@ -156,6 +159,8 @@ impl<M: Meaning> Session<M> {
     /// such tree, the refusal is `NoTree`; if it has no subterm there, `Path`; if the term doesn't
     /// fit at the level that is the length of the path, `Big`.
     ///
+    /// For example, `c` at the path `/1` of `f(a,b)` makes it `f(a,c)`.
+    ///
     /// A refusal leaves the session as it was, and the term is dropped.
     pub fn put(&mut self, name: &Label, path: &Path, part: Term) -> Result<(), Refusal>
         ensures { Performs (put name.now path.now part) self.old self.new result }
@@ -166,6 +171,8 @@ impl<M: Meaning> Session<M> {
     /// Replaces the annotations of the subterm at the path of the name's tree; an empty vector
     /// removes them. The refusals are those of `put`; each annotation has to fit one level below
     /// the subterm.
+    ///
+    /// For example, 1 and 2 at the path `/0` of `f(a{3})` make it `f(a{1,2})`.
     ///
     /// A refusal leaves the session as it was, and the annotations are dropped.
     pub fn annotate(
@@ -183,6 +190,9 @@ impl<M: Meaning> Session<M> {
     /// `set_tree`. The text has at most 4,000 tokens, else the refusal is `Deep`; it is a module,
     /// else `Syntax`. Outside a group the checker must then find no fault in all modules, else the
     /// refusal is `Check` with the first fault; in a group this check waits for `commit`.
+    ///
+    /// For example, `strategies f = g` is refused with `Check(Unknown, g, 0, 0)` where no module
+    /// defines `g`.
     ///
     /// A refusal leaves the session as it was.
     pub fn set_module(&mut self, name: &Label, text: &[u8]) -> Result<(), Refusal>
@@ -205,6 +215,8 @@ impl<M: Meaning> Session<M> {
     /// text, within a budget of steps, from 1 to 1,000,000. That is a step, as with `set_tree`,
     /// even if the term stays the same. The strategy may call what the current modules define;
     /// their program is cached until they change.
+    ///
+    /// For example, `all(!1)` at the path `/` of `f(a,b)` makes it `f(1,1)`.
     ///
     /// The refusals, in the order of their tests: `NoTree` if there is no such tree; `Path` if it
     /// has no subterm there; `Deep` if the text has more than 4,000 tokens; `Syntax` if it is no
@@ -238,6 +250,9 @@ impl<M: Meaning> Session<M> {
     /// What [`Session::apply`] would replace with the same arguments: the outermost places that the
     /// strategy replaces, in their order in the tree, also where the new term is equal to the old
     /// one, and the number of steps that it takes. Nothing changes.
+    ///
+    /// For example, for `all(!1)` at the path `/` of `f(a,b)` these are `/0` and `/1`, with 1 for
+    /// each, and 3 steps.
     ///
     /// The refusals are those of `apply`, in the same order.
     pub fn preview(

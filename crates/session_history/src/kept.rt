@@ -21,8 +21,7 @@ use std::cmp::Ordering;
 use strategy_check::{CheckFault, Checked, NamedModule, Program};
 use term_core::{Label, LabelFault};
 
-/// Checked modules, with their program: those of the texts that a session has now, or of texts that
-/// differ from them.
+/// Cache of the last checked modules, with their program; `changed` says which texts may be newer.
 #[derive(Drop)]
 pub struct KeptModules {
     checked: Option<Checked>,

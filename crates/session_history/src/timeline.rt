@@ -411,7 +411,7 @@ fn add(logs: &mut Vec<Step>, position: &mut usize, step: Step)
     *position += 1;
 }
 
-// The same with the step of the compacted log.
+// Appends the step of the compacted log, as `add` does.
 fn add_log(logs: &mut Vec<Step>, position: &mut usize, log: Log)
     requires within { position.old ≤ length logs.old.items }
     requires room { length logs.old.items < vec_capacity logs.old }

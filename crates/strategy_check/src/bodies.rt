@@ -212,7 +212,7 @@ fn resolve_rec<M: Meaning>(
     Ok(ResolvedForm::Rec(part))
 }
 
-// The same in a box.
+// Resolves a part of a strategy, in a box of its own.
 #[cycle(strategy)]
 #[inline(never)]
 fn resolve_part<M: Meaning>(

@@ -26,7 +26,7 @@ pub(crate) fn after_rules<'t>(
     }
 }
 
-// The same, one by one.
+// What remains of a choice after such alternatives, which are passed one by one.
 #[inline(never)]
 fn pass_rules<'t>(
     strategy: &'t ResolvedStrategy,

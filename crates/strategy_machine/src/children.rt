@@ -43,7 +43,7 @@ pub(crate) fn next_act<'t>(acts: Acts<'t>, left: usize) -> Option<(&'t ResolvedS
     }
 }
 
-/// The same if a child is known to remain.
+/// `next_act` if a child is known to remain.
 #[inline(always)]
 pub(crate) fn first_act<'t>(acts: Acts<'t>) -> Option<(&'t ResolvedStrategy, Acts<'t>)>
     ensures { IfSome result (λ found. (k : ℕ) → acts_list acts.entry (suc k) ≡ found.0.now ∷ acts_list found.1 k) }
@@ -86,7 +86,7 @@ fn fill<'t>(parts: &mut Vec<Part<'t>>, node: &Part<'t>, count: usize) -> Result<
     Ok(())
 }
 
-// The same, one by one.
+// Appends these parts one by one.
 #[inline(never)]
 fn fill_missing<'t>(
     parts: &mut Vec<Part<'t>>,
@@ -120,7 +120,7 @@ pub(crate) fn finish<'t>(
     finish_changed(alloc, node, parts)
 }
 
-// The same if a child has changed.
+// `finish` if a child has changed.
 #[inline(never)]
 fn finish_changed<'t>(
     alloc: Global,

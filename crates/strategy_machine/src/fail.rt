@@ -238,7 +238,7 @@ fn fail_rest<'t>(m: &mut Machine<'t>, edits: usize) -> Result<Turned, NoMemory>
     Ok(m.fails())
 }
 
-// The same for the rest after the first element.
+// The rest after the first element failed, so the list fails.
 #[inline(always)]
 fn fail_after<'t>(m: &mut Machine<'t>, edits: usize) -> Result<Turned, NoMemory>
     requires { EndsWith (Slot.After edits) m.old.frames }

@@ -164,7 +164,7 @@ pub(crate) fn put<'t>(place: &mut Part<'t>, part: Part<'t>)
     *place = part;
 }
 
-/// The same for parts.
+/// Replaces parts, and drops the old ones here.
 #[inline(always)]
 pub(crate) fn put_parts<'t>(place: &mut Vec<Part<'t>>, parts: Vec<Part<'t>>)
     ensures { place.new ≡ parts.entry }

@@ -20,9 +20,9 @@ use term_values::Part;
 /// How many nested or successive forms are examined.
 pub(crate) const MOST: usize = 16;
 
-/// The steps that remain once the strategy has failed on the part, if the root alone shows that it
-/// fails: because of a pattern with another head, for example, below calls, choices and new
-/// variables. Names are looked up in the scope, if one is given.
+/// If the root alone shows that `strategy` fails on the part, the steps left afterwards. A pattern
+/// with another head shows it, for example, below calls, choices and new variables. Names are
+/// looked up in the scope, if one is given.
 pub(crate) fn left_by_failure<'t>(
     definitions: &'t [Resolved],
     scopes: &Scopes<'t>,

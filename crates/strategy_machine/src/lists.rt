@@ -131,8 +131,8 @@ pub(crate) fn give_rest<'t>(
     }
 }
 
-// The same root over the parts of the first `count` children followed by the children of `rest`, if
-// that is a list.
+// The node's root over the parts of its first `count` children followed by the children of `rest`,
+// if that is a list.
 #[inline(always)]
 fn after_those<'t>(
     alloc: Global,
@@ -250,7 +250,7 @@ fn first_now<'t>(node: &Part<'t>, first: Option<Part<'t>>) -> Result<Option<Part
     }
 }
 
-// The same root over the part of the first child followed by the children of a list.
+// The list's root over the part of its first child followed by the children of `rest`.
 #[inline(always)]
 fn after_first<'t>(
     alloc: Global,

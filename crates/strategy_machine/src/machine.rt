@@ -111,8 +111,8 @@ impl<'t> Machine<'t> {
         Turned::On
     }
 
-    /// The same, but if the strategy is `id` and a step is left, the step is charged and the focus is
-    /// given at once.
+    /// This strategy starts next. If it is `id` and a step is left, the step is charged and the
+    /// focus is given at once.
     #[inline(always)]
     pub(crate) fn goes_on(&mut self, strategy: &'t ResolvedStrategy, scope: usize) -> Turned
         ensures keeps { (W : World) (sub : Standing) (whole : Answer)

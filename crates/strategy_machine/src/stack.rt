@@ -333,7 +333,7 @@ impl<'t> Frames<'t> {
         self.starts.take_last()
     }
 
-    /// The same, and drops the start.
+    /// Takes off the innermost frame, which has a start, and drops that.
     #[inline(always)]
     pub(crate) fn drop_start(&mut self)
         requires { EndsIn has_start self.old }

@@ -28,7 +28,7 @@ pub(crate) fn rest_after<'t>(
     value.rest(alloc, count)
 }
 
-/// The same for a part.
+/// The children of a part after the first `count`, as a list without annotations.
 #[inline(always)]
 pub(crate) fn rest_of_part<'t>(
     alloc: Global,
@@ -43,7 +43,7 @@ pub(crate) fn rest_of_part<'t>(
     part.rest(alloc, count)
 }
 
-/// The same root over these children followed by those of a list.
+/// The value's root over these children followed by those of a list.
 pub(crate) fn with_rest_after<'t>(
     alloc: Global,
     value: &Value<'t>,
@@ -62,7 +62,7 @@ pub(crate) fn with_rest_after<'t>(
     value.with_children(alloc, all)
 }
 
-/// The same root over the part of the first child followed by the children of a list.
+/// The list's root over the part of its first child followed by the children of `rest`.
 #[inline(always)]
 pub(crate) fn in_front<'t>(
     alloc: Global,

@@ -16,23 +16,18 @@ use Rattle.term_changes.specs.Entries.{Entry, slot_tree, subterm_in, put, before
 use Rattle.term_changes.proofs.SlotLemmas.{same_content}
 use Rattle.term_changes.proofs.EntryLemmas.{store_from_before, flipped_forward_fits}
 use Rattle.term_changes.proofs.ContentsLemmas.{subterm_put}
-use Rattle.term_changes.specs.Change.{places, changed}
 use Rattle.term_changes.specs.Putting.{entries_at, entry_at}
-use Rattle.term_changes.specs.Standing.{Standing, unchanged, standing_tree, standing_change}
-use Rattle.term_changes.proofs.FollowLemmas.{followers_are_the_change}
-use Rattle.term_changes.proofs.StoreLemmas.{content_put, content_twice, places_put_the_change, places_are_there}
+use Rattle.term_changes.specs.Standing.{Standing, unchanged, standing_tree}
+use Rattle.term_changes.proofs.StoreLemmas.{content_put, content_twice}
 use Rattle.strategy_syntax.specs.declared.resolved.Resolved.{Resolved}
 use Rattle.strategy_meaning.specs.Answer.{Answer}
 use Rattle.strategy_meaning.specs.Meaning.{World, run_whole}
 use Rattle.strategy_meaning.specs.Applied.{Outcome, fails, placed, applied}
 use Rattle.strategy_machine.specs.Turns.{State, IsDone}
-use Rattle.strategy_run.specs.Applies.{applied_in, Applies, PutsAll, PutsOutermost, Stay}
-use Rattle.strategy_run.specs.inside.Finding.{PutsListed, Makes, FindsAll, Lists}
-use Rattle.strategy_run.specs.declared.ended.Ended.{Ended}
-use Rattle.strategy_run.specs.declared.ended.Ended.TheVariants.{Done, Failed, Spent, Big}
-use Rattle.strategy_run.specs.declared.application.Listing.{Listing}
-use Rattle.strategy_run.specs.declared.application.Listing.TheVariants.{Outermost, Each}
-use Rattle.strategy_machine.proofs.PlaceLemmas.{outermost}
+use Rattle.strategy_run.specs.Applies.{applied_in, Applies, PutsAll, Stay}
+use Rattle.strategy_run.specs.inside.Finding.{Makes, FindsAll}
+use Rattle.strategy_run.specs.declared.ended.Ended.TheVariants.{Done}
+use Rattle.strategy_machine.specs.Trails.{Shows}
 
 -- ---- heights
 
@@ -82,63 +77,39 @@ applied_nowhere W p r b t k = ap (λ o. option_map_or (λ x. placed t p (run_who
 pub low_part : (p : List ℕ) (t u : Tree) → at t p ≡ Some u → IfSome (at t p) (λ x. length p + height x ≤ MAX_HEIGHT) → length p + height u ≤ MAX_HEIGHT
 low_part p t u k low = subst (λ o. IfSome o (λ x. length p + height x ≤ MAX_HEIGHT)) k low
 
-pub finds : (listing : Listing) (W : World) (p : Standing) (path : List ℕ) (es : List Entry) (t u : Tree) (r : Resolved) (b : ℕ) (S : State) (s : Store) (slot : ℕ)
-    → at t path ≡ Some u → IsDone (unchanged u) (run_whole W (length path) r b u) S p → Lists listing S.trail p slot path es
-    → content s.trees slot ≡ Some t → FindsAll listing s slot (applied W path r b t) es
-finds Outermost W p path es t u r b S s slot k d l h =
-    let c = standing_change p in
-    let all = prefixed path (places c) in
-    let v = standing_tree p in
-    let made : after (entries_at slot all) s ≡ put (slot_tree slot (Some (set_at t path v))) s =
-    places_put_the_change c u slot path s (at_place s slot t u path h k)
-    ∙ subterm_put s slot path t (changed c u) h
-    ∙ ap (λ x. put (slot_tree slot (Some (set_at t path x))) s) (followers_are_the_change u p d.leads.follows) in
-    let there = places_are_there c u slot path s (at_place s slot t u path h k) (l.1 u d.leads.follows) in (
+pub finds : (W : World) (p : Standing) (path : List ℕ) (es : List Entry) (t u : Tree) (r : Resolved) (b : ℕ) (S : State) (s : Store) (slot : ℕ)
+    → at t path ≡ Some u → IsDone (unchanged u) (run_whole W (length path) r b u) S p → ((e : Edits) → Shows S.trail e → es ≡ entries_at slot (prefixed path e))
+    → content s.trees slot ≡ Some t → FindsAll s slot (applied W path r b t) es
+finds W p path es t u r b S s slot k d l h =
+    let v = standing_tree p in (
       set_at t path v,
       prefixed path d.edits,
       applied_there W path r b t u _ k d.is,
-      all,
-      outermost path u d.edits p d.leads,
-      l.0,
-      record { tree = made; places = there },
-    )
-finds Each W p path es t u r b S s slot k d l h =
-    let v = standing_tree p in
-    let is = l d.edits d.shows in (
-      set_at t path v,
-      prefixed path d.edits,
-      applied_there W path r b t u _ k d.is,
-      prefixed path d.edits,
-      refl,
-      is,
+      l d.edits d.shows,
       edits_make (prefixed path d.edits) t (set_at t path v) slot s h (edits_of_a_subterm d.edits t u v path k d.leads.made),
     )
 
 -- ---- the outcome is put in place
 
-pub puts : (listing : Listing) (whole : Outcome) (es : List Entry) (slot : ℕ) (s t : Store) (log longer : List Entry)
-    → FindsAll listing s slot whole es → t ≡ after es s → longer ≡ log ++ flipped_forward es s
+pub puts : (whole : Outcome) (es : List Entry) (slot : ℕ) (s t : Store) (log longer : List Entry)
+    → FindsAll s slot whole es → t ≡ after es s → longer ≡ log ++ flipped_forward es s
     → before longer t ≡ before log s → (Fits log s → FitsForward es s → Fits longer t)
-    → Applies (λ e u. PutsListed listing slot e u s log t longer) (Stay s log t longer) whole (Done tt)
-puts listing whole es slot s t log longer f te le back fit =
-    let ps = f.3 in
-    let is : es ≡ entries_at slot ps = f.5 in
-    let store : t ≡ after (entries_at slot ps) s = te ∙ ap (λ x. after x s) is in (
+    → Applies (λ e u. PutsAll slot e u s log t longer) (Stay s log t longer) whole (Done tt)
+puts whole es slot s t log longer f te le back fit =
+    let e = f.1 in
+    let is : es ≡ entries_at slot e = f.3 in
+    let store : t ≡ after (entries_at slot e) s = te ∙ ap (λ x. after x s) is in (
       f.0,
-      f.1,
+      e,
       f.2,
-      (
-        ps,
-        f.4,
-        record {
-          tree = store ∙ f.6.tree;
-          after = le ∙ ap (λ x. log ++ flipped_forward x s) is;
-          back = ap (before (flipped_forward (entries_at slot ps) s)) store ∙ store_from_before (entries_at slot ps) s;
-          fits = subst (Fits (flipped_forward (entries_at slot ps) s)) (sym store) (flipped_forward_fits (entries_at slot ps) s f.6.places);
-          log_back = back;
-          log_fits = λ h. fit h (subst (λ x. FitsForward x s) (sym is) f.6.places);
-        },
-      ),
+      record {
+        tree = store ∙ f.4.tree;
+        after = le ∙ ap (λ x. log ++ flipped_forward x s) is;
+        back = ap (before (flipped_forward (entries_at slot e) s)) store ∙ store_from_before (entries_at slot e) s;
+        fits = subst (Fits (flipped_forward (entries_at slot e) s)) (sym store) (flipped_forward_fits (entries_at slot e) s f.4.places);
+        log_back = back;
+        log_fits = λ h. fit h (subst (λ x. FitsForward x s) (sym is) f.4.places);
+      },
     )
 
 -- the condition, for the tree that is in the slot
@@ -152,21 +123,3 @@ in_tree W s slot p r b t h = ap (λ o. option_map_or (applied W p r b) o fails) 
 
 pub in_none : (W : World) (s : Store) (slot : ℕ) (p : List ℕ) (r : Resolved) (b : ℕ) → content s.trees slot ≡ None → applied_in W s.trees slot p r b ≡ fails
 in_none W s slot p r b h = ap (λ o. option_map_or (applied W p r b) o fails) h
-
--- ---- by the listing
-
-pub applies_outermost : (slot : ℕ) (s t : Store) (log longer : List Entry) (whole : Outcome) (o : Ended (Unit {0}))
-    → Applies (λ e u. PutsListed Outermost slot e u s log t longer) (Stay s log t longer) whole o
-    → Applies (λ e u. PutsOutermost slot e u s log t longer) (Stay s log t longer) whole o
-applies_outermost slot s t log longer whole (Done _) h = (h.0, h.1, h.2, record { places = h.3.0; outermost = h.3.1; puts = h.3.2 })
-applies_outermost slot s t log longer whole Failed h = h
-applies_outermost slot s t log longer whole Spent h = h
-applies_outermost slot s t log longer whole Big h = h
-
-pub applies_each : (slot : ℕ) (s t : Store) (log longer : List Entry) (whole : Outcome) (o : Ended (Unit {0}))
-    → Applies (λ e u. PutsListed Each slot e u s log t longer) (Stay s log t longer) whole o
-    → Applies (λ e u. PutsAll slot e u s log t longer) (Stay s log t longer) whole o
-applies_each slot s t log longer whole (Done _) h = (h.0, h.1, h.2, subst (λ x. PutsAll slot x h.0 s log t longer) h.3.1 h.3.2)
-applies_each slot s t log longer whole Failed h = h
-applies_each slot s t log longer whole Spent h = h
-applies_each slot s t log longer whole Big h = h

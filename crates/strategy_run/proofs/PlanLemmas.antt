@@ -21,7 +21,6 @@ use Rattle.strategy_machine.specs.Leading.{Has}
 use Rattle.strategy_machine.specs.Turns.{State, IsDone}
 use Rattle.strategy_machine.proofs.PlaceLemmas.{outermost}
 use Rattle.strategy_run.specs.Planning.{Gives}
-use Rattle.strategy_run.specs.inside.Planned.{StandsFor}
 use Rattle.strategy_run.specs.inside.Finding.{Makes}
 use Rattle.strategy_run.proofs.ApplyLemmas.{applied_there, edits_make}
 
@@ -41,27 +40,24 @@ prefixed_root [] = refl
 prefixed_root (x ∷ e) = ap (λ l. x ∷ l) (prefixed_root e)
 
 pub part_gives : (t : Tree) (b : ℕ) (whole : Answer) (S : State) (p : Standing) (taken : ℕ) → IsDone (unchanged t) whole S p → taken ≡ b - S.steps
-    → (ps : Edits) × StandsFor t ps p × Gives t b whole ps taken
+    → Gives t b whole (places (standing_change p)) taken
 part_gives t b whole S p taken d took =
     let c = standing_change p in
-    let ps = places c in (
-      ps,
-      record { suits = d.leads.follows; places = refl },
-      record {
-        after = standing_tree p;
-        bindings = d.bindings;
-        left = S.steps;
-        edits = d.edits;
-        is = d.is;
-        outermost =
-            subst (λ x. AreOutermost ps x) (prefixed_root d.edits)
-            (subst (λ x. AreOutermost x (prefixed [] d.edits)) (prefixed_root ps) (outermost [] t d.edits p d.leads));
-        made =
-            replaces ps t (standing_tree p) (all_there c t (has_places t p d.leads.follows d.leads.has))
-            (places_make_the_change c t ∙ followers_are_the_change t p d.leads.follows);
-        took = took;
-      },
-    )
+    let ps = places c in
+    record {
+      after = standing_tree p;
+      bindings = d.bindings;
+      left = S.steps;
+      edits = d.edits;
+      is = d.is;
+      outermost =
+          subst (λ x. AreOutermost ps x) (prefixed_root d.edits)
+          (subst (λ x. AreOutermost x (prefixed [] d.edits)) (prefixed_root ps) (outermost [] t d.edits p d.leads));
+      made =
+          replaces ps t (standing_tree p) (all_there c t (has_places t p d.leads.follows d.leads.has))
+          (places_make_the_change c t ∙ followers_are_the_change t p d.leads.follows);
+      took = took;
+    }
 
 -- ---- in the tree of a slot
 

@@ -2,16 +2,14 @@
 use Rattle.std.specs.Prelude.{◌≡◌, ℕ, List, ◌++◌, Some}
 use Rattle.std.specs.Option.{option_map_or}
 use Rattle.term_core.specs.Tree.{Tree}
-use Rattle.term_paths.specs.Edits.{Edits, prefixed}
+use Rattle.term_paths.specs.Edits.{Edits}
 use Rattle.term_changes.specs.Slots.{Slots, Store, content}
 use Rattle.term_changes.specs.Entries.{Entry, slot_tree, put, before, flipped_forward, Fits}
-use Rattle.term_changes.specs.Change.{places}
 use Rattle.term_changes.specs.Putting.{entries_at}
 use Rattle.strategy_syntax.specs.declared.resolved.Resolved.{Resolved}
 use Rattle.strategy_meaning.specs.Answer.{spent, big}
 use Rattle.strategy_meaning.specs.Meaning.{World}
 use Rattle.strategy_meaning.specs.Applied.{Outcome, gives, fails, stops, applied}
-use Rattle.strategy_meaning.specs.Outermost.{AreOutermost}
 use Rattle.strategy_run.specs.declared.ended.Ended.{Ended}
 use Rattle.strategy_run.specs.declared.ended.Ended.TheVariants.{Done, Failed, Spent, Big}
 
@@ -29,13 +27,6 @@ pub record PutsAll (slot : ℕ) (e : Edits) (u : Tree) (s : Store) (log : List E
   pub fits : Fits (flipped_forward (entries_at slot e) s) t
   pub log_back : before longer t ≡ before log s
   pub log_fits : Fits log s → Fits longer t
-
--- The same with an entry only for each of the outermost places of the edits. The new terms in
--- `places` are arbitrary: entries hold what was there before.
-pub record PutsOutermost (slot : ℕ) (e : Edits) (u : Tree) (s : Store) (log : List Entry) (t : Store) (longer : List Entry) : Type 0 where
-  pub places : Edits
-  pub outermost : AreOutermost places e
-  pub puts : PutsAll slot places u s log t longer
 
 -- How applying ends, by its outcome. If that is a tree, it is put in place; else nothing changes.
 abbrev pub Applies : (Edits → Tree → Type 0) → Type 0 → Outcome → Ended (Unit {0}) → Type 0

@@ -2,6 +2,7 @@
 use Rattle.std.specs.Prelude.{◌≡◌, ℕ, ◌-◌}
 use Rattle.term_core.specs.Tree.{Tree}
 use Rattle.term_paths.specs.Edits.{Edits, Replaces}
+use Rattle.term_changes.specs.Change.{places}
 use Rattle.strategy_meaning.specs.Matching.{Bindings}
 use Rattle.strategy_meaning.specs.Answer.{Answer, done}
 use Rattle.strategy_meaning.specs.Outermost.{AreOutermost}
@@ -21,6 +22,6 @@ pub record Gives (t : Tree) (b : ℕ) (whole : Answer) (places : Edits) (taken :
   pub made : Replaces places t after
   pub took : taken ≡ b - left
 
--- What is planned for t, given how the places are represented.
-abbrev pub Plans : {R : Type 0} → (Edits → R → Type 0) → Tree → ℕ → Answer → Ended (Planned R) → Type 0
-Plans Shows t b whole ended = EndsAs (λ p. (places : Edits) × Shows places p.places × Gives t b whole places p.taken) whole ended
+-- what is planned for t
+abbrev pub Plans : Tree → ℕ → Answer → Ended Planned → Type 0
+Plans t b whole ended = EndsAs (λ p. Gives t b whole (places p.patch) p.taken) whole ended

@@ -27,6 +27,8 @@ pub type Evaluated = Ended<Term>;
 /// Returns `Done` with the resulting term, `Failed` if the strategy fails, `Spent` if it needs more
 /// steps, or `Big` if it makes a term that doesn't fit.
 ///
+/// For example, `all(!7)` on `(1,2)` gives `(7,7)` within 3 steps, and is `Spent` within 2.
+///
 /// Errors: only want of memory.
 pub fn evaluate<M: Meaning>(
     alloc: Global,

@@ -8,7 +8,7 @@ mod in_place;
 pub mod laws;
 mod planning;
 
-pub use application::{Outcome, apply, apply_outermost, is_low_enough};
+pub use application::{Outcome, apply, is_low_enough};
 pub use ended::Ended;
 pub use evaluation::{Evaluated, evaluate};
-pub use planning::{Planned, plan_entries, plan_patch};
+pub use planning::{Planned, plan_patch};

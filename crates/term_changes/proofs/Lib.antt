@@ -18,5 +18,6 @@ pub mod PathLemmas
 pub mod WalkLemmas
 pub mod WalkedLemmas
 pub mod ExchangeLemmas
+pub mod ListingLemmas
 pub mod DraftLemmas
 pub mod TrimLemmas

@@ -18,8 +18,11 @@ pub struct Mark {
     pub(crate) kids: usize,
 }
 
-/// Places of one node and the terms for them. The last place is added first, and a node after the
-/// places below its children. Contracts see the places, the first one first.
+/// Builder for a [`Patch`], filled right to left, bottom up: the last place is added first, and a
+/// node after the places below its children. Contracts see places of one node, the first one first.
+///
+/// For example, `term(y)`, `term(x)`, `leave(1)`, `node(1)`, `leave(1)`, `node(2)` and `finish()`
+/// give the patch with x for the place `/1/1` and y for `/2`.
 #[derive(Drop)]
 pub struct Draft {
     // The last place in the tree stands first here, and a node after the places below its children.

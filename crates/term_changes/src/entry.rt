@@ -57,7 +57,7 @@ impl<'a> Model for Entry<'a> {
 }
 
 impl<'a> Entry<'a> {
-    /// An entry that sets the tree of a slot, or empties it.
+    /// An entry that sets the tree of a slot, or with `None` empties it.
     pub fn tree(slot: usize, tree: Option<Term>) -> Entry<'a>
         ensures { result ≡ slot_tree slot tree }
     {
@@ -68,7 +68,8 @@ impl<'a> Entry<'a> {
         }
     }
 
-    /// An entry that replaces the subterm at the path in a slot's tree.
+    /// An entry that replaces the subterm at the path in a slot's tree: with the path 1, 0 and the
+    /// term `c`, it makes `f(a,g(c))` of `f(a,g(b))`.
     #[inline(always)]
     pub fn subterm(slot: usize, path: &'a [usize], term: Term) -> Entry<'a>
         ensures { result ≡ subterm slot path.now term }
@@ -91,7 +92,7 @@ impl<'a> Entry<'a> {
         }
     }
 
-    /// An entry that sets the module text of a slot, or empties it.
+    /// An entry that sets the module text of a slot, or with `None` empties it.
     pub fn text(slot: usize, text: Option<Vec<u8>>) -> Entry<'a>
         ensures { result ≡ slot_text slot (option_map (λ bytes. bytes.items) text) }
     {

@@ -6,6 +6,7 @@ mod draft;
 mod entry;
 mod exchange;
 pub mod laws;
+mod listing;
 mod patch;
 mod plan;
 mod text;

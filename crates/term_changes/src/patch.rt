@@ -45,8 +45,11 @@ impl Patch {
         }
     }
 
-    /// Exchanges each of the terms with what stands at its place. A second time takes that back. It takes
-    /// no memory, and goes to no child that has no place in it.
+    /// Exchanges each of the terms with what stands at its place. A second time takes that back. It
+    /// takes no memory, and goes to no child that has no place in it.
+    ///
+    /// For example, the patch with `x` for `/0` makes `f(x,b)` of `f(a,b)`, and is then the patch
+    /// with `a` for `/0`.
     pub fn exchange(&mut self, tree: &mut Term)
         ensures tree { tree.new ≡ changed self.old tree.old }
         ensures patch { self.new ≡ taken self.old tree.old }
@@ -57,7 +60,8 @@ impl Patch {
         }
     }
 
-    /// Exchanges in the subterm that the path leads to; nothing where it leads nowhere.
+    /// Exchanges in the subterm that the path leads to; nothing where it leads nowhere. The places
+    /// of the patch are counted from that subterm: `/0` with the path 1 is `/1/0` of the tree.
     pub fn exchange_at(&mut self, tree: &mut Term, path: &[usize])
         ensures tree { tree.new ≡ changed_in self.old tree.old path.now }
         ensures patch { self.new ≡ taken_in self.old tree.old path.now }

@@ -1,12 +1,11 @@
 //! Changes that are yet to be made.
 
-ghost use Rattle.std.specs.Prelude.{◌≡◌, ◌≤◌, ◌+◌, ◌++◌, [], ◌∷◌, length, vec_len, vec_capacity, OnOk, OnErr};
-ghost use Rattle.term_changes.specs.Entries.{subterm};
+ghost use Rattle.std.specs.Prelude.{◌≡◌, ◌++◌, [], ◌∷◌, OnOk, OnErr};
 
 use crate::entry::{Entry, Kept};
 use std::alloc::Global;
 use std::marker::Model;
-use term_core::{NoMemory, Term};
+use term_core::NoMemory;
 
 /// A change without the path of its place: in a plan it holds what to put there, in a log what was
 /// replaced.
@@ -62,34 +61,6 @@ impl Plan {
         Ok(())
     }
 
-    /// Adds a change: the subterm at `path` followed by this child.
-    ///
-    /// If memory can't grow, the plan stays as it was and the term is dropped.
-    #[inline(always)]
-    pub fn add_child(
-        &mut self,
-        slot: usize,
-        path: &[usize],
-        child: usize,
-        term: Term,
-    ) -> Result<(), NoMemory>
-        ensures ok { OnOk result (self.new ≡ self.old ++ subterm slot (path.now ++ child ∷ []) term ∷ []) }
-        ensures err { OnErr result (self.new ≡ self.old) }
-    {
-        let Some(depth) = path.len().checked_add(1) else {
-            return Err(NoMemory);
-        };
-        self.changes.reserve(1)?;
-        self.paths.reserve(depth)?;
-        add_steps(&mut self.paths, path, child);
-        self.changes.push_reserved(Replaced {
-            slot,
-            depth,
-            kept: Kept::Subterm(term),
-        });
-        Ok(())
-    }
-
     /// Adds a change.
     ///
     /// If memory can't grow, the plan stays as it was and the entry is dropped.
@@ -108,16 +79,4 @@ impl Plan {
         });
         Ok(())
     }
-}
-
-// Appends the path and the child to the paths, which have room.
-#[inline(always)]
-fn add_steps(paths: &mut Vec<usize>, path: &[usize], child: usize)
-    requires { vec_len paths.old + length path.now + 1 ≤ vec_capacity paths.old }
-    ensures { paths.new.items ≡ paths.old.items ++ (path.now ++ child ∷ []) }
-{
-    for i in path {
-        paths.push_reserved(*i);
-    }
-    paths.push_reserved(child);
 }

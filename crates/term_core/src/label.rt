@@ -66,7 +66,7 @@ impl From<NoMemory> for LabelFault {
 }
 
 impl Label {
-    /// The label with these bytes.
+    /// The label with these bytes: `t`, `rules-2` or `x'`, for example, but neither `2t` nor `a b`.
     pub fn read(alloc: Global, text: &[u8]) -> Result<Label, LabelFault>
         ensures label { IfOk result (λ label. label_of text.now ≡ Some label) }
         ensures name { (result ≡ Err LabelFault.Name) ↔ (label_of text.now ≡ None) }

@@ -113,7 +113,7 @@ fn all_continue_word(rest: &[u8]) -> bool
 }
 
 /// Whether these bytes are a word: a byte that may begin one, followed by bytes that may continue
-/// it.
+/// it. `a-b` and `_` are words, for example, `1a` and the empty text aren't.
 pub fn is_word(text: &[u8]) -> bool
     ensures { result ≡ is_word text.now }
 {
@@ -185,7 +185,7 @@ impl Name {
     }
 
     /// The longest word that the text begins with, and the rest; `None` if the text begins with no
-    /// word.
+    /// word. For example, `f-x` and `(1)` of `f-x(1)`.
     pub fn first_word(alloc: Global, text: &[u8]) -> Result<Option<(Name, &[u8])>, NoMemory>
         ensures no_word { (result ≡ Ok None) ↔ (first_word text.now ≡ None) }
         ensures word { IfOk result (λ found. IfSome found (λ found.
@@ -204,7 +204,7 @@ impl Name {
         Ok(Some((Name { text }, rest)))
     }
 
-    /// The quoted name with these bytes, which are arbitrary.
+    /// The quoted name with these bytes, which are arbitrary, without quotes and escapes.
     pub fn quoted(alloc: Global, text: &[u8]) -> Result<Name, NoMemory>
         ensures { IfOk result (λ name. name ≡ record { text = text.now; is_quoted = true }) }
     {
@@ -232,7 +232,8 @@ impl Name {
         matches!(kind, NameKind::Quoted)
     }
 
-    /// Whether the two names have the same bytes and both are words or both are quoted.
+    /// Whether the two names have the same bytes and both are words or both are quoted. So the word
+    /// `f` and the quoted name `"f"` aren't equal.
     pub fn equals(&self, other: &Name) -> bool
         ensures { IsTrue result ↔ (self.now ≡ other.now) }
     {

@@ -148,7 +148,8 @@ impl Term {
         self.annotations.as_slice()
     }
 
-    /// Swaps the annotations with those in the vector.
+    /// Swaps the annotations with those in the vector. With 1 in the vector `f(a){b}` becomes
+    /// `f(a){1}`, and the vector has `b`.
     pub fn swap_annotations(&mut self, other: &mut Vec<Term>)
         ensures term { self.new ≡ with_annotations self.old other.old.items }
         ensures old { other.new.items ≡ annotations self.old }
@@ -156,7 +157,7 @@ impl Term {
         mem::swap(&mut self.annotations, other);
     }
 
-    /// Replaces the children. An integer takes none.
+    /// Replaces the children; kind and annotations stay. An integer takes none.
     pub fn set_children(&mut self, new: Vec<Term>)
         ensures { self.new ≡ with_children self.old new.items }
     {
@@ -181,8 +182,9 @@ impl Term {
         self.children.as_mut_slice()
     }
 
-    /// Swaps child `i` with the other term. Returns `false`, and changes nothing, if there is no
-    /// such child.
+    /// Swaps child `i`, counted from 0, with the other term. Returns `false`, and changes nothing,
+    /// if there is no such child. With child 1 and the term `c`, `f(a,b)` becomes `f(a,c)`, and the
+    /// other term `b`.
     pub fn swap_child(&mut self, i: usize, other: &mut Term) -> bool
         ensures there { IsTrue result ↔ (i < length (children self.old)) }
         ensures term { OnTrue result (self.new ≡ with_child self.old i other.old) }
@@ -196,7 +198,7 @@ impl Term {
         true
     }
 
-    /// Whether the two terms are equal, annotations included.
+    /// Whether the two terms are equal, annotations included: `a{1}` and `a` aren't.
     #[cycle(equals)]
     pub fn equals(&self, other: &Term) -> bool
         ensures { IsTrue result ↔ (self.now ≡ other.now) }
@@ -211,7 +213,7 @@ impl Term {
     }
 
     /// The height: 1 without children and annotations, else 1 more than the greatest height among
-    /// them; at most the greatest `u64`.
+    /// them; at most the greatest `u64`. That of `f(a,g(b))` is 3, that of `a{f(b)}` too.
     #[cycle(height)]
     pub fn height(&self) -> u64
         ensures { result ≡ min (height self.now) (2 ^ 64 - 1) }
@@ -230,7 +232,7 @@ impl Term {
     }
 
     /// The size: 1 more than the sum of the sizes of children and annotations; at most the greatest
-    /// `u64`.
+    /// `u64`. That of `f(a,g(b))` is 4, that of `a{f(b)}` 3.
     #[cycle(size)]
     pub fn size(&self) -> u64
         ensures { result ≡ min (size self.now) (2 ^ 64 - 1) }
@@ -241,7 +243,8 @@ impl Term {
     }
 
     /// Whether the term fits below `level` other terms: `level` plus its height is at most 1,000,
-    /// and its size is at most 100,000. It visits at most 100,000 terms.
+    /// and its size is at most 100,000. It visits at most 100,000 terms. For example, `f(a)` fits
+    /// at level 998, and not at 999.
     pub fn fits(&self, level: u64) -> bool
         ensures { result ≡ fits level self.now }
     {

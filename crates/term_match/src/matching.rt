@@ -54,7 +54,7 @@ impl<'t> Cells<'t> {
         }
     }
 
-    // The same, but without a match some variables may have been bound.
+    // Matches the value. Without a match some variables may have been bound.
     #[cycle(match_part)]
     fn match_part<P: Places>(
         &mut self,
@@ -172,7 +172,7 @@ impl<'t> Cells<'t> {
         Ok(true)
     }
 
-    // The same as `match_part`, consuming the value.
+    // `match_part`, consuming the value.
     #[cycle(match_part)]
     fn match_child<P: Places>(
         &mut self,
@@ -244,7 +244,7 @@ impl<'t> Cells<'t> {
         }
     }
 
-    // The same, consuming the value.
+    // `bind`, consuming the value.
     fn bind_owned<P: Places>(
         &mut self,
         places: &P,

@@ -1,4 +1,4 @@
--- Parts in the places of children, and the places of changes, gathered child by child.
+-- Parts in the places of children.
 use Rattle.std.proofs.Common.{◌≡◌, ℕ, ◌+◌, ◌-◌, ◌<◌, ◌≤◌, List, [], ◌∷◌, ◌++◌, length, map, take, drop, get_or, slice_set, Some, refl, sym, ap, ◌∙◌, subst, arith, zero, suc, append_assoc, length-append}
 use Rattle.std.specs.List.{slice_get}
 use Rattle.std.proofs.lemmas.List.{map-append, take_more, drop_more}
@@ -54,71 +54,11 @@ pub altered_heights : (t : Tree) (ps : List Standing) (x : Altered) → record {
     → heights (of_list (map standing_tree ps)) + 1 ≤ height (after x)
 altered_heights t ps x e h = omega (arith, ap (λ us. heights (of_list us)) (altered_children t ps x e h), height_parts (after x))
 
--- ---- places
-
-prefixed-below : (q : List ℕ) (i : ℕ) (e : Edits) → prefixed q (below i e) ≡ prefixed (q ++ i ∷ []) e
-prefixed-below q i [] = refl
-prefixed-below q i (x ∷ e) = λ j. record { path = sym (append_assoc q (i ∷ []) x.path) j; new = x.new } ∷ prefixed-below q i e j
-
-prefixed-append : (q : List ℕ) (d e : Edits) → prefixed q (d ++ e) ≡ prefixed q d ++ prefixed q e
-prefixed-append q [] e = refl
-prefixed-append q (x ∷ d) e = λ j. record { path = q ++ x.path; new = x.new } ∷ prefixed-append q d e j
-
--- the changes from child k on
-next_places : (q : List ℕ) (k i : ℕ) (ps : List Standing) (p : Standing) → i < length ps → p ≡ get_or ps i p
-    → prefixed q (places_from k (standing_changes (drop i ps)))
-    ≡ prefixed (q ++ k ∷ []) (places (standing_change p)) ++ prefixed q (places_from (k + 1) (standing_changes (drop (suc i) ps)))
-next_places q k i [] p h e = absurd (omega (arith, h))
-next_places q k zero (x ∷ ps) p h e =
-    prefixed-append q (below k (places (standing_change x))) (places_from (k + 1) (standing_changes ps))
-    ∙ (λ j. (prefixed-below q k (places (standing_change x)) ∙ ap (λ y. prefixed (q ++ k ∷ []) (places (standing_change y))) (sym e)) j ++ prefixed q (places_from (k + 1) (standing_changes ps)))
-next_places q k (suc i) (x ∷ ps) p h e = next_places q k i ps p (omega (arith, h)) e
-
--- none remain after the last child
-pub no_places : (q : List ℕ) (k i : ℕ) (ps : List Standing) → length ps ≤ i → prefixed q (places_from k (standing_changes (drop i ps))) ≡ []
-no_places q k zero [] h = refl
-no_places q k (suc i) [] h = refl
-no_places q k zero (x ∷ ps) h = absurd (omega (arith, h))
-no_places q k (suc i) (x ∷ ps) h = no_places q k i ps (omega (arith, h))
-
--- one more child
-pub gathered : (slot : ℕ) (q : List ℕ) (i : ℕ) (ps : List Standing) (p : Standing) (all next total : List Entry) → i < length ps → p ≡ get_or ps i p
-    → next ≡ all ++ entries_at slot (prefixed (q ++ i ∷ []) (places (standing_change p)))
-    → all ++ entries_at slot (prefixed q (places_from i (standing_changes (drop i ps)))) ≡ total
-    → next ++ entries_at slot (prefixed q (places_from (i + 1) (standing_changes (drop (i + 1) ps)))) ≡ total
-gathered slot q i ps p all next total l e n t =
-    let first = prefixed (q ++ i ∷ []) (places (standing_change p)) in
-    let others = prefixed q (places_from (i + 1) (standing_changes (drop (suc i) ps))) in
-    let one : i + 1 ≡ suc i = omega arith in
-    let rest = ap (λ k. drop k ps) one in
-    (λ j. n j ++ entries_at slot (prefixed q (places_from (i + 1) (standing_changes (rest j)))))
-    ∙ append_assoc all (entries_at slot first) (entries_at slot others)
-    ∙ ap (λ x. all ++ x) (sym (ap (entries_at slot) (next_places q i i ps p l e) ∙ map-append (entry_at slot) first others))
-    ∙ t
-
-pub popped : (xs old new : List ℕ) (i n : ℕ) → old ≡ xs ++ i ∷ [] → n ≡ length old → new ≡ take (n - 1) old → new ≡ xs
-popped xs old new i n e k h =
-    h ∙ (λ j. take ((ap (λ m. m - 1) (k ∙ ap length e) ∙ count) j) (e j)) ∙ take-append_seam xs (i ∷ [])
-  where
-    count : length (xs ++ i ∷ []) - 1 ≡ length xs
-    count = omega (arith, length-append xs (i ∷ []))
-
 -- ---- the places exist
 
 -- Whether subterms whose places these can take have the places of the changes.
 abbrev pub AllThere : List Standing → Type 0
 AllThere ps = (us : List Tree) → SuitAll us ps → HaveAllPlaces us (standing_changes ps)
-
-with_first : (p : Standing) (ps : List Standing) → ((t : Tree) → Suits t p → HasPlaces t (standing_change p))
-    → AllThere ps → AllThere (p ∷ ps)
-with_first p ps there more [] h = absurd h
-with_first p ps there more (u ∷ us) h = (there u h.0, more us h.1)
-
-pub all_there_next : (ps : List Standing) (i : ℕ) (p : Standing) → i < length ps → p ≡ get_or ps i p
-    → ((t : Tree) → Suits t p → HasPlaces t (standing_change p))
-    → (AllThere (drop i ps) → AllThere ps) → AllThere (drop (i + 1) ps) → AllThere ps
-all_there_next ps i p h e there whole more =
-    whole (subst AllThere (ap (λ (q : Standing). q ∷ drop (i + 1) ps) e ∙ sym (drop_more ps i p h)) (with_first p (drop (i + 1) ps) there more))
 
 -- ---- one child replaced
 

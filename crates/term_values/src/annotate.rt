@@ -17,7 +17,7 @@ use std::rc::Rc;
 use term_core::{NoMemory, Term};
 
 impl<'t> Value<'t> {
-    /// The same value without annotations. It takes no memory.
+    /// This value without annotations. It takes no memory.
     pub fn bare(&self) -> Result<Value<'t>, NoMemory>
         ensures { IfOk result (λ value. value ≡ bare_of self.now) }
     {
@@ -38,7 +38,7 @@ impl<'t> Value<'t> {
         }
     }
 
-    /// The same value with these annotations in place of its own.
+    /// This value with these annotations in place of its own.
     pub fn with_annotations(
         &self,
         alloc: Global,
@@ -54,7 +54,7 @@ impl<'t> Value<'t> {
         annotated(alloc, node, Annotations::Own(all), within)
     }
 
-    /// The same value with the annotations of another in place of its own. If that is part of the
+    /// This value with the annotations of another in place of its own. If that is part of the
     /// borrowed term, they aren't copied.
     pub fn with_annotations_of(&self, alloc: Global, of: &Value<'t>) -> Result<Value<'t>, NoMemory>
         ensures { IfOk result (λ value. value ≡ with_annotations self.now (annotations of.now)) }

@@ -121,7 +121,7 @@ impl Bounds {
         }
     }
 
-    /// The same height, and no bound of the size.
+    /// The bound of the height, and none of the size.
     pub(crate) fn of_any_size(self) -> Bounds
         ensures { (s r h : ℕ) → Covers s h self → Covers r h result }
     {

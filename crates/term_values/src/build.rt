@@ -78,7 +78,7 @@ impl<'t> Value<'t> {
         Value::made(alloc, Top::Borrowed(Kind::List), Items::Many(elements))
     }
 
-    /// The same root over these children. An integer has none.
+    /// This value's root over these children. An integer has none.
     pub fn with_children(
         &self,
         alloc: Global,
@@ -91,7 +91,7 @@ impl<'t> Value<'t> {
         node.with_annotations_of(alloc, self)
     }
 
-    /// The same root over these children. An integer has none.
+    /// This value's root over these children. An integer has none.
     pub(crate) fn with_items(&self, alloc: Global, items: Items<'t>) -> Result<Value<'t>, NoMemory>
         ensures { IfOk result (λ value. value ≡ with_children self.now (items_list items.entry)) }
     {
@@ -105,8 +105,8 @@ impl<'t> Value<'t> {
         node.with_annotations_of(alloc, self)
     }
 
-    /// The same root over the same children, except that this one takes the place of child `i`,
-    /// counted from 0, if there is one. An integer has none.
+    /// This value with another child in the place of child `i`, counted from 0, if there is one. An
+    /// integer has none.
     pub(crate) fn with_child(
         &self,
         alloc: Global,
@@ -127,7 +127,7 @@ impl<'t> Value<'t> {
         self.with_one_of_many(alloc, i, child)
     }
 
-    // The same, whatever the form.
+    // `with_child`, whatever the form.
     fn with_one_of_many(
         &self,
         alloc: Global,

@@ -34,7 +34,7 @@ impl<'t> Value<'t> {
         }
     }
 
-    // The same for the forms that `child` doesn't treat itself.
+    // `child` for the forms that it doesn't treat itself.
     fn other_child(&self, i: usize) -> Result<Option<Value<'t>>, NoMemory>
         ensures { IfOk result (λ child. child ≡ slice_get (children self.now) i) }
     {
@@ -72,7 +72,7 @@ impl<'t> Value<'t> {
         self.bounds_below(self.child_count())
     }
 
-    // The same if the number of children is known.
+    // Bounds that hold for each child, where there are so many.
     fn bounds_below(&self, count: usize) -> Bounds
         requires { count ≡ length (children self.now) }
         ensures { AllWithin (children self.now) result }

@@ -14,7 +14,6 @@ mod owned;
 mod part;
 mod patches;
 mod places;
-mod replacements;
 mod value;
 
 pub use part::Part;

@@ -67,7 +67,7 @@ impl<'t> Value<'t> {
         put_before(alloc, first, after.as_list(alloc)?)
     }
 
-    /// The same, consuming the other value.
+    /// The list of an element in front of the children of another value, which is consumed.
     pub fn cons_owned(
         alloc: Global,
         first: Value<'t>,
@@ -152,7 +152,7 @@ impl<'t> Value<'t> {
         rest.within(self.bounds.less(skipped, 0))
     }
 
-    // The same if this value is a suffix already.
+    // The children after the first `skipped` of this value, which is the term's after `before`.
     fn rest_after(&self, term: &'t Term, before: usize, skipped: usize) -> Value<'t>
         requires rest { self.now ≡ list_term (drop before (children term.now)) }
         requires before { before ≤ length (children term.now) }

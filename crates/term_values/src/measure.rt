@@ -109,7 +109,7 @@ fn all_measured(elements: Elements<'_, '_>, left: &mut u64) -> Option<Bounds>
     Some(all)
 }
 
-// The same for a term.
+// `measured_within` for a term.
 #[cycle(term_measured)]
 fn term_measured(term: &Term, left: &mut u64) -> Option<Bounds>
     ensures some { IfSome result (λ bounds. Measures term.now bounds

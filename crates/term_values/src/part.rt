@@ -1,4 +1,4 @@
-//! Parts: what took the place of a subterm of the borrowed term.
+//! Parts: what became of a subterm of the borrowed term.
 
 ghost use Rattle.std.specs.Prelude.{◌≡◌, ◌≤◌, drop, length, IfOk};
 ghost use Rattle.term_core.specs.Tree.{children, annotations, list_term};
@@ -13,8 +13,7 @@ use std::marker::Model;
 use std::rc::Rc;
 use term_core::{Kind, NoMemory, Term};
 
-/// What took the place of a subterm of the borrowed term: the subterm itself, the subterm with some
-/// places replaced, or another value.
+/// The state of a subterm of the borrowed term in a run: unchanged, changed below, or replaced.
 #[derive(Drop)]
 #[cycle(value)]
 pub struct Part<'t> {

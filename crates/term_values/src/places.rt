@@ -30,7 +30,7 @@ impl<'t> Part<'t> {
         }
     }
 
-    // The same if it isn't the original child.
+    // `child` for the forms that it doesn't treat itself.
     #[inline(never)]
     fn other_child(&self, i: usize) -> Result<Option<Part<'t>>, NoMemory>
         ensures { IfOk result (λ child. child ≡ slice_get (standing_children self.now) i) }
@@ -65,7 +65,7 @@ impl<'t> Part<'t> {
         }
     }
 
-    /// The same root over these parts.
+    /// This part's root over these parts.
     pub fn with_parts(&self, alloc: Global, parts: Vec<Part<'t>>) -> Result<Part<'t>, NoMemory>
         requires { CanHold self.now parts.items }
         ensures { IfOk result (λ whole. whole ≡ with_standing self.now parts.entry.items) }
@@ -77,8 +77,7 @@ impl<'t> Part<'t> {
         }
     }
 
-    /// The same root over the same children, except that this part takes the place of child `i`,
-    /// counted from 0, if there is one.
+    /// This part with another one in the place of child `i`, counted from 0, if there is one.
     pub fn with_part(&self, alloc: Global, i: usize, part: Part<'t>) -> Result<Part<'t>, NoMemory>
         requires { CanHold self.now (slice_set (standing_children self.now) i part) }
         ensures { IfOk result (λ whole. whole ≡ with_standing self.now (slice_set (standing_children self.now) i part.entry)) }
@@ -92,7 +91,7 @@ impl<'t> Part<'t> {
     }
 }
 
-// The same root over the trees of these parts.
+// The value's root over the trees of these parts.
 fn value_over<'t>(
     alloc: Global,
     value: &Value<'t>,

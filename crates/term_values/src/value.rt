@@ -180,7 +180,7 @@ impl<'t> Value<'t> {
         })
     }
 
-    /// The same tree, which is within these bounds, too.
+    /// This tree, which is known to be within these bounds, too.
     pub(crate) fn within(self, bounds: Bounds) -> Value<'t>
         requires { Bounded self bounds }
         ensures { result ≡ self.entry }

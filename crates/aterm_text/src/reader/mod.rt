@@ -35,6 +35,9 @@ pub enum ReadFault {
 
 /// The term that the text spells, by the grammar of the textual ATerm format.
 ///
+/// For example, `f(1,[a]){b}` spells the name `f` applied to 1 and the list of `a`, with the
+/// annotation `b`; `f(1,)` spells none.
+///
 /// Errors: `Deep` if more than 1,000 brackets are open at one place, which is tested first; `Term`
 /// if the text is no term; `Memory` if memory can't grow.
 pub fn read(alloc: Global, text: &[u8]) -> Result<Term, ReadFault>
@@ -50,7 +53,7 @@ pub fn read(alloc: Global, text: &[u8]) -> Result<Term, ReadFault>
 }
 
 /// The list of annotations that the text spells: a single annotation part, with white space around
-/// it. Its errors are those of [`read`].
+/// it, as the two of `{ a, f(1) }`. Its errors are those of [`read`].
 pub fn read_annotations(alloc: Global, text: &[u8]) -> Result<Vec<Term>, ReadFault>
     ensures deep { (result ≡ Err ReadFault.Deep) ↔ (MAX_NESTING < nesting_of text.now) }
     ensures spelled { IfOk result (λ ts. SpellsAnnotations text.now ts.items) }

@@ -49,7 +49,7 @@ fn blanks_length(text: &[u8]) -> usize
     text.iter().take_while(|b| is_blank(**b)).count()
 }
 
-/// What follows this byte, if it comes first.
+/// What follows this byte, if it comes first: `a)` after `(` in `(a)`, and `None` in `a)`.
 pub fn after_byte(byte: u8, text: &[u8]) -> Option<&[u8]>
     ensures some { IfSome result (λ rest. text.now ≡ byte ∷ rest.now) }
     ensures shorter { IfSome result (λ rest. length rest.now < length text.now) }

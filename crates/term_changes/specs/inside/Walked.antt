@@ -20,3 +20,8 @@ pub record Walked (marks : List Mark) (terms now : List Tree) (m t : ℕ) (was f
   pub as_many : length now ≡ length terms
   pub whole : AreWhole (reverse (take m marks)) t
   pub counted : count (reverse marks) ≡ length was + count (reverse (take m marks))
+
+-- A walk that takes the terms that it has read out of their vector, in which these are left.
+pub record Listed (marks : List Mark) (terms left : List Tree) (m : ℕ) (was : List Item) : Type 0 where
+  pub walked : Walked marks terms terms m (length left) was was
+  pub rest : left ≡ take (length left) terms

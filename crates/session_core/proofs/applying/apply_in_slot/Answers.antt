@@ -5,16 +5,20 @@ use Rattle.session_core.proofs.PlanLemmas.{foreseen_fits, foreseen_gives}
 use Rattle.session_core.proofs.applying.apply_in_slot.Goals as goal
 
 pub plan_in_group-requires-clause-places : goal.plan_in_group-requires-clause-places
-plan_in_group-requires-clause-places g c = foreseen_fits _ _ _ _ _ _ _ _ c.in_ok-found.ensures.ok
+plan_in_group-requires-clause-places g c =
+    subst (λ es. FitsForward es c.args.timeline.now.store) (sym (c.in_ok-plan.ensures ∙ ap (λ p. patch_entries c.args.slot p c.in_ok-planned.planned.patch) c.parts.ensures))
+    (foreseen_fits _ _ _ _ _ _ _ _ c.in_ok-planned.ensures.ok)
 
 pub returns-then-in_group-clause-made : goal.returns-then-in_group-clause-made
-returns-then-in_group-clause-made g c = foreseen_gives _ _ _ _ _ _ _ _ c.in_ok-found.ensures.ok _ c.in_ok-plan_in_group.ensures.store
+returns-then-in_group-clause-made g c =
+    foreseen_gives _ _ _ _ _ _ _ _ c.in_ok-planned.ensures.ok _
+    (c.in_ok-plan_in_group.ensures.store ∙ ap (λ es. after es c.args.timeline.now.store) (c.in_ok-plan.ensures ∙ ap (λ p. patch_entries c.args.slot p c.in_ok-planned.planned.patch) c.parts.ensures))
 
 pub patch_as_step-requires-clause-places : goal.patch_as_step-requires-clause-places
 patch_as_step-requires-clause-places g c =
-    subst (λ p. FitsForward (patch_entries c.args.slot p c.in_ok-patch.patch) c.args.timeline.now.store) (sym (c.in-Ok.ensures.items ∙ c.parts.ensures)) (foreseen_fits _ _ _ _ _ _ _ _ c.in_ok-patch.ensures.ok.1)
+    subst (λ p. FitsForward (patch_entries c.args.slot p c.in_ok-planned.planned.patch) c.args.timeline.now.store) (sym (c.in-Ok.ensures.items ∙ c.parts-2.ensures)) (foreseen_fits _ _ _ _ _ _ _ _ c.in_ok-planned.ensures.ok)
 
 pub returns-clause-made : goal.returns-clause-made
 returns-clause-made g c =
-    foreseen_gives _ _ _ _ _ _ _ _ c.in_ok-patch.ensures.ok.1 _
-    (c.in_ok-patch_as_step.ensures.store ∙ ap (λ p. after (patch_entries c.args.slot p c.in_ok-patch.patch) c.args.timeline.now.store) (c.in-Ok.ensures.items ∙ c.parts.ensures))
+    foreseen_gives _ _ _ _ _ _ _ _ c.in_ok-planned.ensures.ok _
+    (c.in_ok-patch_as_step.ensures.store ∙ ap (λ p. after (patch_entries c.args.slot p c.in_ok-planned.planned.patch) c.args.timeline.now.store) (c.in-Ok.ensures.items ∙ c.parts-2.ensures))

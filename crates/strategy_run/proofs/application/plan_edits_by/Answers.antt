@@ -1,12 +1,13 @@
-use Rattle.std.proofs.Common.{length, subst}
+use Rattle.std.proofs.Common.{length, subst, ap, ◌∙◌}
+use Rattle.term_paths.specs.Edits.{prefixed}
+use Rattle.term_changes.specs.Putting.{entries_at}
 use Rattle.term_changes.specs.Standing.{unchanged}
 use Rattle.strategy_meaning.specs.Meaning.{run_whole}
 use Rattle.strategy_machine.specs.Turns.{world_of, state_of}
 use Rattle.strategy_run.specs.inside.Runs.{Ends}
-use Rattle.strategy_run.specs.inside.Finding.{Lists}
 use Rattle.strategy_run.specs.declared.ended.Ended.{Ended}
 use Rattle.strategy_run.proofs.ApplyLemmas.{finds, applied_there}
-use Rattle.strategy_run.proofs.application.find_by.Goals as goal
+use Rattle.strategy_run.proofs.application.plan_edits_by.Goals as goal
 
 pub returns-in_ok-plan-in-Done : goal.returns-in_ok-plan-in-Done
 returns-in_ok-plan-in-Done g c = λ tree s at_is h.
@@ -14,9 +15,9 @@ returns-in_ok-plan-in-Done g c = λ tree s at_is h.
     (λ i. run_whole (world_of g.M.Meaning.meaning (c.definitions.ensures i) c.args.primitives.now) (c.requires.level i) c.args.strategy.now c.args.m.now.steps c.args.term.now)
     c.in_ok-run_to_end.ensures in
     let whole = run_whole (world_of g.M.Meaning.meaning c.args.program.now.bodies c.args.primitives.now) (length c.args.path.now) c.args.strategy.now c.args.m.now.steps c.args.term.now in
-    finds c.args.listing (world_of g.M.Meaning.meaning c.args.program.now.bodies c.args.primitives.now) c.run_to_end.new.m.part c.args.path.now c.in_ok-plan-in-Done.plan tree c.args.term.now c.args.strategy.now c.args.m.now.steps (state_of c.run_to_end.new.m) s c.args.slot at_is
+    finds (world_of g.M.Meaning.meaning c.args.program.now.bodies c.args.primitives.now) c.run_to_end.new.m.part c.args.path.now c.in_ok-plan-in-Done.plan tree c.args.term.now c.args.strategy.now c.args.m.now.steps (state_of c.run_to_end.new.m) s c.args.slot at_is
     (subst (λ (e : Ended (Unit {0})). Ends (unchanged c.args.term.now) c.run_to_end.new.m e whole) c.in-Done.is E)
-    (subst (λ q. Lists c.args.listing c.run_to_end.new.m.trail c.run_to_end.new.m.part c.args.slot q c.in_ok-plan-in-Done.plan) c.parts.ensures c.in_ok-plan-in-Done.ensures) h
+    (λ e shows. c.in_ok-plan-in-Done.ensures e shows ∙ ap (λ q. entries_at c.args.slot (prefixed q e)) c.parts.ensures) h
 
 pub returns-in-Failed : goal.returns-in-Failed
 returns-in-Failed g c = λ tree s at_is h.
