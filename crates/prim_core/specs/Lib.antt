@@ -5,4 +5,3 @@ pub mod Integers
 pub mod Strings
 pub mod Standard
 pub mod StandardTable
-pub mod inside

@@ -5,10 +5,7 @@ use prim_core::{Meaning, Primitives};
 use std::alloc::Global;
 use std::test::Fail;
 use strategy_check::Program;
-use strategy_run::{
-    Ended, Outcome, Planned, apply, apply_outermost, evaluate, is_low_enough, plan_entries,
-    plan_patch,
-};
+use strategy_run::{Ended, Outcome, Planned, apply, evaluate, is_low_enough, plan_patch};
 use strategy_syntax::Resolved;
 use term_core::{Label, MAX_HEIGHT, NoMemory, Term};
 use term_paths::Path;
@@ -36,7 +33,6 @@ pub struct Case<'a> {
 #[derive(Clone, Copy, PartialEq)]
 enum Call {
     Apply,
-    ApplyOutermost,
     Plan,
 }
 
@@ -58,7 +54,6 @@ pub fn is_so<M: Meaning>(
         evaluates(alloc, primitives, case)
             && patches(alloc, primitives, case)?
             && changes(alloc, primitives, case, Call::Apply)?
-            && changes(alloc, primitives, case, Call::ApplyOutermost)?
             && changes(alloc, primitives, case, Call::Plan)?,
     )
 }
@@ -115,10 +110,10 @@ fn patches<M: Meaning>(
         case.steps,
     ) {
         Ok(Ended::Done(planned)) => {
-            let Planned { mut places, taken } = planned;
-            places.exchange(&mut copy);
+            let Planned { mut patch, taken } = planned;
+            patch.exchange(&mut copy);
             let is_after = copy.equals(case.term_after);
-            places.exchange(&mut copy);
+            patch.exchange(&mut copy);
             Ok(case.word == "gives" && taken == case.steps && is_after && copy.equals(case.term))
         }
         Ok(Ended::Failed) => Ok(case.word == "fails"),
@@ -190,23 +185,12 @@ fn run<M: Meaning>(
             case.steps,
             log,
         )?,
-        Call::ApplyOutermost => apply_outermost(
-            alloc,
-            case.program,
-            primitives,
-            store,
-            slot,
-            path,
-            case.strategy,
-            case.steps,
-            log,
-        )?,
         Call::Plan => return make_plan(alloc, primitives, case, store, log, slot, path),
     };
     Ok(Some(outcome))
 }
 
-// Makes the changes that the strategy would make.
+// Makes the changes that the strategy would make, as entries of the log.
 fn make_plan<M: Meaning>(
     alloc: Global,
     primitives: &Primitives<M>,
@@ -217,24 +201,25 @@ fn make_plan<M: Meaning>(
     path: &Path,
 ) -> Result<Option<Outcome>, NoMemory> {
     let term = case.term;
-    let Some(room) = MAX_HEIGHT.checked_sub(path.len() as u64) else {
+    let level = path.len() as u64;
+    let Some(room) = MAX_HEIGHT.checked_sub(level) else {
         return Ok(None);
     };
     if term.height() > room {
         return Ok(None);
     }
-    match plan_entries(
+    match plan_patch(
         alloc,
         case.program,
         primitives,
         term,
-        slot,
-        path,
+        level,
         case.strategy,
         case.steps,
     )? {
         Ended::Done(planned) => {
-            log.make(store, planned.places)?;
+            let plan = planned.patch.into_plan(alloc, slot, path.parts())?;
+            log.make(store, plan)?;
             Ok(Some(Ended::Done(())))
         }
         Ended::Failed => Ok(Some(Ended::Failed)),

@@ -1,55 +1,15 @@
-//! A host's own primitives: `pick` returns `a`, `b` or `c` for 0, 1 or 2, and nothing for any other
-//! term; `wants` always wants memory.
+//! A host's own primitives, `pick` and `wants`.
 
-ghost use Rattle.std.specs.Prelude.{◌≡◌, length, IfOk, codes};
+ghost use Rattle.std.specs.Prelude.{◌≡◌, length, codes};
 ghost use Rattle.prim_core.specs.Computes.{Computes};
-ghost use Rattle.prim_core.specs.inside.Pick.{constant, choices as three_choices, pick};
+ghost use Rattle.host_example.specs.Pick.{choices as three_choices};
 
 use crate::rows::is_row;
+use host_example::{Picking, choices, pick, want};
 use prim_core::{BoxedOperation, Meaning, Primitive, Primitives};
 use std::alloc::Global;
 use std::test::Fail;
-use term_core::{Kind, Name, NoMemory, Term};
-
-// What this host's primitives mean.
-struct Picking;
-
-impl Meaning for Picking {
-    type Operation = BoxedOperation;
-
-    ghost meaning = { pick };
-}
-
-// The meaning of `pick`, over the three terms that its closure owns.
-fn pick(choices: &[Term], arguments: &[Term]) -> Result<Option<Term>, NoMemory>
-    requires choices { choices.now ≡ three_choices }
-    requires one { length arguments.now ≡ 1 }
-    ensures { IfOk result (λ found. found ≡ pick (codes "pick") arguments.now) }
-{
-    match arguments[0].kind() {
-        Kind::Integer(0) => Ok(Some(choices[0].try_clone()?)),
-        Kind::Integer(1) => Ok(Some(choices[1].try_clone()?)),
-        Kind::Integer(2) => Ok(Some(choices[2].try_clone()?)),
-        _ => Ok(None),
-    }
-}
-
-// It never has an answer, so each of its answers is what the name means.
-fn want(_alloc: Global, _arguments: &[Term]) -> Result<Option<Term>, NoMemory>
-    ensures { IfOk result (λ found. found ≡ pick (codes "wants") _arguments.now) }
-{
-    Err(NoMemory)
-}
-
-// The word with these bytes, applied to nothing.
-fn constant(alloc: Global, text: &[u8]) -> Result<Term, Fail>
-    ensures { IfOk result (λ term. term ≡ constant text.now) }
-{
-    let Some(name) = Name::word(alloc, text)? else {
-        return Err("no word".into());
-    };
-    Ok(Term::application(alloc, name, Vec::new(alloc)))
-}
+use term_core::{NoMemory, Term};
 
 // The operations are arbitrary, as long as they compute what their names mean.
 fn first_wrong_by<M: Meaning>(
@@ -82,18 +42,9 @@ fn first_wrong_among<M: Meaning>(
     Ok(None)
 }
 
-fn choices_of_three(alloc: Global) -> Result<Vec<Term>, Fail>
-    ensures { IfOk result (λ choices. choices.items ≡ three_choices) }
-{
-    let a = constant(alloc, b"a")?;
-    let b = constant(alloc, b"b")?;
-    let c = constant(alloc, b"c")?;
-    Ok(vec![in alloc; a, b, c]?)
-}
-
 // The first row that fails, with a closure that owns its choices.
 fn first_wrong(alloc: Global) -> Result<Option<&'static str>, Fail> {
-    let choices = choices_of_three(alloc)?;
+    let choices = choices(alloc)?;
     let picks: BoxedOperation = Box::new(
         alloc,
         move |_alloc: Global, arguments: &[Term]| -> Result<Option<Term>, NoMemory>

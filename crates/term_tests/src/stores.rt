@@ -98,7 +98,7 @@ fn plan_of(alloc: Global, slot: usize) -> Result<Plan, NoMemory> {
     let mut plan = Plan::new(alloc);
     plan.reserve(2)?;
     plan.add(Entry::subterm(slot, &[0], Term::integer(alloc, 3)))?;
-    plan.add_child(slot, &[], 1, Term::integer(alloc, 4))?;
+    plan.add(Entry::subterm(slot, &[1], Term::integer(alloc, 4)))?;
     Ok(plan)
 }
 

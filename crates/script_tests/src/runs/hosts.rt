@@ -1,12 +1,12 @@
-//! A host's primitives: `pick`, which returns `a`, `b` or `c` for 0, 1 or 2, and nothing for any
-//! other integer; and the standard ones, each in a box.
+//! A host's primitives: `pick`, and the standard ones, each in a box.
 
-ghost use Rattle.std.specs.Prelude.{◌≡◌, length, IfOk, codes};
+ghost use Rattle.std.specs.Prelude.{◌≡◌, length, codes};
 ghost use Rattle.prim_core.specs.Computes.{Computes};
 ghost use Rattle.prim_core.specs.StandardTable.{ComputeStandard};
-ghost use Rattle.prim_core.specs.inside.Pick.{constant, choices as three_choices, pick};
+ghost use Rattle.host_example.specs.Pick.{choices as three_choices};
 
 use super::settings;
+use host_example::{Picking, choices, pick};
 use prim_core::{
     BoxedOperation, Meaning, Primitive, Primitives, Standard, StandardOperations, addi, divi, gti,
     int_to_string, muli, standard_primitives, strcat, string_to_int, strlen, subti,
@@ -15,7 +15,7 @@ use script_core::{Bytes, Framing, Held, run};
 use session_core::Session;
 use std::alloc::Global;
 use std::test::Fail;
-use term_core::{Kind, Name, NoMemory, Term};
+use term_core::{NoMemory, Term};
 
 // Whether a new session with these primitives gives these answers.
 fn is_answered<M: Meaning>(
@@ -30,39 +30,6 @@ fn is_answered<M: Meaning>(
     let settings = settings(Framing::Continued, false);
     let ended = run(alloc, &mut session, &mut source, &mut sink, settings);
     ended.is_ok() && sink.bytes() == answers
-}
-
-/// What this host's primitives mean.
-struct Picking;
-
-impl Meaning for Picking {
-    type Operation = BoxedOperation;
-
-    ghost meaning = { pick };
-}
-
-// The meaning of `pick`, over the three terms that its closure owns.
-fn pick(choices: &[Term], arguments: &[Term]) -> Result<Option<Term>, NoMemory>
-    requires choices { choices.now ≡ three_choices }
-    requires one { length arguments.now ≡ 1 }
-    ensures { IfOk result (λ found. found ≡ pick (codes "pick") arguments.now) }
-{
-    match arguments[0].kind() {
-        Kind::Integer(0) => Ok(Some(choices[0].try_clone()?)),
-        Kind::Integer(1) => Ok(Some(choices[1].try_clone()?)),
-        Kind::Integer(2) => Ok(Some(choices[2].try_clone()?)),
-        _ => Ok(None),
-    }
-}
-
-// The word with these bytes, applied to nothing.
-fn constant(alloc: Global, text: &[u8]) -> Result<Term, Fail>
-    ensures { IfOk result (λ term. term ≡ constant text.now) }
-{
-    let Some(name) = Name::word(alloc, text)? else {
-        return Err("no word".into());
-    };
-    Ok(Term::application(alloc, name, Vec::new(alloc)))
 }
 
 // The operation is arbitrary, as long as it computes what its name means.
@@ -81,13 +48,9 @@ fn is_answered_by_pick<M: Meaning>(
     Ok(is_answered(alloc, primitives, script, answers))
 }
 
-// The same, through a closure that owns its choices.
+// Whether a session with `pick` gives these answers. The closure owns its choices.
 fn is_picked(alloc: Global, script: &[u8], answers: &[u8]) -> Result<bool, Fail> {
-    let choices = vec![in alloc;
-        constant(alloc, b"a")?,
-        constant(alloc, b"b")?,
-        constant(alloc, b"c")?,
-    ]?;
+    let choices = choices(alloc)?;
     let operation: BoxedOperation = Box::new(
         alloc,
         move |_alloc: Global, arguments: &[Term]| -> Result<Option<Term>, NoMemory>
@@ -133,7 +96,7 @@ fn is_answered_by_standard<M: Meaning>(
     Ok(is_answered(alloc, primitives, script, answers))
 }
 
-// The same, through boxes of the functions.
+// Whether a session with the standard primitives, in boxes, gives these answers.
 fn is_standard(alloc: Global, script: &[u8], answers: &[u8]) -> Result<bool, Fail> {
     let operations: StandardOperations<BoxedOperation> = StandardOperations {
         addi: Box::new(alloc, addi)?,

@@ -118,7 +118,7 @@ fn answers_in_pieces(rt: HostRuntime) -> Result<(), Fail> {
     Ok(())
 }
 
-// The same where each line is a command: blanks in front, empty lines and comments.
+// Boundaries where each line is a command: blanks in front, empty lines and comments.
 #[test]
 fn answers_lines_in_pieces(rt: HostRuntime) -> Result<(), Fail> {
     let script = Script {

@@ -1,4 +1,4 @@
--- The meaning of a host in the tests: one primitive, `pick`.
+-- What the names of a host mean: `pick` picks one of three words, every other name has no answer.
 use Rattle.std.specs.Prelude.{ℕ, ℤ, pos, List, [], ◌∷◌, Some, None, false, if◌then◌else◌, option_and_then, codes}
 use Rattle.std.specs.declared.option.Option.{Option}
 use Rattle.std.specs.Ordering.{int_eq}
