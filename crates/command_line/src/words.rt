@@ -21,7 +21,7 @@ use std::convert::AsStr;
 pub const DEFAULT_BUDGET: u32 = 100_000;
 
 /// The version of the program.
-pub const VERSION: &str = "1.0.0";
+pub const VERSION: &str = "1.1.0";
 
 // Examples of use, for the end of the help text.
 const EXAMPLES: &str = "Examples:

@@ -27,6 +27,9 @@ use term_paths::{Path, at};
 /// Writes the answer of a command, in place of what was in the buffer, and returns whether the
 /// command was accepted. If memory can't grow, the answer is `refused 1 memory` and the session
 /// stays as it was. `budget`, from 1 to 1,000,000, is that of a command that names none.
+///
+/// For example, `show t` is answered by `f(a)` and a line feed where that is the tree `t`, and by
+/// `refused 5 notree` and a line feed, with `false`, where there is none.
 pub fn answer_text<M: Meaning>(
     alloc: Global,
     session: &mut Session<M>,

@@ -19,7 +19,8 @@ impl Answer {
         self.append_short(b"ok\n");
     }
 
-    /// Writes a printed tree as a line.
+    /// Writes a printed tree as a line: `f(a)` and a line feed, for example, in place of what was
+    /// there.
     ///
     /// Errors: `NoMemory` if memory can't grow.
     pub fn write_term(&mut self, tree: &Term) -> Result<(), NoMemory>

@@ -12,8 +12,8 @@ use strategy_check::FaultKind;
 use term_core::{Name, NoMemory};
 
 impl Answer {
-    /// Replaces the answer by a refusal. If there is no memory for a name in it, the refusal written
-    /// is the one for memory.
+    /// Replaces the answer by a refusal: `refused 5 notree` and a line feed, for example. If there
+    /// is no memory for a name in it, the refusal written is the one for memory.
     pub fn refuse(&mut self, refusal: &Refusal)
         ensures { TellsRefusal self.new refusal.now }
     {

@@ -74,6 +74,9 @@ struct Running {
 /// command is complete once the first byte of the next one was read, or by `Framing::Lines` its
 /// line feed; or at the end. The sink is flushed before each read and at the end.
 ///
+/// For example, the script `tree t f(a)`, `show t`, `show u`, a line each, is answered by `ok`,
+/// `f(a)` and `refused 5 notree`, a line each, with two commands accepted and one refused.
+///
 /// Errors: `Memory` only before the first command. After `Read` and `Turns` all complete commands
 /// of the bytes read are answered; an incomplete one isn't run. After `Write` the first of these are
 /// answered, and the sink took their answers, except perhaps for a suffix of the last.

@@ -7,15 +7,15 @@ use session_core::{Refusal, Session};
 /// Sees what a run reads, and how it answers. It changes nothing of the run: a session is lent for
 /// reading, and the contract of `run_watched` holds with any observer.
 pub trait Watch<M: Meaning> {
-    /// Is lent bytes of the script: those after the bytes that it was lent before, up to the byte
-    /// that completes a command, or up to the last one that was read. The call for the command
-    /// comes after the one for these bytes.
+    /// Called with each run of the script's bytes, in order. A run ends with the byte that
+    /// completes a command, or with the last one that was read; the run that completes a command
+    /// comes before its `accepted` or `refused`.
     fn consumed(&mut self, bytes: &[u8]);
 
-    /// Is lent a command that was accepted, and the session after it.
+    /// Called with each command that was accepted, and the session after it.
     fn accepted(&mut self, session: &Session<M>, command: Piece<'_>);
 
-    /// Is lent a command that was refused, and the session, which is as it was before the command.
+    /// Called with each command that was refused, and the session, which is as it was before it.
     fn refused(&mut self, session: &Session<M>, command: Piece<'_>, refusal: &Refusal);
 }
 

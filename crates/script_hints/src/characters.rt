@@ -1,79 +1,103 @@
 //! The characters and lines of a text in UTF-8. In other bytes each begins a character, but for those
 //! from 128 to 191.
 
-fn is_line_feed(byte: u8) -> bool {
-    byte == b'\n'
-}
-
 // Whether a character begins with the byte, in UTF-8.
 fn begins_character(byte: u8) -> bool {
     byte & 0xc0 != 0x80
 }
 
-/// The number of line feeds.
-pub fn count_line_feeds(text: &[u8]) -> u64 {
-    text.iter().filter(|b| is_line_feed(**b)).count() as u64
-}
-
 /// The number of characters.
 pub fn count_characters(text: &[u8]) -> u64 {
-    text.iter().filter(|b| begins_character(**b)).count() as u64
+    let mut count = 0u64;
+    for byte in text {
+        if begins_character(*byte) {
+            count = count.saturating_add(1);
+        }
+    }
+    count
 }
 
-/// The last line, empty after a line feed.
-pub fn last_line(text: &[u8]) -> &[u8] {
-    let length = text.iter().rev().take_while(|b| !is_line_feed(**b)).count();
-    text.get(text.len().saturating_sub(length)..)
-        .unwrap_or(text)
-}
-
-/// The first line, without its line feed.
-pub fn first_line(text: &[u8]) -> &[u8] {
-    let length = text.iter().take_while(|b| !is_line_feed(**b)).count();
-    text.get(..length).unwrap_or(text)
+// The number of bytes at the start that belong to a character that began before.
+fn inside_character(text: &[u8]) -> usize {
+    let mut count = 0usize;
+    for byte in text {
+        if begins_character(*byte) {
+            break;
+        }
+        count = count.saturating_add(1);
+    }
+    count
 }
 
 /// So many bytes at the end, less those of a character that began before.
 pub fn last_characters(text: &[u8], most: usize) -> &[u8] {
     let cut = text.get(text.len().saturating_sub(most)..).unwrap_or(text);
-    let inside = cut.iter().take_while(|b| !begins_character(**b)).count();
-    cut.get(inside..).unwrap_or(cut)
+    cut.get(inside_character(cut)..).unwrap_or(cut)
 }
 
 /// So many bytes at the start, less those of a character that goes on.
 pub fn first_characters(text: &[u8], most: usize) -> &[u8] {
-    let (cut, rest) = text.split_at(most.min(text.len()));
-    match rest.first() {
-        Some(byte) if !begins_character(*byte) => without_last_character(cut),
-        _ => cut,
+    let mut kept = most.min(text.len());
+    for _ in 0..most {
+        match text.get(kept) {
+            Some(byte) if !begins_character(*byte) => kept = kept.saturating_sub(1),
+            _ => break,
+        }
     }
-}
-
-fn without_last_character(text: &[u8]) -> &[u8] {
-    let inside = text
-        .iter()
-        .rev()
-        .take_while(|b| !begins_character(**b))
-        .count();
-    let kept = text.len().saturating_sub(inside).saturating_sub(1);
     text.get(..kept).unwrap_or(text)
 }
 
 /// The character at the place, in UTF-8.
 pub fn character_at(text: &[u8], at: usize) -> &[u8] {
-    let Some([first, more @ ..]) = text.get(at..) else {
+    let Some((first, rest)) = text.get(at..).unwrap_or(&[]).split_first() else {
         return &[];
     };
-    let after = more.iter().take_while(|b| !begins_character(**b)).count();
-    let length = if *first < 0x80 {
-        1
+    let more = if *first < 0x80 {
+        0
     } else {
-        after.saturating_add(1)
+        inside_character(rest)
     };
-    text.get(at..at.saturating_add(length)).unwrap_or(&[])
+    let end = at.saturating_add(more).saturating_add(1);
+    text.get(at..end).unwrap_or(&[])
+}
+
+/// A place of a text: the number of its line, and what this line has before it and after it.
+#[derive(Clone, Copy)]
+pub struct Place<'a> {
+    pub line: u64,
+    pub before: &'a [u8],
+    pub after: &'a [u8],
+}
+
+/// The place after so many bytes of a text whose first line has this number.
+pub fn place_of(text: &[u8], first: u64, at: usize) -> Place<'_> {
+    let (before, after) = text.split_at(at.min(text.len()));
+    let mut line = first;
+    let mut start = 0;
+    for (number, byte) in before.iter().enumerate() {
+        if *byte == b'\n' {
+            line = line.saturating_add(1);
+            start = number.saturating_add(1);
+        }
+    }
+    Place {
+        line,
+        before: before.get(start..).unwrap_or(&[]),
+        after: first_line(after),
+    }
+}
+
+// The first line, without its line feed.
+fn first_line(text: &[u8]) -> &[u8] {
+    for (number, byte) in text.iter().enumerate() {
+        if *byte == b'\n' {
+            return text.get(..number).unwrap_or(text);
+        }
+    }
+    text
 }
 
 /// Whether the text begins with a byte order mark.
 pub fn begins_with_mark(text: &[u8]) -> bool {
-    matches!(text, [0xef, 0xbb, 0xbf, ..])
+    text.starts_with(b"\xef\xbb\xbf")
 }

@@ -1,6 +1,7 @@
-//! A text that is put together from words and from pieces of a command.
+//! Sentences, with pieces of a command put into their places. A command's bytes needn't be UTF-8, so
+//! these are no `Display`.
 
-use crate::characters::first_characters;
+use crate::characters::{count_characters, first_characters, last_characters, place_of};
 use aterm_text::print_name;
 use itoa::Buffer;
 use std::alloc::Global;
@@ -8,6 +9,48 @@ use term_core::{Name, NoMemory};
 
 /// The most bytes of a command that are quoted in a line.
 pub const QUOTED: usize = 60;
+
+// The most bytes of a line that are shown, and those of them before the place.
+const SHOWN: usize = 72;
+
+const BEFORE: usize = 48;
+
+// What stands where a line is cut.
+const CUT: &str = "..";
+
+/// Appends a sentence to the hint of an explainer, with each of these in the place of a `{}`. They are
+/// handed on one by one: an array of them at each sentence is dear to prove.
+macro_rules! say {
+    ($it:expr; $sentence:expr $(, $fill:expr)*) => {{
+        let rest = $sentence;
+        $(
+            let fill = $fill;
+            let rest = $it.hint.say_up_to(rest, fill);
+        )*
+        $it.hint.words(rest)
+    }};
+}
+
+pub(crate) use say;
+
+/// What stands in a place of a sentence.
+#[derive(Clone, Copy)]
+pub enum Fill<'a> {
+    Words(&'a str),
+    Bytes(&'a [u8]),
+    /// Bytes of a command between `` ` ``, at most 60 of them, on one line.
+    Quoted(&'a [u8]),
+    /// A name as it is printed.
+    Name(&'a Name),
+    Number(u64),
+    Integer(i64),
+    /// So many of something, in the plural unless there is one.
+    Count(u64, &'a str),
+    /// `line 15`
+    Line(u64),
+    /// `line 15, column 31`. Both are counted from 1, a column in characters.
+    At(u64, u64),
+}
 
 /// The text so far. A growth that is refused is kept in mind until the end.
 #[derive(Drop)]
@@ -39,71 +82,117 @@ impl Hint {
     }
 
     /// Appends these words.
-    pub fn say(&mut self, words: &str) {
+    pub fn words(&mut self, words: &str) {
         self.bytes(words.as_bytes());
     }
 
-    /// Appends these bytes as they are.
-    pub fn bytes(&mut self, bytes: &[u8]) {
-        if self.text.extend_from_slice(bytes).is_err() {
-            self.refused = true;
-        }
+    /// Appends a sentence up to its first `{}`, and this in the place of that. Returns the rest.
+    pub fn say_up_to<'s>(&mut self, sentence: &'s str, fill: Fill<'_>) -> &'s str {
+        let Some((words, rest)) = sentence.split_once("{}") else {
+            return sentence;
+        };
+        self.words(words);
+        self.fill(fill);
+        rest
     }
 
-    /// Appends a number in decimal digits.
-    pub fn number(&mut self, number: u64) {
-        let mut digits = Buffer::new();
-        self.bytes(digits.format(number).as_bytes());
-    }
-
-    /// Appends an integer in decimal digits.
-    pub fn integer(&mut self, value: i64) {
-        if value < 0 {
-            self.say("-");
-        }
-        self.number(value.unsigned_abs());
-    }
-
-    /// Appends so many of something, whose name gets an `s` unless there is one.
-    pub fn count(&mut self, number: u64, name: &str) {
-        self.number(number);
-        self.say(" ");
-        self.say(name);
-        if number != 1 {
-            self.say("s");
-        }
-    }
-
-    /// Appends a name as it is printed.
-    pub fn name(&mut self, name: &Name) {
-        if print_name(name, &mut self.text).is_err() {
-            self.refused = true;
-        }
-    }
-
-    /// Appends these bytes of a command between `` ` ``, at most 60 of them, on one line.
-    pub fn quote(&mut self, bytes: &[u8]) {
-        self.say("`");
-        self.shown(first_characters(bytes, QUOTED));
-        if bytes.len() > QUOTED {
-            self.say("..");
-        }
-        self.say("`");
-    }
-
-    /// Appends these bytes, with a blank for each control character.
-    pub fn shown(&mut self, bytes: &[u8]) {
-        for byte in bytes {
-            if *byte < b' ' {
-                self.bytes(b" ");
-            } else {
-                self.bytes(&[*byte]);
+    fn fill(&mut self, fill: Fill<'_>) {
+        match fill {
+            Fill::Words(words) => self.words(words),
+            Fill::Bytes(bytes) => self.bytes(bytes),
+            Fill::Quoted(bytes) => self.quote(bytes),
+            Fill::Name(name) => self.refused |= print_name(name, &mut self.text).is_err(),
+            Fill::Number(number) => self.number(number),
+            Fill::Integer(value) => self.integer(value),
+            Fill::Count(number, name) => self.count(number, name),
+            Fill::Line(line) => {
+                self.words("line ");
+                self.number(line);
+            }
+            Fill::At(line, column) => {
+                self.words("line ");
+                self.number(line);
+                self.words(", column ");
+                self.number(column);
             }
         }
     }
 
-    /// Begins a further line.
-    pub fn line(&mut self) {
-        self.say("\n    ");
+    fn bytes(&mut self, bytes: &[u8]) {
+        self.refused |= self.text.extend_from_slice(bytes).is_err();
     }
+
+    fn number(&mut self, number: u64) {
+        let mut digits = Buffer::new();
+        self.words(digits.format(number));
+    }
+
+    fn integer(&mut self, value: i64) {
+        if value < 0 {
+            self.words("-");
+        }
+        self.number(value.unsigned_abs());
+    }
+
+    fn count(&mut self, number: u64, name: &str) {
+        self.number(number);
+        self.words(" ");
+        match name.strip_suffix("y") {
+            Some(stem) if number != 1 => {
+                self.words(stem);
+                self.words("ies");
+            }
+            _ => {
+                self.words(name);
+                self.words(if number == 1 { "" } else { "s" });
+            }
+        }
+    }
+
+    fn quote(&mut self, bytes: &[u8]) {
+        self.words("`");
+        self.shown(first_characters(bytes, QUOTED));
+        self.words(if bytes.len() > QUOTED { "..`" } else { "`" });
+    }
+
+    // Appends these bytes, with a blank for each control character.
+    fn shown(&mut self, bytes: &[u8]) {
+        for byte in bytes {
+            self.refused |= self.text.push((*byte).max(b' ')).is_err();
+        }
+    }
+
+    /// Appends the line of the place after so many bytes of a text, and below it a `^` under the place.
+    pub fn show(&mut self, text: &[u8], at: usize) {
+        let place = place_of(text, 1, at);
+        let before = shown_before(place.before, place.after);
+        let is_cut = before.len() < place.before.len();
+        self.words(if is_cut { "\n    .." } else { "\n    " });
+        self.shown(before);
+        self.show_after(place.after, SHOWN.saturating_sub(before.len()));
+        self.words(if is_cut { "\n      " } else { "\n    " });
+        for _ in 0..count_characters(before) {
+            self.words(" ");
+        }
+        self.words("^");
+    }
+
+    // Nothing is cut where the sign of the cut is as long.
+    fn show_after(&mut self, after: &[u8], most: usize) {
+        if after.len() <= most.saturating_add(CUT.len()) {
+            self.shown(after);
+        } else {
+            self.shown(first_characters(after, most));
+            self.words(CUT);
+        }
+    }
+}
+
+// What is shown of a line before the place.
+fn shown_before<'a>(before: &'a [u8], after: &[u8]) -> &'a [u8] {
+    let all = before.len().saturating_add(after.len());
+    if all <= SHOWN.saturating_add(CUT.len()) || before.len() <= BEFORE.saturating_add(CUT.len()) {
+        return before;
+    }
+    last_characters(before, BEFORE)
 }

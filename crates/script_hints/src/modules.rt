@@ -1,37 +1,221 @@
-//! The modules of a history, read again.
+//! The texts of modules and of a strategy, each read once.
 
+use crate::command::Parts;
+use script_text::Keyword;
 use session_history::Timeline;
 use std::alloc::Global;
-use strategy_parse::{ParseFault, parse_module};
-use strategy_syntax::Module;
-use term_core::NoMemory;
+use strategy_parse::{DefinitionTokens, ParseFault, definition_tokens, parse_module};
+use strategy_syntax::{Definition, Module};
+use strategy_tokens::{Sign, Token, TokensFault, is_mark, read_tokens, token_place};
+use term_core::{Label, Name, NoMemory};
+use text_faults::{Role, roles_in_definition, roles_in_strategy};
 
-/// The name and the text of a module.
-#[derive(Clone, Copy)]
-pub struct ModuleText<'a> {
+/// The text of a module, or the strategy of a command, and what was read in it.
+#[derive(Drop)]
+pub struct Text<'a> {
+    /// The name of the module.
     pub name: &'a [u8],
     pub text: &'a [u8],
-    /// Whether it is that of the command.
-    pub new: bool,
+    /// Whether it is the text of the command.
+    pub is_new: bool,
+    pub tokens: Vec<Token>,
+    /// The tokens of each definition, or all of a strategy.
+    pub definitions: Vec<DefinitionTokens>,
+    /// What each token is used for, by its number. Outside definitions this says nothing.
+    pub roles: Vec<Role>,
+    /// The module; an empty one if the text is none.
+    pub module: Module,
 }
 
-/// The module that the text is, if it is one.
-pub fn module_of(alloc: Global, text: &[u8]) -> Result<Option<Module>, NoMemory> {
-    match parse_module(alloc, text) {
-        Ok(module) => Ok(Some(module)),
-        Err(ParseFault::Memory) => Err(NoMemory),
-        Err(_) => Ok(None),
-    }
-}
-
-/// The modules of the history, in the order of their names.
-pub fn modules_of(alloc: Global, history: &Timeline) -> Result<Vec<Module>, NoMemory> {
-    let mut modules = Vec::new(alloc);
-    for name in &history.module_names()? {
-        let text = history.module_text(name).unwrap_or(&[]);
-        if let Some(module) = module_of(alloc, text)? {
-            modules.push(module)?;
+/// The modules of the history, in the order of their names, as they are once the command is obeyed. Of
+/// those that were there before the tokens are read where they are wanted.
+pub fn read_modules<'a>(
+    alloc: Global,
+    history: &'a Timeline,
+    names: &'a [Label],
+    parts: &Parts<'a>,
+    with_tokens: bool,
+) -> Result<Vec<Text<'a>>, NoMemory> {
+    let changes = matches!(parts.command, Keyword::Module | Keyword::Unload);
+    let mut texts = Vec::new(alloc);
+    let mut place = 0;
+    for name in names {
+        if !changes || name.bytes() != parts.name {
+            let text = history.module_text(name).unwrap_or(&[]);
+            texts.push(read_module(alloc, name.bytes(), text, with_tokens)?)?;
+            if name.bytes() < parts.name {
+                place = texts.len();
+            }
         }
     }
-    Ok(modules)
+    if parts.is_module() {
+        let mut new = read_module(alloc, parts.name, parts.text, true)?;
+        new.is_new = true;
+        texts.insert(place.min(texts.len()), new)?;
+    }
+    Ok(texts)
+}
+
+fn read_module<'a>(
+    alloc: Global,
+    name: &'a [u8],
+    text: &'a [u8],
+    with_tokens: bool,
+) -> Result<Text<'a>, NoMemory> {
+    let wanted = if with_tokens { text } else { &[] };
+    let tokens = tokens_of(alloc, wanted)?;
+    let Ok(definitions) = definition_tokens(alloc, wanted) else {
+        return Err(NoMemory);
+    };
+    let roles = roles_of(alloc, &tokens, &definitions)?;
+    Ok(Text {
+        name,
+        text,
+        is_new: false,
+        tokens,
+        definitions,
+        roles,
+        module: module_of(alloc, text)?,
+    })
+}
+
+fn roles_of(
+    alloc: Global,
+    tokens: &[Token],
+    definitions: &[DefinitionTokens],
+) -> Result<Vec<Role>, NoMemory> {
+    let mut roles = Vec::new(alloc);
+    for place in definitions {
+        for _ in roles.len()..place.first {
+            roles.push(Role::Definition)?;
+        }
+        let inside = tokens.get(place.first..place.end).unwrap_or(&[]);
+        roles.extend_from_slice(&roles_in_definition(alloc, inside)?)?;
+    }
+    Ok(roles)
+}
+
+/// Reads the strategy of a command.
+pub fn read_strategy(alloc: Global, text: &[u8]) -> Result<Text<'_>, NoMemory> {
+    let tokens = tokens_of(alloc, text)?;
+    let mut definitions = Vec::new(alloc);
+    definitions.push(DefinitionTokens {
+        first: 0,
+        end: tokens.len(),
+    })?;
+    let roles = roles_in_strategy(alloc, &tokens)?;
+    Ok(Text {
+        name: &[],
+        text,
+        is_new: true,
+        tokens,
+        definitions,
+        roles,
+        module: empty_module(alloc),
+    })
+}
+
+fn empty_module(alloc: Global) -> Module {
+    Module::new(Vec::new(alloc), Vec::new(alloc))
+}
+
+/// The module that the text is; an empty one if it is none.
+pub fn module_of(alloc: Global, text: &[u8]) -> Result<Module, NoMemory> {
+    match parse_module(alloc, text) {
+        Ok(module) => Ok(module),
+        Err(ParseFault::Memory) => Err(NoMemory),
+        Err(_) => Ok(empty_module(alloc)),
+    }
+}
+
+/// The tokens of a text; none if it has more than 4,000.
+pub fn tokens_of(alloc: Global, text: &[u8]) -> Result<Vec<Token>, NoMemory> {
+    match read_tokens(alloc, text) {
+        Ok(tokens) => Ok(tokens),
+        Err(TokensFault::Deep) => Ok(Vec::new(alloc)),
+        Err(TokensFault::Memory) => Err(NoMemory),
+    }
+}
+
+/// The numbers of strategies and of terms that a definition takes.
+pub fn arity_of(definition: &Definition) -> (u64, u64) {
+    let strategies = definition.strategy_parameters().len() as u64;
+    (strategies, definition.term_parameters().len() as u64)
+}
+
+/// The bytes of a token of a text, and the number of bytes before it.
+pub fn token_of(text: &[u8], number: usize) -> (&[u8], usize) {
+    match token_place(text, number) {
+        Some(place) => (text.get(place.start..place.end).unwrap_or(&[]), place.start),
+        None => (&[], 0),
+    }
+}
+
+/// Whether the token of this number is this sign.
+pub fn is_sign(tokens: &[Token], number: usize, sign: Sign) -> bool {
+    match tokens.get(number) {
+        Some(token) => is_mark(token, sign),
+        None => false,
+    }
+}
+
+impl Text<'_> {
+    /// What the token of this number is used for.
+    pub fn role(&self, number: usize) -> Option<Role> {
+        self.roles.get(number).copied()
+    }
+
+    /// Whether the token of this number is this name.
+    pub fn is_name(&self, number: usize, name: &Name) -> bool {
+        match self.tokens.get(number) {
+            Some(Token::Ident(found)) => found.equals(name),
+            _ => false,
+        }
+    }
+
+    /// Whether the token of this number is part of a pattern.
+    pub fn is_in_pattern(&self, number: usize) -> bool {
+        matches!(self.role(number), Some(Role::Matched | Role::Built))
+    }
+
+    /// The variable that the token of this number is, in a pattern.
+    pub fn variable_at(&self, number: usize) -> Option<&Name> {
+        match self.tokens.get(number) {
+            Some(Token::Ident(name)) if self.is_variable(number) => Some(name),
+            _ => None,
+        }
+    }
+
+    // Whether the name that the token of this number is is a variable.
+    fn is_variable(&self, number: usize) -> bool {
+        self.is_in_pattern(number)
+            && !is_sign(&self.tokens, number.saturating_add(1), Sign::OpenRound)
+    }
+
+    /// Whether the name is a variable among the tokens from one number to another.
+    pub fn has_variable(&self, name: &Name, first: usize, end: usize) -> bool {
+        for number in first..end {
+            if self.is_name(number, name) && self.is_variable(number) {
+                return true;
+            }
+        }
+        false
+    }
+}
+
+/// The first of the modules that declares a constructor of this name with so many arguments.
+pub fn declaring<'m, 't>(modules: &'m [Text<'t>], name: &Name, arity: u64) -> Option<&'m Text<'t>> {
+    for module in modules {
+        for constructor in module.module.constructors() {
+            if constructor.name().equals(name) && constructor.arity() as u64 == arity {
+                return Some(module);
+            }
+        }
+    }
+    None
+}
+
+/// Whether one of the modules declares a constant of this name.
+pub fn have_constant(modules: &[Text<'_>], name: &Name) -> bool {
+    declaring(modules, name, 0).is_some()
 }

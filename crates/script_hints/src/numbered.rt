@@ -4,14 +4,12 @@ use script_text::Framing;
 use std::alloc::Global;
 use std::mem;
 
-// Where in a line the next byte is.
-#[derive(Clone, Copy, Debug, PartialEq, Eq)]
+// Where in a line the next byte is: at its start, there after carriage returns, or in a line whose
+// kind is known.
+#[derive(Clone, Copy)]
 enum LinePlace {
-    // At its start.
     Start,
-    // At its start, after carriage returns.
     Returned,
-    // In a line whose kind is known.
     Inside,
 }
 
@@ -28,8 +26,7 @@ pub struct Numbered {
     framing: Framing,
     place: LinePlace,
     // The line of the next byte, and the blanks of that line before it.
-    line: u64,
-    blanks: u64,
+    here: Begun,
     begun: Option<Begun>,
     comments: Vec<u64>,
     complete: Option<Begun>,
@@ -42,8 +39,7 @@ impl Numbered {
         Numbered {
             framing,
             place: LinePlace::Start,
-            line: 1,
-            blanks: 0,
+            here: Begun { line: 1, blanks: 0 },
             begun: None,
             comments: Vec::new(alloc),
             complete: None,
@@ -62,22 +58,15 @@ impl Numbered {
     /// The line on which the command begins that these bytes completed, or at the end of the script
     /// the last command.
     pub fn line(&self) -> u64 {
-        match self.command() {
-            Some(begun) => begun.line,
-            None => self.line,
-        }
+        self.complete.or(self.begun).unwrap_or(self.here).line
     }
 
     /// How many blanks stand on that line before the command.
     pub fn indent(&self) -> u64 {
-        match self.command() {
+        match self.complete.or(self.begun) {
             Some(begun) => begun.blanks,
             None => 0,
         }
-    }
-
-    fn command(&self) -> Option<Begun> {
-        self.complete.or(self.begun)
     }
 
     /// The comments within that command, each by its line, in order. Its text is without them.
@@ -90,67 +79,42 @@ impl Numbered {
     }
 
     fn take(&mut self, byte: u8) {
-        match self.place {
-            LinePlace::Start => self.take_first(byte, false),
-            LinePlace::Returned => self.take_first(byte, true),
-            LinePlace::Inside => {}
-        }
-        if byte == b'\n' {
-            self.end_line();
-        }
-    }
-
-    fn take_first(&mut self, byte: u8, returned: bool) {
-        match byte {
-            b'\n' => {}
-            b'\r' => {
-                self.place = LinePlace::Returned;
-                self.blanks = self.blanks.saturating_add(1);
-            }
-            _ => self.take_kind(byte, returned),
+        let is_continued = self.framing == Framing::Continued;
+        match (self.place, byte) {
+            (_, b'\n') => self.end_line(),
+            (LinePlace::Inside, _) => {}
+            (_, b'\r') => self.skip(LinePlace::Returned),
+            (LinePlace::Start, b' ' | b'\t') if is_continued => self.place = LinePlace::Inside,
+            (_, b' ' | b'\t') if !is_continued => self.skip(LinePlace::Start),
+            (LinePlace::Start, b'#') if is_continued => self.comment(),
+            (_, b'#') if !is_continued => self.place = LinePlace::Inside,
+            _ => self.begin(),
         }
     }
 
-    // A byte that says what kind of line it is.
-    fn take_kind(&mut self, byte: u8, returned: bool) {
-        match self.framing {
-            Framing::Continued => {
-                self.place = LinePlace::Inside;
-                match byte {
-                    b'#' if !returned => self.comment(),
-                    b' ' | b'\t' if !returned => {}
-                    _ => self.begin(),
-                }
-            }
-            Framing::Lines => match byte {
-                b' ' | b'\t' => self.blanks = self.blanks.saturating_add(1),
-                b'#' => self.place = LinePlace::Inside,
-                _ => {
-                    self.place = LinePlace::Inside;
-                    self.begin();
-                }
-            },
-        }
+    fn skip(&mut self, place: LinePlace) {
+        self.place = place;
+        self.here.blanks = self.here.blanks.saturating_add(1);
     }
 
     // A comment whose line there is no memory for isn't counted.
     fn comment(&mut self) {
+        self.place = LinePlace::Inside;
         if self.begun.is_some() {
-            let _ = self.comments.push(self.line);
+            let _ = self.comments.push(self.here.line);
         }
     }
 
     fn begin(&mut self) {
+        self.place = LinePlace::Inside;
         if self.begun.is_some() {
             self.finish();
         }
-        self.begun = Some(Begun {
-            line: self.line,
-            blanks: match self.framing {
-                Framing::Continued => 0,
-                Framing::Lines => self.blanks,
-            },
-        });
+        let mut begun = self.here;
+        if self.framing == Framing::Continued {
+            begun.blanks = 0;
+        }
+        self.begun = Some(begun);
     }
 
     fn finish(&mut self) {
@@ -164,8 +128,8 @@ impl Numbered {
         if self.framing == Framing::Lines && self.begun.is_some() {
             self.finish();
         }
-        self.line = self.line.saturating_add(1);
-        self.blanks = 0;
         self.place = LinePlace::Start;
+        self.here.line = self.here.line.saturating_add(1);
+        self.here.blanks = 0;
     }
 }

@@ -1,34 +1,55 @@
-//! What is odd in an accepted module.
+//! What is odd in an accepted module or term.
 
-use crate::constants::{constants_of, has_name, is_variable_in, say_is_variable, variable_at};
-use crate::hint::Hint;
-use crate::modules::{module_of, modules_of};
-use crate::parts::parts_of;
-use crate::places::{say_place, say_source};
-use crate::seen::{Past, Seen};
+use crate::command::{Past, Seen, parts_of};
+use crate::explainer::Explainer;
+use crate::hint::{Fill, Hint, say};
+use crate::modules::{Text, arity_of, have_constant, is_sign, read_modules};
+use script_text::Framing;
 use session_history::Timeline;
 use std::alloc::Global;
-use strategy_parse::{DefinitionTokens, definition_tokens};
-use strategy_syntax::{Definition, Module};
-use strategy_tokens::{Keyword, Sign, Token, TokensFault, read_tokens, token_place};
+use strategy_syntax::Definition;
+use strategy_tokens::{Keyword, Sign, Token, is_mark, is_word};
 use term_core::{Name, NoMemory};
-use text_faults::{Role, roles_in_definition};
 
-/// A line for each oddity of a module that was accepted, without a line feed at the end; nothing if
-/// there is none. The history is the one after the command.
+const OPEN_AT_END: &str =
+    "{}: warning: the group is still open at the end: what it changed is no step";
+
+// The most bytes of a term that is looked through.
+const LOOKED: usize = 16_384;
+
+/// A line for each oddity of a module or a term that was accepted, without a line feed at the end;
+/// nothing if there is none. The history is the one after the command.
 ///
 /// Errors: `NoMemory` if memory can't grow.
-pub fn warn(alloc: Global, history: &Timeline, seen: &Seen<'_>) -> Result<Vec<u8>, NoMemory> {
+pub fn warn<'a>(
+    alloc: Global,
+    history: &'a Timeline,
+    seen: &Seen<'a>,
+) -> Result<Vec<u8>, NoMemory> {
     let parts = parts_of(seen.text);
-    if parts.word != b"module".as_slice() {
+    let is_looked_at = parts.is_term() && parts.text.len() <= LOOKED;
+    if !parts.is_module() && !is_looked_at {
         return Ok(Vec::new(alloc));
     }
-    let modules = modules_of(alloc, history)?;
-    let constants = constants_of(alloc, &modules)?;
+    let names = history.module_names()?;
+    let modules = read_modules(alloc, history, &names, &parts, false)?;
+    let said = warn_by(alloc, seen, &modules);
     drop(modules);
-    let mut hint = Hint::new(alloc);
-    warn_of_module(alloc, &mut hint, seen, &constants)?;
-    hint.into_text()
+    said
+}
+
+// The same, by the modules.
+fn warn_by(alloc: Global, seen: &Seen<'_>, modules: &[Text<'_>]) -> Result<Vec<u8>, NoMemory> {
+    let mut explainer = Explainer::new(alloc, seen, modules);
+    let warned = if explainer.parts.is_module() {
+        explainer.warn_of_modules();
+        Ok(())
+    } else {
+        explainer.warn_of_constructors()
+    };
+    let said = explainer.into_text();
+    warned?;
+    said
 }
 
 /// What is odd at the end of a script, in the form of `warn`: a group that is still open.
@@ -37,211 +58,144 @@ pub fn warn(alloc: Global, history: &Timeline, seen: &Seen<'_>) -> Result<Vec<u8
 pub fn warn_of_end(alloc: Global, past: Past) -> Result<Vec<u8>, NoMemory> {
     let mut hint = Hint::new(alloc);
     if let (Some(line), true) = (past.group, past.open) {
-        hint.say("line ");
-        hint.number(line);
-        hint.say(": warning: the group is still open at the end: what it changed is no step");
+        let rest = hint.say_up_to(OPEN_AT_END, Fill::Line(line));
+        hint.words(rest);
     }
     hint.into_text()
 }
 
-// The tokens of a definition, and what it is.
+// A definition, the numbers of its first token and of the one after its last, and in a rule those of the
+// `->` and of the `where` or the end.
 #[derive(Clone, Copy)]
 struct Read<'a> {
-    // The number of the first token.
-    first: usize,
-    tokens: &'a [Token],
-    roles: &'a [Role],
     definition: &'a Definition,
+    first: usize,
+    end: usize,
+    rule: Option<(usize, usize)>,
 }
 
-fn warn_of_module(
-    alloc: Global,
-    hint: &mut Hint,
-    seen: &Seen<'_>,
-    constants: &[Name],
-) -> Result<(), NoMemory> {
-    let parts = parts_of(seen.text);
-    let Some(module) = module_of(alloc, parts.text)? else {
-        return Ok(());
-    };
-    let warned = warn_of_definitions(alloc, hint, seen, constants, &module);
-    drop(module);
-    warned
+fn read_definition<'a>(module: &'a Text<'_>, number: usize) -> Option<Read<'a>> {
+    let place = module.definitions.get(number)?;
+    Some(Read {
+        definition: module.module.definitions().get(number)?,
+        first: place.first,
+        end: place.end,
+        rule: rule_of(module.tokens.get(place.first..place.end)?, place.first),
+    })
 }
 
-fn warn_of_definitions(
-    alloc: Global,
-    hint: &mut Hint,
-    seen: &Seen<'_>,
-    constants: &[Name],
-    module: &Module,
-) -> Result<(), NoMemory> {
-    let parts = parts_of(seen.text);
-    let tokens = match read_tokens(alloc, parts.text) {
-        Ok(tokens) => tokens,
-        Err(TokensFault::Deep) => return Ok(()),
-        Err(TokensFault::Memory) => return Err(NoMemory),
-    };
-    let Ok(places) = definition_tokens(alloc, parts.text) else {
-        return Err(NoMemory);
-    };
-    for (number, place) in places.iter().enumerate() {
-        let Some(definition) = module.definitions().get(number) else {
-            return Ok(());
-        };
-        let inside = tokens.get(place.first..place.end).unwrap_or(&[]);
-        let roles = roles_in_definition(alloc, inside)?;
-        let read = Read {
-            first: place.first,
-            tokens: inside,
-            roles: &roles,
-            definition,
-        };
-        warn_of_constants(hint, seen, constants, read);
-        warn_of_right_side(hint, seen, constants, read);
-        if let Some(before) = caught_before(module, &tokens, &places, number) {
-            say_unreached(hint, seen, definition, place.first, before);
-        }
-    }
-    Ok(())
-}
-
-// Begins a warning on the token of this number: `line 3: warning: in f, ` and the token.
-fn begin(hint: &mut Hint, seen: &Seen<'_>, name: &Name, number: usize) {
-    let parts = parts_of(seen.text);
-    if !hint.is_empty() {
-        hint.say("\n");
-    }
-    say_source(hint, seen);
-    hint.say(": warning: in ");
-    hint.quote(name.bytes());
-    if let Some(place) = token_place(parts.text, number) {
-        hint.say(", ");
-        say_place(hint, seen, parts.at.saturating_add(place.start));
-        hint.say(": ");
-        hint.quote(parts.text.get(place.start..place.end).unwrap_or(&[]));
-    }
-}
-
-// ---- variables with the name of a constant
-
-// Warns once of each such name.
-fn warn_of_constants(hint: &mut Hint, seen: &Seen<'_>, constants: &[Name], read: Read<'_>) {
-    for number in 0..read.tokens.len() {
-        if let Some(name) = variable_at(read.tokens, read.roles, number)
-            && has_name(constants, name)
-            && !is_variable_in(read.tokens, read.roles, name, 0, number)
-        {
-            let place = read.first.saturating_add(number);
-            begin(hint, seen, read.definition.name(), place);
-            say_is_variable(hint, name);
-        }
-    }
-}
-
-// ---- variables that only the right side of a rule has
-
-// Warns once of each such variable, unless it has the name of a constant.
-fn warn_of_right_side(hint: &mut Hint, seen: &Seen<'_>, constants: &[Name], read: Read<'_>) {
-    if !is_rule(read.tokens) {
-        return;
-    }
-    let all = read.tokens.len();
-    let arrow = read.tokens.iter().position(is_arrow).unwrap_or(all);
-    let end = read.tokens.iter().position(is_where).unwrap_or(all);
-    for number in arrow..end {
-        if let Some(name) = variable_at(read.tokens, read.roles, number)
-            && !has_name(read.definition.term_parameters(), name)
-            && !has_name(constants, name)
-            && !is_variable_in(read.tokens, read.roles, name, 0, number)
-            && !is_variable_in(read.tokens, read.roles, name, end, all)
-        {
-            let place = read.first.saturating_add(number);
-            begin(hint, seen, read.definition.name(), place);
-            hint.say(" is only on the right side: nothing binds it");
-        }
-    }
-}
-
-// Whether the definition has a `:` before its body.
-fn is_rule(tokens: &[Token]) -> bool {
+// A definition with a `:` before its body is a rule. Returned are the numbers of its `->` and of its
+// `where` or the token after it.
+fn rule_of(tokens: &[Token], first: usize) -> Option<(usize, usize)> {
+    let mut is_rule = false;
+    let mut arrow = 0usize;
+    let mut number = first;
     for token in tokens {
-        match token {
-            Token::Sign(Sign::Equals) => return false,
-            Token::Sign(Sign::Colon) => return true,
-            _ => {}
+        if is_mark(token, Sign::Equals) && !is_rule {
+            return None;
+        }
+        is_rule = is_rule || is_mark(token, Sign::Colon);
+        if arrow == 0 && is_mark(token, Sign::Arrow) {
+            arrow = number;
+        }
+        if is_word(token, Keyword::Where) {
+            break;
+        }
+        number = number.saturating_add(1);
+    }
+    (arrow > 0).then_some((arrow, number))
+}
+
+// Whether it is a rule without a condition whose left side is `_` or a variable.
+fn catches_all(module: &Text<'_>, read: Read<'_>) -> bool {
+    let Some((arrow, condition)) = read.rule else {
+        return false;
+    };
+    if condition < read.end || !is_sign(&module.tokens, arrow.saturating_sub(2), Sign::Colon) {
+        return false;
+    }
+    match module.tokens.get(arrow.saturating_sub(1)) {
+        Some(Token::Wildcard) => true,
+        Some(Token::Ident(name)) => !has_name(read.definition.term_parameters(), name),
+        _ => false,
+    }
+}
+
+fn has_name(names: &[Name], name: &Name) -> bool {
+    for found in names {
+        if found.equals(name) {
+            return true;
         }
     }
     false
 }
 
-fn is_arrow(token: &Token) -> bool {
-    matches!(token, Token::Sign(Sign::Arrow))
-}
-
-fn is_where(token: &Token) -> bool {
-    matches!(token, Token::Reserved(Keyword::Where))
-}
-
-// ---- rules after one that matches every term
-
-// The number of the token of an earlier definition, of the same name and parameters, that matches
-// every term.
-fn caught_before(
-    module: &Module,
-    tokens: &[Token],
-    places: &[DefinitionTokens],
-    number: usize,
-) -> Option<usize> {
-    let definition = module.definitions().get(number)?;
-    let earlier = module.definitions().get(..number)?;
-    for (before, place) in earlier.iter().zip(places) {
-        let inside = tokens.get(place.first..place.end).unwrap_or(&[]);
-        if has_header(before, definition) && catches_all(before, inside) {
-            return Some(place.first);
+impl Explainer<'_, '_, '_> {
+    // Only of the module of the command the tokens were read.
+    fn warn_of_modules(&mut self) {
+        if self.parts.text.is_empty() && self.seen.framing == Framing::Lines {
+            let name = Fill::Quoted(self.parts.name);
+            say!(self; "{}: warning: the module {} is empty now: each line is a command", self.source(), name);
+            say!(self; "; `undo` takes it back");
+        }
+        for module in self.modules {
+            for number in 0..module.definitions.len() {
+                if let Some(read) = read_definition(module, number) {
+                    self.warn_of_variables(module, read);
+                    self.warn_of_order(module, read, number);
+                }
+            }
         }
     }
-    None
-}
 
-fn has_header(before: &Definition, definition: &Definition) -> bool {
-    before.name().equals(definition.name())
-        && before.strategy_parameters().len() == definition.strategy_parameters().len()
-        && before.term_parameters().len() == definition.term_parameters().len()
-}
-
-// Whether it is a rule without a condition whose left side is `_` or a variable.
-fn catches_all(definition: &Definition, tokens: &[Token]) -> bool {
-    if !is_rule(tokens) || tokens.iter().any(is_where) {
-        return false;
+    // Begins a warning on the token of this number, and names it.
+    fn begin(&mut self, read: Read<'_>, number: usize) {
+        if !self.hint.is_empty() {
+            say!(self; "\n");
+        }
+        let name = Fill::Quoted(read.definition.name().bytes());
+        let (token, _start, at) = self.token(number);
+        say!(self; "{}: warning: in {}, {}: {}", self.source(), name, at, token);
     }
-    let all = tokens.len();
-    let colon = tokens.iter().position(is_colon).unwrap_or(all);
-    let arrow = tokens.iter().position(is_arrow).unwrap_or(all);
-    match tokens.get(colon.saturating_add(1)..arrow) {
-        Some([Token::Wildcard]) => true,
-        Some([Token::Ident(name)]) => !has_name(definition.term_parameters(), name),
-        _ => false,
-    }
-}
 
-fn is_colon(token: &Token) -> bool {
-    matches!(token, Token::Sign(Sign::Colon))
-}
-
-fn say_unreached(
-    hint: &mut Hint,
-    seen: &Seen<'_>,
-    definition: &Definition,
-    number: usize,
-    before: usize,
-) {
-    let parts = parts_of(seen.text);
-    begin(hint, seen, definition.name(), number);
-    hint.say(" isn't reached: the rule ");
-    if let Some(place) = token_place(parts.text, before) {
-        hint.say("at ");
-        say_place(hint, seen, parts.at.saturating_add(place.start));
+    // Warns once of each variable with the name of a constant, and of each that only the right side of
+    // a rule has.
+    fn warn_of_variables(&mut self, module: &Text<'_>, read: Read<'_>) {
+        let (arrow, condition) = read.rule.unwrap_or((read.end, read.end));
+        for number in read.first..read.end {
+            let Some(name) = module.variable_at(number) else {
+                continue;
+            };
+            if module.has_variable(name, read.first, number) {
+                continue;
+            }
+            if have_constant(self.modules, name) {
+                self.begin(read, number);
+                say!(self; " is a variable; the constant is `{}()`", Fill::Bytes(name.bytes()));
+            } else if arrow <= number
+                && number < condition
+                && !has_name(read.definition.term_parameters(), name)
+                && !module.has_variable(name, condition, read.end)
+            {
+                self.begin(read, number);
+                say!(self; " is only on the right side: nothing binds it");
+            }
+        }
     }
-    hint.say(" matches every term");
+
+    // Warns of a definition after one of the same name and parameters that matches every term.
+    fn warn_of_order(&mut self, module: &Text<'_>, read: Read<'_>, number: usize) {
+        for before in 0..number {
+            if let Some(before) = read_definition(module, before)
+                && before.definition.name().equals(read.definition.name())
+                && arity_of(before.definition) == arity_of(read.definition)
+                && catches_all(module, before)
+            {
+                let (_token, _start, at) = self.token(before.first);
+                self.begin(read, read.first);
+                say!(self; " isn't reached: the rule at {} matches every term", at);
+                return;
+            }
+        }
+    }
 }

@@ -57,7 +57,7 @@ pub enum LineState {
     Skipped,
 }
 
-/// What is pending after a complete command.
+/// What follows the complete command: the next one's first byte, or nothing.
 #[derive(Clone, Copy)]
 pub enum Next {
     /// The line that completes it begins a command, with `returns` carriage returns and a byte.

@@ -54,6 +54,12 @@ impl Group {
 // The bytes of a line that are kept: one more than `abandon` has.
 const FRONT: usize = 8;
 
+// The most bytes of a line that a terminal hands on, and what is said of a line with so many.
+const TYPED: u64 = 4_095;
+
+const MAYBE_CUT: &[u8] =
+    b"stratbench: warning: the line has 4095 bytes, and a terminal cuts longer ones; load a file\n";
+
 /// A source that shows a prompt before it reads the start of a line, and reads a byte at a time, so
 /// that each line is answered before the next is read. A prompt that can't be shown is left out.
 #[derive(Drop)]
@@ -66,6 +72,8 @@ pub struct Prompting<'a, I, W> {
     // `begin` is `begin`, or is refused.
     front: [u8; FRONT],
     len: usize,
+    // How many bytes of the line were read.
+    read: u64,
 }
 
 impl<'a, I, W> Prompting<'a, I, W> {
@@ -80,6 +88,7 @@ impl<'a, I, W> Prompting<'a, I, W> {
             starts: true,
             front: [0; FRONT],
             len: 0,
+            read: 0,
         }
     }
 }
@@ -104,6 +113,7 @@ impl<I, W: Write> Prompting<'_, I, W> {
     fn note(&mut self, byte: u8)
         ensures { self.new.lines ≡ self.old.lines }
     {
+        self.read = self.read.saturating_add(1);
         match byte {
             b'\n' => self.end_line(),
             b' ' | b'\t' | b'\r' => {}
@@ -124,7 +134,11 @@ impl<I, W: Write> Prompting<'_, I, W> {
             b"commit" | b"abandon" => Effect::Closes,
             _ => Effect::Nothing,
         });
+        if self.read == TYPED + 1 {
+            self.show(MAYBE_CUT);
+        }
         self.len = 0;
+        self.read = 0;
         self.starts = true;
     }
 }

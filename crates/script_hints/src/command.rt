@@ -1,0 +1,214 @@
+//! A command, its words by the form that it has, and what came before it.
+
+use aterm_text::{after_blanks, is_blank};
+use script_text::{Framing, Keyword, split_keyword};
+
+/// The forms of the commands, one a line.
+pub const FORMS: &str = "abandon
+annotate N P {..}
+apply N [at P] [within K] do S
+begin
+commit
+copy N C
+drop N
+dump
+history
+module N M
+modules
+preview N [at P] [within K] do S
+put N P T
+redo [K]
+show N [at P]
+text N
+tree N T
+trees
+undo [K]
+unload N";
+
+/// The parts of a command. A word that its form doesn't have, or that is missing, is empty or none.
+#[derive(Clone, Copy)]
+pub struct Parts<'a> {
+    pub word: &'a [u8],
+    pub command: Keyword,
+    /// The form that begins with the word; empty if there is none.
+    pub form: &'static str,
+    /// The first name and the second.
+    pub name: &'a [u8],
+    pub copy: &'a [u8],
+    /// The words in the places of the path, the number and `do`.
+    pub path: Option<&'a [u8]>,
+    pub number: Option<&'a [u8]>,
+    pub keyword: &'a [u8],
+    /// The text of a term, annotations, a module or a strategy, or else what follows the form; and the
+    /// number of bytes before it.
+    pub text: &'a [u8],
+    pub at: usize,
+}
+
+/// The first word, empty if there is none, and what follows it.
+pub fn split_word(text: &[u8]) -> (&[u8], &[u8]) {
+    let text = after_blanks(text);
+    for (number, byte) in text.iter().enumerate() {
+        if is_blank(*byte) {
+            return text.split_at(number);
+        }
+    }
+    (text, &[])
+}
+
+/// The line of a table that begins with this word; empty if none does.
+pub fn line_of(table: &'static str, word: &[u8]) -> &'static str {
+    for line in table.lines() {
+        if split_word(line.as_bytes()).0 == word {
+            return line;
+        }
+    }
+    ""
+}
+
+/// Whether a form, or another list of words, has this one.
+pub fn has_word(form: &str, word: &[u8]) -> bool {
+    for it in form.split(' ') {
+        if it.as_bytes() == word {
+            return true;
+        }
+    }
+    false
+}
+
+// The word in the place of an operand, if the form has it, and what follows.
+fn split_operand<'a>(form: &str, operand: &str, text: &'a [u8]) -> (Option<&'a [u8]>, &'a [u8]) {
+    if !has_word(form, operand.as_bytes()) {
+        return (None, text);
+    }
+    let (word, rest) = split_word(text);
+    (Some(word), rest)
+}
+
+// The word after that of an option, if the form has the option and its word comes next, and what
+// follows.
+fn split_option<'a>(form: &str, option: &str, text: &'a [u8]) -> (Option<&'a [u8]>, &'a [u8]) {
+    let (word, rest) = split_word(text);
+    if !has_word(form, option.as_bytes()) || option.trim_start_matches('[').as_bytes() != word {
+        return (None, text);
+    }
+    let (word, rest) = split_word(rest);
+    (Some(word), rest)
+}
+
+/// The parts of a command.
+pub fn parts_of(text: &[u8]) -> Parts<'_> {
+    let (word, after) = split_word(text);
+    let (command, rest) = split_keyword(text);
+    // The blanks at the end belong to no part.
+    let blanks = after.len().saturating_sub(rest.len());
+    let form = line_of(FORMS, word);
+    let (name, rest) = split_operand(form, "N", rest);
+    let (copy, rest) = split_operand(form, "C", rest);
+    let (operand, rest) = split_operand(form, "P", rest);
+    let (option, rest) = split_option(form, "[at", rest);
+    let (budget, rest) = split_option(form, "[within", rest);
+    let (keyword, rest) = split_operand(form, "do", rest);
+    let (steps, rest) = split_operand(form, "[K]", rest);
+    let rest = after_blanks(rest);
+    Parts {
+        word,
+        command,
+        form,
+        name: name.unwrap_or(&[]),
+        copy: copy.unwrap_or(&[]),
+        path: operand.or(option),
+        number: steps.or(budget),
+        keyword: keyword.unwrap_or(&[]),
+        text: rest,
+        at: text.len().saturating_sub(blanks).saturating_sub(rest.len()),
+    }
+}
+
+impl Parts<'_> {
+    /// Whether the text of the command is a module.
+    pub fn is_module(&self) -> bool {
+        matches!(self.command, Keyword::Module)
+    }
+
+    /// Whether the command applies a strategy.
+    pub fn is_strategy(&self) -> bool {
+        matches!(self.command, Keyword::Apply | Keyword::Preview)
+    }
+
+    /// Whether the text of the command is annotations.
+    pub fn is_annotations(&self) -> bool {
+        matches!(self.command, Keyword::Annotate)
+    }
+
+    /// Whether the text of the command is a term.
+    pub fn is_term(&self) -> bool {
+        matches!(self.command, Keyword::Tree | Keyword::Put)
+    }
+
+    /// Whether the form of the command ends with a text.
+    pub fn has_text(&self) -> bool {
+        self.is_term() || self.is_module() || self.is_strategy() || self.is_annotations()
+    }
+}
+/// What is kept of the commands before.
+#[derive(Clone, Copy)]
+pub struct Past {
+    /// The word of the last one, and the line on which it begins, if it is `module` or `tree`.
+    pub before: Option<(&'static str, u64)>,
+    /// The line on which the last group was begun, counted from 1, if one was.
+    pub group: Option<u64>,
+    /// Whether that group is open.
+    pub open: bool,
+}
+
+impl Past {
+    /// What is kept before the first command.
+    pub fn new() -> Past {
+        Past {
+            before: None,
+            group: None,
+            open: false,
+        }
+    }
+
+    /// What is kept after a command that begins on this line.
+    pub fn after(self, line: u64, command: &[u8], accepted: bool) -> Past {
+        let (command, _rest) = split_keyword(command);
+        let opens = accepted && matches!(command, Keyword::Begin);
+        let closes = accepted && matches!(command, Keyword::Commit | Keyword::Abandon);
+        Past {
+            before: match command {
+                Keyword::Module => Some(("module", line)),
+                Keyword::Tree => Some(("tree", line)),
+                _ => None,
+            },
+            group: if opens { Some(line) } else { self.group },
+            open: opens || (self.open && !closes),
+        }
+    }
+}
+
+/// A command, as it stands in a script.
+#[derive(Clone, Copy)]
+pub struct Seen<'a> {
+    /// The file whose text it loads, if it is none of a script. The file then begins on the line after
+    /// the one on which the command begins.
+    pub file: Option<&'a str>,
+    /// The line on which it begins, counted from 1.
+    pub line: u64,
+    /// How many blanks stand on that line before it.
+    pub indent: u64,
+    /// The lines of the comments within it, in order.
+    pub comments: &'a [u64],
+    /// Its bytes; none if it is longer than 65,536.
+    pub text: &'a [u8],
+    /// The budget of a command that names none, from 1 to 1,000,000.
+    pub budget: u32,
+    /// Where a command ends.
+    pub framing: Framing,
+    /// What is kept of the commands before it.
+    pub past: Past,
+    /// The text of the library's module, if the program offers one that it didn't load.
+    pub library: Option<&'a [u8]>,
+}

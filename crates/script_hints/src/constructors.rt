@@ -1,0 +1,136 @@
+//! Constructors of an accepted term that no module declares, but nearly.
+
+use crate::explainer::Explainer;
+use crate::faults::arguments_of;
+use crate::hint::{Fill, say};
+use crate::modules::{Text, token_of, tokens_of};
+use crate::names::distance;
+use std::alloc::Global;
+use strategy_syntax::Constructor;
+use strategy_tokens::Token;
+use term_core::{Name, NoMemory};
+
+// The most constructors that are warned of, and the fewest bytes of a name that another is taken for.
+const WARNED: u64 = 4;
+
+const LONG: usize = 4;
+
+impl Explainer<'_, '_, '_> {
+    /// Warns of the constructors of a term that no module declares, where one declares it with another
+    /// number of terms, or one whose name is a byte away. Of a term of more than 4,000 tokens nothing is
+    /// said.
+    pub fn warn_of_constructors(&mut self) -> Result<(), NoMemory> {
+        let tokens = tokens_of(self.alloc, self.parts.text)?;
+        let warned = self.warn_of_tokens(&tokens);
+        drop(tokens);
+        warned
+    }
+
+    fn warn_of_tokens(&mut self, tokens: &[Token]) -> Result<(), NoMemory> {
+        let mut warned = 0u64;
+        for (number, token) in tokens.iter().enumerate() {
+            if let Token::Ident(name) = token
+                && warned < WARNED
+            {
+                let (before, after) = tokens.split_at(number.min(tokens.len()));
+                let terms = terms_of(after);
+                if let Some(near) = near_constructor(self.alloc, self.modules, name, terms)?
+                    && !has_use(before, name, terms)
+                    && self.is_apart(number)
+                {
+                    self.warn_of_constructor(number, terms, near, near.name().equals(name));
+                    warned = warned.saturating_add(1);
+                }
+            }
+        }
+        Ok(())
+    }
+
+    // Whether the token of this number is a whole word of the term: there are signs in these that begin
+    // tokens of their own.
+    fn is_apart(&self, number: usize) -> bool {
+        let (bytes, start) = token_of(self.parts.text, number);
+        let (before, rest) = self.parts.text.split_at(start.min(self.parts.text.len()));
+        !joins(before.last()) && !joins(rest.get(bytes.len()))
+    }
+
+    // Warns of the token of this number, with so many terms: there is a constructor of the same name, or
+    // of a near one.
+    fn warn_of_constructor(&mut self, number: usize, terms: u64, near: &Constructor, same: bool) {
+        if !self.hint.is_empty() {
+            say!(self; "\n");
+        }
+        let (token, _start, at) = self.token(number);
+        say!(self; "{}: warning: {}: {} ", self.source(), at, token);
+        let terms = Fill::Count(terms, "term");
+        if same {
+            let declared = Fill::Number(near.arity() as u64);
+            say!(self; "has {}, and is declared with {}", terms, declared);
+        } else {
+            let name = Fill::Quoted(near.name().bytes());
+            say!(self; "isn't declared; {} with {} is", name, terms);
+        }
+    }
+}
+
+// The number of terms of the constructor that these tokens begin with.
+fn terms_of(tokens: &[Token]) -> u64 {
+    arguments_of(tokens.get(1..).unwrap_or(&[])).0
+}
+
+fn joins(byte: Option<&u8>) -> bool {
+    match byte {
+        Some(byte) => b"-+*$.'".contains(byte),
+        None => false,
+    }
+}
+
+// Whether a constructor of this name with so many terms is among these tokens.
+fn has_use(tokens: &[Token], name: &Name, terms: u64) -> bool {
+    for (number, token) in tokens.iter().enumerate() {
+        if let Token::Ident(found) = token
+            && found.equals(name)
+            && terms_of(tokens.get(number..).unwrap_or(&[])) == terms
+        {
+            return true;
+        }
+    }
+    false
+}
+
+// Unless this constructor is declared with so many terms: one of this name, or else one with so many
+// terms whose name is a byte away.
+fn near_constructor<'m>(
+    alloc: Global,
+    modules: &'m [Text<'_>],
+    name: &Name,
+    terms: u64,
+) -> Result<Option<&'m Constructor>, NoMemory> {
+    let mut near = None;
+    for module in modules {
+        for constructor in module.module.constructors() {
+            let has_terms = constructor.arity() as u64 == terms;
+            if !constructor.name().equals(name) {
+                if has_terms
+                    && near.is_none()
+                    && is_near(alloc, name.bytes(), constructor.name().bytes())?
+                {
+                    near = Some(constructor);
+                }
+            } else if has_terms {
+                return Ok(None);
+            } else {
+                near = Some(constructor);
+            }
+        }
+    }
+    Ok(near)
+}
+
+fn is_near(alloc: Global, name: &[u8], other: &[u8]) -> Result<bool, NoMemory> {
+    let (least, most) = (name.len().min(other.len()), name.len().max(other.len()));
+    if most < LONG || least.saturating_add(1) < most {
+        return Ok(false);
+    }
+    Ok(distance(alloc, name, other)? == 1)
+}

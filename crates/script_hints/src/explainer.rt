@@ -1,0 +1,156 @@
+//! What is said of a refused command.
+
+use crate::characters::{count_characters, place_of};
+use crate::command::{Parts, Seen, parts_of};
+use crate::faults::Fault;
+use crate::hint::{Fill, Hint, say};
+use crate::modules::{Text, read_modules, token_of};
+use session_history::{Refusal, Timeline};
+use std::alloc::Global;
+use term_core::NoMemory;
+
+/// What is said so far of a command, and what it is said from.
+#[derive(Drop)]
+pub struct Explainer<'a, 'm, 't> {
+    pub alloc: Global,
+    pub hint: Hint,
+    pub seen: Seen<'a>,
+    pub parts: Parts<'a>,
+    /// The modules, in the order of their names, where the explanation needs them.
+    pub modules: &'m [Text<'t>],
+}
+
+/// One to four lines on why the command was refused, without a line feed at the end. The history is
+/// that of the session that refused it.
+///
+/// Errors: `NoMemory` if memory can't grow.
+pub fn explain<'a>(
+    alloc: Global,
+    history: &'a Timeline,
+    seen: &Seen<'a>,
+    refusal: &Refusal,
+) -> Result<Vec<u8>, NoMemory> {
+    let names = history.module_names()?;
+    let parts = parts_of(seen.text);
+    let modules = match refusal {
+        Refusal::Check(..) => read_modules(alloc, history, &names, &parts, true)?,
+        Refusal::Fails => read_modules(alloc, history, &names, &parts, false)?,
+        _ => Vec::new(alloc),
+    };
+    let mut explainer = Explainer::new(alloc, seen, &modules);
+    let explained = explainer.explain_refusal(history, refusal);
+    let said = explainer.into_text();
+    drop(modules);
+    explained?;
+    said
+}
+
+impl<'a, 'm, 't> Explainer<'a, 'm, 't> {
+    /// One that has said nothing yet.
+    pub fn new(alloc: Global, seen: &Seen<'a>, modules: &'m [Text<'t>]) -> Explainer<'a, 'm, 't> {
+        Explainer {
+            alloc,
+            hint: Hint::new(alloc),
+            seen: *seen,
+            parts: parts_of(seen.text),
+            modules,
+        }
+    }
+
+    /// The whole text; `NoMemory` if a growth was refused.
+    pub fn into_text(self) -> Result<Vec<u8>, NoMemory> {
+        self.hint.into_text()
+    }
+
+    // `line 12: refused 10 syntax`; a fault of the checker follows with its name and numbers.
+    fn say_refusal(&mut self, refusal: &Refusal) {
+        let number = Fill::Number(u64::from(refusal.number()));
+        say!(self; "{}: refused {} ", self.source(), number);
+        let Refusal::Check(kind, name, strategies, terms) = refusal else {
+            self.hint.words(refusal.word());
+            return;
+        };
+        let numbers = (Fill::Number(*strategies), Fill::Number(*terms));
+        let kind = Fill::Words(kind.word());
+        say!(self; "{} {} {} {}", kind, Fill::Name(name), numbers.0, numbers.1);
+    }
+
+    fn explain_refusal(&mut self, history: &Timeline, refusal: &Refusal) -> Result<(), NoMemory> {
+        self.say_refusal(refusal);
+        match refusal {
+            Refusal::Line => self.explain_line(),
+            Refusal::NoTree => self.explain_missing(&history.tree_names()?, "tree"),
+            Refusal::NoModule => self.explain_missing(&history.module_names()?, "module"),
+            Refusal::Term => self.explain_term(),
+            Refusal::Path => self.explain_path(history),
+            Refusal::Syntax => self.explain_syntax(),
+            Refusal::Check(kind, name, strategies, terms) => self.explain_check(Fault {
+                kind: *kind,
+                name,
+                strategies: *strategies,
+                terms: *terms,
+            }),
+            Refusal::Fails => self.explain_fails(history),
+            Refusal::Big => self.explain_big(),
+            other => {
+                self.explain_limit(history, other);
+                Ok(())
+            }
+        }
+    }
+
+    // ---- places
+
+    /// The line on which the command begins, or the file that it loads.
+    pub fn source(&self) -> Fill<'a> {
+        match self.seen.file {
+            Some(file) => Fill::Words(file),
+            None => Fill::Line(self.seen.line),
+        }
+    }
+
+    /// The place in the script after so many bytes of the text of the command.
+    pub fn at(&self, start: usize) -> Fill<'a> {
+        place_in(&self.seen, self.parts.at.saturating_add(start))
+    }
+
+    /// The token of this number of the text of the command, the number of bytes before it, and its place.
+    pub fn token(&self, number: usize) -> (Fill<'a>, usize, Fill<'a>) {
+        let (bytes, start) = token_of(self.parts.text, number);
+        (Fill::Quoted(bytes), start, self.at(start))
+    }
+
+    /// Appends the line of the place after so many bytes of the text of the command, and a `^` below it.
+    pub fn show(&mut self, start: usize) {
+        let (text, at) = (self.seen.text, self.parts.at.saturating_add(start));
+        self.hint.show(text, at);
+    }
+
+    /// Appends a sentence with that place in it, and shows the place.
+    pub fn say_at(&mut self, sentence: &str, start: usize) {
+        say!(self; sentence, self.at(start));
+        self.show(start);
+    }
+}
+
+/// A place of a text whose first line has this number.
+pub fn fill_of<'a>(text: &[u8], first: u64, at: usize) -> Fill<'a> {
+    let place = place_of(text, first, at);
+    Fill::At(place.line, count_characters(place.before).saturating_add(1))
+}
+
+// A place of the command, whose text is without the blanks before it and the comments within it.
+fn place_in<'a>(seen: &Seen<'_>, at: usize) -> Fill<'a> {
+    let place = place_of(seen.text, seen.line, at);
+    let mut column = count_characters(place.before).saturating_add(1);
+    if place.line == seen.line {
+        column = column.saturating_add(seen.indent);
+    }
+    let mut line = place.line;
+    for comment in seen.comments {
+        if *comment <= line {
+            line = line.saturating_add(1);
+        }
+    }
+    Fill::At(line, column)
+}

@@ -1,0 +1,29 @@
+//! The strategies that modules of `strategies/` define.
+
+use crate::command::has_word;
+
+// A line is a module, and names that it defines.
+const DEFINED: &str =
+    "control repeat repeat1 while while-not do-while fixpoint topdown bottomup innermost
+control innermost-built normalise-levels
+lists is-list conc at-end concat reverse length last elem fetch fetch-elem lookup filter
+lists remove-all zip unzip take drop merge-sort merge-runs merge-neighbours merge nub union isect
+lists diff foldr foldl
+names explode-string implode-string conc-strings concat-strings string-length string-gt string-lt
+names without-prefix skip to-upper to-lower upper-case lower-case capitalize-string newname
+names newnames renaming rename try-rename rename-apart
+numbers add subt mul div mod inc dec gt lt geq leq max min is-int even int-to-string string-to-int
+terms get-arguments take-arguments crush collect-all collect-all-of-each collect collect-of-each
+terms subterms occurrences occurrences-in-each substitute preserve-annos is-string";
+
+/// The module that defines a strategy of this name; nothing if none does.
+pub fn module_defining(name: &[u8]) -> &'static str {
+    for line in DEFINED.lines() {
+        if let Some((module, names)) = line.split_once(' ')
+            && has_word(names, name)
+        {
+            return module;
+        }
+    }
+    ""
+}

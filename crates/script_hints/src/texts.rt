@@ -1,0 +1,220 @@
+//! Texts that are no terms, no strategies, or no modules.
+
+use crate::characters::{begins_with_mark, character_at};
+use crate::explainer::Explainer;
+use crate::hint::{Fill, say};
+use crate::modules::{token_of, tokens_of};
+use crate::stuck::{Stuck, is_bracket, stuck_of};
+use strategy_tokens::Token;
+use term_core::NoMemory;
+use text_faults::{
+    BadToken, OpenForm, OpenToken, StuckTerm, TermFault, bad_token, stuck_annotations, stuck_term,
+};
+
+/// What is said of a text that begins with the bytes EF BB BF.
+pub const BEGINS_WITH_MARK: &str = "the text begins with a byte order mark (U+FEFF)";
+
+const OPEN_STRING: &str = "the string at {} isn't closed";
+
+const OUT_OF_RANGE: &str =
+    "the integer at {} isn't from -9223372036854775808 to 9223372036854775807";
+
+impl<'a> Explainer<'a, '_, '_> {
+    // ---- terms
+
+    /// Refusal 7: where the text stops being a term, or an annotation part.
+    pub fn explain_term(&mut self) -> Result<(), NoMemory> {
+        let text = self.parts.text;
+        let found = if self.parts.is_annotations() {
+            stuck_annotations(self.alloc, text)?
+        } else {
+            stuck_term(self.alloc, text)?
+        };
+        if let Some(stuck) = found {
+            say!(self; ": ");
+            self.say_stuck_term(stuck);
+            if stuck.at == 0 && begins_with_mark(text) {
+                self.say_advice(BEGINS_WITH_MARK);
+            }
+        }
+        Ok(())
+    }
+
+    fn say_stuck_term(&mut self, stuck: StuckTerm) {
+        let at = stuck.at;
+        match stuck.fault {
+            TermFault::End => self.say_term_end(stuck),
+            TermFault::Byte => self.say_byte(stuck),
+            TermFault::After => self.say_here("the term ends before {} at {}", at),
+            TermFault::Real => self.say_at("the number at {} is a real, and there are none", at),
+            TermFault::Placeholder => {
+                self.say_at("the `<` at {} begins a placeholder, and there are none", at);
+            }
+            TermFault::OpenString => self.say_at(OPEN_STRING, at),
+            TermFault::Escape => self.say_escape(at),
+            TermFault::Range => self.say_at(OUT_OF_RANGE, at),
+        }
+    }
+
+    fn say_byte(&mut self, stuck: StuckTerm) {
+        let sentence = if self.parts.is_annotations() && !self.parts.text.starts_with(b"{") {
+            "annotations begin with `{`, not with {} at {}"
+        } else if stuck.at == 0 {
+            "no term begins with {} at {}"
+        } else {
+            "no term goes on with {} at {}"
+        };
+        say!(self; sentence, self.character(stuck.at), self.at(stuck.at));
+        if let Some(open) = stuck.open {
+            say!(self; "; the {} at {} is open", self.character(open), self.at(open));
+        }
+        self.show(stuck.at);
+    }
+
+    fn say_term_end(&mut self, stuck: StuckTerm) {
+        match stuck.open {
+            Some(open) => self.say_here("the term ends too early; the {} at {} is open", open),
+            None => say!(self; "the term is missing"),
+        }
+    }
+
+    fn say_escape(&mut self, start: usize) {
+        self.say_at("the escape at {} isn't known", start);
+        say!(self; "\n    the escapes are \\\" \\\\ \\n \\t \\r and \\ with three octal digits, at most \\377");
+    }
+
+    // Appends a sentence with the character at this place of the text, and the place, which is shown.
+    fn say_here(&mut self, sentence: &str, start: usize) {
+        say!(self; sentence, self.character(start), self.at(start));
+        self.show(start);
+    }
+
+    fn character(&self, start: usize) -> Fill<'a> {
+        Fill::Quoted(character_at(self.parts.text, start))
+    }
+
+    // ---- strategies and modules
+
+    /// Refusal 10: the token with which the text stops being a strategy or a module, or what is open at
+    /// its end.
+    pub fn explain_syntax(&mut self) -> Result<(), NoMemory> {
+        let tokens = tokens_of(self.alloc, self.parts.text)?;
+        let said = self.say_syntax(&tokens);
+        drop(tokens);
+        said
+    }
+
+    fn say_syntax(&mut self, tokens: &[Token]) -> Result<(), NoMemory> {
+        let parts = self.parts;
+        let stuck = stuck_of(self.alloc, &parts, tokens)?;
+        say!(self; ": {} {}: ", Fill::Bytes(parts.word), Fill::Bytes(parts.name));
+        let kind = Fill::Words(if parts.is_module() {
+            "module"
+        } else {
+            "strategy"
+        });
+        match stuck.after.first() {
+            Some(Token::Bad) => self.say_bad(stuck.number),
+            Some(_) => self.say_stuck(kind, &stuck),
+            None => self.say_end(kind, &stuck),
+        }
+        Ok(())
+    }
+
+    // A token that doesn't go on. The open form is named where nothing better is known.
+    fn say_stuck(&mut self, kind: Fill<'_>, stuck: &Stuck<'_>) {
+        let advice = stuck.advice();
+        let (token, start, at) = self.token(stuck.number);
+        let goes_on = Fill::Words(if stuck.number == 0 {
+            "begins"
+        } else {
+            "goes on"
+        });
+        say!(self; "no {} {} with {} at {}", kind, goes_on, token, at);
+        if advice.is_empty() {
+            self.say_open(stuck.open);
+        }
+        self.show(start);
+        self.say_advice(advice);
+    }
+
+    fn say_open(&mut self, open: Option<OpenToken>) {
+        let Some(open) = open else {
+            return;
+        };
+        let (form, _start, at) = self.token(open.token);
+        if is_bracket(open.form) {
+            say!(self; "; the {} at {} is open", form, at);
+        } else {
+            say!(self; "; the {} at {} has no {}", form, at, lack_of(open.form));
+        }
+    }
+
+    /// Appends a line with the advice, unless it is empty.
+    pub fn say_advice(&mut self, advice: &str) {
+        if !advice.is_empty() {
+            say!(self; "\n    {}", Fill::Words(advice));
+        }
+    }
+
+    fn say_bad(&mut self, number: usize) {
+        let (bytes, start) = token_of(self.parts.text, number);
+        match bad_token(bytes) {
+            BadToken::OpenString => self.say_at(OPEN_STRING, start),
+            BadToken::OpenComment => self.say_at("the comment at {} isn't closed", start),
+            BadToken::Escape(more) => self.say_escape(start.saturating_add(more)),
+            BadToken::Range => self.say_at(OUT_OF_RANGE, start),
+            BadToken::Byte => {
+                self.say_here("no token begins with {} at {}", start);
+                self.say_advice(advice_on_bytes(self.parts.text, start));
+            }
+        }
+    }
+
+    // A text that ends too early.
+    fn say_end(&mut self, kind: Fill<'_>, stuck: &Stuck<'_>) {
+        if stuck.number == 0 {
+            say!(self; "the {} is missing", kind);
+        } else if let Some(open) = stuck.open {
+            let (form, start, at) = self.token(open.token);
+            let lack = lack_of(open.form);
+            say!(self; "the {} ends too early: the {} at {} has no {}", kind, form, at, lack);
+            self.show(start);
+        } else {
+            let (last, start, at) = self.token(stuck.number.saturating_sub(1));
+            say!(self; "the {} ends too early: it can't end with {} at {}", kind, last, at);
+            self.show(start);
+            self.say_advice(stuck.advice());
+        }
+    }
+}
+
+fn advice_on_bytes(text: &[u8], start: usize) -> &'static str {
+    let rest = text.get(start..).unwrap_or(&[]);
+    if start == 0 && begins_with_mark(text) {
+        BEGINS_WITH_MARK
+    } else if rest.starts_with(b"$") {
+        "there is no `$[..]`: a string is built from its parts by a primitive"
+    } else if rest.starts_with(b"#(") {
+        "there is no `c#(..)`: a pattern names its constructor"
+    } else if rest.starts_with(b"#") {
+        "`#` begins a comment of a script in the first column only: write `// ..`"
+    } else {
+        ""
+    }
+}
+
+// What has to come in an open form.
+fn lack_of(form: OpenForm) -> Fill<'static> {
+    Fill::Words(match form {
+        OpenForm::Round => "`)`",
+        OpenForm::Square => "`]`",
+        OpenForm::Curly => "`}`",
+        OpenForm::Application => "`>`",
+        OpenForm::Guard => "`+`",
+        OpenForm::Closure => "second `\\`",
+        OpenForm::If => "`then`",
+        OpenForm::Then => "`end`, and no `else` before it",
+        OpenForm::Else => "`end`",
+    })
+}
