@@ -24,6 +24,7 @@ from measure import TOP, built_program, heading
 
 sys.path[:0] = [f"{TOP}/clients/python", f"{TOP}/clients/python/tests"]
 
+import packages  # noqa: E402
 import try_cluster  # noqa: E402
 import try_modules  # noqa: E402
 from stratbench import Refused, Stratbench, cluster, python, refactor, terms  # noqa: E402
@@ -141,7 +142,7 @@ def command(python, folder, *words):
 
 def side_by_side(contents):
     """The whole command on all modules, in processes and on workers."""
-    python = try_cluster.interpreter()
+    python, _ = packages.interpreter("distributed", "python3-distributed")
     usual = python or sys.executable
     with tempfile.TemporaryDirectory() as folder:
         for at, text in enumerate(contents):

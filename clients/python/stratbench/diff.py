@@ -10,18 +10,22 @@
     +x
      c
 
-A diff that is searched for may show lines as changed that weren't; the edits say what was.
+The edits say where something changed. Lines are compared there, and only there.
 """
 
 from __future__ import annotations
 
+import difflib
 import re
 from bisect import bisect_right
-from collections.abc import Sequence
+from collections.abc import Iterator, Sequence
+from typing import Final
 
 from .patch import Edit
 
-_CONTEXT = 3
+_CONTEXT: Final = 3
+# Texts with more lines that differ aren't compared to the last one.
+_MOST_DIFFERING: Final = 400
 
 
 def unified(name: str, text: bytes, edits: Sequence[Edit]) -> bytes:
@@ -48,16 +52,18 @@ def _changes(text: bytes, lines: list[bytes], edits: Sequence[Edit]) -> list[tup
     for line in lines:
         starts.append(starts[-1] + len(line))
     found: list[tuple[int, int, list[bytes]]] = []
-    waiting = list(edits)
+    # the last line goes on where it has no line end
+    open_end = bool(lines) and not lines[-1].endswith(b"\n")
+    waiting = list(edits)[::-1]
     while waiting:
         # edits that touch the same lines are one run
-        run = [waiting.pop(0)]
-        first = max(0, bisect_right(starts, run[0].first, 0, len(lines) or 1) - 1)
+        run = [waiting.pop()]
+        first = min(bisect_right(starts, run[0].first) - 1, len(lines) - open_end)
         while True:
             end = _line_after(starts, run[-1])
-            if not waiting or waiting[0].first >= starts[end]:
+            if not waiting or (waiting[-1].first >= starts[end] and not (open_end and end == len(lines))):
                 break
-            run.append(waiting.pop(0))
+            run.append(waiting.pop())
         new, at = b"", starts[first]
         for edit in run:
             new += text[at : edit.first] + edit.text
@@ -68,16 +74,70 @@ def _changes(text: bytes, lines: list[bytes], edits: Sequence[Edit]) -> list[tup
             new += lines[end]
             end += 1
         others = re.findall(rb"[^\n]*\n|[^\n]+", new)
-        while first < end and others and lines[first] == others[0]:
-            first, others = first + 1, others[1:]
-        while first < end and others and lines[end - 1] == others[-1]:
-            end, others = end - 1, others[:-1]
-        if found and found[-1][1] == first and (first < end or others):
-            begin, _, before = found.pop()
-            first, others = begin, before + others
-        if first < end or others:
-            found.append((first, end, others))
-    return found
+        if found and first - found[-1][1] <= 2 * _CONTEXT:
+            # what is shown together is compared as one, since lines may have moved from one run to the other
+            begin, last, before = found.pop()
+            first, others = begin, [*before, *lines[last:first], *others]
+        found.append((first, end, others))
+    return [change for first, end, others in found for change in _differing(lines, first, end, others)]
+
+
+# The fewest lines that differ in a run.
+def _differing(lines: list[bytes], first: int, end: int, others: list[bytes]) -> Iterator[tuple[int, int, list[bytes]]]:
+    old, new = first, 0
+    for one, two in [*_common(lines[first:end], others), (end - first, len(others))]:
+        if first + one > old or two > new:
+            yield old, first + one, others[new:two]
+        old, new = first + one + 1, two + 1
+
+
+# The places of the lines that two texts have in common, as many as there can be.
+def _common(one: list[bytes], two: list[bytes]) -> list[tuple[int, int]]:
+    begin, ends = 0, 0
+    while begin < min(len(one), len(two)) and one[begin] == two[begin]:
+        begin += 1
+    while ends < min(len(one), len(two)) - begin and one[-1 - ends] == two[-1 - ends]:
+        ends += 1
+    found = _searched(one[begin : len(one) - ends], two[begin : len(two) - ends])
+    pairs = [(it, it) for it in range(begin)] + [(begin + it, begin + other) for it, other in found]
+    return pairs + [(len(one) - it, len(two) - it) for it in range(ends, 0, -1)]
+
+
+# The same by the algorithm of Myers; of texts that differ much, those of the longest runs.
+def _searched(one: list[bytes], two: list[bytes]) -> list[tuple[int, int]]:
+    if not one or not two:
+        return []
+    reached = {1: 0}
+    before: list[dict[int, int]] = []
+    for differing in range(_MOST_DIFFERING):
+        before.append(dict(reached))
+        for diagonal in range(-differing, differing + 1, 2):
+            down = diagonal == -differing or (diagonal != differing and reached[diagonal - 1] < reached[diagonal + 1])
+            at = reached[diagonal + 1] if down else reached[diagonal - 1] + 1
+            while at < len(one) and at - diagonal < len(two) and one[at] == two[at - diagonal]:
+                at += 1
+            reached[diagonal] = at
+            if at >= len(one) and at - diagonal >= len(two):
+                return _way_back(before, len(one), len(two))
+    blocks = difflib.SequenceMatcher(None, one, two, autojunk=False).get_matching_blocks()
+    return [(block.a + it, block.b + it) for block in blocks for it in range(block.size)]
+
+
+# The common lines on the way to the end, from what was reached before each differing line.
+def _way_back(before: list[dict[int, int]], one: int, two: int) -> list[tuple[int, int]]:
+    pairs: list[tuple[int, int]] = []
+    for differing in range(len(before) - 1, -1, -1):
+        reached, diagonal = before[differing], one - two
+        down = diagonal == -differing or (diagonal != differing and reached[diagonal - 1] < reached[diagonal + 1])
+        came = diagonal + 1 if down else diagonal - 1
+        start = reached[came] if differing else 0
+        begin = start if down else start + 1
+        while one > (begin if differing else 0) and two > 0 and one > 0:
+            one, two = one - 1, two - 1
+            pairs.append((one, two))
+        if differing:
+            one, two = start, start - came
+    return pairs[::-1]
 
 
 # The line after the last one that an edit touches.

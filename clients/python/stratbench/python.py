@@ -19,11 +19,13 @@ As a command it prints the term of a file, or with no file the module of strateg
 from __future__ import annotations
 
 import ast
+import gc
 import io
 import re
 import sys
 import tokenize
 import warnings
+from bisect import bisect_right
 from collections.abc import Iterator
 from contextlib import contextmanager
 from typing import Final, NamedTuple
@@ -203,6 +205,10 @@ class Lines:
     def __init__(self, text: bytes) -> None:
         self.starts = [0, *(found.end() for found in re.finditer(rb"\r\n|\r|\n", text))]
 
+    def number(self, place: int) -> int:
+        """Returns the number of the line of a place, from 1."""
+        return bisect_right(self.starts, place)
+
 
 def to_term(tree: ast.AST, lines: Lines | None = None) -> Term:
     """Returns the term of a syntax tree, with positions where the lines of its source are given."""
@@ -262,6 +268,14 @@ def from_term(term: Term) -> ast.AST:
     Traceback (most recent call last):
     stratbench.terms.NoTerm: no expr in the field value of Return: 7
     """
+    try:
+        return _from_term(term)
+    except NoTerm as error:
+        error.place = error.place or position(term)
+        raise
+
+
+def _from_term(term: Term) -> ast.AST:
     name = term.head
     known = CONSTRUCTORS.get(name) if isinstance(name, str) else None
     if known is None or len(known.fields) != len(term.children):
@@ -300,6 +314,10 @@ def _value(of: Constructor, field: Field, term: Term) -> object:
         return term.head
     known = CONSTRUCTORS.get(term.head) if isinstance(term.head, str) else None
     if known is None or known.sort != field.sort:
+        if term.head == LIST and field.number == "*":
+            raise NoTerm(
+                f"no {field.sort} in the field {field.name} of {of.name}, but a list, whose elements belong there: {_cut(term)}"
+            )
         raise NoTerm(f"no {field.sort} in the field {field.name} of {of.name}: {_cut(term)}")
     return from_term(term)
 
@@ -322,13 +340,17 @@ def position(term: Term) -> tuple[int, int] | None:
 
 @contextmanager
 def deep() -> Iterator[None]:
-    """Lets trees of 1,000 levels be gone through by functions that call themselves."""
-    before = sys.getrecursionlimit()
+    """Lets trees of 1,000 levels be gone through by functions that call themselves. Memory isn't searched for cycles meanwhile:
+    trees have none, and the search would take as long as the work."""
+    before, searches = sys.getrecursionlimit(), gc.isenabled()
     sys.setrecursionlimit(max(before, 12_000))
+    gc.disable()
     try:
         yield
     finally:
         sys.setrecursionlimit(before)
+        if searches:
+            gc.enable()
 
 
 def parse(text: str) -> ast.Module:

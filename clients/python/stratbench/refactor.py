@@ -9,6 +9,7 @@ Each file is read as a term (`stratbench.python`), the strategy is previewed on 
 from __future__ import annotations
 
 import argparse
+import codecs
 import contextlib
 import os
 import pickle
@@ -25,9 +26,11 @@ from typing import Final, NamedTuple
 
 from .cluster import Cluster, Lost, Unreachable
 from .diff import unified
-from .patch import Unwritable, apply_edits, patch
+from .patch import Edit, Unwritable, apply_edits, lost_comments, patch
+from .patch.tokens import Token
 from .places import Command, Text
 from .python import Source, deep, position
+from .terms import at as subterm
 from .terms import LIST, NoTerm, Term, exchange, height, read, size, write
 
 # The bounds of the workbench: terms of a tree that is read, levels, steps of a command.
@@ -48,23 +51,30 @@ _OF_TEXTS: Final = (2, 3, 8, 10, 11)
 
 
 class Task(NamedTuple):
-    """What is done to each file: the modules that are loaded, by name and text, the strategy, and its budget."""
+    """What is done to each file: the modules that are loaded, by name and text, the strategy, and its budget. `files` are the
+    names of the modules' files for what is said of them. `keep_comments` leaves places alone where a comment would be lost."""
 
     modules: tuple[tuple[str, bytes], ...]
     strategy: str
     within: int = MOST_STEPS
     program: str | None = None
+    files: tuple[str, ...] = ()
+    keep_comments: bool = False
 
 
 class Outcome(NamedTuple):
     """What came of a file. `contents` is what it would be, where it would change, and `diff` shows it; `left` says why it is
-    left as it is. A `fault` is a result that can't be written, so that no file is."""
+    left as it is. A `fault` is why a result can't be written, so that no file is. `of_texts` is whether the modules or the
+    strategy may be wrong, whatever the file is. `said` is what else there is to say, as of comments that are lost, and the
+    warnings of the modules where they were asked for."""
 
     name: str
     contents: bytes | None = None
     diff: bytes = b""
     left: str = ""
-    fault: bool = False
+    fault: str = ""
+    of_texts: bool = False
+    said: tuple[str, ...] = ()
 
 
 class Result(NamedTuple):
@@ -74,16 +84,28 @@ class Result(NamedTuple):
     places: tuple[tuple[int, ...], ...] = ()
     in_parts: bool = False
     left: str = ""
+    of_texts: bool = False
+    warnings: tuple[str, ...] = ()
 
 
 class _Refused(Exception):
-    def __init__(self, number: int, said: str) -> None:
-        super().__init__(said)
-        self.number = number
+    """A preview that was refused, at a path of a tree. Why is asked for later."""
+
+    def __init__(self, answer: str, tree: Term, path: tuple[int, ...], before: str = "") -> None:
+        super().__init__(answer)
+        self.number, self.tree, self.path, self.before = int(answer.split()[1]), tree, path, before
+
+
+class NoProgram(OSError):
+    """The program can't be run."""
 
 
 class _Left(Exception):
     pass
+
+
+class _Ended(_Left):
+    """The program ended before it answered, as where a module is refused."""
 
 
 def refactored(work: Sequence[tuple[str, bytes]], task: Task) -> list[Outcome]:
@@ -96,29 +118,79 @@ def refactored(work: Sequence[tuple[str, bytes]], task: Task) -> list[Outcome]:
             place = f"{name}:{error.lineno}" if error.lineno else name
             sources.append(Outcome(name, left=f"{place}: no Python: {error.msg}"))
     results = iter(transformed([it for it in sources if isinstance(it, Source)], task))
-    return [it if isinstance(it, Outcome) else _outcome(name, it, next(results)) for (name, _), it in zip(work, sources)]
+    return [it if isinstance(it, Outcome) else _outcome(name, it, next(results), task) for (name, _), it in zip(work, sources)]
 
 
-def _outcome(name: str, source: Source, result: Result) -> Outcome:
+def _outcome(name: str, source: Source, result: Result, task: Task) -> Outcome:
     if result.new is None:
-        return Outcome(name, left=f"{name}: {result.left}")
+        return Outcome(name, left=f"{name}: {result.left}", of_texts=result.of_texts, said=result.warnings)
     try:
-        edits = patch(source, result.new)
+        edits, text, lost = _patched(source, result.new)
+        said = [f"{name}:{source.lines.number(it.first)}: comment lost: {it.text}" for it in lost]
+        if lost and task.keep_comments:
+            (edits, text), lost = _with_comments(source, result)
+            said = [f"{name}:{source.lines.number(it.first)}: left, since a comment would be lost: {it.text}" for it in lost]
         if not edits:
-            return Outcome(name)
-        text = apply_edits(source.text, 0, len(source.text), edits)
-        diff = unified(name, source.text, edits)
-        return Outcome(name, source.encoded(text), _recoded(source, diff))
+            return Outcome(name, said=tuple(said))
+        return Outcome(name, source.encoded(text), _diff(name, source, edits), said=tuple(said))
     except (NoTerm, Unwritable) as error:
-        return Outcome(name, left=f"{name}: the result is no program: {error}", fault=True)
+        return Outcome(name, left=f"{name}: the result is no program: {error}", fault="is no program")
     except UnicodeEncodeError as error:
-        return Outcome(name, left=f"{name}: the result doesn't fit the encoding {source.encoding}: {error}", fault=True)
+        wrong = error.object[error.start : error.end]
+        return Outcome(
+            name,
+            left=f"{name}: the result doesn't fit the encoding {source.encoding}: it has {wrong!r}",
+            fault=f"doesn't fit the encoding {source.encoding}",
+        )
 
 
-# A diff in the encoding of its file, so that it can be applied to it.
-def _recoded(source: Source, diff: bytes) -> bytes:
-    encoding = "utf-8" if source.encoding == "utf-8-sig" else source.encoding
-    return b"".join(line if at < 2 else line.decode().encode(encoding) for at, line in enumerate(diff.splitlines(keepends=True)))
+# The edits for a new tree, the text after them, and the comments that it lacks.
+def _patched(source: Source, new: Term) -> tuple[list[Edit], bytes, list[Token]]:
+    edits = patch(source, new)
+    text = apply_edits(source.text, 0, len(source.text), edits)
+    return edits, text, lost_comments(source, edits, text)
+
+
+# The same without the places at which a comment would be lost, and these comments.
+def _with_comments(source: Source, result: Result) -> tuple[tuple[list[Edit], bytes], list[Token]]:
+    assert result.new is not None
+    places = {path: subterm(result.new, path) for path in result.places}
+    without: list[Token] = []
+    while True:
+        edits, text, lost = _patched(source, exchange(source.term, places))
+        if not lost:
+            return (edits, text), without
+        without += lost
+        for path in {_place_of(source, places, it) for it in lost}:
+            del places[path]
+
+
+# The place that a comment belongs to: the smallest in whose lines it is, or the last one before it.
+def _place_of(source: Source, places: Iterable[tuple[int, ...]], comment: Token) -> tuple[int, ...]:
+    found: list[tuple[bool, int, tuple[int, ...]]] = []
+    for path in places:
+        above = next((above for above in _up(source.term, path) if position(above) is not None), None)
+        first, last = (above and position(above)) or (0, len(source.text))
+        inside = source.lines.number(first) <= source.lines.number(comment.first) <= source.lines.number(last)
+        found.append((not inside, last - first if inside else abs(comment.first - last), path))
+    return min(found)[2]
+
+
+# The subterm at a path and those above it, from it on.
+def _up(term: Term, path: tuple[int, ...]) -> list[Term]:
+    found = [term]
+    for step in path:
+        found.append(found[-1].children[step])
+    return found[::-1]
+
+
+# A diff in the encoding of its file, and with its byte order mark, so that it can be applied to it.
+def _diff(name: str, source: Source, edits: Sequence[Edit]) -> bytes:
+    if source.encoding == "utf-8-sig":
+        mark = len(codecs.BOM_UTF8)
+        return unified(name, codecs.BOM_UTF8 + source.text, [Edit(it.first + mark, it.last + mark, it.text) for it in edits])
+    lines = unified(name, source.text, edits).splitlines(keepends=True)
+    return b"".join(line if at < 2 else line.decode().encode(source.encoding) for at, line in enumerate(lines))
 
 
 def transformed(sources: Sequence[Source], task: Task) -> list[Result]:
@@ -136,19 +208,36 @@ def transformed(sources: Sequence[Source], task: Task) -> list[Result]:
                 parts[at] = None
             else:
                 whole.append(at)
-        for at, result in zip(whole, bench.previews([sources[at].term for at in whole], [(it, ()) for it in range(len(whole))])):
-            if isinstance(result, dict):
-                found[at] = Result(exchange(sources[at].term, result), tuple(result))
-            elif result.number in _IN_PARTS:
-                parts[at] = result
-            else:
-                found[at] = Result(None, left=str(result))
-        for at, refused in parts.items():
+        refused: dict[int, _Refused] = {}
+        try:
+            for at, result in zip(whole, bench.previews([sources[at].term for at in whole], [(it, ()) for it in range(len(whole))])):
+                if isinstance(result, dict):
+                    found[at] = Result(exchange(sources[at].term, result), tuple(result))
+                elif result.number in _IN_PARTS:
+                    parts[at] = result
+                else:
+                    refused[at] = result
+        except _Ended as error:
+            found.update((at, Result(None, left=str(error), of_texts=True)) for at in whole)
+        for at, before in parts.items():
             try:
-                found[at] = _in_parts(sources[at], bench, refused)
-            except (_Refused, _Left) as error:
-                found[at] = Result(None, left=str(error))
+                found[at] = _in_parts(sources[at], bench, before)
+            except _Left as error:
+                found[at] = Result(None, left=str(error), of_texts=isinstance(error, _Ended))
+            except _Refused as error:
+                refused[at] = error
+        found.update(_results(bench, refused))
     return [found[at] for at in range(len(sources))]
+
+
+# Why previews were refused.
+def _results(bench: _Bench, refused: dict[int, _Refused]) -> Iterator[tuple[int, Result]]:
+    of_texts = {at: it for at, it in refused.items() if it.number in _OF_TEXTS}
+    yield from ((at, Result(None, left=str(it), of_texts=True)) for at, it in of_texts.items())
+    others = {at: it for at, it in refused.items() if at not in of_texts}
+    said, warnings = bench.explained(list(others.values()))
+    for (at, it), why in zip(others.items(), said):
+        yield at, Result(None, left=it.before + why, warnings=warnings)
 
 
 # The tree where the strategy is applied to each statement of the module by itself. One for which it fails stays.
@@ -175,7 +264,8 @@ def _in_parts(source: Source, bench: _Bench, whole: _Refused | None) -> Result:
     for at, (result, (_, path)) in enumerate(zip(bench.previews(trees, places), places)):
         if isinstance(result, _Refused):
             if result.number != _FAILS:
-                raise _Refused(result.number, f"{_line_of(source, body.children[at])}: {result}")
+                result.before = f"{_line_of(source, body.children[at])}: "
+                raise result
             refused = refused or result
             continue
         done += 1
@@ -188,20 +278,42 @@ def _in_parts(source: Source, bench: _Bench, whole: _Refused | None) -> Result:
 
 def _line_of(source: Source, statement: Term) -> str:
     place = position(statement)
-    return f"line {sum(start <= place[0] for start in source.lines.starts)}" if place else "a statement"
+    return f"line {source.lines.number(place[0])}" if place else "a statement"
 
 
 class _Bench:
-    """Runs of `stratbench` with the modules of a task. Its files are in the folder."""
+    """Runs of `stratbench` with the modules of a task. Its files are in the folder.
+
+    Modules are loaded without explanations, since to explain them takes longer than to load them. What is refused is done once
+    more, with explanations.
+    """
 
     def __init__(self, room: str, task: Task) -> None:
         self.room, self.task = room, task
-        self.words = [task.program or os.environ.get("STRATBENCH") or "stratbench", "--library", "--explain"]
+        self.program = task.program or os.environ.get("STRATBENCH") or "stratbench"
+        self.words = ["--library"]
         for at, (name, text) in enumerate(task.modules):
             file = f"{room}/{at}.str"
             with open(file, "wb") as it:
                 it.write(text)
             self.words += ["--module", f"{name}={file}"]
+
+    def run(self, script: str, trees: Sequence[Term] = (), explain: bool = False) -> _Ran:
+        """Runs a script with trees `t0`, `t1` and so on."""
+        words = [self.program, *self.words, *["--explain"] * explain]
+        for at, tree in enumerate(trees):
+            file = f"{self.room}/{at}.aterm"
+            with open(file, "w") as it:
+                it.write(write(tree))
+            words += ["--tree", f"t{at}={file}"]
+        try:
+            ran = subprocess.run(words, input=script.encode(errors="surrogateescape"), capture_output=True)
+        except OSError as error:
+            raise NoProgram(f"{self.program}: {error.strerror}") from None
+        said = ran.stderr.decode(errors="replace")
+        for at, name in enumerate(self.task.files):
+            said = said.replace(f"{self.room}/{at}.str", name)
+        return _Ran(ran.returncode, ran.stdout.split(b"\n"), said)
 
     def previews(
         self, trees: list[Term], places: list[tuple[int, tuple[int, ...]]], strategies: Sequence[str] = ()
@@ -209,34 +321,32 @@ class _Bench:
         """Previews the task's strategy at these places, each in a tree by its number and at a path; or one for each place."""
         if not places:
             return []
-        words = list(self.words)
-        for at, tree in enumerate(trees):
-            file = f"{self.room}/{at}.aterm"
-            with open(file, "w") as it:
-                it.write(write(tree))
-            words += ["--tree", f"t{at}={file}"]
         given = strategies or [self.task.strategy] * len(places)
         commands = self.commands([f"t{tree} at {_written(path)}" for tree, path in places], given)
-        script = "".join(f"{it.sent}\n" for it in commands)
-        ran = subprocess.run(words, input=script.encode(errors="surrogateescape"), capture_output=True)
-        lines = ran.stdout.split(b"\n")
-        said = _explanations(ran.stderr.decode(errors="replace"))
-        if ran.returncode not in (0, 1) or len(lines) <= len(places):
-            why = ran.stderr.decode(errors="replace").strip() or f"{words[0]} ended with status {ran.returncode}"
-            raise _Left(re.sub(r"^stratbench: (/\S+: )?", "", why))
+        ran = self.run("".join(f"{it.sent}\n" for it in commands), trees)
+        if ran.status not in (0, 1) or len(ran.lines) <= len(places):
+            raise _Ended(re.sub(r"^stratbench: (/\S+: )?", "", ran.said.strip()) or f"{self.program} ended with status {ran.status}")
         found: list[dict[tuple[int, ...], Term] | _Refused] = []
         at = 0
-        for command in commands:
-            answer = lines[at].decode(errors="replace")
+        for tree, path in places:
+            answer = ran.lines[at].decode(errors="replace")
             at += 1
             if answer.startswith("refused "):
-                found.append(_Refused(int(answer.split()[1]), command.explained(said.get(command.line, answer))[0]))
+                found.append(_Refused(answer, trees[tree], path))
                 continue
             count = int(answer.split()[1])
-            found.append(dict(_replacement(line) for line in lines[at : at + count]))
+            found.append(dict(_replacement(line) for line in ran.lines[at : at + count]))
             at += count
         return found
 
+    def explained(self, refused: Sequence[_Refused]) -> tuple[list[str], tuple[str, ...]]:
+        """Returns the refusals with why, and the warnings of the modules."""
+        if not refused:
+            return [], ()
+        commands = self.commands([f"t{at} at {_written(it.path)}" for at, it in enumerate(refused)], [self.task.strategy] * len(refused))
+        ran = self.run("".join(f"{it.sent}\n" for it in commands), [it.tree for it in refused], explain=True)
+        said = _explanations(ran.said)
+        return [it.explained(said.get(it.line, str(one)))[0] for it, one in zip(commands, refused)], _warnings(ran.said)
 
     def commands(self, places: Sequence[str], strategies: Sequence[str], line: int = 1) -> list[Command]:
         """The previews of these strategies at these places, from this line of a script on."""
@@ -245,6 +355,14 @@ class _Bench:
             found.append(Command(f"preview {place} within {self.task.within} do ", Text(strategy), line, 0))
             line += found[-1].sent.count("\n") + 1
         return found
+
+
+class _Ran(NamedTuple):
+    """A run of the program: its status, the lines of its answers, and what it said."""
+
+    status: int
+    lines: list[bytes]
+    said: str
 
 
 def _written(path: Iterable[int]) -> str:
@@ -274,32 +392,23 @@ def _explanations(said: str) -> dict[int, str]:
     return found
 
 
-def check_texts(task: Task, files: Sequence[str]) -> str:
-    """Returns what is wrong with the modules, or with the strategy whatever its tree is; nothing where nothing is."""
+# The warnings of modules in what was said.
+def _warnings(said: str) -> tuple[str, ...]:
+    return tuple(re.findall(r"^stratbench: .*: warning: .*$", said, re.MULTILINE))
+
+
+def check_texts(task: Task) -> tuple[str, tuple[str, ...]]:
+    """Returns what is wrong with the modules, or with the strategy whatever its tree is; nothing where nothing is. And their warnings."""
     with tempfile.TemporaryDirectory(prefix="stratbench-") as room:
         bench = _Bench(room, task)
-        words, at = list(bench.words), 0
-        for place, word in enumerate(words):
-            # its own files, so that they are named
-            if place and words[place - 1] == "--module":
-                words[place] = f"{word.partition('=')[0]}={files[at]}"
-                at += 1
         [command] = bench.commands(["t"], [task.strategy], line=2)
-        script = f"tree t Module([],[])\n{command.sent}\n"
-        try:
-            ran = subprocess.run(words, input=script.encode(errors="surrogateescape"), capture_output=True)
-        except OSError as error:
-            return f"{words[0]}: {error.strerror}"
-    answers = ran.stdout.decode(errors="replace").splitlines()
-    said = ran.stderr.decode(errors="replace")
-    warnings = re.findall(r"^stratbench: .*: warning: .*$", said, re.MULTILINE)
-    for warning in warnings:
-        print(warning, file=sys.stderr)
-    if len(answers) < 2:
-        return said.strip() or f"{words[0]} ended with status {ran.returncode}"
-    if answers[1].startswith("refused ") and int(answers[1].split()[1]) in _OF_TEXTS:
-        return "--do: " + command.explained(_explanations(said).get(command.line, answers[1]))[0]
-    return ""
+        ran = bench.run(f"tree t Module([],[])\n{command.sent}\n", explain=True)
+    if len(ran.lines) < 3:
+        return ran.said.strip() or f"{bench.program} ended with status {ran.status}", ()
+    answer = ran.lines[1].decode(errors="replace")
+    if answer.startswith("refused ") and int(answer.split()[1]) in _OF_TEXTS:
+        return "--do: " + command.explained(_explanations(ran.said).get(command.line, answer))[0], _warnings(ran.said)
+    return "", _warnings(ran.said)
 
 
 class WriteFault(Exception):
@@ -402,6 +511,7 @@ def _arguments(words: Sequence[str] | None) -> argparse.Namespace:
     parser.add_argument("--modules", action="append", default=[], metavar="FOLDER", help="load the modules of a folder, as strategies")
     parser.add_argument("--do", required=True, metavar="STRATEGY", help="the strategy that is applied to each file's tree")
     parser.add_argument("--within", type=int, default=MOST_STEPS, metavar="K", help="the most steps that it may take")
+    parser.add_argument("--keep-comments", action="store_true", help="leave places as they are where a comment would be lost")
     where = parser.add_mutually_exclusive_group()
     where.add_argument("--jobs", type=int, default=1, metavar="N", help="do the files in N processes side by side")
     where.add_argument("--cluster", metavar="ADDRESS", help="do the files on the workers of the Dask cluster with this scheduler")
@@ -437,16 +547,25 @@ def _folder(folder: str) -> list[str]:
     return [f"{name}={folder}/{name}.str" for name in ordered]
 
 
-def _task(given: argparse.Namespace) -> tuple[Task, list[str]]:
+def _task(given: argparse.Namespace) -> Task:
     modules, files = [], []
-    for word in [*(it for folder in given.modules for it in _folder(folder)), *given.module]:
+    words: list[str] = []
+    for folder in given.modules:
+        try:
+            words += _folder(folder)
+        except OSError as error:
+            raise ValueError(f"--modules {folder}: {error.strerror}") from None
+    for word in [*words, *given.module]:
         name, equals, file = word.partition("=")
         if not equals:
             raise ValueError(f"--module: no NAME=FILE: {word}")
-        with open(file, "rb") as it:
-            modules.append((name, it.read()))
+        try:
+            with open(file, "rb") as it:
+                modules.append((name, it.read()))
+        except OSError as error:
+            raise ValueError(f"--module {word}: {error.strerror}") from None
         files.append(file)
-    return Task(tuple(modules), given.do, given.within, given.program), files
+    return Task(tuple(modules), given.do, given.within, given.program, tuple(files), given.keep_comments)
 
 
 # The files with their contents, and how many can't be read.
@@ -467,31 +586,44 @@ def main(words: Sequence[str] | None = None) -> int:
     """Runs the command, and returns its status."""
     given = _arguments(words)
     try:
-        task, files = _task(given)
-        fault = check_texts(task, files)
-    except (OSError, ValueError) as error:
-        fault = str(error)
-    if fault:
-        print(fault, file=sys.stderr)
+        task = _task(given)
+    except ValueError as error:
+        print(error, file=sys.stderr)
         return 2
     work, left = _read(_files(given.files))
     writes: list[tuple[str, bytes, bytes]] = []
-    faults = False
+    fault, checked = "", False
+    said: set[str] = set()
     try:
         for (name, before), outcome in zip(work, _outcomes(work, task, given.jobs, given.cluster)):
+            if outcome.of_texts and not checked:
+                checked = True
+                wrong, warnings = check_texts(task)
+                if wrong:
+                    print(*warnings, wrong, sep="\n", file=sys.stderr)
+                    return 2
             sys.stdout.buffer.write(outcome.diff)
             sys.stdout.buffer.flush()
+            for it in outcome.said:
+                # the warnings of a module once
+                if it not in said:
+                    print(it, file=sys.stderr)
+                    said.add(it)
             if outcome.left:
                 print(outcome.left, file=sys.stderr)
                 left += 1
-                faults = faults or outcome.fault
+                fault = fault or (outcome.fault and f"{name}: the result {outcome.fault}")
             elif outcome.contents is not None:
                 writes.append((name, before, outcome.contents))
-        if given.write and faults:
-            print("nothing was written, since a result is no program", file=sys.stderr)
+        if not left and not writes and not given.check:
+            # nothing was done: a warning may say why
+            for warning in check_texts(task)[1]:
+                print(warning, file=sys.stderr)
+        if given.write and fault:
+            print(f"nothing was written: {fault}", file=sys.stderr)
         elif given.write:
             write_all(writes)
-    except Unreachable as error:
+    except (Unreachable, NoProgram) as error:
         print(error, file=sys.stderr)
         return 2
     except Lost as error:

@@ -29,7 +29,9 @@ Head = Union[int, str, bytes]
 
 
 class NoTerm(ValueError):
-    """A text that spells no term, or a term that isn't what was asked for."""
+    """A text that spells no term, or a term that isn't what was asked for. `place` is where that is in a source, if it is known."""
+
+    place: tuple[int, int] | None = None
 
 
 class Term(NamedTuple):

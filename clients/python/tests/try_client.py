@@ -221,7 +221,7 @@ def stops():
 
 def tests(top, everything):
     # those of the other modules are run by tools/examples
-    for name in ("places", "parts", "shell.lines", "shell.view"):
+    for name in ("places", "parts", "shell.completion", "shell.lines", "shell.syntax", "shell.view"):
         found = doctest.testmod(importlib.import_module(f"stratbench.{name}"))
         yield f"the examples of {name}", "" if found.attempted and not found.failed else f"{found}"
     yield from explained()

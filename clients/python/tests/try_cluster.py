@@ -15,11 +15,9 @@ import tempfile
 import time
 import zlib
 
+from packages import interpreter
 from stratbench import cluster
 from try_commands import Room, wanted
-
-DEBIAN = "/usr/bin/python3"
-INSTALLS = [["apt-get", "update"], ["apt-get", "install", "--yes", "--no-install-recommends", "python3-distributed"]]
 
 # It changes what it made before, so a file that is changed twice shows.
 RULES = """module next
@@ -34,25 +32,6 @@ if [ -n "$ENDS" ] && mkdir "$BEGUN.ended" 2>/dev/null; then kill -9 $PPID; fi
 exec "$REAL" "$@"
 """
 COUNT = 40
-
-
-def interpreter():
-    """An interpreter that has `distributed`, or nothing."""
-    for program in (sys.executable, DEBIAN):
-        if os.path.exists(program) and subprocess.run([program, "-c", "import distributed"], capture_output=True).returncode == 0:
-            return program
-    return None
-
-
-def installed():
-    """What kept Debian's package from being installed, or nothing."""
-    if os.geteuid() != 0 or shutil.which("apt-get") is None:
-        return "only root installs it, by apt-get"
-    for command in INSTALLS:
-        ran = subprocess.run(command, env={**os.environ, "DEBIAN_FRONTEND": "noninteractive"}, capture_output=True, text=True)
-        if ran.returncode != 0:
-            return ran.stderr
-    return ""
 
 
 class Workers:
@@ -140,10 +119,7 @@ def tests(top, everything):
     work = zlib.compress(pickle.dumps(((3, 0), b"", ("", ""), b"")))
     ran = subprocess.run([sys.executable, "-c", cluster._PROCESS], input=work, capture_output=True)
     yield "another version of Python", "" if ran.returncode == 1 and b", and not 3.0 as here" in ran.stderr else f"{ran.stderr}"
-    python = interpreter()
-    if python is None:
-        why = installed()
-        python = interpreter()
+    python, why = interpreter("distributed", "python3-distributed")
     if python is None:
         yield f"left out, since this machine lacks python3-distributed: {why}", "CI=true" if os.environ.get("CI") == "true" else ""
         return

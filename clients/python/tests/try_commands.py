@@ -69,9 +69,12 @@ def tests(top, everything):
         room.run("a.py", strategy="topdown(try(Odl))"), 2, "", "--do: refused 11 unknown Odl 0 0"
     )
     yield "a module that is none", module_fault(top)
-    yield "no such module", wanted(room.run("a.py", "--module", "x=none.str"), 2, "", "none.str")
     yield "no --do", "" if refactor_status(top, ["a.py"]) == 2 else "another status"
     yield from writing(top)
+    yield from comments(top)
+    yield from encodings(top)
+    yield from messages(top)
+    yield from starts(top)
     yield from bounds(top)
     got = Room(top, a="x = x + 1\n").run("--modules", f"{top}/strategies", "a.py", strategy="bottomup(try(AugmentedNumber))", modules=())
     yield "--modules loads a folder", wanted(got, 0, "--- a.py\n+++ a.py\n@@ -1 +1 @@\n-x = x + 1\n+x += 1\n")
@@ -125,6 +128,73 @@ def writing(top):
     except refactor.WriteFault:
         yield "a file that changed meanwhile is left", "" if room.has("a.py") == A else "it was written"
     shutil.rmtree(room.folder)
+
+
+def comments(top):
+    text = "try:  # one\n    a()\n    # two\nexcept E:\n    pass  # three\n# four\ntry:\n    b()  # five\nexcept F:\n    pass\n"
+    room = Room(top, t=text)
+    flat = "topdown(try(\\ Try(b,[ExceptHandler(e,None(),[Pass()])],[],[]) -> With([withitem(e,None())],b,None()) \\))"
+    got = room.run("--write", "t.py", strategy=flat)
+    fault = wanted(got, 0, None, "t.py:1: comment lost: # one\nt.py:5: comment lost: # three\n")
+    new = "with E:\n    a()\n    # two\n# four\nwith F:\n    b()  # five\n"
+    yield "comments that are lost are named", fault or ("" if room.has("t.py") == new and got[2].count("\n") == 2 else f"{got} {room.has('t.py')}")
+    room.put("t.py", text)
+    got = room.run("--write", "--keep-comments", "t.py", strategy=flat)
+    fault = wanted(got, 0, None, "t.py:1: left, since a comment would be lost: # one\nt.py:5: left, since a comment would be lost: # three\n")
+    new = text.replace("try:\n    b()", "with F:\n    b()").replace("except F:\n    pass\n", "")
+    yield "--keep-comments leaves their places", fault or ("" if room.has("t.py") == new else room.has("t.py"))
+    room.put("t.py", "gone()  # gone\nold\n")
+    got = room.run("--write", "--keep-comments", "t.py", strategy="Module(\\ [_|ss] -> ss \\,id)")
+    yield "--keep-comments may leave all", wanted(got, 0, "", "t.py:1: left, since a comment would be lost: # gone\n")
+
+
+def encodings(top):
+    room = Room(top, a=A, mark=b"\xef\xbb\xbfold\n")
+    room.put("latin.py", b"# coding: latin-1\nold; wrong\n")
+    diff = "--- mark.py\n+++ mark.py\n@@ -1 +1 @@\n-\ufeffold\n+\ufeffnew\n"
+    yield "the diff of a file with a byte order mark", wanted(room.run("mark.py"), 0, diff)
+    room.put("rules.str", RULES.replace("not a name", "\\343\\201\\202"))
+    got = room.run("--write", "a.py", "latin.py")
+    fault = wanted(got, 3, HUNK, "nothing was written: latin.py: the result doesn't fit the encoding iso-8859-1\n")
+    yield "a name that the encoding doesn't have", fault or ("" if room.has("a.py") == A else "a file changed")
+    room.put("latin.py", b"# coding: latin-1\nx = f(1)\n")
+    got = room.run("latin.py", strategy='topdown(try(\\ Call(f,_,k) -> Call(f,[Constant("\\343\\201\\202\\303\\251",None())],k) \\))')
+    yield "a string that the encoding doesn't have is escaped", "" if "+x = f('\\u3042\ufffd')\n" in got[1] and got[0] == 0 else f"{got}"
+
+
+def messages(top):
+    room = Room(top, a=A, wrong="old\nold; wrong\n", call="a\nf(1,\n  g(2))\n")
+    got = room.run("wrong.py")
+    yield "a text that doesn't parse is shown", wanted(got, 3, "", "wrong.py: the result is no program: line 2 of the new text: invalid syntax: new; not a name\n")
+    got = room.run("call.py", strategy="topdown(try(?Constant(2,_); !Pass()))")
+    yield "where a term is no tree", wanted(got, 3, "", "call.py: the result is no program: line 3: no expr in the field args of Call: Pass\n")
+    got = room.run("call.py", strategy="Module(\\ [x,y] -> [[x,x],y] \\,id)")
+    yield "a list in a list", wanted(got, 3, "", "no stmt in the field body of Module, but a list, whose elements belong there: [Expr(")
+    yield "no such folder", wanted(room.run("a.py", "--modules", "none"), 2, "", "--modules none: No such file or directory\n")
+    yield "no such module", wanted(room.run("a.py", "--module", "x=none.str"), 2, "", "--module x=none.str: No such file or directory\n")
+    yield "no such program", wanted(room.run("a.py", "--program", "./none"), 2, "", "./none: No such file or directory\n")
+
+
+def starts(top):
+    """The program is started once for a few files, and explains only what is refused."""
+    room = Room(top, a=A, same="b\n", broken="def\n")
+    room.put("logs", f'#!/bin/sh\necho "$*" >>log\nexec {os.environ["STRATBENCH"]} "$@"\n')
+    os.chmod(f"{room.folder}/logs", 0o755)
+    for title, strategy, words in [
+        ("the program is started once", EVERY, ["run"]),
+        ("what is refused is explained", "sometd(Old)", ["run", "explain"]),
+        ("a wrong strategy is explained", "Odl", ["run", "explain"]),
+        ("where nothing is done, warnings are asked for", "try(fail)", ["run", "explain"]),
+    ]:
+        room.put("log", "")
+        room.run("--program", "./logs", "a.py", "same.py", strategy=strategy)
+        got = ["explain" if "--explain" in it else "run" for it in room.has("log").splitlines()]
+        yield title, "" if got == words else f"{got}"
+    room.put("rules.str", "module used\nrules\n  R : x -> y\n")
+    got = room.run("a.py", strategy="topdown(try(R))")
+    yield "where nothing is done, the warnings are shown", wanted(got, 0, "", "stratbench: rules.str: warning: in `R`, line 3, column 12: `y`")
+    got = room.run("a.py", "same.py", strategy="R")
+    yield "and where all fail, once", wanted(got, 3, "", "rules.str: warning: in `R`") or ("" if got[2].count("warning") == 1 else got[2])
 
 
 def half_written(top):

@@ -5,7 +5,7 @@ import tempfile
 from stratbench import python, refactor
 from stratbench.patch import patched
 
-MODULES = "python lists terms names python-names python-conditions python-statements python-strings".split()
+MODULES = "python lists terms names python-names python-imports python-conditions python-statements python-strings".split()
 
 CASES = [
     # conditions
@@ -26,6 +26,12 @@ CASES = [
     ("unused-imports", "import a, b.c, d as e\nfrom f import (\n    g,  # g\n    h as i,\n)\nimport j\nfrom __future__ import k\nfrom l import *\na; i\n", "import a\nfrom f import (\n    h as i,\n)\nfrom l import *\na; i\n"),
     ("unused-imports", "import a\nimport b  # b\nb\n", "import b  # b\nb\n"),
     ("unused-imports", "from a import b, c\n__all__ = ['b']\ndef f():\n    import d\n", "from a import b\n__all__ = ['b']\ndef f():\n    import d\n"),
+    # imports
+    ('add-import(|"re")', '"""doc"""\n\nimport os\n\nx\n', '"""doc"""\n\nimport os\nimport re\n\nx\n'),
+    ('add-import(|"re")', '"""doc"""\nfrom __future__ import a  # a\n\nx\n', '"""doc"""\nfrom __future__ import a  # a\nimport re\n\nx\n'),
+    ('add-import(|"re")', "#!/usr/bin/python\n# what\nx\n", "#!/usr/bin/python\n# what\nimport re\n\nx\n"),
+    ('add-import(|"re")', "import os, re\nx\n", "import os, re\nx\n"),
+    ('add-import-from(|"m","x")', "from m import (\n    y,  # y\n)\n", "from m import (\n    y, x,  # y\n)\n"),
     # strings
     ("bottomup(try(FormatToFString))", 'x = "%s is %r" % (a, b.c)\ny = \'100%%: %a{}\' % (1,)\nz = "%d" % (a,)\nw = "%s" % a\n', 'x = f"{a} is {b.c!r}"\ny = f\'100%: {1!a}{{}}\'\nz = "%d" % (a,)\nw = "%s" % a\n'),
     ("bottomup(try(FormatToFString))", 'x = "a\\n\u00e9%s" % (b,)\n', 'x = f"a\\n\u00e9{b}"\n'),

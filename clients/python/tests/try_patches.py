@@ -1,11 +1,11 @@
 """What a strategy makes of a source: the traps of patching, each as a source, a strategy and the source that is wanted."""
 
-import os
-import sys
+import re
 import tempfile
 
 from stratbench import python, refactor
-from stratbench.patch import Unwritable, patch, patched
+from stratbench.diff import unified
+from stratbench.patch import Unwritable, apply_edits, patch, patched
 from stratbench.terms import NoTerm, Term, put, read
 
 # Rules that the cases use.
@@ -49,7 +49,10 @@ rules
   From : ImportFrom("old",xs,n) -> ImportFrom("new.one",xs,n)
   Less : Import([alias("gone",_)|xs]) -> Import(xs)
   Less : ImportFrom(m,[alias("gone",_)|xs],n) -> ImportFrom(m,xs,n)
+  Flatter : Try(b,[ExceptHandler(e,None(),[Pass()])],[],[]) -> With([withitem(e,None())],b,None())
 strategies
+  lifted = ?[If(_,_,[_|_])|_]; [If(id,id,?es; ![])|?ss]; where(<conc-two(|ss)> es => others); [id|!others; lifted] <+ [id|lifted] <+ []
+  body(s) = Module(s,id)
   at-end(s) = [id|at-end(s)] <+ []; s
   lists(s) = bottomup(try(repeat-here(s)))
   repeat-here(s) = s; try(repeat-here(s)) <+ [id|repeat-here(s)]
@@ -89,9 +92,18 @@ CASES = [
     ("an operator that binds tighter", "x = a + b or c + d\n", "ops(?Add(); !Pow())", "x = a ** b or c ** d\n"),
     ("two places within one line", "f(old, 1, old)  # old\n", EVERY % '(Rename(|"old","new") <+ Grow)', "f(new, 100, new)  # old\n"),
     # f-strings
-    ("an f-string is replaced as a whole", 'x = f"{old} is {old!r:>{1}}"  # old\n', EVERY % 'Rename(|"old","new")', 'x = f"{new} is {new!r:>{1}}"  # old\n'),
+    ("in an f-string the fields that differ change", 'x = f"{old} is {old!r:>{1}}"  # old\n', EVERY % 'Rename(|"old","new")', 'x = f"{new} is {new!r:>{1}}"  # old\n'),
     ("an f-string in single quotes", "x = f'{old}' + rf'\\d{old}'\n", EVERY % 'Rename(|"old","new")', "x = f'{new}' + rf'\\d{new}'\n"),
     ("an f-string over lines", 'x = f"""\n  {old}\n"""\ny = old\n', EVERY % 'Rename(|"old","new")', 'x = f"""\n  {new}\n"""\ny = new\n'),
+    ("its other fields and literals stay", 'x = (f"{ a }\\n"  # one\n     "{old}"  # two\n     f\'\\N{BULLET}{f( a,  old )}\' rf"\\d{a:{old}}{{}}")\n', EVERY % 'Rename(|"old","new")', 'x = (f"{ a }\\n"  # one\n     "{old}"  # two\n     f\'\\N{BULLET}{f( a,  new )}\' rf"\\d{a:{new}}{{}}")\n'),
+    ("a field that shows its text", 'x = f"{a=} {old=}"\ny = f"{old = !s:>3}"\n', EVERY % 'Rename(|"old","new")', 'x = f"{a=} old={new!r}"\ny = f"old = {new!s:>3}"\n'),
+    ("expressions with signs of fields", "x = f'{a if old==b else c:>{old}} {(lambda x: old)} { {1: old}[1] } {old!=a}'\n", EVERY % 'Rename(|"old","new")', "x = f'{a if new==b else c:>{new}} {(lambda x: new)} { {1: new}[1] } {new!=a}'\n"),
+    ("the quotes of an f-string stay", "x = f'{key} {a}', f\"{key}\"\n", EVERY % '\\ Name("key",c) -> Subscript(Name("d",c),Constant("k",None()),c) \\', "x = f'{d[\"k\"]} {a}', f\"{d['k']}\"\n"),
+    ("what is in a field moves", 'x = f"{id(a .b)} is {id( [c ] )!r}"\n', EVERY % "Unwrap", 'x = f"{a .b} is {[c ]!r}"\n'),
+    ("a text between fields", 'x = f"\\t{a}old{a}" "\\t"\ny = f"{a}" \'\\t\' "old"\n', EVERY % '(Constant(?"old"; !"\'{}\\n",id) <+ Constant(?"old\\t"; !"new\\t",id) <+ Constant(?"\\told"; !"\\tnew",id))', 'x = f"\\t{a}\'{{}}\\n{a}" "\\t"\ny = f"{a}" \'\\t\' "new"\n'),
+    ("a field goes", 'x = f"{a!s} \\t {gone} {b}" "\\t"\n', EVERY % 'JoinedStr(rec x(\\ [FormattedValue(Name("gone",_),_,_)|xs] -> xs \\ <+ [id|x]))', 'x = f"{a!s} \\t  {b}" "\\t"\n'),
+    ("a conversion", 'x = f"{ a } {old}"\n', EVERY % 'FormattedValue(?Name("old",_),!114,id)', 'x = f"{ a } {old!r}"\n'),
+    ("an f-string in what is made anew", 'x = swap(f"{ a }" "b", c)\n', EVERY % "Swap", 'x = c * f"{ a }" "b"\n'),
     ("an f-string that stays", 'x = f"{a}", old\n', EVERY % 'Rename(|"old","new")', 'x = f"{a}", new\n'),
     # statements
     ("elif stays elif", "if a:\n    1\nelif old:  # why\n    2\nelse:\n    3\n", EVERY % 'Rename(|"old","new")', "if a:\n    1\nelif new:  # why\n    2\nelse:\n    3\n"),
@@ -108,7 +120,7 @@ CASES = [
     ("a list that becomes empty", "def f():\n    # why\n    gone()\nclass A:\n    gone()\nfor a in b:\n    c\nelse:\n    gone()\n", "lists(Drop)", "def f():\n    # why\n    pass\nclass A:\n    pass\nfor a in b:\n    c\n"),
     ("a try without its parts", "try:\n    gone()\nexcept A:\n    gone()\nelse:\n    gone()\nfinally:\n    gone()\n", "lists(Drop)", "try:\n    pass\nexcept A:\n    pass\n"),
     ("new statements on a line", "twice(); a\nif b: twice()\n", "once-each(Twice)", "twice()\ntwice(); a\nif b: twice(); twice()\n"),
-    ("new statements between lines", "class A:\n\n    def f(self):\n        # soon\n        late()  # late\n", "once-each(Before)", "class A:\n\n    def f(self):\n        # soon\n        early()\n        late()  # late\n"),
+    ("new statements between lines", "class A:\n\n    def f(self):\n        # soon\n        late()  # late\n", "once-each(Before)", "class A:\n\n    def f(self):\n        early()\n        # soon\n        late()  # late\n"),
     ("tabs", "if a:\n\tif b:\n\t\tchecked(c)\n\t\td\n", EVERY % "Compound", "if a:\n\tif b:\n\t\tif c:\n\t\t\tfail()\n\t\td\n"),
     ("two blanks", "if a:\n  checked(c)\n", EVERY % "Compound", "if a:\n  if c:\n    fail()\n"),
     ("continued lines", "x = old + \\\n    old\nassert old, \\\n  old\n", EVERY % 'Rename(|"old","new")', "x = new + \\\n    new\nassert new, \\\n  new\n"),
@@ -119,8 +131,32 @@ CASES = [
     ("a docstring comes", "def f():\n    return 1\n", EVERY % "Doc", 'def f():\n    """What it does.\n\nAnd how.\n"""\n    return 1\n'),
     ("a docstring stays", 'def f():\n    """One\n    two."""\n    gone()\n', "lists(Drop)", 'def f():\n    """One\n    two."""\n'),
     ("a function becomes another form", "class A:\n    @a  # a\n    def f(self, x=1):  # f\n        # b\n        return x  # x\n", EVERY % "Async", "class A:\n    @a\n    async def f(self, x=1):\n        # b\n        return x  # x\n"),
+    # comments
+    ("an elif that is lifted", "def f():\n    if a:\n        1\n    # two\n    # lines\n    elif b:\n        2\n    # else\n    else:\n        3\n        # end\n    # after\n    4\n", EVERY % "lifted", "def f():\n    if a:\n        1\n    # two\n    # lines\n    if b:\n        2\n    # else\n    3\n    # end\n    # after\n    4\n"),
+    ("comments at the end of a block are no elif's", "if a:\n    1\n    # end\nelif b:\n    2\n", "body(lifted)", "if a:\n    1\n    # end\nif b:\n    2\n"),
+    ("neighbours that move together", "def f():\n    import a\n    # why\n    import b  # b\n    return a\n", "body(\\ [FunctionDef(f,a,[i,j|b],d,r,t,p)] -> [i,j,FunctionDef(f,a,b,d,r,t,p)] \\)", "import a\n# why\nimport b  # b\n\ndef f():\n    return a\n"),
+    ("an elif that becomes a statement among others", "if a:\n    1\n# why\nelif b:\n    2\n    # end\n# after\nc\n", "body([If(id,id,\\ [x] -> [Pass(),x] \\)|id])", "if a:\n    1\nelse:\n    pass\n    # why\n    if b:\n        2\n        # end\n# after\nc\n"),
+    ("comments at the end of blocks that change places", "if not a:\n    b\n    # b's end\nelse:\n    c\n\n    # c's end\nd\n", EVERY % "Unless", "if a:\n    c\n\n    # c's end\nelse:\n    b\n    # b's end\nd\n"),
+    ("comments inside a statement that is kept", "try:\n    for x in y:\n        a()\n        # last\n    # end\nexcept E:\n    pass  # away\n# after\n", EVERY % "Flatter", "with E:\n    for x in y:\n        a()\n        # last\n    # end\n# after\n"),
+    ("the last statement of what is made anew keeps its comment", "try:\n    a\nexcept E:\n    pass\nexcept F:\n    b  # b\n    # end\nc\n", EVERY % "Try(id,\\ [_,x] -> [x] \\,id,id)", "try:\n    a\nexcept F:\n    b  # b\n    # end\nc\n"),
+    ("a semicolon and blanks at the end", "try: a()\nexcept E: pass; \nb\n", EVERY % "Flatter", "with E:\n    a()\nb\n"),
+    ("a new else after a comment", "if a:\n    b\n    # end\nc\n", "body([Else|id])", "if a:\n    b\n    # end\nelse:\n    other\nc\n"),
+    ("a new statement after a comment", "if a:\n    b\n    # end\n# c\nc\n", "body(\\ [x,y] -> [x,Pass(),y] \\)", "if a:\n    b\n    # end\npass\n# c\nc\n"),
+    ("a comment in the first lines is about the file", "#!/usr/bin/python\n# what\na\nb\n", "body(\\ [x,y] -> [y,x] \\)", "#!/usr/bin/python\n# what\nb\na\n"),
+    ("no comment but the end of a string", "x = \'\'\'\n# a\'\'\'\ngone()\nb\n", "body(\\ [x,y,z] -> [x,z,y] \\)", "x = \'\'\'\n# a\'\'\'\nb\ngone()\n"),
+    ("comments between statements that another takes the place of", "a\n\n# part\n\nb\n\n# other\n\nc\n", "body(\\ [_,_,z] -> [Pass(),z] \\)", "pass\n\n# part\n\n# other\n\nc\n"),
+    ("comments between statements that move to another block", "if a:\n    p\n\n    # q's\n\n    q\nelif b:\n    r\nelse:\n    s\n", "body([\\ If(a,x,[y]) -> If(a,[y],x) \\])", "if a:\n    if b:\n        r\n    else:\n        s\nelse:\n    p\n\n    # q's\n\n    q\n"),
+    # blank lines
+    ("moves in a block and of it", "class A:\n    def f(self): pass\n\n    def g(self): pass\n\n\nclass B: pass\n", "body([ClassDef(id,id,id,\\ [x,y] -> [y,x] \\,id,id),id]; \\ [x,y] -> [y,x] \\)", "class B: pass\n\n\nclass A:\n    def g(self): pass\n\n    def f(self): pass\n"),
+    ("functions that move", "import a\n\n\n# f\ndef f():\n    pass\n\n\ndef g():\n    pass\n    # end\n\n\nx = 1\n", "body(\\ [a,b,c,d] -> [a,c,b,d] \\)", "import a\n\n\ndef g():\n    pass\n    # end\n\n\n# f\ndef f():\n    pass\n\n\nx = 1\n"),
+    ("a method that takes another place", "class A:\n    x = 1\n\n    def f(self): pass\n\n    def g(self):\n        pass\n\n\ny\n", EVERY % "ClassDef(id,id,id,\\ [x,f,g] -> [g,f,x] \\,id,id)", "class A:\n    def g(self):\n        pass\n\n    def f(self): pass\n\n    x = 1\n\n\ny\n"),
+    ("statements that go leave no blank lines", "a\n\ngone()\n\ngone()\n\nb\n\ngone()\n", "body(rec x([Expr(Call(Name(?\"gone\",id),id,id))|id]; \\ [_|ss] -> ss \\; x <+ [id|x] <+ []))", "a\n\nb\n"),
+    ("a new function", "import a\n\ndef f(): pass\n\ndef g(): pass\n", "body([id,id|\\ ss -> [FunctionDef(\"h\",arguments([],[],None(),[],[],None(),[]),[Pass()],[],None(),None(),[])|ss] \\])", "import a\n\ndef f(): pass\n\ndef h():\n    pass\n\ndef g(): pass\n"),
+    ("a new import next to the others", "\"\"\"doc\"\"\"\n\n# a\nimport a\n\nx\n", "body([id|\\ ss -> [Import([alias(\"z\",None())])|ss] \\])", "\"\"\"doc\"\"\"\n\nimport z\n# a\nimport a\n\nx\n"),
+    ("a new import after a docstring", "\"\"\"doc\"\"\"\n\nx\n", "body([id|\\ ss -> [Import([alias(\"z\",None())])|ss] \\])", "\"\"\"doc\"\"\"\n\nimport z\n\nx\n"),
     # decorators
     ("decorators stand before the function", "class A:\n    @one  # 1\n    @two(a,\n         b)\n    def f(self): pass\n", EVERY % "Rotate", "class A:\n    @two(a,\n         b)\n    @one  # 1\n    def f(self): pass\n"),
+    ("decorators with comments", "class A:\n    # f\n    @one  # 1\n    # two\n    @two  # 2\n    def f(): pass\n", EVERY % "Rotate", "class A:\n    # f\n    # two\n    @two  # 2\n    @one  # 1\n    def f(): pass\n"),
     ("decorators go", "@one\n# why\n@two\ndef f(): pass\n", EVERY % "Bare", "# why\ndef f(): pass\n"),
     ("a decorator comes", "class A:\n    # f\n    def f(self): pass\n", EVERY % "Decorate", "class A:\n    # f\n    @new\n    def f(self): pass\n"),
     ("a decorated statement goes and comes", "a\n@one\ndef f(): pass\nb\n", "Module(\\ [x,y,z] -> [y,x,z] \\,id)", "@one\ndef f(): pass\na\nb\n"),
@@ -214,6 +250,44 @@ def wrong():
             yield f"{text} isn't written", "" if type(error) is kind else f"{error!r}"
 
 
+def applied(text, diff):
+    """The text with a diff, as `patch` applies it, and how many lines the diff takes away and adds."""
+    lines, out, at, changed = re.findall(rb"[^\n]*\n|[^\n]+", text), [], 0, 0
+    for line in re.findall(rb"[^\n]*\n", diff.replace(b"\n\\ No newline at end of file\n", b"\0\n"))[2:]:
+        found = re.match(rb"@@ -(\d+)(,0)?", line)
+        if found:
+            first = int(found[1]) - (not found[2])
+            out, at = out + lines[at:first], first
+            continue
+        own = line[1:-2] if line.endswith(b"\0\n") else line[1:]
+        changed += line[:1] != b" "
+        if line[:1] != b"+":
+            assert lines[at] == own, f"{lines[at]!r} isn't {own!r}"
+            at += 1
+        if line[:1] != b"-":
+            out.append(own)
+    return b"".join(out + lines[at:]), changed
+
+
+def fewest(one, two):
+    """The fewest lines that lead from one text to the other."""
+    row = list(range(len(two) + 1))
+    for line in one:
+        before, row = row, [row[0] + 1]
+        for at, other in enumerate(two):
+            row.append(before[at] if line == other else min(before[at + 1], row[at]) + 1)
+    return row[-1]
+
+
+def diffs(source, new):
+    """What is wrong with the diff of a source, or nothing."""
+    edits = patch(source, new)
+    after = apply_edits(source.text, 0, len(source.text), edits)
+    got, changed = applied(source.text, unified("a.py", source.text, edits))
+    least = fewest(source.text.splitlines(True), after.splitlines(True))
+    return ("" if got == after else f"the diff gives {got!r}") or ("" if changed == least else f"{changed} lines differ in the diff, and {least} do")
+
+
 def tests(top, everything):
     for title, source, result, wanted in cases(top):
         if not isinstance(result, dict):
@@ -225,5 +299,6 @@ def tests(top, everything):
         except Unwritable as error:
             got = None if wanted is None else f"unwritable: {error}"
         yield title, "" if got == wanted else f"{got}\nwanted\n{wanted}"
+        yield f"the diff: {title}", diffs(source, new)
     yield from files()
     yield from wrong()

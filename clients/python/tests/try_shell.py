@@ -1,19 +1,15 @@
-"""The shell, in a pseudo-terminal, typed at as people do: with `readline`, and with `prompt_toolkit` where a Python here has it."""
+"""The shell, in a pseudo-terminal: with `readline`, without, and with `prompt_toolkit` where a Python here has it."""
 
-import fcntl
 import os
-import pty
 import re
-import select
-import shutil
 import signal
 import subprocess
 import sys
 import tempfile
-import termios
-import time
 
-DEBIAN = "/usr/bin/python3"
+from packages import interpreter
+from terminals import Terminal, Unlike
+
 RULES = """module arith
 signature constructors
   Plus : e * e -> e   Zero : e   A : e   B : e
@@ -26,98 +22,6 @@ FILES = {
     "one.str": "module uses\nstrategies first = all(second)\n",
     "two.str": "module has\nstrategies second = !1\n",
 }
-CONTROL = re.compile(r"\x1b(?:\[[0-9;?]*[a-zA-Z]|[=>78]|\][^\x07]*\x07)|[\x00\x07\x08]")
-
-
-class Unlike(Exception):
-    """What is on the screen isn't what was wanted."""
-
-
-class Terminal:
-    """A shell at a terminal, in a folder of its own."""
-
-    def __init__(self, top, python, plain, folder, *words):
-        self.seen, self.at, self.plain = "", 0, plain
-        environment = {
-            **os.environ, "PYTHONPATH": f"{top}/clients/python", "XDG_STATE_HOME": f"{folder}/state", "PROMPT_TOOLKIT_NO_CPR": "1",
-            "TERM": "xterm", "COLUMNS": "100", "LINES": "40", "EDITOR": "sed -i 's/B()/f(B())/'", **({"STRATBENCH_PLAIN": "1"} if plain else {}),
-        }  # fmt: skip
-        self.file, end = pty.openpty()
-        self.ran = subprocess.Popen(
-            [python, "-m", "stratbench", *words], cwd=folder, env=environment, stdin=end, stdout=end, stderr=end, start_new_session=True,
-            preexec_fn=lambda: fcntl.ioctl(0, termios.TIOCSCTTY, 0),
-        )  # fmt: skip
-        os.close(end)
-
-    def type(self, text):
-        """Types a text. A line ends with Enter."""
-        for at in range(0, len(text), 1_000):
-            os.write(self.file, text[at : at + 1_000].replace("\n", "\r").encode())
-            self._take(0.002)
-
-    def paste(self, text):
-        """Pastes a text."""
-        self.type(text if self.plain else f"\x1b[200~{text}\x1b[201~")
-
-    def _take(self, seconds):
-        if not select.select([self.file], [], [], seconds)[0]:
-            return False
-        try:
-            more = os.read(self.file, 1 << 16)
-        except OSError:
-            return False
-        self.seen += more.decode(errors="replace")
-        return bool(more)
-
-    def see(self, wanted, seconds=10):
-        """Waits until the screen shows what matches, after what was seen last."""
-        end = time.monotonic() + seconds
-        while True:
-            text = CONTROL.sub("", self.seen[self.at :]).replace("\r", "")
-            found = re.search(wanted, text, re.MULTILINE)
-            if found:
-                return found
-            if time.monotonic() > end or self.ran.poll() is not None and not self._take(0):
-                raise Unlike(f"{text[-1500:]!r} has no {wanted!r}")
-            self._take(0.05)
-
-    def do(self, line, wanted):
-        """Types a line, and waits for what it gives, and for the prompt after it."""
-        self.at = len(self.seen)
-        (self.type if len(line) < 200 else self.paste)(line)
-        self.type("\n")
-        return self.see(rf"(?s:{wanted}.*)\n>>? ?$")
-
-    def cancel(self):
-        """Types Ctrl-C. Python misses one that comes while it shows the key before, so it's typed again as a person would."""
-        for _ in range(5):
-            time.sleep(0.1)
-            self.type("\x03")
-            try:
-                self.see(r"\n> ?$", seconds=2)
-                return
-            except Unlike:
-                pass
-        raise Unlike(f"Ctrl-C cancels nothing: {self.seen[self.at :]!r}")
-
-    def program(self):
-        """The process of the program."""
-        with open(f"/proc/{self.ran.pid}/task/{self.ran.pid}/children") as it:
-            return int(it.read().split()[0])
-
-    def end(self):
-        self.at = len(self.seen)
-        self.type("\x04")
-        for _ in range(200):
-            if self.ran.poll() is not None:
-                break
-            self._take(0.05)
-        else:
-            self.ran.kill()
-        os.close(self.file)
-        return self.ran.wait()
-
-
 def first(it, folder):
     """A session from the first command on, with a kill and a stop."""
     it.see(r"^> ?$")
@@ -137,23 +41,27 @@ def first(it, folder):
     it.do(":history", r"^   1   tree t .*\n   2   :load arith.str\n   3   apply t do innermost\(Unit\)\n   4   :reload arith.str\n   5   apply t do Gone")
     # the program is ended by the system, and stopped in a run
     os.kill(it.program(), signal.SIGKILL)
-    it.do("show t", "^the session has ended with status -9: the session was made again, as it was before this command")
+    it.do("show t", "^the program was ended by SIGKILL: the session was made again, as it was before this command")
     it.do("show t", "^B$")
     os.kill(it.program(), signal.SIGSTOP)
     it.at = len(it.seen)
-    it.type("apply t do !c\n")
-    time.sleep(0.2)
-    it.type("\x03")
-    it.see(r"^stopped: the session was made again, as it was before this command\n> ?$")
+    it.type("apply t do !1\n")
+    it.see(r"do !1\n")
+    it.interrupt(r"^stopped: the session was made again, as it was before this command\n> ?$")
     it.do("show t", "^B$")
     it.do(":undo 2", "^ok")
     it.do("show t", r"^Plus\(Zero,Plus\(Zero,A\)\)")
     it.do(":history", r"^   2   :load arith.str\n   3 u apply t do innermost\(Unit\)")
     it.do("redo 3", "^ok")
     it.do("show t", "^B$")
-    it.do("undo 6", "^5 of your steps can be undone")
+    it.do("undo 6", "^5 of your steps can be undone; `:undo -1` takes back the start of the session, too")
     it.do("undo 5", "^ok")
     it.do("undo", "^0 of your steps can be undone")
+    it.do(":undo", "^there is no step of yours to undo")
+    it.do(":undo -2", "^there are the steps -1 to 5")
+    it.do(":undo -1", "^ok")
+    it.do("modules", "^modules$")
+    it.do(":history", r"^  -1   nothing\n   0 u the start of the session\n   1 u tree t")
     it.do(":undo 5", "^ok")
     it.do(":save t out.aterm", "^2 bytes")
     it.do(":load new=out.aterm", "^tree new")
@@ -182,7 +90,7 @@ def second(it, folder):
     it.at = len(it.seen)
     it.type("module m\n\n")
     it.see("^module m: there is no text, and nothing was done\n> ?$")
-    it.do("preview t do all(!1)", r"^changes 2 steps \d+\n/0\n  f\(B\)\n  => 1\n/1\n  f\(B\)\n  => 1$")
+    it.do("preview t do all(!1)", r"^changes 2 steps \d+\n/0 in \[_,f\(..\)\]\n  - f\(B\)\n  \+ 1\n/1 in \[f\(..\),_\]\n  - f\(B\)\n  \+ 1$")
     it.do("begin", "^ok")
     it.see(r"^>> ?$")
     it.do("drop u", "^ok")
@@ -194,17 +102,17 @@ def second(it, folder):
     it.do(":run script", r"^> tree s f\(\n  a\)\nok\n> show s\nf\(a\)")
     it.do(":load one.str two.str", "^module uses\nmodule has")
     it.do("apply t do first", "^ok")
-    it.do(":diff", r"^tree t\n/0\n  f\(B\)\n  => 1\n/1\n")
+    it.do(":diff", r"^tree t\n/0 in \[_,1\]\n  - f\(B\)\n  \+ 1\n/1 in \[1,_\]\n")
     it.do(":edit m", "^module m")
     it.do(":diff", r"^-.*B\(\)\)\n\+.*f\(B\(\)\)\)")
     it.do(":none", "^there is no :none")
-    it.do(":load", "^:load FILE")
+    it.do(":load", "^the form is `:load FILE..`")
     it.do(":load none.str", "none.str")
     it.do(":help", "^:reload")
     # completion
     it.at = len(it.seen)
-    it.type("show lo\t")
-    it.see("show long")
+    it.type("show lo")
+    it.complete()
     it.type(" at /7\n")
     it.see(r"\n7\n> ?$")
 
@@ -217,15 +125,123 @@ def third(it, folder):
     it.see("show long at /7")
     it.type("\n")
     it.see(r"^refused 5 notree(?s:.*)\n> ?$")
+    # a module over lines is one entry
+    it.at = len(it.seen)
+    it.type("module m\nstrategies\nf = id // nothing\n")
+    it.see(r"nothing\n\. *$")
+    it.type("\n")
+    it.see(r"^ok\n> ?$")
+    it.do("unload m", "^ok")
+    it.at = len(it.seen)
+    it.type("\x1b[A\x1b[A")
+    it.see(r"nothing")
+    it.type("\n")
+    it.see(r"^ok\n> ?$")
+    it.do("text m", r"^strategies\s+f = id")
+    # searched
+    it.at = len(it.seen)
+    it.type("\x12at /7")
+    it.see("show long at /7")
+    it.cancel()
 
 
-def screens(top, python, plain, name):
+def fourth(it, folder):
+    """What is completed, and what is in colour."""
+    it.see(r"^> ?$")
+    it.do("tree tea f(a,g(b))", "^ok")
+    it.do(":l arith.str", "^module arith")
+    it.do("apply tea at /1 do !7", "^ok")
+    it.do("show tea", r"^f\(a,7\)")
+    raw(it, "f(a,\x1b[32m7\x1b[m)")
+    it.do("show tea at /1", "^7")
+    raw(it, "\x1b[32m7\x1b[m")
+    it.do("undo", "^ok")
+    it.do("show tea", r"^f\(a,g\(b\)\)")
+    it.do("preview tea at /1 do all(!7)", r"^changes 1 steps 2\n/1/0 in f\(a,g\(_\)\)\n  - b\n  \+ 7$")
+    raw(it, "\x1b[31m-\x1b[m \x1b[31mb\x1b[m")
+    for typed, wanted in (
+        ("sho\t te\t at /1/\t", "^b$"),
+        ("appl\t tea a\t /0 do \\ x -> Zer\t() \\", "^ok$"),
+        ("show tea at /0", "^Zero$"),
+        ("apply tea do all(tr\tUn\t))", "^ok$"),
+        ("put tea /\t0 Plus(Zero,A)", "^ok$"),
+        ("tree u Pl\tZero,A)", "^ok$"),
+        ("dro\t u\t", "^ok$"),
+        ("text ar\t", "^module arith$"),
+        (":ru\t sc\t", "^> tree s"),
+        (":reload ar\t", "^module arith$"),
+        (":sa\t tea o\ter", "^[0-9]* bytes$"),
+    ):
+        it.at = len(it.seen)
+        for key in typed:
+            it.complete() if key == "\t" else it.type(key)
+        it.type("\n")
+        it.see(rf"(?s:{wanted}.*)\n>>? ?$")
+    it.at = len(it.seen)
+    it.type("apply tea do once")
+    it.complete()
+    it.complete()
+    it.see(r"oncebu\(s\)(?s:.*)oncetd\(s\)")
+    it.cancel()
+
+
+def raw(it, wanted):
+    if wanted not in it.seen[it.at :]:
+        raise Unlike(f"{it.seen[it.at :]!r} has no {wanted!r}")
+
+
+def fifth(it, folder):
+    """What is pasted, edited, and asked for by mistake."""
+    it.see(r"^> ?$")
+    it.at = len(it.seen)
+    it.paste("# a script\nmodule p\n  signature constructors A : t  B : t\n\n  rules\n    P : A() -> B()\n")
+    it.paste("tree q [A,\n A]\napply q do map(P)\nshow q")
+    it.see("show q")
+    it.type("\n")
+    it.see(r"^> tree q \[A,\n A\]\nok\n> apply q do map\(P\)\nok\n> show q\n\[B,B\]\n> ?$")
+    for word, wanted in (
+        ("  :depth 12", ""),
+        ("help", "^the shell's own commands begin with a colon: `:help`"),
+        ("exit", "^`:quit` or Ctrl-D ends"),
+        (":h", "^:h may be :history or :help"),
+        (":save q", "^the form is `:save NAME FILE`"),
+        (":undo x", "^x is no step"),
+        (":depth x", "^x is no number of levels"),
+        (":load 'a", "^No closing quotation"),
+        (":reload", "^no file was loaded"),
+        (":reload p", "^no file of the name p was loaded"),
+        (":edit q", "^nothing has changed"),
+    ):
+        it.do(word, wanted)
+    # a text that is refused isn't lost
+    it.do("module p signature constructors A : t  B : t  f : t -> t  rules P : A() -> B()", "^ok")
+    it.do(":edit p", "^module p")
+    it.do("text p", r"P : A\(\) -> f\(B\(\)\)")
+    it.do("module p signature constructors A : t  B : t rules P : A() -> B()", "^ok")
+    it.do(":edit p", r"^`:edit p` goes on with what you wrote\nrefused 11 undeclared f 1 0")
+    it.do(":edit p", r"^`:edit p` goes on with what you wrote\nrefused 11 undeclared f 1 0(?s:.*)f\(f\(B\(\)\)\)")
+    # the file of a module is edited, not a copy of it
+    it.do(":load arith.str two.str", "^module arith\nmodule has")
+    with open(f"{folder}/two.str", "a") as file:
+        file.write("third = !Q()\n")
+    it.do(":reload two", "^two.str: refused 11 undeclared Q 0 0")
+    it.do(":load script", "^script: refused 7 term")
+    it.do(":save q ~/q.aterm", "^6 bytes")
+    it.do(":load ~/q.aterm", "^tree q")
+
+
+SCENES = (first, second, third, fourth, fifth)
+
+
+def screens(top, python, scenes, name, hidden=(), **more):
+    """Plays scenes in a folder of their own, with some modules of Python hidden from the shell, and more in its environment."""
     with tempfile.TemporaryDirectory() as folder:
-        for scene in (first, second, third):
+        os.symlink(os.environ["STRATBENCH"], f"{folder}/program")
+        for scene in scenes:
             for file, text in FILES.items():
                 with open(f"{folder}/{file}", "w") as it:
                     it.write(text)
-            terminal = Terminal(top, python, plain, folder)
+            terminal = Terminal(top, python, folder, hidden, **more)
             try:
                 scene(terminal, folder)
                 fault = ""
@@ -238,19 +254,85 @@ def screens(top, python, plain, name):
 def piped(top):
     """Without a terminal there is no prompt."""
     environment = {**os.environ, "PYTHONPATH": f"{top}/clients/python"}
-    script = "tree t f(\n a)\nshow t\nshow u\n:quit\nshow t\n"
+    script = "tree t f(\n a)\nshow t\nmodule m\n  rules\n\n    R : x -> 1\nshow u\n:quit\nshow t\n"
     ran = subprocess.run([sys.executable, "-m", "stratbench"], env=environment, input=script, capture_output=True, text=True)
-    wanted = "ok\nf(a)\nrefused 5 notree: there is no tree `u`\n    there is `t`\n"
+    wanted = "ok\nf(a)\nok\nrefused 5 notree: there is no tree `u`\n    there is `t`\n"
     return "" if (ran.returncode, ran.stdout, ran.stderr) == (0, wanted, "") else f"{ran}"
+
+
+def replaced(it, folder):
+    """The program is gone for a while."""
+    it.see(r"^> ?$")
+    it.do("tree t f(a)", "^ok")
+    os.remove(f"{folder}/program")
+    os.kill(it.program(), signal.SIGKILL)
+    it.do("show t", "^the session couldn't be made again: ./program: No such file or directory\nthe next command tries it once more$")
+    os.symlink(os.environ["STRATBENCH"], f"{folder}/program")
+    it.do("show t", "^the program was ended by SIGKILL: the session was made again")
+    it.do("show t", r"^f\(a\)$")
+
+
+def in_prompt(it, folder):
+    """Texts that are edited where commands are typed."""
+    it.see(r"^> ?$")
+    it.do("module m strategies f = id", "^ok")
+    it.at = len(it.seen)
+    it.type(":edit m\n")
+    it.see("f = id$")
+    it.type("; id\x1b\n")
+    it.see(r"^ok\n> ?$")
+    it.do("text m", "f = id; id$")
+    it.do("tree t f(a,[b])", "^ok")
+    it.at = len(it.seen)
+    it.type(":edit t\n")
+    it.see(r"tree t f\(a,\[b\]\)$")
+    it.type("\x7f\x7f,c])\n")
+    it.see(r"^ok\n> ?$")
+    it.do("show t", r"^f\(a,\[b,c\]\)$")
+    # a line is put into a module that was typed before
+    it.at = len(it.seen)
+    it.type("module n\nrules\nA : 1 -> 2\nstrategies\ng = A\n\n")
+    it.see(r"^ok\n> ?$")
+    it.at = len(it.seen)
+    it.type("\x1b[A")
+    it.see("g = A")
+    it.type("\x1b[A\x1b[A\x1b[A\x1b[F\nB : 2 -> 3\x1b\n")
+    it.see(r"^ok\n> ?$")
+    it.do("text n", r"^rules\n    A : 1 -> 2\n    B : 2 -> 3\n  strategies\n    g = A$")
+
+
+def uncoloured(it, folder):
+    """No colours where they aren't wanted."""
+    it.see(r"^> ?$")
+    it.do("tree t f(a)", "^ok")
+    it.do("apply t do !1", "^ok")
+    it.do("show t", "^1")
+    if re.search("\x1b\\[[0-9;]*3[0-9]m", it.seen):
+        raise Unlike(f"{it.seen!r} has colours")
+
+
+def cut(it, folder):
+    """A line that the terminal cuts."""
+    it.see(r"^> ?$")
+    it.at = len(it.seen)
+    it.type(f"tree t {'a' * 5_000}\n")
+    it.see(r"^the terminal gives at most 4095 bytes of a line, and this one was cut: nothing was done\n> ?$")
+    it.do("trees", "^trees$")
 
 
 def tests(top, everything):
     yield "a script on standard input", piped(top)
-    ran = subprocess.run([sys.executable, "-m", "stratbench", "--program", "/none"], env={**os.environ, "PYTHONPATH": f"{top}/clients/python"}, capture_output=True, text=True)
+    environment = {**os.environ, "PYTHONPATH": f"{top}/clients/python"}
+    ran = subprocess.run([sys.executable, "-m", "stratbench", "--program", "/none"], env=environment, capture_output=True, text=True)
     yield "no program", "" if ran.returncode == 2 and "/none" in ran.stderr and not ran.stdout else f"{ran}"
-    yield from screens(top, sys.executable, True, "readline")
-    for python in dict.fromkeys((sys.executable, DEBIAN)):
-        if shutil.which(python) and subprocess.run([python, "-c", "import prompt_toolkit"], capture_output=True).returncode == 0:
-            yield from screens(top, python, False, "prompt_toolkit")
-            return
-    yield "prompt_toolkit: no Python here has it, so its part was left out", ""
+    yield from screens(top, sys.executable, SCENES, "readline", ("prompt_toolkit",))
+    yield from screens(top, sys.executable, (uncoloured,), "readline, as asked for", STRATBENCH_PLAIN="1", NO_COLOR="1")
+    yield from screens(top, sys.executable, (replaced,), "readline", ("prompt_toolkit",), STRATBENCH="./program")
+    yield from screens(top, sys.executable, (first, cut), "neither", ("prompt_toolkit", "readline"))
+    python, why = interpreter("prompt_toolkit", "python3-prompt-toolkit")
+    if python is None:
+        yield f"prompt_toolkit: left out, since this machine lacks it: {why}", ""
+        return
+    yield from screens(top, python, SCENES, f"prompt_toolkit of {python}")
+    yield from screens(top, python, (uncoloured,), f"prompt_toolkit of {python}", NO_COLOR="1")
+    yield from screens(top, python, (in_prompt,), f"prompt_toolkit of {python}", EDITOR="", VISUAL="")

@@ -15,10 +15,11 @@ from __future__ import annotations
 
 from ..python import Source, deep, from_term, parse, to_term
 from ..terms import NoTerm, Term
+from .comments import lost_comments
 from .edits import Cannot, Edit, Unwritable, apply_edits, same_tree
 from .statements import Patcher
 
-__all__ = ["Edit", "Unwritable", "apply_edits", "patch", "patched"]
+__all__ = ["Edit", "Unwritable", "apply_edits", "lost_comments", "patch", "patched"]
 
 
 def patch(source: Source, new: Term) -> list[Edit]:
@@ -32,8 +33,11 @@ def patch(source: Source, new: Term) -> list[Edit]:
             raise NoTerm("the tree is no Module")
         if patcher.new is patcher.old:
             return []
-        from_term(patcher.new)
-        why = "no text spells the new tree"
+        try:
+            from_term(patcher.new)
+        except NoTerm as error:
+            raise NoTerm(f"line {source.lines.number(error.place[0])}: {error}" if error.place else str(error)) from None
+        why = ""
         for plain in (False, True):
             patcher.plain = plain
             try:
@@ -44,8 +48,9 @@ def patch(source: Source, new: Term) -> list[Edit]:
             except (Cannot, NoTerm):
                 pass
             except SyntaxError as error:
-                why = f"the new text doesn't parse: {error}"
-        raise Unwritable(why)
+                line = (error.text or "").strip()
+                why = why or f"line {error.lineno} of the new text: {error.msg}{line and ': '}{line}"
+        raise Unwritable(why or "no text spells the new tree")
 
 
 def patched(source: Source, new: Term) -> bytes:

@@ -8,10 +8,11 @@ from abc import ABC, abstractmethod
 from bisect import bisect_left, bisect_right
 from collections.abc import Sequence
 from functools import cached_property
+from typing import Callable
 
 from ..python import CONSTRUCTORS, Source, position
 from ..terms import LIST, Term
-from .edits import DEFINITIONS, Edit, field_of, normal, span
+from .edits import DEFINITIONS, Cannot, Edit, field_of, normal, span
 from .tokens import Token, Tokens, inner_lines
 
 
@@ -37,8 +38,9 @@ class Base(ABC):
         self.new = self._shared(new, self.old)
         # whether changed statements are made anew as a whole
         self.plain = False
-        # the comments that go with statements to other places
+        # the comments that go with statements to other places: by the pass before, and so far by this one
         self.carried: set[int] = set()
+        self.carrying: set[int] = set()
         self.newline = b"\r\n" if b"\r\n" in self.text[: self._line_end(0)[1]] else b"\n"
         if self.newline == b"\n" and b"\n" not in self.text and b"\r" in self.text:
             self.newline = b"\r"
@@ -46,7 +48,7 @@ class Base(ABC):
     @cached_property
     def tokens(self) -> Tokens:
         """The tokens of the source, which are read only where something changed."""
-        return Tokens(self.source)
+        return Tokens(self.text, self.source.lines)
 
     # The new tree with the old nodes in the places where nothing changed, so that `is` compares them.
     def _shared(self, new: Term, candidate: Term | None) -> Term:
@@ -67,6 +69,15 @@ class Base(ABC):
         ):
             return candidate
         return normal(Term(new.head, children, new.annotations))
+
+    # Edits, or nothing where they can't be made. Then no comments go elsewhere by them.
+    def _tried(self, edits: Callable[[], list[Edit]]) -> list[Edit] | None:
+        before = set(self.carrying)
+        try:
+            return edits()
+        except Cannot:
+            self.carrying = before
+            return None
 
     def _origin(self, term: Term) -> Term | None:
         place = position(term)
@@ -151,18 +162,56 @@ class Base(ABC):
             return self.tokens.comments[follows]
         return None
 
-    # Where the comments on lines of their own right before a place begin, of all or of these.
-    def _leading_comments(self, place: int, some: set[int] | None) -> int:
+    # Where the comments right before a line begin that are as deep as it, of all or of these. Those from the first line of the
+    # file on are about the file.
+    def _leading_comments(self, place: int, some: set[int] | None = None) -> int:
         begin = place
         line = self._line_start(place)
+        indent = self._indent(place)
         while line > 0:
             above = self._line_start(line - 1)
-            text = self.text[above:line]
-            start = above + len(text) - len(text.lstrip(b" \t\f"))
-            if self.text[start : start + 1] != b"#" or (some is not None and start not in some):
-                break
+            start = above + len(self._indent(above))
+            if start not in self.tokens.comment_lines or self._indent(above) != indent or (some is not None and start not in some):
+                return begin
             begin, line = start, above
-        return begin
+        return place
+
+    # Where the comments end on the lines after that of a place, of all or of these: those deeper than an indentation, or as deep.
+    def _tail(self, place: int, indent: bytes, as_deep: bool, some: set[int] | None = None) -> int:
+        end, line = place, self._line_end(place)[1]
+        while line < len(self.text):
+            own = self._indent(line)
+            comment = self.tokens.comment_lines.get(line + len(own))
+            after = self._line_end(line)[1]
+            if comment is None:
+                if self.text[line:after].strip():
+                    break
+            elif not own.startswith(indent) or (own == indent and not as_deep) or (some is not None and comment.first not in some):
+                break
+            else:
+                end = comment.last
+            line = after
+        return end
+
+    # How many blank lines are before a line, and where they begin.
+    def _blanks_before(self, line: int) -> tuple[int, int]:
+        count = 0
+        while line > 0:
+            above = self._line_start(line - 1)
+            if self.text[above:line].strip(b" \t\r\n"):
+                break
+            count, line = count + 1, above
+        return count, line
+
+    # How many blank lines there are from a line on, and where each of them ends.
+    def _blanks_after(self, line: int) -> list[int]:
+        ends: list[int] = []
+        while line < len(self.text):
+            line, begin = self._line_end(line)[1], line
+            if self.text[begin:line].strip(b" \t\r\n"):
+                break
+            ends.append(line)
+        return ends
 
     # A text of statements with another indentation. Lines within strings stay.
     def _indented(self, text: bytes, old: bytes, new: bytes) -> bytes:

@@ -27,6 +27,7 @@ BLOCKS: Final = {
     "Match": (), "ExceptHandler": ("body",), "match_case": ("body",),
 }  # fmt: skip
 DEFINITIONS: Final = ("FunctionDef", "AsyncFunctionDef", "ClassDef")
+IMPORTS: Final = ("Import", "ImportFrom")
 STATEMENTS: Final = frozenset(it.name for it in CONSTRUCTORS.values() if it.sort == "stmt")
 EXPRESSIONS: Final = frozenset(it.name for it in CONSTRUCTORS.values() if it.sort == "expr")
 PATTERNS: Final = frozenset(it.name for it in CONSTRUCTORS.values() if it.sort == "pattern")
@@ -90,6 +91,9 @@ def same_tree(one: Term, two: Term) -> bool:
         it, other = waiting.pop()
         if it is other or (it.head in CONTEXTS and other.head in CONTEXTS):
             continue
+        if it.head == "JoinedStr" and other.head == "JoinedStr":
+            # some versions of Python have empty texts in it
+            it, other = normal(it), normal(other)
         if type(it.head) is not type(other.head) or it.head != other.head or len(it.children) != len(other.children):
             return False
         waiting.extend(zip(it.children, other.children))

@@ -4,12 +4,16 @@ from __future__ import annotations
 
 import ast
 import re
+from typing import Final
 
 from ..python import CONSTRUCTORS, parse, unparse
 from ..terms import LIST, NoTerm, Term, string
 from .base import Base
 from .edits import BLOCKS, EXPRESSIONS, LOAD, STATEMENTS, Cannot, apply_edits, span
 from .markers import Piece, filled, marker_of, unparsed
+
+
+_STRINGS: Final = re.compile(r"""('''|\"\"\"|'|")(?:\\.|(?!\1).)*\1""", re.DOTALL)
 
 
 class Fresh(Base):
@@ -48,10 +52,17 @@ class Fresh(Base):
                 return known
         pieces: list[Piece] = []
         made = self._with_pieces(term, pieces, root=True)
-        text = filled(unparsed(made), pieces)
+        text = filled(self._fitting(unparsed(made)), pieces)
         if term.head in ("JoinedStr", "Constant") and old is not None:
             return self._requoted(text, old)
         return text
+
+    # A new text with escapes in its strings for what the encoding of the file doesn't have.
+    def _fitting(self, text: str) -> str:
+        encoding = self.source.encoding
+        if encoding.startswith("utf-8"):
+            return text
+        return _STRINGS.sub(lambda it: it.group().encode(encoding, "backslashreplace").decode(encoding), text)
 
     # A string in the quotes of the first one that was in its place.
     def _requoted(self, text: str, old: Term) -> str:
@@ -78,22 +89,20 @@ class Fresh(Base):
 
     # The node with markers in the places of the nodes whose text is known.
     def _with_pieces(self, term: Term, pieces: list[Piece], root: bool = False) -> Term:
-        if term.head == "JoinedStr":
-            return term
         if not root and term.head in CONSTRUCTORS:
             text = self._piece_text(term)
             if text is not None:
                 shown, marker = marker_of(term, len(pieces))
                 pieces.append(Piece(shown, text, str(term.head)))
                 return marker
-        if not term.children:
+        if not term.children or term.head == "JoinedStr":
             return term
         return Term(term.head, tuple([self._with_pieces(it, pieces) for it in term.children]))
 
     # A statement made anew, without the indentation of its first line.
     def _fresh_statement(self, term: Term, indent: bytes) -> bytes:
         if self.plain:
-            return self._indented(unparse(term).strip("\n").encode(), b"", indent)
+            return self._indented(self._fitting(unparse(term)).strip("\n").encode(), b"", indent)
         pieces: list[Piece] = []
         blocks: list[Term] = []
         stub = self._stub(term, pieces, blocks)
@@ -101,7 +110,7 @@ class Fresh(Base):
             text = unparse(Term("Module", (Term(LIST, (stub,)), Term(LIST))))
         else:
             text = unparsed(stub)
-        text = text.strip("\n")
+        text = self._fitting(text).strip("\n")
         if not blocks:
             return self._indented(filled(text, pieces).encode(), b"", indent)
         lines: list[bytes] = []

@@ -7,14 +7,15 @@ from abc import abstractmethod
 
 from ..python import CONSTRUCTORS, position
 from ..terms import LIST, Term, string
-from .commas import Commas, same_shape
+from .commas import same_shape
 from .edits import (
     BLOCKS, COMMAS, DEFINITIONS, EXPRESSIONS, LOAD, NONE, OPERATORS, PATTERNS, Cannot, Edit, field_of, is_same, operands, span,
 )  # fmt: skip
+from .fstrings import Joined
 from .markers import brackets, hollow, marker_of
 
 
-class Nodes(Commas):
+class Nodes(Joined):
     """The edits of a node by those of its fields."""
 
     # What the class above says of blocks.
@@ -34,16 +35,15 @@ class Nodes(Commas):
             return []
         first, last = span(old)
         if old.head == new.head and not self.plain:
-            try:
-                return self._inside(old, new)
-            except Cannot:
-                pass
+            found = self._tried(lambda: self._inside(old, new))
+            if found is not None:
+                return found
         return [Edit(first, last, self._fresh(new, old).encode())]
 
     # The edits within a node whose constructor stays.
     def _inside(self, old: Term, new: Term) -> list[Edit]:
         if old.head == "JoinedStr":
-            raise Cannot
+            return self._joined(old, new)
         edits = self._fields(new, (), old, new)
         at = {"BinOp": 1, "BoolOp": 0, "UnaryOp": 0, "Compare": 1}.get(str(old.head))
         if at is not None and old.children[at] is not new.children[at]:

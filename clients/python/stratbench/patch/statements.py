@@ -4,9 +4,11 @@ from __future__ import annotations
 
 import tokenize
 from collections.abc import Sequence
+from functools import cached_property
 
+from ..python import Source
 from ..terms import Term
-from .edits import BLOCKS, PLACES, Cannot, Edit, aligned, apply_edits, field_of, span
+from .edits import BLOCKS, DEFINITIONS, IMPORTS, PLACES, Cannot, Edit, aligned, apply_edits, field_of, span
 from .nodes import Nodes
 
 
@@ -17,21 +19,28 @@ class Patcher(Nodes):
         """Returns the edits, in order."""
         if self.old is self.new:
             return []
+        self.carried, self.carrying = set(), set()
         self._block(self.old, self.new, "body", b"")
         # once more, now that the comments that go elsewhere are known
+        self.carried = self.carrying
         return sorted(self._block(self.old, self.new, "body", b""), key=lambda it: (it.first, it.last))
+
+    def _expression(self, source: Source, new: Term) -> list[Edit]:
+        source.encoding = self.source.encoding
+        try:
+            return Patcher(source, new).edits()
+        except Cannot:
+            return []
 
     # The edits within a statement, or those that make it anew.
     def _statement(self, old: Term, new: Term, indent: bytes) -> list[Edit]:
         if old is new:
             return []
         if old.head == new.head and not self.plain:
-            try:
-                return self._inside(old, new)
-            except Cannot:
-                pass
-        first, last = self._begin(old), span(old)[1]
-        return [Edit(first, last, self._fresh_statement(new, indent))]
+            found = self._tried(lambda: self._inside(old, new))
+            if found is not None:
+                return found
+        return [Edit(self._begin(old), self._end_with_comments(old), self._fresh_statement(new, indent))]
 
     # The edits for a list of statements that isn't empty before and after, but for that of a module.
     def _block(self, owner_old: Term, owner_new: Term, name: str, indent: bytes) -> list[Edit]:
@@ -133,12 +142,24 @@ class Patcher(Nodes):
                 raise Cannot
             text = b"; ".join(self._rendered((it,), indent) for it in comes)
             return [Edit(begin, end, text)]
-        begin, end = self._with_carried(begin, end)
-        return [Edit(begin, end, self._rendered(comes, indent))]
+        for stop in range(first + 1, last):
+            if self._leads(old[stop]) and not self._all_goes(self._statement_end(old[stop - 1])[1], self._begin(old[stop])):
+                # line by line, so that the comments between stay
+                return self._replaced(old, first, stop, comes, indent) + self._deleted(old, stop, last)
+        begin = self._leading_comments(begin, self.carried)
+        end = self._end_with_comments(old[last - 1])
+        text = self._rendered(comes, indent)
+        line = self._line_start(begin)
+        above = self._room(comes[0], indent) - self._blanks_before(line)[0] if first else 0
+        if above > 0:
+            begin, text = line, self.newline * above + indent + text
+        below = self._room(comes[-1], indent) - len(self._blanks_after(self._line_end(end)[1])) if last < len(old) else 0
+        return [Edit(begin, end, text + self.newline * below)]
 
     # The edits without these statements, line by line.
     def _deleted(self, old: tuple[Term, ...], first: int, last: int) -> list[Edit]:
         edits: list[Edit] = []
+        lines: list[tuple[int, int]] = []
         while first < last:
             stop = first + 1
             while stop < last and not self._leads(old[stop]):
@@ -147,25 +168,56 @@ class Patcher(Nodes):
             if self._is_followed(old[stop - 1]):
                 edits.append(Edit(begin, self._begin(old[stop]), b""))
             elif self._leads(old[first]):
-                begin, _ = self._with_carried(begin, end)
-                edits.append(Edit(self._line_start(begin), self._statement_end(old[stop - 1])[1], b""))
+                begin = self._line_start(self._leading_comments(begin, self.carried))
+                end = max(self._statement_end(old[stop - 1])[1], self._line_end(self._end_with_comments(old[stop - 1]))[1])
+                if lines and self._all_goes(lines[-1][1], begin):
+                    begin, _ = lines.pop()
+                lines.append((begin, end))
             elif first == 0:
                 raise Cannot
             else:
                 edits.append(Edit(span(old[first - 1])[1], end, b""))
             first = stop
-        return edits
+        is_last = last == len(old)
+        return edits + [self._lines_away(*it, is_last and it is lines[-1]) for it in lines]
 
-    # The places of statements with the comments before and after them that go elsewhere.
-    def _with_carried(self, begin: int, end: int) -> tuple[int, int]:
+    # Whether all comments from one place between statements to another go elsewhere.
+    def _all_goes(self, first: int, last: int) -> bool:
+        return all(it.first in self.carried for it in self.tokens.comments_between(first, last))
+
+    # The edit without some lines. Of the blank lines around them the more stay; those after a block aren't its own.
+    def _lines_away(self, begin: int, end: int, is_last: bool) -> Edit:
+        before, where = self._blanks_before(begin)
+        after = self._blanks_after(end)
+        if is_last:
+            begin = where
+        elif after and (before or begin == 0):
+            end = after[min(before, len(after)) - 1 if begin else -1]
+        return Edit(begin, end, b"")
+
+    # Where a statement ends with the comments after it that go elsewhere. Those inside one of several lines with blocks go with it.
+    def _end_with_comments(self, statement: Term) -> int:
+        end = span(statement)[1]
+        lines = statement.head in BLOCKS and self._line_start(self._begin(statement)) != self._line_start(end)
         follows = self._comment_after(end)
-        if follows is not None and follows.first in self.carried:
+        if follows is not None and (lines or follows.first in self.carried):
             end = follows.last
-        return self._leading_comments(begin, self.carried), end
+        elif lines and not self.text[end : self._line_end(end)[0]].strip(b" \t;"):
+            end = self._line_end(end)[0]
+        if not self._leads(statement):
+            return end
+        indent = self._indent(self._begin(statement))
+        end = self._tail(end, indent, False, None if lines else self.carried)
+        return self._tail(end, indent, True, self.carried) if self._ends_block(statement) else end
 
-    # The edit that puts lines after that of a statement.
-    def _line_after(self, statement: Term, lines: bytes) -> Edit:
-        end, after = self._statement_end(statement)
+    # Whether a statement is the last of a block with an indentation of its own. Comments after it may be about the block.
+    def _ends_block(self, statement: Term) -> bool:
+        block, at = self.homes[id(statement)]
+        return at == len(block.children) - 1 and not self.text[span(statement)[0] :].startswith(b"elif")
+
+    # The edit that puts lines after that of a statement, and after the comments there that are deeper than an indentation.
+    def _line_after(self, statement: Term, lines: bytes, indent: bytes) -> Edit:
+        end, after = self._line_end(self._tail(self._statement_end(statement)[0], indent, False))
         return Edit(after, after, lines + self.newline) if after > end else Edit(end, end, self.newline + lines)
 
     def _inserted(self, old: tuple[Term, ...], at: int, comes: tuple[Term, ...], indent: bytes, simple: bool) -> list[Edit]:
@@ -176,11 +228,16 @@ class Patcher(Nodes):
                     raise Cannot
                 place = span(before)[1]
                 return [Edit(place, place, b"".join(b"; " + self._rendered((it,), indent) for it in comes))]
-            return [self._line_after(before, indent + self._rendered(comes, indent))]
+            return [self._lines_between(old, at, comes, indent)]
         if old:
             place = self._begin(old[0])
             if self._leads(old[0]):
-                return [Edit(place, place, self._rendered(comes, indent) + self.newline + indent)]
+                place = self._leading_comments(place)
+                room = max(self._room(comes[-1], indent), self._room(old[0], indent))
+                if comes[-1].head in IMPORTS and old[0].head not in IMPORTS and not indent:
+                    room = max(room, 1)
+                text = self._rendered(comes, indent) + self.newline * (1 + room)
+                return [Edit(place, place, text + indent)]
             if not simple:
                 raise Cannot
             return [Edit(place, place, b"".join(self._rendered((it,), indent) + b"; " for it in comes))]
@@ -189,12 +246,55 @@ class Patcher(Nodes):
             text = self.newline + text
         return [Edit(len(self.text), len(self.text), text)]
 
+    # The edit that puts statements on lines after those of another: an import next to imports, definitions with room around.
+    def _lines_between(self, old: tuple[Term, ...], at: int, comes: tuple[Term, ...], indent: bytes) -> Edit:
+        before, text = old[at - 1], self._rendered(comes, indent)
+        edit = self._line_after(before, indent + text, indent)
+        there = len(self._blanks_after(edit.first))
+        if comes[0].head in IMPORTS and before.head not in IMPORTS and at < len(old):
+            if old[at].head in IMPORTS and self._leads(old[at]):
+                place = self._leading_comments(self._begin(old[at]))
+                return Edit(place, place, text + self.newline + indent)
+            room = there
+        else:
+            room = max(self._room(before, indent), self._room(comes[0], indent))
+        below = max(0, self._room(comes[-1], indent) - there) if at < len(old) else 0
+        return edit._replace(text=self.newline * room + edit.text + self.newline * below)
+
+    # How many blank lines are before a definition, for one in a module and for one in a block.
+    @cached_property
+    def _usual_room(self) -> tuple[int, int]:
+        found: tuple[list[int], list[int]] = ([], [])
+        for block, at in self.homes.values():
+            if at and block.children[at].head in DEFINITIONS:
+                found[block is not field_of(self.old, "body")].append(self._room_above(block.children[at]))
+        one, two = (max(it, key=it.count) if it else usual for it, usual in zip(found, (2, 1)))
+        return one, two
+
+    def _room_above(self, statement: Term) -> int:
+        return self._blanks_before(self._line_start(self._leading_comments(self._begin(statement))))[0]
+
+    # How many blank lines a statement has around it: a definition as many as were before it.
+    def _room(self, statement: Term, indent: bytes) -> int:
+        if statement.head not in DEFINITIONS:
+            return 0
+        origin = self._origin(statement)
+        home = self.homes.get(id(origin)) if origin is not None else None
+        if origin is None or home is None:
+            return self._usual_room[bool(indent)]
+        if home[1]:
+            return self._room_above(origin)
+        return len(self._blanks_after(self._line_end(self._end_with_comments(origin))[1])) if len(home[0].children) > 1 else 0
+
     # The text of statements, without the indentation of its first line. Neighbours that were neighbours before keep what is
     # between them, and the comments before and after them come along.
     def _rendered(self, new: Sequence[Term], indent: bytes) -> bytes:
         texts: list[bytes] = []
         at = 0
         while at < len(new):
+            if at:
+                room = max(self._room(new[at - 1], indent), self._room(new[at], indent))
+                texts.append(self.newline * (1 + room) + indent)
             origin = None if self.plain else self._origin(new[at])
             home = self.homes.get(id(origin)) if origin is not None else None
             if origin is None or home is None:
@@ -207,11 +307,18 @@ class Patcher(Nodes):
                 if following is None or self.homes.get(id(following)) != (home[0], home[1] + len(chunk)):
                     break
                 chunk.append((following, new[at + len(chunk)]))
-            texts.append(self._chunk(chunk, indent))
+            texts.append(self._chunk(chunk, indent, self._is_whole(home[0], new)))
             at += len(chunk)
-        return (self.newline + indent).join(texts)
+        return b"".join(texts)
 
-    def _chunk(self, chunk: list[tuple[Term, Term]], indent: bytes) -> bytes:
+    # Whether all statements of a block are among others. Then the comments at its end go with the last one.
+    def _is_whole(self, block: Term, new: Sequence[Term]) -> bool:
+        if block is field_of(self.old, "body"):
+            return False
+        there = {id(self._origin(it)) for it in new}
+        return all(id(it) in there for it in block.children)
+
+    def _chunk(self, chunk: list[tuple[Term, Term]], indent: bytes, is_whole: bool) -> bytes:
         begin, end = self._begin(chunk[0][0]), span(chunk[-1][0])[1]
         before = self._indent(begin)
         if self.text[begin:].startswith(b"elif") and chunk[0][0].head == "If":
@@ -221,13 +328,14 @@ class Patcher(Nodes):
         for old, new in chunk:
             edits += self._statement(old, new, before)
         if self._leads(chunk[0][0]):
-            start = self._leading_comments(begin, None)
-            self.carried.update(it.first for it in self.tokens.comments if start <= it.first < begin)
-            begin = start
+            begin = self._leading_comments(begin)
         follows = self._comment_after(end)
         if follows is not None:
-            self.carried.add(follows.first)
             end = follows.last
+        if self._leads(chunk[-1][0]):
+            end = self._tail(end, before, is_whole and self._ends_block(chunk[-1][0]))
+        for place, until in zip([begin, *(span(it)[1] for it, _ in chunk)], [*(self._begin(it) for it, _ in chunk), end]):
+            self.carrying.update(it.first for it in self.tokens.comments_between(place, until))
         # an edit of the first or the last line may be one of the whole line
         first, last = min([begin, *(it.first for it in edits)]), max([end, *(it.last for it in edits)])
         text = apply_edits(self.text, first, last, edits)
@@ -243,7 +351,7 @@ class Patcher(Nodes):
             return self._block(old, new, name, inner)
         word = b"finally" if name == "finalbody" else b"else"
         if not one:
-            return [self._line_after(self._last_before(old, name), outer + self._alternative(two, outer, inner, word))]
+            return [self._line_after(self._last_before(old, name), outer + self._alternative(two, outer, inner, word), outer)]
         begin, end = self._begin(one[0]), span(one[-1])[1]
         is_elif = old.head == "If" and len(one) == 1 and one[0].head == "If" and self.text[begin:].startswith(b"elif")
         if not two:
@@ -253,15 +361,19 @@ class Patcher(Nodes):
                 while self.tokens.tokens[at].text not in ("else", "finally"):
                     at -= 1
                 start = self.tokens.tokens[at].first
-            return [Edit(self._line_start(start), self._statement_end(one[-1])[1], b"")]
+            else:
+                start = self._leading_comments(start, self.carried)
+            # with the comments at its end
+            end = self._tail(self._statement_end(one[-1])[0], outer, False)
+            return [Edit(self._line_start(start), self._line_end(end)[1], b"")]
         if not is_elif:
             return self._block(old, new, name, inner)
         if len(two) == 1 and two[0].head == "If" and self._origin(two[0]) in (None, one[0]) and not self.plain:
-            try:
-                return self._inside(one[0], two[0])
-            except Cannot:
-                pass
-        return [Edit(begin, end, self._alternative(two, outer, inner, word))]
+            found = self._tried(lambda: self._inside(one[0], two[0]))
+            if found is not None:
+                return found
+        begin = self._leading_comments(begin, self.carried)
+        return [Edit(begin, self._end_with_comments(one[0]), self._alternative(two, outer, inner, word))]
 
     # An `else` or a `finally` made anew, or an `elif`.
     def _alternative(self, new: tuple[Term, ...], outer: bytes, inner: bytes, word: bytes) -> bytes:
@@ -315,22 +427,30 @@ class Patcher(Nodes):
             for it, other in zip(goes, comes):
                 edits.append(Edit(*self._around((self._at_sign(it), span(old)[0]), it), self._text(other).encode()))
             for it in goes[len(comes) :]:
-                edits.append(Edit(self._line_start(self._at_sign(it)), self._decorator_end(it)[1], b""))
-            lines = [b"@" + self._text(it).encode() + self._comment_of(it) for it in comes[len(goes) :]]
-            if lines and old_to < len(one):
-                place = self._at_sign(one[old_to])
-                edits.append(Edit(place, place, b"".join(it + self.newline + indent for it in lines)))
-            elif lines:
+                begin = self._leading_comments(self._at_sign(it), self.carried)
+                edits.append(Edit(self._line_start(begin), self._decorator_end(it)[1], b""))
+            lines = [self._decorator(it, indent) for it in comes[len(goes) :]]
+            if lines:
                 place = span(old)[0]
+                if old_to < len(one):
+                    place = self._at_sign(one[old_to])
+                    place = self._leading_comments(place) if old_to else place
                 edits.append(Edit(place, place, b"".join(it + self.newline + indent for it in lines)))
         return edits
 
-    # The comment after a decorator from elsewhere, with the blanks before it.
-    def _comment_of(self, decorator: Term) -> bytes:
+    # The text of a decorator. One from elsewhere has the comments before it, but for the first, and that in its line.
+    def _decorator(self, decorator: Term, indent: bytes) -> bytes:
+        text = b"@" + self._text(decorator).encode()
         origin = self._origin(decorator)
-        end = span(origin)[1] if origin is not None else 0
-        comment = self._comment_after(end) if origin is not None else None
-        return b"" if comment is None or self.plain else self.text[end : comment.last]
+        home = self.homes.get(id(origin)) if origin is not None else None
+        if origin is None or home is None or self.plain or self.tokens.text_at(self.tokens.before(span(origin)[0])) != "@":
+            return text
+        sign, end = self._at_sign(origin), span(origin)[1]
+        begin = self._leading_comments(sign) if home[1] else sign
+        self.carrying.update(it.first for it in self.tokens.comments_between(begin, sign))
+        comment = self._comment_after(end)
+        text = self._indented(self.text[begin:sign], self._indent(sign), indent) + text
+        return text if comment is None else text + self.text[end : comment.last]
 
     def _decorator_end(self, decorator: Term) -> tuple[int, int]:
         at = self.tokens.after(span(decorator)[1])

@@ -7,7 +7,7 @@ import tokenize
 from bisect import bisect_left, bisect_right
 from typing import NamedTuple
 
-from ..python import Source
+from ..python import Lines
 
 
 class Token(NamedTuple):
@@ -18,10 +18,10 @@ class Token(NamedTuple):
 
 
 class Tokens:
-    """The tokens of a source but blanks and comments, and apart from them the comments."""
+    """The tokens of a text but blanks and comments, and apart from them the comments."""
 
-    def __init__(self, source: Source) -> None:
-        text, starts = source.text, source.lines.starts
+    def __init__(self, text: bytes, lines_of: Lines) -> None:
+        starts = lines_of.starts
         lines = [text[first:last] for first, last in zip(starts, [*starts[1:], len(text)])]
         flat = [re.sub(rb"\r\n?\Z", b"\n", line).decode() for line in lines]
         plain = [line.isascii() for line in flat]
@@ -48,6 +48,9 @@ class Tokens:
         self.firsts = [it.first for it in self.tokens]
         self.lasts = [it.last for it in self.tokens]
         self.comment_firsts = [it.first for it in self.comments]
+        # those on lines of their own
+        lone = (it for it in self.comments if not text[starts[bisect_right(starts, it.first) - 1] : it.first].strip())
+        self.comment_lines = {it.first: it for it in lone}
 
     def after(self, place: int) -> int:
         """The index of the first token that begins at the place or after it."""
@@ -60,6 +63,10 @@ class Tokens:
     def between(self, first: int, last: int) -> list[Token]:
         """The tokens from one place to the other."""
         return self.tokens[self.after(first) : self.before(last) + 1]
+
+    def comments_between(self, first: int, last: int) -> list[Token]:
+        """The comments from one place to the other."""
+        return self.comments[bisect_left(self.comment_firsts, first) : bisect_left(self.comment_firsts, last)]
 
     def text_at(self, index: int) -> str:
         """The text of a token, or nothing where there is none."""

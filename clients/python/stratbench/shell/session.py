@@ -2,15 +2,19 @@
 
 from __future__ import annotations
 
+import contextlib
+import re
 import signal
-from collections.abc import Callable, Sequence
+import time
+from collections.abc import Callable, Iterator, Sequence
 from typing import Any, Final, Literal, NamedTuple, TypeVar
 
 from .. import Ended, Refused, Stratbench
 from ..terms import Term
 
-# The commands that are steps, and all that change a session.
-_STEPS: Final = ("tree", "copy", "drop", "put", "annotate", "module", "unload", "apply")
+# The commands that are steps, those of trees and others, and all that change a session.
+_OF_TREES: Final = ("tree", "copy", "drop", "put", "annotate", "apply")
+_STEPS: Final = (*_OF_TREES, "module", "unload")
 _CHANGES: Final = (*_STEPS, "undo", "redo", "begin", "commit", "abandon")
 
 _Given = TypeVar("_Given")
@@ -27,7 +31,7 @@ class Again(Exception):
 
 
 class Gone(Exception):
-    """The session couldn't be made again; it says why."""
+    """The session couldn't be made again; it says why. The next call tries it once more."""
 
 
 class Refusal(Exception):
@@ -35,24 +39,51 @@ class Refusal(Exception):
 
 
 class Loaded(NamedTuple):
-    """A tree or a module from a file, by its name and text."""
+    """A tree or a module that is loaded, by its name and text, and the file that it is from."""
 
     kind: Literal["tree", "module"]
     name: str
     text: str
+    file: str = ""
+
+
+class RefusedFile(Exception):
+    """A file that was refused when it was loaded, and why."""
+
+
+# How the program has ended.
+def _how(ended: Ended) -> str:
+    if ended.status >= 0:
+        return str(ended)
+    said = f": {ended.said}" if ended.said else ""
+    return f"the program was ended by {signal.Signals(-ended.status).name}{said}"
+
+
+# Says which of the files was refused, where that can be seen.
+@contextlib.contextmanager
+def _of_file(loaded: Sequence[Loaded]) -> Iterator[None]:
+    try:
+        yield
+    except Refused as refused:
+        named = re.search(r" of the module `([^`]+)`", str(refused))
+        found = loaded if len(loaded) == 1 else [it for it in loaded if named and (it.kind, it.name) == ("module", named[1])]
+        if not found or not found[0].file:
+            raise
+        raise RefusedFile(f"{found[0].file}: {refused}") from None
 
 
 class Session:
-    """A session of the program, started with these arguments of `Stratbench`."""
+    """A session of the program, started with these arguments of `Stratbench`. Where making it again takes long, `tell` says so."""
 
-    def __init__(self, **start: Any) -> None:
-        self._start = start
+    def __init__(self, tell: Callable[[str], None], **start: Any) -> None:
+        self._start, self._tell = start, tell
         # all that was changed, in order
         self._made: list[Callable[[Stratbench], object]] = []
         self.bench = Stratbench(**start)
-        self.warnings = self.bench.warnings
+        # what the program said of the last command, each with the text that it speaks of
+        self.warnings: list[tuple[str, str]] = []
         # what the steps were that can be undone and redone, the next last; the first ones are those of the start
-        self.done = ["start"] * self.bench.history()[0]
+        self.done = ["the start of the session"] * self.bench.history()[0]
         self.undone: list[str] = []
         self.started = len(self.done)
         # what was done in the open group
@@ -63,31 +94,39 @@ class Session:
         words = command.split()
         if words[0] == "undo" and self.group is None:
             self._check_undo(words[1:])
-        answer = self._call(lambda bench: bench.run(command), change=words[0] in _CHANGES)
-        self._note(words, command)
+        note = (lambda: self._note(words, command)) if words[0] in _CHANGES else None
+        answer = self._call(lambda bench: bench.run(command), note)
+        self.warnings = [(it, command) for it in self.bench.warnings]
         return answer
 
     def load(self, loaded: Sequence[Loaded], what: str) -> None:
         """Loads trees and modules, as one step."""
+        said: list[tuple[str, str]] = []
 
-        def give(bench: Stratbench) -> None:
-            for kind, name, text in loaded:
-                (bench.tree if kind == "tree" else bench.module)(name, text)
+        def give(bench: Stratbench, it: Loaded) -> None:
+            with _of_file([it]):
+                (bench.tree if it.kind == "tree" else bench.module)(it.name, it.text)
+            said.extend((f"{it.file}: {warning}" if it.file else warning, it.text) for warning in bench.warnings)
 
-        def give_grouped(bench: Stratbench) -> None:
-            with bench.group():
-                give(bench)
+        def give_all(bench: Stratbench) -> None:
+            # one is a step of its own, with names looked at as it is given
+            group = contextlib.nullcontext() if self.group is not None or len(loaded) == 1 else bench.group()
+            with _of_file(loaded), group:
+                for it in loaded:
+                    give(bench, it)
 
-        self._call(give if self.group is not None else give_grouped, change=True)
-        self._note(["tree"], what)
+        self._call(give_all, lambda: self._note(["tree"], what))
+        # not those of when it is made again
+        self.warnings = said[:]
 
     def go_to(self, step: int) -> None:
-        """Undoes or redoes until this was the last step; the first of the session's own is 1."""
+        """Undoes or redoes until this was the last step. The first of the session's own is 1, and those of its start are below 1."""
         own = len(self.done) - self.started
-        if not 0 <= step <= own + len(self.undone):
-            raise Refusal(f"there are the steps 0 to {own + len(self.undone)}")
+        if not -self.started <= step <= own + len(self.undone):
+            raise Refusal(f"there are the steps {-self.started} to {own + len(self.undone)}")
         if step != own:
-            self.run(f"undo {own - step}" if step < own else f"redo {step - own}")
+            command = f"undo {own - step}" if step < own else f"redo {step - own}"
+            self._call(lambda bench: bench.run(command), lambda: self._note(command.split(), command))
 
     def last_step(self) -> tuple[_Contents, _Contents]:
         """Returns all trees and modules before the last step and now."""
@@ -106,43 +145,72 @@ class Session:
 
         return self.ask(both)
 
+    def before(self, name: str, at: str | None) -> Term | None:
+        """Returns what a tree had at a path before the last step, where it had something there, and nothing was undone since."""
+        if self.group is not None or self.undone or len(self.done) == self.started:
+            return None
+        if not any(it.split(" ")[0] in _OF_TREES for it in self.done[-1].split("; ")):
+            return None
+
+        def there(bench: Stratbench) -> Term | None:
+            bench.undo()
+            found = None
+            with contextlib.suppress(Refused):
+                found = bench.term(name, at)
+            bench.redo()
+            return found
+
+        return self.ask(there)
+
     def ask(self, question: Callable[[Stratbench], _Given]) -> _Given:
         """Returns what the session has for a call that changes nothing."""
-        return self._call(question, change=False)
+        return self._call(question)
 
-    def _call(self, call: Callable[[Stratbench], _Given], change: bool) -> _Given:
+    # Calls the program. What changed the session is noted: until that is done Ctrl-C waits.
+    def _call(self, call: Callable[[Stratbench], _Given], note: Callable[[], None] | None = None) -> _Given:
         try:
             found = call(self.bench)
+            signal.pthread_sigmask(signal.SIG_BLOCK, {signal.SIGINT})
         except KeyboardInterrupt:
             self._again()
             raise Again("stopped", True) from None
         except Ended as ended:
             self._again()
-            raise Again(str(ended), False) from None
-        self.warnings = self.bench.warnings
-        if change:
-            self._made.append(call)
+            raise Again(_how(ended), False) from None
+        try:
+            if note is not None:
+                self._made.append(call)
+                note()
+        finally:
+            signal.pthread_sigmask(signal.SIG_UNBLOCK, {signal.SIGINT})
         return found
 
-    # Makes the session again; nothing stops that.
+    # Makes the session again; nothing stops that. Where it can't be done the session is an ended one, and the next call tries again.
     def _again(self) -> None:
         before = signal.signal(signal.SIGINT, signal.SIG_IGN)
+        begun, told = time.monotonic(), False
         try:
             self.bench.close()
             self.bench = Stratbench(**self._start)
-            for call in self._made:
+            for at, call in enumerate(self._made):
+                if not told and time.monotonic() > begun + 1:
+                    self._tell(f"the session is made again: {at} of {len(self._made)} changes so far ..")
+                    told = True
                 call(self.bench)
-        except (Ended, Refused, OSError) as error:
-            raise Gone(f"the session couldn't be made again: {error}") from None
+        except (Ended, Refused, RefusedFile, OSError) as error:
+            self.bench.close()
+            why = f"{error.filename}: {error.strerror}" if isinstance(error, OSError) and error.filename else str(error)
+            raise Gone(f"the session couldn't be made again: {why}\nthe next command tries it once more") from None
         finally:
             signal.signal(signal.SIGINT, before)
 
     def _check_undo(self, numbers: list[str]) -> None:
-        own = len(self.done) - self.started
+        own = max(0, len(self.done) - self.started)
         if len(numbers) > 1 or numbers and not numbers[0].isdigit():
             return
         if int(numbers[0] if numbers else 1) > own:
-            raise Refusal(f"{own} of your steps can be undone; what is before them is the start of the session")
+            further = f"; `:undo {-self.started}` takes back the start of the session, too" if self.started else ""
+            raise Refusal(f"{own} of your steps can be undone{further}")
 
     def _note(self, words: list[str], command: str) -> None:
         what = " ".join(command.split())
@@ -164,5 +232,7 @@ class Session:
                 two.append(one.pop())
 
     def _step(self, what: str) -> None:
+        # the steps of the start may have been undone, too
+        self.started = min(self.started, len(self.done))
         self.done.append(what)
         self.undone = []
