@@ -525,6 +525,10 @@ class Block:
         self.type = None
 
 
+# A macro of this repository makes expressions, never items.
+MACRO = re.compile(r"macro_rules!\s*\w+\s*[{(]")
+
+
 class RattleFile:
     def __init__(self, root, crate, path, modules):
         self.crate = crate
@@ -580,6 +584,10 @@ class RattleFile:
                 continue
             if self.clean[at] == ";":
                 at += 1
+                continue
+            macro = MACRO.match(self.clean, at, end)
+            if macro is not None:
+                at = self.matching(macro.end() - 1) + 1
                 continue
             found = ITEM.match(self.clean, at, end)
             if found is None:
