@@ -1,5 +1,4 @@
 pub mod PlaceLemmas
-pub mod TextLemmas
 pub mod PatchLemmas
 pub mod KeyLemmas
 pub mod RelationLemmas

@@ -2,7 +2,6 @@
 //! does nothing.
 
 ghost use Rattle.term_changes.specs.Laws.{FlipsForward, FlipsBack, StoreFromAfter, StoreFromBefore, FlippedBackFits, FlippedForwardFits, PushedFits, RolledBackFits, PushedLeadsBack, RolledBackLeadsBack, FlippedBackIsCompact, FlippedForwardIsCompact, BeforeKeepsTexts, AfterKeepsTexts, NewSlotsAreEmpty, TreePut, TreeTaken, ModulePut, ModuleTaken, SubtermPut, AnnotationsPut, TreeOfName, ModuleOfName, FitsWithMore, FitsForwardWithMore, FitsWithMoreModules, FitsForwardWithMoreModules};
-ghost use Rattle.change_log.specs.Texts.{BeforeChangesTexts, AfterChangesTexts, BothChangeTexts};
 
 /// The two flips are inverse: each restores the store and the log from before the other.
 pub fn flips_are_inverse()
@@ -40,9 +39,6 @@ pub fn flips_keep_places()
 pub fn texts_stay()
     ensures back { BeforeKeepsTexts }
     ensures forward { AfterKeepsTexts }
-    ensures changed_back { BeforeChangesTexts }
-    ensures changed_forward { AfterChangesTexts }
-    ensures both { BothChangeTexts }
 {}
 
 /// The contents of a store by name: new slots are empty; a put in the slot of a name is seen under

@@ -10,7 +10,6 @@ mod relation;
 mod slots;
 mod step;
 mod store;
-mod texts;
 
 pub use log::Log;
 #[doc(hidden)]
@@ -22,5 +21,3 @@ pub use step::Step;
 pub use step::{Changes, Parts, Whole};
 pub use store::Store;
 pub use term_changes::{Entry, Kept, Plan, Replaced, Text};
-#[doc(hidden)]
-pub use texts::Texts;

@@ -2,14 +2,13 @@
 
 ghost use Rattle.std.specs.Prelude.{◌≡◌, ◌<◌, ◌≤◌, ◌+◌, ◌-◌, ◌*◌, ◌++◌, ℕ, List, [], ◌∷◌, length, take, drop, OnOk, OnErr, vec_len, vec_capacity};
 ghost use Rattle.term_changes.specs.Slots.{Store};
-ghost use Rattle.term_changes.specs.Entries.{put, found, before, after, flipped_back, flipped_forward, Fits, texts};
+ghost use Rattle.term_changes.specs.Entries.{put, found, before, after, flipped_back, flipped_forward, Fits, texts, has_text};
 ghost use Rattle.term_changes.specs.Compact.{IsCompact};
 ghost use Rattle.term_changes.specs.LogView.{entry_of};
 ghost use Rattle.term_changes.specs.inside.LogView.{entries, depths};
-ghost use Rattle.change_log.specs.Texts.{texts_in};
 
+use crate::Store;
 use crate::compact::compact;
-use crate::{Store, Texts};
 use std::alloc::Global;
 use std::marker::Model;
 use term_changes::{Entry, Kept, Plan, Replaced};
@@ -75,14 +74,11 @@ impl Log {
         self.count()
     }
 
-    /// The module texts that the entries hold.
-    pub fn texts(&self) -> Texts
-        ensures { result ≡ texts_in self.now }
+    /// Whether an entry holds a module text.
+    pub fn has_text(&self) -> bool
+        ensures { result ≡ has_text self.now }
     {
-        if self.text_count == 0 {
-            return Texts::None;
-        }
-        Texts::of_all(&self.replaced)
+        self.text_count > 0
     }
 
     /// Makes the change: puts the entry's value at its place, and records what was there. If the

@@ -2,16 +2,15 @@
 
 ghost use Rattle.std.specs.Prelude.{◌≡◌, ◌∷◌, [], IfOk, OnOk, OnErr};
 ghost use Rattle.term_changes.specs.Slots.{Store};
-ghost use Rattle.term_changes.specs.Entries.{put, found, before, after, flipped_back, flipped_forward, Fits};
+ghost use Rattle.term_changes.specs.Entries.{slot_text, put, found, before, after, flipped_back, flipped_forward, has_text, Fits};
 ghost use Rattle.term_changes.specs.Compact.{IsCompact};
 ghost use Rattle.term_changes.specs.PatchLaws.{patch_entries};
-ghost use Rattle.change_log.specs.Texts.{texts_in};
 ghost use Rattle.change_log.specs.inside.StepView.{whole_entry, part_entries};
 
-use crate::{Log, Store, Texts};
+use crate::{Log, Store};
 use std::alloc::Global;
 use std::marker::Model;
-use term_changes::{Entry, Kept, Patch};
+use term_changes::{Entry, Kept, Patch, Text};
 use term_core::NoMemory;
 
 /// What the changes of a step replaced, the oldest first. A step with one change of a whole tree or
@@ -84,6 +83,21 @@ impl Step {
         })
     }
 
+    /// Puts a module text into the slot, or none, and makes a step of it. It takes no memory.
+    pub fn of_text(store: &mut Store, slot: usize, text: Option<Text>) -> Step
+        ensures step { result ≡ found (slot_text slot text) store.old ∷ [] }
+        ensures store { store.new ≡ put (slot_text slot text) store.old }
+    {
+        let mut whole = Whole {
+            slot,
+            kept: Kept::Text(text),
+        };
+        whole.exchange(store);
+        Step {
+            changes: Changes::One(whole),
+        }
+    }
+
     /// The step of the entries of the log, compacted.
     pub fn of(log: Log) -> Step
         ensures before { (s : Store) → before result s ≡ before log s }
@@ -111,14 +125,14 @@ impl Step {
         }
     }
 
-    /// The module texts that the changes concern.
-    pub fn texts(&self) -> Texts
-        ensures { result ≡ texts_in self.now }
+    /// Whether a module text changes.
+    pub fn has_text(&self) -> bool
+        ensures { result ≡ has_text self.now }
     {
         match &self.changes {
-            Changes::One(whole) => Texts::of(whole.slot, &whole.kept),
-            Changes::Patched(parts) => parts.texts(),
-            Changes::Logged(log) => log.texts(),
+            Changes::One(whole) => whole.kept.texts() > 0,
+            Changes::Patched(parts) => parts.has_text(),
+            Changes::Logged(log) => log.has_text(),
         }
     }
 
@@ -186,9 +200,9 @@ impl Parts {
     }
 
     // No change is of a module text.
-    fn texts(&self) -> Texts
-        ensures { result ≡ texts_in (part_entries self.now) }
+    fn has_text(&self) -> bool
+        ensures { result ≡ has_text (part_entries self.now) }
     {
-        Texts::None
+        false
     }
 }

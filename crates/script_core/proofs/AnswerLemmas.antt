@@ -12,8 +12,8 @@ use Rattle.aterm_text.specs.Tokens.{is_blank}
 use Rattle.session_history.specs.Applying.{Meaning}
 use Rattle.session_history.specs.History.{HistoryGroup, History, undone, redone}
 use Rattle.session_history.specs.Acts.{Act, ActResult, Passing, Holding, Given, Leaves, Located, ComesTo, Performs, PerformsSurely}
-use Rattle.session_history.specs.declared.refusal.Refusal.{Refusal}
-use Rattle.session_history.specs.declared.refusal.Refusal.TheVariants.{Memory, NoUndo, NoRedo, Group, NoGroup}
+use Rattle.session_modules.specs.declared.refusal.Refusal.{Refusal}
+use Rattle.session_modules.specs.declared.refusal.Refusal.TheVariants.{Memory, NoUndo, NoRedo, Group, NoGroup}
 use Rattle.script_text.specs.declared.keyword.Keyword.{Keyword}
 use Rattle.script_text.specs.Script.{without_end}
 use Rattle.script_text.specs.Handed.{Handed, text as handed_text, long}

@@ -1,7 +1,7 @@
 //! Writing refusals.
 
 ghost use Rattle.std.specs.Prelude.{◌≡◌, ◌≤◌, ◌++◌, ◌∷◌, [], OnOk, OnErr, true, false, codes, decimal, length};
-ghost use Rattle.session_history.specs.Refusal.{number_of};
+ghost use Rattle.session_modules.specs.Refusal.{number_of};
 ghost use Rattle.script_text.specs.Replies.{line, reason, refused as refused_text};
 ghost use Rattle.script_text.specs.Answer.{TellsRefusal, is_fault};
 

@@ -1,7 +1,7 @@
 -- The definitions, computed on worked rows.
 use Rattle.std.proofs.Common.{◌≡◌, [], ◌∷◌, ◌++◌, None, Ok, Err, refl, codes, true, false}
 use Rattle.session_history.specs.History.{empty_history}
-use Rattle.session_history.specs.declared.refusal.Refusal.TheVariants.{Line, Name, Memory}
+use Rattle.session_modules.specs.declared.refusal.Refusal.TheVariants.{Line, Name, Memory}
 use Rattle.script_text.specs.declared.framing.Framing.TheVariants.{Continued, Lines}
 use Rattle.script_text.specs.Script.{commands, complete}
 use Rattle.script_text.specs.Handed.{handed}

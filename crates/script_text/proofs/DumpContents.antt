@@ -18,10 +18,10 @@ use Rattle.term_core.specs.Word.{label_of}
 use Rattle.term_core.specs.declared.TheConstants.{MAX_HEIGHT}
 use Rattle.strategy_syntax.specs.Modules.{Module}
 use Rattle.term_changes.specs.Contents.{Named, Contents}
-use Rattle.session_history.specs.Modules.{ReadsAsModule, AreReadable}
+use Rattle.session_modules.specs.Modules.{ReadsAsModule, AreReadable}
 use Rattle.session_history.specs.History.{AreLow}
 use Rattle.session_history.specs.Dump.{tree_line, module_line, module_lines, grouped, dumped, IsNamedTerm}
-use Rattle.session_history.proofs.MapLemmas.{R, later, earlier, tied, find_below, all_there}
+use Rattle.session_modules.proofs.MapLemmas.{R, later, earlier, tied, find_below, all_there}
 use Rattle.script_text.specs.declared.framing.Framing.{Framing}
 use Rattle.script_text.specs.Laws.{IsCommandText}
 

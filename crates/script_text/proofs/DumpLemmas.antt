@@ -19,12 +19,12 @@ use Rattle.aterm_text.specs.Laws.{PrintedTextReadsBack, PrintedTextIsOneLine, Pr
 use Rattle.strategy_check.specs.Faults.{Fault, Primitives, faults, first}
 use Rattle.strategy_check.specs.Programs.{Program, program}
 use Rattle.term_changes.specs.Contents.{Contents, with_tree, with_module}
-use Rattle.session_history.specs.Modules.{Texts, Finds, GivesProgram, Checks}
+use Rattle.session_modules.specs.Modules.{Texts, Finds, GivesProgram, Checks}
 use Rattle.session_history.specs.History.{HistoryGroup, History, changed}
 use Rattle.session_history.specs.Acts.{Passing, Holding, Given, Leaves, ChangesTo, ChangesModules, committed}
 use Rattle.session_history.specs.Dump.{tree_line, module_line, dumped}
-use Rattle.session_history.specs.declared.refusal.Refusal.{Refusal}
-use Rattle.session_history.specs.declared.refusal.Refusal.TheVariants.{Big, Group, NoGroup}
+use Rattle.session_modules.specs.declared.refusal.Refusal.{Refusal}
+use Rattle.session_modules.specs.declared.refusal.Refusal.TheVariants.{Big, Group, NoGroup}
 use Rattle.script_text.specs.declared.TheConstants.{MAX_COMMAND}
 use Rattle.script_text.specs.declared.framing.Framing.{Framing}
 use Rattle.script_text.specs.Script.{commands}

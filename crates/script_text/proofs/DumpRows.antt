@@ -17,7 +17,7 @@ use Rattle.session_history.specs.Dump.{tree_line, dumped, IsNamedTerm}
 use Rattle.script_text.specs.declared.framing.Framing.TheVariants.{Continued}
 use Rattle.script_text.specs.Script.{commands}
 use Rattle.script_text.specs.Laws.{IsCommandText, CanBeGiven}
-use Rattle.session_history.proofs.MapLemmas.{all_there}
+use Rattle.session_modules.proofs.MapLemmas.{all_there}
 use Rattle.session_history.proofs.SoundLemmas.{readable_empty, sound_no_contents}
 use Rattle.script_text.proofs.DumpContents.{TreeEntry, group_text, dumped-is}
 

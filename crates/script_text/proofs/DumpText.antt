@@ -9,7 +9,7 @@ use Rattle.std.proofs.lemmas.List.Folds.{prefix_len-append, list_all-append, lis
 use Rattle.std.proofs.lemmas.List.{length-reverse, reverse-append}
 use Rattle.std.proofs.Math.Seq.{take-length, take-append_seam, drop-append_seam}
 use Rattle.std.specs.declared.option.Option.{Option}
-use Rattle.session_history.specs.declared.refusal.Refusal.TheVariants.{Name}
+use Rattle.session_modules.specs.declared.refusal.Refusal.TheVariants.{Name}
 use Rattle.term_core.specs.Word.{continues_word, label_of}
 use Rattle.aterm_text.specs.Tokens.{is_blank, without_blanks}
 use Rattle.aterm_text.specs.Laws.{IsPrinted, IsOneLine}

@@ -30,13 +30,13 @@ use Rattle.strategy_meaning.specs.Answer.{Answer, done as run_done, failed, stop
 use Rattle.strategy_meaning.specs.Meaning.{run_whole}
 use Rattle.strategy_meaning.specs.Applied.{applied}
 use Rattle.session_history.specs.Applying.{Meaning, ReadsAsStrategy, resolved_in, world_in, given_by}
-use Rattle.session_history.specs.Modules.{Texts, ReadsWithin, ReadsBy, ReadsAsModule, AreRead, Finds, GivesProgram, Checks, refusal_of}
+use Rattle.session_modules.specs.Modules.{Texts, ReadsWithin, ReadsBy, ReadsAsModule, AreRead, Finds, GivesProgram, Checks, refusal_of}
 use Rattle.session_history.specs.History.{HistoryGroup, History, changed, undone, redone}
 use Rattle.session_history.specs.Acts.{Act, set_tree as set_tree_act, copy_tree, drop_tree as drop_tree_act, put as put_act, annotate as annotate_act, set_module as set_module_act, unload as unload_act, apply as apply_act, undo as undo_act, redo as redo_act, begin as begin_act, commit as commit_act, abandon as abandon_act, ActResult, Passing, Holding, Given, Leaves, ChangesTo, ChangesModules, PutsAt, AnnotatesAt, AppliesAt, Located, Resolving, ComesTo, committed, tree_of, module_text_of, place_of}
 use Rattle.session_history.specs.Preview.{Preview, Foresees, ForeseesAt, Previews}
 use Rattle.session_history.proofs.OutermostLemmas.{outermost_paths, shown_one}
-use Rattle.session_history.specs.declared.refusal.Refusal.{Refusal}
-use Rattle.session_history.specs.declared.refusal.Refusal.TheVariants.{Term, Syntax, Big, NoUndo, NoRedo, Group, NoGroup}
+use Rattle.session_modules.specs.declared.refusal.Refusal.{Refusal}
+use Rattle.session_modules.specs.declared.refusal.Refusal.TheVariants.{Term, Syntax, Big, NoUndo, NoRedo, Group, NoGroup}
 use Rattle.script_text.specs.Form.{Form, tree, copy, drop_tree, put, annotate, set_module, unload, apply, preview, undo, redo, begin, commit, abandon, command_of}
 use Rattle.script_text.specs.Handed.{Handed, text, long}
 use Rattle.script_text.specs.Replies.{ReadAs, Told, done, shown, preview_text, Reply, Replies, history_after}

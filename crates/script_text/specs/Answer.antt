@@ -2,8 +2,8 @@
 use Rattle.std.specs.Prelude.{◌≡◌, ◌⊎◌, ℕ, Bool, true, false, List, Err, is_ok}
 use Rattle.session_history.specs.Applying.{Meaning}
 use Rattle.session_history.specs.History.{History}
-use Rattle.session_history.specs.declared.refusal.Refusal.{Refusal}
-use Rattle.session_history.specs.declared.refusal.Refusal.TheVariants.{Memory, Check}
+use Rattle.session_modules.specs.declared.refusal.Refusal.{Refusal}
+use Rattle.session_modules.specs.declared.refusal.Refusal.TheVariants.{Memory, Check}
 use Rattle.script_text.specs.Form.{takes_no_memory}
 use Rattle.script_text.specs.Replies.{Reply, Replying, ReplyTo, history_after, written, line, refused}
 use Rattle.script_text.specs.Handed.{Handed, text, long}

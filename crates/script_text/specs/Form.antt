@@ -7,8 +7,8 @@ use Rattle.std.specs.Str.{bytes_eq}
 use Rattle.term_core.specs.Word.{label_of}
 use Rattle.term_paths.specs.PathText.{path_of, part_of}
 use Rattle.aterm_text.specs.Tokens.{is_blank, without_blanks}
-use Rattle.session_history.specs.declared.refusal.Refusal.{Refusal}
-use Rattle.session_history.specs.declared.refusal.Refusal.TheVariants.{Line, Name}
+use Rattle.session_modules.specs.declared.refusal.Refusal.{Refusal}
+use Rattle.session_modules.specs.declared.refusal.Refusal.TheVariants.{Line, Name}
 use Rattle.script_text.specs.Script.{without_end}
 use Rattle.session_history.specs.Budget.{IsBudget}
 use Rattle.session_history.specs.declared.TheConstants.{MAX_BUDGET, MAX_STEPS}

@@ -9,14 +9,14 @@ use Rattle.aterm_text.specs.Grammar.{Spells, SpellsAnnotations}
 use Rattle.aterm_text.specs.Printed.{print, print_name as print_symbol}
 use Rattle.strategy_check.specs.Words.{word_of as kind_word}
 use Rattle.session_history.specs.History.{History}
-use Rattle.session_history.specs.Modules.{ReadsWithin}
+use Rattle.session_modules.specs.Modules.{ReadsWithin}
 use Rattle.session_history.specs.Applying.{Meaning}
 use Rattle.session_history.specs.Acts as session
 use Rattle.session_history.specs.Preview.{Replacement, Preview, Previews}
 use Rattle.session_history.specs.Dump.{dumped}
-use Rattle.session_history.specs.Refusal.{number_of, word_of}
-use Rattle.session_history.specs.declared.refusal.Refusal.{Refusal}
-use Rattle.session_history.specs.declared.refusal.Refusal.TheVariants.{Long, Term, Check}
+use Rattle.session_modules.specs.Refusal.{number_of, word_of}
+use Rattle.session_modules.specs.declared.refusal.Refusal.{Refusal}
+use Rattle.session_modules.specs.declared.refusal.Refusal.TheVariants.{Long, Term, Check}
 use Rattle.script_text.specs.Handed.{Handed, text as handed_text, long}
 use Rattle.script_text.specs.Form.{Form, tree, copy, drop_tree, put, annotate, set_module, unload, apply, preview, undo, redo, begin, commit, abandon, show, trees, modules, module_text, history, dump, command_of}
 

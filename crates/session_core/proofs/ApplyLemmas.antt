@@ -16,8 +16,8 @@ use Rattle.session_history.specs.History.{History, changed}
 use Rattle.session_history.specs.Acts.{Act, apply, Performs, ActResult, ChangesTo, AppliesAt, Located, ComesTo}
 use Rattle.session_history.specs.Moving.{KeepsHistory, Changes}
 use Rattle.session_history.specs.Unfolded.{Logged, unfolded}
-use Rattle.session_history.specs.declared.refusal.Refusal.{Refusal}
-use Rattle.session_history.specs.declared.refusal.Refusal.TheVariants.{Memory}
+use Rattle.session_modules.specs.declared.refusal.Refusal.{Refusal}
+use Rattle.session_modules.specs.declared.refusal.Refusal.TheVariants.{Memory}
 use Rattle.session_history.proofs.StepLemmas.{passed, stopped, accepts, refuses}
 use Rattle.session_history.proofs.ActLemmas.{the_place}
 use Rattle.session_core.specs.inside.Foreseen.{IsRefusedRun}

@@ -14,7 +14,7 @@ use Rattle.strategy_run.proofs.ApplyLemmas.{in_tree, in_none, applied_there, app
 use Rattle.strategy_run.proofs.PlanLemmas.{gives_there, makes_there}
 use Rattle.session_history.specs.Applying.{given_by}
 use Rattle.session_history.specs.inside.Giving.{GivesIn}
-use Rattle.session_history.specs.declared.refusal.Refusal.TheVariants.{Fails}
+use Rattle.session_modules.specs.declared.refusal.Refusal.TheVariants.{Fails}
 use Rattle.session_core.specs.inside.Foreseen.{Foresees, IsRefusedRun}
 
 -- the tree of a slot that has a subterm at the path

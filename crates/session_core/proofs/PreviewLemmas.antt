@@ -26,8 +26,8 @@ use Rattle.session_history.specs.Preview.{Replacement, IsShown, Foresees as Show
 use Rattle.session_history.specs.Preview as definition
 use Rattle.session_history.specs.Acts.{Located}
 use Rattle.session_history.specs.Unfolded.{Logged, unfolded}
-use Rattle.session_history.specs.declared.refusal.Refusal.{Refusal}
-use Rattle.session_history.specs.declared.refusal.Refusal.TheVariants.{Memory, Fails}
+use Rattle.session_modules.specs.declared.refusal.Refusal.{Refusal}
+use Rattle.session_modules.specs.declared.refusal.Refusal.TheVariants.{Memory, Fails}
 use Rattle.session_history.proofs.ActLemmas.{place_held, part_there, the_place}
 use Rattle.session_core.specs.Previewing.{IsEntryFor, AreThere, ShowsPreview, AnswersPreview}
 use Rattle.session_core.specs.declared.preview.Preview.{Preview}

@@ -1,5 +1,5 @@
 -- Resolving a strategy for a place: the tests, one after the other.
-use Rattle.std.proofs.Common.{◌≡◌, ◌≤◌, ◌+◌, ◌⊎◌, ℕ, List, length, Option, Some, None, IfSome, option_and_then, Result, Ok, Err, inl, inr, refl, sym, ap, subst, arith}
+use Rattle.std.proofs.Common.{◌≡◌, ◌≤◌, ◌+◌, ◌⊎◌, ℕ, List, length, Option, Some, None, IsSome, IfSome, option_and_then, Result, Ok, Err, inl, inr, refl, sym, ap, subst, arith}
 use Rattle.std.specs.Prelude.{IsSomeAnd, option_map}
 use Rattle.prim_core.specs.Signature.{Signature}
 use Rattle.term_core.specs.Tree.{Tree}
@@ -8,31 +8,56 @@ use Rattle.term_core.specs.declared.TheConstants.{MAX_HEIGHT}
 use Rattle.term_paths.specs.Paths.{at}
 use Rattle.strategy_syntax.specs.Syntax.{Strategy}
 use Rattle.strategy_syntax.specs.declared.resolved.Resolved.{Resolved}
+use Rattle.strategy_check.specs.Faults.{Fault, IsTold}
 use Rattle.strategy_check.specs.Programs.{Program}
+use Rattle.strategy_check.specs.declared.fault.CheckFault.{CheckFault}
+use Rattle.strategy_check.specs.declared.fault.CheckFault.TheVariants.{Memory as NoCheckMemory, Fault as Told}
 use Rattle.term_changes.specs.Slots.{Store, contents}
 use Rattle.term_changes.specs.Entries.{subterm_in}
-use Rattle.strategy_check.specs.Checking.{Checked as CheckedModules}
-use Rattle.session_history.specs.declared.kept.KeptModules.{KeptModules}
+use Rattle.session_modules.specs.declared.checked.CheckedTexts.{CheckedTexts}
+use Rattle.session_modules.specs.declared.cache.ModuleCache.{ModuleCache}
 use Rattle.session_history.proofs.CheckLemmas.{given_by, none_unread}
-use Rattle.session_history.specs.Modules.{Texts, AreReadable, GivesProgram, AreCurrent, IsCurrent, program_in, Checks, AreRefused}
-use Rattle.session_history.specs.Applying.{ReadsAsStrategy, resolved_in}
+use Rattle.session_modules.specs.Modules.{Texts, AreReadable, GivesProgram, Checks, AreRefused}
+use Rattle.session_modules.specs.Kept.{AreCurrent, IsCurrent, program_in}
+use Rattle.session_history.specs.Applying.{ReadsAsStrategy, resolved_in, unless_faulty}
 use Rattle.session_history.specs.History.{History, AreFormed}
 use Rattle.session_history.specs.Acts.{Passing, Given, Located, Resolving, place_of}
 use Rattle.session_history.specs.Unfolded.{Logged, unfolded, IsPlaceOf}
-use Rattle.session_history.specs.declared.refusal.Refusal.{Refusal}
-use Rattle.session_history.specs.declared.refusal.Refusal.TheVariants.{Memory}
+use Rattle.session_modules.specs.Refusal.{check_refusal}
+use Rattle.session_modules.specs.declared.refusal.Refusal.{Refusal}
+use Rattle.session_modules.specs.declared.refusal.Refusal.TheVariants.{Memory}
 use Rattle.strategy_run.proofs.ApplyLemmas.{low_at}
 use Rattle.session_history.proofs.StepLemmas.{passed, stopped}
 use Rattle.session_history.proofs.ActLemmas.{place_held, seen_place, the_place}
 use Rattle.session_core.specs.inside.Resolved.{ResolvesTo, Never, IsUnresolved}
 
 -- the cached program, if one is passed
-pub lent_program : (ps : List Signature) (texts : Texts) (kept : KeptModules) (lent : Program) → Some lent ≡ program_in kept → IsCurrent ps texts kept → GivesProgram ps texts lent
-lent_program ps texts kept lent is there = by kept.checked is there
+pub lent_program : (ps : List Signature) (texts : Texts) (cache : ModuleCache) (lent : Program) → Some lent ≡ program_in cache → IsCurrent ps texts cache → GivesProgram ps texts lent
+lent_program ps texts cache lent is there = by cache.kept is there
   where
-    by : (o : Option CheckedModules) → Some lent ≡ option_map (λ c. c.program) o → IsSomeAnd o (AreCurrent ps texts) → GivesProgram ps texts lent
+    by : (o : Option CheckedTexts) → Some lent ≡ option_map (λ c. c.checked.program) o → IsSomeAnd o (AreCurrent ps texts) → GivesProgram ps texts lent
     by None e current = absurd current
-    by (Some c) e current = let same : lent ≡ c.program = cc in subst (GivesProgram ps texts) (sym same) (given_by ps texts c current)
+    by (Some c) e current = let same : lent ≡ c.checked.program = cc in subst (GivesProgram ps texts) (sym same) (given_by ps texts c current)
+
+-- modules that are current are there, and so is a program that is cached
+pub current_there : (ps : List Signature) (texts : Texts) (cache : ModuleCache) → IsCurrent ps texts cache → IsSome cache.kept
+current_there ps texts cache current = by cache.kept current
+  where
+    by : (o : Option CheckedTexts) → IsSomeAnd o (AreCurrent ps texts) → IsSome o
+    by None current = absurd current
+    by (Some c) current = refl
+
+pub program_there : (cache : ModuleCache) (p : Program) → program_in cache ≡ Some p → IsSome cache.kept
+program_there cache p = by cache.kept
+  where
+    by : (o : Option CheckedTexts) → option_map (λ c. c.checked.program) o ≡ Some p → IsSome o
+    by None e = absurd (cc)
+    by (Some c) e = refl
+
+-- what the checker told of a strategy
+pub told_resolved : (told : CheckFault) (found : Option Fault) (whole : Resolved) → IsTold told found → (check_refusal told ≡ Memory) ⊎ (◌≡◌ {A = Result Resolved Refusal} (unless_faulty found whole) (Err (check_refusal told)))
+told_resolved NoCheckMemory found whole is = inl refl
+told_resolved (Told kind name n m) found whole is = inr (ap (λ o. unless_faulty o whole) is)
 
 -- ---- a place in a tree that is low enough
 

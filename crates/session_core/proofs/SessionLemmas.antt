@@ -1,22 +1,22 @@
 -- What an act leaves of a session, and its answer.
-use Rattle.std.proofs.Common.{◌≡◌, List, Result, Ok, Err, sym, ap, subst}
+use Rattle.std.proofs.Common.{◌≡◌, ℕ, Bool, false, List, Result, Ok, Err, sym, ap, subst}
 use Rattle.std.specs.Prelude.{IsErrAnd}
+use Rattle.std.specs.Bool.{OnFalse}
 use Rattle.prim_core.specs.Signature.{Signature}
-use Rattle.term_changes.specs.Slots.{contents}
-use Rattle.change_log.specs.declared.texts.Texts.{Texts}
-use Rattle.change_log.specs.Texts.{TextsChange}
+use Rattle.term_changes.specs.Slots.{Slots, named, contents}
 use Rattle.session_history.specs.History.{History, HasSoundContents}
 use Rattle.session_history.specs.Acts.{Act, ComesTo, Performs, PerformsSurely}
-use Rattle.session_history.specs.Modules.{IsKept, NotesTexts}
+use Rattle.session_modules.specs.Modules.{Texts}
+use Rattle.session_modules.specs.Kept.{IsKept}
 use Rattle.session_history.specs.Moving.{PerformsOn, PerformsBy, PerformsSurelyOn}
 use Rattle.session_history.specs.Unfolded.{Logged, unfolded}
-use Rattle.session_history.specs.declared.kept.KeptModules.{KeptModules}
-use Rattle.session_history.specs.declared.refusal.Refusal.{Refusal}
+use Rattle.session_modules.specs.declared.cache.ModuleCache.{ModuleCache}
+use Rattle.session_modules.specs.declared.refusal.Refusal.{Refusal}
 use Rattle.session_history.proofs.SoundLemmas.{StandsOn, LeavesModules, step_sound, act_sound, act_leaves}
 use Rattle.session_history.proofs.ActLemmas.{kept_still}
 use Rattle.session_core.specs.inside.Held.{IsSession}
 
-module _ {X : Type 0} (act : Act) (r : Result X Refusal) (ps : List Signature) (old new : Logged) (k : KeptModules) where
+module _ {X : Type 0} (act : Act) (r : Result X Refusal) (ps : List Signature) (old new : Logged) (k : ModuleCache) where
   pub keeps : PerformsOn act old new r → StandsOn act → LeavesModules act → IsSession ps old k → IsSession ps new k
   keeps p stands leaves s = record {
     sound = act_sound act r (unfolded ps old) (unfolded ps new) stands (p.at ps).ok (p.at ps).err s.sound;
@@ -30,22 +30,30 @@ module _ {X : Type 0} (act : Act) (r : Result X Refusal) (ps : List Signature) (
   }
 
   -- the modules are kept anew
-  pub keeps_with : (m : KeptModules) → PerformsBy ps act old new r → StandsOn act → IsKept ps (contents new.store).modules m → IsSession ps old k → IsSession ps new m
+  pub keeps_with : (m : ModuleCache) → PerformsBy ps act old new r → StandsOn act → IsKept ps (contents new.store).modules m → IsSession ps old k → IsSession ps new m
   keeps_with m p stands kept s = record { sound = act_sound act r (unfolded ps old) (unfolded ps new) stands p.is.ok p.is.err s.sound; kept = kept }
 
-module _ {X : Type 0} (act : Act) (ps : List Signature) (old new : Logged) (k : KeptModules) where
+module _ {X : Type 0} (act : Act) (ps : List Signature) (old new : Logged) (k : ModuleCache) where
   pub keeps_refused : (refusal : Refusal) → PerformsSurelyOn {X = X} act old new (Err refusal) → IsSession ps old k → IsSession ps new k
   keeps_refused refusal p s = let same = (p.at ps).err in record {
     sound = subst HasSoundContents (sym same) s.sound;
     kept = kept_still ps old new k (ap (λ (h : History). h.now.modules) same) s.kept;
   }
 
-  -- the texts that may have changed are noted
-  pub keeps_noted : (x : X) (texts : Texts) (m : KeptModules) → PerformsSurelyOn act old new (Ok x) → StandsOn act → TextsChange texts old.store new.store → NotesTexts texts new.store k m
+  -- that texts may have changed is noted
+  pub keeps_noted : (x : X) (m : ModuleCache) → PerformsSurelyOn act old new (Ok x) → StandsOn act → ((ps : List Signature) (old now : Texts) → IsKept ps old k → IsKept ps now m)
       → IsSession ps old k → IsSession ps new m
-  keeps_noted x texts m p stands change notes s = record {
+  keeps_noted x m p stands notes s = record {
     sound = step_sound act (unfolded ps old) (unfolded ps new) stands s.sound (p.at ps).ok;
-    kept = notes.kept ps old.store change s.kept;
+    kept = notes ps (contents old.store).modules (contents new.store).modules s.kept;
+  }
+
+  -- no text has changed
+  pub keeps_texts : (x : X) (touched : Bool) → PerformsSurelyOn act old new (Ok x) → StandsOn act → touched ≡ false → OnFalse touched (new.store.modules ≡ old.store.modules)
+      → IsSession ps old k → IsSession ps new k
+  keeps_texts x touched p stands none same s = record {
+    sound = step_sound act (unfolded ps old) (unfolded ps new) stands s.sound (p.at ps).ok;
+    kept = subst (λ (ms : Slots (List ℕ)). IsKept ps (named ms) k) (sym (subst (λ b. OnFalse b (new.store.modules ≡ old.store.modules)) none same)) s.kept;
   }
 
 -- ---- answers, where the session is this history
@@ -59,10 +67,6 @@ module _ {X : Type 0} (act : Act) (ps : List Signature) (old new : Logged) (h : 
 
   pub performs_surely : (r : Result X Refusal) → PerformsSurelyOn act old new r → PerformsSurely act h (unfolded ps new) r
   performs_surely r p = subst (λ h. PerformsSurely act h (unfolded ps new) r) is (p.at ps)
-
-  -- the same answer with another value
-  pub performs_again : {Y : Type 0} (x : X) (y : Y) → PerformsSurelyOn act old new (Ok x) → PerformsSurely act h (unfolded ps new) (Ok y)
-  performs_again x y p = record { ok = (performs_surely (Ok x) p).ok; refused = tt; err = tt }
 
   -- the same refusal, at a `?`
   pub performs_passed : {Y : Type 0} (r : Result Y Refusal) (refusal : Refusal) → IsErrAnd r (λ e. e ≡ refusal) → PerformsSurelyOn {X = X} act old new (Err refusal) → PerformsSurely act h (unfolded ps new) r

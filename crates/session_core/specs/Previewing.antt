@@ -11,8 +11,8 @@ use Rattle.session_history.specs.Applying.{Meaning}
 use Rattle.session_history.specs.History.{History}
 use Rattle.session_history.specs.Preview.{Replacement, Previews}
 use Rattle.session_history.specs.Preview as definition
-use Rattle.session_history.specs.declared.refusal.Refusal.{Refusal}
-use Rattle.session_history.specs.declared.refusal.Refusal.TheVariants.{Memory}
+use Rattle.session_modules.specs.declared.refusal.Refusal.{Refusal}
+use Rattle.session_modules.specs.declared.refusal.Refusal.TheVariants.{Memory}
 use Rattle.session_core.specs.declared.preview.Preview.{Preview}
 
 -- an entry that puts what would be there at the place, in whatever slot

@@ -6,7 +6,7 @@ ghost use Rattle.strategy_run.specs.Applies.{applied_in};
 ghost use Rattle.session_history.specs.Applying.{world_in};
 ghost use Rattle.session_history.specs.inside.Giving.{GivesIn};
 ghost use Rattle.session_history.specs.History.{AreFormed};
-ghost use Rattle.session_history.specs.Modules.{IsKept};
+ghost use Rattle.session_modules.specs.Kept.{IsKept};
 ghost use Rattle.session_history.specs.Acts.{apply};
 ghost use Rattle.session_history.specs.Moving.{KeepsHistory, Changes, PerformsBy};
 ghost use Rattle.session_core.specs.inside.Foreseen.{IsLowIn, IsRefusedRun};
@@ -14,7 +14,7 @@ ghost use Rattle.session_core.specs.inside.Foreseen.{IsLowIn, IsRefusedRun};
 use crate::planning::plan_in_slot;
 use crate::resolving::resolve_at;
 use prim_core::{Meaning, Primitives};
-use session_history::{KeptModules, Refusal, Timeline};
+use session_history::{ModuleCache, Refusal, Timeline};
 use strategy_check::Program;
 use strategy_syntax::Resolved;
 use term_core::Label;
@@ -25,26 +25,24 @@ use term_paths::Path;
 pub(crate) fn apply_strategy<M: Meaning>(
     timeline: &mut Timeline,
     primitives: &Primitives<M>,
-    kept: &mut KeptModules,
+    cache: &mut ModuleCache,
     name: &Label,
     path: &Path,
     budget: u32,
     text: &[u8],
 ) -> Result<(), Refusal>
     requires formed { AreFormed (contents timeline.old.store) }
-    requires kept { IsKept primitives.now (contents timeline.old.store).modules kept.old }
+    requires kept { IsKept primitives.now (contents timeline.old.store).modules cache.old }
     ensures performs { PerformsBy primitives.now (apply M.meaning name.now path.now budget text.now)
         timeline.old timeline.new result }
-    ensures kept { IsKept primitives.now (contents timeline.new.store).modules kept.new }
+    ensures kept { IsKept primitives.now (contents timeline.new.store).modules cache.new }
 {
-    let (slot, whole) = match resolve_at(timeline, primitives, kept, name, path, text) {
+    let (slot, whole) = match resolve_at(timeline, primitives, cache, name, path, text) {
         Ok(found) => found,
         Err(refusal) => return Err(refusal),
     };
-    let Some(checked) = kept.program() else {
-        unreachable!()
-    };
-    let outcome = apply_in_slot(timeline, checked, primitives, slot, path, &whole, budget);
+    let program = cache.program();
+    let outcome = apply_in_slot(timeline, program, primitives, slot, path, &whole, budget);
     drop(whole);
     outcome
 }

@@ -5,7 +5,7 @@ ghost use Rattle.term_changes.specs.Slots.{contents};
 ghost use Rattle.strategy_run.specs.Applies.{applied_in};
 ghost use Rattle.session_history.specs.Applying.{world_in};
 ghost use Rattle.session_history.specs.History.{AreFormed};
-ghost use Rattle.session_history.specs.Modules.{IsKept};
+ghost use Rattle.session_modules.specs.Kept.{IsKept};
 ghost use Rattle.session_history.specs.Unfolded.{unfolded};
 ghost use Rattle.session_core.specs.Previewing.{AnswersPreview, IsNext};
 ghost use Rattle.session_core.specs.inside.Foreseen.{IsLowIn, Foresees, IsRefusedRun};
@@ -14,7 +14,7 @@ use crate::planning::plan_in_slot;
 use crate::resolving::resolve_at;
 use change_log::Plan;
 use prim_core::{Meaning, Primitives};
-use session_history::{KeptModules, Refusal, Timeline};
+use session_history::{ModuleCache, Refusal, Timeline};
 use std::marker::Model;
 use strategy_check::Program;
 use strategy_syntax::Resolved;
@@ -96,25 +96,23 @@ impl<'a> Places<'a> {
 pub(crate) fn preview_strategy<M: Meaning>(
     timeline: &Timeline,
     primitives: &Primitives<M>,
-    kept: &mut KeptModules,
+    cache: &mut ModuleCache,
     name: &Label,
     path: &Path,
     budget: u32,
     text: &[u8],
 ) -> Result<Preview, Refusal>
     requires formed { AreFormed (contents timeline.now.store) }
-    requires kept { IsKept primitives.now (contents timeline.now.store).modules kept.old }
+    requires kept { IsKept primitives.now (contents timeline.now.store).modules cache.old }
     ensures answers { AnswersPreview M.meaning name.now path.now budget text.now (unfolded primitives.now timeline.now) result }
-    ensures kept { IsKept primitives.now (contents timeline.now.store).modules kept.new }
+    ensures kept { IsKept primitives.now (contents timeline.now.store).modules cache.new }
 {
-    let (slot, whole) = match resolve_at(timeline, primitives, kept, name, path, text) {
+    let (slot, whole) = match resolve_at(timeline, primitives, cache, name, path, text) {
         Ok(found) => found,
         Err(refusal) => return Err(refusal),
     };
-    let Some(checked) = kept.program() else {
-        unreachable!()
-    };
-    let outcome = preview_in_slot(timeline, checked, primitives, slot, path, &whole, budget);
+    let program = cache.program();
+    let outcome = preview_in_slot(timeline, program, primitives, slot, path, &whole, budget);
     drop(whole);
     outcome
 }

@@ -4,15 +4,15 @@ ghost use Rattle.std.specs.Prelude.{◌≡◌, ◌<◌, ◌≤◌, ◌⊎◌, Ok
 ghost use Rattle.term_changes.specs.Slots.{contents};
 ghost use Rattle.session_history.specs.Applying.{ReadsAsStrategy, resolved_in};
 ghost use Rattle.session_history.specs.History.{AreFormed};
-ghost use Rattle.session_history.specs.Modules.{IsKept, program_in};
+ghost use Rattle.session_modules.specs.Kept.{IsKept, program_in};
 ghost use Rattle.session_history.specs.Unfolded.{unfolded};
 ghost use Rattle.session_core.specs.inside.Resolved.{ResolvesTo, IsUnresolved};
 
 use prim_core::{Meaning, Primitives};
-use session_history::{KeptModules, Refusal, Timeline, keep_modules};
+use session_history::{ModuleCache, Refusal, Timeline};
 use std::alloc::Global;
-use strategy_check::{CheckFault, Program, resolve};
-use strategy_parse::{ParseFault, parse_strategy};
+use strategy_check::{Program, resolve};
+use strategy_parse::parse_strategy;
 use strategy_syntax::{Resolved, Strategy};
 use term_core::Label;
 use term_paths::Path;
@@ -24,18 +24,18 @@ use term_paths::Path;
 pub(crate) fn resolve_at<M: Meaning>(
     timeline: &Timeline,
     primitives: &Primitives<M>,
-    kept: &mut KeptModules,
+    cache: &mut ModuleCache,
     name: &Label,
     path: &Path,
     text: &[u8],
 ) -> Result<(usize, Resolved), Refusal>
     requires formed { AreFormed (contents timeline.now.store) }
-    requires kept { IsKept primitives.now (contents timeline.now.store).modules kept.old }
+    requires kept { IsKept primitives.now (contents timeline.now.store).modules cache.old }
     ensures ok { IfOk result (λ found. ResolvesTo primitives.now timeline.now name.now path.now text.now
-        (program_in kept.new) found.0 found.1) }
+        (program_in cache.new) found.0 found.1) }
     ensures refused { IfErr result (λ refusal. (refusal ≡ Refusal.Memory)
         ⊎ IsUnresolved name.now path.now text.now (unfolded primitives.now timeline.now) refusal) }
-    ensures kept { IsKept primitives.now (contents timeline.now.store).modules kept.new }
+    ensures kept { IsKept primitives.now (contents timeline.now.store).modules cache.new }
 {
     let alloc = timeline.allocator();
     let slot = match timeline.place(name, path) {
@@ -46,14 +46,11 @@ pub(crate) fn resolve_at<M: Meaning>(
         Ok(strategy) => strategy,
         Err(refusal) => return Err(refusal),
     };
-    if let Err(refusal) = keep_modules(alloc, timeline.store(), primitives, kept) {
+    if let Err(refusal) = cache.check(timeline.store(), primitives) {
         drop(strategy);
         return Err(refusal);
     }
-    let Some(checked) = kept.program() else {
-        unreachable!()
-    };
-    let resolved = resolve_strategy(alloc, checked, primitives, &strategy);
+    let resolved = resolve_strategy(alloc, cache.program(), primitives, &strategy);
     drop(strategy);
     match resolved {
         Ok(whole) => Ok((slot, whole)),
@@ -69,9 +66,7 @@ fn read_strategy(alloc: Global, text: &[u8]) -> Result<Strategy, Refusal>
 {
     match parse_strategy(alloc, text) {
         Ok(strategy) => Ok(strategy),
-        Err(ParseFault::Deep) => Err(Refusal::Deep),
-        Err(ParseFault::Syntax) => Err(Refusal::Syntax),
-        Err(ParseFault::Memory) => Err(Refusal::Memory),
+        Err(fault) => Err(Refusal::from(fault)),
     }
 }
 
@@ -88,9 +83,6 @@ fn resolve_strategy<M: Meaning>(
 {
     match resolve(alloc, program, primitives, strategy) {
         Ok(whole) => Ok(whole),
-        Err(CheckFault::Memory) => Err(Refusal::Memory),
-        Err(CheckFault::Fault(kind, name, first, second)) => {
-            Err(Refusal::Check(kind, name, first, second))
-        }
+        Err(fault) => Err(Refusal::from(fault)),
     }
 }

@@ -12,7 +12,7 @@ ghost use Rattle.session_history.specs.Unfolded.{unfolded};
 use crate::applying::apply_strategy;
 use crate::preview::{Preview, preview_strategy};
 use prim_core::{Meaning, Primitives};
-use session_history::{KeptModules, Refusal, Timeline};
+use session_history::{ModuleCache, Refusal, Timeline};
 use std::alloc::Global;
 use std::marker::Model;
 use strategy_meaning::laws::heights_are_kept;
@@ -25,8 +25,7 @@ use term_paths::Path;
 pub struct Session<M: Meaning> {
     primitives: Primitives<M>,
     timeline: Timeline,
-    // Checked modules with their program: the current ones, or others from which these may differ.
-    kept: KeptModules,
+    cache: ModuleCache,
 }
 
 impl<M: Meaning> Model for Session<M> {
@@ -42,7 +41,7 @@ impl<M: Meaning> Model for Session<M> {
 
     ghost view = { λ a. unfolded a.primitives a.timeline };
 
-    ghost invariant = { λ a. IsSession a.primitives a.timeline a.kept };
+    ghost invariant = { λ a. IsSession a.primitives a.timeline a.cache };
 }
 
 impl<M: Meaning> Session<M> {
@@ -54,7 +53,7 @@ impl<M: Meaning> Session<M> {
         Session {
             primitives,
             timeline: Timeline::new(alloc),
-            kept: KeptModules::new(alloc),
+            cache: ModuleCache::new(alloc),
         }
     }
 
@@ -199,7 +198,7 @@ impl<M: Meaning> Session<M> {
         ensures { Performs (set_module name.now text.now) self.old self.new result }
     {
         self.timeline
-            .set_module(&self.primitives, &mut self.kept, name, text)
+            .set_module(&self.primitives, &mut self.cache, name, text)
     }
 
     /// Removes the module of this name. If there is none, the refusal is `NoModule`. Outside a
@@ -208,7 +207,8 @@ impl<M: Meaning> Session<M> {
     pub fn unload(&mut self, name: &Label) -> Result<(), Refusal>
         ensures { Performs (unload name.now) self.old self.new result }
     {
-        self.timeline.unload(&self.primitives, &mut self.kept, name)
+        self.timeline
+            .unload(&self.primitives, &mut self.cache, name)
     }
 
     /// Replaces the subterm at the path of the name's tree by the result of a strategy, given as
@@ -239,7 +239,7 @@ impl<M: Meaning> Session<M> {
         apply_strategy(
             &mut self.timeline,
             &self.primitives,
-            &mut self.kept,
+            &mut self.cache,
             name,
             path,
             budget,
@@ -269,7 +269,7 @@ impl<M: Meaning> Session<M> {
         preview_strategy(
             &self.timeline,
             &self.primitives,
-            &mut self.kept,
+            &mut self.cache,
             name,
             path,
             budget,
@@ -283,8 +283,10 @@ impl<M: Meaning> Session<M> {
     pub fn undo(&mut self, n: u32) -> Result<(), Refusal>
         ensures { PerformsSurely (undo n) self.old self.new result }
     {
-        let texts = self.timeline.undo(n)?;
-        self.kept.note(self.timeline.store(), texts);
+        let touched = self.timeline.undo(n)?;
+        if touched {
+            self.cache.note_change();
+        }
         Ok(())
     }
 
@@ -294,8 +296,10 @@ impl<M: Meaning> Session<M> {
     pub fn redo(&mut self, n: u32) -> Result<(), Refusal>
         ensures { PerformsSurely (redo n) self.old self.new result }
     {
-        let texts = self.timeline.redo(n)?;
-        self.kept.note(self.timeline.store(), texts);
+        let touched = self.timeline.redo(n)?;
+        if touched {
+            self.cache.note_change();
+        }
         Ok(())
     }
 
@@ -314,7 +318,7 @@ impl<M: Meaning> Session<M> {
     pub fn commit(&mut self) -> Result<(), Refusal>
         ensures { Performs commit self.old self.new result }
     {
-        self.timeline.commit(&self.primitives, &mut self.kept)
+        self.timeline.commit(&self.primitives, &mut self.cache)
     }
 
     /// Closes the group and undoes its changes; what can be undone and redone is the same as before
@@ -323,8 +327,10 @@ impl<M: Meaning> Session<M> {
     pub fn abandon(&mut self) -> Result<(), Refusal>
         ensures { PerformsSurely abandon self.old self.new result }
     {
-        let texts = self.timeline.abandon()?;
-        self.kept.note(self.timeline.store(), texts);
+        let touched = self.timeline.abandon()?;
+        if touched {
+            self.cache.note_change();
+        }
         Ok(())
     }
 }

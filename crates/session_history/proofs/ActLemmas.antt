@@ -1,29 +1,28 @@
 -- What the calls on a timeline mean for the acts of a session.
-use Rattle.std.proofs.Common.{◌≡◌, ◌⊎◌, ◌<◌, ℕ, ◌+◌, List, length, Option, Some, None, true, false, is_some, IsSome, option_map, option_and_then, Result, Ok, Err, inr, refl, sym, ap, subst, subst₂, ◌∙◌}
+use Rattle.std.proofs.Common.{◌≡◌, ◌⊎◌, ◌<◌, ℕ, ◌+◌, Bool, List, length, Option, Some, None, true, false, is_some, IsSome, option_map, option_and_then, Result, Ok, Err, inr, refl, sym, ap, subst, ◌∙◌}
 use Rattle.std.specs.Prelude.{IsErrAnd, IsSomeAnd}
 use Rattle.std.specs.FinMap as finmap
 use Rattle.prim_core.specs.Signature.{Signature}
 use Rattle.std.specs.List.{list_all}
 use Rattle.term_core.specs.Tree.{Tree}
 use Rattle.term_core.specs.Size.{fits}
-use Rattle.session_history.specs.declared.kept.KeptModules.{KeptModules}
+use Rattle.session_modules.specs.declared.cache.ModuleCache.{ModuleCache}
 use Rattle.term_paths.specs.Paths.{at, set_at, set_annotations_at}
 use Rattle.term_changes.specs.Contents.{Contents, with_tree}
-use Rattle.term_changes.specs.Slots.{Store, HaveDistinctLabels, contents, content, slot_of}
-use Rattle.term_changes.specs.Entries.{slot_tree, slot_text, subterm, subterm_annotations, before, put}
+use Rattle.term_changes.specs.Slots.{Store, contents, content, slot_of}
+use Rattle.term_changes.specs.Entries.{slot_tree, subterm, subterm_annotations, before}
 use Rattle.term_changes.proofs.ContentsLemmas.{tree_put, tree_taken, tree_of_name, subterm_put, annotations_put}
-use Rattle.change_log.specs.declared.texts.Texts.{Texts as TextsOf}
 use Rattle.session_history.specs.History.{HistoryGroup, History, changed, undone, redone}
 use Rattle.session_history.specs.Acts.{Act, set_tree, copy_tree, drop_tree, put as put_act, annotate, undo, redo, begin, abandon, Located, ComesTo, committed, place_of}
-use Rattle.session_history.specs.Modules.{Texts, SameBut, IsKept, Notes}
+use Rattle.session_modules.specs.Modules.{Texts}
+use Rattle.session_modules.specs.Kept.{IsKept}
 use Rattle.session_history.specs.Moving.{KeepsHistory, Puts, Moves, Commits, Leads, PerformsOn, PerformsBy, PerformsSurelyOn}
 use Rattle.session_history.specs.Unfolded.{Logged, unfolded, past_contents, later_contents, HasTree, IsPlaceOf}
-use Rattle.session_history.specs.declared.refusal.Refusal.{Refusal}
-use Rattle.session_history.specs.declared.refusal.Refusal.TheVariants.{Memory, NoTree, Big, NoUndo, NoRedo, Group, NoGroup}
+use Rattle.session_modules.specs.declared.refusal.Refusal.{Refusal}
+use Rattle.session_modules.specs.declared.refusal.Refusal.TheVariants.{Memory, NoTree, Big, NoUndo, NoRedo, Group, NoGroup}
 use Rattle.session_history.proofs.StepLemmas.{some_there, place_there, accepts, refuses, wants}
 use Rattle.session_history.proofs.HistoryLemmas.{undone_past, redone_past, goes, goes_nowhere}
-use Rattle.session_history.proofs.KeepingLemmas.{text_same_but}
-use Rattle.session_history.proofs.SoundLemmas.{committed_leaves, now_changed}
+use Rattle.session_history.proofs.SoundLemmas.{committed_leaves}
 
 -- ---- the same history
 
@@ -172,7 +171,7 @@ module _ {X : Type 0} (t : Logged) where
       pub redo_short : length (later_contents t) < k → PerformsSurelyOn {X = X} (redo k) t t (Err NoRedo)
       redo_short short = refused_surely (redo k) t NoRedo (λ ps. goes_nowhere (unfolded ps t) (unfolded ps t) (redone k (unfolded ps t)) NoRedo (closed_group t ps closed) (redone_past k (unfolded ps t) short))
 
-      module _ (n : Logged) (touched : TextsOf) (x : X) where
+      module _ (n : Logged) (touched : Bool) (x : X) where
         pub undo_done : Moves (undone k) touched t n → PerformsSurelyOn (undo k) t n (Ok x)
         undo_done moves = led (undo k) t n x (record { to = λ ps. goes (unfolded ps t) (unfolded ps n) (undone k (unfolded ps t)) NoUndo (closed_group t ps closed) (moves.value ps) })
 
@@ -184,7 +183,7 @@ pub ruleset acting = (keeps_itself, keeps_further, wants_on, led, is_place_of, p
 
 -- ---- the modules that a session keeps
 
-module _ (ps : List Signature) (old new : Logged) (k : KeptModules) where
+module _ (ps : List Signature) (old new : Logged) (k : ModuleCache) where
   -- they stay if the texts do
   pub kept_still : (unfolded ps new).now.modules ≡ (unfolded ps old).now.modules → IsKept ps (contents old.store).modules k → IsKept ps (contents new.store).modules k
   kept_still same = subst (λ (texts : Texts). IsKept ps texts k) (sym same)
@@ -198,12 +197,3 @@ module _ (ps : List Signature) (old new : Logged) (k : KeptModules) where
       by : (o : Option HistoryGroup) → IsSomeAnd o (λ g. unfolded ps new ≡ committed g (unfolded ps old)) → (unfolded ps new).now ≡ (unfolded ps old).now
       by None left = absurd left
       by (Some g) left = ap (λ (h : History). h.now) left ∙ committed_leaves g (unfolded ps old)
-
-  -- the text in one slot changed, and that was noted
-  pub kept_noted : (m : Logged) (later : KeptModules) (name : List ℕ) (i : ℕ) (text : Option (List ℕ)) → Notes name k later → KeepsHistory old m → HaveDistinctLabels m.store.modules
-      → slot_of m.store.modules name ≡ Some i → Puts (slot_text i text) m new → IsKept ps (contents old.store).modules k → IsKept ps (contents new.store).modules later
-  kept_noted m later name i text notes kept apart here change =
-      let before : (contents m.store).modules ≡ (contents old.store).modules = ap (λ (h : History). h.now.modules) (kept.same ps) in
-      let now : Contents = contents (put (slot_text i text) m.store) in
-      let after : now.modules ≡ (contents new.store).modules = sym (ap (λ (h : History). h.now.modules) (change.made ps) ∙ ap (λ (c : Contents). c.modules) (now_changed now (unfolded ps m))) in
-      notes.kept ps (contents old.store).modules (contents new.store).modules (subst₂ (SameBut name) before after (text_same_but m.store name i apart here (slot_text i text) text refl))

@@ -1,13 +1,13 @@
 -- One step back and one step forward are inverse, and so are any number of them.
-use Rattle.std.proofs.Common.{◌≡◌, ◌<◌, ℕ, zero, suc, List, [], ◌∷◌, length, arith, true, cond, is_none, Some, None, Ok, Err, Option, option_and_then, ok_or, refl, sym, ap, subst, ◌∙◌}
+use Rattle.std.proofs.Common.{◌≡◌, ◌<◌, ℕ, zero, suc, [], ◌∷◌, length, arith, true, cond, is_none, Some, None, Ok, Err, Option, option_and_then, ok_or, refl, sym, ap, subst, ◌∙◌}
 use Rattle.std.specs.Option.{option_map_or}
 use Rattle.term_changes.specs.Contents.{Contents}
-use Rattle.session_history.specs.Modules.{Checks}
+use Rattle.session_modules.specs.Modules.{Checks}
 use Rattle.session_history.specs.History.{HistoryGroup, History, stepped, step_back, step_forward, moved, undone, redone}
 use Rattle.session_history.specs.Acts.{ActResult, Passing, Holding, Given, Leaves, ComesTo, committed, undo, redo}
 use Rattle.session_history.specs.Laws.{ChangeIsUndone, GroupIsUndone, RedoTakesUndoBack, UndoTakesRedoBack}
-use Rattle.session_history.specs.declared.refusal.Refusal.{Refusal}
-use Rattle.session_history.specs.declared.refusal.Refusal.TheVariants.{NoUndo, NoRedo, Group, NoGroup}
+use Rattle.session_modules.specs.declared.refusal.Refusal.{Refusal}
+use Rattle.session_modules.specs.declared.refusal.Refusal.TheVariants.{NoUndo, NoRedo, Group, NoGroup}
 use Rattle.session_history.proofs.StepLemmas.{same_Ok, passing_Ok, holding_Ok, given_Ok, passed, stopped, held, ok_or-Ok, none_of}
 
 -- ---- one step

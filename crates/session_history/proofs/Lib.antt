@@ -1,15 +1,10 @@
 pub mod AllLemmas
-pub mod MapLemmas
 pub mod StepLemmas
 pub mod SoundLemmas
 pub mod HistoryLemmas
 pub mod TimelineLemmas
 pub mod PlaceLemmas
-pub mod TextLemmas
 pub mod CheckLemmas
 pub mod ActLemmas
 pub mod PatchLemmas
 pub mod OutermostLemmas
-pub mod KeepingLemmas
-pub mod ReadingLemmas
-pub mod KeptLemmas

@@ -11,9 +11,10 @@ use Rattle.term_core.specs.Tree.{Tree}
 use Rattle.term_changes.specs.Slots.{Slots, Store, HaveDistinctLabels, contents, content, slot_of}
 use Rattle.term_changes.specs.Compact.{IsCompact}
 use Rattle.term_changes.specs.Entries.{Entry, HasPlace, put, found, before, after, flipped_back, flipped_forward, Fits}
-use Rattle.term_changes.proofs.ContentsLemmas.{tree_of_name, module_of_name}
+use Rattle.term_changes.proofs.ContentsLemmas.{tree_of_name}
 use Rattle.term_changes.proofs.EntryLemmas.{before-append, pushed_fits, pushed_leads_back}
 use Rattle.change_log.proofs.FlipLemmas.{flipped_back_is_compact, flipped_forward_is_compact}
+use Rattle.session_modules.proofs.ReadingLemmas.{no_text, text_in}
 use Rattle.session_history.specs.History.{HistoryGroup, History, stepped, changed, back_to, forward_to, step_back, step_forward}
 use Rattle.session_history.specs.Acts.{committed}
 use Rattle.session_history.specs.Moving.{KeepsHistory, Changes, Puts, Commits}
@@ -39,13 +40,6 @@ module _ (s : Store) (name : List ℕ) where
 
     pub tree_in : (i : ℕ) (x : Option Tree) → Some i ≡ slot_of s.trees name → x ≡ content s.trees i → x ≡ finmap.get (contents s).trees name
     tree_in i x here is = is ∙ sym (tree_of_name s name apart ∙ ap (option_and_then (content s.trees)) (sym here))
-
-  module _ (apart : HaveDistinctLabels s.modules) where
-    pub no_text : None ≡ slot_of s.modules name → None ≡ finmap.get (contents s).modules name
-    no_text none = sym (module_of_name s name apart ∙ ap (option_and_then (content s.modules)) (sym none))
-
-    pub text_in : (i : ℕ) (x : Option (List ℕ)) → Some i ≡ slot_of s.modules name → x ≡ content s.modules i → x ≡ finmap.get (contents s).modules name
-    text_in i x here is = is ∙ sym (module_of_name s name apart ∙ ap (option_and_then (content s.modules)) (sym here))
 
 pub ruleset finding = (slot_within, no_tree, tree_in, no_text, text_in)
 

@@ -20,15 +20,15 @@ use Rattle.strategy_check.specs.Programs.{Program}
 use Rattle.strategy_syntax.specs.Syntax.{Strategy}
 use Rattle.strategy_meaning.specs.Applied.{Outcome as Ending, gives, fails, stops, IfGiven, applied}
 use Rattle.strategy_meaning.specs.Laws.{AppliedKeepsHeights}
-use Rattle.session_history.specs.Modules.{Texts, ReadsAsModule, AreReadable, AreRead, Finds, GivesProgram, Checks}
+use Rattle.session_modules.specs.Modules.{Texts, ReadsAsModule, AreReadable, AreRead, Finds, GivesProgram, Checks}
 use Rattle.session_history.specs.History.{HistoryGroup, History, stepped, changed, back_to, forward_to, step_back, step_forward, undone, redone, AreLow, AreFormed, AreSound, IsSoundNow, HasSoundContents}
 use Rattle.session_history.specs.Acts.{Act, set_tree, copy_tree, drop_tree, put, annotate, set_module, unload, apply, undo, redo, begin, commit, abandon, Passing, Leaves, ChangesTo, ChangesModules, Given, PutsAt, AnnotatesAt, AppliesAt, Located, ActResult, ComesTo, tree_of, module_text_of, place_of, committed}
 use Rattle.session_history.specs.Applying.{ReadsAsStrategy, resolved_in, world_in, given_by}
 use Rattle.session_history.specs.Laws.{ChangeIsToContents}
-use Rattle.session_history.specs.declared.refusal.Refusal.{Refusal}
-use Rattle.session_history.specs.declared.refusal.Refusal.TheVariants.{NoTree, Big, NoUndo, NoRedo, Group, NoGroup}
+use Rattle.session_modules.specs.declared.refusal.Refusal.{Refusal}
+use Rattle.session_modules.specs.declared.refusal.Refusal.TheVariants.{NoTree, Big, NoUndo, NoRedo, Group, NoGroup}
 use Rattle.session_history.proofs.HistoryLemmas.{same_Some, moved_keeps}
-use Rattle.session_history.proofs.MapLemmas.{no_keys}
+use Rattle.session_modules.proofs.MapLemmas.{no_keys}
 use Rattle.session_history.proofs.StepLemmas.{same_Ok, passing_Ok, holding_Ok, given_Ok, ok_or-Ok, none_of, place_tree}
 
 -- ---- contents

@@ -1,6 +1,7 @@
 -- The tests of an act: what an accepted one passed, and the outcome if the results of the tests are
 -- known.
 use Rattle.std.proofs.Common.{◌≡◌, ◌⊎◌, ℕ, Bool, true, false, List, Option, Some, None, IsSome, Result, Ok, Err, is_none, ok_or, option_map, inl, refl, sym, ap, subst, ◌∙◌, arith}
+use Rattle.std.specs.Bool.{OnFalse}
 use Rattle.std.specs.Result.{IsErrAnd}
 use Rattle.std.specs.FinMap as finmap
 use Rattle.term_core.specs.Tree.{Tree}
@@ -8,8 +9,8 @@ use Rattle.term_paths.specs.Paths.{at}
 use Rattle.term_changes.specs.Contents.{Contents}
 use Rattle.session_history.specs.History.{HistoryGroup, History}
 use Rattle.session_history.specs.Acts.{Act, ActResult, Passing, Holding, Given, Located, ComesTo, Performs, place_in, place_of}
-use Rattle.session_history.specs.declared.refusal.Refusal.{Refusal}
-use Rattle.session_history.specs.declared.refusal.Refusal.TheVariants.{Memory, NoTree, Path}
+use Rattle.session_modules.specs.declared.refusal.Refusal.{Refusal}
+use Rattle.session_modules.specs.declared.refusal.Refusal.TheVariants.{Memory, NoTree, Path}
 
 -- ---- what was accepted
 
@@ -93,3 +94,9 @@ module _ (c : Contents) (name path : List ℕ) where
   -- a label with a tree, and a path in it
   pub place_there : (t part : Tree) → finmap.get c.trees name ≡ Some t → at t path ≡ Some part → place_of c name path ≡ Ok (record { tree = t; part = part })
   place_there t part is leads_to = ap (λ (o : Option Tree). place_in path (ok_or o NoTree)) is ∙ ap (here path t) leads_to
+
+-- ---- what holds where a condition doesn't
+
+pub on_false : {P : Type 0} (b : Bool) → (b ≡ false → P) → OnFalse b P
+on_false true h = tt
+on_false false h = h refl

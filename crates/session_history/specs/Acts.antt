@@ -12,11 +12,11 @@ use Rattle.term_changes.specs.Contents.{Contents, with_tree, without_tree, with_
 use Rattle.strategy_syntax.specs.declared.resolved.Resolved.{Resolved}
 use Rattle.strategy_check.specs.Programs.{Program}
 use Rattle.strategy_meaning.specs.Applied.{applied}
-use Rattle.session_history.specs.Modules.{ReadsAsModule, Checks}
+use Rattle.session_modules.specs.Modules.{ReadsAsModule, Checks}
 use Rattle.session_history.specs.Applying.{Meaning, ReadsAsStrategy, resolved_in, world_in, given_by}
 use Rattle.session_history.specs.History.{HistoryGroup, History, stepped, changed, undone, redone}
-use Rattle.session_history.specs.declared.refusal.Refusal.{Refusal}
-use Rattle.session_history.specs.declared.refusal.Refusal.TheVariants.{Memory, NoTree, NoModule, Path, Big, NoUndo, NoRedo, Group, NoGroup}
+use Rattle.session_modules.specs.declared.refusal.Refusal.{Refusal}
+use Rattle.session_modules.specs.declared.refusal.Refusal.TheVariants.{Memory, NoTree, NoModule, Path, Big, NoUndo, NoRedo, Group, NoGroup}
 
 pub data Act : Type 0 where
   set_tree : List ℕ → Tree → Act  -- sets the tree of a label

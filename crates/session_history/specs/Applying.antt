@@ -11,9 +11,9 @@ use Rattle.strategy_check.specs.Programs.{Program, faults_of, resolved}
 use Rattle.strategy_meaning.specs.Answer.{Stop, spent, big}
 use Rattle.strategy_meaning.specs.Meaning.{World}
 use Rattle.strategy_meaning.specs.Applied.{Outcome, gives, fails, stops}
-use Rattle.session_history.specs.Modules.{ReadsBy, refusal_of}
-use Rattle.session_history.specs.declared.refusal.Refusal.{Refusal}
-use Rattle.session_history.specs.declared.refusal.Refusal.TheVariants.{Fails, Spent, Big}
+use Rattle.session_modules.specs.Modules.{ReadsBy, refusal_of}
+use Rattle.session_modules.specs.declared.refusal.Refusal.{Refusal}
+use Rattle.session_modules.specs.declared.refusal.Refusal.TheVariants.{Fails, Spent, Big}
 
 -- the meaning of primitives: from a name and a list of terms to a term, or to nothing
 abbrev pub Meaning : Type 0

@@ -12,7 +12,7 @@ use Rattle.prim_core.specs.Signature.{Signature}
 use Rattle.term_core.specs.Tree.{Tree}
 use Rattle.term_changes.specs.Contents.{Contents, Named, no_contents}
 use Rattle.strategy_check.specs.Faults.{Primitives}
-use Rattle.session_history.specs.Modules.{AreReadable, Finds}
+use Rattle.session_modules.specs.Modules.{AreReadable, Finds}
 
 -- An open group: the contents where it began, and whether a change was accepted since.
 pub record HistoryGroup : Type 0 where

@@ -1,6 +1,4 @@
-pub mod Refusal
 pub mod Budget
-pub mod Modules
 pub mod Applying
 pub mod History
 pub mod Unfolded

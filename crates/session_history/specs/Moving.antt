@@ -1,16 +1,15 @@
 -- What a call on a timeline does to the history that this unfolds to, whatever the primitives.
-use Rattle.std.specs.Prelude.{◌≡◌, List, Some, Ok, IsSomeAnd}
+use Rattle.std.specs.Prelude.{◌≡◌, Bool, List, Some, Ok, IsSomeAnd}
+use Rattle.std.specs.Bool.{OnFalse}
 use Rattle.std.specs.declared.option.Option.{Option}
 use Rattle.std.specs.declared.result.Result.{Result}
 use Rattle.prim_core.specs.Signature.{Signature}
 use Rattle.term_changes.specs.Slots.{contents}
 use Rattle.term_changes.specs.Entries.{Entry, put}
-use Rattle.change_log.specs.declared.texts.Texts.{Texts}
-use Rattle.change_log.specs.Texts.{TextsChange}
 use Rattle.session_history.specs.History.{History, changed}
 use Rattle.session_history.specs.Acts.{Act, ComesTo, committed, Performs, PerformsSurely}
 use Rattle.session_history.specs.Unfolded.{Logged, unfolded}
-use Rattle.session_history.specs.declared.refusal.Refusal.{Refusal}
+use Rattle.session_modules.specs.declared.refusal.Refusal.{Refusal}
 
 -- It stays the same.
 pub record KeepsHistory (old new : Logged) : Type 0 where
@@ -24,10 +23,10 @@ pub record Changes (old new : Logged) : Type 0 where
 pub record Puts (e : Entry) (old new : Logged) : Type 0 where
   pub made : (ps : List Signature) → unfolded ps new ≡ changed (contents (put e old.store)) (unfolded ps old)
 
--- It moves so, and only these module texts may change.
-pub record Moves (move : History → Option History) (touched : Texts) (old new : Logged) : Type 0 where
+-- It moves so. The module texts are the same, unless they are touched.
+pub record Moves (move : History → Option History) (touched : Bool) (old new : Logged) : Type 0 where
   pub value : (ps : List Signature) → move (unfolded ps old) ≡ Some (unfolded ps new)
-  pub texts : TextsChange touched old.store new.store
+  pub texts : OnFalse touched (new.store.modules ≡ old.store.modules)
 
 -- The open group becomes one step and is closed.
 pub record Commits (old new : Logged) : Type 0 where

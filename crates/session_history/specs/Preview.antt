@@ -13,8 +13,8 @@ use Rattle.strategy_meaning.specs.Outermost.{AreOutermost}
 use Rattle.session_history.specs.Applying.{Meaning, world_in, stopped_as}
 use Rattle.session_history.specs.History.{History}
 use Rattle.session_history.specs.Acts.{Located, Resolving}
-use Rattle.session_history.specs.declared.refusal.Refusal.{Refusal}
-use Rattle.session_history.specs.declared.refusal.Refusal.TheVariants.{Fails}
+use Rattle.session_modules.specs.declared.refusal.Refusal.{Refusal}
+use Rattle.session_modules.specs.declared.refusal.Refusal.TheVariants.{Fails}
 
 -- a path in a tree, the subterm there, and the one that would be there
 pub record Replacement : Type 0 where

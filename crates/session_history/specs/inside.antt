@@ -1,5 +1,4 @@
 pub mod Adding
 pub mod Codes
 pub mod Giving
-pub mod Keeping
 pub mod View

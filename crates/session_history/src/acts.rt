@@ -3,17 +3,17 @@
 #![tactic(auto, using(crate::proofs::ActLemmas::acting))]
 
 ghost use Rattle.std.specs.Prelude.{◌≡◌, Err, IfOk, IfErr};
+ghost use Rattle.std.specs.Bool.{OnFalse};
 ghost use Rattle.std.specs.List.{list_all};
 ghost use Rattle.term_core.specs.Size.{fits};
 ghost use Rattle.term_changes.specs.Slots.{contents};
-ghost use Rattle.change_log.specs.Texts.{TextsChange};
 ghost use Rattle.session_history.specs.Acts.{set_tree, copy_tree, drop_tree, put, annotate, undo, redo, begin, abandon, place_of};
 ghost use Rattle.session_history.specs.Unfolded.{IsPlaceOf};
 ghost use Rattle.session_history.specs.Moving.{PerformsOn, PerformsSurelyOn};
 
 use crate::finding::find_tree;
 use crate::{Refusal, Timeline};
-use change_log::{Entry, Texts};
+use change_log::Entry;
 use term_core::{Label, Term};
 use term_paths::{Path, at};
 
@@ -99,10 +99,10 @@ impl Timeline {
         Ok(slot)
     }
 
-    /// Goes `n` steps back. Returns which module texts may have changed.
-    pub fn undo(&mut self, n: u32) -> Result<Texts, Refusal>
+    /// Goes `n` steps back. Returns whether module texts may have changed.
+    pub fn undo(&mut self, n: u32) -> Result<bool, Refusal>
         ensures performs { PerformsSurelyOn (undo n) self.old self.new result }
-        ensures texts { IfOk result (λ texts. TextsChange texts self.old.store self.new.store) }
+        ensures texts { IfOk result (λ touched. OnFalse touched (self.new.store.modules ≡ self.old.store.modules)) }
     {
         if self.in_group() {
             return Err(Refusal::Group);
@@ -114,10 +114,10 @@ impl Timeline {
         Ok(self.back_by(steps))
     }
 
-    /// Goes `n` steps forward. Returns which module texts may have changed.
-    pub fn redo(&mut self, n: u32) -> Result<Texts, Refusal>
+    /// Goes `n` steps forward. Returns whether module texts may have changed.
+    pub fn redo(&mut self, n: u32) -> Result<bool, Refusal>
         ensures performs { PerformsSurelyOn (redo n) self.old self.new result }
-        ensures texts { IfOk result (λ texts. TextsChange texts self.old.store self.new.store) }
+        ensures texts { IfOk result (λ touched. OnFalse touched (self.new.store.modules ≡ self.old.store.modules)) }
     {
         if self.in_group() {
             return Err(Refusal::Group);
@@ -140,11 +140,11 @@ impl Timeline {
         Ok(())
     }
 
-    /// Undoes the changes of the open group and closes it. Returns which module texts may have
+    /// Undoes the changes of the open group and closes it. Returns whether module texts may have
     /// changed.
-    pub fn abandon(&mut self) -> Result<Texts, Refusal>
+    pub fn abandon(&mut self) -> Result<bool, Refusal>
         ensures performs { PerformsSurelyOn abandon self.old self.new result }
-        ensures texts { IfOk result (λ texts. TextsChange texts self.old.store self.new.store) }
+        ensures texts { IfOk result (λ touched. OnFalse touched (self.new.store.modules ≡ self.old.store.modules)) }
     {
         if !self.in_group() {
             return Err(Refusal::NoGroup);

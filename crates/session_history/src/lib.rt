@@ -5,14 +5,10 @@
 mod acts;
 mod dump;
 mod finding;
-mod kept;
 mod modules;
-mod reading;
-mod refusal;
 mod timeline;
 
-pub use kept::{KeptModules, keep_modules};
-pub use refusal::Refusal;
+pub use session_modules::{ModuleCache, Refusal};
 pub use timeline::{OpenGroup, Timeline};
 
 /// The most steps of one `undo` or `redo`.

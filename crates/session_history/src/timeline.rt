@@ -1,26 +1,26 @@
 //! Steps over one store: the logs that lead back from each, or forward again.
 
-ghost use Rattle.std.specs.Prelude.{◌≡◌, ◌⊎◌, ◌<◌, ◌≤◌, ◌+◌, ◌-◌, ◌++◌, ℕ, List, [], ◌∷◌, length, take, vec_capacity, IfOk, OnOk, OnErr, Some, None, Ok, Err, IsSome, IsSomeAnd, true, false, is_some, option_copied, IfErr};
+ghost use Rattle.std.specs.Prelude.{◌≡◌, ◌⊎◌, ◌<◌, ◌≤◌, ◌+◌, ◌-◌, ◌++◌, ℕ, List, [], ◌∷◌, length, take, vec_capacity, IfOk, IfSome, OnOk, OnErr, Some, None, Ok, Err, IsSome, IsSomeAnd, true, false, is_some, option_copied, option_map, IfErr};
+ghost use Rattle.std.specs.Bool.{OnFalse};
 ghost use Rattle.std.specs.Option.{option_map_or};
 ghost use Rattle.std.specs.FinMap as finmap;
 ghost use Rattle.std.specs.declared.option.Option.{Option};
 ghost use Rattle.prim_core.specs.Signature.{Signature};
 ghost use Rattle.term_changes.specs.Slots.{Store, contents, slot_of, HaveDistinctLabels};
-ghost use Rattle.term_changes.specs.Entries.{Entry, HasPlace, put, after, FitsForward};
+ghost use Rattle.term_changes.specs.Entries.{Entry, HasPlace, slot_text, after, FitsForward};
 ghost use Rattle.term_changes.specs.PatchLaws.{patch_entries};
-ghost use Rattle.change_log.specs.Texts.{TextsChange};
 ghost use Rattle.session_history.specs.History.{empty_history, step_back, step_forward, undone, redone};
 ghost use Rattle.session_history.specs.Acts.{begin, abandon};
-ghost use Rattle.session_history.specs.Modules.{AreRefused, SameBut, IsCurrent, IsKept};
+ghost use Rattle.session_modules.specs.Modules.{Checks, changed_text};
+ghost use Rattle.session_modules.specs.Kept.{IsCurrent, IsKept};
 ghost use Rattle.session_history.specs.Unfolded.{unfolded, past_contents, later_contents, AllCompact};
 ghost use Rattle.session_history.specs.inside.Adding.{AddsStep};
 ghost use Rattle.session_history.specs.Moving.{KeepsHistory, Changes, Puts, Moves, Leads, Commits};
 
 use crate::finding::{find_text, find_tree};
-use crate::kept::{catch_up, keep_modules};
-use crate::{KeptModules, Refusal};
-use change_log::{Entry, Log, Plan, Step, Store, Texts};
+use change_log::{Entry, Log, Plan, Step, Store, Text};
 use prim_core::{Meaning, Primitives};
+use session_modules::{ModuleCache, ReadModule, Refusal};
 use std::alloc::Global;
 use std::marker::Model;
 use std::mem;
@@ -247,50 +247,42 @@ impl Timeline {
         Ok(())
     }
 
-    /// Makes a change of the text of the module of this name as a step, if the checker then finds no
-    /// fault in the modules, which are kept. Else nothing changes.
-    pub fn change_checked<M: Meaning>(
+    /// Puts a text into the slot of the module of this name, or none, as a step, if the checker then
+    /// finds no fault in the modules. The text was read before. Else nothing changes.
+    pub fn change_text<M: Meaning>(
         &mut self,
         primitives: &Primitives<M>,
-        kept: &mut KeptModules,
+        cache: &mut ModuleCache,
         name: &Label,
-        entry: Entry<'_>,
+        slot: usize,
+        text: Option<Text>,
+        read: Option<ReadModule>,
     ) -> Result<(), Refusal>
-        requires place { HasPlace entry self.old.store }
         requires outside { self.old.group ≡ None }
-        requires one { SameBut name.now (contents self.old.store).modules
-            (contents (put entry self.old.store)).modules }
-        requires kept { IsKept primitives.now (contents self.old.store).modules kept.old }
-        ensures ok { OnOk result (Puts entry.entry self.old self.new) }
-        ensures current { OnOk result (IsCurrent primitives.now (contents self.new.store).modules kept.new) }
-        ensures refused { IfErr result (λ refusal. AreRefused primitives.now
-            (contents (put entry.entry self.old.store)).modules refusal) }
+        requires slot { slot_of self.old.store.modules name.now ≡ Some slot }
+        requires text { option_map (λ r. r.0) read ≡ text }
+        requires named { IfSome read (λ r. r.1.0 ≡ name.now) }
+        requires kept { IsKept primitives.now (contents self.old.store).modules cache.old }
+        ensures ok { OnOk result (Puts (slot_text slot text) self.old self.new) }
+        ensures current { OnOk result (IsCurrent primitives.now (changed_text
+            (contents self.old.store).modules name.now text) cache.new) }
+        ensures refused { IfErr result (λ refusal. (refusal ≡ Refusal.Memory)
+            ⊎ Checks primitives.now (changed_text (contents self.old.store).modules name.now
+            text) (Err refusal)) }
         ensures err { OnErr result (KeepsHistory self.old self.new) }
-        ensures kept { IsKept primitives.now (contents self.new.store).modules kept.new }
+        ensures kept { OnErr result (IsKept primitives.now (contents self.old.store).modules cache.new) }
     {
-        let alloc = *self.logs.allocator();
         let Ok(()) = self.logs.reserve(1) else {
             return Err(Refusal::Memory);
         };
-        catch_up(alloc, &self.store, primitives, kept);
-        let mut log = Log::new(alloc);
-        log.push(&mut self.store, entry)?;
-        kept.note_name(name);
-        match keep_modules(alloc, &self.store, primitives, kept) {
-            Ok(()) => {
-                add_log(&mut self.logs, &mut self.position, log);
-                Ok(())
-            }
-            Err(refusal) => {
-                log.roll_back(0, &mut self.store);
-                kept.note_name(name);
-                Err(refusal)
-            }
-        }
+        cache.replace(&self.store, primitives, name, read)?;
+        let step = Step::of_text(&mut self.store, slot, text);
+        add(&mut self.logs, &mut self.position, step);
+        Ok(())
     }
 
-    /// Goes one step back. Returns which module texts may have changed.
-    pub fn back(&mut self) -> Texts
+    /// Goes one step back. Returns whether module texts may have changed.
+    pub fn back(&mut self) -> bool
         requires some { 0 < self.old.position }
         requires outside { self.old.group ≡ None }
         ensures outside { self.new.group ≡ None }
@@ -299,28 +291,29 @@ impl Timeline {
     {
         self.position -= 1;
         let step = &mut self.logs[self.position];
-        let texts = step.texts();
+        let has_text = step.has_text();
         step.flip_back(&mut self.store);
-        texts
+        has_text
     }
 
-    /// Goes this many steps back. Returns which module texts may have changed.
-    pub fn back_by(&mut self, steps: usize) -> Texts
+    /// Goes this many steps back. Returns whether module texts may have changed.
+    pub fn back_by(&mut self, steps: usize) -> bool
         requires enough { steps ≤ self.old.position }
         requires outside { self.old.group ≡ None }
         ensures { Moves (undone steps) result self.old self.new }
     {
-        let mut texts = Texts::None;
+        let mut touched = false;
         let mut left = steps;
         while left > 0 {
             left -= 1;
-            texts = texts.and(self.back());
+            let has_text = self.back();
+            touched = touched || has_text;
         }
-        texts
+        touched
     }
 
-    /// Goes one step forward. Returns which module texts may have changed.
-    pub fn forward(&mut self) -> Texts
+    /// Goes one step forward. Returns whether module texts may have changed.
+    pub fn forward(&mut self) -> bool
         requires some { self.old.position < length self.old.logs }
         requires outside { self.old.group ≡ None }
         ensures outside { self.new.group ≡ None }
@@ -329,25 +322,26 @@ impl Timeline {
         ensures moves { Moves step_forward result self.old self.new }
     {
         let step = &mut self.logs[self.position];
-        let texts = step.texts();
+        let has_text = step.has_text();
         step.flip_forward(&mut self.store);
         self.position += 1;
-        texts
+        has_text
     }
 
-    /// Goes this many steps forward. Returns which module texts may have changed.
-    pub fn forward_by(&mut self, steps: usize) -> Texts
+    /// Goes this many steps forward. Returns whether module texts may have changed.
+    pub fn forward_by(&mut self, steps: usize) -> bool
         requires enough { self.old.position + steps ≤ length self.old.logs }
         requires outside { self.old.group ≡ None }
         ensures { Moves (redone steps) result self.old self.new }
     {
-        let mut texts = Texts::None;
+        let mut touched = false;
         let mut left = steps;
         while left > 0 {
             left -= 1;
-            texts = texts.and(self.forward());
+            let has_text = self.forward();
+            touched = touched || has_text;
         }
-        texts
+        touched
     }
 
     /// Opens a group. It takes no memory.
@@ -383,18 +377,17 @@ impl Timeline {
         self.group.is_some_and(|group| group.changed)
     }
 
-    /// Undoes the changes of the open group and closes it. Returns which module texts may have
+    /// Undoes the changes of the open group and closes it. Returns whether module texts may have
     /// changed. It takes no memory.
-    #[tactic(auto, using(crate::proofs::TextLemmas::changed_back))]
-    pub fn leave_group(&mut self) -> Texts
+    pub fn leave_group(&mut self) -> bool
         requires inside { IsSome self.old.group }
         ensures value { Leads abandon self.old self.new }
-        ensures texts { TextsChange result self.old.store self.new.store }
+        ensures texts { OnFalse result (self.new.store.modules ≡ self.old.store.modules) }
     {
-        let texts = self.current.texts();
+        let has_text = self.current.has_text();
         self.current.roll_back(0, &mut self.store);
         self.group = None;
-        texts
+        has_text
     }
 }
 

@@ -2,8 +2,8 @@
 use Rattle.std.proofs.Common.{◌≡◌, ◌⊎◌, Ok, Err, IfErr, OnOk, Result, inl, inr, refl}
 use Rattle.session_history.specs.History.{History}
 use Rattle.session_history.specs.Acts.{Given, ActResult}
-use Rattle.session_history.specs.declared.refusal.Refusal.{Refusal}
-use Rattle.session_history.specs.declared.refusal.Refusal.TheVariants.{Memory}
+use Rattle.session_modules.specs.declared.refusal.Refusal.{Refusal}
+use Rattle.session_modules.specs.declared.refusal.Refusal.TheVariants.{Memory}
 
 module _ {X : Type 0} (Gives : Result X Refusal → Type 0) (next : X → ActResult → Type 0) where
   pub unread : (refusal : Refusal) → (refusal ≡ Memory) ⊎ Gives (Err refusal) → (refusal ≡ Memory) ⊎ Given Gives next (Err refusal)

@@ -12,8 +12,8 @@ use Rattle.strategy_meaning.specs.Applied.{Outcome}
 use Rattle.strategy_meaning.specs.Meaning.{World, run_whole}
 use Rattle.strategy_run.specs.Planning.{Gives}
 use Rattle.session_history.specs.Applying.{given_by}
-use Rattle.session_history.specs.declared.refusal.Refusal.{Refusal}
-use Rattle.session_history.specs.declared.refusal.Refusal.TheVariants.{Memory}
+use Rattle.session_modules.specs.declared.refusal.Refusal.{Refusal}
+use Rattle.session_modules.specs.declared.refusal.Refusal.TheVariants.{Memory}
 
 -- the subterm there, if there is one, is low enough at its level
 abbrev pub IsLowIn : Store → ℕ → List ℕ → Type 0

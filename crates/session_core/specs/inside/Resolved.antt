@@ -8,13 +8,13 @@ use Rattle.term_changes.specs.Slots.{contents}
 use Rattle.strategy_syntax.specs.Syntax.{Strategy}
 use Rattle.strategy_syntax.specs.declared.resolved.Resolved.{Resolved}
 use Rattle.strategy_check.specs.Programs.{Program}
-use Rattle.session_history.specs.Modules.{GivesProgram}
+use Rattle.session_modules.specs.Modules.{GivesProgram}
 use Rattle.session_history.specs.Applying.{ReadsAsStrategy, resolved_in}
 use Rattle.session_history.specs.History.{History}
 use Rattle.session_history.specs.Acts.{Located, Resolving}
 use Rattle.session_history.specs.Unfolded.{Logged, IsPlaceOf}
-use Rattle.session_history.specs.declared.refusal.Refusal.{Refusal}
-use Rattle.session_history.specs.declared.refusal.Refusal.TheVariants as refusals
+use Rattle.session_modules.specs.declared.refusal.Refusal.{Refusal}
+use Rattle.session_modules.specs.declared.refusal.Refusal.TheVariants as refusals
 use Rattle.strategy_run.specs.declared.ended.Ended.{Ended}
 use Rattle.strategy_run.specs.declared.ended.Ended.TheVariants.{Done, Failed, Spent, Big}
 

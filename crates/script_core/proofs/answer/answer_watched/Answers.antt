@@ -1,5 +1,5 @@
 use Rattle.std.proofs.Common.{true, refl, ap, inr, sym, subst}
-use Rattle.session_history.specs.declared.refusal.Refusal.TheVariants.{Long}
+use Rattle.session_modules.specs.declared.refusal.Refusal.TheVariants.{Long}
 use Rattle.script_text.specs.declared.keyword.Keyword.TheVariants.{Tree, Put}
 use Rattle.script_text.specs.Handed.{Handed, long}
 use Rattle.script_text.specs.FedRight.{handed_out}

@@ -1,6 +1,6 @@
 use Rattle.std.proofs.Common.{refl}
-use Rattle.session_history.specs.Modules.{program_in}
-use Rattle.session_core.proofs.ResolveLemmas.{is_low}
+use Rattle.session_modules.specs.Kept.{program_in}
+use Rattle.session_core.proofs.ResolveLemmas.{is_low, program_there}
 use Rattle.session_core.proofs.PreviewLemmas.{preview_unresolved, preview_answers}
 use Rattle.session_core.proofs.preview.preview_strategy.Goals as goal
 
@@ -13,5 +13,8 @@ returns-in-Err-clause-answers g c =
 
 pub returns-clause-answers : goal.returns-clause-answers
 returns-clause-answers g c =
-    preview_answers g.M.Meaning.meaning c.args.primitives.now c.args.timeline.now c.args.name.now c.args.path.now c.args.text.now c.args.budget (program_in c.resolve_at.new.kept) c.in-Ok.found.0 c.in-Ok.found.1 c.in-Ok.ensures.ok
-    c.in-Some.checked.now c.in-Some.ensures c.preview_in_slot-outcome.result c.preview_in_slot-outcome.ensures.ok c.preview_in_slot-outcome.ensures.refused
+    preview_answers g.M.Meaning.meaning c.args.primitives.now c.args.timeline.now c.args.name.now c.args.path.now c.args.text.now c.args.budget (program_in c.resolve_at.new.cache) c.in-Ok.found.0 c.in-Ok.found.1 c.in-Ok.ensures.ok
+    c.program-program.result.now c.program-program.ensures c.preview_in_slot-outcome.result c.preview_in_slot-outcome.ensures.ok c.preview_in_slot-outcome.ensures.refused
+
+pub program-program-requires : goal.program-program-requires
+program-program-requires g c = program_there c.resolve_at.new.cache c.in-Ok.ensures.ok.program c.in-Ok.ensures.ok.cache

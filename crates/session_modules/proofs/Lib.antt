@@ -1,0 +1,4 @@
+pub mod MapLemmas
+pub mod ReplacedLemmas
+pub mod ReadingLemmas
+pub mod CacheLemmas

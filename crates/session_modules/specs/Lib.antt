@@ -1,0 +1,4 @@
+pub mod Refusal
+pub mod Modules
+pub mod Kept
+pub mod inside

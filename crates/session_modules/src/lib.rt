@@ -1,0 +1,11 @@
+//! The modules of a session: their texts are read, and those that were checked last are kept.
+#![tactic(auto)]
+
+mod cache;
+mod checked;
+mod reading;
+mod refusal;
+
+pub use cache::ModuleCache;
+pub use reading::{ReadModule, module_text, read_module};
+pub use refusal::Refusal;
