@@ -474,7 +474,7 @@ STRING = re.compile(
     r"|(?<![A-Za-z0-9_])b?'(?:\\[^']*'|\\''|[^'\\]')", re.S)
 ITEM = re.compile(
     r"(?P<pub>pub(?P<within>\s*\([^)]*\))?\s+)?"
-    r"(?:(?:unsafe|async|const(?=\s+(?:unsafe\s+)?fn)|default)\s+)*"
+    r"(?:(?:unsafe|async|extern|const(?=\s+(?:unsafe\s+)?fn)|default)\s+)*"
     r"(?P<kind>ghost\s+use|ghost|use|mod|const|static|type|struct|enum|trait|impl|fn)\b")
 CLAUSE = re.compile(r"(requires|ensures)(\*?)\s*([A-Za-z_0-9]*)\s*\{")
 GHOST_CLAUSE = re.compile(r"ghost\s+(\w+)\s*:\s*\{")

@@ -18,6 +18,7 @@
     0
 
 The program is looked for in PATH; the environment's STRATBENCH names another. Each command is answered before the next is sent.
+With `Stratbench(embedded=True)` the session is in this process, in the shared object of the library for C.
 """
 
 from __future__ import annotations
@@ -30,6 +31,7 @@ from collections.abc import Iterator, Sequence
 from types import TracebackType
 from typing import Final, NamedTuple, Union
 
+from .embedded import Embedded
 from .parts import Step, TooLong, in_parts
 from .places import Command, Text
 from .process import Process
@@ -46,6 +48,8 @@ _BEGINS: Final = "\r "
 _MOST: Final = 65_536 - len(_BEGINS)
 _PART: Final = 50_000
 _MOST_STEPS: Final = 1_000_000
+# The budget of an `apply` that names none, as the program has it.
+_STEPS: Final = 100_000
 
 
 class Refused(Exception):
@@ -113,6 +117,9 @@ class Stratbench:
     `options` are further words of the command line, as `["--tree", "t=in.aterm"]`. It can be a context manager, which
     closes it.
 
+    An `embedded` session takes no options and no `seconds`, and isn't stopped by Ctrl-C. The shared object is `program`, or
+    what the environment's STRATBENCH_LIBRARY names, or `libstratbench.so`. It is used by one thread at a time.
+
     A call that takes more than `seconds` raises `TimeoutError`, and ends the session; the attribute may be changed. What the
     program says of an accepted command, as the warnings of a module, is in `warnings` until the next command.
 
@@ -134,14 +141,22 @@ class Stratbench:
         options: Sequence[str] = (),
         program: str | None = None,
         seconds: float | None = None,
+        embedded: bool = False,
     ) -> None:
-        words = [program or os.environ.get("STRATBENCH") or "stratbench", *options]
-        words += ["--explain"] * ("--explain" not in options)
-        words += ["--library"] * library + (["--steps", str(steps)] if steps else [])
         self.seconds = seconds
         self.warnings: list[str] = []
         self._line = 1
         self._grouped = False
+        self._process: Process | Embedded
+        if embedded:
+            if options or seconds is not None:
+                raise ValueError("an embedded session takes no options and no seconds")
+            path = program or os.environ.get("STRATBENCH_LIBRARY") or "libstratbench.so"
+            self._process = Embedded(path, library, steps or _STEPS)
+            return
+        words = [program or os.environ.get("STRATBENCH") or "stratbench", *options]
+        words += ["--explain"] * ("--explain" not in options)
+        words += ["--library"] * library + (["--steps", str(steps)] if steps else [])
         self._process = Process(words)
         self._answer("history")
 
@@ -421,7 +436,8 @@ class Stratbench:
         # the answers to these have any number of lines, and that to `history` begins with `undo `, as none of theirs does
         script = [command, "history"] if word in ("text", "dump") else [command]
         self._process.write("".join(f"{it}\n{_BEGINS}" for it in script))
-        self._line += command.count("\n") + len(script)
+        if self._process.goes_on:
+            self._line += command.count("\n") + len(script)
         until = None if self.seconds is None else time.monotonic() + self.seconds
         lines = [self._process.line(until)]
         if word == "preview" and lines[0].startswith("changes "):

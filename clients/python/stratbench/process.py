@@ -11,12 +11,15 @@ import tempfile
 import time
 import weakref
 from collections.abc import Sequence
-from typing import IO
+from typing import IO, Final
 
 
 class Process:
     """The program, run with these words. What it says on standard error goes to a file, so that nobody has to read it for
     the program to go on. It is in a session of its own, so that Ctrl-C doesn't end it. It ends with this value at the latest."""
+
+    # All that is sent is one script.
+    goes_on: Final = True
 
     def __init__(self, words: Sequence[str]) -> None:
         self._said: IO[bytes] = tempfile.TemporaryFile()

@@ -43,8 +43,9 @@ pub fn answer_text<M: Meaning>(
     answer_watched(alloc, session, command, budget, answer, &mut Unwatched)
 }
 
-// Answers a command, and shows it to the observer.
-pub(crate) fn answer_watched<M: Meaning, W: Watch<M>>(
+/// Answers a command as `answer_text` does, and shows the observer whether it was accepted, or which
+/// refusal it got.
+pub fn answer_watched<M: Meaning, W: Watch<M>>(
     alloc: Global,
     session: &mut Session<M>,
     command: Piece<'_>,

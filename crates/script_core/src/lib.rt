@@ -11,7 +11,7 @@ mod refusing;
 mod running;
 mod watch;
 
-pub use answer::answer_text;
+pub use answer::{answer_text, answer_watched};
 pub use buffer::{ANSWER_ROOM, Answer};
 pub use running::{MAX_READS, PIECE, RunFault, Settings, Summary, run, run_watched};
 pub use script_text::{

@@ -7,9 +7,7 @@ ghost use Rattle.stratbench.specs.Files.{Loads, LoadsAll};
 
 mod dialogue;
 mod explaining;
-mod library;
 mod loading;
-mod module_text;
 mod status;
 mod writing;
 
@@ -18,7 +16,6 @@ use clap::error::ErrorKind;
 use command_line::{CommandLine, Load, Named, arguments};
 use dialogue::{Group, Prompting, Watched};
 use explaining::{Explaining, explain_load, warn_of_load};
-use library::{library_text, load_library};
 use loading::{load_text, read_file};
 use prim_core::{Meaning, Primitive, Primitives};
 use prim_extended::extended_primitives;
@@ -26,6 +23,7 @@ use script_core::{
     Answer, Counted, Framing, RunFault, Settings, Sink, Source, Summary, run, run_watched,
 };
 use session_core::{Refusal, Session};
+use session_loading::{library_text, load_library};
 use status::{FileFault, file_status, status};
 use std::alloc::Global;
 use std::env;

@@ -1,0 +1,86 @@
+/* Sessions of the workbench, for C. docs/manual/c.md has an example, and how to link.
+ *
+ * The functions are proved in Rattle (crates/stratbench_c). What their contracts require of the caller stands here, since
+ * nothing checks it:
+ *
+ * - A handle is the address of stratbench_size() bytes, aligned to 16 as malloc aligns. stratbench_new makes a session
+ *   there, and stratbench_drop ends it: then the bytes are the caller's again. In between the caller neither reads, writes,
+ *   copies nor moves them, and each handle is used by one call at a time, on the thread that made it.
+ * - No pointer is null, not even for 0 bytes. Bytes are readable, and those to be written writable, for the whole length.
+ *   No two areas of memory of a call overlap.
+ * - malloc, realloc and free are of one allocator, and align as the C library's do. No function is called from a signal
+ *   handler, or in the child of a fork of a process with threads.
+ * - 4 MiB of stack are there, which were enough for the deepest terms, strategies and modules.
+ */
+#ifndef STRATBENCH_H
+#define STRATBENCH_H
+
+#include <stddef.h>
+#include <stdint.h>
+
+#ifdef __cplusplus
+extern "C" {
+#endif
+
+/* How a call ended. */
+enum {
+    /* All commands are answered, and accepted. It is loaded, or shown. */
+    STRATBENCH_ACCEPTED = 0,
+    /* All commands are answered, and some are refused. It isn't loaded, or shown, and the session is as it was. */
+    STRATBENCH_REFUSED = 1,
+    /* Memory couldn't grow for the answers: the first commands are answered, and their answers are whole. No other command
+     * is run. */
+    STRATBENCH_CUT = 2,
+    /* There was no memory to begin: nothing is done. A handle that found no memory for its session says so at each call. */
+    STRATBENCH_NO_MEMORY = 3,
+    /* The steps are not from 1 to 1,000,000: nothing is done. */
+    STRATBENCH_NO_BUDGET = 4
+};
+
+/* The bytes at a handle, the same at each call. */
+size_t stratbench_size(void);
+
+/* Makes a session without trees and modules. */
+void stratbench_new(void *handle);
+
+/* Loads the library, whose definitions docs/manual/applying.md lists, as a step. On a new session only want of memory can refuse
+ * it; the answers are then as before, else there are none. */
+uint32_t stratbench_library(void *handle);
+
+/* Sets the module of a name to a text as a file has it, as a step: its lines may begin in the first column. The text may have any
+ * length. If it is refused, the answer is the refusal, else there are no answers. */
+uint32_t stratbench_module(void *handle, const uint8_t *name, size_t name_length, const uint8_t *text, size_t length);
+
+/* Sets the tree of a name to what a text spells, as a step. The rest is as for a module. */
+uint32_t stratbench_tree(void *handle, const uint8_t *name, size_t name_length, const uint8_t *text, size_t length);
+
+/* Answers the commands of a script, which may go on over lines. The last one ends with the script. `steps`, from 1 to
+ * 1,000,000, is the budget of an `apply` or `preview` that names none. Unless nothing is done, the answers take the place of
+ * those of the last call. */
+uint32_t stratbench_run(void *handle, const uint8_t *script, size_t length, uint32_t steps);
+
+/* The same, where each line is a command. */
+uint32_t stratbench_lines(void *handle, const uint8_t *script, size_t length, uint32_t steps);
+
+/* The answer is the text of the tree of a name, and a line feed; or the refusal, if there is no such tree. */
+uint32_t stratbench_show(void *handle, const uint8_t *name, size_t name_length);
+
+/* Copies the answers of the last call, one after the other, to the start of `out` if they fit into `room` bytes, and
+ * returns their length. They stay until the next script, load or tree that is shown. */
+size_t stratbench_copy(void *handle, uint8_t *out, size_t room);
+
+/* Says whether the calls that follow are to be explained: not if `explains` is 0, and not in a new session. */
+uint32_t stratbench_explain(void *handle, uint32_t explains);
+
+/* Copies what was said of the last call as stratbench_copy does its answers: lines on each refused command or load, and on what
+ * an accepted one may not be meant to say, as `stratbench --explain` writes them. Lines for which there was no memory are left
+ * out. */
+size_t stratbench_hints(void *handle, uint8_t *out, size_t room);
+
+/* Ends the session, and gives its memory back. */
+void stratbench_drop(void *handle);
+
+#ifdef __cplusplus
+}
+#endif
+#endif

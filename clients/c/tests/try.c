@@ -1,0 +1,376 @@
+/* Tries the library: a line for each trial, and status 1 where one failed. It is linked with `--wrap` for malloc, calloc and
+ * realloc, so that growths of memory can be refused. */
+#include "stratbench.h"
+#include <stdio.h>
+#include <stdlib.h>
+#include <string.h>
+
+#define STEPS 100000
+#define COMMANDS 12
+
+static int failed;
+
+#define CHECK(holds) \
+    do { \
+        if (!(holds)) { \
+            printf("  line %d: %s\n", __LINE__, #holds); \
+            failed++; \
+        } \
+    } while (0)
+
+/* ---- growths of memory */
+
+void *__real_malloc(size_t size);
+void *__real_calloc(size_t count, size_t size);
+void *__real_realloc(void *block, size_t size);
+
+/* Growths are counted from 1. Those from `first_refused` to `last_refused` are refused, and those of more than `largest`
+ * bytes. */
+static unsigned long growths, first_refused, last_refused;
+static size_t largest = SIZE_MAX;
+
+static int is_refused(size_t size) {
+    growths++;
+    return size > largest || (first_refused <= growths && growths <= last_refused);
+}
+
+void *__wrap_malloc(size_t size) { return is_refused(size) ? NULL : __real_malloc(size); }
+
+void *__wrap_calloc(size_t count, size_t size) {
+    return is_refused(count * size) ? NULL : __real_calloc(count, size);
+}
+
+void *__wrap_realloc(void *block, size_t size) { return is_refused(size) ? NULL : __real_realloc(block, size); }
+
+static void refuse(unsigned long first, unsigned long last) {
+    growths = 0;
+    first_refused = first;
+    last_refused = last;
+}
+
+static void refuse_none(void) {
+    refuse(1, 0);
+    largest = SIZE_MAX;
+}
+
+/* ---- calls */
+
+static void *begin(void) {
+    void *handle = __real_malloc(stratbench_size());
+    stratbench_new(handle);
+    return handle;
+}
+
+static void end(void *handle) {
+    stratbench_drop(handle);
+    free(handle);
+}
+
+static uint32_t run(void *handle, const char *script) {
+    return stratbench_run(handle, (const uint8_t *)script, strlen(script), STEPS);
+}
+
+/* Whether a call copies this text. It is copied into a block of just its size. */
+static int copied_is(size_t (*copy)(void *, uint8_t *, size_t), void *handle, const char *wanted) {
+    uint8_t nothing;
+    size_t length = copy(handle, &nothing, 0);
+    uint8_t *out = __real_malloc(length + 1);
+    int same = copy(handle, out, length) == length && length == strlen(wanted) && memcmp(out, wanted, length) == 0;
+    if (!same) printf("  copied: %.*s  wanted: %s", (int)length, (char *)out, wanted);
+    free(out);
+    return same;
+}
+
+/* Whether these are the answers of the last call. */
+static int answers_are(void *handle, const char *wanted) { return copied_is(stratbench_copy, handle, wanted); }
+
+/* Whether this was said of the last call. */
+static int hints_are(void *handle, const char *wanted) { return copied_is(stratbench_hints, handle, wanted); }
+
+/* ---- trials */
+
+static void statuses(void) {
+    void *handle = begin();
+    CHECK(answers_are(handle, ""));
+    CHECK(run(handle, "") == STRATBENCH_ACCEPTED);
+    CHECK(run(handle, "tree t f(1)\nshow t") == STRATBENCH_ACCEPTED && answers_are(handle, "ok\nf(1)\n"));
+    CHECK(run(handle, "show t\nshow u\nshow t") == STRATBENCH_REFUSED && answers_are(handle, "f(1)\nrefused 5 notree\nf(1)\n"));
+    const uint8_t undo[] = "undo";
+    CHECK(stratbench_run(handle, undo, 4, 0) == STRATBENCH_NO_BUDGET);
+    CHECK(stratbench_lines(handle, undo, 4, 1000001) == STRATBENCH_NO_BUDGET);
+    CHECK(answers_are(handle, "f(1)\nrefused 5 notree\nf(1)\n"));
+    CHECK(stratbench_run(handle, undo, 3, 1) == STRATBENCH_REFUSED && answers_are(handle, "refused 2 line\n"));
+    CHECK(stratbench_run(handle, undo, 4, 1000000) == STRATBENCH_ACCEPTED && answers_are(handle, "ok\n"));
+    CHECK(run(handle, "trees") == STRATBENCH_ACCEPTED && answers_are(handle, "trees\n"));
+    end(handle);
+}
+
+static void budgets(void) {
+    void *handle = begin();
+    const uint8_t apply[] = "apply t do id; id; id";
+    CHECK(run(handle, "tree t f(1)") == STRATBENCH_ACCEPTED);
+    CHECK(stratbench_run(handle, apply, sizeof apply - 1, 2) == STRATBENCH_REFUSED && answers_are(handle, "refused 13 spent\n"));
+    CHECK(stratbench_run(handle, apply, sizeof apply - 1, 1000000) == STRATBENCH_ACCEPTED && answers_are(handle, "ok\n"));
+    end(handle);
+}
+
+static void framings(void) {
+    void *handle = begin();
+    const uint8_t script[] = "  tree t f(1,\n  2)\nshow t\n";
+    CHECK(stratbench_lines(handle, script, sizeof script - 1, STEPS) == STRATBENCH_REFUSED);
+    CHECK(answers_are(handle, "refused 7 term\nrefused 2 line\nrefused 5 notree\n"));
+    CHECK(stratbench_run(handle, script + 2, sizeof script - 3, STEPS) == STRATBENCH_ACCEPTED && answers_are(handle, "ok\nf(1,2)\n"));
+    CHECK(stratbench_run(handle, script, sizeof script - 1, STEPS) == STRATBENCH_ACCEPTED && answers_are(handle, "f(1,2)\n"));
+    end(handle);
+}
+
+static void copies(void) {
+    void *handle = begin();
+    uint8_t out[16];
+    run(handle, "tree t f(1)\nshow t");
+    memset(out, '-', sizeof out);
+    CHECK(stratbench_copy(handle, out, 7) == 8 && memcmp(out, "----------------", 16) == 0);
+    CHECK(stratbench_copy(handle, out, 8) == 8 && memcmp(out, "ok\nf(1)\n--------", 16) == 0);
+    memset(out, '-', sizeof out);
+    CHECK(stratbench_copy(handle, out, 16) == 8 && memcmp(out, "ok\nf(1)\n--------", 16) == 0);
+    end(handle);
+}
+
+typedef uint32_t loading(void *, const uint8_t *, size_t, const uint8_t *, size_t);
+
+static uint32_t load(loading *how, void *handle, const char *name, const char *text) {
+    return how(handle, (const uint8_t *)name, strlen(name), (const uint8_t *)text, strlen(text));
+}
+
+static uint32_t show(void *handle, const char *name) {
+    return stratbench_show(handle, (const uint8_t *)name, strlen(name));
+}
+
+static void loads(void) {
+    void *handle = begin();
+    const char rules[] = "rules\r\nZero : Plus(x,0) -> x\r\nsignature constructors\n\nPlus : t * t -> t\n\n";
+    CHECK(stratbench_library(handle) == STRATBENCH_ACCEPTED && answers_are(handle, ""));
+    CHECK(load(stratbench_module, handle, "arith", rules) == STRATBENCH_ACCEPTED && answers_are(handle, ""));
+    CHECK(load(stratbench_tree, handle, "t", " Plus(\nPlus(1,0) ,0)\n") == STRATBENCH_ACCEPTED && answers_are(handle, ""));
+    CHECK(run(handle, "modules\ntext arith\nshow t\napply t do innermost(Zero)\nshow t\nhistory") == STRATBENCH_ACCEPTED);
+    CHECK(answers_are(handle, "modules arith library\nrules\n Zero : Plus(x,0) -> x\n signature constructors\n\n Plus : t * t -> t\n"
+                              "Plus(Plus(1,0),0)\nok\n1\nundo 4 redo 0\n"));
+    CHECK(load(stratbench_module, handle, "m", "strategies f = missing") == STRATBENCH_REFUSED);
+    CHECK(answers_are(handle, "refused 11 unknown missing 0 0\n"));
+    CHECK(load(stratbench_module, handle, "m", "(") == STRATBENCH_REFUSED && answers_are(handle, "refused 10 syntax\n"));
+    CHECK(load(stratbench_module, handle, "9", "") == STRATBENCH_REFUSED && answers_are(handle, "refused 4 name\n"));
+    CHECK(load(stratbench_tree, handle, "", "1") == STRATBENCH_REFUSED && answers_are(handle, "refused 4 name\n"));
+    CHECK(load(stratbench_tree, handle, "t", "f(") == STRATBENCH_REFUSED && answers_are(handle, "refused 7 term\n"));
+    CHECK(load(stratbench_module, handle, "m", "") == STRATBENCH_ACCEPTED && answers_are(handle, ""));
+    CHECK(run(handle, "show t\nhistory\nundo 5\nmodules\ntrees") == STRATBENCH_ACCEPTED);
+    CHECK(answers_are(handle, "1\nundo 5 redo 0\nok\nmodules\ntrees\n"));
+    end(handle);
+}
+
+/* A tree whose text is longer than a command may be. */
+static void long_tree(void) {
+    static char text[200000];
+    char *to = text + sprintf(text, "[0");
+    for (int i = 1; i < 90000; i++) to += sprintf(to, ",%d", i % 10);
+    strcpy(to, "]");
+    void *handle = begin();
+    CHECK(load(stratbench_tree, handle, "t", text) == STRATBENCH_ACCEPTED);
+    CHECK(run(handle, "show t") == STRATBENCH_ACCEPTED);
+    strcpy(to, "]\n");
+    CHECK(answers_are(handle, text));
+    end(handle);
+}
+
+static void trees_shown(void) {
+    void *handle = begin();
+    CHECK(run(handle, "tree t f( 1 ,\"x\")") == STRATBENCH_ACCEPTED);
+    CHECK(show(handle, "t") == STRATBENCH_ACCEPTED && answers_are(handle, "f(1,\"x\")\n"));
+    CHECK(show(handle, "u") == STRATBENCH_REFUSED && answers_are(handle, "refused 5 notree\n"));
+    CHECK(show(handle, "") == STRATBENCH_REFUSED && answers_are(handle, "refused 4 name\n"));
+    CHECK(run(handle, "history") == STRATBENCH_ACCEPTED && answers_are(handle, "undo 1 redo 0\n"));
+    end(handle);
+}
+
+static void explanations(void) {
+    void *handle = begin();
+    CHECK(run(handle, "frob") == STRATBENCH_REFUSED && hints_are(handle, ""));
+    CHECK(stratbench_explain(handle, 1) == STRATBENCH_ACCEPTED && answers_are(handle, "refused 2 line\n"));
+    CHECK(run(handle, "tree t a\n# a comment\nshow u\nshow t") == STRATBENCH_REFUSED && answers_are(handle, "ok\nrefused 5 notree\na\n"));
+    CHECK(hints_are(handle, "line 3: refused 5 notree: there is no tree `u`\n    there is `t`\n"));
+    CHECK(show(handle, "t") == STRATBENCH_ACCEPTED && hints_are(handle, ""));
+    CHECK(run(handle, "apply t do f") == STRATBENCH_REFUSED && answers_are(handle, "refused 11 unknown f 0 0\n"));
+    CHECK(hints_are(handle, "line 1: refused 11 unknown f 0 0: at line 1, column 12\n    apply t do f\n               ^\n"));
+    CHECK(load(stratbench_tree, handle, "t", "f(\n  a,)") == STRATBENCH_REFUSED && answers_are(handle, "refused 7 term\n"));
+    CHECK(hints_are(handle, "t: refused 7 term: no term goes on with `)` at line 2, column 5; the `(` at line 1, column 2 is open\n"
+                            "      a,)\n        ^\n"));
+    CHECK(load(stratbench_module, handle, "m", "signature constructors A : t\nrules R : A -> A()") == STRATBENCH_ACCEPTED);
+    CHECK(hints_are(handle, "m: warning: in `R`, line 2, column 11: `A` is a variable; the constant is `A()`\n"));
+    CHECK(stratbench_explain(handle, 0) == STRATBENCH_ACCEPTED);
+    CHECK(run(handle, "frob") == STRATBENCH_REFUSED && hints_are(handle, ""));
+    end(handle);
+}
+
+static void many_calls(void) {
+    void *handle = begin();
+    int before = failed;
+    run(handle, "tree t f(a,[1,2])");
+    for (int i = 0; i < 20000 && failed == before; i++) {
+        CHECK(run(handle, "put t /1/0 g(7)\nshow t\nundo") == STRATBENCH_ACCEPTED && answers_are(handle, "ok\nf(a,[g(7),2])\nok\n"));
+        CHECK(run(handle, "show t\nhistory") == STRATBENCH_ACCEPTED && answers_are(handle, "f(a,[1,2])\nundo 1 redo 1\n"));
+    }
+    end(handle);
+}
+
+static void side_by_side(void) {
+    void *one = begin(), *other = begin();
+    run(one, "tree t one(0)");
+    run(other, "tree t other(0)\ntree u 1");
+    for (int i = 0; i < 100; i++) {
+        CHECK(run(one, "put t /0 1\nshow t\ntrees") == STRATBENCH_ACCEPTED);
+        CHECK(run(other, "show t\ntrees\nput t /0 2") == STRATBENCH_ACCEPTED);
+        CHECK(answers_are(one, "ok\none(1)\ntrees t\n"));
+        CHECK(answers_are(other, i ? "other(2)\ntrees t u\nok\n" : "other(0)\ntrees t u\nok\n"));
+    }
+    end(one);
+    CHECK(run(other, "history") == STRATBENCH_ACCEPTED && answers_are(other, "undo 102 redo 0\n"));
+    end(other);
+}
+
+/* Begins a session with a tree `long`, of this many elements. */
+static void *begin_with_list(int elements) {
+    void *handle = begin();
+    char *script = __real_malloc(32 + 2 * (size_t)elements), *to = script + sprintf(script, "tree long [0");
+    for (int i = 1; i < elements; i++) to += sprintf(to, ",%d", i % 10);
+    strcpy(to, "]\n");
+    CHECK(run(handle, script) == STRATBENCH_ACCEPTED && answers_are(handle, "ok\n"));
+    free(script);
+    return handle;
+}
+
+/* Runs a script that shows the list and sets a tree, many times, where growths are refused; then compares the answers with
+ * what the session holds. Each answer is whole, and each command that was accepted is done, and no other. */
+static uint32_t run_short_of_memory(void *handle, int elements) {
+    static char script[COMMANDS * 64], trees[COMMANDS * 8], answers[1 << 16];
+    char *to = script;
+    for (int i = 0; i < COMMANDS; i++) to += sprintf(to, "show long\ntree t%02d f(%d)\n", i, i);
+    uint32_t status = run(handle, script);
+    unsigned long asked = growths;
+    refuse_none();
+    size_t length = stratbench_copy(handle, (uint8_t *)answers, sizeof answers - 1), shown = 2 + (2 * (size_t)elements - 1);
+    CHECK(length < sizeof answers);
+    answers[length] = 0;
+    char *list = trees + sprintf(trees, "trees long");
+    const char *at = answers;
+    int answered = 0, refused = 0;
+    for (; status != STRATBENCH_NO_MEMORY && answered < 2 * COMMANDS && *at; answered++) {
+        const char *line = strchr(at, '\n');
+        CHECK(line != NULL);
+        if (line == NULL) break;
+        if (strncmp(at, "refused 1 memory\n", 17) == 0) refused++;
+        else if (answered % 2) {
+            CHECK(strncmp(at, "ok\n", 3) == 0);
+            list += sprintf(list, " t%02d", answered / 2);
+        } else CHECK((size_t)(line - at) == shown && at[0] == '[' && line[-1] == ']');
+        at = line + 1;
+    }
+    if (status == STRATBENCH_NO_MEMORY) CHECK(answers_are(handle, "ok\n"));
+    else if (status == STRATBENCH_CUT) CHECK(!*at && answered < 2 * COMMANDS);
+    else CHECK(!*at && answered == 2 * COMMANDS && status == (refused ? STRATBENCH_REFUSED : STRATBENCH_ACCEPTED));
+    strcpy(list, "\n");
+    CHECK(run(handle, "trees") == STRATBENCH_ACCEPTED && answers_are(handle, trees));
+    growths = asked;
+    return status;
+}
+
+/* One growth after the other is refused, and then all from one on. */
+static void refused_growths(void) {
+    int seen[5] = {0};
+    for (int all = 0; all < 2; all++)
+        for (unsigned long at = 1, asked = at; at <= asked + 1 && !failed; at++) {
+            void *handle = begin_with_list(200);
+            refuse(at, all ? (unsigned long)-1 : at);
+            uint32_t status = run_short_of_memory(handle, 200);
+            asked = growths;
+            CHECK(status < 4);
+            seen[status & 3]++;
+            end(handle);
+            if (asked < at) break;
+        }
+    printf("  accepted %d, refused %d, cut %d, no memory %d\n", seen[0], seen[1], seen[2], seen[3]);
+    CHECK(seen[STRATBENCH_ACCEPTED] && seen[STRATBENCH_REFUSED] && seen[STRATBENCH_CUT] && seen[STRATBENCH_NO_MEMORY]);
+}
+
+/* No block may have more than so many bytes. */
+static void limited_blocks(void) {
+    for (size_t limit = 1 << 17; limit >= 1 << 10; limit /= 2) {
+        void *handle = begin_with_list(2000);
+        refuse(1, 0);
+        largest = limit;
+        run_short_of_memory(handle, 2000);
+        end(handle);
+    }
+}
+
+static uint32_t load_one(void *handle, int which) {
+    switch (which) {
+    case 0: return stratbench_library(handle);
+    case 1: return load(stratbench_module, handle, "m", "rules R : A() -> B() signature constructors A : t B : t");
+    default: return load(stratbench_tree, handle, "u", "f(g(1),[2,3])");
+    }
+}
+
+/* One growth after the other is refused while something is loaded: then the session is as it was, and the same load is accepted. */
+static void loads_without_memory(void) {
+    for (int which = 0; which < 3; which++)
+        for (unsigned long at = 1, asked = at; at <= asked + 1 && !failed; at++) {
+            void *handle = begin_with_list(10);
+            refuse(at, at);
+            uint32_t status = load_one(handle, which);
+            asked = growths;
+            refuse_none();
+            if (status != STRATBENCH_ACCEPTED) {
+                CHECK(status == STRATBENCH_REFUSED && answers_are(handle, which == 0 ? "ok\n" : "refused 1 memory\n"));
+                CHECK(run(handle, "history") == STRATBENCH_ACCEPTED && answers_are(handle, "undo 1 redo 0\n"));
+                CHECK(load_one(handle, which) == STRATBENCH_ACCEPTED);
+            }
+            CHECK(answers_are(handle, ""));
+            CHECK(run(handle, "history") == STRATBENCH_ACCEPTED && answers_are(handle, "undo 2 redo 0\n"));
+            end(handle);
+        }
+}
+
+/* No memory for the session itself. */
+static void no_session(void) {
+    for (unsigned long at = 1, asked = at; at <= asked + 1; at++) {
+        refuse(at, (unsigned long)-1);
+        void *handle = begin();
+        asked = growths;
+        refuse_none();
+        int is_there = asked < at;
+        CHECK(stratbench_explain(handle, 1) == (is_there ? STRATBENCH_ACCEPTED : STRATBENCH_NO_MEMORY));
+        CHECK(run(handle, "tree t 1") == (is_there ? STRATBENCH_ACCEPTED : STRATBENCH_NO_MEMORY));
+        CHECK(answers_are(handle, is_there ? "ok\n" : ""));
+        end(handle);
+    }
+}
+
+int main(void) {
+    const struct {
+        const char *name;
+        void (*trial)(void);
+    } trials[] = {
+        {"statuses", statuses}, {"budgets", budgets}, {"framings", framings}, {"copies", copies}, {"loads", loads},
+        {"long tree", long_tree}, {"trees shown", trees_shown}, {"explanations", explanations}, {"many calls", many_calls},
+        {"side by side", side_by_side}, {"refused growths", refused_growths}, {"limited blocks", limited_blocks},
+        {"loads without memory", loads_without_memory}, {"no session", no_session},
+    };
+    int wrong = 0;
+    for (size_t i = 0; i < sizeof trials / sizeof *trials; i++) {
+        failed = 0;
+        refuse_none();
+        trials[i].trial();
+        printf("%s: %s\n", trials[i].name, failed ? "FAILED" : "as wanted");
+        wrong += failed != 0;
+    }
+    return wrong != 0;
+}

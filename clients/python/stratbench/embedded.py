@@ -1,0 +1,111 @@
+"""A session in this process: the shared object of the library for C, in place of a process of the program."""
+
+from __future__ import annotations
+
+import ctypes
+import os
+import re
+import threading
+import weakref
+from collections.abc import Callable
+from typing import Final
+
+# What the calls return, as clients/c/stratbench.h says.
+_REFUSED: Final = 1
+_NO_BUDGET: Final = 4
+
+
+class Embedded:
+    """A session of the shared object at this path, read and written as a `Process` is. It is used by one thread at a time."""
+
+    # Each text that is sent is a script of its own.
+    goes_on: Final = False
+
+    def __init__(self, path: str, library: bool, steps: int) -> None:
+        self._calls = _calls_of(path)
+        size = self._calls.stratbench_size()
+        # the bytes at the handle, with room to align it
+        self._memory = ctypes.create_string_buffer(size + 15)
+        self._handle = ctypes.addressof(self._memory) + -ctypes.addressof(self._memory) % 16
+        self._steps = steps
+        self._room = ctypes.create_string_buffer(1 << 16)
+        self._got = bytearray()
+        self._lock = threading.Lock()
+        self._worst = 0
+        self.status: int | None = None
+        """The exit status, once the session has ended."""
+        self._calls.stratbench_new(self._handle)
+        self._drop = weakref.finalize(self, _drop, os.getpid(), self._calls.stratbench_drop, self._handle, self._memory)
+        if self._calls.stratbench_explain(self._handle, 1) or library and self._calls.stratbench_library(self._handle):
+            self._drop()
+            raise MemoryError("no memory for a session")
+
+    def write(self, script: str) -> None:
+        """Runs a text. Raises `EOFError` where the session has ended, and `MemoryError` where not all of it is answered."""
+        if self.status is not None:
+            raise EOFError
+        # the start of a next command belongs to none here
+        text = script.removesuffix("\r ").encode(errors="surrogateescape")
+        with self._lock:
+            status = self._calls.stratbench_run(self._handle, text, len(text), self._steps)
+            self._got += self._copied(self._calls.stratbench_copy)
+        self._worst = max(self._worst, status)
+        if status == _NO_BUDGET:
+            raise ValueError("the steps are not from 1 to 1,000,000")
+        if status > _REFUSED:
+            raise MemoryError("no memory for an answer")
+
+    def line(self, until: float | None) -> str:
+        """Returns the next line. Raises `EOFError` where there is none."""
+        end = self._got.find(b"\n")
+        if end < 0:
+            raise EOFError
+        line = self._got[:end].decode(errors="surrogateescape")
+        del self._got[: end + 1]
+        return line
+
+    def said(self) -> list[str]:
+        """Returns what was said of the last text, piece by piece."""
+        if self.status is not None:
+            return []
+        with self._lock:
+            said = self._copied(self._calls.stratbench_hints)
+        return [it.rstrip("\n") for it in re.split(r"^(?! )", said.decode(errors="replace"), flags=re.MULTILINE) if it]
+
+    def end(self, kill: bool = False) -> int:
+        """Ends the session, and returns the greatest status of its texts: 1 if a command was refused, as of the program."""
+        self._drop()
+        self.status = self._worst
+        return self.status
+
+    # What a call copies.
+    def _copied(self, copy: Callable[[int, object, int], int]) -> bytes:
+        length = copy(self._handle, self._room, len(self._room))
+        if length > len(self._room):
+            self._room = ctypes.create_string_buffer(2 * length)
+            length = copy(self._handle, self._room, len(self._room))
+        return ctypes.string_at(self._room, length)
+
+
+def _drop(owner: int, drop: Callable[[int], None], handle: int, memory: object) -> None:
+    # in a process that was forked off the session may be in the middle of a call
+    if os.getpid() == owner:
+        drop(handle)
+
+
+def _calls_of(path: str) -> ctypes.CDLL:
+    calls = ctypes.CDLL(path)
+    pointer, length, number = ctypes.c_void_p, ctypes.c_size_t, ctypes.c_uint32
+    for name, given, result in (
+        ("size", (), length),
+        ("new", (pointer,), None),
+        ("library", (pointer,), number),
+        ("explain", (pointer, number), number),
+        ("run", (pointer, ctypes.c_char_p, length, number), number),
+        ("copy", (pointer, pointer, length), length),
+        ("hints", (pointer, pointer, length), length),
+        ("drop", (pointer,), None),
+    ):
+        call = getattr(calls, f"stratbench_{name}")
+        call.argtypes, call.restype = given, result
+    return calls

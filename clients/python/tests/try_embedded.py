@@ -1,0 +1,97 @@
+"""The client with a session in its own process, over the shared object that the environment's STRATBENCH_LIBRARY names: the examples of
+its documentation, what refusals say, long texts, and how sessions end. `tools/embed` runs it, since it makes that object."""
+
+import doctest
+import functools
+import os
+import sys
+import threading
+
+import stratbench
+import try_client
+from stratbench import Ended, Refused, Stratbench
+
+EMBEDDED = functools.partial(Stratbench, embedded=True)
+# What an embedded session doesn't take.
+OTHER = ("options=", "seconds=")
+
+
+def examples():
+    finder, runner = doctest.DocTestFinder(), doctest.DocTestRunner(verbose=False)
+    for test in finder.find(stratbench, "stratbench"):
+        if not test.examples or any(word in it.source for it in test.examples for word in OTHER):
+            continue
+        test.globs.update(Stratbench=EMBEDDED)
+        said = []
+        found = runner.run(test, out=said.append)
+        yield f"{test.name}: {found.attempted} examples", "".join(said) if found.failed else ""
+
+
+def ends():
+    bench = EMBEDDED()
+    bench.tree("t", "a")
+    yield "the status of a session", "" if bench.close() == bench.close() == 0 else f"{bench.close()}"
+    try:
+        bench.trees()
+        yield "a session that has ended", "it went on"
+    except Ended as ended:
+        yield "a session that has ended", "" if ended.status == 0 else repr(ended)
+    with EMBEDDED() as bench:
+        try:
+            bench.show("t")
+            yield "a refusal", "there was none"
+        except Refused as refused:
+            yield "a refusal", "" if refused.explanation == "there is no tree `t`\n    there are no trees" else str(refused)
+    yield "the status after a refusal", "" if bench.close() == 1 else f"{bench.close()}"
+    for given in ({"steps": 2_000_000}, {"options": ["--lines"]}, {"seconds": 1}):
+        try:
+            EMBEDDED(**given).trees()
+            yield f"a start with {list(given)}", "it began"
+        except ValueError:
+            yield f"a start with {list(given)}", ""
+    try:
+        EMBEDDED(program="/none/libstratbench.so")
+        yield "no shared object", "it began"
+    except OSError:
+        yield "no shared object", ""
+
+
+def side_by_side():
+    benches = [EMBEDDED(library=True) for _ in range(4)]
+
+    def work(at):
+        bench = benches[at]
+        for turn in range(200):
+            bench.tree("t", f"[{at},{turn}]")
+            bench.apply("t", "topdown(try({x: ?x; prim(\"addi\",x,1)}))")
+
+    threads = [threading.Thread(target=work, args=(at,)) for at in range(4)]
+    for it in threads:
+        it.start()
+    for it in threads:
+        it.join()
+    shown = [it.show("t") for it in benches]
+    yield "four sessions in threads", "" if shown == [f"[{at + 1},200]" for at in range(4)] else f"{shown}"
+    counts = [it.history() for it in benches]
+    yield "their histories", "" if counts == [(401, 0)] * 4 else f"{counts}"
+
+
+def forks():
+    bench = EMBEDDED()
+    bench.tree("t", "a")
+    child = os.fork()
+    if child == 0:
+        # the end of a process that was forked off leaves the session to the other
+        sys.exit(0)
+    _, status = os.waitpid(child, 0)
+    yield "a process that was forked off", "" if status == 0 and bench.show("t") == "a" else f"{status}"
+
+
+def tests(top, everything):
+    yield from examples()
+    try_client.Stratbench = EMBEDDED
+    yield from try_client.explained()
+    yield from try_client.long_texts()
+    yield from ends()
+    yield from side_by_side()
+    yield from forks()

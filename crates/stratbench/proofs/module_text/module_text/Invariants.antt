@@ -1,9 +1,0 @@
-use Rattle.std.proofs.Common.{◌≡◌, ◌++◌, length, drop, map}
-use Rattle.stratbench.specs.Files.{module_text_of}
-use Rattle.stratbench.proofs.TextLemmas.{kept, lines_in, rest_of}
-use Rattle.stratbench.proofs.module_text.module_text.Given as goal
-
--- the text so far, followed by what the remaining lines add, is the whole
-abbrev pub invariant-loop-line : goal.invariant-loop-line
-invariant-loop-line l =
-    module_text_of l.text ≡ l.made.items ++ rest_of l.started (map kept (drop (length l.yielded) (lines_in l.text)))

@@ -1,0 +1,95 @@
+-- What a script does to what lies at a handle.
+use Rattle.std.specs.Prelude.{◌≡◌, ◌<◌, ◌≤◌, ◌⊎◌, ℕ, Bool, false, List, [], ◌∷◌, ◌++◌, Some, None, IfSome, length, drop}
+use Rattle.std.specs.declared.option.Option.{Option}
+use Rattle.prim_extended.specs.Extended.{extended}
+use Rattle.prim_extended.specs.ExtendedTable.{extended_signatures}
+use Rattle.session_history.specs.Budget.{IsBudget}
+use Rattle.session_history.specs.History.{History, empty_history}
+use Rattle.script_text.specs.declared.framing.Framing.{Framing}
+use Rattle.script_text.specs.Handed.{Handed, handed}
+use Rattle.script_text.specs.Replies.{Replying}
+use Rattle.script_text.specs.Answer.{Answered, ReplyInRun}
+use Rattle.script_text.specs.Run.{Completes}
+use Rattle.stratbench_c.specs.declared.bench.Work.{Work}
+use Rattle.stratbench_c.specs.declared.status.Status.{Status}
+use Rattle.stratbench_c.specs.declared.status.Status.TheVariants.{Accepted, Refused, Cut, NoMemory}
+use Rattle.stratbench_c.specs.declared.status.TheConstants.{NO_BUDGET}
+use Rattle.stratbench_c.specs.Status.{code_of}
+
+-- One more command is answered, after the others.
+pub record Adds (Rule : Replying) (command : Handed) (h g : History) (old new : List ℕ) (accepted : Bool) : Type 0 where
+  pub answer : List ℕ
+  pub answered : Answered Rule command h g answer accepted
+  pub added : new ≡ old ++ answer
+
+-- The commands are answered, this many of them by a refusal, and these are all answers, one after
+-- the other.
+pub record AnswersAll (Rule : Replying) (commands : List Handed) (h g : History) (answers : List ℕ) (refused : ℕ) : Type 0 where
+  pub accepted : ℕ
+  pub completes : Completes false Rule commands h g (Some []) (Some answers) accepted refused
+
+-- The first of the commands are answered, and these are all answers to them. Of the others there is
+-- at least one, and none is run.
+pub record AnswersSome (Rule : Replying) (commands : List Handed) (h g : History) (answers : List ℕ) : Type 0 where
+  pub first : List Handed
+  pub others : List Handed
+  pub all : commands ≡ first ++ others
+  pub some : 0 < length others
+  pub refused : ℕ
+  pub answered : AnswersAll Rule first h g answers refused
+
+-- What a script does to a session and its answers, by its status. The budget is that of commands that
+-- name none.
+abbrev pub Ran : Framing → ℕ → List ℕ → Status → History → List ℕ → History → List ℕ → Type 0
+Ran framing steps script Accepted h old g new = AnswersAll (ReplyInRun extended steps) (handed framing script) h g new 0
+Ran framing steps script Refused h old g new =
+    (refused : ℕ) × (0 < refused) × AnswersAll (ReplyInRun extended steps) (handed framing script) h g new refused
+Ran framing steps script Cut h old g new = AnswersSome (ReplyInRun extended steps) (handed framing script) h g new
+Ran framing steps script NoMemory h old g new = (g ≡ h) × (new ≡ old)
+
+-- the same at a handle, where there may be no session
+abbrev pub RanAt : Framing → ℕ → List ℕ → Status → Option Work → Option Work → Type 0
+RanAt framing steps script status (Some old) (Some new) =
+    Ran framing steps script status old.session old.answers new.session new.answers
+RanAt framing steps script status None None = status ≡ NoMemory
+RanAt framing steps script status (Some old) None = ⊥
+RanAt framing steps script status None (Some new) = ⊥
+
+-- What a call does, by its number: nothing if the budget is out of range.
+abbrev pub TellsRun : Framing → ℕ → List ℕ → ℕ → Option Work → Option Work → Type 0
+TellsRun framing steps script code old new =
+    ((code ≡ NO_BUDGET) × (IsBudget steps → ⊥) × (new ≡ old))
+    ⊎ (IsBudget steps × ((status : Status) × (code ≡ code_of status) × RanAt framing steps script status old new))
+
+-- what lies at a new handle
+abbrev pub IsNew : Option Work → Type 0
+IsNew work = IfSome work (λ it. (it.session ≡ empty_history extended_signatures) × (it.answers ≡ []) × (it.hints ≡ []))
+
+-- the answers of the last call
+abbrev pub answers_of : Option Work → List ℕ
+answers_of None = []
+answers_of (Some work) = work.answers
+
+-- what was said of the last call
+abbrev pub hints_of : Option Work → List ℕ
+hints_of None = []
+hints_of (Some work) = work.hints
+
+-- The session and its answers stay.
+abbrev pub ExplainedAt : Status → Option Work → Option Work → Type 0
+ExplainedAt status (Some old) (Some new) =
+    (status ≡ Accepted) × (new.session ≡ old.session) × (new.answers ≡ old.answers)
+ExplainedAt status None None = status ≡ NoMemory
+ExplainedAt status (Some old) None = ⊥
+ExplainedAt status None (Some new) = ⊥
+
+abbrev pub TellsExplained : ℕ → Option Work → Option Work → Type 0
+TellsExplained code old new = (status : Status) × (code ≡ code_of status) × ExplainedAt status old new
+
+-- This is the length of the text; it stands at the start of `out` if there is room for it, and else
+-- `out` stays as it was.
+abbrev pub AreCopied : List ℕ → List ℕ → List ℕ → ℕ → Type 0
+AreCopied text old new result =
+    (result ≡ length text)
+    × (length text ≤ length old → new ≡ text ++ drop (length text) old)
+    × (length old < length text → new ≡ old)

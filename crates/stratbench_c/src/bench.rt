@@ -1,0 +1,209 @@
+//! What lies at a handle.
+
+ghost use Rattle.std.specs.Prelude.{◌≡◌, [], IfErr, IfOk, OnErr, OnOk};
+ghost use Rattle.prim_extended.specs.Extended.{extended};
+ghost use Rattle.prim_extended.specs.ExtendedTable.{extended_signatures};
+ghost use Rattle.session_history.specs.Budget.{IsBudget};
+ghost use Rattle.session_history.specs.History.{empty_history};
+ghost use Rattle.script_text.specs.Answer.{ReplyInRun, TellsRefusal};
+ghost use Rattle.script_text.specs.FedRight.{handed_out};
+ghost use Rattle.script_text.specs.declared.framing.Framing.TheVariants.{Continued, Lines};
+ghost use Rattle.stratbench_c.specs.Runs.{Adds, AreCopied, ExplainedAt, IsNew, Ran, RanAt, TellsExplained, TellsRun, answers_of, hints_of};
+
+use crate::answers::Answers;
+use crate::hints::Hints;
+use crate::status::{NO_BUDGET, Status};
+use prim_core::Primitives;
+use prim_extended::{Extended, extended_primitives};
+use script_core::{Fed, Framing, Piece, Splitter};
+use session_core::{MAX_BUDGET, Refusal, Session};
+use std::alloc::Global;
+use term_core::NoMemory;
+
+/// What lies at a handle: a session with the answers of the last call. There is none if there was
+/// no memory for it at the start.
+#[derive(Drop)]
+pub struct Bench {
+    pub(crate) alloc: Global,
+    pub work: Option<Work>,
+}
+
+/// A session with the extended primitives, the answers of the last call, and what was said of it.
+#[derive(Drop)]
+pub struct Work {
+    pub session: Session<Extended>,
+    pub answers: Answers,
+    pub hints: Hints,
+}
+
+impl Work {
+    /// A session without trees and modules.
+    pub fn new(alloc: Global) -> Result<Work, NoMemory>
+        ensures { IfOk result (λ work. (work.session ≡ empty_history extended_signatures) × (work.answers ≡ []) × (work.hints ≡ [])) }
+    {
+        let primitives = extended_primitives(alloc)?;
+        let answers = Answers::new(alloc)?;
+        Ok(Work {
+            session: Session::new(alloc, Primitives::new(primitives)),
+            answers,
+            hints: Hints::new(alloc),
+        })
+    }
+
+    /// Answers the commands of the script, in place of the answers of the last one. The last command
+    /// ends with the script.
+    pub fn run(&mut self, alloc: Global, script: &[u8], framing: Framing, steps: u32) -> Status
+        requires { IsBudget steps }
+        ensures { Ran framing steps script.now result
+            self.old.session self.old.answers self.new.session self.new.answers }
+    {
+        self.hints.begin(framing, steps);
+        let Ok(mut splitter) = Splitter::new(alloc, framing) else {
+            return Status::NoMemory;
+        };
+        self.answers.clear();
+        let mut accepted = true;
+        let mut rest = script;
+        while let Fed::Command(taken) = splitter.feed(rest) {
+            self.hints.consume(&rest[..taken]);
+            rest = &rest[taken..];
+            match self.answer(alloc, splitter.command(), steps) {
+                Ok(verdict) => accepted &= verdict,
+                Err(NoMemory) => return Status::Cut,
+            }
+        }
+        self.hints.consume(rest);
+        if !splitter.finish() {
+            return Status::answered(accepted);
+        }
+        match self.answer(alloc, splitter.command(), steps) {
+            Ok(verdict) => Status::answered(accepted & verdict),
+            Err(NoMemory) => Status::Cut,
+        }
+    }
+
+    // Answers one more command.
+    fn answer(&mut self, alloc: Global, command: Piece<'_>, steps: u32) -> Result<bool, NoMemory>
+        requires { IsBudget steps }
+        ensures ok { IfOk result (λ accepted. Adds (ReplyInRun extended steps) (handed_out command.entry)
+            self.old.session self.new.session self.old.answers self.new.answers accepted) }
+        ensures answers { OnErr result (self.new.answers ≡ self.old.answers) }
+        ensures session { OnErr result (self.new.session ≡ self.old.session) }
+    {
+        self.answers
+            .add(alloc, &mut self.session, command, steps, &mut self.hints)
+    }
+
+    /// Says how a load ended. The answer is the refusal, if there is one. `word` is the command that
+    /// would load this text, with a blank.
+    pub fn tell(
+        &mut self,
+        word: &[u8],
+        name: &[u8],
+        text: &[u8],
+        outcome: Result<(), Refusal>,
+    ) -> Status
+        ensures session { self.new.session ≡ self.old.session }
+        ensures ok { OnOk outcome ((result ≡ Status.Accepted) × (self.new.answers ≡ [])) }
+        ensures refused { IfErr outcome (λ refusal. (result ≡ Status.Refused) × TellsRefusal self.new.answers refusal) }
+    {
+        self.hints.clear();
+        self.hints.loaded(&self.session, word, name, text, &outcome);
+        self.answers.tell(outcome)
+    }
+}
+
+/// A new session without trees and modules.
+pub fn make(alloc: Global) -> Bench
+    ensures { IsNew result.work }
+{
+    let work = match Work::new(alloc) {
+        Ok(work) => Some(work),
+        Err(NoMemory) => None,
+    };
+    Bench { alloc, work }
+}
+
+/// Answers the commands of a script, which may go on over lines. Returns the number of its status,
+/// or `NO_BUDGET`.
+pub fn run_script(bench: &mut Bench, script: &[u8], steps: u32) -> u32
+    ensures { TellsRun Continued steps script.now result bench.old.work bench.new.work }
+{
+    run(bench, script, Framing::Continued, steps)
+}
+
+/// Answers the lines of a script, each a command. Returns the number of its status, or `NO_BUDGET`.
+pub fn run_lines(bench: &mut Bench, script: &[u8], steps: u32) -> u32
+    ensures { TellsRun Lines steps script.now result bench.old.work bench.new.work }
+{
+    run(bench, script, Framing::Lines, steps)
+}
+
+fn run(bench: &mut Bench, script: &[u8], framing: Framing, steps: u32) -> u32
+    ensures { TellsRun framing steps script.now result bench.old.work bench.new.work }
+{
+    if steps < 1 || steps > MAX_BUDGET {
+        return NO_BUDGET;
+    }
+    run_work(bench, script, framing, steps).code()
+}
+
+fn run_work(bench: &mut Bench, script: &[u8], framing: Framing, steps: u32) -> Status
+    requires { IsBudget steps }
+    ensures { RanAt framing steps script.now result bench.old.work bench.new.work }
+{
+    let alloc = bench.alloc;
+    match &mut bench.work {
+        Some(work) => work.run(alloc, script, framing, steps),
+        None => Status::NoMemory,
+    }
+}
+
+/// Copies the answers of the last script to the start of `out` if there is room for them, and
+/// returns their length.
+pub fn copy_answers(bench: &mut Bench, out: &mut [u8]) -> usize
+    ensures { AreCopied (answers_of bench.old.work) out.old out.new result
+        × (bench.new ≡ bench.old) }
+{
+    match &bench.work {
+        Some(work) => work.answers.copy_to(out),
+        None => 0,
+    }
+}
+
+/// Copies what was said of the last call to the start of `out` if there is room for it, and returns
+/// its length.
+pub fn copy_hints(bench: &mut Bench, out: &mut [u8]) -> usize
+    ensures { AreCopied (hints_of bench.old.work) out.old out.new result
+        × (bench.new ≡ bench.old) }
+{
+    match &bench.work {
+        Some(work) => work.hints.copy_to(out),
+        None => 0,
+    }
+}
+
+/// Says whether the calls that follow are to be explained: not if `explains` is 0. Returns the number
+/// of the status.
+pub fn explain_calls(bench: &mut Bench, explains: u32) -> u32
+    ensures { TellsExplained result bench.old.work bench.new.work }
+{
+    explained_at(bench, explains != 0).code()
+}
+
+fn explained_at(bench: &mut Bench, explains: bool) -> Status
+    ensures { ExplainedAt result bench.old.work bench.new.work }
+{
+    match &mut bench.work {
+        Some(work) => {
+            work.hints.explain(explains);
+            Status::Accepted
+        }
+        None => Status::NoMemory,
+    }
+}
+
+/// Gives all memory back.
+pub fn end(bench: Bench) {
+    let Bench { alloc: _, work: _ } = bench;
+}

@@ -1,0 +1,25 @@
+//! Sessions at a handle, for C: each export lends what lies at the handle to a function that is
+//! proved as any other, and restates its contract.
+#![tactic(auto)]
+
+mod answers;
+mod bench;
+mod exports;
+mod hints;
+mod loads;
+mod showing;
+mod status;
+
+pub use answers::Answers;
+pub use bench::{
+    Bench, Work, copy_answers, copy_hints, end, explain_calls, make, run_lines, run_script,
+};
+pub use exports::{
+    stratbench_copy, stratbench_drop, stratbench_explain, stratbench_hints, stratbench_library,
+    stratbench_lines, stratbench_module, stratbench_new, stratbench_run, stratbench_show,
+    stratbench_size, stratbench_tree,
+};
+pub use hints::Hints;
+pub use loads::{set_library, set_module, set_tree};
+pub use showing::show_tree;
+pub use status::{NO_BUDGET, Status};
