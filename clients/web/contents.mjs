@@ -1,0 +1,73 @@
+// Adding and removing trees and modules.
+
+import { askForName } from './parts.mjs';
+import { bench, loadedTexts, names, page } from './state.mjs';
+import { clearSaid, editors, show } from './view.mjs';
+import { loadDrafts, run } from './runs.mjs';
+import { isName } from './commands.mjs';
+import { sayFault } from './telling.mjs';
+
+function faultOfName(kind, name) {
+  if (!isName(name)) return 'A name is a letter or _, then letters, digits and _ - + * $ . \' (64 at most).';
+  return names(kind).includes(name) ? `There is a ${kind} of this name.` : undefined;
+}
+
+function freeName(kind, first) {
+  const there = names(kind);
+  for (let i = 1; ; i++) {
+    const name = i === 1 ? first : `${first}${i}`;
+    if (!there.includes(name)) return name;
+  }
+}
+
+export async function addTree() {
+  const copies = names('tree').filter(it => bench.trees.has(it)).map(it => [`a copy of ${it}`, { copied: it }]);
+  const answer = await askForName('Add a tree', freeName('tree', 't'), [['an empty text', null], ...copies], it => faultOfName('tree', it));
+  if (!answer) return;
+  page.tree = answer.name;
+  page.marks = new Map();
+  page.isTouched = true;
+  if (answer.from) {
+    await run(() => bench.perform({ kind: 'copy', name: answer.from.copied, to: answer.name }));
+    return;
+  }
+  page.drafts.tree.set(answer.name, '');
+  page.isText = true;
+  show();
+  editors.tree.focus();
+}
+
+export async function addModule() {
+  const there = names('module');
+  const ready = page.strategies.filter(([name]) => !there.includes(name)).map(([name, text]) => [`the strategies ${name}`, { name, text }]);
+  const starts = [['an empty module', null], ...ready];
+  const answer = await askForName('Add a module', freeName('module', 'm'), starts, it => faultOfName('module', it));
+  if (!answer) return;
+  page.module = answer.name;
+  page.isTouched = true;
+  page.drafts.module.set(answer.name, answer.from?.text ?? 'strategies\n  ');
+  if (answer.from) {
+    await run(loadDrafts);
+    return;
+  }
+  show();
+  editors.module.focus();
+}
+
+/** Removes the tree or the module that is shown. */
+export async function remove(kind) {
+  const name = page[kind];
+  if (!name) return;
+  page.drafts[kind].delete(name);
+  page.faulty[kind].delete(name);
+  page.isTouched = true;
+  if (!loadedTexts(kind).has(name)) {
+    show();
+    return;
+  }
+  await run(async () => {
+    clearSaid();
+    const { refusal } = await bench.perform({ kind: kind === 'tree' ? 'drop' : 'unload', name });
+    if (refusal) sayFault(kind, name, refusal);
+  });
+}

@@ -1,0 +1,127 @@
+// Editors with line numbers and coloured syntax by CodeMirror where it is at hand, else plain text fields.
+
+const RESERVED = /^(?:module|signature|sorts|constructors|rules|strategies|id|fail|all|one|some|not|where|test|if|then|else|end|rec|prim)$/;
+const WORD = /^[A-Za-z_][A-Za-z0-9_'-]*/;
+
+/** A mode for CodeMirror. Texts of strategies have words with a meaning, and names before `:` and `=` are definitions. */
+function modeOf(isTerm) {
+  const next = (stream, state) => {
+    if (state.isComment) {
+      if (stream.skipTo('*/')) {
+        stream.pos += 2;
+        state.isComment = false;
+      } else stream.skipToEnd();
+      return 'comment';
+    }
+    if (state.isString || stream.peek() === '"') {
+      if (!state.isString) stream.next();
+      state.isString = true;
+      for (let it; (it = stream.next()) !== undefined;) {
+        if (it === '\\') stream.next();
+        else if (it === '"') {
+          state.isString = false;
+          break;
+        }
+      }
+      return 'string';
+    }
+    if (stream.eatSpace()) return null;
+    if (!isTerm && stream.match('//')) {
+      stream.skipToEnd();
+      return 'comment';
+    }
+    if (!isTerm && stream.match('/*')) {
+      state.isComment = true;
+      return 'comment';
+    }
+    if (stream.match(/^-?\d+/)) return 'number';
+    const word = stream.match(WORD);
+    if (word) {
+      if (!isTerm && RESERVED.test(word[0])) return 'keyword';
+      if (/^[A-Z]/.test(word[0])) return 'variable-2';
+      return !isTerm && /^\s+[a-zA-Z]/.test(stream.string) && stream.match(/^\s*(?:\([^()]*\))?\s*=(?!>)/, false) ? 'def' : 'variable';
+    }
+    if (stream.match(/^(?:->|=>|<\+)/)) return 'operator';
+    return /[{}]/.test(stream.next()) ? 'meta' : 'operator';
+  };
+  return () => ({ startState: () => ({ isComment: false, isString: false }), token: next, lineComment: isTerm ? undefined : '//' });
+}
+
+const defineModes = () => {
+  window.CodeMirror.defineMode('strategies', modeOf(false));
+  window.CodeMirror.defineMode('terms', modeOf(true));
+};
+
+/** The place in UTF-16 of a column of characters, counted from 1. */
+const unitsBefore = (line, column) => [...line].slice(0, column - 1).join('').length;
+
+/**
+ * Makes an editor of a text field. `changed` is called as somebody types. Tab leaves the editor, as it leaves any field.
+ */
+export function makeEditor(field, { mode, changed, numbers = true }) {
+  if (!window.CodeMirror) return plainEditor(field, changed);
+  if (!window.CodeMirror.modes.strategies) defineModes();
+  const editor = window.CodeMirror.fromTextArea(field, {
+    mode, lineNumbers: numbers, lineWrapping: true, inputStyle: 'contenteditable', viewportMargin: 30, indentUnit: 2, spellcheck: false,
+    screenReaderLabel: field.getAttribute('aria-label'), extraKeys: { Tab: false, 'Shift-Tab': false },
+    matchBrackets: Boolean(window.CodeMirror.prototype.matchBrackets),
+  });
+  let isSetting = false;
+  let marks = [];
+  editor.on('change', () => { if (!isSetting) changed?.(editor.getValue()); });
+  const clear = () => {
+    marks.forEach(it => it.clear());
+    marks = [];
+  };
+  return {
+    get value() { return editor.getValue(); },
+    set value(text) {
+      if (text === editor.getValue()) return;
+      isSetting = true;
+      editor.setValue(text);
+      editor.clearHistory();
+      isSetting = false;
+    },
+    clear,
+    mark({ line, column }, isWarning) {
+      const at = { line: line - 1, ch: unitsBefore(editor.getLine(line - 1) ?? '', column) };
+      const end = /^(?:[A-Za-z_][\w'-]*|"(?:[^"\\]|\\.)*"?|\S)/.exec((editor.getLine(line - 1) ?? '').slice(at.ch))?.[0].length ?? 1;
+      const from = (editor.getLine(line - 1) ?? '').length > at.ch ? at : { line: at.line, ch: Math.max(0, at.ch - 1) };
+      marks.push(editor.markText(from, { line: at.line, ch: at.ch + end }, { className: isWarning ? 'cm-warning' : 'cm-fault' }));
+      if (!isWarning) {
+        const handle = editor.addLineClass(line - 1, 'background', 'fault-line');
+        if (handle) marks.push({ clear: () => editor.removeLineClass(handle, 'background', 'fault-line') });
+      }
+    },
+    go({ line, column }) {
+      editor.focus();
+      editor.setCursor({ line: line - 1, ch: unitsBefore(editor.getLine(line - 1) ?? '', column) });
+      editor.scrollIntoView(null, 60);
+    },
+    refresh: () => editor.refresh(),
+    focus: () => editor.focus(),
+    set label(text) { editor.getInputField().setAttribute('aria-label', text); },
+    set isReadOnly(is) { editor.setOption('readOnly', is); },
+  };
+}
+
+function plainEditor(field, changed) {
+  field.addEventListener('input', () => changed?.(field.value));
+  const go = ({ line, column }) => {
+    const lines = field.value.split('\n');
+    const at = lines.slice(0, line - 1).reduce((sum, it) => sum + it.length + 1, 0) + unitsBefore(lines[line - 1] ?? '', column);
+    field.focus();
+    field.setSelectionRange(at, at + 1);
+  };
+  return {
+    get value() { return field.value; },
+    set value(text) { field.value = text; },
+    clear() { field.removeAttribute('aria-invalid'); },
+    mark(_, isWarning) { if (!isWarning) field.setAttribute('aria-invalid', 'true'); },
+    go,
+    refresh() {},
+    focus: () => field.focus(),
+    set label(text) { field.setAttribute('aria-label', text); },
+    set isReadOnly(is) { field.readOnly = is; },
+  };
+}

@@ -1,0 +1,154 @@
+// The proved engine, a WebAssembly module, as sessions in JavaScript. Pointers are BigInts, since they have 64 bits.
+
+const encoder = new TextEncoder();
+const decoder = new TextDecoder();
+
+/** How a script ended. */
+export const ACCEPTED = 0;
+export const REFUSED = 1;
+export const CUT = 2;
+export const NO_MEMORY = 3;
+
+/** The most bytes that a module's memory takes. */
+const LIMIT = 1 << 30;
+
+/** A call of the engine that ended in the middle, as where the stack ran out. The module is of no use any more. */
+export class Trap extends Error {
+  constructor(cause) {
+    super(`${cause}`);
+    this.name = 'Trap';
+    this.isStack = cause instanceof RangeError || /stack|out of bounds/i.test(cause.message);
+  }
+}
+
+/** A call that found no memory, or a budget out of range. */
+export class NotRun extends Error {}
+
+export class Engine {
+  /** Loads the module from its bytes or from a response. */
+  static async load(source, limit = LIMIT) {
+    const { instance } = await instantiated(source);
+    instance.exports.stratbench_limit(BigInt(limit));
+    return new Engine(instance.exports);
+  }
+
+  constructor(wasm) {
+    this.wasm = wasm;
+    this.isBroken = false;
+  }
+
+  session() { return new Session(this); }
+
+  /** The bytes in use. */
+  used() { return Number(this.wasm.stratbench_used()); }
+
+  /** Calls the module. After a trap what is in its memory is half done, so nothing may be called again. */
+  call(name, ...words) {
+    if (this.isBroken) throw new Trap(new Error('the module has trapped before'));
+    try {
+      return this.wasm[name](...words);
+    } catch (cause) {
+      this.isBroken = true;
+      throw new Trap(cause);
+    }
+  }
+
+  room(bytes) {
+    const at = this.call('stratbench_room', BigInt(bytes));
+    if (at === 0n) throw new NotRun('there is no memory');
+    return at;
+  }
+
+  /** Calls `use` with the place and the length of these bytes in the module's memory. */
+  lend(bytes, use) {
+    const at = this.room(bytes.length + 1);
+    this.view(at, bytes.length).set(bytes);
+    try {
+      return use(at, BigInt(bytes.length));
+    } finally {
+      if (!this.isBroken) this.call('stratbench_release', at);
+    }
+  }
+
+  /** Returns the bytes that `copy` writes: it takes a place and how much room is there, and returns how much it wants. */
+  copied(copy) {
+    const length = this.lend(new Uint8Array(1), at => copy(at, 0n));
+    const at = this.room(Number(length) + 1);
+    copy(at, length);
+    const bytes = this.view(at, Number(length)).slice();
+    this.call('stratbench_release', at);
+    return bytes;
+  }
+
+  // A view is void once the memory grows, so each use takes a new one.
+  view(at, length) { return new Uint8Array(this.wasm.memory.buffer, Number(at), length); }
+}
+
+async function instantiated(source) {
+  if (!(typeof Response !== 'undefined' && source instanceof Response)) return WebAssembly.instantiate(source, {});
+  try {
+    return await WebAssembly.instantiateStreaming(source.clone(), {});
+  } catch {
+    return WebAssembly.instantiate(await source.arrayBuffer(), {});   // a server that doesn't know the type
+  }
+}
+
+const bytesOf = text => (typeof text === 'string' ? encoder.encode(text) : text);
+
+/**
+ * A session. Its calls return `{status, answers, said}`: the answers of the call, and what `--explain` would say of it. Places are
+ * lines and columns of the script, or of the text that is loaded.
+ */
+export class Session {
+  constructor(engine) {
+    this.engine = engine;
+    this.handle = engine.room(Number(engine.call('stratbench_size')));
+    engine.call('stratbench_new', this.handle);
+    engine.call('stratbench_explain', this.handle, 1);
+  }
+
+  /** Answers the commands of a script, which may go on over lines. `steps` is the budget of those that name none. */
+  run(script, steps = 100000) {
+    return this.engine.lend(bytesOf(script), (at, length) => this.ended('stratbench_run', at, length, steps));
+  }
+
+  /** Answers the lines of a script, each a command. */
+  lines(script, steps = 100000) {
+    return this.engine.lend(bytesOf(script), (at, length) => this.ended('stratbench_lines', at, length, steps));
+  }
+
+  /** Loads the library as a step. */
+  library() { return this.ended('stratbench_library'); }
+
+  /** Sets the tree, or the module, of this name to a text of any length, as a step. */
+  tree(name, text) { return this.loaded('stratbench_tree', name, text); }
+  module(name, text) { return this.loaded('stratbench_module', name, text); }
+
+  /** Answers with the text of a tree. */
+  show(name) {
+    return this.engine.lend(bytesOf(name), (at, length) => this.ended('stratbench_show', at, length));
+  }
+
+  close() {
+    this.engine.call('stratbench_drop', this.handle);
+    this.engine.call('stratbench_release', this.handle);
+    this.handle = 0n;
+  }
+
+  loaded(call, name, text) {
+    return this.engine.lend(bytesOf(name), (at, length) => this.engine.lend(
+      bytesOf(text),
+      (textAt, textLength) => this.ended(call, at, length, textAt, textLength),
+    ));
+  }
+
+  ended(call, ...words) {
+    const status = this.engine.call(call, this.handle, ...words);
+    if (status > CUT) throw new NotRun(status === NO_MEMORY ? 'there is no memory' : 'the budget is out of range');
+    return { status, answers: this.copied('stratbench_copy'), said: this.copied('stratbench_hints') };
+  }
+
+  copied(call) {
+    return decoder.decode(this.engine.copied((at, room) => this.engine.call(call, this.handle, at, room)));
+  }
+}

@@ -1,0 +1,154 @@
+// The page: opens an example or the case of its address, and says what buttons and keys do.
+
+import { addModule, addTree, remove } from './contents.mjs';
+import { apply, goTo, loadDrafts, preview, run, stop, time } from './runs.mjs';
+import { bench, client, names, page, writeAddress } from './state.mjs';
+import { byId, showText, wireTextDialog } from './parts.mjs';
+import { check, sayFault } from './telling.mjs';
+import { choose, clearSaid, editors, notice, on, pathChanged, show, showTree, strategyChanged } from './view.mjs';
+import { read } from './address.mjs';
+
+// ---- opening
+
+/** Opens a state: its trees and modules become a new session, which the timeline begins with. */
+async function open(state, hash) {
+  const texts = { tree: new Map(state.trees), module: new Map(state.modules) };
+  clearSaid();
+  Object.assign(page, {
+    tree: state.tree,
+    module: state.module ?? state.modules.at(-1)?.[0] ?? '',
+    drafts: { tree: new Map(texts.tree), module: new Map(texts.module) },
+    order: { tree: [...texts.tree.keys()], module: [...texts.module.keys()] },
+    marks: new Map(),
+    isText: false,
+    isTouched: false,
+    isChecking: true,
+    hash,
+    tries: state.tries ?? [],
+  });
+  byId('about').textContent = state.about ?? '';
+  byId('path').value = state.path;
+  byId('budget').value = state.budget;
+  byId('example').value = state.id ?? '';
+  editors.strategy.value = state.strategy;
+  bench.clear({ trees: [], modules: [] });
+  await run(async () => {
+    const faults = await bench.begin({ trees: state.trees, modules: state.modules });
+    page.drafts = { tree: new Map(), module: new Map() };
+    for (const { kind, name } of faults) page.drafts[kind].set(name, texts[kind].get(name));
+    for (const { kind, name, refusal } of faults.reverse()) sayFault(kind, name, refusal);
+  });
+}
+
+const exampleOf = id => page.examples.find(it => it.id === id) ?? page.examples[0];
+
+async function openAddress() {
+  const { hash } = location;
+  if (hash && hash === page.hash) return;
+  const state = await read(hash);
+  const isCase = state && !('example' in state);
+  await open(isCase ? { ...state, about: 'A case that was sent in the address of this page.' } : exampleOf(state?.example), hash);
+  if (hash && !state) notice('The address holds no case that this page can read, so an example is shown.');
+}
+
+// ---- what is done
+
+function tryOut({ tree, path, budget, strategy }) {
+  if (names('tree').includes(tree) && tree !== page.tree) choose('tree', tree);
+  byId('path').value = path;
+  byId('budget').value = budget;
+  editors.strategy.value = strategy;
+  page.marks = new Map();
+  strategyChanged();
+  show();
+  byId('apply').focus();
+}
+
+async function share() {
+  page.isTouched = true;
+  if (await writeAddress()) showText('Share', 'This address holds the trees, the modules and the strategy as they are now.', location.href);
+  else showText('Share', 'The trees and modules are too long for an address: send the script in its place.', '');
+}
+
+function toggleText() {
+  if (page.isText && page.drafts.tree.size) {
+    run(async () => { if (await loadDrafts()) page.isText = false; });
+    return;
+  }
+  page.isText = !page.isText;
+  show();
+}
+
+const back = () => bench.canUndo && run(() => goTo(bench.at - 1));
+const forth = () => bench.canRedo && run(() => goTo(bench.at + 1));
+
+/** Checks soon what is typed, unless something is run first. */
+function checkSoon(kind) {
+  clearTimeout(page.checking);
+  page.checking = setTimeout(() => check(kind).catch(fault => {
+    if (fault.kind === 'trapped') run(() => { throw fault; });
+  }), 700);
+}
+
+// ---- keys and buttons
+
+const isTyping = target => target.closest?.('input, textarea, select, .CodeMirror');
+
+/** What a key does, or undefined. */
+function actOf(event) {
+  const isCommand = event.ctrlKey || event.metaKey;
+  const key = event.key.toLowerCase();
+  if (key === 'enter' && isCommand) return () => run(apply);
+  if (key === 'enter' && event.altKey) return () => run(preview);
+  if (key === 'escape' && page.isBusy) return stop;
+  if (!isCommand || event.altKey || isTyping(event.target)) return undefined;
+  if (key === 'y' || (key === 'z' && event.shiftKey)) return forth;
+  return key === 'z' ? back : undefined;
+}
+
+function pressed(event) {
+  const act = document.querySelector('dialog[open]') ? undefined : actOf(event);
+  if (!act) return;
+  event.preventDefault();
+  event.stopPropagation();
+  act();
+}
+
+function wire() {
+  Object.assign(on, { edited: checkSoon, goTo: at => run(() => goTo(at)), tried: tryOut });
+  const clicks = {
+    apply: () => run(apply),
+    preview: () => run(preview),
+    stop,
+    undo: back,
+    redo: forth,
+    share,
+    script: () => showText('Script', 'Commands that lead from nothing to what is there now, for the program.', bench.script()),
+    dump: () => run(async () => showText('Dump', 'A script that makes the trees and modules again, as they are now.', await bench.dump())),
+    'tree-add': addTree,
+    'tree-remove': () => remove('tree'),
+    'tree-text': toggleText,
+    'module-add': addModule,
+    'module-remove': () => remove('module'),
+  };
+  for (const [id, act] of Object.entries(clicks)) byId(id).onclick = act;
+  byId('path').oninput = pathChanged;
+  byId('path').onchange = showTree;
+  byId('budget').oninput = pathChanged;
+  byId('example').onchange = ({ target }) => { location.hash = `example=${target.value}`; };
+  document.addEventListener('keydown', pressed, true);
+  addEventListener('hashchange', openAddress);
+  wireTextDialog();
+}
+
+async function begin() {
+  wire();
+  const [took, found] = await Promise.all([client.start(), fetch(new URL('examples.json', import.meta.url)).then(it => it.json())]);
+  Object.assign(page, found);
+  byId('engine').textContent = `The engine was ready after ${time(took)}.`;
+  byId('example').append(...page.examples.map(it => new Option(it.title, it.id)));
+  await openAddress();
+  document.documentElement.dataset.ready = Math.round(performance.now());
+}
+
+begin().catch(fault => notice(`The workbench can't start here: ${fault.message}`));

@@ -1,0 +1,188 @@
+// What the buttons do with the session: one thing at a time, each of which can be stopped.
+
+import { MOST, bench, client, page } from './state.mjs';
+import { button, byId, say, withCode } from './parts.mjs';
+import { clearSaid, editors, notice, saidOf, show, showButtons } from './view.mjs';
+import { differences, pathText, readPath, readTerm } from './terms.mjs';
+import { sayFault, sayRefusal, sayWarnings } from './telling.mjs';
+import { Broken } from './client.mjs';
+
+/** A run that takes longer than so many milliseconds shows a button to stop it. */
+const SOON = 150;
+
+/** Does something that calls the engine. A run that is stopped or breaks off ends in a session that is made again. */
+export async function run(act) {
+  if (page.isBusy) return;
+  clearTimeout(page.checking);
+  page.isBusy = true;
+  showButtons();
+  const soon = setTimeout(() => {
+    byId('stop').hidden = false;
+    byId('busy').textContent = 'Running…';
+  }, SOON);
+  try {
+    await act();
+  } catch (fault) {
+    await recover(fault);
+  } finally {
+    clearTimeout(soon);
+    page.isBusy = false;
+    if (document.activeElement === byId('stop')) byId('apply').focus();
+    byId('stop').hidden = true;
+    byId('busy').textContent = '';
+    show();
+  }
+}
+
+export function stop() {
+  if (page.isBusy) client.end('stopped', 'stopped');
+}
+
+const CAUSES = {
+  stopped: () => 'The run was stopped.',
+  trapped: ({ isStack, message }) => (isStack
+    ? 'The engine ran out of stack: this is deeper than the browser allows.'
+    : `The engine broke off (${message}).`),
+  failed: ({ message }) => `The engine can't go on (${message}).`,
+};
+
+async function recover(fault) {
+  if (!(fault instanceof Broken)) {
+    notice(`This page has a fault: ${fault.message}`);
+    console.error(fault);
+    return;
+  }
+  const cause = CAUSES[fault.kind](fault);
+  // what is too deep for the engine here isn't checked again as somebody types on
+  if (fault.kind === 'trapped') page.isChecking = false;
+  try {
+    const isWhole = await bench.again();
+    notice(`${cause} The session was made again: ${isWhole ? 'nothing is lost.' : 'its trees and modules are there, its steps are gone.'}`);
+  } catch (again) {
+    notice(`${cause} The session could not be made again (${again.message}). Reload the page: its address keeps your texts.`);
+  }
+}
+
+// ---- loading what was edited
+
+// Drops the drafts that were loaded, unless somebody has typed on meanwhile.
+function forget(drafts, loaded) {
+  for (const [name, text] of loaded) if (drafts.get(name) === text) drafts.delete(name);
+}
+
+function stepsOfDrafts() {
+  const modules = [...page.drafts.module];
+  const trees = [...page.drafts.tree].map(([name, text]) => ({ kind: 'tree', name, text, isNew: !bench.trees.has(name) }));
+  if (modules.length > 1) return [{ kind: 'modules', modules }, ...trees];
+  return [...modules.map(([name, text]) => ({ kind: 'module', name, text, isNew: !bench.modules.has(name) })), ...trees];
+}
+
+/** Loads the drafts, each as a step, and several modules as one. Resolves to whether all are accepted. */
+export async function loadDrafts() {
+  clearSaid();
+  for (const step of stepsOfDrafts()) {
+    const kind = step.kind === 'tree' ? 'tree' : 'module';
+    page.marks = new Map();
+    const { refusal, warnings } = await bench.perform(step);
+    if (refusal) {
+      sayFault(kind, step.name, refusal);
+      return false;
+    }
+    forget(page.drafts[kind], step.modules ?? [[step.name, step.text]]);
+    if (warnings.length) sayWarnings(kind, step.name, warnings);
+  }
+  return true;
+}
+
+// ---- applying
+
+function faultOfFields(path, budget, strategy) {
+  if (!page.tree) return 'There is no tree: add one.';
+  if (!path) return 'A path is `/`, or numbers with a `/` before each, as `/0/2`.';
+  if (!budget) return 'The budget is a number of steps from 1 to 1,000,000.';
+  return strategy.trim() ? '' : 'Write a strategy first.';
+}
+
+/** The step that the fields say; null where one can't be read, which is said. */
+function stepNow() {
+  const path = readPath(byId('path').value.trim());
+  const number = Number(byId('budget').value);
+  const budget = Number.isInteger(number) && number >= 1 && number <= MOST ? number : 0;
+  const strategy = editors.strategy.value;
+  byId('path').setAttribute('aria-invalid', String(!path));
+  byId('budget').setAttribute('aria-invalid', String(!budget));
+  const fault = faultOfFields(path, budget, strategy);
+  if (!fault) return { kind: 'apply', tree: page.tree, path: pathText(path), budget, strategy };
+  say(saidOf('strategy'), 'refused', ...withCode(fault));
+  return null;
+}
+
+export async function apply() {
+  const step = await loadDrafts() && stepNow();
+  if (!step) return;
+  const before = bench.trees.get(step.tree);
+  page.isTouched = true;
+  const { refusal, took } = await bench.perform(step);
+  saidOf('strategy').dataset.took = took;
+  page.marks = new Map();
+  if (refusal) {
+    sayRefusal('apply', step, refusal, () => run(apply));
+    return;
+  }
+  page.isText = false;
+  page.isChecking = true;
+  const count = markChanges(before, bench.trees.get(step.tree));
+  const what = count ? `${placesOf(count)} changed. ` : 'the tree stayed the same. ';
+  say(saidOf('strategy'), '', `Applied in ${time(took)}: ${what}`, button('Undo', () => run(() => goTo(bench.at - 1))));
+}
+
+export async function preview() {
+  const step = await loadDrafts() && stepNow();
+  if (!step) return;
+  page.marks = new Map();
+  const { refusal, changes, steps, took } = await bench.preview(step);
+  if (refusal) {
+    sayRefusal('preview', step, refusal, () => run(preview));
+    return;
+  }
+  page.isText = false;
+  const isShown = isSmall(changes);
+  for (const { path, before, after } of changes) {
+    const told = { title: 'would be…', titles: ['now', 'after'], label: (_, it) => `would be ${it}` };
+    page.marks.set(path, { kind: 'preview', before, after, isShown, ...told });
+  }
+  if (changes.length) {
+    const what = `Would replace ${placesOf(changes.length)}, in ${steps.toLocaleString('en')} steps (${time(took)}). `;
+    say(saidOf('strategy'), '', what, button('Apply', () => run(apply)));
+  } else {
+    say(saidOf('strategy'), '', `Would replace nothing: the strategy puts no term anywhere (${steps} steps).`);
+  }
+}
+
+/** Goes to a place in the timeline, and shows a tree that differs there. */
+export async function goTo(at) {
+  clearSaid();
+  const before = new Map(bench.trees);
+  await bench.goTo(at);
+  page.isTouched = true;
+  page.marks = new Map();
+  const changed = [...bench.trees.keys()].filter(it => before.get(it) !== bench.trees.get(it));
+  if (changed.length && !changed.includes(page.tree)) [page.tree] = changed;
+  if (before.has(page.tree) && bench.trees.has(page.tree)) markChanges(before.get(page.tree), bench.trees.get(page.tree));
+}
+
+/** Marks where two trees differ. Returns at how many places. */
+function markChanges(before, after) {
+  const found = differences(readTerm(before), readTerm(after));
+  const isShown = isSmall(found);
+  const told = { kind: 'changed', isShown, title: 'was…', titles: ['before', 'now'], label: it => `was ${it}` };
+  page.marks = new Map(found.map(it => [pathText(it.path), { before: String(it.before), after: String(it.after), ...told }]));
+  return found.length;
+}
+
+// Few and small enough to be shown with both sides at once.
+const isSmall = changes => changes.length <= 6 && changes.every(it => String(it.before).length + String(it.after).length < 4000);
+
+const placesOf = count => `${count.toLocaleString('en')} ${count === 1 ? 'place' : 'places'}`;
+
+export const time = ms => (ms < 10 ? `${ms.toFixed(1)} ms` : ms < 1000 ? `${Math.round(ms)} ms` : `${(ms / 1000).toFixed(1)} s`);

@@ -1,0 +1,35 @@
+// Runs scripts by the module, each in a session of its own, for tools/wasm: `node answers.mjs MODULE`. Standard input has a script a
+// line, as `{script, library, lines, loads}` in JSON, with bytes in base64; standard output what came out, `{answers, said, status}`.
+
+import { readFileSync } from 'node:fs';
+import { createInterface } from 'node:readline';
+import { Engine, Session, Trap } from '../engine.mjs';
+
+const bytes = readFileSync(process.argv[2]);
+let engine = await Engine.load(bytes, 2 ** 31);
+
+/** A session whose answers are bytes in base64. */
+class Coded extends Session {
+  copied(call) {
+    return Buffer.from(this.engine.copied((at, room) => this.engine.call(call, this.handle, at, room))).toString('base64');
+  }
+}
+
+function answer({ script, library, lines, loads }) {
+  const session = new Coded(engine);
+  if (library) session.library();
+  for (const [kind, name, text] of loads) session[kind](name, Buffer.from(text, 'base64'));
+  const outcome = session[lines ? 'lines' : 'run'](Buffer.from(script, 'base64'));
+  session.close();
+  return { answers: outcome.answers, said: outcome.said, status: outcome.status };
+}
+
+for await (const line of createInterface({ input: process.stdin })) {
+  try {
+    console.log(JSON.stringify(answer(JSON.parse(line))));
+  } catch (fault) {
+    if (!(fault instanceof Trap)) throw fault;
+    console.log(JSON.stringify({ trap: fault.message }));
+    engine = await Engine.load(bytes, 2 ** 31);
+  }
+}

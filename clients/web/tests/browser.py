@@ -1,0 +1,608 @@
+"""Tries the page in headless Chromium, for tools/web: browser.py ADDRESS [--program PROGRAM] [--shots FOLDER].
+
+Each trial is a function whose name begins with `try_`; it is handed a page that was opened anew, and fails by an exception. Printed is a
+line for each and their count.
+"""
+
+import argparse
+import json
+import os
+import re
+import subprocess
+import sys
+import time
+import traceback
+
+from selenium import webdriver
+from selenium.webdriver.chrome.service import Service
+from selenium.webdriver.common.by import By
+from selenium.webdriver.common.keys import Keys
+
+DESK, PHONE = (1280, 900), (390, 844)
+TOUR, DONE = 'Plus(Times(Plus(2,3),Var("x")),Times(4,0))', 'Times(5,Var("x"))'
+WAIT = 60
+# A comparison of two long lists that are equal, again and again: a million steps of it take minutes.
+ENDLESS = "repeat({x: ?(x,x)})"
+# A pattern so deep that a worker's stack, which is smaller than that of a program, runs out.
+DEEPEST = "?" + "(" * 1995 + "1" + ")" * 1995
+LONG = "[" + ",".join(["a"] * 20000) + "]"
+
+
+# Finds the editor of a pane, and sets a field as somebody would.
+EDITOR = """const set = (field, value, event) => { field.value = value; field.dispatchEvent(new Event(event)); };
+const pane = document.querySelector(arguments[0]);
+const cm = pane.querySelector('.CodeMirror')?.CodeMirror;
+const field = pane.querySelector('textarea');
+"""
+
+
+class Page:
+    """The page in a browser."""
+
+    def __init__(self, driver, address):
+        self.driver, self.address = driver, address
+
+    def size(self, width, height, dark=False, height_of_page=False):
+        if height_of_page:
+            height = self.js("return document.documentElement.scrollHeight")
+        told = {"width": width, "height": height, "deviceScaleFactor": 1, "mobile": width < 600}
+        self.driver.execute_cdp_cmd("Emulation.setDeviceMetricsOverride", told)
+        colours = [{"name": "prefers-color-scheme", "value": "dark" if dark else "light"}]
+        self.driver.execute_cdp_cmd("Emulation.setEmulatedMedia", {"features": colours})
+
+    def open(self, hash_=""):
+        self.driver.get("about:blank")
+        self.driver.get_log("browser")
+        self.driver.get(self.address + hash_)
+        self.until(lambda: self.ready(), "the page starts")
+        self.until_idle()
+
+    def ready(self):
+        return self.js("return Number(document.documentElement.dataset.ready || 0)")
+
+    def js(self, text, *words):
+        return self.driver.execute_script(text, *words)
+
+    def until(self, holds, what, seconds=WAIT):
+        end = time.monotonic() + seconds
+        while time.monotonic() < end:
+            found = holds()
+            if found:
+                return found
+            time.sleep(0.02)
+        raise AssertionError(f"not within {seconds} seconds: {what}")
+
+    def until_idle(self):
+        self.until(lambda: not self.js("return document.body.classList.contains('running')"), "the run ends")
+
+    def one(self, selector):
+        return self.driver.find_element(By.CSS_SELECTOR, selector)
+
+    def all(self, selector):
+        return self.driver.find_elements(By.CSS_SELECTOR, selector)
+
+    def click(self, selector, waits=True):
+        if waits and selector != "#stop":
+            self.until_idle()
+        self.one(selector).click()
+        if waits:
+            self.until_idle()
+
+    def press(self, *keys):
+        webdriver.ActionChains(self.driver).send_keys(*keys).perform()
+
+    def press_with(self, modifier, key):
+        webdriver.ActionChains(self.driver).key_down(modifier).send_keys(key).key_up(modifier).perform()
+        self.until_idle()
+
+    def text(self, selector):
+        return self.js("return document.querySelector(arguments[0]).innerText", selector).strip()
+
+    def editor(self, pane, text=None):
+        """The text of an editor, which becomes `text` as if it was typed."""
+        if text is not None:
+            self.js(EDITOR + "cm ? cm.setValue(arguments[1]) : set(field, arguments[1], 'input')", pane, text)
+        return self.js(EDITOR + "return cm ? cm.getValue() : field.value", pane)
+
+    def field(self, name, value):
+        self.js("const it = document.getElementById(arguments[0]); it.value = arguments[1]; it.dispatchEvent(new Event('input'))",
+            name, value)
+
+    def strategy(self, text):
+        self.editor(".strategy-pane", text)
+
+    def tree(self):
+        """The tree that is shown, as its dump has it."""
+        name = self.text("#tree-tabs [aria-selected=true]")
+        return re.search(rf"^tree {re.escape(name)} (.*)$", self.shown("#dump"), re.MULTILINE)[1]
+
+    def shown(self, selector):
+        """The text of the dialog that a button opens."""
+        self.click(selector)
+        text = self.js("return document.getElementById('text-shown').value")
+        self.js("document.getElementById('text-dialog').close()")
+        return text
+
+    def steps(self):
+        return [it.text for it in self.all("#steps button")]
+
+    def current(self):
+        return self.js("return [...document.querySelectorAll('#steps button')].findIndex(it => it.hasAttribute('aria-current'))")
+
+    def said(self, pane):
+        return self.text(f"#{pane}-said")
+
+    def marks(self):
+        return {it.get_attribute("data-path"): it.get_attribute("class") for it in self.all("#outline .marked")}
+
+    def apply(self, strategy=None):
+        if strategy is not None:
+            self.strategy(strategy)
+        self.click("#apply")
+
+
+def same(got, wanted):
+    if got != wanted:
+        raise AssertionError(f"{got!r}\n  wanted: {wanted!r}")
+
+
+def has(text, *parts):
+    for part in parts:
+        if part not in text:
+            raise AssertionError(f"{part!r} isn't in {text!r}")
+
+
+# ---- trials
+
+
+def try_apply_undo_redo(page):
+    same(page.tree(), TOUR)
+    same([page.one("#undo").is_enabled(), page.one("#redo").is_enabled()], [False, False])
+    page.click("#apply")
+    has(page.said("strategy"), "Applied", "1 place changed")
+    same(page.tree(), DONE)
+    same((page.steps(), page.current()), (["start", "normalise"], 1))
+    same(list(page.marks()), ["/"])
+    has(page.text("#outline"), "before", "now")
+    page.click("#undo")
+    same((page.tree(), page.current()), (TOUR, 0))
+    page.click("#redo")
+    same((page.tree(), page.current()), (DONE, 1))
+    page.one("h1").click()
+    page.press_with(Keys.CONTROL, "z")
+    same((page.tree(), page.current()), (TOUR, 0))
+    page.press_with(Keys.CONTROL, "y")
+    same((page.tree(), page.current()), (DONE, 1))
+
+
+def try_timeline(page):
+    for strategy in ("all(!1)", "all(!2)", "all(!3)"):
+        page.apply(strategy)
+    same(page.steps(), ["start", "all(!1)", "all(!2)", "all(!3)"])
+    for at, wanted in ((1, "Plus(1,1)"), (3, "Plus(3,3)"), (0, TOUR), (2, "Plus(2,2)")):
+        page.all("#steps button")[at].click()
+        page.until_idle()
+        same((page.current(), page.tree()), (at, wanted))
+    same(len(page.all("#steps .later")), 1)
+    page.apply("all(!4)")
+    same(page.steps(), ["start", "all(!1)", "all(!2)", "all(!4)"])
+
+
+def try_preview(page):
+    page.strategy("alltd(Fold)")
+    page.click("#preview")
+    has(page.said("strategy"), "Would replace 2 places")
+    same(sorted(page.marks()), ["/0/0", "/1"])
+    same([it.text for it in page.all("#outline .pair h4")], ["now", "after"] * 2)
+    same([it.text for it in page.all("#outline .pair .new pre")], ["5", "0"])
+    same((page.tree(), page.steps()), (TOUR, ["start"]))
+    page.click("#outline .badge")
+    same(len(page.all("#outline .pair")), 1)
+    page.strategy("?_")
+    page.click("#preview")
+    has(page.said("strategy"), "Would replace nothing")
+
+
+def try_path(page):
+    page.strategy("Fold")
+    page.click("#outline [data-path='/1'] .label")
+    same(page.js("return document.getElementById('path').value"), "/1")
+    page.click("#apply")
+    same(page.tree(), 'Plus(Times(Plus(2,3),Var("x")),0)')
+    same(list(page.marks()), ["/1"])
+    # a subterm of a closed row
+    page.click("#outline [data-path='/0/0/0']")
+    same(page.js("return document.getElementById('path').value"), "/0/0/0")
+    page.field("path", "/7/1")
+    page.click("#apply")
+    has(page.said("strategy"), "Refused (path)", "leads only as far as")
+    same(page.one("#path").get_attribute("aria-invalid"), "true")
+
+
+def try_fault_in_module(page):
+    text = page.editor(".module-pane")
+    page.editor(".module-pane", text.replace("Plus(x,0) -> x", "Plus(x,0)) -> x"))
+    # said while somebody types, too
+    page.until(lambda: "Refused (syntax)" in page.said("module"), "the fault is shown as the text is typed")
+    page.click("#apply")
+    line = text[: text.index("Plus(x,0)")].count("\n") + 1
+    has(page.said("module"), "Refused (syntax)", f"line {line}, column ")
+    same(page.text(".module-pane .cm-fault"), ")")
+    has(page.one("#module-tabs [aria-selected=true]").get_attribute("aria-label"), "arith, edited, has a fault")
+    same((page.tree(), page.steps()), (TOUR, ["start"]))
+    page.click("#module-said button")
+    same(page.js(EDITOR + "return [cm.hasFocus(), cm.getCursor().line + 1]", ".module-pane"), [True, line])
+    page.editor(".module-pane", text.replace("Fold <+ Unit", "Unit"))
+    page.click("#apply")
+    same(page.steps(), ["start", "edit arith", "normalise"])
+    page.click("#undo")
+    page.click("#undo")
+    same(page.editor(".module-pane"), text)
+
+
+def try_fault_of_names(page):
+    page.apply("topdown(try(Fould))")
+    has(page.said("strategy"), "Refused (unknown)", "nothing defines Fould", "the nearest name is Fold")
+    same(page.text(".strategy-pane .cm-fault"), "Fould")
+    page.apply("id;\n  foo")
+    has(page.said("strategy"), "line 2, column 3")
+    same(page.text(".strategy-pane .cm-fault"), "foo")
+    # a module that another one needs
+    page.click("#module-tabs button:first-child")
+    page.click("#module-remove")
+    has(page.said("module"), "Refused (unknown)", "innermost")
+    same(page.text("#module-tabs [aria-selected=true]"), "arith")
+    same(page.steps(), ["start"])
+
+
+def try_fault_in_tree(page):
+    page.click("#tree-text")
+    page.editor(".tree-pane", "Plus(1,\n  Times(2,,3))")
+    page.click("#apply")
+    has(page.said("tree"), "Refused (term)", "line 2, column 11")
+    same(page.text(".tree-pane .cm-fault"), ",")
+    page.editor(".tree-pane", "Plus(1,\n  Times(2,3))")
+    page.click("#apply")
+    same(page.steps(), ["start", "edit e", "normalise"])
+    same(page.tree(), "7")
+    same(page.one("#outline-box").is_displayed(), True)
+
+
+def try_fails_and_spent(page):
+    page.apply("Fold; Fold")
+    has(page.said("strategy"), "Refused (fails)", "Nothing was changed.")
+    page.field("budget", 20)
+    page.apply("normalise")
+    has(page.said("strategy"), "Refused (spent)", "20 steps")
+    page.click("#strategy-said button")
+    has(page.said("strategy"), "Applied")
+    same(page.tree(), DONE)
+    for path, budget, strategy, said in (("x", 10, "id", "A path is"), ("/", 0, "id", "The budget is"), ("/", 10, " ", "Write a strategy")):
+        page.field("path", path)
+        page.field("budget", budget)
+        page.apply(strategy)
+        has(page.said("strategy"), said)
+
+
+def try_trees_and_modules(page):
+    page.click("#tree-add", waits=False)
+    page.js("document.getElementById('add-from').value = 1")
+    name = page.one("#add-name")
+    for text, said in (("9t", "A name is"), ("e", "There is a tree of this name")):
+        name.clear()
+        name.send_keys(text, Keys.ENTER)
+        has(page.text("#add-said"), said)
+    name.clear()
+    name.send_keys("copied", Keys.ENTER)
+    page.until(lambda: page.steps()[-1] == "copy e to copied", "the tree is copied")
+    page.apply("all(!1)")
+    same(page.tree(), "Plus(1,1)")
+    page.click("#tree-tabs button:first-child")
+    same(page.tree(), TOUR)
+    page.click("#tree-remove")
+    same([it.text for it in page.all("#tree-tabs button")], ["copied"])
+    page.click("#undo")
+    same([it.text for it in page.all("#tree-tabs button")], ["e", "copied"])
+    page.click("#module-add", waits=False)
+    page.js("""const it = document.getElementById('add-from');
+        it.value = [...it.options].findIndex(o => o.text.endsWith(' lists'));
+        it.dispatchEvent(new Event('change'))""")
+    page.one("#add-name").send_keys(Keys.ENTER)
+    page.until(lambda: page.steps()[-1] == "add lists", "the module is added")
+    page.apply("!([1,2],[3]); conc")
+    has(page.said("strategy"), "Applied")
+
+
+def try_stop(page):
+    page.apply("all(!1)")
+    page.click("#tree-text")
+    page.editor(".tree-pane", f"({LONG},{LONG})")
+    page.click("#tree-text")
+    page.field("budget", 1000000)
+    page.strategy(ENDLESS)
+    page.click("#apply", waits=False)
+    page.until(lambda: page.one("#stop").is_displayed(), "the button to stop is shown")
+    # the page goes on meanwhile
+    page.click("footer summary", waits=False)
+    same(page.one("dl.keys").is_displayed(), True)
+    page.editor(".module-pane", page.editor(".module-pane") + "\n")
+    begun = time.monotonic()
+    page.click("#stop")
+    assert time.monotonic() - begun < 20, "it takes long to stop"
+    has(page.text("#notice"), "The run was stopped.", "nothing is lost")
+    same((page.steps(), page.current()), (["start", "all(!1)", "edit e"], 2))
+    same(page.one("#stop").is_displayed(), False)
+    page.click("#undo")
+    same(page.tree(), "Plus(1,1)")
+    page.strategy(ENDLESS)
+    page.click("#redo")
+    page.click("#apply", waits=False)
+    page.until(lambda: page.one("#stop").is_displayed(), "the button to stop is shown")
+    page.press(Keys.ESCAPE)
+    page.until_idle()
+    has(page.text("#notice"), "The run was stopped.")
+
+
+def try_trap(page):
+    page.apply("all(!1)")
+    page.apply(DEEPEST)
+    has(page.text("#notice"), "The engine ran out of stack", "nothing is lost")
+    same((page.tree(), page.steps()), ("Plus(1,1)", ["start", "all(!1)"]))
+    page.apply("all(!2)")
+    same((page.tree(), page.steps()), ("Plus(2,2)", ["start", "all(!1)", "all(!2)"]))
+    same(page.one("#notice").is_displayed(), False)
+    page.click("#undo")
+    page.click("#undo")
+    same(page.tree(), TOUR)
+
+
+def try_address(page):
+    page.apply("all(!1)")
+    page.editor(".module-pane", page.editor(".module-pane") + "\n  twice(s) = s; s")
+    page.strategy("all(twice(\\ x -> [x] \\))")
+    address = page.shown("#share")
+    has(address, "#z=")
+    page.open()
+    same(page.tree(), TOUR)
+    page.open("#" + address.partition("#")[2])
+    same(page.tree(), "Plus(1,1)")
+    same(page.editor(".strategy-pane"), "all(twice(\\ x -> [x] \\))")
+    page.click("#apply")
+    same(page.tree(), "Plus([[1]],[[1]])")
+    # an address that comes while the page is open, and one that holds nothing
+    page.js("location.hash = arguments[0]", "#example=polynomials")
+    page.until(lambda: page.text("#tree-tabs").startswith("left"), "the example is opened")
+    page.until_idle()
+    page.open("#z=nonsense")
+    has(page.text("#notice"), "no case that this page can read")
+    same(page.tree(), TOUR)
+
+
+def try_faults_in_address(page):
+    """A case that is sent with faults is shown with them."""
+    page.editor(".module-pane", "rules\n  Bad : Plus(x -> x")
+    address = page.shown("#share")
+    page.open("#" + address.partition("#")[2])
+    has(page.said("module"), "Refused (syntax)")
+    same(page.tree(), TOUR)
+    has(page.editor(".module-pane"), "Bad : Plus(x -> x")
+
+
+def try_script_and_dump(page, program=None):
+    """The program comes to the same trees and modules by the script, and by the dump."""
+    page.open("#example=rename-function")
+    page.click("#apply")
+    page.apply("id;\n// a comment\n  swap(|\"surface\")")
+    page.click("#tree-text")
+    page.editor(".tree-pane", 'Program([],\n  "with\\nlines")')
+    page.click("#tree-text")
+    page.click("#undo")
+    script, dump = page.shown("#script"), page.shown("#dump")
+    if program:
+        for text in (script, dump):
+            ran = subprocess.run([program], input=(text + "\ndump\n").encode(), stdout=subprocess.PIPE, timeout=60)
+            lines = ran.stdout.decode().split("\n")
+            commands = re.findall(r"^\S.*$", text, re.MULTILINE)
+            same((lines[: len(commands)], "\n".join(lines[len(commands) :]).strip()), (["ok"] * len(commands), dump.strip()))
+
+
+def try_examples(page):
+    for example in page.js("return [...document.querySelectorAll('#example option')].map(it => it.value).filter(Boolean)"):
+        page.open(f"#example={example}")
+        same(page.text("#notice") if page.one("#notice").is_displayed() else "", "")
+        assert page.text("#about"), f"nothing is said of {example}"
+        page.click("#apply")
+        has(page.said("strategy"), "Applied in")
+        page.click("#undo")
+        for it in range(len(page.all("#tries button"))):
+            page.all("#tries button")[it].click()
+            page.click("#preview")
+            said = page.said("strategy")
+            assert re.match(r"Would replace|Refused \((fails|spent|path|notree)\)", said), f"{example}: {said}"
+
+
+def try_keyboard(page):
+    """All is reached and done by keys."""
+    page.js("document.activeElement.blur()")
+    reached = []
+    for _ in range(40):
+        page.press(Keys.TAB)
+        reached.append(page.js("const it = document.activeElement; return it.id || it.getAttribute('role') || it.tagName"))
+    for wanted in ("example", "share", "tree-add", "treeitem", "path", "budget", "apply", "preview", "module-add", "tab"):
+        assert wanted in reached, f"{wanted} isn't reached by Tab: {reached}"
+    page.js("document.querySelector('#outline [role=treeitem]').focus()")
+    focused = lambda: page.js("return document.activeElement.dataset.path")
+    page.press(Keys.ARROW_DOWN)
+    same(focused(), "/0")
+    page.press(Keys.ARROW_RIGHT)
+    same(page.js("return document.activeElement.getAttribute('aria-expanded')"), "true")
+    page.press(Keys.ARROW_RIGHT)
+    same(focused(), "/0/0")
+    page.press(Keys.ENTER)
+    same((focused(), page.js("return document.getElementById('path').value")), ("/0/0", "/0/0"))
+    page.press(Keys.ARROW_LEFT)
+    same(focused(), "/0")
+    page.press(Keys.END)
+    same(focused(), "/1")
+    page.press(Keys.HOME)
+    same(focused(), "/")
+    page.strategy("Fold")
+    page.press_with(Keys.ALT, Keys.ENTER)
+    has(page.said("strategy"), "Would replace 1 place")
+    page.press_with(Keys.CONTROL, Keys.ENTER)
+    same(page.tree(), 'Plus(Times(5,Var("x")),Times(4,0))')
+    # in an editor, too, where Enter with Ctrl makes no line
+    page.js("document.querySelector('.strategy-pane .CodeMirror').CodeMirror.focus()")
+    page.field("path", "/1")
+    page.press_with(Keys.CONTROL, Keys.ENTER)
+    same((page.tree(), page.editor(".strategy-pane")), ('Plus(Times(5,Var("x")),0)', "Fold"))
+
+
+def try_names_for_readers(page):
+    """Whatever is focused or read out has a name; each region has a heading; each reference leads somewhere."""
+    page.click("#preview")
+    nameless = page.js("""const all = 'button, input, select, textarea, [role=treeitem], [role=tab], [role=tree], section, nav';
+        return [...document.querySelectorAll(all)]
+        .filter(it => it.getClientRects().length)
+        .filter(it => !(it.getAttribute('aria-label') || it.getAttribute('aria-labelledby') || it.innerText.trim() || it.closest('label')
+          || it.closest('.CodeMirror')))
+        .map(it => it.outerHTML.slice(0, 120))""")
+    same(nameless, [])
+    broken = page.js("""return [...document.querySelectorAll('[aria-labelledby], [aria-describedby], [aria-controls]')]
+        .flatMap(it => ['aria-labelledby', 'aria-describedby', 'aria-controls'].map(name => it.getAttribute(name)).filter(Boolean))
+        .filter(id => !document.getElementById(id))""")
+    same(broken, [])
+    same(page.js("return document.querySelectorAll('#outline [tabindex=\"0\"]').length"), 1)
+    has(page.one("#outline .marked").get_attribute("aria-label"), "would be Times(5,Var(\"x\"))")
+
+
+def try_without_codemirror(page):
+    """Where CodeMirror isn't at hand, plain text fields do."""
+    page.driver.execute_cdp_cmd("Network.enable", {})
+    page.driver.execute_cdp_cmd("Network.setBlockedURLs", {"urls": ["*codemirror.js"]})
+    try:
+        page.open()
+        same(page.all(".CodeMirror"), [])
+        has(page.editor(".module-pane"), "normalise = innermost")
+        page.apply("Fold;")
+        has(page.said("strategy"), "Refused (syntax)")
+        page.apply("normalise")
+        same(page.tree(), DONE)
+    finally:
+        page.driver.execute_cdp_cmd("Network.setBlockedURLs", {"urls": []})
+
+
+def try_large_tree(page):
+    """A tree of 40,000 terms is drawn in part, and opened further."""
+    page.click("#tree-text")
+    page.editor(".tree-pane", "[" + ",".join(f"g({it},a)" for it in range(13000)) + "]")
+    page.click("#tree-text")
+    assert len(page.all("#outline [role=treeitem]")) < 400
+    page.js("document.querySelector('#outline .toggle').click()")
+    page.js("document.querySelector('#outline [data-more] .row')?.click()")
+    page.field("budget", 1000000)
+    page.apply("topdown(try(\\ 12999 -> 1 \\))")
+    has(page.said("strategy"), "1 place changed")
+    same(list(page.marks()), ["/12999/0"])
+
+
+def try_no_dialog_stays(page):
+    """Texts to copy are shown, selected and copied."""
+    page.click("#script")
+    has(page.js("return document.getElementById('text-shown').value"), "module arith", "tree e Plus(")
+    page.click("#text-copy")
+    page.until(lambda: page.text("#text-copied") == "Copied.", "it is copied")
+    page.press(Keys.ESCAPE)
+    page.until(lambda: not page.js("return document.getElementById('text-dialog').open"), "the dialog closes")
+
+
+def try_widths(page, shots=None):
+    """Nothing is wider than the page, at a desk and on a phone, in the light and the dark."""
+    for name, (width, height) in (("desk", DESK), ("phone", PHONE)):
+        for dark in (False, True):
+            page.size(width, height, dark)
+            page.open("#example=encapsulate-field")
+            for step in ("start", "preview", "refused"):
+                if step == "preview":
+                    page.click("#preview")
+                if step == "refused":
+                    page.apply("encapsulate(|\"Box\",widht)")
+                same(page.js("return document.documentElement.scrollWidth <= innerWidth"), True)
+                if shots:
+                    page.size(width, height, dark, height_of_page=True)
+                    page.driver.save_screenshot(f"{shots}/{name}-{'dark' if dark else 'light'}-{step}.png")
+                    page.size(width, height, dark)
+    page.size(*DESK)
+
+
+def try_speed(page):
+    """Measures the start, and an apply of 100,000 steps. Other work on the machine makes them longer, so the bounds are wide."""
+    starts = []
+    for _ in range(5):
+        page.open()
+        starts.append(page.ready())
+    page.click("#tree-text")
+    page.editor(".tree-pane", "[" + ",".join(["a"] * 9000) + "]")
+    page.click("#tree-text")
+    page.strategy("topdown(try(\\ \"b\" -> 1 \\))")
+    page.click("#preview")
+    has(page.said("strategy"), "(99011 steps)")
+    took = []
+    for _ in range(6):
+        page.click("#apply")
+        took.append(float(page.js("return document.getElementById('strategy-said').dataset.took")))
+    print(f"  start: {min(starts)} ms at best, {sorted(starts)[2]} mostly")
+    print(f"  100,000 steps: {min(took):.0f} ms at best, {sorted(took)[2]:.0f} mostly, {took[0]:.0f} at first")
+    assert min(starts) < 5000 and min(took) < 1000, (starts, took)
+
+
+def opened():
+    options = webdriver.ChromeOptions()
+    options.binary_location = "/usr/bin/chromium"
+    for word in ("headless=new", "no-sandbox", "disable-gpu", "disable-dev-shm-usage", "hide-scrollbars", "window-size=1280,900"):
+        options.add_argument(f"--{word}")
+    options.set_capability("goog:loggingPrefs", {"browser": "ALL"})
+    driver = webdriver.Chrome(service=Service("/usr/bin/chromedriver"), options=options)
+    driver.set_script_timeout(WAIT)
+    return driver
+
+
+def main():
+    parser = argparse.ArgumentParser()
+    parser.add_argument("address")
+    parser.add_argument("--program")
+    parser.add_argument("--shots")
+    parser.add_argument("--only")
+    given = parser.parse_args()
+    if given.shots:
+        os.makedirs(given.shots, exist_ok=True)
+    driver, passed, failed = opened(), 0, 0
+    page = Page(driver, given.address)
+    try:
+        for name, trial in list(globals().items()):
+            if not name.startswith("try_") or (given.only and given.only not in name):
+                continue
+            words = {"try_script_and_dump": [given.program], "try_widths": [given.shots]}.get(name, [])
+            begun, fault = time.monotonic(), ""
+            try:
+                page.size(*DESK)
+                page.open()
+                trial(page, *words)
+                errors = [it["message"] for it in driver.get_log("browser") if it["level"] == "SEVERE"]
+                same([it for it in errors if "ERR_BLOCKED_BY_CLIENT" not in it], [])
+            except Exception as it:
+                fault = "".join(traceback.format_exception(it)[-2:]).strip()
+                if given.shots:
+                    driver.save_screenshot(f"{given.shots}/failed-{name}.png")
+            print(f"{name[4:].replace('_', ' ')}: {'FAILED' if fault else 'as wanted'} ({time.monotonic() - begun:.1f} s)", flush=True)
+            if fault:
+                print("  " + fault.replace("\n", "\n  "), flush=True)
+            passed, failed = passed + (not fault), failed + bool(fault)
+    finally:
+        driver.quit()
+    print(f"{passed} passed, {failed} failed")
+    return failed != 0
+
+
+if __name__ == "__main__":
+    sys.exit(main())

@@ -1,0 +1,140 @@
+// What the page shows: its panes, its editors and its steps.
+
+import { Outline } from './outline.mjs';
+import { Tabs, button, byId, say, showTimeline, withCode } from './parts.mjs';
+import { bench, fields, keepAddress, loadedText, names, page, textOf } from './state.mjs';
+import { labelOf } from './commands.mjs';
+import { makeEditor } from './editors.mjs';
+import { pathText, readPath, readTerm } from './terms.mjs';
+
+/** What is done when something is chosen or typed; the page fills it in. */
+export const on = { edited() {}, goTo() {}, tried() {} };
+
+const outline = new Outline(byId('outline'), path => {
+  byId('path').value = path;
+  pathChanged();
+  byId('tree-hint').replaceChildren(...withCode(`The strategy is applied at \`${path}\`.`));
+});
+
+export const editors = {
+  tree: makeEditor(byId('tree-input'), { mode: 'terms', changed: text => edited('tree', text) }),
+  module: makeEditor(byId('module-input'), { mode: 'strategies', changed: text => edited('module', text) }),
+  strategy: makeEditor(byId('strategy-input'), { mode: 'strategies', changed: strategyChanged, numbers: false }),
+};
+
+const tabs = {
+  tree: new Tabs(byId('tree-tabs'), 'tree-panel', name => choose('tree', name)),
+  module: new Tabs(byId('module-tabs'), 'module-panel', name => choose('module', name)),
+};
+
+fields.now = () => ({ path: byId('path').value, budget: Number(byId('budget').value), strategy: editors.strategy.value });
+
+export const saidOf = kind => byId(`${kind}-said`);
+
+// ---- showing
+
+export function show() {
+  for (const kind of ['tree', 'module']) showPane(kind);
+  showTree();
+  const steps = bench.steps.map(it => ({ label: labelOf(it), kind: it.kind }));
+  showTimeline(byId('steps'), steps, bench.at, at => on.goTo(at));
+  const tries = page.tries.map(it => button(labelOf({ kind: 'apply', ...it }), () => on.tried(it)));
+  byId('tries').replaceChildren(...(tries.length ? ['Try: ', ...tries] : []));
+  showButtons();
+  keepAddress();
+}
+
+function showTabs(kind) {
+  const all = names(kind).map(name => ({ name, isEdited: page.drafts[kind].has(name), isFaulty: page.faulty[kind].has(name) }));
+  tabs[kind].show(all, page[kind]);
+}
+
+export function showPane(kind) {
+  const all = names(kind);
+  if (!all.includes(page[kind])) page[kind] = all.at(-1) ?? '';
+  const name = page[kind];
+  showTabs(kind);
+  editors[kind].value = name && textOf(kind, name);
+  editors[kind].label = name ? `Text of the ${kind} ${name}` : `There is no ${kind}`;
+  editors[kind].isReadOnly = !name;
+  byId(`${kind}-remove`).disabled = !name;
+}
+
+export function showTree() {
+  const text = bench.trees.get(page.tree);
+  const isText = page.isText || text === undefined;
+  byId('tree-editor').hidden = !isText;
+  byId('outline-box').hidden = isText;
+  byId('tree-hint').hidden = isText;
+  byId('tree-text').setAttribute('aria-pressed', String(isText));
+  if (isText) {
+    editors.tree.refresh();
+    return;
+  }
+  const path = readPath(byId('path').value);
+  outline.show(readTerm(text), { marks: page.marks, path: path ? pathText(path) : '/', keep: outline.name === page.tree });
+  outline.name = page.tree;
+}
+
+export function showButtons() {
+  byId('undo').disabled = page.isBusy || !bench.canUndo;
+  byId('redo').disabled = page.isBusy || !bench.canRedo;
+  for (const id of ['apply', 'preview']) byId(id).setAttribute('aria-disabled', String(page.isBusy));
+  document.body.classList.toggle('running', page.isBusy);
+}
+
+export function notice(text) {
+  byId('notice').hidden = !text;
+  byId('notice').replaceChildren(...withCode(text));
+}
+
+/** Takes away all that was said and marked of refusals. */
+export function clearSaid() {
+  for (const kind of ['tree', 'module', 'strategy']) {
+    say(saidOf(kind));
+    editors[kind].clear();
+  }
+  page.faulty = { tree: new Set(), module: new Set() };
+  for (const id of ['path', 'budget']) byId(id).removeAttribute('aria-invalid');
+  notice('');
+}
+
+// ---- what somebody does
+
+function edited(kind, text) {
+  const name = page[kind];
+  if (text === loadedText(kind, name)) page.drafts[kind].delete(name);
+  else page.drafts[kind].set(name, text);
+  page.isTouched = true;
+  page.faulty[kind].delete(name);
+  say(saidOf(kind));
+  editors[kind].clear();
+  if (kind === 'tree') page.marks = new Map();
+  showTabs(kind);
+  keepAddress();
+  on.edited(kind);
+}
+
+export function strategyChanged() {
+  page.isTouched = true;
+  editors.strategy.clear();
+  say(saidOf('strategy'));
+  keepAddress();
+  on.edited('strategy');
+}
+
+export function pathChanged() {
+  page.isTouched = true;
+  byId('path').removeAttribute('aria-invalid');
+  keepAddress();
+}
+
+export function choose(kind, name) {
+  page[kind] = name;
+  if (kind === 'tree') {
+    page.marks = new Map();
+    byId('path').value = '/';
+  }
+  editors[kind].clear();
+  show();
+}
