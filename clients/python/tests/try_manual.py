@@ -62,14 +62,15 @@ def typed(top, sessions, files):
     with folder_with(files) as folder:
         it = Terminal(top, sys.executable, folder, ("prompt_toolkit",))
         shown = []
-        it.see(r"^> ?$")
+        # what is shown next begins after the whole prompt, and its blank may come later than its sign
+        it.see(r"^> +$")
         with contextlib.suppress(Unlike):
             for session in sessions:
                 begun = len(it.seen)
                 for line in lines(session):
                     it.at = len(it.seen)
                     it.type(f"{line}\n")
-                    it.see(r"\n(>|\.) *$")
+                    it.see(r"\n(>|\.) +$")
                 shown.append(bare("> " + it.seen[begun:]))
         it.end()
     shown += [""] * (len(sessions) - len(shown))
