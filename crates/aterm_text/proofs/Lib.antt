@@ -9,10 +9,14 @@ pub mod DepthLemmas
 pub mod GoesLemmas
 pub mod NestingLemmas
 pub mod PrintLemmas
+pub mod RoomLemmas
+pub mod LayoutLemmas
 pub mod LawTokens
 pub mod LawPrinted
+pub mod LawLayout
 pub mod LawOneTerm
 pub mod LawOneLine
+pub mod LawLines
 pub mod LawNesting
 pub mod LawLength
 pub mod ReadLemmas

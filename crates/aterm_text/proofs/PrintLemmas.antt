@@ -110,11 +110,11 @@ terms-end us i h = rw (drop-past us i h) tt
 
 -- ---- a term and its annotations
 
-of_list-to_list : (ts : Trees) → of_list (to_list ts) ≡ ts
+pub of_list-to_list : (ts : Trees) → of_list (to_list ts) ≡ ts
 of_list-to_list none = refl
 of_list-to_list (more t ts) = ap (more t) (of_list-to_list ts)
 
-bracketed-some : (o c : ℕ) (us : List Tree) (inner : List ℕ) → length us ≢ 0 → bracketed o c (of_list us) inner ≡ o ∷ (inner ++ c ∷ [])
+pub bracketed-some : (o c : ℕ) (us : List Tree) (inner : List ℕ) → length us ≢ 0 → bracketed o c (of_list us) inner ≡ o ∷ (inner ++ c ∷ [])
 bracketed-some o c [] inner h = absurd (h refl)
 bracketed-some o c (u ∷ us) inner h = refl
 
@@ -124,10 +124,10 @@ pub bracketed-printed : {T E : Type 0} (r : Result T E) (out new : List ℕ) (o 
 bracketed-printed (Ok x) out new o c us h e = e ∙ ap (λ l. out ++ l) (sym (bracketed-some o c us _ (eqb-false (length us) 0 h)))
 bracketed-printed (Err x) out new o c us h e = tt
 
-abbrev braces : List Tree → List ℕ
+abbrev pub braces : List Tree → List ℕ
 braces ns = bracketed 123 125 (of_list ns) (print_all (of_list ns))
 
-print-bare : (t : Tree) → print t ≡ print (bare t) ++ braces (annotations t)
+pub print-bare : (t : Tree) → print t ≡ print (bare t) ++ braces (annotations t)
 print-bare (integer z notes) = rw of_list-to_list (ap (λ l. l ++ bracketed 123 125 notes (print_all notes)) (append-nil (signed_decimal z)))
 print-bare (branch (application name) kids notes) = rw of_list-to_list (ap (λ l. l ++ bracketed 123 125 notes (print_all notes)) (append-nil (print_name name ++ bracketed 40 41 kids (print_all kids))))
 print-bare (branch list kids notes) = rw of_list-to_list (ap (λ l. 91 ∷ l) (sym (append_assoc (print_all kids) (93 ∷ []) _)))

@@ -33,7 +33,7 @@ module _ (x y : List ℕ) (same : without_blanks x ≡ without_blanks y) where
   name_part true bytes a h = (h.0, sign_in 34 h.0 h.1, h.2)
   name_part false bytes a h = ap first_word (sym same) ∙ h
 
-  reads_in : (t : Tree) (z : List ℕ) → Reads t x z → Reads t y z
+  pub reads_in : (t : Tree) (z : List ℕ) → Reads t x z → Reads t y z
   reads_in (integer v notes) z h = (h.0, (subst (λ l. IsInteger (take (integer_len l) l) v × (h.0 ≡ drop (integer_len l) l)) same h.1), h.2)
   reads_in (branch (application name) kids notes) z h = (h.0, h.1, name_part name.is_quoted name.text h.0 h.2, h.3, h.4)
   reads_in (branch list kids notes) z h = (h.0, h.1, sign_in 91 h.0 h.2, h.3, h.4)

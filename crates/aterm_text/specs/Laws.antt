@@ -1,5 +1,5 @@
 -- Laws of the text of terms.
-use Rattle.std.specs.Prelude.{◌≡◌, ◌<◌, ◌≤◌, ℕ, List, length}
+use Rattle.std.specs.Prelude.{◌≡◌, ◌==◌, ◌<◌, ◌≤◌, ℕ, Bool, false, IsTrue, List, [], ◌∷◌, length}
 use Rattle.std.specs.List.{AllByRecursion, prefix_len, suffix_len}
 use Rattle.term_core.specs.Tree.{Tree}
 use Rattle.term_core.specs.Terms.{IsTerm}
@@ -7,11 +7,29 @@ use Rattle.term_core.specs.Size.{height, size}
 use Rattle.aterm_text.specs.Grammar.{Spells, SpellsAnnotations}
 use Rattle.aterm_text.specs.Nesting.{nesting}
 use Rattle.aterm_text.specs.Printed.{print}
+use Rattle.aterm_text.specs.Layout.{pretty}
 use Rattle.aterm_text.specs.Tokens.{is_blank}
 
 -- the printed text of a term spells this term
 abbrev pub PrintedTextReadsBack : Type 0
 PrintedTextReadsBack = (t : Tree) → IsTerm t → Spells (print t) t
+
+-- and so does its text over lines
+abbrev pub PrettyTextReadsBack : Type 0
+PrettyTextReadsBack = (t : Tree) → IsTerm t → Spells (pretty 0 t) t
+
+-- each line feed is followed by a space
+abbrev pub begins_with_space : List ℕ → Bool
+begins_with_space [] = false
+begins_with_space (b ∷ x) = b == 32
+
+abbrev pub LinesGoOn : List ℕ → Type 0
+LinesGoOn [] = Unit {0}
+LinesGoOn (b ∷ x) = (b ≡ 10 → IsTrue (begins_with_space x)) × LinesGoOn x
+
+-- the lines of the text over lines go on, so that no line but the first begins a command
+abbrev pub PrettyTextGoesOn : Type 0
+PrettyTextGoesOn = (t : Tree) → IsTerm t → LinesGoOn (pretty 0 t)
 
 -- a text spells at most one term, and at most one list of annotations
 pub record OneTerm : Type 0 where

@@ -1,11 +1,21 @@
 //! Laws over the definitions of the text of terms alone. Each is the contract of a function that
 //! does nothing.
 
-ghost use Rattle.aterm_text.specs.Laws.{OneTerm, PrintedTextIsAsLong, PrintedTextIsOneLine, PrintedTextNests, PrintedTextReadsBack};
+ghost use Rattle.aterm_text.specs.Laws.{OneTerm, PrintedTextIsAsLong, PrintedTextIsOneLine, PrettyTextGoesOn, PrettyTextReadsBack, PrintedTextNests, PrintedTextReadsBack};
 
 /// The printed text of a term spells this term.
 pub fn printed_text_reads_back()
     ensures { PrintedTextReadsBack }
+{}
+
+/// The text of a term over lines spells this term.
+pub fn pretty_text_reads_back()
+    ensures { PrettyTextReadsBack }
+{}
+
+/// No line of the text over lines but the first begins without a space.
+pub fn pretty_text_goes_on()
+    ensures { PrettyTextGoesOn }
 {}
 
 /// A text spells at most one term, and at most one annotation part.

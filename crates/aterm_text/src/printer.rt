@@ -54,7 +54,7 @@ pub fn print_name(name: &Name, out: &mut Vec<u8>) -> Result<(), NoMemory>
 }
 
 #[cycle(print)]
-fn print_term(term: &Term, out: &mut Vec<u8>) -> Result<(), NoMemory>
+pub(crate) fn print_term(term: &Term, out: &mut Vec<u8>) -> Result<(), NoMemory>
     ensures ok { OnOk result (out.new.items ≡ out.old.items ++ print_of term.now) }
     ensures term { OnOk result (IsTerm term.now) }
     ensures err { Extends out.old.items out.new.items }
@@ -142,7 +142,7 @@ fn print_all(terms: &[Term], out: &mut Vec<u8>) -> Result<(), NoMemory>
     Ok(())
 }
 
-fn print_integer(value: i64, out: &mut Vec<u8>) -> Result<(), NoMemory>
+pub(crate) fn print_integer(value: i64, out: &mut Vec<u8>) -> Result<(), NoMemory>
     ensures ok { OnOk result (out.new.items ≡ out.old.items ++ signed_decimal value) }
     ensures err { Extends out.old.items out.new.items }
     ensures room { vec_capacity out.old ≤ vec_capacity out.new }
@@ -152,7 +152,7 @@ fn print_integer(value: i64, out: &mut Vec<u8>) -> Result<(), NoMemory>
     Ok(())
 }
 
-fn append_name(name: &Name, out: &mut Vec<u8>) -> Result<(), NoMemory>
+pub(crate) fn append_name(name: &Name, out: &mut Vec<u8>) -> Result<(), NoMemory>
     ensures ok { OnOk result (out.new.items ≡ out.old.items ++ print_name_of name.now) }
     ensures name { IsName name.now }
     ensures err { Extends out.old.items out.new.items }
@@ -204,7 +204,7 @@ fn plain_run_len(bytes: &[u8]) -> usize
     bytes.iter().take_while(|byte| is_plain(**byte)).count()
 }
 
-fn is_plain(byte: u8) -> bool
+pub(crate) fn is_plain(byte: u8) -> bool
     ensures { result ≡ is_plain_of byte }
 {
     matches!(byte, 32..=126) && byte != QUOTE && byte != b'\\'
