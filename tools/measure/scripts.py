@@ -28,6 +28,16 @@ def texts(program, empty):
         print(f"| {name} | {(count - empty) / len(text):.1f} |")
 
 
+def over_lines(program):
+    """Printing a tree over lines."""
+    for name, shape in SHAPES.items():
+        tree = "tree t " + shape(BYTES) + "\n"
+        without, _ = instructions(program, [], tree)
+        count, answer = instructions(program, [], tree + "pretty t\n")
+        printed = answer.removeprefix("ok\n")
+        print(f"| {name}, `pretty`, a byte of its answer | {(count - without) / (len(printed) + 1):.1f} |")
+
+
 def comments(program, empty):
     for length in [60, BYTES]:
         text = ("#" + "c" * (length - 2) + "\n") * (BYTES // length)
@@ -72,6 +82,7 @@ def main():
     print("| What | |")
     print("|---|---|")
     texts(program, empty)
+    over_lines(program)
     comments(program, empty)
     commands(program)
     steps(program)

@@ -88,6 +88,7 @@ class Ended(EOFError):
         >>> Stratbench(options=["--tree", "t=/none"])
         Traceback (most recent call last):
         stratbench.Ended: the session has ended with status 3: read fault: /none
+            No such file or directory (os error 2)
     """
 
     def __init__(self, status: int, said: str) -> None:
@@ -121,7 +122,8 @@ class Stratbench:
     what the environment's STRATBENCH_LIBRARY names, or `libstratbench.so`. It is used by one thread at a time.
 
     A call that takes more than `seconds` raises `TimeoutError`, and ends the session; the attribute may be changed. What the
-    program says of an accepted command, as the warnings of a module, is in `warnings` until the next command.
+    program says of an accepted command, as the warnings of a module, is in `warnings` until the next command. With the option
+    `--profile` that is where the steps of an `apply` or a `preview` went, too.
 
         >>> bench = Stratbench(seconds=10)
         >>> bench.module("m", "rules R : x -> y")
@@ -303,6 +305,16 @@ class Stratbench:
         """Returns the tree, or its subterm at the path, as a text."""
         return self._answer(f"show {name}{_place(at)}")[0]
 
+    def pretty(self, name: str, at: Path | None = None) -> str:
+        """Returns the tree, or its subterm at the path, as a text over lines.
+
+        >>> bench = Stratbench()
+        >>> bench.tree("t", Term("f", (Term(b"a" * 60), Term(b"b" * 60))))
+        >>> bench.pretty("t").split("\\n") == ["f(", '  "' + "a" * 60 + '",', '  "' + "b" * 60 + '")']
+        True
+        """
+        return "\n".join(self._answer(f"pretty {name}{_place(at)}"))
+
     def term(self, name: str, at: Path | None = None) -> Term:
         """Returns the tree, or its subterm at the path, as a term."""
         return read(self.show(name, at))
@@ -347,9 +359,10 @@ class Stratbench:
         >>> bench.tree("t", "a")
         >>> with bench.group():
         ...     bench.tree("t", "b")
-        ...     bench.apply("t", "fail")
+        ...     bench.apply("u", "id")
         Traceback (most recent call last):
-        stratbench.Refused: refused 12 fails: it was applied to the constant `b`
+        stratbench.Refused: refused 5 notree: there is no tree `u`
+            there is `t`
         >>> bench.show("t"), bench.history()
         ('a', (1, 0))
         """
@@ -428,13 +441,14 @@ class Stratbench:
             begins = f"line {command.line}: {lines[0]}"
             found = next((it for it in said if it.startswith(begins)), begins)
             raise Refused(lines[0], *command.explained(found[len(begins) :].removeprefix(": ")))
-        self.warnings = [command.explained(it.removeprefix(f"line {command.line}: warning: "))[0] for it in said]
+        begins = rf"line {command.line}: (?:warning: )?"
+        self.warnings = [command.explained(re.sub(f"^{begins}", "", it))[0] for it in said]
         self._grouped = word == "begin" or self._grouped and word not in ("commit", "abandon")
         return lines
 
     def _lines(self, word: str, command: str) -> list[str]:
         # the answers to these have any number of lines, and that to `history` begins with `undo `, as none of theirs does
-        script = [command, "history"] if word in ("text", "dump") else [command]
+        script = [command, "history"] if word in ("pretty", "text", "dump") else [command]
         self._process.write("".join(f"{it}\n{_BEGINS}" for it in script))
         if self._process.goes_on:
             self._line += command.count("\n") + len(script)

@@ -1,10 +1,11 @@
 //! The buffer of a command's answer.
 
 ghost use Rattle.std.specs.Prelude.{◌≡◌, ◌≤◌, ◌+◌, ◌++◌, ◌∷◌, [], IfOk, OnOk, decimal, length};
+ghost use Rattle.aterm_text.specs.Layout.{pretty as pretty_of};
 ghost use Rattle.aterm_text.specs.Printed.{print as print_of, print_name as name_printed};
 ghost use Rattle.session_history.specs.Dump.{dumped};
 
-use aterm_text::{print, print_name};
+use aterm_text::{pretty, print, print_name};
 use itoa::Buffer;
 use prim_core::Meaning;
 use session_core::Session;
@@ -82,6 +83,12 @@ impl Answer {
         ensures { OnOk result (self.new ≡ self.old ++ print_of term.now) }
     {
         print(term, &mut self.bytes)
+    }
+
+    pub(crate) fn append_pretty(&mut self, term: &Term) -> Result<(), NoMemory>
+        ensures { OnOk result (self.new ≡ self.old ++ pretty_of 0 term.now) }
+    {
+        pretty(term, &mut self.bytes)
     }
 
     pub(crate) fn append_name(&mut self, name: &Name) -> Result<(), NoMemory>

@@ -1,6 +1,7 @@
 //! The lines of answers. Each call replaces what was in the answer.
 
 ghost use Rattle.std.specs.Prelude.{◌≡◌, OnOk, codes};
+ghost use Rattle.aterm_text.specs.Layout.{pretty as pretty_of};
 ghost use Rattle.aterm_text.specs.Printed.{print as print_of};
 ghost use Rattle.session_history.specs.Dump.{dumped};
 ghost use Rattle.script_text.specs.Replies.{line, listed, counted};
@@ -28,6 +29,17 @@ impl Answer {
     {
         self.clear();
         self.append_term(tree)?;
+        self.push(b'\n')
+    }
+
+    /// Writes a tree over lines, with a line feed at the end, in place of what was there.
+    ///
+    /// Errors: `NoMemory` if memory can't grow.
+    pub fn write_pretty(&mut self, tree: &Term) -> Result<(), NoMemory>
+        ensures { OnOk result (self.new ≡ line (pretty_of 0 tree.now)) }
+    {
+        self.clear();
+        self.append_pretty(tree)?;
         self.push(b'\n')
     }
 

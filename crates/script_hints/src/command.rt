@@ -15,6 +15,7 @@ dump
 history
 module N M
 modules
+pretty N [at P]
 preview N [at P] [within K] do S
 put N P T
 redo [K]

@@ -5,7 +5,7 @@ use Rattle.session_modules.specs.declared.refusal.Refusal.TheVariants.{Line, Nam
 use Rattle.script_text.specs.declared.framing.Framing.TheVariants.{Continued, Lines}
 use Rattle.script_text.specs.Script.{commands, complete}
 use Rattle.script_text.specs.Handed.{handed}
-use Rattle.script_text.specs.Form.{tree, show, put, apply, undo, command_of, takes_no_memory}
+use Rattle.script_text.specs.Form.{tree, show, pretty, put, apply, undo, command_of, takes_no_memory}
 use Rattle.script_text.specs.Answer.{ReplyInRun}
 use Rattle.script_text.specs.Run.{Replied}
 
@@ -54,6 +54,9 @@ reads_place = refl
 
 reads_no_place : command_of 100 (codes "show t") ≡ Ok (show (codes "t") [])
 reads_no_place = refl
+
+reads_pretty : command_of 100 (codes "pretty t at /2") ≡ Ok (pretty (codes "t") (2 ∷ []))
+reads_pretty = refl
 
 reads_apply : command_of 100 (codes "apply t at /1 within 07 do id; f") ≡ Ok (apply (codes "t") (1 ∷ []) 7 (codes "id; f"))
 reads_apply = refl

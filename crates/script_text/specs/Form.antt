@@ -30,6 +30,7 @@ pub data Form : Type 0 where
   commit : Form  -- makes the changes of the group one step
   abandon : Form  -- undoes the changes of the group
   show : List ℕ → List ℕ → Form  -- shows the subterm at the path of the name's tree
+  pretty : List ℕ → List ℕ → Form  -- shows it over lines
   trees : Form  -- lists the names of the trees
   modules : Form  -- lists the names of the modules
   module_text : List ℕ → Form  -- shows the text of the name's module
@@ -156,6 +157,8 @@ form_with budget keyword rest =
     if bytes_eq keyword (codes "abandon") then ended abandon rest else
     if bytes_eq keyword (codes "show")
     then with_word rest (λ name after. option_map (show name) (last_place after)) else
+    if bytes_eq keyword (codes "pretty")
+    then with_word rest (λ name after. option_map (pretty name) (last_place after)) else
     if bytes_eq keyword (codes "trees") then ended trees rest else
     if bytes_eq keyword (codes "modules") then ended modules rest else
     if bytes_eq keyword (codes "text") then option_map module_text (last_name rest) else
@@ -179,6 +182,7 @@ has_labels (unload name) = is_some (label_of name)
 has_labels (apply name path budget text) = is_some (label_of name)
 has_labels (preview name path budget text) = is_some (label_of name)
 has_labels (show name path) = is_some (label_of name)
+has_labels (pretty name path) = is_some (label_of name)
 has_labels (module_text name) = is_some (label_of name)
 has_labels (undo n) = true
 has_labels (redo n) = true
@@ -233,6 +237,7 @@ is_without_memory (apply name path budget text) = false
 is_without_memory (preview name path budget text) = false
 is_without_memory commit = false
 is_without_memory (show name path) = false
+is_without_memory (pretty name path) = false
 is_without_memory trees = false
 is_without_memory modules = false
 is_without_memory (module_text name) = false

@@ -3,8 +3,8 @@ use Rattle.std.specs.Prelude.{ℕ, Bool, true, false, List, Some, None, option_m
 use Rattle.std.specs.declared.option.Option.{Option}
 use Rattle.std.specs.Str.{bytes_eq}
 use Rattle.script_text.specs.declared.keyword.Keyword.{Keyword}
-use Rattle.script_text.specs.declared.keyword.Keyword.TheVariants.{Tree, Copy, Drop, Put, Annotate, Module, Unload, Apply, Preview, Undo, Redo, Begin, Commit, Abandon, Show, Trees, Modules, Text, History, Dump, Other}
-use Rattle.script_text.specs.Form.{Form, tree, copy, drop_tree, put, annotate, set_module, unload, apply, preview, undo, redo, begin, commit, abandon, show, trees, modules, module_text, history, dump, with_word, ended, last_text, with_path_and_text, last_name, last_steps, last_place, strategy_form}
+use Rattle.script_text.specs.declared.keyword.Keyword.TheVariants.{Tree, Copy, Drop, Put, Annotate, Module, Unload, Apply, Preview, Undo, Redo, Begin, Commit, Abandon, Show, Pretty, Trees, Modules, Text, History, Dump, Other}
+use Rattle.script_text.specs.Form.{Form, tree, copy, drop_tree, put, annotate, set_module, unload, apply, preview, undo, redo, begin, commit, abandon, show, pretty, trees, modules, module_text, history, dump, with_word, ended, last_text, with_path_and_text, last_name, last_steps, last_place, strategy_form}
 
 -- the keyword that a word is
 abbrev pub keyword_at : List ℕ → Keyword
@@ -24,6 +24,7 @@ keyword_at word =
     if bytes_eq word (codes "commit") then Commit else
     if bytes_eq word (codes "abandon") then Abandon else
     if bytes_eq word (codes "show") then Show else
+    if bytes_eq word (codes "pretty") then Pretty else
     if bytes_eq word (codes "trees") then Trees else
     if bytes_eq word (codes "modules") then Modules else
     if bytes_eq word (codes "text") then Text else
@@ -51,6 +52,9 @@ module_form rest = with_word rest (λ name after. Some (set_module name (last_te
 abbrev pub show_form : List ℕ → Option Form
 show_form rest = with_word rest (λ name after. option_map (show name) (last_place after))
 
+abbrev pub pretty_form : List ℕ → Option Form
+pretty_form rest = with_word rest (λ name after. option_map (pretty name) (last_place after))
+
 -- the form, given the budget of a command that names none and the rest after the word
 abbrev pub form_after : Keyword → ℕ → List ℕ → Option Form
 form_after Tree budget rest = tree_form rest
@@ -68,6 +72,7 @@ form_after Begin budget rest = ended begin rest
 form_after Commit budget rest = ended commit rest
 form_after Abandon budget rest = ended abandon rest
 form_after Show budget rest = show_form rest
+form_after Pretty budget rest = pretty_form rest
 form_after Trees budget rest = ended trees rest
 form_after Modules budget rest = ended modules rest
 form_after Text budget rest = option_map module_text (last_name rest)

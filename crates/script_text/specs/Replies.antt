@@ -7,6 +7,7 @@ use Rattle.aterm_text.specs.declared.TheConstants.{MAX_NESTING}
 use Rattle.aterm_text.specs.Nesting.{nesting}
 use Rattle.aterm_text.specs.Grammar.{Spells, SpellsAnnotations}
 use Rattle.aterm_text.specs.Printed.{print, print_name as print_symbol}
+use Rattle.aterm_text.specs.Layout.{pretty as pretty_text}
 use Rattle.strategy_check.specs.Words.{word_of as kind_word}
 use Rattle.session_history.specs.History.{History}
 use Rattle.session_modules.specs.Modules.{ReadsWithin}
@@ -18,7 +19,7 @@ use Rattle.session_modules.specs.Refusal.{number_of, word_of}
 use Rattle.session_modules.specs.declared.refusal.Refusal.{Refusal}
 use Rattle.session_modules.specs.declared.refusal.Refusal.TheVariants.{Long, Term, Check}
 use Rattle.script_text.specs.Handed.{Handed, text as handed_text, long}
-use Rattle.script_text.specs.Form.{Form, tree, copy, drop_tree, put, annotate, set_module, unload, apply, preview, undo, redo, begin, commit, abandon, show, trees, modules, module_text, history, dump, command_of}
+use Rattle.script_text.specs.Form.{Form, tree, copy, drop_tree, put, annotate, set_module, unload, apply, preview, undo, redo, begin, commit, abandon, show, pretty, trees, modules, module_text, history, dump, command_of}
 
 -- an accepted command: its answer, line feeds included, and the history after it
 pub record Accepted : Type 0 where
@@ -110,6 +111,8 @@ Replies meaning begin h = Told (session.ComesTo session.begin h)
 Replies meaning commit h = Told (session.ComesTo session.commit h)
 Replies meaning abandon h = Told (session.ComesTo session.abandon h)
 Replies meaning (show name path) h = Is (shown (λ place. line (print place.part)) h (session.place_of h.now name path))
+Replies meaning (pretty name path) h =
+    Is (shown (λ place. line (pretty_text 0 place.part)) h (session.place_of h.now name path))
 Replies meaning trees h = Is (Ok (told_of h (listed (codes "trees") (finmap.keys h.now.trees))))
 Replies meaning modules h = Is (Ok (told_of h (listed (codes "modules") (finmap.keys h.now.modules))))
 Replies meaning (module_text name) h = Is (shown line h (session.module_text_of h.now name))

@@ -7,9 +7,9 @@ ghost use Rattle.term_paths.specs.PathText.{path_of};
 ghost use Rattle.aterm_text.specs.Tokens.{is_blank, without_blanks};
 ghost use Rattle.session_history.specs.Budget.{IsBudget};
 ghost use Rattle.script_text.specs.Script.{without_end};
-ghost use Rattle.script_text.specs.Form.{tree, put, annotate, set_module, apply, preview, command_of, form_of, checked, strategy_form, last_name, last_steps, option_word, after_option, path_or_root, budget_or, up_to, ended, HasBudget, is_without_memory, takes_no_memory, front_word, after_word, has_word};
+ghost use Rattle.script_text.specs.Form.{tree, put, annotate, set_module, apply, preview, show, pretty, command_of, form_of, checked, strategy_form, last_name, last_steps, option_word, after_option, path_or_root, budget_or, up_to, ended, HasBudget, is_without_memory, takes_no_memory, front_word, after_word, has_word};
 ghost use Rattle.script_text.specs.CommandView.{form as form_seen};
-ghost use Rattle.script_text.specs.KeywordView.{form_after, is_without_memory_after, tree_form, copy_form, put_form, annotate_form, module_form, show_form};
+ghost use Rattle.script_text.specs.KeywordView.{form_after, is_without_memory_after, tree_form, copy_form, put_form, annotate_form, module_form, show_form, pretty_form};
 ghost use Rattle.script_text.specs.Reading.{ReadRight};
 
 use crate::keyword::{Keyword, keyword_of};
@@ -52,6 +52,8 @@ pub enum Command<'a> {
     Abandon,
     /// Shows the subterm at the path.
     Show(Label, Path),
+    /// Shows it over lines.
+    Pretty(Label, Path),
     /// Lists the names of the trees.
     Trees,
     /// Lists the names of the modules.
@@ -129,7 +131,14 @@ impl<'a> Command<'a> {
             Keyword::Begin => read_ended(Command::Begin, rest),
             Keyword::Commit => read_ended(Command::Commit, rest),
             Keyword::Abandon => read_ended(Command::Abandon, rest),
-            Keyword::Show => read_show(alloc, rest),
+            Keyword::Show => {
+                let (name, path) = read_name_and_place(alloc, rest)?;
+                Ok(Command::Show(name, path))
+            }
+            Keyword::Pretty => {
+                let (name, path) = read_name_and_place(alloc, rest)?;
+                Ok(Command::Pretty(name, path))
+            }
             Keyword::Trees => read_ended(Command::Trees, rest),
             Keyword::Modules => read_ended(Command::Modules, rest),
             Keyword::Text => Ok(Command::Text(read_last_name(alloc, rest)?)),
@@ -194,8 +203,12 @@ fn read_copy<'a>(alloc: Global, rest: &[u8]) -> Result<Command<'a>, Refusal>
     Ok(Command::Copy(name, copy))
 }
 
-fn read_show<'a>(alloc: Global, rest: &[u8]) -> Result<Command<'a>, Refusal>
-    ensures { ReadRight (show_form rest.now) false result }
+// The name and the place of a command `show` or `pretty`.
+fn read_name_and_place(alloc: Global, rest: &[u8]) -> Result<(Label, Path), Refusal>
+    ensures show { IfOk result (λ read. checked (show_form rest.now) ≡ Ok (show read.0 read.1)) }
+    ensures pretty { IfOk result (λ read. checked (pretty_form rest.now) ≡ Ok (pretty read.0 read.1)) }
+    ensures refused { IfErr result (λ refusal. (refusal ≡ Refusal.Memory)
+        ⊎ ((checked (show_form rest.now) ≡ Err refusal) × (checked (pretty_form rest.now) ≡ Err refusal))) }
 {
     let (name, rest) = split_name(rest)?;
     let (word, rest) = split_option(b"at", rest);
@@ -203,8 +216,7 @@ fn read_show<'a>(alloc: Global, rest: &[u8]) -> Result<Command<'a>, Refusal>
         return Err(Refusal::Line);
     }
     let path = read_place(alloc, word)?;
-    let name = read_label(alloc, name)?;
-    Ok(Command::Show(name, path))
+    Ok((read_label(alloc, name)?, path))
 }
 
 // The name, the path, the budget and the text of a command `apply` or `preview`.

@@ -56,9 +56,11 @@ class Completer:
         if not first:
             forms = self._own if word.startswith(":") else FORMS
             yield from (Candidate(it, f"{it} {form}".rstrip()) for it, form in forms.items())
+        elif first == ":profile":
+            yield from self._any(before.replace(first, "preview", 1), word)
         elif first.startswith(":"):
             yield from self._for_own(first, len(rest), word)
-        elif first in ("drop", "copy", "tree", "put", "annotate", "show", "apply", "preview") and not rest:
+        elif first in ("drop", "copy", "tree", "put", "annotate", "show", "pretty", "apply", "preview") and not rest:
             yield from self._names("tree")
         elif first in ("text", "unload", "module") and not rest or first == "copy":
             yield from self._names("module" if first != "copy" else "tree")
@@ -66,7 +68,7 @@ class Completer:
             yield from self._paths(rest[0], word)
         elif first in ("tree", "put"):
             yield from (it for it in self._definitions("") if it.about == "constructor")
-        elif first in ("show", "apply", "preview"):
+        elif first in ("show", "pretty", "apply", "preview"):
             yield from self._after_name(first, before, word)
         elif first == "module":
             yield from self._definitions(before.split(None, 2)[2] if len(rest) > 1 else "")
@@ -80,7 +82,7 @@ class Completer:
             yield from self._paths(name, word)
         elif words[-1:] != ["within"]:
             forms = (("at", "at P", "a path"), ("within", "within K", "steps"), ("do", "do S", "a strategy"))
-            yield from (Candidate(*it) for it in forms if it[0] not in words and (first != "show" or it[0] == "at"))
+            yield from (Candidate(*it) for it in forms if it[0] not in words and (first not in ("show", "pretty") or it[0] == "at"))
 
     def _for_own(self, first: str, given: int, word: str) -> Iterator[Candidate]:
         if first == ":undo":

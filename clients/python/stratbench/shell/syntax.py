@@ -10,7 +10,7 @@ from typing import Final, Literal, NamedTuple
 FORMS: Final = {
     "tree": "N T", "copy": "N C", "drop": "N", "put": "N P T", "annotate": "N P {..}", "module": "N M", "unload": "N",
     "apply": "N [at P] [within K] do S", "preview": "N [at P] [within K] do S", "undo": "[K]", "redo": "[K]", "begin": "", "commit": "",
-    "abandon": "", "show": "N [at P]", "trees": "", "modules": "", "text": "N", "history": "", "dump": "",
+    "abandon": "", "show": "N [at P]", "pretty": "N [at P]", "trees": "", "modules": "", "text": "N", "history": "", "dump": "",
 }  # fmt: skip
 # Those that end in a text, and so may go on over lines.
 _LONG: Final = ("tree", "put", "annotate", "module", "apply", "preview")
@@ -29,7 +29,7 @@ _TOKEN: Final = re.compile(
 _CLOSES: Final = {")": "(", "]": "[", "}": "{"}
 # A line that begins a command, whatever is before it: in a text it would be part of no strategy and no term.
 _BEGINS: Final = re.compile(
-    r"(?:tree|copy|drop|put|annotate|module|unload|apply|preview|show|text)[ \t]+[A-Za-z_]|(?:undo|redo)(?:[ \t]+\d+)?[ \t]*$"
+    r"(?:tree|copy|drop|put|annotate|module|unload|apply|preview|show|pretty|text)[ \t]+[A-Za-z_]|(?:undo|redo)(?:[ \t]+\d+)?[ \t]*$"
     r"|(?:begin|commit|abandon|trees|modules|history|dump)[ \t]*$|:[a-z]+\b"
 )
 # What no strategy and no term ends with.
@@ -68,7 +68,7 @@ def tokens(text: str) -> Iterator[Token]:
     command = re.match(r"\s*(:?[a-z]*)", text)
     first = command[1] if command else ""
     opened: list[str] = []
-    head = first in ("apply", "preview", "show", "put", "annotate")
+    head = first in ("apply", "preview", "show", "pretty", "put", "annotate")
     for found in _TOKEN.finditer(text):
         word, begin, end = found.group(), found.start(), found.end()
         kind: Kind = "sign"

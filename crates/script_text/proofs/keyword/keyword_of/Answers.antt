@@ -25,6 +25,9 @@ returns-in-commit-clause-keyword c = ap keyword_at (same_bytes (codes "commit") 
 pub returns-in-preview-clause-keyword : goal.returns-in-preview-clause-keyword
 returns-in-preview-clause-keyword c = ap keyword_at (same_bytes (codes "preview") c.args.word.now (omega arith) (search rules))
 
+pub returns-in-pretty-clause-keyword : goal.returns-in-pretty-clause-keyword
+returns-in-pretty-clause-keyword c = ap keyword_at (same_bytes (codes "pretty") c.args.word.now (omega arith) (search rules))
+
 pub returns-in-abandon-clause-keyword : goal.returns-in-abandon-clause-keyword
 returns-in-abandon-clause-keyword c = ap keyword_at (same_bytes (codes "abandon") c.args.word.now (omega arith) (search rules))
 
