@@ -15,6 +15,7 @@ use prim_core::{Meaning, Primitives};
 use session_history::{ModuleCache, Refusal, Timeline};
 use std::alloc::Global;
 use std::marker::Model;
+use strategy_check::Program;
 use strategy_meaning::laws::heights_are_kept;
 use term_core::{Label, NoMemory, Term};
 use term_paths::Path;
@@ -70,6 +71,19 @@ impl<M: Meaning> Session<M> {
         ensures { unfolded self.now.primitives result.now ≡ self.now }
     {
         &self.timeline
+    }
+
+    /// The primitives that strategies call.
+    pub fn primitives(&self) -> &Primitives<M>
+        ensures { result.now ≡ self.now.primitives }
+    {
+        &self.primitives
+    }
+
+    /// The program of the modules that were checked last, if it is kept. After an apply or a preview
+    /// that ran, these are the current modules.
+    pub fn kept_program(&self) -> Option<&Program> {
+        self.cache.last_program()
     }
 
     /// The tree of this name, or `None` if there is none.

@@ -1,6 +1,6 @@
 //! The modules that a session checked last, while its texts change.
 
-ghost use Rattle.std.specs.Prelude.{◌≡◌, ◌⊎◌, Some, Err, OnOk, IfErr, OnErr, IfSome, IsSome, option_map};
+ghost use Rattle.std.specs.Prelude.{◌≡◌, ◌⊎◌, Some, Err, OnOk, IfErr, OnErr, IfSome, IsSome, option_copied, option_map};
 ghost use Rattle.term_changes.specs.Slots.{contents};
 ghost use Rattle.strategy_check.specs.Faults as faults;
 ghost use Rattle.session_modules.specs.Modules as modules;
@@ -57,6 +57,16 @@ impl ModuleCache {
         let Ok(()) = self.read.push(read) else {
             return;
         };
+    }
+
+    /// The program of the modules that were checked last, or `None` if none were.
+    pub fn last_program(&self) -> Option<&Program>
+        ensures { option_copied result ≡ program_in self.now }
+    {
+        match &self.kept {
+            Some(kept) => Some(kept.checked.program()),
+            None => None,
+        }
     }
 
     /// The program of the checked modules.

@@ -74,6 +74,30 @@ frames-append (Leave n ∷ xs) ys ws vs ss ts fs gs ks ls h =
 frames-append (Cut n k ∷ xs) ys ws vs ss ts fs gs ks ls h =
     ap (λ r. frames.Cut n k ∷ r) (frames-append xs ys ws vs ss ts fs gs ks ls (record { walks = h.walks; starts = h.starts; fronts = h.fronts; firsts = h.firsts }))
 
+-- there are as many frames as slots
+pub length-frames : (xs : List Slot) (ws : List Walk) (ss : List Start) (fs : List Front) (ks : List First) → Fits xs ws ss fs ks → length (frames_of xs ws ss fs ks) ≡ length xs
+length-frames [] ws ss fs ks h = refl
+length-frames (Then s n ∷ xs) ws ss fs ks h = ap suc (length-frames xs ws ss fs ks (record { walks = h.walks; starts = h.starts; fronts = h.fronts; firsts = h.firsts }))
+length-frames (Choose s r n m ∷ xs) ws [] fs ks h = absurd (omega (arith, h.starts))
+length-frames (Choose s r n m ∷ xs) ws (p ∷ ss) fs ks h = ap suc (length-frames xs ws ss fs ks (record { walks = h.walks; starts = omega (arith, h.starts); fronts = h.fronts; firsts = h.firsts }))
+length-frames (Restore ∷ xs) ws [] fs ks h = absurd (omega (arith, h.starts))
+length-frames (Restore ∷ xs) ws (p ∷ ss) fs ks h = ap suc (length-frames xs ws ss fs ks (record { walks = h.walks; starts = omega (arith, h.starts); fronts = h.fronts; firsts = h.firsts }))
+length-frames (Each acts n ∷ xs) [] ss fs ks h = absurd (omega (arith, h.walks))
+length-frames (Each acts n ∷ xs) (w ∷ ws) ss fs ks h = ap suc (length-frames xs ws ss fs ks (record { walks = omega (arith, h.walks); starts = h.starts; fronts = h.fronts; firsts = h.firsts }))
+length-frames (Leftmost s n m ∷ xs) [] ss fs ks h = absurd (omega (arith, h.walks))
+length-frames (Leftmost s n m ∷ xs) (w ∷ ws) ss fs ks h = ap suc (length-frames xs ws ss fs ks (record { walks = omega (arith, h.walks); starts = h.starts; fronts = h.fronts; firsts = h.firsts }))
+length-frames (Those s n m any ∷ xs) [] ss fs ks h = absurd (omega (arith, h.walks))
+length-frames (Those s n m any ∷ xs) (w ∷ ws) ss fs ks h = ap suc (length-frames xs ws ss fs ks (record { walks = omega (arith, h.walks); starts = h.starts; fronts = h.fronts; firsts = h.firsts }))
+length-frames (Tail s n k ∷ xs) ws ss fs ks h = ap suc (length-frames xs ws ss fs ks (record { walks = h.walks; starts = h.starts; fronts = h.fronts; firsts = h.firsts }))
+length-frames (Rest n k ∷ xs) ws ss [] ks h = absurd (omega (arith, h.fronts))
+length-frames (Rest n k ∷ xs) ws ss (f ∷ fs) ks h = ap suc (length-frames xs ws ss fs ks (record { walks = h.walks; starts = h.starts; fronts = omega (arith, h.fronts); firsts = h.firsts }))
+length-frames (Head s n ∷ xs) [] ss fs ks h = absurd (omega (arith, h.walks))
+length-frames (Head s n ∷ xs) (w ∷ ws) ss fs ks h = ap suc (length-frames xs ws ss fs ks (record { walks = omega (arith, h.walks); starts = h.starts; fronts = h.fronts; firsts = h.firsts }))
+length-frames (After k ∷ xs) ws ss fs [] h = absurd (omega (arith, h.firsts))
+length-frames (After k ∷ xs) ws ss fs (a ∷ ks) h = ap suc (length-frames xs ws ss fs ks (record { walks = h.walks; starts = h.starts; fronts = h.fronts; firsts = omega (arith, h.firsts) }))
+length-frames (Leave n ∷ xs) ws ss fs ks h = ap suc (length-frames xs ws ss fs ks (record { walks = h.walks; starts = h.starts; fronts = h.fronts; firsts = h.firsts }))
+length-frames (Cut n k ∷ xs) ws ss fs ks h = ap suc (length-frames xs ws ss fs ks (record { walks = h.walks; starts = h.starts; fronts = h.fronts; firsts = h.firsts }))
+
 counts-append : {A : Type 0} (p : Slot → Bool) (xs ys : List Slot) (cs bs : List A) → length cs ≡ count p xs → length bs ≡ count p ys → length (cs ++ bs) ≡ count p (xs ++ ys)
 counts-append p xs ys cs bs e f = omega (arith, e, f, length-append cs bs, count-append p xs ys)
 

@@ -15,6 +15,7 @@ mod forms;
 mod frames;
 mod give;
 mod heads;
+mod lends;
 mod lists;
 mod machine;
 mod names;
@@ -27,6 +28,7 @@ mod tries;
 mod turning;
 
 pub use frames::{Acts, Frame, Next, Turned, Walk};
+pub use lends::Spot;
 pub use machine::{Host, Machine};
 pub use scopes::{Closure, Scopes};
 pub use stack::Frames;

@@ -8,7 +8,7 @@ ghost use Rattle.strategy_machine.specs.Table.{scopes as scopes_of, scope_at};
 ghost use Rattle.strategy_machine.specs.Turns.{world_of};
 ghost use Rattle.strategy_machine.specs.inside.Names.{Runs, ComesTo, IsSpent};
 
-use crate::machine::Host;
+use crate::machine::{Host, Machine};
 use crate::scopes::{Closure, Scopes};
 use prim_core::Meaning;
 use strategy_syntax::{Place, ResolvedForm as Form, ResolvedStrategy};
@@ -19,6 +19,22 @@ pub(crate) struct Charged<'t> {
     pub strategy: &'t ResolvedStrategy,
     pub scope: usize,
     pub left: u64,
+}
+
+impl<'t> Machine<'t> {
+    /// What the strategy stands for in the scope, if it is a name or a call that opens nothing: such
+    /// a strategy starts without a turn of its own.
+    pub fn stands_for<M: Meaning>(
+        &self,
+        host: &Host<'t, M>,
+        strategy: &'t ResolvedStrategy,
+        scope: usize,
+    ) -> Option<Closure<'t>> {
+        if scope >= self.scopes.count() {
+            return None;
+        }
+        known_as(host, &self.scopes, strategy, scope)
+    }
 }
 
 /// What starts in the end, through names and calls that open nothing, each of which costs a step;

@@ -99,11 +99,11 @@ pub(crate) struct First<'t> {
 /// Frames, the outermost first.
 #[derive(Drop)]
 pub struct Frames<'t> {
-    slots: Vec<Slot<'t>>,
-    walks: Vec<Walk<'t>>,
+    pub(crate) slots: Vec<Slot<'t>>,
+    pub(crate) walks: Vec<Walk<'t>>,
     starts: Vec<Start<'t>>,
-    fronts: Vec<Front<'t>>,
-    firsts: Vec<First<'t>>,
+    pub(crate) fronts: Vec<Front<'t>>,
+    pub(crate) firsts: Vec<First<'t>>,
 }
 
 impl<'t> Model for Frames<'t> {
@@ -136,6 +136,13 @@ impl<'t> Frames<'t> {
             fronts: Vec::new(alloc),
             firsts: Vec::new(alloc),
         }
+    }
+
+    /// How many there are.
+    pub fn len(&self) -> usize
+        ensures { result ≡ length self.now }
+    {
+        self.slots.len()
     }
 
     /// Adds an innermost frame.

@@ -15,6 +15,7 @@ ghost use Rattle.strategy_run.specs.inside.Finding.{Finds};
 use crate::ended::Ended;
 use crate::evaluation::run_to_end;
 use crate::in_place::put_in_place;
+use crate::looking::Unseen;
 use change_log::{Log, Plan, Store};
 use prim_core::{Meaning, Primitives};
 use std::alloc::Global;
@@ -144,7 +145,7 @@ fn plan_edits_by<'t, M: Meaning>(
         definitions: program.definitions(),
         primitives,
     };
-    match run_to_end(alloc, &host, m, strategy, term)? {
+    match run_to_end(alloc, &host, m, strategy, term, &mut Unseen)? {
         Ended::Done(()) => {
             let plan = m.trail.replacements(alloc, slot, path.parts())?;
             Ok(Ended::Done(plan))

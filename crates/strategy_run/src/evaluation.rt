@@ -9,6 +9,7 @@ ghost use Rattle.strategy_run.specs.inside.Runs.{Ends, IsEmpty};
 ghost use Rattle.strategy_run.specs.Ends.{IsAnswered};
 
 use crate::ended::Ended;
+use crate::looking::{Look, Unseen};
 use prim_core::{Meaning, Primitives};
 use std::alloc::Global;
 use strategy_check::Program;
@@ -66,7 +67,7 @@ fn evaluate_by<'t, M: Meaning>(
         definitions: program.definitions(),
         primitives,
     };
-    match run_to_end(alloc, &host, m, strategy, term)? {
+    match run_to_end(alloc, &host, m, strategy, term, &mut Unseen)? {
         Ended::Done(()) => Ok(Ended::Done(m.part.value()?.to_term(alloc)?)),
         Ended::Failed => Ok(Ended::Failed),
         Ended::Spent => Ok(Ended::Spent),
@@ -75,12 +76,13 @@ fn evaluate_by<'t, M: Meaning>(
 }
 
 /// Runs a machine without frames to its end. If that is `Done`, its part is the result.
-pub(crate) fn run_to_end<'t, M: Meaning>(
+pub(crate) fn run_to_end<'t, M: Meaning, L: Look<'t>>(
     alloc: Global,
     host: &Host<'t, M>,
     m: &mut Machine<'t>,
     strategy: &'t Resolved,
     term: &'t Term,
+    look: &mut L,
 ) -> Result<Ended<()>, NoMemory>
     requires empty { IsEmpty m.old }
     requires low { m.old.level + height term.now ≤ MAX_HEIGHT }
@@ -95,6 +97,7 @@ pub(crate) fn run_to_end<'t, M: Meaning>(
     m.part = part;
     m.next = Next::Begin(&strategy.strategy, scope);
     'run: loop {
+        look.before_turn(m)?;
         let turned = turn(alloc, host, m)?;
         match turned {
             Turned::On => (),

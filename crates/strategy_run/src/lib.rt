@@ -6,9 +6,11 @@ mod ended;
 mod evaluation;
 mod in_place;
 pub mod laws;
+mod looking;
 mod planning;
 
 pub use application::{Outcome, apply, is_low_enough};
 pub use ended::Ended;
 pub use evaluation::{Evaluated, evaluate};
+pub use looking::{Look, plan_patch_seen};
 pub use planning::{Planned, plan_patch};

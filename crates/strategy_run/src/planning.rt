@@ -9,6 +9,7 @@ ghost use Rattle.strategy_run.specs.Planning.{Plans};
 
 use crate::ended::Ended;
 use crate::evaluation::run_to_end;
+use crate::looking::{Look, Unseen};
 use prim_core::{Meaning, Primitives};
 use std::alloc::Global;
 use strategy_check::Program;
@@ -50,18 +51,27 @@ pub fn plan_patch<M: Meaning>(
         (run_whole (world_of M.meaning program.now.bodies primitives.now) level strategy.now steps term.now)) }
 {
     let mut m = Machine::new(alloc, Trail::counted(), term, level, steps);
-    plan_patch_by(alloc, program, primitives, &mut m, term, strategy)
+    plan_patch_by(
+        alloc,
+        program,
+        primitives,
+        &mut m,
+        term,
+        strategy,
+        &mut Unseen,
+    )
 }
 
 // Runs it on a machine without frames. The machine is borrowed, since its owner drops it on each
 // way out.
-fn plan_patch_by<'t, M: Meaning>(
+pub(crate) fn plan_patch_by<'t, M: Meaning, L: Look<'t>>(
     alloc: Global,
     program: &'t Program,
     primitives: &'t Primitives<M>,
     m: &mut Machine<'t>,
     term: &'t Term,
     strategy: &'t Resolved,
+    look: &mut L,
 ) -> Result<Ended<Planned>, NoMemory>
     requires empty { IsEmpty m.old }
     requires low { m.old.level + height term.now ≤ MAX_HEIGHT }
@@ -73,7 +83,9 @@ fn plan_patch_by<'t, M: Meaning>(
         primitives,
     };
     let steps = m.steps;
-    match run_to_end(alloc, &host, m, strategy, term)? {
+    let ended = run_to_end(alloc, &host, m, strategy, term, look)?;
+    look.at_end(m)?;
+    match ended {
         Ended::Done(()) => {
             let patch = m.part.patch(alloc)?;
             let taken = steps.saturating_sub(m.steps);
