@@ -141,7 +141,7 @@ def ends():
         with open(f"{room}/wrong.str", "w") as it:
             it.write("rules\n  A : x) -> x\n")
         starts = [
-            ({"options": ["--tree", "t=/none"]}, 3, "read fault: /none"),
+            ({"options": ["--tree", "t=/none"]}, 3, "read fault: /none\n    No such file or directory (os error 2)"),
             ({"options": ["--module", f"m={room}/wrong.str"]}, 1, "no module goes on with `)` at line 2, column 8\n      A : x) -> x\n           ^"),
             ({"options": ["--none"]}, 2, "--none"),
             ({"steps": 2_000_000}, 2, "2000000"),

@@ -186,7 +186,9 @@ module _ (flag : Text) where
     stop : (codes "stop" ≡ flag) ⊎ (bytes_eq (codes "stop") flag ≡ false)
     lines : (codes "lines" ≡ flag) ⊎ (bytes_eq (codes "lines") flag ≡ false)
     explain : (codes "explain" ≡ flag) ⊎ (bytes_eq (codes "explain") flag ≡ false)
+    profile : (codes "profile" ≡ flag) ⊎ (bytes_eq (codes "profile") flag ≡ false)
     interactive : (codes "interactive" ≡ flag) ⊎ (bytes_eq (codes "interactive") flag ≡ false)
+    pretty : (codes "pretty" ≡ flag) ⊎ (bytes_eq (codes "pretty") flag ≡ false)
     steps : bytes_eq (codes "steps") flag ≡ false
     modules : bytes_eq (codes "module") flag ≡ false
     trees : bytes_eq (codes "tree") flag ≡ false
@@ -207,20 +209,26 @@ module _ (flag : Text) where
           (
             flag_fits (codes "explain") None is.explain,
             (
-              flag_fits (codes "interactive") (Some 105) is.interactive,
+              flag_fits (codes "profile") None is.profile,
               (
-                more_fits (files_rule (codes "module")) is.modules (λ values rows. refl),
+                flag_fits (codes "interactive") (Some 105) is.interactive,
                 (
-                  more_fits (files_rule (codes "tree")) is.trees (λ values rows. refl),
+                  more_fits (files_rule (codes "module")) is.modules (λ values rows. refl),
                   (
-                    more_fits (files_rule (codes "write")) is.writes (λ values rows. refl),
+                    more_fits (files_rule (codes "tree")) is.trees (λ values rows. refl),
                     (
-                      other_fits file_rule is.file (λ values rows. refl),
+                      more_fits (files_rule (codes "write")) is.writes (λ values rows. refl),
                       (
-                        request_fits (with_index 2 (filled help_rule)) is.help (λ values rows. refl),
+                        flag_fits (codes "pretty") None is.pretty,
                         (
-                          request_fits (with_index 2 (filled version_rule)) is.version (λ values rows. refl),
-                          tt,
+                          other_fits file_rule is.file (λ values rows. refl),
+                          (
+                            request_fits (with_index 2 (filled help_rule)) is.help (λ values rows. refl),
+                            (
+                              request_fits (with_index 2 (filled version_rule)) is.version (λ values rows. refl),
+                              tt,
+                            ),
+                          ),
                         ),
                       ),
                     ),
@@ -574,7 +582,9 @@ library_is_given = by_settling (codes "library")
       stop = inr refl;
       lines = inr refl;
       explain = inr refl;
+      profile = inr refl;
       interactive = inr refl;
+      pretty = inr refl;
       steps = refl;
       modules = refl;
       trees = refl;
@@ -583,7 +593,7 @@ library_is_given = by_settling (codes "library")
       help = refl;
       version = refl;
     })
-    (inl ((None, refl), (refl, (refl, (refl, (refl, (refl, (refl, (refl, (refl, (refl, (refl, (refl, tt)))))))))))))
+    (inl ((None, refl), (refl, (refl, (refl, (refl, (refl, (refl, (refl, (refl, (refl, (refl, (refl, (refl, (refl, tt)))))))))))))))
 
 pub stop_is_given : IsReadAsGiven (codes "stop")
 stop_is_given = by_settling (codes "stop")
@@ -592,7 +602,9 @@ stop_is_given = by_settling (codes "stop")
       stop = inl refl;
       lines = inr refl;
       explain = inr refl;
+      profile = inr refl;
       interactive = inr refl;
+      pretty = inr refl;
       steps = refl;
       modules = refl;
       trees = refl;
@@ -601,7 +613,7 @@ stop_is_given = by_settling (codes "stop")
       help = refl;
       version = refl;
     })
-    (inr (refl, inr (refl, inl ((None, refl), (refl, (refl, (refl, (refl, (refl, (refl, (refl, (refl, (refl, tt)))))))))))))
+    (inr (refl, inr (refl, inl ((None, refl), (refl, (refl, (refl, (refl, (refl, (refl, (refl, (refl, (refl, (refl, (refl, tt)))))))))))))))
 
 pub lines_is_given : IsReadAsGiven (codes "lines")
 lines_is_given = by_settling (codes "lines")
@@ -610,7 +622,9 @@ lines_is_given = by_settling (codes "lines")
       stop = inr refl;
       lines = inl refl;
       explain = inr refl;
+      profile = inr refl;
       interactive = inr refl;
+      pretty = inr refl;
       steps = refl;
       modules = refl;
       trees = refl;
@@ -619,7 +633,7 @@ lines_is_given = by_settling (codes "lines")
       help = refl;
       version = refl;
     })
-    (inr (refl, inr (refl, inr (refl, inl ((None, refl), (refl, (refl, (refl, (refl, (refl, (refl, (refl, (refl, tt)))))))))))))
+    (inr (refl, inr (refl, inr (refl, inl ((None, refl), (refl, (refl, (refl, (refl, (refl, (refl, (refl, (refl, (refl, (refl, tt)))))))))))))))
 
 pub explain_is_given : IsReadAsGiven (codes "explain")
 explain_is_given = by_settling (codes "explain")
@@ -628,7 +642,9 @@ explain_is_given = by_settling (codes "explain")
       stop = inr refl;
       lines = inr refl;
       explain = inl refl;
+      profile = inr refl;
       interactive = inr refl;
+      pretty = inr refl;
       steps = refl;
       modules = refl;
       trees = refl;
@@ -637,7 +653,27 @@ explain_is_given = by_settling (codes "explain")
       help = refl;
       version = refl;
     })
-    (inr (refl, inr (refl, inr (refl, inr (refl, inl ((None, refl), (refl, (refl, (refl, (refl, (refl, (refl, (refl, tt)))))))))))))
+    (inr (refl, inr (refl, inr (refl, inr (refl, inl ((None, refl), (refl, (refl, (refl, (refl, (refl, (refl, (refl, (refl, (refl, tt)))))))))))))))
+
+pub profile_is_given : IsReadAsGiven (codes "profile")
+profile_is_given = by_settling (codes "profile")
+    (record {
+      library = inr refl;
+      stop = inr refl;
+      lines = inr refl;
+      explain = inr refl;
+      profile = inl refl;
+      interactive = inr refl;
+      pretty = inr refl;
+      steps = refl;
+      modules = refl;
+      trees = refl;
+      writes = refl;
+      file = refl;
+      help = refl;
+      version = refl;
+    })
+    (inr (refl, inr (refl, inr (refl, inr (refl, inr (refl, inl ((None, refl), (refl, (refl, (refl, (refl, (refl, (refl, (refl, (refl, tt)))))))))))))))
 
 pub interactive_is_given : IsReadAsGiven (codes "interactive")
 interactive_is_given = by_settling (codes "interactive")
@@ -646,7 +682,9 @@ interactive_is_given = by_settling (codes "interactive")
       stop = inr refl;
       lines = inr refl;
       explain = inr refl;
+      profile = inr refl;
       interactive = inl refl;
+      pretty = inr refl;
       steps = refl;
       modules = refl;
       trees = refl;
@@ -655,4 +693,24 @@ interactive_is_given = by_settling (codes "interactive")
       help = refl;
       version = refl;
     })
-    (inr (refl, inr (refl, inr (refl, inr (refl, inr (refl, inl ((Some 105, refl), (refl, (refl, (refl, (refl, (refl, (refl, tt)))))))))))))
+    (inr (refl, inr (refl, inr (refl, inr (refl, inr (refl, inr (refl, inl ((Some 105, refl), (refl, (refl, (refl, (refl, (refl, (refl, (refl, tt)))))))))))))))
+
+pub pretty_is_given : IsReadAsGiven (codes "pretty")
+pretty_is_given = by_settling (codes "pretty")
+    (record {
+      library = inr refl;
+      stop = inr refl;
+      lines = inr refl;
+      explain = inr refl;
+      profile = inr refl;
+      interactive = inr refl;
+      pretty = inl refl;
+      steps = refl;
+      modules = refl;
+      trees = refl;
+      writes = refl;
+      file = refl;
+      help = refl;
+      version = refl;
+    })
+    (inr (refl, inr (refl, inr (refl, inr (refl, inr (refl, inr (refl, inr (refl, inr (refl, inr (refl, inr (refl, inl ((None, refl), (refl, (refl, (refl, tt)))))))))))))))

@@ -12,7 +12,9 @@ record Row : Type 0 where
   stop : Bool
   lines : Bool
   explain : Bool
+  profile : Bool
   interactive : Bool
+  pretty : Bool
   file : Option Text
   steps : Option Text
   modules : List Text
@@ -26,7 +28,9 @@ row words = record {
   stop = is_given (codes "stop") (given words);
   lines = is_given (codes "lines") (given words);
   explain = is_given (codes "explain") (given words);
+  profile = is_given (codes "profile") (given words);
   interactive = is_given (codes "interactive") (given words);
+  pretty = is_given (codes "pretty") (given words);
   file = first_of (codes "file") (given words);
   steps = one_of (codes "steps") (given words);
   modules = values (codes "module") (given words);
@@ -41,7 +45,9 @@ pub nothing : row (codes "stratbench" ∷ [])
       stop = false;
       lines = false;
       explain = false;
+      profile = false;
       interactive = false;
+      pretty = false;
       file = None;
       steps = Some (codes "100000");
       modules = [];
@@ -52,13 +58,15 @@ pub nothing : row (codes "stratbench" ∷ [])
 unfolding clap_on_literals
 nothing = refl
 
-pub all : row (codes "stratbench" ∷ codes "--steps=7" ∷ codes "a" ∷ codes "--lines" ∷ codes "--explain" ∷ codes "--stop" ∷ codes "--library" ∷ codes "-i" ∷ [])
+pub all : row (codes "stratbench" ∷ codes "--steps=7" ∷ codes "a" ∷ codes "--lines" ∷ codes "--explain" ∷ codes "--profile" ∷ codes "--stop" ∷ codes "--library" ∷ codes "-i" ∷ [])
     ≡ record {
       library = true;
       stop = true;
       lines = true;
       explain = true;
+      profile = true;
       interactive = true;
+      pretty = false;
       file = Some (codes "a");
       steps = Some (codes "7");
       modules = [];
@@ -69,13 +77,15 @@ pub all : row (codes "stratbench" ∷ codes "--steps=7" ∷ codes "a" ∷ codes 
 unfolding clap_on_literals
 all = refl
 
-pub files : row (codes "stratbench" ∷ codes "--tree=t=a" ∷ codes "--module" ∷ codes "m=b" ∷ codes "--tree" ∷ codes "u=" ∷ codes "--write=t=c" ∷ [])
+pub files : row (codes "stratbench" ∷ codes "--tree=t=a" ∷ codes "--module" ∷ codes "m=b" ∷ codes "--tree" ∷ codes "u=" ∷ codes "--write=t=c" ∷ codes "--pretty" ∷ [])
     ≡ record {
       library = false;
       stop = false;
       lines = false;
       explain = false;
+      profile = false;
       interactive = false;
+      pretty = true;
       file = None;
       steps = Some (codes "100000");
       modules = codes "m=b" ∷ [];
@@ -92,7 +102,9 @@ pub after_dashes : row (codes "stratbench" ∷ codes "--steps" ∷ codes "1" ∷
       stop = false;
       lines = false;
       explain = false;
+      profile = false;
       interactive = false;
+      pretty = false;
       file = Some (codes "--stop");
       steps = Some (codes "1");
       modules = [];

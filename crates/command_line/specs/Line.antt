@@ -46,7 +46,8 @@ named_app = on_top (λ s. record s { has_version = true }) (new_app (codes "stra
 abbrev pub line : App
 line = fold with_rule named_app
     (flag_of (codes "library") ∷ steps_option ∷ flag_of (codes "stop") ∷ flag_of (codes "lines") ∷ flag_of (codes "explain")
-    ∷ interactive_flag ∷ files_option (codes "module") ∷ files_option (codes "tree") ∷ files_option (codes "write") ∷ file_name ∷ [])
+    ∷ flag_of (codes "profile") ∷ interactive_flag ∷ files_option (codes "module") ∷ files_option (codes "tree") ∷ files_option (codes "write")
+    ∷ flag_of (codes "pretty") ∷ file_name ∷ [])
 
 -- the values of the words for each of them, the program's name first
 abbrev pub given : List Text → List Row

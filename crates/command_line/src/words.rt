@@ -45,6 +45,8 @@ pub struct CommandLine<'a> {
     pub lines: bool,
     /// Whether refused commands are explained.
     pub explain: bool,
+    /// Whether it is said where the steps of accepted strategies went.
+    pub profile: bool,
     /// Whether each line is a command, refused commands are explained, and at a terminal a prompt
     /// comes before each line.
     pub interactive: bool,
@@ -52,6 +54,8 @@ pub struct CommandLine<'a> {
     pub loads: Vec<Load<'a>>,
     /// The trees that are written after the script, and their files.
     pub writes: Vec<Named<'a>>,
+    /// Whether they are written over lines.
+    pub pretty: bool,
     /// The file that the script is read from, or none for standard input.
     pub file: Option<&'a str>,
 }
@@ -96,8 +100,12 @@ pub fn arguments<'a, S: AsStr>(alloc: Global, words: &'a [S]) -> Result<CommandL
         ≡ is_given (codes "lines") (given (map S.text words.now))) }
     ensures explain { IfOk result (λ arguments. arguments.explain
         ≡ is_given (codes "explain") (given (map S.text words.now))) }
+    ensures profile { IfOk result (λ arguments. arguments.profile
+        ≡ is_given (codes "profile") (given (map S.text words.now))) }
     ensures interactive { IfOk result (λ arguments. arguments.interactive
         ≡ is_given (codes "interactive") (given (map S.text words.now))) }
+    ensures pretty { IfOk result (λ arguments. arguments.pretty
+        ≡ is_given (codes "pretty") (given (map S.text words.now))) }
 
     // The files of each option are those of its values, in order.
     ensures modules { IfOk result (λ arguments. map as_given (modules_of arguments.loads.items)
@@ -120,9 +128,11 @@ pub fn arguments<'a, S: AsStr>(alloc: Global, words: &'a [S]) -> Result<CommandL
             stop: matches.get_flag("stop"),
             lines: matches.get_flag("lines"),
             explain: matches.get_flag("explain"),
+            profile: matches.get_flag("profile"),
             interactive: matches.get_flag("interactive"),
             loads,
             writes,
+            pretty: matches.get_flag("pretty"),
             file: matches.get_str("file"),
         }),
         Err(Untaken::Malformed(option, value)) => {
@@ -203,6 +213,11 @@ fn command<'a>(alloc: Global) -> Result<Command<'a>, AllocError>
             "explain",
             "Says on standard error why a command was refused, and where, and warns of mistakes in modules",
         ))?
+        .arg(flag(
+            alloc,
+            "profile",
+            "Says on standard error which definitions took the steps of each strategy that was applied",
+        ))?
         .arg(interactive_flag(alloc))?
         .arg(files_option(
             alloc,
@@ -218,6 +233,11 @@ fn command<'a>(alloc: Global) -> Result<Command<'a>, AllocError>
             alloc,
             "write",
             "Writes a tree to a file after the script; can be given again",
+        ))?
+        .arg(flag(
+            alloc,
+            "pretty",
+            "Writes trees over lines, as the command `pretty` shows them",
         ))?
         .arg(file_name(alloc))
 }

@@ -56,6 +56,7 @@ pub fn answer_watched<M: Meaning, W: Watch<M>>(
     requires { IsBudget budget }
     ensures { Answered (ReplyInRun M.meaning budget) (handed_out command.entry) session.old session.new answer.new result }
 {
+    watch.expected(session, command);
     match command {
         Piece::Text(text) => {
             let (keyword, rest) = split_keyword(text);

@@ -9,8 +9,11 @@ use session_core::{Refusal, Session};
 pub trait Watch<M: Meaning> {
     /// Called with each run of the script's bytes, in order. A run ends with the byte that
     /// completes a command, or with the last one that was read; the run that completes a command
-    /// comes before its `accepted` or `refused`.
+    /// comes before its `expected`.
     fn consumed(&mut self, bytes: &[u8]);
+
+    /// Called with each command before it is answered, and the session as it is then.
+    fn expected(&mut self, session: &Session<M>, command: Piece<'_>);
 
     /// Called with each command that was accepted, and the session after it.
     fn accepted(&mut self, session: &Session<M>, command: Piece<'_>);
@@ -26,6 +29,9 @@ pub struct Unwatched;
 impl<M: Meaning> Watch<M> for Unwatched {
     #[inline(always)]
     fn consumed(&mut self, _bytes: &[u8]) {}
+
+    #[inline(always)]
+    fn expected(&mut self, _session: &Session<M>, _command: Piece<'_>) {}
 
     #[inline(always)]
     fn accepted(&mut self, _session: &Session<M>, _command: Piece<'_>) {}

@@ -5,7 +5,7 @@ use crate::characters::{count_characters, first_characters, last_characters, pla
 use aterm_text::print_name;
 use itoa::Buffer;
 use std::alloc::Global;
-use term_core::{Name, NoMemory};
+use term_core::{Kind, Name, NoMemory};
 
 /// The most bytes of a command that are quoted in a line.
 pub const QUOTED: usize = 60;
@@ -94,6 +94,39 @@ impl Hint {
         self.words(words);
         self.fill(fill);
         rest
+    }
+
+    /// Appends what the root of a term with so many children is.
+    pub fn root(&mut self, kind: Kind<'_>, count: u64) {
+        match kind {
+            Kind::Integer(value) => {
+                self.words("the integer ");
+                self.integer(value);
+            }
+            Kind::Application(name) if count > 0 => {
+                self.quote(name.bytes());
+                self.words(" of ");
+                self.count(count, "term");
+            }
+            Kind::Application(name) => {
+                self.words(if name.is_quoted() {
+                    "the string "
+                } else {
+                    "the constant "
+                });
+                self.quote(name.bytes());
+            }
+            Kind::List if count == 0 => self.words("the empty list"),
+            Kind::Tuple if count == 0 => self.words("the empty tuple"),
+            Kind::List => {
+                self.words("a list of ");
+                self.count(count, "term");
+            }
+            Kind::Tuple => {
+                self.words("a tuple of ");
+                self.count(count, "term");
+            }
+        }
     }
 
     fn fill(&mut self, fill: Fill<'_>) {

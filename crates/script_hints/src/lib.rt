@@ -18,7 +18,9 @@ mod texts;
 mod trees;
 mod warnings;
 
-pub use command::{Past, Seen};
-pub use explainer::explain;
+pub use command::{Parts, Past, Seen, parts_of};
+pub use explainer::{explain, fill_of};
+pub use hint::{Fill, Hint};
+pub use modules::{Text, read_modules};
 pub use numbered::Numbered;
 pub use warnings::{warn, warn_of_end};

@@ -1,16 +1,11 @@
-//! What a tree has at a path, and what a strategy fails on.
+//! What a tree has at a path, and what a strategy was applied to.
 
 use crate::explainer::Explainer;
 use crate::hint::{Fill, say};
-use crate::modules::{Text, arity_of, have_constant, read_strategy};
+use crate::modules::{Text, have_constant, read_strategy};
 use session_history::Timeline;
-use strategy_parse::{ParseFault, parse_strategy};
-use strategy_syntax::{Head, Pattern, PatternForm, Strategy, StrategyForm};
-use term_core::{Kind, Label, Name, NoMemory, Term};
+use term_core::{Label, NoMemory, Term};
 use term_paths::{Path, PathFault, at, read_path};
-
-// The most forms that are looked through.
-const FOLLOWED: usize = 100;
 
 impl Explainer<'_, '_, '_> {
     /// The path of the command, the root if it has none.
@@ -58,8 +53,8 @@ impl Explainer<'_, '_, '_> {
         Ok(())
     }
 
-    /// Refusal 12: the root of the term that the strategy was applied to, what its first match matches if
-    /// it can't match that, and a variable of it that has the name of a constant.
+    /// Refusal 12: the root of the term that the strategy was applied to, and a variable of it that has the
+    /// name of a constant.
     pub fn explain_fails(&mut self, history: &Timeline) -> Result<(), NoMemory> {
         let path = self.path()?;
         let term = match self.tree(history) {
@@ -71,8 +66,7 @@ impl Explainer<'_, '_, '_> {
             return Ok(());
         };
         say!(self; ": it was applied to ");
-        self.say_root(term.kind(), term.child_count() as u64);
-        self.say_first_match(term)?;
+        self.hint.root(term.kind(), term.child_count() as u64);
         let strategy = read_strategy(self.alloc, self.parts.text)?;
         self.say_constant(&strategy);
         drop(strategy);
@@ -91,127 +85,5 @@ impl Explainer<'_, '_, '_> {
                 return;
             }
         }
-    }
-
-    // Appends a line on the first match of the strategy, if it can't match the term by its root.
-    fn say_first_match(&mut self, term: &Term) -> Result<(), NoMemory> {
-        match parse_strategy(self.alloc, self.parts.text) {
-            Ok(strategy) => {
-                self.say_match(&strategy, term);
-                drop(strategy);
-                Ok(())
-            }
-            Err(ParseFault::Memory) => Err(NoMemory),
-            Err(_) => Ok(()),
-        }
-    }
-
-    fn say_match(&mut self, strategy: &Strategy, term: &Term) {
-        if let Some(pattern) = first_match(self.modules, strategy)
-            && !may_match(pattern, term)
-        {
-            say!(self; "\n    the first match of the strategy takes ");
-            self.say_pattern(pattern);
-        }
-    }
-
-    fn say_root(&mut self, kind: Kind<'_>, count: u64) {
-        let terms = Fill::Count(count, "term");
-        match kind {
-            Kind::Integer(value) => say!(self; "the integer {}", Fill::Integer(value)),
-            Kind::Application(name) if count > 0 =>
-                say!(self; "{} of {}", Fill::Quoted(name.bytes()), terms),
-            Kind::Application(name) if name.is_quoted() =>
-                say!(self; "the string {}", Fill::Quoted(name.bytes())),
-            Kind::Application(name) => say!(self; "the constant {}", Fill::Quoted(name.bytes())),
-            Kind::List if count > 0 => say!(self; "a list of {}", terms),
-            Kind::List => say!(self; "the empty list"),
-            Kind::Tuple if count > 0 => say!(self; "a tuple of {}", terms),
-            Kind::Tuple => say!(self; "the empty tuple"),
-        }
-    }
-
-    fn say_pattern(&mut self, pattern: &Pattern) {
-        match pattern.form() {
-            PatternForm::Integer(value) => self.say_root(Kind::Integer(*value), 0),
-            PatternForm::Compound(head, parts) => self.say_root(kind_of(head), parts.len() as u64),
-            PatternForm::WithTail(parts, _) => {
-                let terms = Fill::Count(parts.len() as u64, "term");
-                say!(self; "a list of at least {}", terms);
-            }
-            _ => say!(self; "any term"),
-        }
-    }
-}
-
-fn kind_of(head: &Head) -> Kind<'_> {
-    match head {
-        Head::Application(name) => Kind::Application(name),
-        Head::List => Kind::List,
-        Head::Tuple => Kind::Tuple,
-    }
-}
-
-// ---- the first match of a strategy
-
-// The pattern of the match that is done first, whatever the term, without the variables of `x@p` and
-// the annotations around it.
-fn first_match<'a>(modules: &'a [Text<'_>], start: &'a Strategy) -> Option<&'a Pattern> {
-    let mut strategy = start;
-    for _ in 0..FOLLOWED {
-        match strategy.form() {
-            StrategyForm::Match(pattern) => return Some(bare(pattern)),
-            StrategyForm::Seq(parts) => strategy = &parts.0,
-            StrategyForm::Scope(_, inside) => strategy = inside,
-            StrategyForm::Use(name, strategies, terms) if strategies.is_empty() => {
-                strategy = only_body(modules, name, terms.len() as u64)?;
-            }
-            _ => return None,
-        }
-    }
-    None
-}
-
-// The body of the definition of this name with so many terms, if it is the only one.
-fn only_body<'a>(modules: &'a [Text<'_>], name: &Name, terms: u64) -> Option<&'a Strategy> {
-    let mut found = None;
-    for text in modules {
-        for definition in text.module.definitions() {
-            if definition.name().equals(name) && arity_of(definition) == (0, terms) {
-                if found.is_some() {
-                    return None;
-                }
-                found = Some(definition.body());
-            }
-        }
-    }
-    found
-}
-
-// The pattern without the variables of `x@p` and the annotations around it.
-fn bare(start: &Pattern) -> &Pattern {
-    let mut pattern = start;
-    for _ in 0..FOLLOWED {
-        match pattern.form() {
-            PatternForm::At(_, inner) => pattern = inner,
-            PatternForm::Annotated(inner, _) => pattern = inner,
-            _ => return pattern,
-        }
-    }
-    pattern
-}
-
-// Whether the pattern may match the term, by its root.
-fn may_match(pattern: &Pattern, term: &Term) -> bool {
-    let count = term.child_count();
-    match pattern.form() {
-        PatternForm::Integer(value) => matches!(term.kind(), Kind::Integer(it) if it == *value),
-        PatternForm::Compound(head, parts) => {
-            head.is_head_of(term.kind()) && parts.len() == count
-        }
-        PatternForm::WithTail(parts, _) => {
-            matches!(term.kind(), Kind::List) && parts.len() <= count
-        }
-        _ => true,
     }
 }

@@ -18,7 +18,7 @@ status_of (Err Memory) = 4
 
 -- 1 for a refusal, 3 if a file can't be read or written, 4 for want of memory
 abbrev pub status_of_file : FileFault → ℕ
-status_of_file file.Read = 3
-status_of_file file.Write = 3
+status_of_file (file.Read error) = 3
+status_of_file (file.Write error) = 3
 status_of_file file.Memory = 4
 status_of_file (file.Refused refusal) = 1

@@ -2,23 +2,37 @@
 
 use command_line::Load;
 use prim_core::Meaning;
+use run_hints::{explain_run, profile_run, tree_of};
 use script_core::{Framing, Piece, Settings, Watch};
 use script_hints::{Numbered, Past, Seen, explain, warn, warn_of_end};
 use session_core::{MAX_BUDGET, Refusal, Session};
 use std::alloc::{AllocError, Global};
 use std::io::Write;
+use term_core::Term;
 
-/// Explains each refused command on this screen, and says there what an accepted module may not be
-/// meant to say. What can't be written is left out.
+/// Explains each refused command on this screen, says there what an accepted module may not be meant
+/// to say, and where the steps of strategies went. What can't be written is left out.
 #[derive(Drop)]
 pub struct Explaining<'a, W> {
     alloc: Global,
     screen: W,
     settings: Settings,
+    wanted: Wanted,
     // The library's text, if it wasn't loaded.
     library: Option<&'a [u8]>,
     numbered: Numbered,
     past: Past,
+    // The tree that the next command applies a strategy to, if its steps are wanted.
+    before: Option<Term>,
+}
+
+/// What is said.
+#[derive(Clone, Copy)]
+pub struct Wanted {
+    /// Why commands are refused, and what may not be meant.
+    pub explanations: bool,
+    /// Where the steps of accepted strategies went.
+    pub profiles: bool,
 }
 
 impl<'a, W: Write> Explaining<'a, W> {
@@ -27,20 +41,26 @@ impl<'a, W: Write> Explaining<'a, W> {
         alloc: Global,
         screen: W,
         settings: Settings,
+        wanted: Wanted,
         library: Option<&'a [u8]>,
     ) -> Explaining<'a, W> {
         Explaining {
             alloc,
             screen,
             settings,
+            wanted,
             library,
             numbered: Numbered::new(alloc, settings.framing),
             past: Past::new(),
+            before: None,
         }
     }
 
     /// Says what may not be meant at the end of the script.
     pub fn end(&mut self) {
+        if !self.wanted.explanations {
+            return;
+        }
         if let Ok(text) = warn_of_end(self.alloc, self.past) {
             show(&mut self.screen, &text);
         }
@@ -61,6 +81,15 @@ impl<'a, W: Write> Explaining<'a, W> {
         }
     }
 
+    fn explain<M: Meaning>(&mut self, session: &Session<M>, command: Piece<'_>, refusal: &Refusal) {
+        if let Ok(text) = explain(self.alloc, session.timeline(), &self.seen(command), refusal) {
+            show(&mut self.screen, &text);
+        }
+        if let Ok(text) = explain_run(self.alloc, session, &self.seen(command), refusal) {
+            show_more(&mut self.screen, &text);
+        }
+    }
+
     fn keep(&mut self, command: Piece<'_>, accepted: bool) {
         let line = self.numbered.line();
         self.past = self.past.after(line, text_of(command), accepted);
@@ -72,16 +101,33 @@ impl<M: Meaning, W: Write> Watch<M> for Explaining<'_, W> {
         self.numbered.consume(bytes);
     }
 
+    fn expected(&mut self, session: &Session<M>, command: Piece<'_>) {
+        self.before = None;
+        if self.wanted.profiles
+            && let Some(tree) = tree_of(self.alloc, session, &self.seen(command))
+            && let Ok(copy) = tree.try_clone()
+        {
+            self.before = Some(copy);
+        }
+    }
+
     fn accepted(&mut self, session: &Session<M>, command: Piece<'_>) {
-        if let Ok(text) = warn(self.alloc, session.timeline(), &self.seen(command)) {
+        if self.wanted.explanations
+            && let Ok(text) = warn(self.alloc, session.timeline(), &self.seen(command))
+        {
+            show(&mut self.screen, &text);
+        }
+        if let Some(tree) = &self.before
+            && let Ok(text) = profile_run(self.alloc, session, &self.seen(command), tree)
+        {
             show(&mut self.screen, &text);
         }
         self.keep(command, true);
     }
 
     fn refused(&mut self, session: &Session<M>, command: Piece<'_>, refusal: &Refusal) {
-        if let Ok(text) = explain(self.alloc, session.timeline(), &self.seen(command), refusal) {
-            show(&mut self.screen, &text);
+        if self.wanted.explanations {
+            self.explain(session, command, refusal);
         }
         self.keep(command, false);
     }
@@ -166,6 +212,14 @@ fn show(screen: &mut impl Write, text: &[u8]) {
             let _ = screen.write_all(b"stratbench: ");
         }
         let _ = screen.write_all(line);
+        let _ = screen.write_all(b"\n");
+    }
+}
+
+// Shows lines that go on from those before. Each begins with a line feed, and is indented.
+fn show_more(screen: &mut impl Write, text: &[u8]) {
+    if let Some(lines) = text.strip_prefix(b"\n") {
+        let _ = screen.write_all(lines);
         let _ = screen.write_all(b"\n");
     }
 }

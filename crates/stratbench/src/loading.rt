@@ -38,6 +38,6 @@ pub fn read_file(rt: &HostRuntime, file: &str) -> Result<Vec<u8>, FileFault> {
     match read {
         Ok(bytes) => Ok(bytes),
         Err(error) if error.kind() == ErrorKind::OutOfMemory => Err(FileFault::Memory),
-        Err(_) => Err(FileFault::Read),
+        Err(error) => Err(FileFault::Read(error)),
     }
 }

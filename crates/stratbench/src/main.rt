@@ -13,9 +13,9 @@ mod writing;
 
 use clap::Error;
 use clap::error::ErrorKind;
-use command_line::{CommandLine, Load, Named, arguments};
+use command_line::{CommandLine, Load, arguments};
 use dialogue::{Group, Prompting, Watched};
-use explaining::{Explaining, explain_load, warn_of_load};
+use explaining::{Explaining, Wanted, explain_load, warn_of_load};
 use loading::{load_text, read_file};
 use prim_core::{Meaning, Primitive, Primitives};
 use prim_extended::extended_primitives;
@@ -85,8 +85,8 @@ fn report(rt: &HostRuntime, outcome: Result<Summary, RunFault>) -> u8 {
 // Prints what is wrong with a file.
 fn report_file(rt: &HostRuntime, file: &str, fault: &FileFault) -> u8 {
     let _ = match fault {
-        FileFault::Read => eprintln!(rt; "stratbench: read fault: {file}"),
-        FileFault::Write => eprintln!(rt; "stratbench: write fault: {file}"),
+        FileFault::Read(error) => eprintln!(rt; "stratbench: read fault: {file}\n    {error}"),
+        FileFault::Write(error) => eprintln!(rt; "stratbench: write fault: {file}\n    {error}"),
         FileFault::Memory => eprintln!(rt; "stratbench: no memory: {file}"),
         FileFault::Refused(refusal) => print_refusal(rt, file, refusal),
     };
@@ -137,10 +137,11 @@ fn run_whole<M: Meaning>(rt: &HostRuntime, line: &CommandLine<'_>, session: &mut
     if let Err(status) = load_all(rt, session, line) {
         return status;
     }
-    let outcome = run_session(rt, line, session);
-    let ended = report_run(rt, line, outcome);
+    let mut reason = None;
+    let outcome = run_session(rt, line, session, &mut reason);
+    let ended = report_run(rt, line, outcome, reason);
     match outcome {
-        Ok(_) => write_all(rt, session, &line.writes, ended),
+        Ok(_) => write_all(rt, session, line, ended),
         // What stands after a fault isn't what the script leads to.
         Err(_) => ended,
     }
@@ -197,32 +198,43 @@ fn load_one<M: Meaning>(
 fn write_all<M: Meaning>(
     rt: &HostRuntime,
     session: &Session<M>,
-    writes: &[Named<'_>],
+    line: &CommandLine<'_>,
     ended: u8,
 ) -> u8 {
     let mut status = ended;
-    for named in writes {
-        if let Err(fault) = write_tree(rt, session, named) {
+    for named in &line.writes {
+        if let Err(fault) = write_tree(rt, session, named, line.pretty) {
             status = status.max(report_file(rt, named.file, &fault));
         }
     }
     status
 }
 
-// Prints the fault of a run, if there was one, and the file that couldn't be read.
-fn report_run(rt: &HostRuntime, line: &CommandLine<'_>, outcome: Result<Summary, RunFault>) -> u8 {
+// Prints the fault of a run, if there was one, and the file that couldn't be read, with the reason why
+// it couldn't be opened.
+fn report_run(
+    rt: &HostRuntime,
+    line: &CommandLine<'_>,
+    outcome: Result<Summary, RunFault>,
+    reason: Option<io::Error>,
+) -> u8 {
     let ended = report(rt, outcome);
     if let (Err(RunFault::Read), Some(file)) = (outcome, line.file) {
         let _ = eprintln!(rt; "stratbench: can't read {file}");
     }
+    if let Some(error) = &reason {
+        let _ = eprintln!(rt; "    {error}");
+    }
     ended
 }
 
-// Runs the session over the file, or over standard input if no file is named.
+// Runs the session over the file, or over standard input if no file is named. If the file can't be
+// opened, the reason is left in `reason`.
 fn run_session<M: Meaning>(
     rt: &HostRuntime,
     line: &CommandLine<'_>,
     session: &mut Session<M>,
+    reason: &mut Option<io::Error>,
 ) -> Result<Summary, RunFault>
     requires { IsBudget line.now.budget }
 {
@@ -233,7 +245,10 @@ fn run_session<M: Meaning>(
         None => run_input(rt, session, line, writer),
         Some(path) => match File::open(rt, path) {
             Ok(file) => run_between(rt, session, line, Counted::new(file), Counted::new(writer)),
-            Err(_) => Err(RunFault::Read),
+            Err(error) => {
+                *reason = Some(error);
+                Err(RunFault::Read)
+            }
         },
     }
 }
@@ -280,13 +295,17 @@ fn run_between<M: Meaning, I: Source + Drop, O: Sink + Drop>(
         stop: line.stop,
         framing: line.framing(),
     };
-    if line.explains() {
+    let wanted = Wanted {
+        explanations: line.explains(),
+        profiles: line.profile,
+    };
+    if wanted.explanations || wanted.profiles {
         let unloaded = if line.library {
             None
         } else {
             Some(library_text())
         };
-        let mut watch = Explaining::new(rt.alloc(), rt.stderr(), settings, unloaded);
+        let mut watch = Explaining::new(rt.alloc(), rt.stderr(), settings, wanted, unloaded);
         let outcome = run_watched(
             rt.alloc(),
             session,

@@ -5,6 +5,7 @@ ghost use Rattle.stratbench.specs.Status.{status_of, status_of_file};
 
 use script_core::{RunFault, Summary};
 use session_core::Refusal;
+use std::io;
 use term_core::NoMemory;
 
 /// The exit status for the outcome of a run: 0 if all commands were accepted, 1 if some were
@@ -23,10 +24,10 @@ pub fn status(outcome: &Result<Summary, RunFault>) -> u8
 /// What is wrong with a file of the command line, or with what is in it.
 #[derive(Drop)]
 pub enum FileFault {
-    /// It can't be read.
-    Read,
-    /// It can't be written.
-    Write,
+    /// It can't be read, for this reason.
+    Read(io::Error),
+    /// It can't be written, for this reason.
+    Write(io::Error),
     /// Memory couldn't grow.
     Memory,
     /// The text in it is refused, or there is no tree to write, for any reason but want of memory.
@@ -49,7 +50,7 @@ pub fn file_status(fault: &FileFault) -> u8
 {
     match fault {
         FileFault::Refused(_) => 1,
-        FileFault::Read | FileFault::Write => 3,
+        FileFault::Read(_) | FileFault::Write(_) => 3,
         FileFault::Memory => 4,
     }
 }

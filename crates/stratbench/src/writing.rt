@@ -1,8 +1,9 @@
 //! Trees to files.
 
-ghost use Rattle.std.specs.Prelude.{◌≡◌, ◌⊎◌, IfOk, IfErr, Some, None};
+ghost use Rattle.std.specs.Prelude.{◌≡◌, ◌⊎◌, IfOk, IfErr, Some, None, if◌then◌else◌};
 ghost use Rattle.std.specs.FinMap as finmap;
 ghost use Rattle.term_core.specs.Tree.{Tree};
+ghost use Rattle.aterm_text.specs.Layout.{pretty as pretty_of};
 ghost use Rattle.aterm_text.specs.Printed.{print};
 ghost use Rattle.script_text.specs.Replies.{line};
 
@@ -19,14 +20,16 @@ use term_core::Label;
 // How many names for the new file are tried.
 const MAX_TRIES: u32 = 100;
 
-/// The text of the file for the tree of this name, which is the answer of `show`.
+/// The text of the file for the tree of this name, which is the answer of `show`, or of `pretty`.
 pub fn file_text<M: Meaning>(
     alloc: Global,
     session: &Session<M>,
     name: &Label,
+    pretty: bool,
 ) -> Result<Answer, Refusal>
     ensures shown { IfOk result (λ text. (tree : Tree)
-        × (finmap.get session.now.now.trees name.now ≡ Some tree) × (text ≡ line (print tree))) }
+        × (finmap.get session.now.now.trees name.now ≡ Some tree)
+        × (text ≡ line (if pretty then pretty_of 0 tree else print tree))) }
     ensures refused { IfErr result (λ refusal. (refusal ≡ Refusal.Memory)
         ⊎ ((refusal ≡ Refusal.NoTree) × (finmap.get session.now.now.trees name.now ≡ None))) }
 {
@@ -34,21 +37,26 @@ pub fn file_text<M: Meaning>(
         return Err(Refusal::NoTree);
     };
     let mut text = Answer::new(alloc)?;
-    text.write_term(tree)?;
+    if pretty {
+        text.write_pretty(tree)?;
+    } else {
+        text.write_term(tree)?;
+    }
     Ok(text)
 }
 
-/// Writes a tree to its file, whole or not at all.
+/// Writes a tree to its file, over lines or on one, whole or not at all.
 pub fn write_tree<M: Meaning>(
     rt: &HostRuntime,
     session: &Session<M>,
     named: &Named<'_>,
+    pretty: bool,
 ) -> Result<(), FileFault> {
-    let text = file_text(rt.alloc(), session, &named.name)?;
+    let text = file_text(rt.alloc(), session, &named.name, pretty)?;
     match replace(rt, named.file, text.bytes()) {
         Ok(()) => Ok(()),
         Err(error) if error.kind() == ErrorKind::OutOfMemory => Err(FileFault::Memory),
-        Err(_) => Err(FileFault::Write),
+        Err(error) => Err(FileFault::Write(error)),
     }
 }
 
@@ -59,7 +67,7 @@ fn replace(rt: &HostRuntime, file: &str, text: &[u8]) -> io::Result<()> {
         return write_beside(rt, file, text, None);
     };
     if !there.is_file() {
-        return Err(ErrorKind::InvalidInput.into());
+        return Err(io::Error::new(ErrorKind::InvalidInput, "no file"));
     }
     let place = fs::canonicalize(rt, file)?;
     write_beside(rt, place.as_str(), text, Some(there.permissions()))

@@ -5,6 +5,7 @@ ghost use Rattle.stratbench_c.specs.Runs.{AreCopied};
 
 use crate::answers::copy_both;
 use prim_core::Meaning;
+use run_hints::explain_run;
 use script_core::{Framing, Piece, Watch};
 use script_hints::{Numbered, Past, Seen, explain, warn};
 use session_core::{MAX_BUDGET, Refusal, Session};
@@ -167,6 +168,8 @@ impl<M: Meaning> Watch<M> for Hints {
         self.consume(bytes);
     }
 
+    fn expected(&mut self, _session: &Session<M>, _command: Piece<'_>) {}
+
     fn accepted(&mut self, session: &Session<M>, command: Piece<'_>) {
         if !self.explains {
             return;
@@ -185,6 +188,12 @@ impl<M: Meaning> Watch<M> for Hints {
         let said = explain(self.alloc, session.timeline(), &self.seen(command), refusal);
         if let Ok(said) = said {
             self.add(&said);
+        }
+        let why = explain_run(self.alloc, session, &self.seen(command), refusal);
+        if let Ok(why) = why
+            && let Some(lines) = why.strip_prefix(b"\n")
+        {
+            self.add(lines);
         }
         self.keep(command, false);
     }

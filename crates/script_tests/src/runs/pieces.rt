@@ -50,6 +50,8 @@ impl Watch<NoPrimitives> for Lines {
         self.numbered.consume(bytes);
     }
 
+    fn expected(&mut self, _session: &Session<NoPrimitives>, _command: Piece<'_>) {}
+
     fn accepted(&mut self, _session: &Session<NoPrimitives>, _command: Piece<'_>) {
         self.keep_command();
     }

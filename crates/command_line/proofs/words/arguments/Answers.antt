@@ -3,7 +3,7 @@ use Rattle.clap.specs.Words.{App, HasMatchesOf, Text, fault_of, first_of, found_
 use Rattle.clap.specs.declared.parser.matches.ArgMatches.{ArgMatches}
 use Rattle.clap.proofs.WalkLemmas.{first_value-rows, one_text-rows}
 use Rattle.command_line.specs.Line.{are_named_all, given, line, line_fault, values}
-use Rattle.command_line.proofs.FlagLemmas.{explain_is_given, interactive_is_given, library_is_given, lines_is_given, stop_is_given}
+use Rattle.command_line.proofs.FlagLemmas.{explain_is_given, interactive_is_given, library_is_given, lines_is_given, pretty_is_given, profile_is_given, stop_is_given}
 use Rattle.command_line.proofs.NamedLemmas.{err_fails, fault_comes, malformed_fault, malformed_holds, no_fault}
 use Rattle.command_line.proofs.words.arguments.Goals as goal
 
@@ -39,12 +39,26 @@ returns-in-Ok-clause-explain g c =
     let text = one_text-rows (found_of c.in_ok-matches.matches) (codes "explain") ∙ ap (one_of (codes "explain")) rows in
     explain_is_given words c.get_flag-in-Ok-3.result (λ e. c.get_flag-in-Ok-3.ensures.value (text ∙ e)) (λ e. c.get_flag-in-Ok-3.ensures.other (text ∙ e))
 
+pub returns-in-Ok-clause-profile : goal.returns-in-Ok-clause-profile
+returns-in-Ok-clause-profile g c =
+    let words : List Text = map g.S.AsStr.text c.args.words.now in
+    let rows = rows_are _ words c.in_ok-matches.matches c.in_ok-matches.ensures.ok.2 c.in_ok-command.ensures in
+    let text = one_text-rows (found_of c.in_ok-matches.matches) (codes "profile") ∙ ap (one_of (codes "profile")) rows in
+    profile_is_given words c.get_flag-in-Ok-4.result (λ e. c.get_flag-in-Ok-4.ensures.value (text ∙ e)) (λ e. c.get_flag-in-Ok-4.ensures.other (text ∙ e))
+
 pub returns-in-Ok-clause-interactive : goal.returns-in-Ok-clause-interactive
 returns-in-Ok-clause-interactive g c =
     let words : List Text = map g.S.AsStr.text c.args.words.now in
     let rows = rows_are _ words c.in_ok-matches.matches c.in_ok-matches.ensures.ok.2 c.in_ok-command.ensures in
     let text = one_text-rows (found_of c.in_ok-matches.matches) (codes "interactive") ∙ ap (one_of (codes "interactive")) rows in
-    interactive_is_given words c.get_flag-in-Ok-4.result (λ e. c.get_flag-in-Ok-4.ensures.value (text ∙ e)) (λ e. c.get_flag-in-Ok-4.ensures.other (text ∙ e))
+    interactive_is_given words c.get_flag-in-Ok-5.result (λ e. c.get_flag-in-Ok-5.ensures.value (text ∙ e)) (λ e. c.get_flag-in-Ok-5.ensures.other (text ∙ e))
+
+pub returns-in-Ok-clause-pretty : goal.returns-in-Ok-clause-pretty
+returns-in-Ok-clause-pretty g c =
+    let words : List Text = map g.S.AsStr.text c.args.words.now in
+    let rows = rows_are _ words c.in_ok-matches.matches c.in_ok-matches.ensures.ok.2 c.in_ok-command.ensures in
+    let text = one_text-rows (found_of c.in_ok-matches.matches) (codes "pretty") ∙ ap (one_of (codes "pretty")) rows in
+    pretty_is_given words c.get_flag-in-Ok-6.result (λ e. c.get_flag-in-Ok-6.ensures.value (text ∙ e)) (λ e. c.get_flag-in-Ok-6.ensures.other (text ∙ e))
 
 pub returns-in-Ok-clause-number : goal.returns-in-Ok-clause-number
 returns-in-Ok-clause-number g c =
