@@ -108,7 +108,11 @@ def second(it, folder):
     it.do(":none", "^there is no :none")
     it.do(":load", "^the form is `:load FILE..`")
     it.do(":load none.str", "none.str")
-    it.do(":help", "^:reload")
+    it.do(":help", r"^:reload(?s:.*)\n  dump")
+    it.do(":profile long at /1499 do ?x; !x", r"^3 steps\n    the steps: the command 100 % \(3\)")
+    it.do(":profile long within 2 do ?x; !x", "^refused 13 spent")
+    it.do(":profile long", "^refused 2 line: `do` and a strategy are missing")
+    it.do(":profile", "^the form is `:profile N")
     # completion
     it.at = len(it.seen)
     it.type("show lo")

@@ -5,6 +5,7 @@ from __future__ import annotations
 import contextlib
 import difflib
 import inspect
+import itertools
 import os
 import re
 import shlex
@@ -35,6 +36,7 @@ OWN: Final = {
     "undo": ("[N]", "go to the point after step N, or a step back"),
     "diff": ("", "what the last step changed"),
     "why": ("", "the last refusal again"),
+    "profile": ("N [at P] [within K] do S", "where the steps of that `apply` would go, which isn't done"),
     "depth": ("N", "show trees down to N levels; 0 shows all"),
     "help": ("", "this list"),
     "quit": ("", "end, as Ctrl-D does"),
@@ -180,13 +182,16 @@ class Shell:
         return (lambda text: f"\x1b[{colour}m{text}\x1b[m") if self.colours else plain
 
     def _do_own(self, command: str) -> None:
-        word, *words = shlex.split(command[1:]) or [""]
+        words = command[1:].split(None, 1)
+        word = words[0] if words else ""
         found = [word] if word in OWN else [it for it in OWN if word and it.startswith(word)]
         if not found:
             raise Refusal(f"there is no :{word}; :help lists what there is")
         if len(found) > 1:
             raise Refusal(f":{word} may be {' or '.join(f':{it}' for it in found)}")
         form, what = OWN[found[0]]
+        # a strategy stays as it is
+        words = words[1:] if found[0] == "profile" else shlex.split(command[1:])[1:]
         try:
             inspect.signature(self._own[found[0]]).bind(*words)
         except TypeError:
@@ -197,7 +202,7 @@ class Shell:
         for word, (form, what) in OWN.items():
             self.say(f"{f':{word} {form}':18} {what}")
         forms = [f"{word} {form}".rstrip() for word, form in FORMS.items()]
-        rows = [f"  {forms[at]:40}{forms[at + 1]}" for at in range(0, len(forms), 2)]
+        rows = [f"  {one:40}{other}".rstrip() for one, other in itertools.zip_longest(forms[::2], forms[1::2], fillvalue="")]
         self.say(_HELP.format(forms="\n".join(rows)))
 
     def do_quit(self) -> None:
@@ -205,6 +210,9 @@ class Shell:
 
     def do_why(self) -> None:
         self.say(self.last)
+
+    def do_profile(self, strategy: str) -> None:
+        self.say(self.session.profile(f"preview {strategy}"))
 
     def do_depth(self, number: str) -> None:
         if not number.isdigit():

@@ -11,6 +11,7 @@ from typing import Any, Final, Literal, NamedTuple, TypeVar
 
 from .. import Ended, Refused, Stratbench
 from ..terms import Term
+from .syntax import of_script
 
 # The commands that are steps, those of trees and others, and all that change a session.
 _OF_TREES: Final = ("tree", "copy", "drop", "put", "annotate", "apply")
@@ -161,6 +162,16 @@ class Session:
             return found
 
         return self.ask(there)
+
+    def profile(self, command: str) -> str:
+        """Returns where the steps of a `preview` go. It runs in a session of its own, with the trees and modules of this one."""
+        script = self.ask(lambda it: it.run("dump")).splitlines(keepends=True)
+        options = [*self._start.get("options", ()), "--profile"]
+        with Stratbench(**{**self._start, "library": False, "options": options}) as bench:
+            for it in of_script(script):
+                bench.run(it)
+            bench.run(command)
+            return "\n".join(bench.warnings)
 
     def ask(self, question: Callable[[Stratbench], _Given]) -> _Given:
         """Returns what the session has for a call that changes nothing."""
