@@ -7,6 +7,10 @@ import { loadDrafts, run } from './runs.mjs';
 import { isName } from './commands.mjs';
 import { sayFault } from './telling.mjs';
 
+/** What a new module begins with, and where one writes on in it. */
+const PARTS = 'signature constructors\n  \nrules\n  \nstrategies\n  ';
+const RULES = { line: 4, column: 3 };
+
 function faultOfName(kind, name) {
   if (!isName(name)) return 'A name is a letter or _, then letters, digits and _ - + * $ . \' (64 at most).';
   return names(kind).includes(name) ? `There is a ${kind} of this name.` : undefined;
@@ -40,18 +44,18 @@ export async function addTree() {
 export async function addModule() {
   const there = names('module');
   const ready = page.strategies.filter(([name]) => !there.includes(name)).map(([name, text]) => [`the strategies ${name}`, { name, text }]);
-  const starts = [['an empty module', null], ...ready];
+  const starts = [['a new text', null], ...ready];
   const answer = await askForName('Add a module', freeName('module', 'm'), starts, it => faultOfName('module', it));
   if (!answer) return;
   page.module = answer.name;
   page.isTouched = true;
-  page.drafts.module.set(answer.name, answer.from?.text ?? 'strategies\n  ');
+  page.drafts.module.set(answer.name, answer.from?.text ?? PARTS);
   if (answer.from) {
     await run(loadDrafts);
     return;
   }
   show();
-  editors.module.focus();
+  editors.module.go(RULES);
 }
 
 /** Removes the tree or the module that is shown. */

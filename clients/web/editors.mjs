@@ -111,7 +111,7 @@ function plainEditor(field, changed) {
     const lines = field.value.split('\n');
     const at = lines.slice(0, line - 1).reduce((sum, it) => sum + it.length + 1, 0) + unitsBefore(lines[line - 1] ?? '', column);
     field.focus();
-    field.setSelectionRange(at, at + 1);
+    field.setSelectionRange(at, Math.min(at + 1, at + (lines[line - 1] ?? '').length - column + 1));
   };
   return {
     get value() { return field.value; },

@@ -37,6 +37,14 @@ const FAULTS = {
   primitive: ([name]) => `there is no such primitive as \`${name}\``,
 };
 
+/** How a fault is mended, where the explanation doesn't say it. */
+const REPAIRS = {
+  undeclared([name, count]) {
+    const sorts = Array(Number(count)).fill('a').join(' * ');
+    return [`write \`${name} : ${sorts && `${sorts} -> `}a\` below \`signature constructors\` of a module`];
+  },
+};
+
 /** The refusal that an answer says, `{number, word, rest}`, or null. */
 export function refusalIn(answers) {
   const found = /^refused (\d+) ([a-z]+)(?: (.*))?$/m.exec(answers);
@@ -75,8 +83,10 @@ export function refused({ answers, said }) {
   const refusal = refusalIn(answers);
   if (!refusal) return null;
   const entry = entriesOf(said).findLast(it => !it.isWarning) ?? { reason: MEANINGS[refusal.number] ?? refusal.word, hints: [] };
-  const fault = FAULTS[refusal.word]?.(/^(.*) (\d+) (\d+)$/.exec(refusal.rest)?.slice(1) ?? [refusal.rest, '0', '0']);
-  return { ...refusal, ...entry, reason: fault ? `${fault}, ${entry.reason}` : entry.reason };
+  const named = /^(.*) (\d+) (\d+)$/.exec(refusal.rest)?.slice(1) ?? [refusal.rest, '0', '0'];
+  const fault = FAULTS[refusal.word]?.(named);
+  const hints = [...entry.hints, ...REPAIRS[refusal.word]?.(named) ?? []];
+  return { ...refusal, ...entry, hints, reason: fault ? `${fault}, ${entry.reason}` : entry.reason };
 }
 
 /** The warnings of an accepted call. */

@@ -145,6 +145,7 @@ async function begin() {
   wire();
   const [took, found] = await Promise.all([client.start(), fetch(new URL('examples.json', import.meta.url)).then(it => it.json())]);
   Object.assign(page, found);
+  byId('unproved').hidden = page.isProved;
   byId('engine').textContent = `The engine was ready after ${time(took)}.`;
   byId('example').append(...page.examples.map(it => new Option(it.title, it.id)));
   await openAddress();

@@ -74,7 +74,7 @@ const hintsOf = hints => (hints.length ? [made('ul', {}, ...hints.map(it => made
 
 /** What is said of a refusal: its word, the reason, hints, and buttons. */
 export function refusalParts({ word, reason, hints }, buttons = []) {
-  return [made('span', { className: 'word' }, `Refused (${word}): `), ...withCode(reason), ...hintsOf(hints), ...buttons];
+  return [made('span', { className: 'word' }, `Refused (${word}): `), ...withCode(reason), ...hintsOf(hints), ...buttons.flatMap(it => [' ', it])];
 }
 
 export function warningParts(warnings, buttonOf) {

@@ -3,8 +3,8 @@
 import { MOST, bench, client, page } from './state.mjs';
 import { button, byId, say, withCode } from './parts.mjs';
 import { clearSaid, editors, notice, saidOf, show, showButtons } from './view.mjs';
-import { differences, pathText, readPath, readTerm } from './terms.mjs';
-import { sayFault, sayRefusal, sayWarnings } from './telling.mjs';
+import { MARKED, differences, pathText, readPath, readTerm } from './terms.mjs';
+import { sayFault, sayNotRun, sayRefusal, sayWarnings } from './telling.mjs';
 import { Broken } from './client.mjs';
 
 /** A run that takes longer than so many milliseconds shows a button to stop it. */
@@ -31,6 +31,8 @@ export async function run(act) {
     byId('stop').hidden = true;
     byId('busy').textContent = '';
     show();
+    // on a phone this may be below what is seen
+    if (saidOf('strategy').hasChildNodes()) saidOf('strategy').scrollIntoView({ block: 'nearest' });
   }
 }
 
@@ -117,8 +119,15 @@ function stepNow() {
   return null;
 }
 
+/** Loads what was edited. Resolves to the step that the fields say, or to null where something is refused, which is said. */
+async function ready() {
+  if (await loadDrafts()) return stepNow();
+  sayNotRun();
+  return null;
+}
+
 export async function apply() {
-  const step = await loadDrafts() && stepNow();
+  const step = await ready();
   if (!step) return;
   const before = bench.trees.get(step.tree);
   page.isTouched = true;
@@ -132,12 +141,12 @@ export async function apply() {
   page.isText = false;
   page.isChecking = true;
   const count = markChanges(before, bench.trees.get(step.tree));
-  const what = count ? `${placesOf(count)} changed. ` : 'the tree stayed the same. ';
+  const what = count ? `${placesOf(count)} ${count < MARKED ? '' : 'or more '}changed. ` : 'the tree stayed the same. ';
   say(saidOf('strategy'), '', `Applied in ${time(took)}: ${what}`, button('Undo', () => run(() => goTo(bench.at - 1))));
 }
 
 export async function preview() {
-  const step = await loadDrafts() && stepNow();
+  const step = await ready();
   if (!step) return;
   page.marks = new Map();
   const { refusal, changes, steps, took } = await bench.preview(step);
@@ -171,7 +180,7 @@ export async function goTo(at) {
   if (before.has(page.tree) && bench.trees.has(page.tree)) markChanges(before.get(page.tree), bench.trees.get(page.tree));
 }
 
-/** Marks where two trees differ. Returns at how many places. */
+/** Marks where two trees differ. Returns at how many places, or MARKED where there are more. */
 function markChanges(before, after) {
   const found = differences(readTerm(before), readTerm(after));
   const isShown = isSmall(found);

@@ -2,7 +2,7 @@
 
 import { MOST, client, names, page, textOf } from './state.mjs';
 import { applying, placeInStrategy } from './commands.mjs';
-import { button, byId, made, refusalParts, say, warningParts } from './parts.mjs';
+import { button, byId, made, refusalParts, say, warningParts, withCode } from './parts.mjs';
 import { choose, editors, saidOf, showPane, showTree } from './view.mjs';
 import { refused, withPlaces } from './explain.mjs';
 
@@ -43,10 +43,18 @@ export function sayWarnings(kind, loaded, warnings) {
   say(saidOf(kind), 'warned', ...warningParts(warnings, place => goButton(kind, name, place)));
 }
 
+/** Says at the strategy that it isn't run, since a tree or a module is refused, as its own pane says. */
+export function sayNotRun() {
+  const kind = page.faulty.tree.size ? 'tree' : 'module';
+  const show = button(`Show the ${kind}`, () => saidOf(kind).scrollIntoView({ block: 'center' }));
+  say(saidOf('strategy'), 'refused', ...withCode(`Not run, since the ${kind} \`${page[kind]}\` is refused. `), show);
+}
+
 /** Says of an `apply` or a `preview` that it is refused. `again` makes it once more. */
 export function sayRefusal(word, step, refusal, again) {
   if (refusal.module && names('module').includes(refusal.module)) {
     sayFault('module', refusal.module, refusal);
+    sayNotRun();
     return;
   }
   const move = place => placeInStrategy(word, step, place);

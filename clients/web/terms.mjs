@@ -117,11 +117,14 @@ export function readPath(text) {
   return /^(?:\/\d{1,10})+$/.test(text) ? text.slice(1).split('/').map(Number) : null;
 }
 
+/** How many places of a tree are marked at most. */
+export const MARKED = 500;
+
 /**
  * The outermost places at which two terms differ: what is inside differs in its head, its annotations or its number of children.
  * Each is `{path, before, after}`. `most` bounds how many are looked for.
  */
-export function differences(before, after, most = 500) {
+export function differences(before, after, most = MARKED) {
   const found = [];
   const walk = (a, b, path) => {
     if (found.length >= most || a.equals(b)) return;
