@@ -28,10 +28,10 @@ TREE = "[" + ",".join(["f(a)"] * LEAVES) + "]"
 CALLS = [
     ("`show` of a small tree", lambda it: it.tree("t", "f(a)"), lambda it: it.show("t"), 2_000),
     ("`tree` of a small tree", lambda it: None, lambda it: it.tree("t", "f(a)"), 2_000),
-    ("`apply` at a small tree, and `undo`", lambda it: it.tree("t", "f(a)"), lambda it: (it.apply("t", "!b"), it.undo()), 1_000),
+    ("`apply` at a small tree, and `undo`", lambda it: it.tree("t", "f(a)"), lambda it: (it.apply("t", '!"b"'), it.undo()), 1_000),
     (f"`tree` of {LEAVES:,} leaves", lambda it: None, lambda it: it.tree("t", TREE), 50),
     (f"`show` of {LEAVES:,} leaves", lambda it: it.tree("t", TREE), lambda it: it.show("t"), 50),
-    (f"`apply` to {LEAVES:,} leaves, and `undo`", lambda it: it.tree("t", TREE), lambda it: (it.apply("t", "all(!b)"), it.undo()), 50),
+    (f"`apply` to {LEAVES:,} leaves, and `undo`", lambda it: it.tree("t", TREE), lambda it: (it.apply("t", 'all(!"b")'), it.undo()), 50),
 ]
 
 
