@@ -24,13 +24,13 @@ pub form_cells : (W : World) (sub : Standing) (whole : Answer) (S : State) (r : 
 form_cells W sub whole S r n p D e h = subst (λ (x : CellContents). FormIn W sub whole (celled S x) r n p) (sym e) h
 
 pub undefined_is : (W : World) (S : State) (f : ℕ) (ss : ResolvedStrategies) (ps : Places) (n : ℕ) (p : Standing) (us : List Tree)
-    → AreBuilt ps (cells_in (scope_at S.scopes n)) S.cells.bindings S.level us All → slice_get W.bodies f ≡ None
+    → AreBuilt W.room ps (cells_in (scope_at S.scopes n)) S.cells.bindings S.level us All → slice_get W.bodies f ≡ None
     → form W (run W) (scope_at S.scopes n) S.level (call f ss ps) S.steps S.cells.bindings (standing_tree p) ≡ failed S.steps
 undefined_is W S f ss ps n p us k e =
     k S.steps _ ∙ none_is (slice_get W.bodies f) S.steps (λ d. enter (run W) ss (scope_at S.scopes n) us d S.level S.steps S.cells.bindings (standing_tree p)) e
 
 pub entered : (W : World) (sub : Standing) (whole : Answer) (m new : Machine) (f : ℕ) (ss : ResolvedStrategies) (ps : Places) (d : Resolved) (s : Bor ResolvedStrategy) (n inner : ℕ)
-    → AreBuilt ps (cells_in (scope_at (scopes m.scopes) n)) m.cells.bindings m.level m.arguments.items All → slice_get W.bodies f ≡ Some d → s.now ≡ d.strategy
+    → AreBuilt W.room ps (cells_in (scope_at (scopes m.scopes) n)) m.cells.bindings m.level m.arguments.items All → slice_get W.bodies f ≡ Some d → s.now ≡ d.strategy
     → Enters m ss d n new inner
     → FormIn W sub whole (state_of m) (call f ss ps) n m.part → HoldsIn W sub whole (state_of new) (Begin s inner new.part)
 entered W sub whole m new f ss ps d s n inner k e se en h =

@@ -111,25 +111,25 @@ module _ (W : World) (sub : Standing) (whole : Answer) (S : State) (q r : Place)
     pub choice_matched_few : S.steps ≡ 2 → FormIn W sub whole S (guard both s2.now s3.now) n p → whole ≡ stopped spent
     choice_matched_few e h = first_stops W sub whole S both s2 s3 n p spent (matched_few W F S.level q r S.cells.bindings (standing_tree p) S.steps 0 C e m refl) h
 
-    comes : (c : ℕ) → S.steps ≡ c + 3 → first W sub whole S both s2 s3 n p ≡ built (build_place r (cells_in F) C) S.level c (λ u. done u C c (at_root u))
+    comes : (c : ℕ) → S.steps ≡ c + 3 → first W sub whole S both s2 s3 n p ≡ built W.room (build_place r (cells_in F) C) S.level c (λ u. done u C c (at_root u))
     comes c e = builds_one W F S.level q r S.cells.bindings (standing_tree p) S.steps c C e m
 
     pub choice_unbuilt : (D : CellContents) (c : ℕ) → GoesBack S.cells D → S.steps ≡ c + 3 → build_place r (cells_in F) C ≡ None
         → FormIn W sub whole S (guard both s2.now s3.now) n p → HoldsIn W sub whole (celled (paid S c) D) (Begin s3 n p)
-    choice_unbuilt D c g e o h = first_fails W sub whole S both s2 s3 n p D c g (comes c e ∙ unbuilt_is S.level c _ (λ u. done u C c (at_root u)) o) h
+    choice_unbuilt D c g e o h = first_fails W sub whole S both s2 s3 n p D c g (comes c e ∙ unbuilt_is W.room S.level c _ (λ u. done u C c (at_root u)) o) h
 
-    pub choice_big : (c : ℕ) (u : Tree) → S.steps ≡ c + 3 → build_place r (cells_in F) C ≡ Some u → fits S.level u ≡ false
+    pub choice_big : (c : ℕ) (u : Tree) → S.steps ≡ c + 3 → build_place r (cells_in F) C ≡ Some u → fits W.room S.level u ≡ false
         → FormIn W sub whole S (guard both s2.now s3.now) n p → whole ≡ stopped big
-    choice_big c u e o f h = first_stops W sub whole S both s2 s3 n p big (comes c e ∙ big_is S.level c u _ (λ v. done v C c (at_root v)) o f) h
+    choice_big c u e o f h = first_stops W sub whole S both s2 s3 n p big (comes c e ∙ big_is W.room S.level c u _ (λ v. done v C c (at_root v)) o f) h
 
   pub choice_built : (D : CellContents) (c : ℕ) (u : Tree) (v : Standing) (trail : Trail) → Before (mark_of S.cells) (mark_of D) → Stays (mark_of S.cells) S.cells D
       → S.steps ≡ c + 3 → match_place q (standing_tree p) (cells_in F) S.cells.bindings ≡ Some D.bindings
-      → build_place r (cells_in F) D.bindings ≡ Some u → fits S.level u ≡ true → v ≡ fresh u
+      → build_place r (cells_in F) D.bindings ≡ Some u → fits W.room S.level u ≡ true → v ≡ fresh u
       → ((T : Edits) → Shows S.trail T → Shows trail (T ++ record { path = path_of S.frames; new = u } ∷ []))
       → FormIn W sub whole S (guard both s2.now s3.now) n p
       → HoldsIn W sub whole (record { cells = D; scopes = S.scopes; trail = trail; level = S.level; frames = S.frames; steps = c }) (Begin s2 n v)
   choice_built D c u v trail b st e m o f is sh h =
-      first_done W sub whole S both s2 s3 n p D c u v trail b st (comes D.bindings m c e ∙ built_is S.level c u _ (λ w. done w D.bindings c (at_root w)) o f) is sh h
+      first_done W sub whole S both s2 s3 n p D c u v trail b st (comes D.bindings m c e ∙ built_is W.room S.level c u _ (λ w. done w D.bindings c (at_root w)) o f) is sh h
 
 -- ---- a rule
 
@@ -222,23 +222,23 @@ module _ (W : World) (sub : Standing) (whole : Answer) (S : State) (s1 : Resolve
     pub or_matched_few : S.steps ≡ r.price → FormIn W sub whole S here n p → whole ≡ stopped spent
     or_matched_few e h = first_stops W sub whole S s1 s2 s3 n p spent (along 2 (stopped spent) (omega (arith, e)) (matched_few W inner S.level r.left.now r.right.now wide (standing_tree p) 2 0 C refl m refl)) h
 
-    builds_it : (c : ℕ) → S.steps ≡ c + 1 + r.price → first W sub whole S s1 s2 s3 n p ≡ cuts (built (build_place r.right.now (cells_in inner) C) S.level c (λ u. done u C c (at_root u)))
-    builds_it c e = along (c + 3) (built (build_place r.right.now (cells_in inner) C) S.level c (λ u. done u C c (at_root u))) (omega (arith, e)) (builds_one W inner S.level r.left.now r.right.now wide (standing_tree p) (c + 3) c C refl m)
+    builds_it : (c : ℕ) → S.steps ≡ c + 1 + r.price → first W sub whole S s1 s2 s3 n p ≡ cuts (built W.room (build_place r.right.now (cells_in inner) C) S.level c (λ u. done u C c (at_root u)))
+    builds_it c e = along (c + 3) (built W.room (build_place r.right.now (cells_in inner) C) S.level c (λ u. done u C c (at_root u))) (omega (arith, e)) (builds_one W inner S.level r.left.now r.right.now wide (standing_tree p) (c + 3) c C refl m)
 
     pub or_unbuilt : (D : CellContents) (c : ℕ) → GoesBack S.cells D → S.steps ≡ c + 1 + r.price → build_place r.right.now (cells_in inner) C ≡ None
         → FormIn W sub whole S here n p → HoldsIn W sub whole (celled (paid S c) D) (Begin s3 n p)
-    or_unbuilt D c g e o h = first_fails W sub whole S s1 s2 s3 n p D c g (builds_it c e ∙ ap cuts (unbuilt_is S.level c _ (λ u. done u C c (at_root u)) o)) h
+    or_unbuilt D c g e o h = first_fails W sub whole S s1 s2 s3 n p D c g (builds_it c e ∙ ap cuts (unbuilt_is W.room S.level c _ (λ u. done u C c (at_root u)) o)) h
 
-    pub or_big : (c : ℕ) (u : Tree) → S.steps ≡ c + 1 + r.price → build_place r.right.now (cells_in inner) C ≡ Some u → fits S.level u ≡ false
+    pub or_big : (c : ℕ) (u : Tree) → S.steps ≡ c + 1 + r.price → build_place r.right.now (cells_in inner) C ≡ Some u → fits W.room S.level u ≡ false
         → FormIn W sub whole S here n p → whole ≡ stopped big
-    or_big c u e o f h = first_stops W sub whole S s1 s2 s3 n p big (builds_it c e ∙ ap cuts (big_is S.level c u _ (λ v. done v C c (at_root v)) o f)) h
+    or_big c u e o f h = first_stops W sub whole S s1 s2 s3 n p big (builds_it c e ∙ ap cuts (big_is W.room S.level c u _ (λ v. done v C c (at_root v)) o f)) h
 
     pub or_built : (D : CellContents) (c : ℕ) (u : Tree) (v : Standing) (trail : Trail) → Before (mark_of S.cells) (mark_of D) → Stays (mark_of S.cells) S.cells D
         → D.bindings ≡ take (length S.cells.bindings) C → S.steps ≡ c + 1 + r.price
-        → build_place r.right.now (cells_in inner) C ≡ Some u → fits S.level u ≡ true → v ≡ fresh u
+        → build_place r.right.now (cells_in inner) C ≡ Some u → fits W.room S.level u ≡ true → v ≡ fresh u
         → ((T : Edits) → Shows S.trail T → Shows trail (T ++ record { path = path_of S.frames; new = u } ∷ []))
         → FormIn W sub whole S here n p
         → HoldsIn W sub whole (record { cells = D; scopes = S.scopes; trail = trail; level = S.level; frames = S.frames; steps = c }) (Begin s2 n v)
     or_built D c u v trail b st d e o f is sh h =
         first_done W sub whole S s1 s2 s3 n p D c u v trail b st
-        (builds_it c e ∙ ap cuts (built_is S.level c u _ (λ w. done w C c (at_root w)) o f) ∙ ap (λ (x : Bindings). done u x c (at_root u)) (sym d)) is sh h
+        (builds_it c e ∙ ap cuts (built_is W.room S.level c u _ (λ w. done w C c (at_root w)) o f) ∙ ap (λ (x : Bindings). done u x c (at_root u)) (sym d)) is sh h

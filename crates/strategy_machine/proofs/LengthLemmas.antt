@@ -124,16 +124,16 @@ rest-has : (f : Act) (k : ℕ) → ActHas f → ActHas (on_rest f k)
 rest-has f k h n c B t e =
     either-has n (f c B (rest_of k t)) _ _ (h n c B (rest_of k t) e) (λ u B1 b d r. some-has n (elements u) b _ (λ us. r)) (λ b. tt)
 
-built-has : (n l : ℕ) (o : Option Tree) (c : ℕ) (go : Tree → Answer) → ((u : Tree) → Has n (go u)) → Has n (built o l c go)
-built-has n l o c go h = some-has n o c _ (λ u. by u (fits l u)) where
+built-has : (room n l : ℕ) (o : Option Tree) (c : ℕ) (go : Tree → Answer) → ((u : Tree) → Has n (go u)) → Has n (built room o l c go)
+built-has room n l o c go h = some-has n o c _ (λ u. by u (fits room l u)) where
   by : (u : Tree) (v : Bool) → Has n (cond v (go u) (stopped big))
   by u true = h u
   by u false = tt
 
-built_all-has : (n l : ℕ) (ps : Places) (E : List ℕ) (B : Bindings) (c : ℕ) (go : List Tree → Answer) → ((us : List Tree) → Has n (go us)) → Has n (built_all ps E B l c go)
-built_all-has n l no_places E B c go h = h []
-built_all-has n l (and_place p ps) E B c go h =
-    built-has n l (build_place p E B) c _ (λ u. built_all-has n l ps E B c _ (λ us. h (u ∷ us)))
+built_all-has : (room n l : ℕ) (ps : Places) (E : List ℕ) (B : Bindings) (c : ℕ) (go : List Tree → Answer) → ((us : List Tree) → Has n (go us)) → Has n (built_all room ps E B l c go)
+built_all-has room n l no_places E B c go h = h []
+built_all-has room n l (and_place p ps) E B c go h =
+    built-has room n l (build_place p E B) c _ (λ u. built_all-has room n l ps E B c _ (λ us. h (u ∷ us)))
 
 -- exactly the opened cells are gone
 cut-has : (B new : Bindings) (a : Answer) → Has (length (B ++ new)) a → Has (length B) (cut (length B) a)
@@ -153,7 +153,7 @@ form-has W part h E l (matches p) n c B t e = matched (match_place p t (cells_in
   matched : (o : Option Bindings) → Holds n o → Has n (with_some o c (λ B1. done t B1 c []))
   matched None k = tt
   matched (Some C) k = k
-form-has W part h E l (builds p) n c B t e = built-has n l (build_place p (cells_in E) B) c _ (λ u. e)
+form-has W part h E l (builds p) n c B t e = built-has W.room n l (build_place p (cells_in E) B) c _ (λ u. e)
 form-has W part h E l (seq s1 s2) n c B t e = and_then-has n _ _ (h E l s1 n c B t e) (h E l s2)
 form-has W part h E l (guard s1 s2 s3) n c B t e =
     either-has n (part E l s1 c B t) _ _ (h E l s1 n c B t e) (λ u B1 b d r. edits-has n d _ (h E l s2 n b B1 u r)) (λ b. h E l s3 n b B t e)
@@ -161,7 +161,7 @@ form-has W part h E l (test s1) n c B t e = either-has n (part E l s1 c B t) _ _
 form-has W part h E l (scope k s1) n c B t e = opened-has part (with_variables E (length B) k) (replicate k None) l s1 h n c B t e
 form-has W part h E l (param x) n c B t e = some-has n (stands_for E x) c _ (λ z. h z.written_in l z.strategy n c B t e)
 form-has W part h E l (call f ss ps) n c B t e =
-    built_all-has n l ps (cells_in E) B c _ (λ us. some-has n (slice_get W.bodies f) c _
+    built_all-has W.room n l ps (cells_in E) B c _ (λ us. some-has n (slice_get W.bodies f) c _
     (λ d. opened-has part _ (map Some us ++ replicate d.variables None) l d.strategy h n c B t e))
 form-has W part h E l (congruence x ss) n c B t e =
     if-has n (is_over x (length (resolved_list ss)) t) _ c (each-has _ (resolved_list ss) 0 (h E (l + 1)) n c B t e)
@@ -174,7 +174,7 @@ form-has W part h E l (some s1) n c B t e = those-have _ (length (children t)) f
 form-has W part h E l (child k s1) n c B t e = number-has _ k (h E (l + 1) s1) n c B t e
 form-has W part h E l (rec s1) n c B t e = h (with_name E (rec s1) E) l s1 n c B t e
 form-has W part h E l (prim k ps) n c B t e =
-    built_all-has n l ps (cells_in E) B c _ (λ us. built-has n l (primitive_answer W k us) c _ (λ u. e))
+    built_all-has W.room n l ps (cells_in E) B c _ (λ us. built-has W.room n l (primitive_answer W k us) c _ (λ u. e))
 
 bounded-has : (W : World) (k : ℕ) → PartHas (run_bounded W k)
 bounded-has W zero E l s n b B t e = tt

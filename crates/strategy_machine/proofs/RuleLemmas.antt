@@ -48,7 +48,7 @@ module _ (W : World) (E : Scope) (l : ℕ) (q r : Place) (B : Bindings) (t : Tre
   matched_few b c D e m z = matched b c D e m ∙ ap (λ (k : ℕ). run W E l (builds r) k D t) z
 
   pub builds_one : (b c : ℕ) (D : Bindings) → b ≡ c + 3 → match_place q t (cells_in E) B ≡ Some D
-      → run W E l both b B t ≡ built (build_place r (cells_in E) D) l c (λ u. done u D c (at_root u))
+      → run W E l both b B t ≡ built W.room (build_place r (cells_in E) D) l c (λ u. done u D c (at_root u))
   builds_one b c D e m = matched b (c + 1) D (omega (arith, e)) m ∙ run_step W E l (builds r) (c + 1) c D t refl
 
 -- ---- in a run
@@ -92,27 +92,27 @@ module _ (W : World) (sub : Standing) (whole : Answer) (S : State) (k : ℕ) (q 
     rule_matched_few e h = take_stops W sub whole S rule n p spent (ap cuts (matched_few W (widened S n k) S.level q r (more_cells S k) (standing_tree p) S.steps 0 C e m refl)) h
 
     comes : (c : ℕ) → S.steps ≡ c + 3 → form W (run W) (scope_at S.scopes n) S.level rule S.steps S.cells.bindings (standing_tree p)
-        ≡ cuts (built (build_place r (cells_in (widened S n k)) C) S.level c (λ u. done u C c (at_root u)))
+        ≡ cuts (built W.room (build_place r (cells_in (widened S n k)) C) S.level c (λ u. done u C c (at_root u)))
     comes c e = ap cuts (builds_one W (widened S n k) S.level q r (more_cells S k) (standing_tree p) S.steps c C e m)
 
     pub rule_unbuilt : (D : CellContents) (c : ℕ) → Before (mark_of S.cells) (mark_of D) → Stays (mark_of S.cells) S.cells D → S.steps ≡ c + 3
         → build_place r (cells_in (widened S n k)) C ≡ None
         → FormIn W sub whole S rule n p → HoldsIn W sub whole (celled (paid S c) D) Failed
-    rule_unbuilt D c b st e o h = fails D c b st (comes c e ∙ ap cuts (unbuilt_is S.level c _ (λ u. done u C c (at_root u)) o)) h
+    rule_unbuilt D c b st e o h = fails D c b st (comes c e ∙ ap cuts (unbuilt_is W.room S.level c _ (λ u. done u C c (at_root u)) o)) h
 
-    pub rule_big : (c : ℕ) (u : Tree) → S.steps ≡ c + 3 → build_place r (cells_in (widened S n k)) C ≡ Some u → fits S.level u ≡ false
+    pub rule_big : (c : ℕ) (u : Tree) → S.steps ≡ c + 3 → build_place r (cells_in (widened S n k)) C ≡ Some u → fits W.room S.level u ≡ false
         → FormIn W sub whole S rule n p → whole ≡ stopped big
-    rule_big c u e o f h = take_stops W sub whole S rule n p big (comes c e ∙ ap cuts (big_is S.level c u _ (λ v. done v C c (at_root v)) o f)) h
+    rule_big c u e o f h = take_stops W sub whole S rule n p big (comes c e ∙ ap cuts (big_is W.room S.level c u _ (λ v. done v C c (at_root v)) o f)) h
 
     pub rule_built : (D : CellContents) (c : ℕ) (u : Tree) (v : Standing) (trail : Trail) → Before (mark_of S.cells) (mark_of D) → Stays (mark_of S.cells) S.cells D
         → D.bindings ≡ take (length S.cells.bindings) C → S.steps ≡ c + 3
-        → build_place r (cells_in (widened S n k)) C ≡ Some u → fits S.level u ≡ true → v ≡ fresh u
+        → build_place r (cells_in (widened S n k)) C ≡ Some u → fits W.room S.level u ≡ true → v ≡ fresh u
         → ((T : Edits) → Shows S.trail T → Shows trail (T ++ record { path = path_of S.frames; new = u } ∷ []))
         → FormIn W sub whole S rule n p
         → HoldsIn W sub whole (record { cells = D; scopes = S.scopes; trail = trail; level = S.level; frames = S.frames; steps = c }) (Done v)
     rule_built D c u v trail b st de e o f is sh h =
         puts W sub whole (celled (paid S c) D) p v h.edits u trail is (sh h.edits h.shows)
-        (opens_along _ _ (comes c e ∙ ap cuts (built_is S.level c u _ (λ v. done v C c (at_root v)) o f) ∙ ap (λ (x : Bindings). done u x c (at_root u)) (sym de))
+        (opens_along _ _ (comes c e ∙ ap cuts (built_is W.room S.level c u _ (λ v. done v C c (at_root v)) o f) ∙ ap (λ (x : Bindings). done u x c (at_root u)) (sym de))
         (opens_kept W sub whole S.cells D (mark_of S.cells) (mark_of D) S.scopes S.level S.frames (path_of S.frames) p h.edits _ b st h.opens))
 
 -- ---- cells and scopes that end

@@ -133,25 +133,25 @@ puts W sub whole S p q T u trail e sh o = record {
       (ap (λ (x : List ℕ). T ++ record { path = x; new = u } ∷ []) (sym (append-nil (path_of S.frames)))) o);
 }
 
-pub built_is : (l c : ℕ) (u : Tree) (o : Option Tree) (go : Tree → Answer) → o ≡ Some u → fits l u ≡ true → built o l c go ≡ go u
-built_is l c u o go e f = rw (e, f) refl
+pub built_is : (room l c : ℕ) (u : Tree) (o : Option Tree) (go : Tree → Answer) → o ≡ Some u → fits room l u ≡ true → built room o l c go ≡ go u
+built_is room l c u o go e f = rw (e, f) refl
 
-pub big_is : (l c : ℕ) (u : Tree) (o : Option Tree) (go : Tree → Answer) → o ≡ Some u → fits l u ≡ false → built o l c go ≡ stopped big
-big_is l c u o go e f = rw (e, f) refl
+pub big_is : (room l c : ℕ) (u : Tree) (o : Option Tree) (go : Tree → Answer) → o ≡ Some u → fits room l u ≡ false → built room o l c go ≡ stopped big
+big_is room l c u o go e f = rw (e, f) refl
 
-pub unbuilt_is : (l c : ℕ) (o : Option Tree) (go : Tree → Answer) → o ≡ None → built o l c go ≡ failed c
-unbuilt_is l c o go e = rw e refl
+pub unbuilt_is : (room l c : ℕ) (o : Option Tree) (go : Tree → Answer) → o ≡ None → built room o l c go ≡ failed c
+unbuilt_is room l c o go e = rw e refl
 
 -- the form amounts to a build of u
 pub take_built : (W : World) (sub : Standing) (whole : Answer) (S : State) (r : ResolvedStrategy) (n : ℕ) (p q : Standing) (o : Option Tree) (u : Tree) (trail : Trail)
-    → answers W S r n p ≡ built o S.level S.steps (λ v. done v S.cells.bindings S.steps (at_root v))
-    → o ≡ Some u → fits S.level u ≡ true → q ≡ fresh u
+    → answers W S r n p ≡ built W.room o S.level S.steps (λ v. done v S.cells.bindings S.steps (at_root v))
+    → o ≡ Some u → fits W.room S.level u ≡ true → q ≡ fresh u
     → ((T : Edits) → Shows S.trail T → Shows trail (T ++ record { path = path_of S.frames; new = u } ∷ []))
     → FormIn W sub whole S r n p
     → HoldsIn W sub whole (record { cells = S.cells; scopes = S.scopes; trail = trail; level = S.level; frames = S.frames; steps = S.steps }) (Done q)
 take_built W sub whole S r n p q o u trail a e f is sh h =
     puts W sub whole S p q h.edits u trail is (sh h.edits h.shows)
-    (opens_along _ _ (a ∙ built_is S.level S.steps u o _ e f) h.opens)
+    (opens_along _ _ (a ∙ built_is W.room S.level S.steps u o _ e f) h.opens)
 
 -- ---- sequences
 
@@ -389,8 +389,8 @@ child_is W S s ss n (suc i) j k p e is =
 -- the form amounts to a build of u, which replaced the focus
 pub replaced_in : (W : World) (sub : Standing) (whole : Answer) (m0 m new : Machine) (r : ResolvedStrategy) (n : ℕ) (p q : Standing) (o : Option Tree) (u : Tree)
     → m.frames ≡ m0.frames → m.scopes ≡ m0.scopes → m.trail ≡ m0.trail → m.level ≡ m0.level → m.steps ≡ m0.steps → m.cells ≡ m0.cells
-    → answers W (state_of m0) r n p ≡ built o m0.level m0.steps (λ v. done v m0.cells.bindings m0.steps (at_root v))
-    → o ≡ Some u → fits m0.level u ≡ true → Replaced m u new q
+    → answers W (state_of m0) r n p ≡ built W.room o m0.level m0.steps (λ v. done v m0.cells.bindings m0.steps (at_root v))
+    → o ≡ Some u → fits W.room m0.level u ≡ true → Replaced m u new q
     → FormIn W sub whole (state_of m0) r n p → HoldsIn W sub whole (state_of new) (Done q)
 replaced_in W sub whole m0 m new r n p q o u fe se te le pe ce a e f k h =
     subst (λ (S : State). HoldsIn W sub whole S (Done q))

@@ -58,7 +58,7 @@ module _ (W : World) (E : Scope) (l : ℕ) (B : Bindings) (u : Tree) where
   tries : (f : ℕ) (ss : List ResolvedStrategy) (ps : List Place) (t : Try) (b : ℕ) → IsTry W.bodies f ss ps t
       → form W (run W) E l (call f (resolveds_of ss) (places_of ps)) b B u ≡ run W (body_scope t.first.now) l body b B u
   tries f ss ps t b k =
-      ap (λ (qs : Places). built_all qs (cells_in E) B l b go) k.patterns
+      ap (λ (qs : Places). built_all W.room qs (cells_in E) B l b go) k.patterns
       ∙ some_is _ k.body b (λ d. enter (run W) (resolveds_of ss) E [] d l b B u) k.defined
       ∙ enters k.body (resolveds_of ss) t.first.now b k.variables k.is k.strategies (k.itself.argument E)
     where

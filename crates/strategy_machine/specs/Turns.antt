@@ -97,10 +97,10 @@ After W sub whole m turns.Big = whole ≡ stopped big
 pub record Turn (W : World) (m : Machine) (hand : Hand) (new : Machine) (next : Turned) : Type 0 where
   pub keeps : (sub : Standing) (whole : Answer) → Holds W sub whole m hand → After W sub whole new next
 
--- what the numbers in the strategies of a run stand for
-abbrev pub world_of : (List ℕ → List Tree → Option Tree) → List Resolved → List Signature → World
-world_of meaning definitions primitives =
-    record { bodies = definitions; primitives = primitives; meaning = meaning }
+-- what the numbers in the strategies of a run stand for, and the room
+abbrev pub world_of : (List ℕ → List Tree → Option Tree) → List Resolved → List Signature → ℕ → World
+world_of meaning definitions primitives room =
+    record { bodies = definitions; primitives = primitives; meaning = meaning; room = room }
 
 -- ---- termination
 

@@ -1,6 +1,7 @@
 //! How a strategy starts.
 
-ghost use Rattle.std.specs.Prelude.{◌≡◌, ◌<◌, length, IfOk};
+ghost use Rattle.std.specs.Prelude.{◌≡◌, ◌<◌, ◌≤◌, length, IfOk};
+ghost use Rattle.term_core.specs.declared.TheConstants.{MAX_ROOM};
 ghost use Rattle.strategy_machine.specs.Table.{scopes as scopes_of};
 ghost use Rattle.strategy_machine.specs.Hands.{Begin};
 ghost use Rattle.strategy_machine.specs.Leading.{Has};
@@ -30,7 +31,8 @@ pub(crate) fn begin<'t, M: Meaning>(
 ) -> Result<Turned, NoMemory>
     requires there { scope < length (scopes_of m.old.scopes) }
     requires has { Has m.old.part }
-    ensures ok { IfOk result (λ next. Turn (world_of M.meaning host.now.definitions.now host.now.primitives.now)
+    requires room { host.now.room ≤ MAX_ROOM }
+    ensures ok { IfOk result (λ next. Turn (world_of M.meaning host.now.definitions.now host.now.primitives.now host.now.room)
         m.old (Begin strategy.entry scope m.old.part) m.new next) }
     ensures less { IfOk result (λ next. Falls m.old (Begin strategy.entry scope m.old.part) m.new next) }
 {
@@ -52,7 +54,8 @@ fn take<'t, M: Meaning>(
 ) -> Result<Turned, NoMemory>
     requires there { scope < length (scopes_of m.old.scopes) }
     requires has { Has m.old.part }
-    ensures ok { IfOk result (λ next. Takes (world_of M.meaning host.now.definitions.now host.now.primitives.now)
+    requires room { host.now.room ≤ MAX_ROOM }
+    ensures ok { IfOk result (λ next. Takes (world_of M.meaning host.now.definitions.now host.now.primitives.now host.now.room)
         m.old strategy.entry.now scope m.old.part m.new next) }
     ensures less { IfOk result (λ next. TakeFalls m.old m.new next) }
 {
@@ -60,11 +63,11 @@ fn take<'t, M: Meaning>(
         Form::Id => Ok(m.gives()),
         Form::Fail => Ok(m.fails()),
         Form::Match(pattern) => take_match(alloc, m, pattern, scope),
-        Form::Build(pattern) => take_build(alloc, m, pattern, scope),
+        Form::Build(pattern) => take_build(alloc, host.room, m, pattern, scope),
         Form::Seq(parts) => take_seq(alloc, m, &parts.0, &parts.1, scope),
         Form::Guard(parts) => take_guard(alloc, host, m, &parts.0, &parts.1, &parts.2, scope),
         Form::Test(inner) => take_test(m, inner, scope),
-        Form::Scope(count, inner) => take_scope(alloc, m, *count, inner, scope),
+        Form::Scope(count, inner) => take_scope(alloc, host.room, m, *count, inner, scope),
         Form::Param(name) => Ok(take_param(m, *name, scope)),
         Form::Call(definition, strategies, patterns) => {
             take_call(alloc, host, m, *definition, strategies, patterns, scope)

@@ -1,8 +1,10 @@
 //! Calls of definitions and primitives, and the other forms that open scopes.
 
-ghost use Rattle.std.specs.Prelude.{◌≡◌, ◌<◌, ◌++◌, map, replicate, length, Some, None, IfOk};
+ghost use Rattle.std.specs.Prelude.{◌≡◌, ◌<◌, ◌≤◌, ◌++◌, map, replicate, length, Some, None, IfOk};
+ghost use Rattle.term_core.specs.declared.TheConstants.{MAX_ROOM};
 ghost use Rattle.strategy_syntax.specs.Resolved.{scope as scope_form, rec, param, call, prim, resolveds_of, places_of};
 ghost use Rattle.strategy_machine.specs.Table.{scopes as scopes_of};
+ghost use Rattle.strategy_meaning.specs.Laws.{in_room};
 ghost use Rattle.strategy_meaning.specs.Meaning.{World, primitive_answer};
 ghost use Rattle.strategy_machine.specs.Turns.{world_of};
 ghost use Rattle.strategy_machine.specs.inside.Taking.{Takes, TakeFalls};
@@ -25,19 +27,21 @@ use term_values::Value;
 /// A strategy with `count` new variables. A rule is done at once.
 pub(crate) fn take_scope<'t>(
     alloc: Global,
+    room: u32,
     m: &mut Machine<'t>,
     count: usize,
     strategy: &'t ResolvedStrategy,
     scope: usize,
 ) -> Result<Turned, NoMemory>
-    requires { scope < length (scopes_of m.old.scopes) }
-    ensures ok { (W : World) → IfOk result (λ next. Takes W m.old (scope_form count strategy.entry.now) scope m.old.part m.new next) }
+    requires there { scope < length (scopes_of m.old.scopes) }
+    requires room { room ≤ MAX_ROOM }
+    ensures ok { (W : World) → IfOk result (λ next. Takes (in_room room W) m.old (scope_form count strategy.entry.now) scope m.old.part m.new next) }
     ensures less { IfOk result (λ next. TakeFalls m.old m.new next) }
 {
     if let Form::Seq(parts) = strategy.form() {
         if let Form::Match(left) = parts.0.form() {
             if let Form::Build(right) = parts.1.form() {
-                return take_rule(alloc, m, count, left, right, scope);
+                return take_rule(alloc, room, m, count, left, right, scope);
             }
         }
     }
@@ -94,8 +98,9 @@ pub(crate) fn take_call<'t, M: Meaning>(
     patterns: &'t [Place],
     scope: usize,
 ) -> Result<Turned, NoMemory>
-    requires { scope < length (scopes_of m.old.scopes) }
-    ensures ok { IfOk result (λ next. Takes (world_of M.meaning host.now.definitions.now host.now.primitives.now) m.old
+    requires there { scope < length (scopes_of m.old.scopes) }
+    requires room { host.now.room ≤ MAX_ROOM }
+    ensures ok { IfOk result (λ next. Takes (world_of M.meaning host.now.definitions.now host.now.primitives.now host.now.room) m.old
         (call definition (resolveds_of strategies.entry.now) (places_of patterns.entry.now)) scope m.old.part m.new next) }
     ensures less { IfOk result (λ next. TakeFalls m.old m.new next) }
 {
@@ -108,6 +113,7 @@ pub(crate) fn take_call<'t, M: Meaning>(
         &m.scopes,
         scope,
         m.level,
+        host.room,
         patterns,
         &mut m.arguments,
     )?;
@@ -156,7 +162,8 @@ pub(crate) fn take_prim<'t, M: Meaning>(
     patterns: &'t [Place],
     scope: usize,
 ) -> Result<Turned, NoMemory>
-    ensures ok { IfOk result (λ next. Takes (world_of M.meaning host.now.definitions.now host.now.primitives.now) m.old
+    requires { host.now.room ≤ MAX_ROOM }
+    ensures ok { IfOk result (λ next. Takes (world_of M.meaning host.now.definitions.now host.now.primitives.now host.now.room) m.old
         (prim primitive (places_of patterns.entry.now)) scope m.old.part m.new next) }
     ensures less { IfOk result (λ next. TakeFalls m.old m.new next) }
 {
@@ -166,6 +173,7 @@ pub(crate) fn take_prim<'t, M: Meaning>(
         &m.scopes,
         scope,
         m.level,
+        host.room,
         patterns,
         &mut m.arguments,
     )?;
@@ -178,7 +186,7 @@ pub(crate) fn take_prim<'t, M: Meaning>(
                 return Ok(m.fails());
             };
             let mut value = Value::from_term(alloc, &term)?;
-            if !value.fits(m.level) {
+            if !value.fits(m.level, host.room) {
                 return Ok(Turned::Big);
             }
             replace(alloc, m, value)?;
@@ -196,7 +204,7 @@ fn answer_of<M: Meaning>(
     terms: &[Term],
 ) -> Result<Option<Term>, NoMemory>
     ensures { IfOk result (λ found. found
-        ≡ primitive_answer (world_of M.meaning host.now.definitions.now host.now.primitives.now) primitive terms.now) }
+        ≡ primitive_answer (world_of M.meaning host.now.definitions.now host.now.primitives.now host.now.room) primitive terms.now) }
 {
     let Some(arity) = host.primitives.arity(primitive) else {
         return Ok(None);

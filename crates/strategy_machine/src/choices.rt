@@ -1,7 +1,9 @@
 //! Choices whose first branch is a match followed by a build, or a rule.
 
-ghost use Rattle.std.specs.Prelude.{◌≡◌, List, length, IfOk, IfSome};
+ghost use Rattle.std.specs.Prelude.{◌≡◌, ◌≤◌, List, length, IfOk, IfSome};
+ghost use Rattle.term_core.specs.declared.TheConstants.{MAX_ROOM};
 ghost use Rattle.strategy_syntax.specs.Resolved.{ResolvedStrategy as Resolving, matches, builds, seq, guard, scope as scope_form};
+ghost use Rattle.strategy_meaning.specs.Laws.{in_room};
 ghost use Rattle.strategy_meaning.specs.Meaning.{World};
 ghost use Rattle.strategy_meaning.specs.Scopes.{Scope};
 ghost use Rattle.strategy_machine.specs.Table.{scopes as scopes_of, IsThere};
@@ -23,6 +25,7 @@ use term_match::Built;
 #[inline(never)]
 pub(crate) fn rewrite_or<'t>(
     alloc: Global,
+    room: u32,
     m: &mut Machine<'t>,
     left: &'t Place,
     right: &'t Place,
@@ -30,7 +33,8 @@ pub(crate) fn rewrite_or<'t>(
     other: &'t ResolvedStrategy,
     scope: usize,
 ) -> Result<Turned, NoMemory>
-    ensures ok { (W : World) → IfOk result (λ next. Takes W m.old
+    requires { room ≤ MAX_ROOM }
+    ensures ok { (W : World) → IfOk result (λ next. Takes (in_room room W) m.old
         (guard (seq (matches left.entry.now) (builds right.entry.now)) second.entry.now other.entry.now) scope m.old.part m.new next) }
     ensures less { IfOk result (λ next. TakeFalls m.old m.new next) }
 {
@@ -58,7 +62,7 @@ pub(crate) fn rewrite_or<'t>(
         return Ok(Turned::Spent);
     }
     m.steps -= 1;
-    match m.cells.build(alloc, &places, right, m.level)? {
+    match m.cells.build(alloc, &places, right, m.level, room)? {
         Built::Nothing => {
             m.cells.back_to(mark);
             Ok(m.goes_on(other, scope))
@@ -143,15 +147,17 @@ fn rule_in<'t>(strategy: &'t ResolvedStrategy, outer: Option<usize>, price: u64)
 #[inline(never)]
 pub(crate) fn rule_or<'t>(
     alloc: Global,
+    room: u32,
     m: &mut Machine<'t>,
     rule: Rule<'t>,
     second: &'t ResolvedStrategy,
     other: &'t ResolvedStrategy,
     scope: usize,
 ) -> Result<Turned, NoMemory>
-    requires { IsThere (length (scopes_of m.old.scopes)) rule.outer }
+    requires room { room ≤ MAX_ROOM }
+    requires there { IsThere (length (scopes_of m.old.scopes)) rule.outer }
     ensures ok { (W : World) (s : Resolving) → IsRule W.bodies (scopes_of m.old.scopes) s scope rule.entry
-        → IfOk result (λ next. Takes W m.old (guard s second.entry.now other.entry.now) scope m.old.part m.new next) }
+        → IfOk result (λ next. Takes (in_room room W) m.old (guard s second.entry.now other.entry.now) scope m.old.part m.new next) }
     ensures less { IfOk result (λ next. TakeFalls m.old m.new next) }
 {
     if m.steps < rule.price {
@@ -188,7 +194,7 @@ pub(crate) fn rule_or<'t>(
         return Ok(Turned::Spent);
     }
     m.steps -= 1;
-    let built = m.cells.build(alloc, &places, rule.right, m.level)?;
+    let built = m.cells.build(alloc, &places, rule.right, m.level, room)?;
     m.scopes.cut(scopes);
     match built {
         Built::Nothing => {

@@ -1,7 +1,9 @@
 //! Matching, building, sequences, choices and tests.
 
-ghost use Rattle.std.specs.Prelude.{◌<◌, length, IfOk, OnOk};
+ghost use Rattle.std.specs.Prelude.{◌<◌, ◌≤◌, length, IfOk, OnOk};
+ghost use Rattle.term_core.specs.declared.TheConstants.{MAX_ROOM};
 ghost use Rattle.strategy_syntax.specs.Resolved.{matches, builds, param, seq, guard, test, all};
+ghost use Rattle.strategy_meaning.specs.Laws.{in_room};
 ghost use Rattle.strategy_meaning.specs.Meaning.{World};
 ghost use Rattle.strategy_machine.specs.Table.{scopes as scopes_of};
 ghost use Rattle.strategy_machine.specs.Turns.{world_of};
@@ -48,18 +50,20 @@ pub(crate) fn take_match<'t>(
 #[inline(always)]
 pub(crate) fn take_build<'t>(
     alloc: Global,
+    room: u32,
     m: &mut Machine<'t>,
     pattern: &'t Place,
     scope: usize,
 ) -> Result<Turned, NoMemory>
-    ensures ok { (W : World) → IfOk result (λ next. Takes W m.old (builds pattern.entry.now) scope m.old.part m.new next) }
+    requires { room ≤ MAX_ROOM }
+    ensures ok { (W : World) → IfOk result (λ next. Takes (in_room room W) m.old (builds pattern.entry.now) scope m.old.part m.new next) }
     ensures less { IfOk result (λ next. TakeFalls m.old m.new next) }
 {
     let places = InTable {
         scopes: &m.scopes,
         scope,
     };
-    match m.cells.build(alloc, &places, pattern, m.level)? {
+    match m.cells.build(alloc, &places, pattern, m.level, room)? {
         Built::Nothing => Ok(m.fails()),
         Built::Big => Ok(Turned::Big),
         Built::Value(value) => {
@@ -219,20 +223,21 @@ pub(crate) fn take_guard<'t, M: Meaning>(
     other: &'t ResolvedStrategy,
     scope: usize,
 ) -> Result<Turned, NoMemory>
-    requires { scope < length (scopes_of m.old.scopes) }
-    ensures ok { IfOk result (λ next. Takes (world_of M.meaning host.now.definitions.now host.now.primitives.now)
+    requires there { scope < length (scopes_of m.old.scopes) }
+    requires room { host.now.room ≤ MAX_ROOM }
+    ensures ok { IfOk result (λ next. Takes (world_of M.meaning host.now.definitions.now host.now.primitives.now host.now.room)
         m.old (guard first.entry.now second.entry.now other.entry.now) scope m.old.part m.new next) }
     ensures less { IfOk result (λ next. TakeFalls m.old m.new next) }
 {
     if let Form::Seq(parts) = first.form() {
         if let Form::Match(left) = parts.0.form() {
             if let Form::Build(right) = parts.1.form() {
-                return rewrite_or(alloc, m, left, right, second, other, scope);
+                return rewrite_or(alloc, host.room, m, left, right, second, other, scope);
             }
         }
     }
     if let Some(rule) = rule_of(host.definitions, first, scope) {
-        return rule_or(alloc, m, rule, second, other, scope);
+        return rule_or(alloc, host.room, m, rule, second, other, scope);
     }
     let ahead = left_by_failure(
         host.definitions,

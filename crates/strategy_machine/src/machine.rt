@@ -21,11 +21,13 @@ use term_core::Term;
 use term_match::{Cells, Places};
 use term_values::{Part, Value};
 
-/// What the numbers of definitions and primitives stand for.
+/// What the numbers of definitions and primitives stand for, and the room for a built term: the
+/// greatest size that fits.
 #[derive(Drop)]
 pub struct Host<'t, M: Meaning> {
     pub definitions: &'t [Resolved],
     pub primitives: &'t Primitives<M>,
+    pub room: u32,
 }
 
 /// The focus and what to do next with it; the frames; what variables and names stand for; the

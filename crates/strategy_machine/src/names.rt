@@ -49,8 +49,8 @@ pub(crate) fn start_of<'t, M: Meaning>(
 ) -> Option<Charged<'t>>
     requires { scope < length (scopes_of scopes.now) }
     ensures { MatchOption result
-        (IsSpent (world_of M.meaning host.now.definitions.now host.now.primitives.now) (scopes_of scopes.now) strategy.entry.now scope steps)
-        (λ s. ComesTo (world_of M.meaning host.now.definitions.now host.now.primitives.now) (scopes_of scopes.now) strategy.entry.now scope steps s.strategy.now s.scope s.left) }
+        (IsSpent (world_of M.meaning host.now.definitions.now host.now.primitives.now host.now.room) (scopes_of scopes.now) strategy.entry.now scope steps)
+        (λ s. ComesTo (world_of M.meaning host.now.definitions.now host.now.primitives.now host.now.room) (scopes_of scopes.now) strategy.entry.now scope steps s.strategy.now s.scope s.left) }
 {
     let mut strategy = strategy;
     let mut scope = scope;
@@ -81,7 +81,7 @@ fn known_as<'t, M: Meaning>(
     scope: usize,
 ) -> Option<Closure<'t>>
     requires { scope < length (scopes_of scopes.now) }
-    ensures { IfSome result (λ k. Runs (world_of M.meaning host.now.definitions.now host.now.primitives.now) (scopes_of scopes.now)
+    ensures { IfSome result (λ k. Runs (world_of M.meaning host.now.definitions.now host.now.primitives.now host.now.room) (scopes_of scopes.now)
         strategy.entry.now scope k.strategy.now k.written_in) }
 {
     match strategy.form() {
@@ -104,7 +104,7 @@ fn ready_body<'t, M: Meaning>(
     scope: usize,
 ) -> Option<Closure<'t>>
     requires { scope < length (scopes_of scopes.now) }
-    ensures { IfSome result (λ k. Runs (world_of M.meaning host.now.definitions.now host.now.primitives.now) (scopes_of scopes.now)
+    ensures { IfSome result (λ k. Runs (world_of M.meaning host.now.definitions.now host.now.primitives.now host.now.room) (scopes_of scopes.now)
         (call definition (resolveds_of strategies.now) (places_of patterns.now)) scope k.strategy.now k.written_in) }
 {
     if patterns.len() != 0 {

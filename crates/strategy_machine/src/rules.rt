@@ -1,6 +1,8 @@
 //! Rules: a match followed by a build, with variables of their own that end with the rule.
 
-ghost use Rattle.std.specs.Prelude.{◌<◌, length, IfOk};
+ghost use Rattle.std.specs.Prelude.{◌<◌, ◌≤◌, length, IfOk};
+ghost use Rattle.term_core.specs.declared.TheConstants.{MAX_ROOM};
+ghost use Rattle.strategy_meaning.specs.Laws.{in_room};
 ghost use Rattle.strategy_meaning.specs.Meaning.{World};
 ghost use Rattle.strategy_machine.specs.Table.{scopes as scopes_of};
 ghost use Rattle.strategy_syntax.specs.Resolved.{scope as scope_form, seq, matches, builds};
@@ -18,14 +20,16 @@ use term_match::Built;
 #[inline(never)]
 pub(crate) fn take_rule<'t>(
     alloc: Global,
+    room: u32,
     m: &mut Machine<'t>,
     count: usize,
     left: &'t Place,
     right: &'t Place,
     scope: usize,
 ) -> Result<Turned, NoMemory>
-    requires { scope < length (scopes_of m.old.scopes) }
-    ensures ok { (W : World) → IfOk result (λ next. Takes W m.old (scope_form count (seq (matches left.entry.now) (builds right.entry.now))) scope m.old.part m.new next) }
+    requires room { room ≤ MAX_ROOM }
+    requires there { scope < length (scopes_of m.old.scopes) }
+    ensures ok { (W : World) → IfOk result (λ next. Takes (in_room room W) m.old (scope_form count (seq (matches left.entry.now) (builds right.entry.now))) scope m.old.part m.new next) }
     ensures less { IfOk result (λ next. TakeFalls m.old m.new next) }
 {
     if m.steps < 2 {
@@ -56,7 +60,7 @@ pub(crate) fn take_rule<'t>(
         return Ok(Turned::Spent);
     }
     m.steps -= 1;
-    let built = m.cells.build(alloc, &places, right, m.level)?;
+    let built = m.cells.build(alloc, &places, right, m.level, room)?;
     m.cells.close_to(first);
     m.scopes.cut(scopes);
     match built {

@@ -1,8 +1,9 @@
 //! Calls of the shape `try(s)` with `try(s) = s <+ id`: the choice starts at once, with the
 //! strategy itself in place of its name.
 
-ghost use Rattle.std.specs.Prelude.{◌≡◌, ◌<◌, ℕ, List, length, IfOk, IfSome};
+ghost use Rattle.std.specs.Prelude.{◌≡◌, ◌<◌, ◌≤◌, ℕ, List, length, IfOk, IfSome};
 ghost use Rattle.std.specs.Bool.{OnTrue};
+ghost use Rattle.term_core.specs.declared.TheConstants.{MAX_ROOM};
 ghost use Rattle.strategy_syntax.specs.Resolved.{Place, ResolvedStrategy, id, param, call, resolveds_of, places_of};
 ghost use Rattle.strategy_machine.specs.inside.Tries.{IsTry, IsItself};
 ghost use Rattle.strategy_machine.specs.Table.{scopes as scopes_of};
@@ -97,9 +98,10 @@ pub(crate) fn take_try<'t, M: Meaning>(
     t: Try<'t>,
     scope: usize,
 ) -> Result<Turned, NoMemory>
-    requires { scope < length (scopes_of m.old.scopes) }
+    requires there { scope < length (scopes_of m.old.scopes) }
+    requires room { host.now.room ≤ MAX_ROOM }
     ensures ok { IfOk result (λ next. (f : ℕ) (ss : List ResolvedStrategy) (ps : List Place) → IsTry host.now.definitions.now f ss ps t.entry
-        → Takes (world_of M.meaning host.now.definitions.now host.now.primitives.now) m.old (call f (resolveds_of ss) (places_of ps)) scope m.old.part m.new next) }
+        → Takes (world_of M.meaning host.now.definitions.now host.now.primitives.now host.now.room) m.old (call f (resolveds_of ss) (places_of ps)) scope m.old.part m.new next) }
     ensures less { IfOk result (λ next. TakeFalls m.old m.new next) }
 {
     if m.steps < 2 {

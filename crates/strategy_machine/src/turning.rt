@@ -1,6 +1,7 @@
 //! One turn of the machine.
 
-ghost use Rattle.std.specs.Prelude.{IfOk};
+ghost use Rattle.std.specs.Prelude.{◌≤◌, IfOk};
+ghost use Rattle.term_core.specs.declared.TheConstants.{MAX_ROOM};
 ghost use Rattle.strategy_meaning.specs.Answer.{Answer};
 ghost use Rattle.strategy_meaning.specs.Meaning.{World};
 ghost use Rattle.term_changes.specs.Standing.{Standing};
@@ -25,8 +26,9 @@ pub fn turn<'t, M: Meaning>(
     host: &Host<'t, M>,
     m: &mut Machine<'t>,
 ) -> Result<Turned, NoMemory>
-    requires { (W : World) × (sub : Standing) × (whole : Answer) × Holds W sub whole m.old (in_hand m.old) }
-    ensures ok { IfOk result (λ next. Turn (world_of M.meaning host.now.definitions.now host.now.primitives.now) m.old (in_hand m.old) m.new next) }
+    requires room { host.now.room ≤ MAX_ROOM }
+    requires holds { (W : World) × (sub : Standing) × (whole : Answer) × Holds W sub whole m.old (in_hand m.old) }
+    ensures ok { IfOk result (λ next. Turn (world_of M.meaning host.now.definitions.now host.now.primitives.now host.now.room) m.old (in_hand m.old) m.new next) }
     ensures less { IfOk result (λ next. Falls m.old (in_hand m.old) m.new next) }
 {
     match m.next {

@@ -10,11 +10,11 @@ use Rattle.term_paths.proofs.PathLemmas.{at-child, at-no_child, set_at-child}
 use Rattle.term_paths.proofs.EditLemmas.{edits_of_a_subterm}
 use Rattle.strategy_syntax.specs.declared.resolved.Resolved.{Resolved}
 use Rattle.strategy_meaning.specs.Matching.{Bindings}
-use Rattle.strategy_meaning.specs.Answer.{Answer, done, failed, stopped, spent, IfDone}
+use Rattle.strategy_meaning.specs.Answer.{Answer, done, failed, stopped, spent, big, IfDone}
 use Rattle.strategy_meaning.specs.Meaning.{World, run_whole}
 use Rattle.strategy_meaning.specs.Applied.{Outcome, gives, fails, stops, IfGiven, placed, applied}
-use Rattle.strategy_meaning.specs.Laws.{later, MoreStepsApplyTheSame, AppliedKeepsHeights, AppliedEditsReplace, NoEditsNoChange}
-use Rattle.strategy_meaning.proofs.StepLemmas.{more_steps_give_the_same}
+use Rattle.strategy_meaning.specs.Laws.{later, in_room, MoreStepsApplyTheSame, MoreRoomAppliesTheSame, AppliedKeepsHeights, AppliedEditsReplace, NoEditsNoChange}
+use Rattle.strategy_meaning.proofs.StepLemmas.{more_steps_give_the_same, more_room_gives_the_same}
 use Rattle.strategy_meaning.proofs.HeightLemmas.{heights_are_kept, below-kept}
 use Rattle.strategy_meaning.proofs.EditLemmas.{edits_replace}
 
@@ -33,6 +33,16 @@ more_steps_apply_the_same W p r b t k =
       | Some u ↦ λ n.
           ap (placed t p) (more_steps_give_the_same W _ (length p) r.strategy b _ u k (λ is. n (ap (placed t p) is)))
           ∙ placed-later t p (run_whole W (length p) r b u) k
+    ]
+
+-- ---- room
+
+pub more_room_applies_the_same : MoreRoomAppliesTheSame
+more_room_applies_the_same W p r b t k =
+    elim (at t p) as (λ o. option_map_or (λ u. placed t p (run_whole W (length p) r b u)) o fails ≢ stops big
+    → option_map_or (λ u. placed t p (run_whole (in_room (W.room + k) W) (length p) r b u)) o fails ≡ option_map_or (λ u. placed t p (run_whole W (length p) r b u)) o fails) [
+      | None ↦ λ n. refl
+      | Some u ↦ λ n. ap (placed t p) (more_room_gives_the_same W _ (length p) r.strategy b _ u k (λ is. n (ap (placed t p) is)))
     ]
 
 -- ---- heights

@@ -2,6 +2,7 @@
 use Rattle.std.specs.Prelude.{◌≡◌, refl, ℕ, zero, suc, [], ◌∷◌, replicate}
 use Rattle.term_core.specs.Tree.{Tree}
 use Rattle.strategy_meaning.proofs.RowTerms.{edit, A, G, pattern, body}
+use Rattle.term_core.specs.declared.TheConstants.{MAX_SIZE}
 use Rattle.prim_core.specs.StandardTable.{standard_signatures}
 use Rattle.prim_core.specs.Standard.{standard}
 use Rattle.strategy_syntax.specs.Resolved.{ResolvedStrategy, id, fail, builds}
@@ -13,7 +14,7 @@ abbrev to_GA : ResolvedStrategy
 to_GA = builds (pattern 71 (pattern 65 [] ∷ []))
 
 abbrev no_program : World
-no_program = record { bodies = []; primitives = standard_signatures; meaning = standard }
+no_program = record { bodies = []; primitives = standard_signatures; meaning = standard; room = MAX_SIZE }
 
 in_its_place : applied no_program (0 ∷ []) (body to_GA) 9 (G A) ≡ gives (G (G A)) (edit (0 ∷ []) (G A) ∷ [])
 in_its_place = refl

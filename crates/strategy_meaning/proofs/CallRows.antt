@@ -1,6 +1,7 @@
 -- Calls, scopes and `rec`, computed on worked rows.
 use Rattle.std.specs.Prelude.{◌≡◌, refl, ℕ, [], ◌∷◌, Some}
 use Rattle.term_core.specs.Tree.{Tree}
+use Rattle.term_core.specs.declared.TheConstants.{MAX_SIZE}
 use Rattle.prim_core.specs.StandardTable.{standard_signatures}
 use Rattle.prim_core.specs.Standard.{standard}
 use Rattle.strategy_syntax.specs.Resolved.{variable, places_of, ResolvedStrategy, id, fail, matches, builds, seq, guard, scope, param, call, rec, prim, test, resolveds_of}
@@ -17,6 +18,7 @@ definitions = record {
       ∷ (body (or_else (param 0) id) ∷ [])));
   primitives = standard_signatures;
   meaning = standard;
+  room = MAX_SIZE;
 }
 
 abbrev answer : ℕ → ResolvedStrategy → ℕ → Tree → Answer

@@ -16,7 +16,7 @@ use Rattle.strategy_meaning.specs.Meaning.{World, primitive_answer, Evaluation, 
 pub record Composes (K : ℕ → Tree → Tree → Edits → Type 0) : Type 0 where
   pub left : (l : ℕ) (t : Tree) → K l t t []
   pub after : (l : ℕ) (t u v : Tree) (e f : Edits) → K l t u e → K l u v f → K l t v (e ++ f)
-  pub built : (l : ℕ) (t u : Tree) → fits l u ≡ true → K l t u (at_root u)
+  pub built : (room l : ℕ) (t u : Tree) → fits room l u ≡ true → K l t u (at_root u)
   pub below : (l : ℕ) (t u v : Tree) (i : ℕ) (e : Edits) → slice_get (children t) i ≡ Some u
       → K (l + 1) u v e → K l t (with_child t i v) (prefixed (i ∷ []) e)
   pub rest : (l : ℕ) (t u : Tree) (n : ℕ) (us : List Tree) (e : Edits) → K l (rest_of n t) u e
@@ -96,17 +96,17 @@ module _ (K : ℕ → Tree → Tree → Edits → Type 0) (k : Composes K) where
   if-gives l t true a b h = h
   if-gives l t false a b h = tt
 
-  built-gives : (l : ℕ) (t : Tree) (o : Option Tree) (c : ℕ) (go : Tree → Answer) → ((u : Tree) → fits l u ≡ true → Gives l t (go u)) → Gives l t (built o l c go)
-  built-gives l t o c go h = some-gives l t o c _ (λ u is. by u (fits l u) (h u)) where
+  built-gives : (room l : ℕ) (t : Tree) (o : Option Tree) (c : ℕ) (go : Tree → Answer) → ((u : Tree) → fits room l u ≡ true → Gives l t (go u)) → Gives l t (built room o l c go)
+  built-gives room l t o c go h = some-gives l t o c _ (λ u is. by u (fits room l u) (h u)) where
     by : (u : Tree) (v : Bool) → (v ≡ true → Gives l t (go u)) → Gives l t (cond v (go u) (stopped big))
     by u true g = g refl
     by u false g = tt
 
-  built_all-gives : (l : ℕ) (t : Tree) (ps : Places) (E : List ℕ) (B : Bindings) (c : ℕ) (go : List Tree → Answer)
-      → ((us : List Tree) → Gives l t (go us)) → Gives l t (built_all ps E B l c go)
-  built_all-gives l t no_places E B c go h = h []
-  built_all-gives l t (and_place p ps) E B c go h =
-      built-gives l t (build_place p E B) c _ (λ u fit. built_all-gives l t ps E B c _ (λ us. h (u ∷ us)))
+  built_all-gives : (room l : ℕ) (t : Tree) (ps : Places) (E : List ℕ) (B : Bindings) (c : ℕ) (go : List Tree → Answer)
+      → ((us : List Tree) → Gives l t (go us)) → Gives l t (built_all room ps E B l c go)
+  built_all-gives room l t no_places E B c go h = h []
+  built_all-gives room l t (and_place p ps) E B c go h =
+      built-gives room l t (build_place p E B) c _ (λ u fit. built_all-gives room l t ps E B c _ (λ us. h (u ∷ us)))
 
   opened-gives : (part : Evaluation) (E : Scope) (new : Bindings) (l : ℕ) (x : ResolvedStrategy) → PartGives part → ActGives l (opened part E new l x)
   opened-gives part E new l x h c B t =
@@ -118,7 +118,7 @@ module _ (K : ℕ → Tree → Tree → Edits → Type 0) (k : Composes K) where
   form-gives W part h E l (matches p) c B t =
       some-gives l t (match_place p t (cells_in E) B) c _ (λ B1 is. k.left l t)
   form-gives W part h E l (builds p) c B t =
-      built-gives l t (build_place p (cells_in E) B) c _ (λ u fit. k.built l t u fit)
+      built-gives W.room l t (build_place p (cells_in E) B) c _ (λ u fit. k.built W.room l t u fit)
   form-gives W part h E l (seq s1 s2) c B t = and_then-gives l t _ _ (h E l s1 c B t) (h E l s2)
   form-gives W part h E l (guard s1 s2 s3) c B t =
       either-gives (K l t) l t (part E l s1 c B t) _ _ (h E l s1 c B t)
@@ -130,7 +130,7 @@ module _ (K : ℕ → Tree → Tree → Edits → Type 0) (k : Composes K) where
   form-gives W part h E l (param x) c B t =
       some-gives l t (stands_for E x) c _ (λ z is. h z.written_in l z.strategy c B t)
   form-gives W part h E l (call f ss ps) c B t =
-      built_all-gives l t ps (cells_in E) B c _ (λ us. some-gives l t (slice_get W.bodies f) c _
+      built_all-gives W.room l t ps (cells_in E) B c _ (λ us. some-gives l t (slice_get W.bodies f) c _
       (λ d is. opened-gives part _ (map Some us ++ replicate d.variables None) l d.strategy h c B t))
   form-gives W part h E l (congruence x ss) c B t =
       if-gives l t (is_over x (length (resolved_list ss)) t) _ c (each-gives _ (resolved_list ss) 0 l (h E (l + 1)) c B t)
@@ -145,8 +145,8 @@ module _ (K : ℕ → Tree → Tree → Edits → Type 0) (k : Composes K) where
   form-gives W part h E l (child n s1) c B t = number-gives _ n l (h E (l + 1) s1) c B t
   form-gives W part h E l (rec s1) c B t = h (with_name E (rec s1) E) l s1 c B t
   form-gives W part h E l (prim n ps) c B t =
-      built_all-gives l t ps (cells_in E) B c _
-      (λ us. built-gives l t (primitive_answer W n us) c _ (λ u fit. k.built l t u fit))
+      built_all-gives W.room l t ps (cells_in E) B c _
+      (λ us. built-gives W.room l t (primitive_answer W n us) c _ (λ u fit. k.built W.room l t u fit))
 
   pub bounded-gives : (W : World) (n : ℕ) → PartGives (run_bounded W n)
   bounded-gives W zero E l s b B t = tt

@@ -13,7 +13,7 @@ replaced : Composes Replaced
 replaced = record {
   left = λ l t. refl;
   after = λ l t u v e f h g. edits_after_edits e f t u v h g;
-  built = λ l t u fit. (refl, refl);
+  built = λ room l t u fit. (refl, refl);
   below = λ l t u v i e is h. replaces-child e i t u v is h;
   rest = λ l t u n us e h is. (refl, refl);
 }

@@ -3,7 +3,7 @@ use Rattle.std.proofs.Common.{◌≡◌, ℕ, ◌+◌, ◌≤◌, ◌<◌, zero,
 use Rattle.std.proofs.lemmas.Bool.{leb-true}
 use Rattle.term_core.specs.Tree.{application, list, tuple, Tree, integer, branch, to_list, of_list, children, with_children, with_child}
 use Rattle.term_core.specs.Size.{height, heights, size}
-use Rattle.term_core.specs.declared.TheConstants.{MAX_HEIGHT, MAX_SIZE}
+use Rattle.term_core.specs.declared.TheConstants.{MAX_HEIGHT}
 use Rattle.term_core.proofs.TreeLemmas.{of_list-to_list}
 use Rattle.strategy_meaning.specs.Matching.{elements}
 use Rattle.term_paths.specs.Edits.{Edits}
@@ -86,7 +86,7 @@ kept : Composes Kept
 kept = record {
   left = λ l t low. low;
   after = λ l t u v e f h g low. g (h low);
-  built = λ l t u fit low. leb-true (l + height u) MAX_HEIGHT (and-left _ (nat_le (size u) MAX_SIZE) fit);
+  built = λ room l t u fit low. leb-true (l + height u) MAX_HEIGHT (and-left _ (nat_le (size u) room) fit);
   below = λ l t u v i e is h. below-kept l t u v i is h;
   rest = λ l t u n us e h is. after-kept l t u n us h is;
 }

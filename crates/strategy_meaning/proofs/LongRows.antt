@@ -1,6 +1,7 @@
 -- The meaning of strategies, computed on rows that take many steps.
 use Rattle.std.specs.Prelude.{◌≡◌, refl, ℕ, pos, [], ◌∷◌, Some}
 use Rattle.term_core.specs.Tree.{tuple, Tree, integer_term, application_term}
+use Rattle.term_core.specs.declared.TheConstants.{MAX_SIZE}
 use Rattle.prim_core.specs.StandardTable.{standard_signatures}
 use Rattle.prim_core.specs.Standard.{standard}
 use Rattle.strategy_syntax.specs.Resolved.{Place, variable, compound, places_of, ResolvedStrategy, id, matches, builds, seq, test, scope, param, all, prim}
@@ -27,6 +28,7 @@ arith = record {
       (builds (variable 2))))) ∷ [])))));
   primitives = standard_signatures;
   meaning = standard;
+  room = MAX_SIZE;
 }
 
 abbrev number_term : ℕ → Tree

@@ -1,10 +1,12 @@
 -- The meaning of strategies, computed on worked rows.
 use Rattle.std.specs.Prelude.{◌≡◌, refl, ℕ, pos, [], ◌∷◌, Some, None, true}
 use Rattle.term_core.specs.Tree.{application, list, Tree, integer_term, list_term, with_annotations}
+use Rattle.term_core.specs.declared.TheConstants.{MAX_SIZE}
 use Rattle.prim_core.specs.StandardTable.{standard_signatures}
 use Rattle.prim_core.specs.Standard.{standard}
 use Rattle.strategy_syntax.specs.Resolved.{variable, number, compound, with_tail, annotated, places_of, ResolvedStrategy, id, fail, matches, builds, seq, guard, scope, param, call, congruence, tail_congruence, all, one, some, child, rec, prim, test, wildcard, at, resolveds_of}
 use Rattle.strategy_meaning.specs.Answer.{Answer, done, failed, stopped, spent, big}
+use Rattle.strategy_meaning.specs.Laws.{in_room}
 use Rattle.strategy_meaning.specs.Meaning.{World, run_whole}
 use Rattle.strategy_meaning.proofs.RowTerms.{edit, A, B, D, F, G, A1, both_with, both, pattern, to_A, to_B, cong, or_else, call1, call0, with_free, body}
 
@@ -17,6 +19,7 @@ library = record {
       (tail_congruence (resolveds_of (param 0 ∷ [])) (call1 2 (param 0)))) ∷ (body (builds (pattern 71 (variable 0 ∷ []))) ∷ [])));
   primitives = standard_signatures;
   meaning = standard;
+  room = MAX_SIZE;
 }
 
 -- with this many steps at the root, and this many free variables
@@ -321,12 +324,20 @@ idle = record {
   bodies = body id ∷ [];
   primitives = standard_signatures;
   meaning = λ name us. Some A;
+  room = MAX_SIZE;
 }
 
 -- an argument is tested even if nothing is built from it
 idle_argument_too_big : run_whole idle 1000 (body (call 0 (resolveds_of []) (places_of (pattern 65 [] ∷ [])))) 100 B
     ≡ stopped big
 idle_argument_too_big = refl
+
+-- `!G(A())` where there is room for one term, and where there is for two
+no_room : run_whole (in_room 1 library) 0 (body (builds (pattern 71 (pattern 65 [] ∷ [])))) 1 B ≡ stopped big
+no_room = refl
+
+room_enough : run_whole (in_room 2 library) 0 (body (builds (pattern 71 (pattern 65 [] ∷ [])))) 1 B ≡ done (G A) [] 0 (edit [] (G A) ∷ [])
+room_enough = refl
 
 -- a primitive takes exactly its number of terms
 other_number_of_terms : run_whole idle 0 (body (prim 0 (places_of (number (pos 1) ∷ [])))) 100 B ≡ failed 99

@@ -8,21 +8,28 @@ use Rattle.strategy_syntax.specs.Resolved.{Places, no_places, and_place, Resolve
 use Rattle.strategy_meaning.specs.Matching.{Bindings, match_place, build_place, elements}
 use Rattle.strategy_meaning.specs.Scopes.{Scope, cells_in, stands_for, with_variables, with_name}
 use Rattle.strategy_meaning.specs.Answer.{Answer, done, failed, stopped, spent, big, Act, either, if_done, with_edits, and_then}
+use Rattle.strategy_meaning.specs.Laws.{in_room}
 use Rattle.strategy_meaning.specs.Meaning.{World, primitive_answer, Evaluation, with_some, on_child, each, leftmost, those_done, on_child_number, is_over, is_list_from, rest_of, on_rest, built, built_all, opened, form}
 
--- The same answer, with the steps left related by S; if the first is spent, Q holds of the second.
-abbrev pub Related : (ℕ → ℕ → Type 0) → (Answer → Type 0) → Answer → Answer → Type 0
-Related S Q (done t B b e) a = (c : ℕ) × (a ≡ done t B c e) × S b c
-Related S Q (failed b) a = (c : ℕ) × (a ≡ failed c) × S b c
-Related S Q (stopped spent) a = Q a
-Related S Q (stopped big) a = a ≡ stopped big
+-- The same answer, with the steps left related by S; if the first is spent, Q holds of the second,
+-- and if it is too big, P.
+abbrev pub Related : (ℕ → ℕ → Type 0) → (Answer → Type 0) → (Answer → Type 0) → Answer → Answer → Type 0
+Related S Q P (done t B b e) a = (c : ℕ) × (a ≡ done t B c e) × S b c
+Related S Q P (failed b) a = (c : ℕ) × (a ≡ failed c) × S b c
+Related S Q P (stopped spent) a = Q a
+Related S Q P (stopped big) a = P a
 
 abbrev pub Keeps : (Answer → Type 0) → Type 0
 Keeps Q = (a : Answer) (go : Tree → Bindings → ℕ → Edits → Answer) (back : ℕ → Answer) → Q a → Q (either a go back)
 
-module _ (S : ℕ → ℕ → Type 0) (Q : Answer → Type 0) (keeps : Keeps Q) where
+-- What fits in the first room fits in the second; after a term that doesn't, P holds.
+pub record IsRoomier (P : Answer → Type 0) (room more : ℕ) : Type 0 where
+  pub fit : (l : ℕ) (u : Tree) → fits room l u ≡ true → fits more l u ≡ true
+  pub over : (l : ℕ) (u : Tree) (a : Answer) → fits room l u ≡ false → P (cond (fits more l u) a (stopped big))
+
+module _ (S : ℕ → ℕ → Type 0) (Q P : Answer → Type 0) (keeps : Keeps Q) (keeps_big : Keeps P) (room more : ℕ) (roomier : IsRoomier P room more) where
   abbrev R : Answer → Answer → Type 0
-  R a a' = Related S Q a a'
+  R a a' = Related S Q P a a'
 
   abbrev pub ActsAlike : Act → Act → Type 0
   ActsAlike f g = (b c : ℕ) (B : Bindings) (t : Tree) → S b c → R (f b B t) (g c B t)
@@ -36,7 +43,7 @@ module _ (S : ℕ → ℕ → Type 0) (Q : Answer → Type 0) (keeps : Keeps Q) 
   either-related (done t B b e) a' go go' back back' h hgo hback = rw h.1 (hgo t B b h.0 e h.2)
   either-related (failed b) a' go go' back back' h hgo hback = rw h.1 (hback b h.0 h.2)
   either-related (stopped spent) a' go go' back back' h hgo hback = keeps a' go' back' h
-  either-related (stopped big) a' go go' back back' h hgo hback = rw h refl
+  either-related (stopped big) a' go go' back back' h hgo hback = keeps_big a' go' back' h
 
   failed-related : (b c : ℕ) → S b c → R (failed b) (failed c)
   failed-related b c h = (c, refl, h)
@@ -97,14 +104,14 @@ module _ (S : ℕ → ℕ → Type 0) (Q : Answer → Type 0) (keeps : Keeps Q) 
   if-related true a a' b c h s = h
   if-related false a a' b c h s = (c, refl, s)
 
-  built-related : (o : Option Tree) (l b c : ℕ) (go go' : Tree → Answer) → S b c → ((u : Tree) → R (go u) (go' u)) → R (built o l b go) (built o l c go')
-  built-related o l b c go go' s h = some-related o b c _ _ s (λ u. by u (fits l u)) where
-    by : (u : Tree) (v : Bool) → R (cond v (go u) (stopped big)) (cond v (go' u) (stopped big))
-    by u true = h u
-    by u false = refl
+  built-related : (o : Option Tree) (l b c : ℕ) (go go' : Tree → Answer) → S b c → ((u : Tree) → R (go u) (go' u)) → R (built room o l b go) (built more o l c go')
+  built-related o l b c go go' s h = some-related o b c _ _ s (λ u. by u (fits room l u) refl) where
+    by : (u : Tree) (v : Bool) → fits room l u ≡ v → R (cond v (go u) (stopped big)) (cond (fits more l u) (go' u) (stopped big))
+    by u true is = rw (roomier.fit l u is) (h u)
+    by u false is = roomier.over l u (go' u) is
 
   built_all-related : (ps : Places) (E : List ℕ) (B : Bindings) (l b c : ℕ) (go go' : List Tree → Answer) → S b c
-      → ((us : List Tree) → R (go us) (go' us)) → R (built_all ps E B l b go) (built_all ps E B l c go')
+      → ((us : List Tree) → R (go us) (go' us)) → R (built_all room ps E B l b go) (built_all more ps E B l c go')
   built_all-related no_places E B l b c go go' s h = h []
   built_all-related (and_place p ps) E B l b c go go' s h =
       built-related (build_place p E B) l b c _ _ s (λ u. built_all-related ps E B l b c _ _ s (λ us. h (u ∷ us)))
@@ -113,7 +120,7 @@ module _ (S : ℕ → ℕ → Type 0) (Q : Answer → Type 0) (keeps : Keeps Q) 
   opened-related part other E new l x h b c B t s =
       if_done-related _ _ _ _ (h E l x b c (B ++ new) t s) (λ t1 B1 b1 c1 e s1. (c1, refl, s1))
 
-  pub form-related : (W : World) (part other : Evaluation) → Alike part other → Alike (form W part) (form W other)
+  pub form-related : (W : World) (part other : Evaluation) → Alike part other → Alike (form (in_room room W) part) (form (in_room more W) other)
   form-related W part other h E l id b c B t s = (c, refl, s)
   form-related W part other h E l fail b c B t s = (c, refl, s)
   form-related W part other h E l (matches p) b c B t s =

@@ -9,7 +9,7 @@ use Rattle.strategy_syntax.specs.declared.resolved.Resolved.{Resolved}
 use Rattle.strategy_meaning.specs.Same.{same_tree}
 use Rattle.strategy_meaning.specs.Scopes.{Scope}
 use Rattle.strategy_meaning.specs.Matching.{Bindings}
-use Rattle.strategy_meaning.specs.Answer.{Answer, done, failed, stopped, spent, IfDone}
+use Rattle.strategy_meaning.specs.Answer.{Answer, done, failed, stopped, spent, big, IfDone}
 use Rattle.strategy_meaning.specs.Meaning.{World, run, form}
 use Rattle.strategy_meaning.specs.Applied.{stops, IfGiven, applied}
 
@@ -39,6 +39,22 @@ MoreStepsGiveTheSame = (W : World) (E : Scope) (l : ℕ) (s : ResolvedStrategy) 
 abbrev pub MoreStepsApplyTheSame : Type 0
 MoreStepsApplyTheSame = (W : World) (p : List ℕ) (r : Resolved) (b : ℕ) (t : Tree) (k : ℕ)
     → applied W p r b t ≢ stops spent → applied W p r (b + k) t ≡ applied W p r b t
+
+-- ---- room
+
+-- the same with this room
+abbrev pub in_room : ℕ → World → World
+in_room room W = record W { room = room }
+
+-- A run in which every built term fits gives the same answer with more room.
+abbrev pub MoreRoomGivesTheSame : Type 0
+MoreRoomGivesTheSame = (W : World) (E : Scope) (l : ℕ) (s : ResolvedStrategy) (b : ℕ) (B : Bindings) (t : Tree) (k : ℕ)
+    → run W E l s b B t ≢ stopped big → run (in_room (W.room + k) W) E l s b B t ≡ run W E l s b B t
+
+-- The same for a strategy applied at a path.
+abbrev pub MoreRoomAppliesTheSame : Type 0
+MoreRoomAppliesTheSame = (W : World) (p : List ℕ) (r : Resolved) (b : ℕ) (t : Tree) (k : ℕ)
+    → applied W p r b t ≢ stops big → applied (in_room (W.room + k) W) p r b t ≡ applied W p r b t
 
 -- ---- heights
 

@@ -24,12 +24,14 @@ use Rattle.strategy_meaning.specs.Matching.{Bindings, match_place, build_place, 
 use Rattle.strategy_meaning.specs.Scopes.{Scope, inside, no_closures, cells_in, stands_for, with_variables, with_name, numbers_from, arguments}
 use Rattle.strategy_meaning.specs.Answer.{Answer, done, failed, stopped, spent, big, Act, either, if_done, with_edits, and_then, at_root}
 
--- What the numbers of definitions and primitives stand for: the bodies of a program, and the
--- primitives with the meaning of each name on terms.
+-- What a run rests on: what the numbers of definitions and primitives stand for, which are the
+-- bodies of a program and the primitives with the meaning of each name on terms; and the room for a
+-- built term.
 pub record World : Type 0 where
   pub bodies : List Resolved
   pub primitives : List Signature
   pub meaning : List ℕ → List Tree → Option Tree
+  pub room : ℕ  -- the greatest size that fits
 
 -- how a part is evaluated, in a scope and at a level
 abbrev pub Evaluation : Type 0
@@ -101,15 +103,15 @@ on_rest act n c B t =
 
 -- ---- what is built
 
--- continues with a built term, which has to fit
-abbrev pub built : Option Tree → ℕ → ℕ → (Tree → Answer) → Answer
-built o l c go = with_some o c (λ u. cond (fits l u) (go u) (stopped big))
+-- continues with a built term, which has to fit in the room
+abbrev pub built : ℕ → Option Tree → ℕ → ℕ → (Tree → Answer) → Answer
+built room o l c go = with_some o c (λ u. cond (fits room l u) (go u) (stopped big))
 
 -- continues with the term arguments of a call or a primitive, built one by one
-abbrev pub built_all : Places → List ℕ → Bindings → ℕ → ℕ → (List Tree → Answer) → Answer
-built_all no_places E B l c go = go []
-built_all (and_place p ps) E B l c go =
-    built (build_place p E B) l c (λ u. built_all ps E B l c (λ us. go (u ∷ us)))
+abbrev pub built_all : ℕ → Places → List ℕ → Bindings → ℕ → ℕ → (List Tree → Answer) → Answer
+built_all room no_places E B l c go = go []
+built_all room (and_place p ps) E B l c go =
+    built room (build_place p E B) l c (λ u. built_all room ps E B l c (λ us. go (u ∷ us)))
 
 -- the answer of the primitive with this number; nothing if it takes another number of terms
 abbrev pub primitive_answer : World → ℕ → List Tree → Option Tree
@@ -142,7 +144,7 @@ form W part E l fail c B t = failed c
 form W part E l (matches p) c B t =
     with_some (match_place p t (cells_in E) B) c (λ B1. done t B1 c [])
 form W part E l (builds p) c B t =
-    built (build_place p (cells_in E) B) l c (λ u. done u B c (at_root u))
+    built W.room (build_place p (cells_in E) B) l c (λ u. done u B c (at_root u))
 form W part E l (seq s1 s2) c B t = and_then (part E l s1 c B t) (part E l s2)
 form W part E l (guard s1 s2 s3) c B t =
     either (part E l s1 c B t) (λ t1 B1 b e. with_edits e (part E l s2 b B1 t1))
@@ -153,7 +155,7 @@ form W part E l (scope n s) c B t =
 form W part E l (param x) c B t =
     with_some (stands_for E x) c (λ k. part k.written_in l k.strategy c B t)
 form W part E l (call f ss ps) c B t =
-    built_all ps (cells_in E) B l c
+    built_all W.room ps (cells_in E) B l c
     (λ us. with_some (slice_get W.bodies f) c (λ d. enter part ss E us d l c B t))
 form W part E l (congruence h ss) c B t =
     cond (is_over h (length (resolved_list ss)) t)
@@ -169,8 +171,8 @@ form W part E l (some s) c B t = those_done (part E (l + 1) s) (length (children
 form W part E l (child n s) c B t = on_child_number (part E (l + 1) s) n c B t
 form W part E l (rec s) c B t = part (with_name E (rec s) E) l s c B t
 form W part E l (prim n ps) c B t =
-    built_all ps (cells_in E) B l c
-    (λ us. built (primitive_answer W n us) l c (λ u. done u B c (at_root u)))
+    built_all W.room ps (cells_in E) B l c
+    (λ us. built W.room (primitive_answer W n us) l c (λ u. done u B c (at_root u)))
 
 -- ---- the whole
 

@@ -1,6 +1,6 @@
 //! Laws of what strategies do. Each is the contract of a function that does nothing.
 
-ghost use Rattle.strategy_meaning.specs.Laws.{SameIsEqual, OneStepIsOneForm, MoreStepsGiveTheSame, MoreStepsApplyTheSame, HeightsAreKept, AppliedKeepsHeights, EditsReplace, AppliedEditsReplace, NoEditsNoChange, IdFirst, IdLast, FailFirst, ChoiceGoesOn, WhereLeaves, TraversalsKeepAnnotations};
+ghost use Rattle.strategy_meaning.specs.Laws.{SameIsEqual, OneStepIsOneForm, MoreStepsGiveTheSame, MoreStepsApplyTheSame, MoreRoomGivesTheSame, MoreRoomAppliesTheSame, HeightsAreKept, AppliedKeepsHeights, EditsReplace, AppliedEditsReplace, NoEditsNoChange, IdFirst, IdLast, FailFirst, ChoiceGoesOn, WhereLeaves, TraversalsKeepAnnotations};
 
 /// The test for equal terms is equality.
 pub fn same_is_equal()
@@ -16,6 +16,12 @@ pub fn one_step_is_one_form()
 pub fn more_steps_give_the_same()
     ensures run { MoreStepsGiveTheSame }
     ensures applied { MoreStepsApplyTheSame }
+{}
+
+/// If every built term fits, more room gives the same answer.
+pub fn more_room_gives_the_same()
+    ensures run { MoreRoomGivesTheSame }
+    ensures applied { MoreRoomAppliesTheSame }
 {}
 
 /// If a term isn't too high at its level, neither is the result.

@@ -3,6 +3,7 @@
 ghost use Rattle.std.specs.Prelude.{◌≡◌, ◌≤◌, ◌+◌, ℕ, Some, length, Decides, IfOk, IfSome, OnErr};
 ghost use Rattle.term_core.specs.Tree.{Tree};
 ghost use Rattle.term_core.specs.Size.{height};
+ghost use Rattle.term_core.specs.declared.TheConstants.{MAX_ROOM};
 ghost use Rattle.term_paths.specs.Paths.{at as found_at};
 ghost use Rattle.term_changes.specs.Slots.{Store, content};
 ghost use Rattle.term_changes.specs.Entries.{subterm_in};
@@ -49,7 +50,8 @@ pub fn is_low_enough(store: &Store, slot: usize, path: &Path) -> bool
     }
 }
 
-/// Applies a strategy to the subterm at the path of the slot's tree, in at most `steps` steps. The log
+/// Applies a strategy to the subterm at the path of the slot's tree, in at most `steps` steps. Terms
+/// that it builds have at most the size `room`. The log
 /// gets an entry for each edit, in order, so that each rewriting step can be read there. What a failed
 /// branch or a test did is no edit. The subterm has to be low enough at its level, the length of the
 /// path ([`is_low_enough`]); in a tree that fits, every subterm is.
@@ -70,14 +72,16 @@ pub fn apply<M: Meaning>(
     store: &mut Store,
     slot: usize,
     path: &Path,
+    room: u32,
     strategy: &Resolved,
     steps: u64,
     log: &mut Log,
 ) -> Result<Outcome, NoMemory>
+    requires room { room ≤ MAX_ROOM }
     requires low { IfSome (subterm_in store.old.trees slot path.now) (λ u. length path.now + height u ≤ MAX_HEIGHT) }
     ensures applies { IfOk result (λ outcome. Applies
         (λ e u. PutsAll slot e u store.old log.old store.new log.new) (Stay store.old log.old store.new log.new)
-        (applied_in (world_of M.meaning program.now.bodies primitives.now) store.old.trees slot path.now strategy.now steps) outcome) }
+        (applied_in (world_of M.meaning program.now.bodies primitives.now room) store.old.trees slot path.now strategy.now steps) outcome) }
     ensures store_err { OnErr result (store.new ≡ store.old) }
     ensures log_err { OnErr result (log.new ≡ log.old) }
 {
@@ -85,7 +89,7 @@ pub fn apply<M: Meaning>(
         return Ok(Ended::Failed);
     };
     match plan_edits(
-        alloc, program, primitives, tree, slot, path, strategy, steps,
+        alloc, program, primitives, tree, slot, path, room, strategy, steps,
     )? {
         Ended::Done(plan) => {
             put_in_place(plan, store, log)?;
@@ -106,12 +110,14 @@ fn plan_edits<M: Meaning>(
     tree: &Term,
     slot: usize,
     path: &Path,
+    room: u32,
     strategy: &Resolved,
     steps: u64,
 ) -> Result<Ended<Plan>, NoMemory>
+    requires room { room ≤ MAX_ROOM }
     requires low { IfSome (found_at tree.now path.now) (λ u. length path.now + height u ≤ MAX_HEIGHT) }
     ensures { IfOk result (λ found. (s : Store) → content s.trees slot ≡ Some tree.now → Finds s slot
-        (applied (world_of M.meaning program.now.bodies primitives.now) path.now strategy.now steps tree.now) found) }
+        (applied (world_of M.meaning program.now.bodies primitives.now room) path.now strategy.now steps tree.now) found) }
 {
     let Some(term) = at(tree, path) else {
         return Ok(Ended::Failed);
@@ -119,7 +125,7 @@ fn plan_edits<M: Meaning>(
     let trail = Trail::listed(alloc);
     let mut m = Machine::new(alloc, trail, term, path.len() as u64, steps);
     plan_edits_by(
-        alloc, program, primitives, &mut m, term, strategy, slot, path,
+        alloc, program, primitives, room, &mut m, term, strategy, slot, path,
     )
 }
 
@@ -129,21 +135,24 @@ fn plan_edits_by<'t, M: Meaning>(
     alloc: Global,
     program: &'t Program,
     primitives: &'t Primitives<M>,
+    room: u32,
     m: &mut Machine<'t>,
     term: &'t Term,
     strategy: &'t Resolved,
     slot: usize,
     path: &Path,
 ) -> Result<Ended<Plan>, NoMemory>
+    requires room { room ≤ MAX_ROOM }
     requires empty { IsEmpty m.old }
     requires level { m.old.level ≡ length path.now }
     requires low { length path.now + height term.now ≤ MAX_HEIGHT }
     ensures { IfOk result (λ found. (tree : Tree) (s : Store) → found_at tree path.now ≡ Some term.entry.now → content s.trees slot ≡ Some tree
-        → Finds s slot (applied (world_of M.meaning program.entry.now.bodies primitives.entry.now) path.now strategy.entry.now m.old.steps tree) found) }
+        → Finds s slot (applied (world_of M.meaning program.entry.now.bodies primitives.entry.now room) path.now strategy.entry.now m.old.steps tree) found) }
 {
     let host = Host {
         definitions: program.definitions(),
         primitives,
+        room,
     };
     match run_to_end(alloc, &host, m, strategy, term, &mut Unseen)? {
         Ended::Done(()) => {

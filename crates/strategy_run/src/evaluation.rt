@@ -2,6 +2,7 @@
 
 ghost use Rattle.std.specs.Prelude.{◌≡◌, ◌≤◌, ◌+◌, IfOk};
 ghost use Rattle.term_core.specs.Size.{height};
+ghost use Rattle.term_core.specs.declared.TheConstants.{MAX_ROOM};
 ghost use Rattle.strategy_meaning.specs.Meaning.{run_whole};
 ghost use Rattle.term_changes.specs.Standing.{unchanged};
 ghost use Rattle.strategy_machine.specs.Turns.{world_of};
@@ -22,8 +23,8 @@ use term_values::Part;
 pub type Evaluated = Ended<Term>;
 
 /// Evaluates a strategy on a term at a level, the number of terms above it, in at most `steps`
-/// steps. The term has to be low enough at its level: level plus height is at most 1,000. It is
-/// left unchanged.
+/// steps. Terms that it builds have at most the size `room`. The term has to be low enough at its
+/// level: level plus height is at most 1,000. It is left unchanged.
 ///
 /// Returns `Done` with the resulting term, `Failed` if the strategy fails, `Spent` if it needs more
 /// steps, or `Big` if it makes a term that doesn't fit.
@@ -37,15 +38,17 @@ pub fn evaluate<M: Meaning>(
     primitives: &Primitives<M>,
     term: &Term,
     level: u64,
+    room: u32,
     strategy: &Resolved,
     steps: u64,
 ) -> Result<Evaluated, NoMemory>
-    requires { level + height term.now ≤ MAX_HEIGHT }
+    requires room { room ≤ MAX_ROOM }
+    requires low { level + height term.now ≤ MAX_HEIGHT }
     ensures { IfOk result (λ evaluated. IsAnswered evaluated
-        (run_whole (world_of M.meaning program.now.bodies primitives.now) level strategy.now steps term.now)) }
+        (run_whole (world_of M.meaning program.now.bodies primitives.now room) level strategy.now steps term.now)) }
 {
     let mut m = Machine::new(alloc, Trail::counted(), term, level, steps);
-    evaluate_by(alloc, program, primitives, &mut m, term, strategy)
+    evaluate_by(alloc, program, primitives, room, &mut m, term, strategy)
 }
 
 // Evaluates it on a machine without frames. The machine is borrowed, since its owner drops it on
@@ -54,18 +57,21 @@ fn evaluate_by<'t, M: Meaning>(
     alloc: Global,
     program: &'t Program,
     primitives: &'t Primitives<M>,
+    room: u32,
     m: &mut Machine<'t>,
     term: &'t Term,
     strategy: &'t Resolved,
 ) -> Result<Evaluated, NoMemory>
+    requires room { room ≤ MAX_ROOM }
     requires empty { IsEmpty m.old }
     requires low { m.old.level + height term.now ≤ MAX_HEIGHT }
     ensures { IfOk result (λ evaluated. IsAnswered evaluated
-        (run_whole (world_of M.meaning program.entry.now.bodies primitives.entry.now) m.old.level strategy.entry.now m.old.steps term.entry.now)) }
+        (run_whole (world_of M.meaning program.entry.now.bodies primitives.entry.now room) m.old.level strategy.entry.now m.old.steps term.entry.now)) }
 {
     let host = Host {
         definitions: program.definitions(),
         primitives,
+        room,
     };
     match run_to_end(alloc, &host, m, strategy, term, &mut Unseen)? {
         Ended::Done(()) => Ok(Ended::Done(m.part.value()?.to_term(alloc)?)),
@@ -84,10 +90,11 @@ pub(crate) fn run_to_end<'t, M: Meaning, L: Look<'t>>(
     term: &'t Term,
     look: &mut L,
 ) -> Result<Ended<()>, NoMemory>
+    requires room { host.now.room ≤ MAX_ROOM }
     requires empty { IsEmpty m.old }
     requires low { m.old.level + height term.now ≤ MAX_HEIGHT }
     ensures { IfOk result (λ ended. Ends (unchanged term.entry.now) m.new ended
-        (run_whole (world_of M.meaning host.now.definitions.now host.now.primitives.now) m.old.level strategy.entry.now m.old.steps term.entry.now)) }
+        (run_whole (world_of M.meaning host.now.definitions.now host.now.primitives.now host.now.room) m.old.level strategy.entry.now m.old.steps term.entry.now)) }
 {
     // the strategy runs in a scope without variables and names
     m.scopes.add_variables(None, 0, 0)?;

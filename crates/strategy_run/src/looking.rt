@@ -2,6 +2,7 @@
 
 ghost use Rattle.std.specs.Prelude.{◌≤◌, ◌+◌, IfOk};
 ghost use Rattle.term_core.specs.Size.{height};
+ghost use Rattle.term_core.specs.declared.TheConstants.{MAX_ROOM};
 ghost use Rattle.strategy_meaning.specs.Meaning.{run_whole};
 ghost use Rattle.strategy_machine.specs.Turns.{world_of};
 ghost use Rattle.strategy_run.specs.Planning.{Plans};
@@ -52,14 +53,18 @@ pub fn plan_patch_seen<'t, M: Meaning, L: Look<'t>>(
     primitives: &'t Primitives<M>,
     term: &'t Term,
     level: u64,
+    room: u32,
     strategy: &'t Resolved,
     steps: u64,
     look: &mut L,
 ) -> Result<Ended<Planned>, NoMemory>
+    requires room { room ≤ MAX_ROOM }
     requires low { level + height term.now ≤ MAX_HEIGHT }
     ensures { IfOk result (Plans term.entry.now steps
-        (run_whole (world_of M.meaning program.entry.now.bodies primitives.entry.now) level strategy.entry.now steps term.entry.now)) }
+        (run_whole (world_of M.meaning program.entry.now.bodies primitives.entry.now room) level strategy.entry.now steps term.entry.now)) }
 {
     let mut m = Machine::new(alloc, Trail::counted(), term, level, steps);
-    plan_patch_by(alloc, program, primitives, &mut m, term, strategy, look)
+    plan_patch_by(
+        alloc, program, primitives, room, &mut m, term, strategy, look,
+    )
 }

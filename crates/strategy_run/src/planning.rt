@@ -2,6 +2,7 @@
 
 ghost use Rattle.std.specs.Prelude.{◌≤◌, ◌+◌, IfOk};
 ghost use Rattle.term_core.specs.Size.{height};
+ghost use Rattle.term_core.specs.declared.TheConstants.{MAX_ROOM};
 ghost use Rattle.strategy_meaning.specs.Meaning.{run_whole};
 ghost use Rattle.strategy_machine.specs.Turns.{world_of};
 ghost use Rattle.strategy_run.specs.inside.Runs.{IsEmpty};
@@ -27,8 +28,9 @@ pub struct Planned {
     pub taken: u64,
 }
 
-/// Runs a strategy on the term, which has so many levels above it, in at most `steps` steps. The
-/// level and the height of the term come to at most 1,000 together.
+/// Runs a strategy on the term, which has so many levels above it, in at most `steps` steps. Terms
+/// that it builds have at most the size `room`. The level and the height of the term come to at most
+/// 1,000 together.
 ///
 /// Returns `Done` with what that would replace in the term, as a patch of it, `Failed` if the
 /// strategy fails, `Spent` if it needs more steps, or `Big` if it makes a term that doesn't fit.
@@ -43,18 +45,21 @@ pub fn plan_patch<M: Meaning>(
     primitives: &Primitives<M>,
     term: &Term,
     level: u64,
+    room: u32,
     strategy: &Resolved,
     steps: u64,
 ) -> Result<Ended<Planned>, NoMemory>
+    requires room { room ≤ MAX_ROOM }
     requires low { level + height term.now ≤ MAX_HEIGHT }
     ensures { IfOk result (Plans term.now steps
-        (run_whole (world_of M.meaning program.now.bodies primitives.now) level strategy.now steps term.now)) }
+        (run_whole (world_of M.meaning program.now.bodies primitives.now room) level strategy.now steps term.now)) }
 {
     let mut m = Machine::new(alloc, Trail::counted(), term, level, steps);
     plan_patch_by(
         alloc,
         program,
         primitives,
+        room,
         &mut m,
         term,
         strategy,
@@ -68,19 +73,22 @@ pub(crate) fn plan_patch_by<'t, M: Meaning, L: Look<'t>>(
     alloc: Global,
     program: &'t Program,
     primitives: &'t Primitives<M>,
+    room: u32,
     m: &mut Machine<'t>,
     term: &'t Term,
     strategy: &'t Resolved,
     look: &mut L,
 ) -> Result<Ended<Planned>, NoMemory>
+    requires room { room ≤ MAX_ROOM }
     requires empty { IsEmpty m.old }
     requires low { m.old.level + height term.now ≤ MAX_HEIGHT }
     ensures { IfOk result (Plans term.entry.now m.old.steps
-        (run_whole (world_of M.meaning program.entry.now.bodies primitives.entry.now) m.old.level strategy.entry.now m.old.steps term.entry.now)) }
+        (run_whole (world_of M.meaning program.entry.now.bodies primitives.entry.now room) m.old.level strategy.entry.now m.old.steps term.entry.now)) }
 {
     let host = Host {
         definitions: program.definitions(),
         primitives,
+        room,
     };
     let steps = m.steps;
     let ended = run_to_end(alloc, &host, m, strategy, term, look)?;

@@ -7,7 +7,7 @@ use std::test::Fail;
 use strategy_check::Program;
 use strategy_run::{Ended, Outcome, Planned, apply, evaluate, is_low_enough, plan_patch};
 use strategy_syntax::Resolved;
-use term_core::{Label, MAX_HEIGHT, NoMemory, Term};
+use term_core::{Label, MAX_HEIGHT, MAX_SIZE, NoMemory, Term};
 use term_paths::Path;
 
 /// A strategy on a term, and what has to come.
@@ -78,6 +78,7 @@ fn evaluates<M: Meaning>(alloc: Global, primitives: &Primitives<M>, case: &Case<
         primitives,
         term,
         1,
+        MAX_SIZE,
         case.strategy,
         case.steps,
     ) {
@@ -106,6 +107,7 @@ fn patches<M: Meaning>(
         primitives,
         term,
         1,
+        MAX_SIZE,
         case.strategy,
         case.steps,
     ) {
@@ -181,6 +183,7 @@ fn run<M: Meaning>(
             store,
             slot,
             path,
+            MAX_SIZE,
             case.strategy,
             case.steps,
             log,
@@ -214,6 +217,7 @@ fn make_plan<M: Meaning>(
         primitives,
         term,
         level,
+        MAX_SIZE,
         case.strategy,
         case.steps,
     )? {

@@ -2,7 +2,7 @@
 use Rattle.std.specs.Prelude.{ℕ, Bool, ◌+◌, ◌&&◌, nat_le, max}
 use Rattle.std.proofs.Common.{suc}
 use Rattle.term_core.specs.Tree.{Tree, Trees, integer, branch, none, more}
-use Rattle.term_core.specs.declared.TheConstants.{MAX_HEIGHT, MAX_SIZE}
+use Rattle.term_core.specs.declared.TheConstants.{MAX_HEIGHT}
 
 -- A term without children and annotations has height 1, any other 1 more than the highest of them.
 abbrev mutual
@@ -24,7 +24,7 @@ abbrev mutual
   sizes none = 0
   sizes (more t ts) = size t + sizes ts
 
--- A term fits at a level, the number of terms above it, if it is neither too high there nor too
--- large.
-abbrev pub fits : ℕ → Tree → Bool
-fits level t = nat_le (level + height t) MAX_HEIGHT && nat_le (size t) MAX_SIZE
+-- A term fits at a level, the number of terms above it, if it is neither too high there nor larger
+-- than the room.
+abbrev pub fits : ℕ → ℕ → Tree → Bool
+fits room level t = nat_le (level + height t) MAX_HEIGHT && nat_le (size t) room

@@ -16,5 +16,8 @@ pub use term::Term;
 /// The greatest sum of a level and the height of a term that fits there.
 pub const MAX_HEIGHT: u64 = 1000;
 
-/// The greatest size of a term that fits: a number of terms.
-pub const MAX_SIZE: u64 = 100_000;
+/// The room for a term by default: the greatest size of one that fits, a number of terms.
+pub const MAX_SIZE: u32 = 100_000;
+
+/// The most room that there can be for a term.
+pub const MAX_ROOM: u32 = 1_000_000_000;

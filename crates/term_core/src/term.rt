@@ -10,7 +10,7 @@ ghost use Rattle.term_core.specs.Kind.{made_of};
 ghost use Rattle.term_core.specs.Size.{height, heights, size, sizes, fits, height as height_of, size as size_of};
 ghost use Rattle.term_core.specs.Lending.{LendsChildren};
 
-use crate::{Kind, MAX_HEIGHT, MAX_SIZE, Name, NoMemory};
+use crate::{Kind, MAX_HEIGHT, Name, NoMemory};
 use std::alloc::Global;
 use std::marker::Model;
 use std::mem;
@@ -243,14 +243,14 @@ impl Term {
     }
 
     /// Whether the term fits below `level` other terms: `level` plus its height is at most 1,000,
-    /// and its size is at most 100,000. It visits at most 100,000 terms. For example, `f(a)` fits
-    /// at level 998, and not at 999.
-    pub fn fits(&self, level: u64) -> bool
-        ensures { result ≡ fits level self.now }
+    /// and its size is at most `room`. It visits at most `room` terms. For example, `f(a)` fits
+    /// at level 998 where there is room for 2 terms, and not at 999.
+    pub fn fits(&self, level: u64, room: u32) -> bool
+        ensures { result ≡ fits room level self.now }
     {
         match MAX_HEIGHT.checked_sub(level) {
             None => false,
-            Some(height) => self.room_left(height, MAX_SIZE).is_some(),
+            Some(height) => self.room_left(height, u64::from(room)).is_some(),
         }
     }
 

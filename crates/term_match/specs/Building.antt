@@ -8,14 +8,15 @@ use Rattle.term_match.specs.declared.building.Built.TheVariants.{Value, Nothing,
 use Rattle.term_match.specs.declared.terms.BuiltTerm.{BuiltTerm}
 use Rattle.term_match.specs.declared.terms.BuiltTerm.TheVariants as terms
 
--- The instance, which fits at the level; nothing if there is none; or that it doesn't fit.
-abbrev pub Builds : Option Tree → ℕ → Built → Type 0
-Builds o level (Value v) = (o ≡ Some v) × (fits level v ≡ true)
-Builds o level Nothing = o ≡ None
-Builds o level Big = (u : Tree) × (o ≡ Some u) × (fits level u ≡ false)
+-- The instance, which fits at the level in this room; nothing if there is none; or that it doesn't
+-- fit.
+abbrev pub Builds : Option Tree → ℕ → ℕ → Built → Type 0
+Builds o room level (Value v) = (o ≡ Some v) × (fits room level v ≡ true)
+Builds o room level Nothing = o ≡ None
+Builds o room level Big = (u : Tree) × (o ≡ Some u) × (fits room level u ≡ false)
 
 -- the same with an owned term
-abbrev pub BuildsTerm : Option Tree → ℕ → BuiltTerm → Type 0
-BuildsTerm o level (terms.Term t) = (o ≡ Some t) × (fits level t ≡ true)
-BuildsTerm o level terms.Nothing = o ≡ None
-BuildsTerm o level terms.Big = (u : Tree) × (o ≡ Some u) × (fits level u ≡ false)
+abbrev pub BuildsTerm : Option Tree → ℕ → ℕ → BuiltTerm → Type 0
+BuildsTerm o room level (terms.Term t) = (o ≡ Some t) × (fits room level t ≡ true)
+BuildsTerm o room level terms.Nothing = o ≡ None
+BuildsTerm o room level terms.Big = (u : Tree) × (o ≡ Some u) × (fits room level u ≡ false)

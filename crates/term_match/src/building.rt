@@ -3,9 +3,10 @@
 //! Bounds of sizes are stored with the terms in the cells. Only if they don't show that the
 //! instance fits are its variables measured, small terms first, and the results stay in the cells.
 
-ghost use Rattle.std.specs.Prelude.{◌≡◌, ◌+◌, ◌<◌, ◌^◌, ℕ, List, [], ◌∷◌, ◌++◌, length, IfOk, IfSome, Ok, Some, is_some, option_map, option_and_then};
+ghost use Rattle.std.specs.Prelude.{◌≡◌, ◌+◌, ◌<◌, ◌≤◌, ◌^◌, ℕ, List, [], ◌∷◌, ◌++◌, length, IfOk, IfSome, Ok, Some, is_some, option_map, option_and_then};
 ghost use Rattle.std.specs.Option.{option_copied};
 ghost use Rattle.std.specs.declared.option.Option.{Option};
+ghost use Rattle.term_core.specs.declared.TheConstants.{MAX_ROOM};
 ghost use Rattle.term_core.specs.Kind.{made_of};
 ghost use Rattle.term_core.specs.Tree.{Tree, branch, of_list, none, children, with_annotations, list_term};
 ghost use Rattle.strategy_syntax.specs.Resolved.{with_tail, annotated, places_of};
@@ -18,7 +19,7 @@ use crate::matching::is_list;
 use crate::variables::Places;
 use std::alloc::Global;
 use strategy_syntax::{Head, Place, PlaceForm};
-use term_core::{Kind, MAX_SIZE, NoMemory};
+use term_core::{Kind, NoMemory};
 use term_values::Value;
 
 /// The result of a build.
@@ -33,12 +34,24 @@ pub enum Built<'t> {
     Big,
 }
 
-// The limits up to which the term of a variable is measured, in rounds.
-const LIMITS: [u64; 5] = [32, 256, 2048, 16384, MAX_SIZE];
+// The limits up to which the term of a variable is measured, in rounds. The last is more than any
+// room.
+const LIMITS: [u32; 10] = [
+    32,
+    256,
+    2048,
+    16384,
+    131_072,
+    1_048_576,
+    8_388_608,
+    67_108_864,
+    536_870_912,
+    u32::MAX,
+];
 
 impl<'t> Cells<'t> {
-    /// The instance of the pattern, if it fits below `level` terms. It shares the terms in the
-    /// cells, and names with the pattern. No memory is taken if there is no instance.
+    /// The instance of the pattern, if it fits below `level` terms in this room. It shares the terms
+    /// in the cells, and names with the pattern. No memory is taken if there is no instance.
     #[inline(always)]
     pub fn build<P: Places>(
         &mut self,
@@ -46,17 +59,19 @@ impl<'t> Cells<'t> {
         places: &P,
         pattern: &'t Place,
         level: u64,
+        room: u32,
     ) -> Result<Built<'t>, NoMemory>
+        requires { room ≤ MAX_ROOM }
         ensures same { self.new ≡ self.old }
-        ensures ok { IfOk result (λ built. Builds (build_place pattern.now (P.places places.now) self.old.bindings) level built) }
+        ensures ok { IfOk result (λ built. Builds (build_place pattern.now (P.places places.now) self.old.bindings) room level built) }
     {
         if let Some(value) = self.at_once(places, pattern)? {
-            if value.surely_fits(level) {
+            if value.surely_fits(level, room) {
                 return Ok(Built::Value(value));
             }
             drop(value);
         }
-        self.build_measured(alloc, places, pattern, level)
+        self.build_measured(alloc, places, pattern, level, room)
     }
 
     // The instance of a variable or of a pattern without parts, if there is one.
@@ -88,9 +103,11 @@ impl<'t> Cells<'t> {
         places: &P,
         pattern: &'t Place,
         level: u64,
+        room: u32,
     ) -> Result<Built<'t>, NoMemory>
+        requires { room ≤ MAX_ROOM }
         ensures same { self.new ≡ self.old }
-        ensures ok { IfOk result (λ built. Builds (build_place pattern.now (P.places places.now) self.old.bindings) level built) }
+        ensures ok { IfOk result (λ built. Builds (build_place pattern.now (P.places places.now) self.old.bindings) room level built) }
     {
         if !is_flat(pattern) && !self.has_instance(places, pattern) {
             return Ok(Built::Nothing);
@@ -99,16 +116,19 @@ impl<'t> Cells<'t> {
             let Some(value) = self.instance(alloc, places, pattern)? else {
                 return Ok(Built::Nothing);
             };
-            if value.surely_fits(level) {
+            if value.surely_fits(level, room) {
                 return Ok(Built::Value(value));
             }
-            self.measure(places, pattern, limit);
+            self.measure(places, pattern, u64::from(limit.min(room)));
             drop(value);
+            if limit >= room {
+                break;
+            }
         }
         let Some(mut value) = self.instance(alloc, places, pattern)? else {
             return Ok(Built::Nothing);
         };
-        if value.fits(level) {
+        if value.fits(level, room) {
             Ok(Built::Value(value))
         } else {
             drop(value);

@@ -1,6 +1,7 @@
 //! Matching and building over terms.
 
-ghost use Rattle.std.specs.Prelude.{◌≡◌, cond, false, IfOk, OnErr, Some, None};
+ghost use Rattle.std.specs.Prelude.{◌≡◌, ◌≤◌, cond, false, IfOk, OnErr, Some, None};
+ghost use Rattle.term_core.specs.declared.TheConstants.{MAX_ROOM};
 ghost use Rattle.strategy_meaning.specs.Matching.{match_place, build_place};
 ghost use Rattle.term_match.specs.Marks.{mark_of, Before, Stays};
 ghost use Rattle.term_match.specs.Building.{BuildsTerm};
@@ -53,11 +54,13 @@ impl<'t> Cells<'t> {
         places: &P,
         pattern: &'t Place,
         level: u64,
+        room: u32,
     ) -> Result<BuiltTerm, NoMemory>
+        requires { room ≤ MAX_ROOM }
         ensures same { self.new ≡ self.old }
-        ensures ok { IfOk result (λ built. BuildsTerm (build_place pattern.now (P.places places.now) self.old.bindings) level built) }
+        ensures ok { IfOk result (λ built. BuildsTerm (build_place pattern.now (P.places places.now) self.old.bindings) room level built) }
     {
-        match self.build(alloc, places, pattern, level)? {
+        match self.build(alloc, places, pattern, level, room)? {
             Built::Value(value) => {
                 let term = value.to_term(alloc);
                 drop(value);

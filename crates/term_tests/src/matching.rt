@@ -4,7 +4,7 @@
 use std::alloc::Global;
 use std::test::Fail;
 use strategy_syntax::{Head, Place, PlaceForm};
-use term_core::{Kind, NoMemory, Term};
+use term_core::{Kind, MAX_SIZE, NoMemory, Term};
 use term_match::{Built, BuiltTerm, Cells, InSlice};
 use term_values::Value;
 
@@ -100,7 +100,7 @@ fn are_rests<'t>(alloc: Global, cells: &mut Cells<'t>, parts: Parts<'t>) -> Resu
     cells.open_cells(1)?;
     let is_list = cells.matches_term(alloc, &places, parts.rest, parts.list)?;
     let is_unknown = cells.matches_term(alloc, &places, parts.unknown, parts.term)?;
-    let built = cells.build_term(alloc, &places, parts.rest, 0)?;
+    let built = cells.build_term(alloc, &places, parts.rest, 0, MAX_SIZE)?;
     let is_bare = match built {
         BuiltTerm::Term(list) => list.child_count() == 1 && list.annotations().is_empty(),
         _ => false,
@@ -108,24 +108,29 @@ fn are_rests<'t>(alloc: Global, cells: &mut Cells<'t>, parts: Parts<'t>) -> Resu
     Ok(is_list && !is_unknown && is_bare)
 }
 
-// (y,x) is built where it fits, and (x,w) has no instance.
+// (y,x) is built where it fits, at a low enough level and in room for 3 terms, and (x,w) has no
+// instance.
 fn are_built<'t>(alloc: Global, cells: &mut Cells<'t>, parts: Parts<'t>) -> Result<bool, NoMemory> {
     let places = InSlice { cells: &CELLS };
-    let swapped = cells.build_term(alloc, &places, parts.swapped, 998)?;
+    let swapped = cells.build_term(alloc, &places, parts.swapped, 998, 3)?;
     let is_turned = is_term(&swapped, parts.turned);
     let is_big = matches!(
-        cells.build_term(alloc, &places, parts.swapped, 999)?,
+        cells.build_term(alloc, &places, parts.swapped, 999, MAX_SIZE)?,
+        BuiltTerm::Big
+    );
+    let is_larger = matches!(
+        cells.build_term(alloc, &places, parts.swapped, 0, 2)?,
         BuiltTerm::Big
     );
     let is_built = matches!(
-        cells.build(alloc, &places, parts.swapped, 0)?,
+        cells.build(alloc, &places, parts.swapped, 0, MAX_SIZE)?,
         Built::Value(_)
     );
     let none = matches!(
-        cells.build(alloc, &places, parts.unknown, 0)?,
+        cells.build(alloc, &places, parts.unknown, 0, MAX_SIZE)?,
         Built::Nothing
     );
-    Ok(is_turned && is_big && is_built && none)
+    Ok(is_turned && is_big && is_larger && is_built && none)
 }
 
 // What was bound and opened after a mark is gone after going back, and cells are closed one by one.

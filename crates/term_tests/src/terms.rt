@@ -80,8 +80,9 @@ fn is_application(term: &mut Term) -> bool {
         && term.child(2).is_none()
         && term.child_mut(2).is_none()
         && (term.height(), term.size()) == (2, 3)
-        && term.fits(998)
-        && !term.fits(999)
+        && term.fits(998, 3)
+        && !term.fits(999, 3)
+        && !term.fits(998, 2)
 }
 
 // Annotations count in height and size, and in equality.

@@ -4,9 +4,10 @@
 ghost use Rattle.std.specs.Prelude.{◌≡◌, ℕ, ◌+◌, ◌≤◌, ◌↔◌, IsTrue, max, true};
 ghost use Rattle.term_core.specs.Tree.{Tree};
 ghost use Rattle.term_core.specs.Size.{fits};
+ghost use Rattle.term_core.specs.declared.TheConstants.{MAX_ROOM};
 ghost use Rattle.term_values.specs.inside.Bounded.{Covers, Bounded};
 
-use term_core::{MAX_HEIGHT, MAX_SIZE};
+use term_core::MAX_HEIGHT;
 
 /// A size and a height that a tree, or a list of trees, doesn't exceed. The greatest numbers mean
 /// that there is no bound.
@@ -163,11 +164,11 @@ impl Bounds {
     }
 
     /// Whether the bounds show that a tree fits at the level.
-    pub(crate) fn fit(self, level: u64) -> bool
-        ensures sure { IsTrue result → (t : Tree) → Bounded t self → IsTrue (fits level t) }
-        ensures exact { self.exact ≡ true → (t : Tree) → Bounded t self → result ≡ fits level t }
+    pub(crate) fn fit(self, level: u64, room: u32) -> bool
+        requires { room ≤ MAX_ROOM }
+        ensures sure { IsTrue result → (t : Tree) → Bounded t self → IsTrue (fits room level t) }
+        ensures exact { self.exact ≡ true → (t : Tree) → Bounded t self → result ≡ fits room level t }
     {
-        level.saturating_add(u64::from(self.height)) <= MAX_HEIGHT
-            && u64::from(self.size) <= MAX_SIZE
+        level.saturating_add(u64::from(self.height)) <= MAX_HEIGHT && self.size <= room
     }
 }

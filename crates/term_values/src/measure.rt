@@ -4,21 +4,23 @@
 ghost use Rattle.std.specs.Prelude.{◌≡◌, ◌≤◌, ◌<◌, ◌+◌, ◌↔◌, IsTrue, IfSome, IfNone};
 ghost use Rattle.term_core.specs.Tree.{of_list};
 ghost use Rattle.term_core.specs.Size.{size as size_of, sizes, fits};
+ghost use Rattle.term_core.specs.declared.TheConstants.{MAX_ROOM};
 ghost use Rattle.term_values.specs.inside.Bounded.{Measures, MeasuresAll};
 ghost use Rattle.term_values.specs.inside.Walk.{seen_tree};
 
 use crate::bounds::Bounds;
 use crate::elements::{Elements, Seen};
 use crate::value::Value;
-use term_core::{MAX_SIZE, Term};
+use term_core::Term;
 
 impl<'t> Value<'t> {
-    /// Whether the known bounds show that the value fits at the level. It looks at nothing else, so
-    /// the answer may be false for a value that fits.
-    pub fn surely_fits(&self, level: u64) -> bool
-        ensures { IsTrue result → IsTrue (fits level self.now) }
+    /// Whether the known bounds show that the value fits at the level, in this room. It looks at
+    /// nothing else, so the answer may be false for a value that fits.
+    pub fn surely_fits(&self, level: u64, room: u32) -> bool
+        requires { room ≤ MAX_ROOM }
+        ensures { IsTrue result → IsTrue (fits room level self.now) }
     {
-        self.bounds.fit(level)
+        self.bounds.fit(level, room)
     }
 
     /// Whether the size is at most `limit`. If so, size and height are stored with this reference.
@@ -36,19 +38,21 @@ impl<'t> Value<'t> {
         }
     }
 
-    /// Whether the value fits at the level. It visits nodes only if the bounds don't decide it.
-    pub fn fits(&mut self, level: u64) -> bool
+    /// Whether the value fits at the level, in this room. It visits nodes only if the bounds don't
+    /// decide it.
+    pub fn fits(&mut self, level: u64, room: u32) -> bool
+        requires { room ≤ MAX_ROOM }
         ensures stays { self.new ≡ self.old }
-        ensures result { result ≡ fits level self.old }
+        ensures result { result ≡ fits room level self.old }
     {
-        if self.surely_fits(level) {
+        if self.surely_fits(level, room) {
             return true;
         }
-        match self.measured(MAX_SIZE) {
+        match self.measured(u64::from(room)) {
             None => false,
             Some(bounds) => {
                 self.bounds = bounds;
-                bounds.fit(level)
+                bounds.fit(level, room)
             }
         }
     }

@@ -10,7 +10,7 @@ use Rattle.strategy_machine.specs.declared.arguments.BuiltAll.TheVariants.{All, 
 
 -- Their instances are us, or one pattern has none, or one instance doesn't fit; each case
 -- determines how the run continues.
-abbrev pub AreBuilt : Places → List ℕ → Bindings → ℕ → List Tree → BuiltAll → Type 0
-AreBuilt ps E B l us All = (c : ℕ) (go : List Tree → Answer) → built_all ps E B l c go ≡ go us
-AreBuilt ps E B l us Nothing = (c : ℕ) (go : List Tree → Answer) → built_all ps E B l c go ≡ failed c
-AreBuilt ps E B l us Big = (c : ℕ) (go : List Tree → Answer) → built_all ps E B l c go ≡ stopped big
+abbrev pub AreBuilt : ℕ → Places → List ℕ → Bindings → ℕ → List Tree → BuiltAll → Type 0
+AreBuilt room ps E B l us All = (c : ℕ) (go : List Tree → Answer) → built_all room ps E B l c go ≡ go us
+AreBuilt room ps E B l us Nothing = (c : ℕ) (go : List Tree → Answer) → built_all room ps E B l c go ≡ failed c
+AreBuilt room ps E B l us Big = (c : ℕ) (go : List Tree → Answer) → built_all room ps E B l c go ≡ stopped big

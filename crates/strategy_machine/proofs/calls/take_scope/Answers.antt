@@ -1,4 +1,5 @@
 use Rattle.std.proofs.Common.{refl, sym, ap, ◌∙◌, ◌++◌, subst, None, length, replicate, reverse}
+use Rattle.strategy_meaning.specs.Laws.{in_room}
 use Rattle.strategy_machine.specs.Table.{scopes, scope_at}
 use Rattle.strategy_meaning.specs.Scopes.{with_variables}
 use Rattle.term_match.specs.CellContents.{CellContents}
@@ -15,7 +16,7 @@ pub add_variables-requires-clause-there : goal.add_variables-requires-clause-the
 add_variables-requires-clause-there c = c.in_ok-end_cells.ensures.there
 
 pub returns-clause-ok : goal.returns-clause-ok
-returns-clause-ok c = λ W. record {
+returns-clause-ok c = λ V. let W = in_room c.args.room V in record {
   keeps = λ sub whole h.
       c.begins.ensures.keeps W sub whole (let r = c.in_ok-end_cells.ensures in
       let mid = c.end_cells.new.m in

@@ -1,4 +1,7 @@
-use Rattle.std.proofs.Common.{refl, sym, ap, ◌∙◌, ◌∷◌, reverse}
+use Rattle.std.proofs.Common.{◌≡◌, IfOk, refl, sym, ap, subst, ◌∙◌, ◌∷◌, reverse}
+use Rattle.strategy_syntax.specs.Resolved.{ResolvedStrategy, matches, builds, seq, guard}
+use Rattle.strategy_syntax.specs.ResolvedView.{resolved_of}
+use Rattle.strategy_machine.specs.inside.Taking.{Takes}
 use Rattle.strategy_machine.proofs.TakeLemmas.{with_frames, take_choice}
 use Rattle.strategy_machine.proofs.HeadLemmas.{take_other, take_passed}
 use Rattle.strategy_machine.specs.Table.{scopes}
@@ -7,6 +10,15 @@ use Rattle.strategy_machine.proofs.OpenLemmas.{pushed}
 use Rattle.strategy_machine.specs.declared.frames.Frame.TheVariants.{Choose}
 use Rattle.term_match.specs.Marks.{kept}
 use Rattle.strategy_machine.proofs.forms.take_guard.Goals as goal
+
+pub returns-in-Build-clause-ok : goal.returns-in-Build-clause-ok
+returns-in-Build-clause-ok g c =
+    let matched : c.deref.result.now.0 ≡ matches c.in-Match.left = c.form-in-Seq.ensures ∙ ap resolved_of c.in-Match.is in
+    let built : c.deref-in-Match.result.now.1 ≡ builds c.in-Build.right = c.form-in-Match.ensures ∙ ap resolved_of c.in-Build.is in
+    let is : c.args.first.now ≡ seq (matches c.in-Match.left) (builds c.in-Build.right) = c.form.ensures ∙ ap resolved_of c.in-Seq.is
+    ∙ (λ i. seq ((sym (ap (λ x. x.0) c.deref.ensures) ∙ matched) i) ((sym (ap (λ x. x.1) c.deref-in-Match.ensures) ∙ built) i)) in
+    subst (λ (s : ResolvedStrategy). IfOk c.rewrite_or.result (λ next. Takes (world_of g.M.Meaning.meaning c.args.host.now.definitions.now c.args.host.now.primitives.now c.args.host.now.room) c.args.m.now (guard s c.args.second.now c.args.other.now) c.args.scope c.args.m.now.part c.rewrite_or.new.m next))
+    (sym is) (c.rewrite_or.ensures.ok (world_of g.M.Meaning.meaning c.args.host.now.definitions.now c.args.host.now.primitives.now c.args.host.now.room))
 
 pub returns-clause-ok : goal.returns-clause-ok
 returns-clause-ok g c = record {
@@ -21,7 +33,7 @@ returns-in-Some-ahead-clause-ok g c = record {
 }
 
 pub returns-in-Some-clause-ok : goal.returns-in-Some-clause-ok
-returns-in-Some-clause-ok g c = c.rule_or.ensures.ok (world_of g.M.Meaning.meaning c.args.host.now.definitions.now c.args.host.now.primitives.now) c.args.first.now (c.in-Some.ensures (scopes c.args.m.now.scopes))
+returns-in-Some-clause-ok g c = c.rule_or.ensures.ok (world_of g.M.Meaning.meaning c.args.host.now.definitions.now c.args.host.now.primitives.now c.args.host.now.room) c.args.first.now (c.in-Some.ensures (scopes c.args.m.now.scopes))
 
-pub rule_or-requires : goal.rule_or-requires
-rule_or-requires g c = (c.in-Some.ensures (scopes c.args.m.now.scopes)).there c.requires
+pub rule_or-requires-clause-there : goal.rule_or-requires-clause-there
+rule_or-requires-clause-there g c = (c.in-Some.ensures (scopes c.args.m.now.scopes)).there c.requires.there

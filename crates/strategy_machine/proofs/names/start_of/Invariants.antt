@@ -9,7 +9,7 @@ use Rattle.strategy_machine.proofs.names.start_of.Given as goal
 -- the strategy reached so far, in its scope and with the steps left, has the same answer
 abbrev pub invariant-through : goal.invariant-through
 invariant-through g l =
-    let W = world_of g.M.Meaning.meaning l.host.definitions.now l.host.primitives.now in
+    let W = world_of g.M.Meaning.meaning l.host.definitions.now l.host.primitives.now l.host.room in
     (l.scope < length (scopes l.scopes)) × (l.left ≤ l.steps)
     × ((k : ℕ) (B : Bindings) (t : Tree) → run W (scope_at (scopes l.scopes) l.fn.scope) k l.fn.strategy l.steps B t ≡ run W (scope_at (scopes l.scopes) l.scope) k l.strategy l.left B t)
 

@@ -11,9 +11,9 @@ use Rattle.strategy_run.proofs.planning.plan_patch_by.Goals as goal
 pub returns-in_ok-patch-in-Done : goal.returns-in_ok-patch-in-Done
 returns-in_ok-patch-in-Done g c =
     let m = c.run_to_end.new.m in
-    let whole = run_whole (world_of g.M.Meaning.meaning c.args.program.now.bodies c.args.primitives.now) c.args.m.now.level c.args.strategy.now c.args.m.now.steps c.args.term.now in
+    let whole = run_whole (world_of g.M.Meaning.meaning c.args.program.now.bodies c.args.primitives.now c.args.room) c.args.m.now.level c.args.strategy.now c.args.m.now.steps c.args.term.now in
     let E = subst (λ w. Ends (unchanged c.args.term.now) m c.in_ok-ended.ended w)
-    (λ i. run_whole (world_of g.M.Meaning.meaning (c.definitions.ensures i) c.args.primitives.now) c.args.m.now.level c.args.strategy.now c.args.m.now.steps c.args.term.now)
+    (λ i. run_whole (world_of g.M.Meaning.meaning (c.definitions.ensures i) c.args.primitives.now c.args.room) c.args.m.now.level c.args.strategy.now c.args.m.now.steps c.args.term.now)
     c.in_ok-ended.ensures in
     let d = subst (λ (e : Ended (Unit {0})). Ends (unchanged c.args.term.now) m e whole) c.in-Done.is E in
     subst (λ ps. Gives c.args.term.now c.args.m.now.steps whole ps c.saturating_sub-taken.result) (sym c.in_ok-patch-in-Done.ensures.all)
