@@ -1,6 +1,6 @@
 //! Steps: changes that are undone and redone together.
 
-ghost use Rattle.std.specs.Prelude.{◌≡◌, ◌∷◌, [], IfOk, OnOk, OnErr};
+ghost use Rattle.std.specs.Prelude.{◌≡◌, ◌∷◌, [], IfOk, OnOk, OnErr, true};
 ghost use Rattle.term_changes.specs.Slots.{Store};
 ghost use Rattle.term_changes.specs.Entries.{slot_text, put, found, before, after, flipped_back, flipped_forward, has_text, Fits};
 ghost use Rattle.term_changes.specs.Compact.{IsCompact};
@@ -122,6 +122,17 @@ impl Step {
         parts.exchange(store);
         Step {
             changes: Changes::Patched(parts),
+        }
+    }
+
+    /// Whether it has no changes.
+    pub fn is_empty(&self) -> bool
+        ensures { result ≡ true → self.now ≡ [] }
+    {
+        match &self.changes {
+            Changes::One(_) => false,
+            Changes::Patched(parts) => parts.patch.is_nothing(),
+            Changes::Logged(log) => log.count() == 0,
         }
     }
 

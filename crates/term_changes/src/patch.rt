@@ -1,6 +1,6 @@
 //! Patches.
 
-ghost use Rattle.std.specs.Prelude.{◌≡◌};
+ghost use Rattle.std.specs.Prelude.{◌≡◌, true};
 ghost use Rattle.term_changes.specs.Change.{inside, no_more, changed};
 ghost use Rattle.term_changes.specs.Exchange.{taken, changed_in, taken_in};
 
@@ -43,6 +43,13 @@ impl Patch {
             marks: Vec::new(alloc),
             terms: Vec::new(alloc),
         }
+    }
+
+    /// Whether it has no places.
+    pub fn is_nothing(&self) -> bool
+        ensures { result ≡ true → self.now ≡ inside no_more }
+    {
+        self.marks.is_empty()
     }
 
     /// Exchanges each of the terms with what stands at its place. A second time takes that back. It
