@@ -46,17 +46,17 @@ module _ (meaning : Meaning) (ps : List Signature) (t : Logged) (name path text 
     here = the_place t name path i r.there
 
     abbrev ending : Ending
-    ending = applied (world_in meaning r.program ps) path whole steps here.tree
+    ending = applied (world_in meaning r.program ps t.limits.max_terms) path whole steps here.tree
 
     abbrev Ends : Ending
-    Ends = applied_in (world_in meaning lent ps) t.store.trees i path whole steps
+    Ends = applied_in (world_in meaning lent ps t.limits.max_terms) t.store.trees i path whole steps
 
     -- the outcome in the slot is the outcome at the place
     in_slot : Ends ≡ ending
     in_slot =
         let same : lent ≡ r.program = same_program lent r.program (is ∙ r.cache) in
-        ap (λ (p : Program). applied_in (world_in meaning p ps) t.store.trees i path whole steps) same
-        ∙ ap (λ (o : Option Tree). option_map_or (applied (world_in meaning r.program ps) path whole steps) o fails) r.there.is.held
+        ap (λ (p : Program). applied_in (world_in meaning p ps t.limits.max_terms) t.store.trees i path whole steps) same
+        ∙ ap (λ (o : Option Tree). option_map_or (applied (world_in meaning r.program ps t.limits.max_terms) path whole steps) o fails) r.there.is.held
 
     ends : (outcome : ActResult) → AppliesAt meaning name path steps now here r.program whole outcome → Comes outcome
     ends outcome p = resolved_then ps t name path text (AppliesAt meaning name path steps now) cached i whole r outcome p

@@ -122,7 +122,7 @@ module _ (meaning : Meaning) (ps : List Signature) (t : Logged) (name path text 
     here = the_place t name path i r.there
 
     abbrev run_on : Tree → Answer
-    run_on part = run_whole (world_in meaning lent ps) (length path) whole steps part
+    run_on part = run_whole (world_in meaning lent ps t.limits.max_terms) (length path) whole steps part
 
     found : (part : Tree) → subterm_in t.store.trees i path ≡ Some part → at r.there.tree path ≡ Some part
     found part found_it = sym (ap (option_and_then (λ y. at y path)) r.there.is.held) ∙ found_it
@@ -135,13 +135,13 @@ module _ (meaning : Meaning) (ps : List Signature) (t : Logged) (name path text 
     comes outcome p =
         let same : lent ≡ r.program = same_program lent r.program (is ∙ r.cache) in
         resolved_then ps t name path text (ForeseesAt meaning path steps now) cached i whole r outcome
-        (subst (λ (q : Program). Shows path steps here.part (run_whole (world_in meaning q ps) (length path) whole steps here.part) outcome) same p)
+        (subst (λ (q : Program). Shows path steps here.part (run_whole (world_in meaning q ps t.limits.max_terms) (length path) whole steps here.part) outcome) same p)
 
     at_part : (part : Tree) → subterm_in t.store.trees i path ≡ Some part → (outcome : Result definition.Preview Refusal) → Shows path steps part (run_on part) outcome
         → Previews meaning name path steps text now outcome
     at_part part found_it outcome p = comes outcome (subst (λ y. Shows path steps y (run_on y) outcome) (same_part part found_it) p)
 
-    shows_preview : (preview : Preview) → Foresees (world_in meaning lent ps) t.store i path whole steps preview.plan preview.steps → ShowsPreview meaning name path steps text now preview
+    shows_preview : (preview : Preview) → Foresees (world_in meaning lent ps t.limits.max_terms) t.store i path whole steps preview.plan preview.steps → ShowsPreview meaning name path steps text now preview
     shows_preview preview f =
         let g = f.gives in
         let list = map (shown_at path f.part) f.places in
@@ -164,15 +164,15 @@ module _ (meaning : Meaning) (ps : List Signature) (t : Logged) (name path text 
     refuses_run tree part (failed left) refusal e = let same : Fails ≡ refusal = cc in ap Err (sym same)
     refuses_run tree part (stopped why) refusal e = let same : stopped_as why ≡ refusal = cc in ap Err (sym same)
 
-    preview_refused : (refusal : Refusal) → IsRefusedRun (applied_in (world_in meaning lent ps) t.store.trees i path whole steps) refusal → (refusal ≡ Memory) ⊎ Previews meaning name path steps text now (Err refusal)
+    preview_refused : (refusal : Refusal) → IsRefusedRun (applied_in (world_in meaning lent ps t.limits.max_terms) t.store.trees i path whole steps) refusal → (refusal ≡ Memory) ⊎ Previews meaning name path steps text now (Err refusal)
     preview_refused refusal (inl memory) = inl memory
     preview_refused refusal (inr none) =
         let there : subterm_in t.store.trees i path ≡ Some here.part = ap (option_and_then (λ y. at y path)) r.there.is.held ∙ part_there t name path i r.there in
-        let ends = ends_there (world_in meaning lent ps) t.store i path whole steps here.part _ there refl in
+        let ends = ends_there (world_in meaning lent ps t.limits.max_terms) t.store i path whole steps here.part _ there refl in
         inr (at_part here.part there (Err refusal) (refuses_run ends.0 here.part (run_on here.part) refusal (sym (ap given_by ends.1) ∙ none)))
 
     -- what the call answers
-    pub preview_answers : (result : Result Preview Refusal) → IfOk result (λ preview. Foresees (world_in meaning lent ps) t.store i path whole steps preview.plan preview.steps)
-        → IfErr result (IsRefusedRun (applied_in (world_in meaning lent ps) t.store.trees i path whole steps)) → AnswersPreview meaning name path steps text now result
+    pub preview_answers : (result : Result Preview Refusal) → IfOk result (λ preview. Foresees (world_in meaning lent ps t.limits.max_terms) t.store i path whole steps preview.plan preview.steps)
+        → IfErr result (IsRefusedRun (applied_in (world_in meaning lent ps t.limits.max_terms) t.store.trees i path whole steps)) → AnswersPreview meaning name path steps text now result
     preview_answers (Ok preview) f refused = record { ok = shows_preview preview f; refused = tt }
     preview_answers (Err refusal) f refused = record { ok = tt; refused = preview_refused refusal refused }

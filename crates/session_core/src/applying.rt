@@ -59,9 +59,9 @@ fn apply_in_slot<M: Meaning>(
 ) -> Result<(), Refusal>
     requires low { IsLowIn timeline.old.store slot path.now }
     ensures ok { OnOk result (Changes timeline.old timeline.new) }
-    ensures made { OnOk result (GivesIn (applied_in (world_in M.meaning program.now primitives.now)
+    ensures made { OnOk result (GivesIn (applied_in (world_in M.meaning program.now primitives.now timeline.old.limits.max_terms)
         timeline.old.store.trees slot path.now strategy.now budget) slot timeline.old.store timeline.new.store) }
-    ensures refused { IfErr result (IsRefusedRun (applied_in (world_in M.meaning program.now primitives.now)
+    ensures refused { IfErr result (IsRefusedRun (applied_in (world_in M.meaning program.now primitives.now timeline.old.limits.max_terms)
         timeline.old.store.trees slot path.now strategy.now budget)) }
     ensures err { OnErr result (KeepsHistory timeline.old timeline.new) }
 {

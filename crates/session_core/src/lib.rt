@@ -10,4 +10,4 @@ mod session;
 
 pub use preview::{Places, Preview};
 pub use session::Session;
-pub use session_history::{MAX_BUDGET, Refusal};
+pub use session_history::{Limits, MAX_BUDGET, Refusal};

@@ -27,9 +27,9 @@ pub(crate) fn plan_in_slot<M: Meaning>(
     budget: u32,
 ) -> Result<Planned, Refusal>
     requires low { IsLowIn timeline.now.store slot path.now }
-    ensures ok { IfOk result (λ planned. Foresees (world_in M.meaning program.now primitives.now)
+    ensures ok { IfOk result (λ planned. Foresees (world_in M.meaning program.now primitives.now timeline.now.limits.max_terms)
         timeline.now.store slot path.now strategy.now budget (patch_entries slot path.now planned.patch) planned.taken) }
-    ensures refused { IfErr result (IsRefusedRun (applied_in (world_in M.meaning program.now primitives.now)
+    ensures refused { IfErr result (IsRefusedRun (applied_in (world_in M.meaning program.now primitives.now timeline.now.limits.max_terms)
         timeline.now.store.trees slot path.now strategy.now budget)) }
 {
     let Some(part) = part_in_slot(timeline, slot, path) else {
@@ -41,6 +41,7 @@ pub(crate) fn plan_in_slot<M: Meaning>(
         primitives,
         part,
         path.len() as u64,
+        timeline.limits().max_terms,
         strategy,
         budget as u64,
     );

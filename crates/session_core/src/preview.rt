@@ -128,9 +128,9 @@ fn preview_in_slot<M: Meaning>(
     budget: u32,
 ) -> Result<Preview, Refusal>
     requires low { IsLowIn timeline.now.store slot path.now }
-    ensures ok { IfOk result (λ preview. Foresees (world_in M.meaning program.now primitives.now)
+    ensures ok { IfOk result (λ preview. Foresees (world_in M.meaning program.now primitives.now timeline.now.limits.max_terms)
         timeline.now.store slot path.now strategy.now budget preview.plan preview.steps) }
-    ensures refused { IfErr result (IsRefusedRun (applied_in (world_in M.meaning program.now primitives.now)
+    ensures refused { IfErr result (IsRefusedRun (applied_in (world_in M.meaning program.now primitives.now timeline.now.limits.max_terms)
         timeline.now.store.trees slot path.now strategy.now budget)) }
 {
     let planned = plan_in_slot(timeline, program, primitives, slot, path, strategy, budget)?;

@@ -2,9 +2,9 @@
 
 ghost use Rattle.std.specs.Prelude.{◌≡◌, ◌≤◌, ◌++◌, vec_capacity, OnOk, OnErr, IfOk, length, option_copied};
 ghost use Rattle.std.specs.FinMap as finmap;
-ghost use Rattle.session_history.specs.History.{empty_history, HasSoundContents};
+ghost use Rattle.term_core.specs.declared.TheConstants.{MAX_ROOM};
+ghost use Rattle.session_history.specs.History.{empty_history, empty_within, HasSoundContents};
 ghost use Rattle.session_history.specs.Acts.{Performs, PerformsSurely, set_tree, copy_tree, drop_tree, put, annotate, set_module, unload, apply, undo, redo, begin, commit, abandon};
-ghost use Rattle.session_history.specs.Budget.{IsBudget};
 ghost use Rattle.session_core.specs.Previewing.{AnswersPreview};
 ghost use Rattle.session_history.specs.Dump.{dumped, AreNamedTerms};
 ghost use Rattle.session_history.specs.Unfolded.{unfolded};
@@ -12,7 +12,7 @@ ghost use Rattle.session_history.specs.Unfolded.{unfolded};
 use crate::applying::apply_strategy;
 use crate::preview::{Preview, preview_strategy};
 use prim_core::{Meaning, Primitives};
-use session_history::{ModuleCache, Refusal, Timeline};
+use session_history::{Limits, ModuleCache, Refusal, Timeline};
 use std::alloc::Global;
 use std::marker::Model;
 use strategy_check::Program;
@@ -46,16 +46,32 @@ impl<M: Meaning> Model for Session<M> {
 }
 
 impl<M: Meaning> Session<M> {
-    /// A session with these primitives, without trees and modules, in which nothing can be undone
-    /// or redone. It takes no memory.
+    /// A session with these primitives and the limits by default, without trees and modules, in
+    /// which nothing can be undone or redone. It takes no memory.
     pub fn new(alloc: Global, primitives: Primitives<M>) -> Session<M>
         ensures { result ≡ empty_history primitives }
     {
+        Session::with_limits(alloc, primitives, Limits::default())
+    }
+
+    /// The same with these limits: the greatest size of a term is at most 1,000,000,000.
+    pub fn with_limits(alloc: Global, primitives: Primitives<M>, limits: Limits) -> Session<M>
+        requires { limits.max_terms ≤ MAX_ROOM }
+        ensures { result ≡ empty_within limits primitives }
+    {
         Session {
             primitives,
-            timeline: Timeline::new(alloc),
+            timeline: Timeline::new(alloc, limits),
             cache: ModuleCache::new(alloc),
         }
+    }
+
+    /// The limits of terms and budgets, which stay the same.
+    pub fn limits(&self) -> Limits
+        ensures value { result ≡ self.now.limits }
+        ensures room { result.max_terms ≤ MAX_ROOM }
+    {
+        self.timeline.limits()
     }
 
     /// All contents of the session are sound, those before and after each step included. It does
@@ -226,8 +242,8 @@ impl<M: Meaning> Session<M> {
     }
 
     /// Replaces the subterm at the path of the name's tree by the result of a strategy, given as
-    /// text, within a budget of steps, from 1 to 1,000,000. That is a step, as with `set_tree`,
-    /// even if the term stays the same. The strategy may call what the current modules define;
+    /// text, within a budget of steps. That is a step, as with `set_tree`, even if the term stays
+    /// the same. The strategy may call what the current modules define;
     /// their program is cached until they change.
     ///
     /// For example, `all(!1)` at the path `/` of `f(a,b)` makes it `f(1,1)`.
@@ -245,7 +261,6 @@ impl<M: Meaning> Session<M> {
         budget: u32,
         text: &[u8],
     ) -> Result<(), Refusal>
-        requires { IsBudget budget }
         ensures { Performs (apply M.meaning name.now path.now budget text.now) self.old self.new result }
     {
         // Called for its contract: no tree becomes too high.
@@ -276,7 +291,6 @@ impl<M: Meaning> Session<M> {
         budget: u32,
         text: &[u8],
     ) -> Result<Preview, Refusal>
-        requires { IsBudget budget }
         ensures answers { AnswersPreview M.meaning name.now path.now budget text.now self.old result }
         ensures same { self.new ≡ self.old }
     {

@@ -82,10 +82,10 @@ tree_told t m n name tree i ps here kept change =
 -- ---- acts on the trees
 
 module _ (t : Logged) (name : List ℕ) where
-  pub set_big : (tree : Tree) → fits 0 tree ≡ false → PerformsOn {X = Unit {0}} (set_tree name tree) t t (Err Big)
+  pub set_big : (tree : Tree) → fits t.limits.max_terms 0 tree ≡ false → PerformsOn {X = Unit {0}} (set_tree name tree) t t (Err Big)
   set_big tree big = refused (set_tree name tree) t Big (λ ps. rw big refl)
 
-  pub set_done : (m n : Logged) (tree : Tree) (i : ℕ) → fits 0 tree ≡ true → slot_of m.store.trees name ≡ Some i → KeepsHistory t m → Puts (slot_tree i (Some tree)) m n
+  pub set_done : (m n : Logged) (tree : Tree) (i : ℕ) → fits t.limits.max_terms 0 tree ≡ true → slot_of m.store.trees name ≡ Some i → KeepsHistory t m → Puts (slot_tree i (Some tree)) m n
       → PerformsOn {X = Unit {0}} (set_tree name tree) t n (Ok tt)
   set_done m n tree i fit here kept change = done (set_tree name tree) t n (λ ps. rw fit (ap Ok (tree_told t m n name tree i ps here kept change))) tt
 
@@ -129,18 +129,18 @@ module _ (t : Logged) (name path : List ℕ) (i : ℕ) (there : IsPlaceOf t.stor
   abbrev pub the_place : Located
   the_place = record { tree = there.tree; part = seen_place.0 }
 
-  pub put_big : (part : Tree) → fits (length path) part ≡ false → PerformsOn {X = Unit {0}} (put_act name path part) t t (Err Big)
+  pub put_big : (part : Tree) → fits t.limits.max_terms (length path) part ≡ false → PerformsOn {X = Unit {0}} (put_act name path part) t t (Err Big)
   put_big part big = refused (put_act name path part) t Big (λ ps. rw (seen_place.1, big) refl)
 
-  pub annotations_big : (us : List Tree) → list_all (fits (length path + 1)) us ≡ false → PerformsOn {X = Unit {0}} (annotate name path us) t t (Err Big)
+  pub annotations_big : (us : List Tree) → list_all (fits t.limits.max_terms (length path + 1)) us ≡ false → PerformsOn {X = Unit {0}} (annotate name path us) t t (Err Big)
   annotations_big us big = refused (annotate name path us) t Big (λ ps. rw (seen_place.1, big) refl)
 
   module _ (n : Logged) where
-    pub put_done : (part : Tree) → fits (length path) part ≡ true → Puts (subterm i path part) t n → PerformsOn {X = Unit {0}} (put_act name path part) t n (Ok tt)
+    pub put_done : (part : Tree) → fits t.limits.max_terms (length path) part ≡ true → Puts (subterm i path part) t n → PerformsOn {X = Unit {0}} (put_act name path part) t n (Ok tt)
     put_done part fit change = done (put_act name path part) t n (λ ps. rw (seen_place.1, fit) (ap Ok (change.made ps ∙ ap (λ c. changed c (unfolded ps t))
         (ap contents (subterm_put t.store i path there.tree part there.is.held) ∙ tree_put t.store name i (set_at there.tree path part) there.is.named)))) tt
 
-    pub annotated : (us : List Tree) → list_all (fits (length path + 1)) us ≡ true → Puts (subterm_annotations i path us) t n → PerformsOn {X = Unit {0}} (annotate name path us) t n (Ok tt)
+    pub annotated : (us : List Tree) → list_all (fits t.limits.max_terms (length path + 1)) us ≡ true → Puts (subterm_annotations i path us) t n → PerformsOn {X = Unit {0}} (annotate name path us) t n (Ok tt)
     annotated us fit change = done (annotate name path us) t n (λ ps. rw (seen_place.1, fit) (ap Ok (change.made ps ∙ ap (λ c. changed c (unfolded ps t))
         (ap contents (annotations_put t.store i path there.tree us there.is.held) ∙ tree_put t.store name i (set_annotations_at there.tree path us) there.is.named)))) tt
 

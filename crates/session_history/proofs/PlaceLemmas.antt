@@ -56,6 +56,7 @@ module _ (grow : Store → Store) (is : IsGrowth grow) where
         compact = h.compact;
         fits = here.0;
         current = h.current;
+        room = h.room;
       }
 
   unfolded_grown : (t : Logged) (ps : List Signature) → IsPlaced t → unfolded ps (record t { store = grow t.store }) ≡ unfolded ps t
@@ -65,6 +66,7 @@ module _ (grow : Store → Store) (is : IsGrowth grow) where
       let begun : contents (before t.current (grow t.store)) ≡ contents start = ap contents here ∙ is.same start in
       λ i. record {
         primitives = ps;
+        limits = t.limits;
         past = (ap (past_of (take t.position t.logs)) here ∙ past_grown grow is (take t.position t.logs) start h.back) i;
         now = is.same t.store i;
         later = (ap (later_of (drop t.position t.logs)) here ∙ (later_grown grow is (drop t.position t.logs) start h.forward).1) i;
@@ -139,6 +141,7 @@ module _ (t : Logged) (s : Store) (log : List Entry) (adds : AddsEntries t.store
     compact = h.compact;
     fits = subst (λ l. Fits l s) (sym adds.after) (fits-append t.current adds.added s (subst (Fits t.current) (sym adds.back) h.fits) adds.fits);
     current = subst (λ b. OnFalse b (log ≡ [])) (sym was) tt;
+    room = h.room;
   }
 
   pub grown_changes : (g : OpenGroup) → g.changed ≡ true → IsSome t.group → Changes t (record t { store = s; group = Some g; current = log })
@@ -172,6 +175,7 @@ module _ (t : Logged) (s : Store) (logs : List (List Entry)) (log new : List Ent
     compact = subst AllCompact (sym step.all) (all_and IsCompact (take t.position t.logs) step.left (all_take IsCompact t.position t.logs h.compact) step.compact);
     fits = subst (λ l. Fits l s) (sym bare_log) tt;
     current = h.current;
+    room = h.room;
   })
 
   many_unfolded : (ps : List Signature) → unfolded ps (record t { store = s; logs = logs; position = q }) ≡ changed (contents s) (unfolded ps t)
@@ -197,6 +201,7 @@ module _ (t : Logged) (s : Store) (logs : List (List Entry)) (same : s ≡ t.sto
     compact = subst AllCompact (sym all) h.compact;
     fits = subst (Fits t.current) (sym same) h.fits;
     current = h.current;
+    room = h.room;
   }
 
   pub roomier_same : KeepsHistory t (record t { store = s; logs = logs })
@@ -242,6 +247,7 @@ module _ (t : Logged) (q : ℕ) (s : Store) (logs : List (List Entry)) (log : Li
       compact = subst AllCompact (sym all) (all_set IsCompact t.logs q (flipped_back log t.store) h.compact (flipped_back_is_compact log t.store (all_at IsCompact t.logs q log at h.compact)));
       fits = subst (λ l. Fits l s) (sym bare) tt;
       current = h.current;
+      room = h.room;
     }
 
     pub unfolded_back : (ps : List Signature) → step_back (unfolded ps t) ≡ Some (unfolded ps (record t { store = s; logs = logs; position = q }))
@@ -272,6 +278,7 @@ module _ (t : Logged) (q : ℕ) (s : Store) (logs : List (List Entry)) (log : Li
       compact = subst AllCompact (sym all) (all_set IsCompact t.logs q (flipped_forward log t.store) h.compact (flipped_forward_is_compact log t.store (all_at IsCompact t.logs q log at h.compact)));
       fits = subst (λ l. Fits l s) (sym bare) tt;
       current = h.current;
+      room = h.room;
     }
 
     pub unfolded_forward : (ps : List Signature) → step_forward (unfolded ps t) ≡ Some (unfolded ps (record t { store = s; logs = logs; position = q + 1 }))
@@ -315,6 +322,7 @@ module _ (t : Logged) (changed : Bool) (there : IsSome t.group) (flag : changed 
     compact = h.compact;
     fits = h.fits;
     current = subst (λ b. OnFalse b (t.current ≡ [])) (flagged ∙ none) (subst (λ g. IsCurrent g t.current) is_open h.current);
+    room = h.room;
   }
 
   pub kept_commits : changed ≡ false → Commits t (record t { group = None })
@@ -338,6 +346,7 @@ module _ (t : Logged) (changed : Bool) (there : IsSome t.group) (flag : changed 
       compact = subst AllCompact (sym step.all) (all_and IsCompact (take t.position t.logs) step.left (all_take IsCompact t.position t.logs h.compact) step.compact);
       fits = subst (λ l. Fits l t.store) (sym empty) tt;
       current = empty;
+      room = h.room;
     })
 
     committed_unfolded : changed ≡ true → (ps : List Signature)
@@ -348,7 +357,7 @@ module _ (t : Logged) (changed : Bool) (there : IsSome t.group) (flag : changed 
         let later : [] ≡ later_of (drop q logs) (before new t.store) =
         sym (grouped_later t.logs t.position t.store step.left h.within) ∙ (λ i. later_of (drop (sym next i) (sym step.all i)) (sym begins i)) in
         committing ps (unfolded ps (record t { logs = logs; position = q; group = None; current = new }))
-        (ap (closing ps) some ∙ (λ i. record { primitives = ps; past = past i; now = contents t.store; later = later i; group = None }))
+        (ap (closing ps) some ∙ (λ i. record { primitives = ps; limits = t.limits; past = past i; now = contents t.store; later = later i; group = None }))
 
     pub commits : changed ≡ true → Commits t (record t { logs = logs; position = q; group = None; current = new })
     commits some = record { made = committed_unfolded some }

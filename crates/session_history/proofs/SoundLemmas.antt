@@ -70,8 +70,8 @@ sound_no_contents ps = (
 
 -- ---- heights of what is put at a path
 
-pub height_of_fit : (l : ℕ) (t : Tree) → fits l t ≡ true → l + height t ≤ MAX_HEIGHT
-height_of_fit l t h = grind (arith, nat_tests)
+pub height_of_fit : (room l : ℕ) (t : Tree) → fits room l t ≡ true → l + height t ≤ MAX_HEIGHT
+height_of_fit room l t h = grind (arith, nat_tests)
 
 heights-set : (us : List Tree) (i : ℕ) (u : Tree) (n : ℕ) → heights (of_list us) ≤ n → height u ≤ n → heights (of_list (set us i u)) ≤ n
 heights-set [] i u n h k = h
@@ -108,15 +108,15 @@ changed_height f t (i ∷ p) l n h k =
           subst (λ s. l + height s ≤ n) (sym (changed_at-child f t kid i p e)) (with_child_height t i (changed_at f kid p) l n h below)
     ] refl
 
-pub height_of_set : (t u : Tree) (p : List ℕ) → height t ≤ MAX_HEIGHT → fits (length p) u ≡ true → height (set_at t p u) ≤ MAX_HEIGHT
-height_of_set t u p h f =
-    let low = height_of_fit (length p) u f in
+pub height_of_set : (room : ℕ) (t u : Tree) (p : List ℕ) → height t ≤ MAX_HEIGHT → fits room (length p) u ≡ true → height (set_at t p u) ≤ MAX_HEIGHT
+height_of_set room t u p h f =
+    let low = height_of_fit room (length p) u f in
     let all = changed_height (λ _. u) t p 0 MAX_HEIGHT (omega (arith, h)) (λ v b. omega (arith, low)) in
     omega (arith, all, ap height (set_at-changed t u p))
 
-heights_of_fit : (l : ℕ) (us : List Tree) → list_all (fits l) us ≡ true → l ≤ MAX_HEIGHT → l + heights (of_list us) ≤ MAX_HEIGHT
-heights_of_fit l [] h k = omega (arith, k)
-heights_of_fit l (u ∷ us) h k = grind (arith, nat_tests, heights_of_fit l us, height_of_fit l u)
+heights_of_fit : (room l : ℕ) (us : List Tree) → list_all (fits room l) us ≡ true → l ≤ MAX_HEIGHT → l + heights (of_list us) ≤ MAX_HEIGHT
+heights_of_fit room l [] h k = omega (arith, k)
+heights_of_fit room l (u ∷ us) h k = grind (arith, nat_tests, heights_of_fit room l us, height_of_fit room l u)
 
 annotated_height : (t : Tree) (us : List Tree) (l n : ℕ) → l + height t ≤ n → l + 1 + heights (of_list us) ≤ n → l + height (with_annotations t us) ≤ n
 annotated_height t us l n h k = grind arith
@@ -125,10 +125,10 @@ some_height : (t : Tree) → 1 ≤ height t
 some_height (integer z notes) = omega arith
 some_height (branch head kids notes) = omega arith
 
-pub height_of_annotated : (t : Tree) (us : List Tree) (p : List ℕ) → height t ≤ MAX_HEIGHT → list_all (fits (length p + 1)) us ≡ true → height (set_annotations_at t p us) ≤ MAX_HEIGHT
-height_of_annotated t us p h f =
+pub height_of_annotated : (room : ℕ) (t : Tree) (us : List Tree) (p : List ℕ) → height t ≤ MAX_HEIGHT → list_all (fits room (length p + 1)) us ≡ true → height (set_annotations_at t p us) ≤ MAX_HEIGHT
+height_of_annotated room t us p h f =
     let all = changed_height (λ u. with_annotations u us) t p 0 MAX_HEIGHT (omega (arith, h)) (λ v b.
-    let low : length p + 1 + heights (of_list us) ≤ MAX_HEIGHT = heights_of_fit (length p + 1) us f (omega (arith, b, some_height v)) in
+    let low : length p + 1 + heights (of_list us) ≤ MAX_HEIGHT = heights_of_fit room (length p + 1) us f (omega (arith, b, some_height v)) in
     annotated_height v us (0 + length p) MAX_HEIGHT b (omega (arith, low))) in
     omega (arith, all, ap height (set_annotations_at-changed t us p))
 
@@ -235,8 +235,8 @@ tree_put act h g name tree done within = record {
 
 pub trees_change : (act : Act) (h g : History) → ChangesTrees act → ComesTo act h (Ok g) → TreesChange act h g
 trees_change (set_tree name tree) h g only done =
-    let fit = holding_Ok (fits 0 tree) Big (ChangesTo (with_tree h.now name tree) h) g done in
-    tree_put (set_tree name tree) h g name tree fit.1 (λ _ low. omega (arith, height_of_fit 0 tree fit.0))
+    let fit = holding_Ok (fits h.limits.max_terms 0 tree) Big (ChangesTo (with_tree h.now name tree) h) g done in
+    tree_put (set_tree name tree) h g name tree fit.1 (λ _ low. omega (arith, height_of_fit h.limits.max_terms 0 tree fit.0))
 trees_change (copy_tree name copy) h g only done =
     let there = passing_Ok (tree_of h.now name) (λ t. ChangesTo (with_tree h.now copy t) h) g done in
     tree_put (copy_tree name copy) h g copy there.0 there.2 (λ _ low. low_at h.now name there.0 (ok_or-Ok (get h.now.trees name) NoTree there.0 there.1) low)
@@ -250,15 +250,15 @@ trees_change (drop_tree name) h g only done =
 trees_change (put name path part) h g only done =
     let there = passing_Ok (place_of h.now name path) (PutsAt name path part h) g done in
     let tree = set_at there.0.tree path part in
-    let fit = holding_Ok (fits (length path) part) Big (ChangesTo (with_tree h.now name tree) h) g there.2 in
+    let fit = holding_Ok (fits h.limits.max_terms (length path) part) Big (ChangesTo (with_tree h.now name tree) h) g there.2 in
     let within = low_at h.now name there.0.tree (place_tree h.now name path there.0 there.1) in
-    tree_put (put name path part) h g name tree fit.1 (λ _ low. height_of_set there.0.tree part path (within low) fit.0)
+    tree_put (put name path part) h g name tree fit.1 (λ _ low. height_of_set h.limits.max_terms there.0.tree part path (within low) fit.0)
 trees_change (annotate name path us) h g only done =
     let there = passing_Ok (place_of h.now name path) (AnnotatesAt name path us h) g done in
     let tree = set_annotations_at there.0.tree path us in
-    let fit = holding_Ok (list_all (fits (length path + 1)) us) Big (ChangesTo (with_tree h.now name tree) h) g there.2 in
+    let fit = holding_Ok (list_all (fits h.limits.max_terms (length path + 1)) us) Big (ChangesTo (with_tree h.now name tree) h) g there.2 in
     let within = low_at h.now name there.0.tree (place_tree h.now name path there.0 there.1) in
-    tree_put (annotate name path us) h g name tree fit.1 (λ _ low. height_of_annotated there.0.tree us path (within low) fit.0)
+    tree_put (annotate name path us) h g name tree fit.1 (λ _ low. height_of_annotated h.limits.max_terms there.0.tree us path (within low) fit.0)
 trees_change (apply meaning name path steps text) h g only done =
     let Resolves : Located → Strategy → Program → ActResult → Type 0 = λ place s program. Passing (resolved_in program h.primitives s) (AppliesAt meaning name path steps h place program) in
     let Checked : Located → Strategy → ActResult → Type 0 = λ place s. Given (Checks h.primitives h.now.modules) (Resolves place s) in
@@ -267,11 +267,11 @@ trees_change (apply meaning name path steps text) h g only done =
     let read = given_Ok (ReadsAsStrategy text) (Checked there.0) g there.2 in
     let checked = given_Ok (Checks h.primitives h.now.modules) (Resolves there.0 read.0) g read.2 in
     let whole = passing_Ok (resolved_in checked.0 h.primitives read.0) (AppliesAt meaning name path steps h there.0 checked.0) g checked.2 in
-    let ending = applied (world_in meaning checked.0 h.primitives) path whole.0 steps there.0.tree in
+    let ending = applied (world_in meaning checked.0 h.primitives h.limits.max_terms) path whole.0 steps there.0.tree in
     let given = passing_Ok (given_by ending) (λ tree. ChangesTo (with_tree h.now name tree) h) g whole.2 in
     let within = low_at h.now name there.0.tree (place_tree h.now name path there.0 there.1) in
     tree_put (apply meaning name path steps text) h g name given.0 given.2
-    (λ keeps low. given_low ending given.0 given.1 (keeps (world_in meaning checked.0 h.primitives) path whole.0 steps there.0.tree (within low)))
+    (λ keeps low. given_low ending given.0 given.1 (keeps (world_in meaning checked.0 h.primitives h.limits.max_terms) path whole.0 steps there.0.tree (within low)))
 trees_change act h g only done = absurd only
 
 -- a change of the trees leaves the modules as they are

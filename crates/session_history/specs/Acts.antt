@@ -92,16 +92,16 @@ abbrev pub ChangesModules : Option HistoryGroup → Contents → History → Act
 ChangesModules None c h = Given (Checks h.primitives c.modules) (λ program. ChangesTo c h)
 ChangesModules (Some g) c h = ChangesTo c h
 
--- A tree put at a place has to fit at its level, the length of the path; annotations have to fit
--- one level below.
+-- A tree put at a place has to fit at its level, the length of the path, in the session's room;
+-- annotations have to fit one level below.
 abbrev pub PutsAt : List ℕ → List ℕ → Tree → History → Located → ActResult → Type 0
 PutsAt name path part h place =
-    Holding (fits (length path) part) Big
+    Holding (fits h.limits.max_terms (length path) part) Big
     (ChangesTo (with_tree h.now name (set_at place.tree path part)) h)
 
 abbrev pub AnnotatesAt : List ℕ → List ℕ → List Tree → History → Located → ActResult → Type 0
 AnnotatesAt name path annotations h place =
-    Holding (list_all (fits (length path + 1)) annotations) Big
+    Holding (list_all (fits h.limits.max_terms (length path + 1)) annotations) Big
     (ChangesTo (with_tree h.now name (set_annotations_at place.tree path annotations)) h)
 
 -- A strategy, given as text, for a place: the place has to be there, the text has to be one, and the
@@ -116,7 +116,7 @@ Resolving name path text h next =
 -- The result of the strategy there becomes the label's tree, by a change.
 abbrev pub AppliesAt : Meaning → List ℕ → List ℕ → ℕ → History → Located → Program → Resolved → ActResult → Type 0
 AppliesAt meaning name path steps h place program strategy =
-    Passing (given_by (applied (world_in meaning program h.primitives) path strategy steps place.tree))
+    Passing (given_by (applied (world_in meaning program h.primitives h.limits.max_terms) path strategy steps place.tree))
     (λ tree. ChangesTo (with_tree h.now name tree) h)
 
 -- The changes of an open group become one step, if there are any.
@@ -128,7 +128,7 @@ committed g h =
 -- that many steps, and no open group; a group is committed if the checker finds no fault in the
 -- modules.
 abbrev pub ComesTo : Act → History → ActResult → Type 0
-ComesTo (set_tree name tree) h = Holding (fits 0 tree) Big (ChangesTo (with_tree h.now name tree) h)
+ComesTo (set_tree name tree) h = Holding (fits h.limits.max_terms 0 tree) Big (ChangesTo (with_tree h.now name tree) h)
 ComesTo (copy_tree name copy) h =
     Passing (tree_of h.now name) (λ tree. ChangesTo (with_tree h.now copy tree) h)
 ComesTo (drop_tree name) h = Passing (tree_of h.now name) (λ tree. ChangesTo (without_tree h.now name) h)

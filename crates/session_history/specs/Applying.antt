@@ -33,10 +33,10 @@ abbrev pub resolved_in : Program → Primitives → Strategy → Result Resolved
 resolved_in program primitives s =
     unless_faulty (first (faults_of program primitives s)) (resolved program primitives s)
 
--- what the numbers in a resolved strategy stand for
-abbrev pub world_in : Meaning → Program → Primitives → World
-world_in meaning program primitives =
-    record { bodies = program.bodies; primitives = primitives; meaning = meaning }
+-- what the numbers in a resolved strategy stand for, and the room
+abbrev pub world_in : Meaning → Program → Primitives → ℕ → World
+world_in meaning program primitives room =
+    record { bodies = program.bodies; primitives = primitives; meaning = meaning; room = room }
 
 -- the refusal for each reason why a run stops
 abbrev pub stopped_as : Stop → Refusal

@@ -7,31 +7,43 @@ use Rattle.std.specs.Bool.{OnFalse}
 use Rattle.std.specs.List.{AllByRecursion}
 use Rattle.std.specs.FinMap as finmap
 use Rattle.term_core.specs.Size.{height}
-use Rattle.term_core.specs.declared.TheConstants.{MAX_HEIGHT}
+use Rattle.term_core.specs.declared.TheConstants.{MAX_HEIGHT, MAX_SIZE}
 use Rattle.prim_core.specs.Signature.{Signature}
 use Rattle.term_core.specs.Tree.{Tree}
 use Rattle.term_changes.specs.Contents.{Contents, Named, no_contents}
 use Rattle.strategy_check.specs.Faults.{Primitives}
 use Rattle.session_modules.specs.Modules.{AreReadable, Finds}
+use Rattle.session_history.specs.declared.TheConstants.{MAX_BUDGET}
+use Rattle.session_history.specs.declared.limits.Limits.{Limits}
 
 -- An open group: the contents where it began, and whether a change was accepted since.
 pub record HistoryGroup : Type 0 where
   pub begun : Contents
   pub changed : Bool
 
--- The primitives of the session; the contents from before each step, the newest first; the current
--- contents; those that were undone, the nearest first; and the open group, if there is one.
+-- The primitives of the session and its limits; the contents from before each step, the newest
+-- first; the current contents; those that were undone, the nearest first; and the open group, if
+-- there is one.
 pub record History : Type 0 where
   pub primitives : List Signature
+  pub limits : Limits
   pub past : List Contents
   pub now : Contents
   pub later : List Contents
   pub group : Option HistoryGroup
 
+-- room for 100,000 terms, and budgets of up to 1,000,000 steps
+abbrev pub default_limits : Limits
+default_limits = record { max_terms = MAX_SIZE; max_steps = MAX_BUDGET }
+
+-- a new session with these limits and primitives
+abbrev pub empty_within : Limits → List Signature → History
+empty_within limits primitives =
+    record { primitives = primitives; limits = limits; past = []; now = no_contents; later = []; group = None }
+
 -- a new session with these primitives
 abbrev pub empty_history : List Signature → History
-empty_history primitives =
-    record { primitives = primitives; past = []; now = no_contents; later = []; group = None }
+empty_history = empty_within default_limits
 
 -- One more step, from these contents to the current ones: the former become past, and nothing is
 -- later.

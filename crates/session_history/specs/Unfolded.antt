@@ -4,6 +4,7 @@ use Rattle.std.specs.declared.option.Option.{Option}
 use Rattle.std.specs.Bool.{OnFalse}
 use Rattle.std.specs.List.{AllByRecursion}
 use Rattle.term_core.specs.Tree.{Tree}
+use Rattle.term_core.specs.declared.TheConstants.{MAX_ROOM}
 use Rattle.term_paths.specs.Paths.{leads}
 use Rattle.prim_core.specs.Signature.{Signature}
 use Rattle.term_changes.specs.Contents.{Contents}
@@ -11,16 +12,18 @@ use Rattle.term_changes.specs.Slots.{Store, HaveDistinctLabels, contents, conten
 use Rattle.term_changes.specs.Entries.{Entry, before, after, Fits, FitsForward}
 use Rattle.term_changes.specs.Compact.{IsCompact}
 use Rattle.session_history.specs.History.{History}
+use Rattle.session_history.specs.declared.limits.Limits.{Limits}
 use Rattle.session_history.specs.declared.timeline.OpenGroup.{OpenGroup}
 
 -- The steps that a session keeps: the store, the log of each step, the oldest first, the number of
--- those that lead back, the open group, and the changes since it began.
+-- those that lead back, the open group, and the changes since it began. And the session's limits.
 pub record Logged : Type 0 where
   pub store : Store
   pub logs : List (List Entry)
   pub position : ℕ
   pub group : Option OpenGroup
   pub current : List Entry
+  pub limits : Limits
 
 -- the store before the steps of these logs, the newest last
 abbrev pub rewound : List (List Entry) → Store → Store
@@ -60,6 +63,7 @@ abbrev pub unfolded : List Signature → Logged → History
 unfolded primitives t =
     record {
       primitives = primitives;
+      limits = t.limits;
       past = past_contents t;
       now = contents t.store;
       later = later_contents t;
@@ -76,7 +80,7 @@ abbrev pub AllCompact : List (List Entry) → Type 0
 AllCompact = AllByRecursion IsCompact
 
 -- The position is that of a log or the end; the logs before it lead back, the others forward. All
--- are compact. The changes of an open group lead back too.
+-- are compact. The changes of an open group lead back too. The limits are within their range.
 pub record IsPlaced (t : Logged) : Type 0 where
   pub within : t.position ≤ length t.logs
   pub back : FitBack (take t.position t.logs) (before t.current t.store)
@@ -84,6 +88,7 @@ pub record IsPlaced (t : Logged) : Type 0 where
   pub compact : AllCompact t.logs
   pub fits : Fits t.current t.store
   pub current : IsCurrent t.group t.current
+  pub room : t.limits.max_terms ≤ MAX_ROOM
 
 -- The slot has this name, which no other has, and this tree.
 pub record HasTree (s : Store) (name : List ℕ) (slot : ℕ) (tree : Tree) : Type 0 where

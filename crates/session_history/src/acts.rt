@@ -23,7 +23,7 @@ impl Timeline {
     pub fn set_tree(&mut self, name: &Label, tree: Term) -> Result<(), Refusal>
         ensures { PerformsOn (set_tree name.now tree) self.old self.new result }
     {
-        if !tree.fits(0) {
+        if !tree.fits(0, self.limits().max_terms) {
             return Err(Refusal::Big);
         }
         let slot = self.tree_slot(name)?;
@@ -60,7 +60,7 @@ impl Timeline {
         ensures { PerformsOn (put name.now path.now part) self.old self.new result }
     {
         let slot = self.place(name, path)?;
-        if !part.fits(path.len() as u64) {
+        if !part.fits(path.len() as u64, self.limits().max_terms) {
             return Err(Refusal::Big);
         }
         self.change(Entry::subterm(slot, path.parts(), part))?;
@@ -77,7 +77,8 @@ impl Timeline {
         ensures { PerformsOn (annotate name.now path.now annotations.items) self.old self.new result }
     {
         let slot = self.place(name, path)?;
-        if !all_fit(&annotations, path.parts().len() as u64 + 1) {
+        let level = path.parts().len() as u64 + 1;
+        if !all_fit(&annotations, level, self.limits().max_terms) {
             return Err(Refusal::Big);
         }
         self.change(Entry::annotations(slot, path.parts(), annotations))?;
@@ -153,9 +154,9 @@ impl Timeline {
     }
 }
 
-// Whether all terms fit at the level.
-fn all_fit(terms: &[Term], level: u64) -> bool
-    ensures { result ≡ list_all (fits level) terms.now }
+// Whether all terms fit at the level in this room.
+fn all_fit(terms: &[Term], level: u64, room: u32) -> bool
+    ensures { result ≡ list_all (fits room level) terms.now }
 {
-    terms.iter().all(|term| term.fits(level))
+    terms.iter().all(|term| term.fits(level, room))
 }

@@ -5,14 +5,19 @@
 mod acts;
 mod dump;
 mod finding;
+mod limits;
 mod modules;
 mod timeline;
 
+pub use limits::Limits;
 pub use session_modules::{ModuleCache, Refusal};
 pub use timeline::{OpenGroup, Timeline};
 
 /// The most steps of one `undo` or `redo`.
 pub const MAX_STEPS: u32 = 1_000_000;
 
-/// The greatest budget of an evaluation: the steps that it may take.
+/// The greatest budget of a command by default: the steps that its strategy may take.
 pub const MAX_BUDGET: u32 = 1_000_000;
+
+/// The most that [`Limits::max_steps`] can be on a command line.
+pub const MOST_STEPS: u32 = 4_000_000_000;

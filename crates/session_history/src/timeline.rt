@@ -1,15 +1,16 @@
 //! Steps over one store: the logs that lead back from each, or forward again.
 
-ghost use Rattle.std.specs.Prelude.{◌≡◌, ◌⊎◌, ◌<◌, ◌≤◌, ◌+◌, ◌-◌, ◌++◌, ℕ, List, [], ◌∷◌, length, take, vec_capacity, IfOk, IfSome, OnOk, OnErr, Some, None, Ok, Err, IsSome, IsSomeAnd, true, false, is_some, option_copied, option_map, IfErr};
+ghost use Rattle.std.specs.Prelude.{◌≡◌, ◌⊎◌, ◌<◌, ◌≤◌, ◌+◌, ◌-◌, ◌++◌, ℕ, List, [], ◌∷◌, length, take, slice_get, vec_capacity, IfOk, IfSome, OnOk, OnErr, Some, None, Ok, Err, IsSome, IsSomeAnd, true, false, is_some, option_copied, option_map, IfErr};
 ghost use Rattle.std.specs.Bool.{OnFalse};
 ghost use Rattle.std.specs.Option.{option_map_or};
 ghost use Rattle.std.specs.FinMap as finmap;
 ghost use Rattle.std.specs.declared.option.Option.{Option};
+ghost use Rattle.term_core.specs.declared.TheConstants.{MAX_ROOM};
 ghost use Rattle.prim_core.specs.Signature.{Signature};
 ghost use Rattle.term_changes.specs.Slots.{Store, contents, slot_of, HaveDistinctLabels};
 ghost use Rattle.term_changes.specs.Entries.{Entry, HasPlace, slot_text, after, FitsForward};
 ghost use Rattle.term_changes.specs.PatchLaws.{patch_entries};
-ghost use Rattle.session_history.specs.History.{empty_history, step_back, step_forward, undone, redone};
+ghost use Rattle.session_history.specs.History.{empty_within, step_back, step_forward, undone, redone};
 ghost use Rattle.session_history.specs.Acts.{begin, abandon};
 ghost use Rattle.session_modules.specs.Modules.{Checks, changed_text};
 ghost use Rattle.session_modules.specs.Kept.{IsCurrent, IsKept};
@@ -18,6 +19,7 @@ ghost use Rattle.session_history.specs.inside.Adding.{AddsStep};
 ghost use Rattle.session_history.specs.Moving.{KeepsHistory, Changes, Puts, Moves, Leads, Commits};
 
 use crate::finding::{find_text, find_tree};
+use crate::limits::Limits;
 use change_log::{Entry, Log, Plan, Step, Store, Text};
 use prim_core::{Meaning, Primitives};
 use session_modules::{ModuleCache, ReadModule, Refusal};
@@ -38,6 +40,7 @@ pub struct Timeline {
     group: Option<OpenGroup>,
     // The changes since the open group began; empty outside a group.
     current: Log,
+    limits: Limits,
 }
 
 impl Model for Timeline {
@@ -64,9 +67,10 @@ pub struct OpenGroup {
 }
 
 impl Timeline {
-    /// A timeline without contents and steps. It takes no memory.
-    pub fn new(alloc: Global) -> Timeline
-        ensures { (ps : List Signature) → unfolded ps result ≡ empty_history ps }
+    /// A timeline with these limits, without contents and steps. It takes no memory.
+    pub fn new(alloc: Global, limits: Limits) -> Timeline
+        requires { limits.max_terms ≤ MAX_ROOM }
+        ensures { (ps : List Signature) → unfolded ps result ≡ empty_within limits ps }
     {
         Timeline {
             store: Store::new(alloc),
@@ -74,7 +78,16 @@ impl Timeline {
             position: 0,
             group: None,
             current: Log::new(alloc),
+            limits,
         }
+    }
+
+    /// The limits of terms and budgets.
+    pub fn limits(&self) -> Limits
+        ensures value { result ≡ self.now.limits }
+        ensures room { result.max_terms ≤ MAX_ROOM }
+    {
+        self.limits
     }
 
     /// The allocator of everything kept.
@@ -112,6 +125,17 @@ impl Timeline {
         ensures rest { self.now.position + result ≡ length self.now.logs }
     {
         self.logs.len() - self.position
+    }
+
+    /// Whether the last of the steps to undo has no changes. It is false where there is no such step,
+    /// and in an open group.
+    pub fn last_is_empty(&self) -> bool
+        ensures { result ≡ true → slice_get self.now.logs (self.now.position - 1) ≡ Some [] }
+    {
+        if self.position == 0 || self.in_group() {
+            return false;
+        }
+        self.logs[self.position - 1].is_empty()
     }
 
     /// Whether a group is open.

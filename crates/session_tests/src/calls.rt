@@ -2,7 +2,7 @@
 
 use prim_core::{NoPrimitives, Primitives};
 use session_core::laws::{steps_are_compact, undo_and_redo_are_inverse};
-use session_core::{Refusal, Session};
+use session_core::{Limits, Refusal, Session};
 use std::alloc::Global;
 use std::test::Fail;
 use term_core::{Label, LabelFault, NoMemory, Term};
@@ -12,6 +12,16 @@ use term_paths::Path;
 // in each function that holds one.
 fn new_session(alloc: Global) -> Result<Box<Session<NoPrimitives>>, Fail> {
     let session = Session::new(alloc, Primitives::new(Vec::new(alloc)));
+    Ok(Box::new(alloc, session)?)
+}
+
+// A new session with room for three terms.
+fn small_session(alloc: Global) -> Result<Box<Session<NoPrimitives>>, Fail> {
+    let limits = Limits {
+        max_terms: 3,
+        max_steps: 5,
+    };
+    let session = Session::with_limits(alloc, Primitives::new(Vec::new(alloc)), limits);
     Ok(Box::new(alloc, session)?)
 }
 
@@ -108,10 +118,41 @@ fn new_session_answers(alloc: Global) -> Result<bool, Fail> {
     answers(alloc, &mut session)
 }
 
+fn pair_of(alloc: Global, first: Term, second: i64) -> Result<Term, NoMemory> {
+    let parts = vec![in alloc; first, Term::integer(alloc, second)]?;
+    Ok(Term::tuple(alloc, parts))
+}
+
+// A pair fits, and not with a pair in it, whether that is read or built.
+fn keeps_limits(alloc: Global, session: &mut Session<NoPrimitives>) -> Result<bool, Fail> {
+    let t = Label::read(alloc, b"t")?;
+    let root = Path::root(alloc);
+    let pair = pair_of(alloc, Term::integer(alloc, 1), 2)?;
+    let large = pair_of(alloc, pair.try_clone()?, 3)?;
+    let is_large = matches!(session.set_tree(&t, large), Err(Refusal::Big));
+    session.set_tree(&t, pair)?;
+    session.apply(&t, &root, 10, b"!(3,4)")?;
+    let built = session.apply(&t, &root, 10, b"!(3,(4,5))");
+    let is_built = matches!(built, Err(Refusal::Big));
+    let limits = session.limits();
+    Ok(is_large && is_built && (limits.max_terms, limits.max_steps) == (3, 5))
+}
+
+fn small_session_keeps_limits(alloc: Global) -> Result<bool, Fail> {
+    let mut session = small_session(alloc)?;
+    keeps_limits(alloc, &mut session)
+}
+
 #[test]
 fn each_call_is_answered(rt: HostRuntime) -> Result<(), Fail> {
     assert!(rt; new_session_answers(rt.alloc())?);
     undo_and_redo_are_inverse();
+    Ok(())
+}
+
+#[test]
+fn limits_are_kept(rt: HostRuntime) -> Result<(), Fail> {
+    assert!(rt; small_session_keeps_limits(rt.alloc())?);
     Ok(())
 }
 

@@ -2,7 +2,7 @@ use Rattle.std.proofs.Common.{sym, subst}
 use Rattle.term_changes.specs.Slots.{contents}
 use Rattle.session_history.specs.History.{HasSoundContents}
 use Rattle.session_history.proofs.SoundLemmas.{sound_no_contents}
-use Rattle.session_core.proofs.session.Session.new.Goals as goal
+use Rattle.session_core.proofs.session.Session.with_limits.Goals as goal
 
 pub invariant_of-result : goal.invariant_of-result
 invariant_of-result g c = record {
