@@ -19,8 +19,9 @@ use Rattle.script_text.specs.Script.{without_end}
 use Rattle.script_text.specs.Handed.{Handed, text as handed_text, long}
 use Rattle.std.specs.Str.{bytes_eq}
 use Rattle.script_text.specs.Form.{Form, is_without_memory, undo, redo, begin, abandon, checked, form_of, form_with, last_steps, has_word, front_word, after_word, takes_no_memory, takes_no_memory_with}
+use Rattle.script_text.specs.declared.command.Budgets.{Budgets}
 use Rattle.script_text.specs.CommandView.{form}
-use Rattle.script_text.specs.Replies.{Reply, ReadAs, Told, done, told_of, Replies, ReplyTo, ReplyToText, refused, line}
+use Rattle.script_text.specs.Replies.{Reply, ReadAs, Told, done, told_of, Replies, budgets_in, ReplyTo, ReplyToText, refused, line}
 use Rattle.script_text.specs.Answer.{Answered, ReplyInRun, TellsRefusal, takes_none, is_fault}
 use Rattle.script_text.specs.KeywordView.{form_after, is_without_memory_after}
 use Rattle.script_core.specs.inside.Performing.{Refuses, PerformedRight, ReplyToForm, ToldRight, reading_refusal}
@@ -140,7 +141,7 @@ leaving : (group : Option HistoryGroup) (next : HistoryGroup → History) (outco
 leaving None next outcome p = same_told outcome (Err NoGroup) p refl
 leaving (Some g) next outcome p = same_told outcome (Ok (next g)) p refl
 
-module _ (meaning : Meaning) (budget : ℕ) (h : History) (reply : Reply) where
+module _ (meaning : Meaning) (budgets : Budgets) (h : History) (reply : Reply) where
   abbrev Says : Option Form → Type 0
   Says form = MatchResult (checked form) (λ f. Replies meaning f h reply) (λ refusal. reply ≡ Err refusal)
 
@@ -160,9 +161,9 @@ module _ (meaning : Meaning) (budget : ℕ) (h : History) (reply : Reply) where
   abandon_said true m = ap tells_fault m
   abandon_said false m = ap tells_fault m.2 ∙ leaving h.group (λ g. record h { now = g.begun; group = None }) m.0 m.1
 
-  module _ (keyword rest : List ℕ) (m : Says (form_with budget keyword rest)) where
-    said_as : (word : List ℕ) → true ≡ bytes_eq keyword word → Says (form_with budget word rest)
-    said_as word e = let P : List ℕ → Type 0 = λ w. Says (form_with budget w rest) in subst P (same_text keyword word e) m
+  module _ (keyword rest : List ℕ) (m : Says (form_with budgets keyword rest)) where
+    said_as : (word : List ℕ) → true ≡ bytes_eq keyword word → Says (form_with budgets word rest)
+    said_as word e = let P : List ℕ → Type 0 = λ w. Says (form_with budgets w rest) in subst P (same_text keyword word e) m
 
     by_word : (a b c d : Bool) → a ≡ bytes_eq keyword (codes "undo") → b ≡ bytes_eq keyword (codes "redo") → c ≡ bytes_eq keyword (codes "begin") → d ≡ bytes_eq keyword (codes "abandon") →
         (a || b || c || d) ≡ true → tells_fault reply ≡ false
@@ -181,7 +182,7 @@ told_shortly meaning budget (handed_text c) h refusal fault reply = at (takes_no
     at : (b : Bool) → takes_no_memory c ≡ b → takes_no_memory c ≡ false
     at false e = e
     at true e =
-        let short : is_fault refusal ≡ false = said_shortly meaning budget h (Err refusal) (front_word (without_end is_blank c)) (after_word (without_end is_blank c)) reply e in
+        let short : is_fault refusal ≡ false = said_shortly meaning (budgets_in h budget) h (Err refusal) (front_word (without_end is_blank c)) (after_word (without_end is_blank c)) reply e in
         absurd (cc)
 told_shortly meaning budget long h refusal fault reply = let short : is_fault refusal ≡ false = ap tells_fault reply in absurd (cc)
 
@@ -206,10 +207,10 @@ answered meaning budget command h g answer false (refusal, inr reply, same, inr 
 
 -- a command that is answered by its form
 pub by_form : (meaning : Meaning) (budget : ℕ) (command : Handed) (text : List ℕ) (keyword known : Keyword) (rest : List ℕ) (h g : History) (answer : List ℕ) (verdict : Bool) →
-    command ≡ handed_text text → form_of budget text ≡ form_after keyword budget rest → takes_no_memory text ≡ is_without_memory_after keyword → keyword ≡ known →
-    ToldRight (ReplyToForm meaning (form_after known budget rest) h) (is_without_memory_after known) h g answer verdict → Answered (ReplyInRun meaning budget) command h g answer verdict
+    command ≡ handed_text text → form_of (budgets_in h budget) text ≡ form_after keyword (budgets_in h budget) rest → takes_no_memory text ≡ is_without_memory_after keyword → keyword ≡ known →
+    ToldRight (ReplyToForm meaning (form_after known (budgets_in h budget) rest) h) (is_without_memory_after known) h g answer verdict → Answered (ReplyInRun meaning budget) command h g answer verdict
 by_form meaning budget command text keyword known rest h g answer verdict is same quiet e t =
     answered meaning budget command h g answer verdict
     (subst (λ (c : Handed). ToldRight (ReplyTo meaning budget c h) (takes_none c) h g answer verdict) (sym is)
     (subst (λ (none : Bool). ToldRight (ReplyToText meaning budget text h) none h g answer verdict) (sym (quiet ∙ ap is_without_memory_after e))
-    (subst (λ (asked : Option Form). ToldRight (ReplyToForm meaning asked h) (is_without_memory_after known) h g answer verdict) (sym (same ∙ ap (λ k. form_after k budget rest) e)) t)))
+    (subst (λ (asked : Option Form). ToldRight (ReplyToForm meaning asked h) (is_without_memory_after known) h g answer verdict) (sym (same ∙ ap (λ k. form_after k (budgets_in h budget) rest) e)) t)))

@@ -4,10 +4,9 @@ ghost use Rattle.std.specs.Prelude.{◌≡◌, ◌⊎◌, Ok, Err, OnOk, IfOk, I
 ghost use Rattle.aterm_text.specs.Grammar.{Spells, SpellsAnnotations};
 ghost use Rattle.term_core.specs.Tree.{Tree};
 ghost use Rattle.session_history.specs.Acts.{place_of};
-ghost use Rattle.session_history.specs.Budget.{IsBudget};
-ghost use Rattle.script_text.specs.Form.{tree, put, annotate, HasBudget, is_without_memory};
+ghost use Rattle.script_text.specs.Form.{tree, put, annotate, is_without_memory};
 ghost use Rattle.script_text.specs.FedRight.{handed_out};
-ghost use Rattle.script_text.specs.Replies.{ReadAs, Replies, line};
+ghost use Rattle.script_text.specs.Replies.{ReadAs, Replies, budgets_in, line};
 ghost use Rattle.script_text.specs.Answer.{Answered, ReplyInRun, TellsRefusal};
 ghost use Rattle.script_text.specs.CommandView.{form as form_seen};
 ghost use Rattle.script_text.specs.KeywordView.{form_after, is_without_memory_after, tree_form, put_form};
@@ -18,7 +17,9 @@ use crate::preview::show_preview;
 use crate::watch::{Unwatched, Watch};
 use aterm_text::{ReadFault, read, read_annotations};
 use prim_core::Meaning;
-use script_text::{Command, Keyword, Piece, read_name_and_text, read_path_and_text, split_keyword};
+use script_text::{
+    Budgets, Command, Keyword, Piece, read_name_and_text, read_path_and_text, split_keyword,
+};
 use session_core::{Refusal, Session};
 use std::alloc::Global;
 use term_core::{Label, Term};
@@ -26,7 +27,7 @@ use term_paths::{Path, at};
 
 /// Writes the answer of a command, in place of what was in the buffer, and returns whether the
 /// command was accepted. If memory can't grow, the answer is `refused 1 memory` and the session
-/// stays as it was. `budget`, from 1 to 1,000,000, is that of a command that names none.
+/// stays as it was. `budget` is that of a command that names none.
 ///
 /// For example, `show t` is answered by `f(a)` and a line feed where that is the tree `t`, and by
 /// `refused 5 notree` and a line feed, with `false`, where there is none.
@@ -37,7 +38,6 @@ pub fn answer_text<M: Meaning>(
     budget: u32,
     answer: &mut Answer,
 ) -> bool
-    requires { IsBudget budget }
     ensures { Answered (ReplyInRun M.meaning budget) (handed_out command.entry) session.old session.new answer.new result }
 {
     answer_watched(alloc, session, command, budget, answer, &mut Unwatched)
@@ -53,7 +53,6 @@ pub fn answer_watched<M: Meaning, W: Watch<M>>(
     answer: &mut Answer,
     watch: &mut W,
 ) -> bool
-    requires { IsBudget budget }
     ensures { Answered (ReplyInRun M.meaning budget) (handed_out command.entry) session.old session.new answer.new result }
 {
     watch.expected(session, command);
@@ -164,11 +163,11 @@ fn answer_form<M: Meaning, W: Watch<M>>(
     answer: &mut Answer,
     watch: &mut W,
 ) -> bool
-    requires { IsBudget budget }
-    ensures { ToldRight (ReplyToForm M.meaning (form_after keyword budget rest.now) session.old) (is_without_memory_after keyword)
+    ensures { ToldRight (ReplyToForm M.meaning (form_after keyword (budgets_in session.old budget) rest.now) session.old) (is_without_memory_after keyword)
         session.old session.new answer.new result }
 {
-    match Command::read_form(alloc, keyword, rest, budget) {
+    let budgets = budgets_of(session, budget);
+    match Command::read_form(alloc, keyword, rest, budgets) {
         Ok(read) => match perform(alloc, session, &read, answer) {
             Ok(()) => {
                 watch.accepted(session, Piece::Text(command));
@@ -180,6 +179,16 @@ fn answer_form<M: Meaning, W: Watch<M>>(
     }
 }
 
+// The budgets of commands in the session: this one if a command names none.
+fn budgets_of<M: Meaning>(session: &Session<M>, usual: u32) -> Budgets
+    ensures { result ≡ budgets_in session.now usual }
+{
+    Budgets {
+        most: session.limits().max_steps,
+        usual,
+    }
+}
+
 // Does what a command says and writes its answer.
 #[tactic(auto, using(crate::proofs::AnswerLemmas::by_acts))]
 fn perform<M: Meaning>(
@@ -188,7 +197,6 @@ fn perform<M: Meaning>(
     command: &Command<'_>,
     answer: &mut Answer,
 ) -> Result<(), Refusal>
-    requires { HasBudget (form_seen command.now) }
     ensures { PerformedRight (Replies M.meaning (form_seen command.now) session.old) (is_without_memory (form_seen command.now)) result
         session.old session.new answer.new }
 {

@@ -1,8 +1,14 @@
 //! Laws over definitions alone: about runs, and about the bounds that definitions name.
 
-ghost use Rattle.std.specs.Prelude.{◌≡◌, ◌&&◌, ℕ, List, length, Some, None, nat_le, if◌then◌else◌};
+ghost use Rattle.std.specs.Prelude.{◌≡◌, ◌+◌, ◌&&◌, ℕ, List, length, Some, None, nat_le, if◌then◌else◌};
 ghost use Rattle.term_core.specs.Word.{is_word, label_of};
-ghost use Rattle.term_core.specs.declared.TheConstants.{MAX_HEIGHT, MAX_SIZE};
+ghost use Rattle.term_core.specs.Tree.{Tree};
+ghost use Rattle.term_core.specs.Size.{fits, height, size};
+ghost use Rattle.prim_core.specs.Signature.{Signature};
+ghost use Rattle.session_history.specs.History.{History, default_limits, empty_history};
+ghost use Rattle.script_text.specs.Form.{budget_or, up_to};
+ghost use Rattle.script_text.specs.Replies.{budgets_in};
+ghost use Rattle.term_core.specs.declared.TheConstants.{MAX_HEIGHT, MAX_ROOM, MAX_SIZE};
 ghost use Rattle.aterm_text.specs.declared.TheConstants.{MAX_NESTING};
 ghost use Rattle.strategy_tokens.specs.declared.TheConstants.{MAX_TOKENS};
 ghost use Rattle.session_history.specs.declared.TheConstants.{MAX_BUDGET, MAX_STEPS};
@@ -28,10 +34,10 @@ pub fn one_run()
     one_result();
 }
 
-/// A dump reads back: run on a session with empty contents and no open group, the dump of contents
-/// restores the same contents, and every answer is `ok`. This holds if the contents are sound under
-/// the session's primitives, commands can give the module texts, no command of the dump is longer
-/// than 65,536 bytes, and memory can grow.
+/// A dump reads back: run on a session with empty contents, no open group and room for at least
+/// 100,000 terms, the dump of contents restores the same contents, and every answer is `ok`. This
+/// holds if the contents are sound under the session's primitives, commands can give the module
+/// texts, no command of the dump is longer than 65,536 bytes, and memory can grow.
 pub fn dump_reads_back()
     ensures contents { DumpReadsBack }
     ensures answered { DumpIsAnswered }
@@ -45,6 +51,16 @@ pub fn dump_reads_back()
     printed_text_is_as_long();
 }
 
+/// A session has room for 100,000 terms and budgets of up to 1,000,000 steps, unless it is made with
+/// other limits: then a term fits, and a command may name a budget, as it would by these numbers.
+pub fn limits_by_default()
+    ensures session { (primitives : List Signature) → (empty_history primitives).limits ≡ default_limits }
+    ensures terms { (level : ℕ) (t : Tree) → fits default_limits.max_terms level t
+        ≡ (nat_le (level + height t) 1000 && nat_le (size t) 100000) }
+    ensures steps { (h : History) (budget : ℕ) (word : List ℕ) → h.limits ≡ default_limits
+        → budget_or (budgets_in h budget) (Some word) ≡ up_to 1000000 word }
+{}
+
 /// The values of the bounds that definitions name: the height and the size of terms, the bytes of
 /// names, the open brackets in a term's text, the tokens of a strategy's or module's text, the
 /// bytes of commands, the steps of `undo` and `redo`, budgets, the reads of a run, and the least
@@ -52,6 +68,7 @@ pub fn dump_reads_back()
 pub fn bounds()
     ensures height { MAX_HEIGHT ≡ 1000 }
     ensures size { MAX_SIZE ≡ 100000 }
+    ensures greatest_size { MAX_ROOM ≡ 1000000000 }
     ensures label { (name : List ℕ) → label_of name
         ≡ (if is_word name && nat_le (length name) 64 then Some name else None) }
     ensures nesting { MAX_NESTING ≡ 1000 }

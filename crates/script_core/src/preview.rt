@@ -2,7 +2,6 @@
 
 ghost use Rattle.std.specs.Prelude.{◌≡◌, ◌++◌, length, false, OnOk};
 ghost use Rattle.std.specs.List.{flat_map};
-ghost use Rattle.session_history.specs.Budget.{IsBudget};
 ghost use Rattle.script_text.specs.Form.{preview as preview_form};
 ghost use Rattle.script_text.specs.Replies.{Replies, path_text, preview_line, replacement_line};
 ghost use Rattle.script_core.specs.inside.Performing.{PerformedRight};
@@ -23,7 +22,6 @@ pub(crate) fn show_preview<M: Meaning>(
     text: &[u8],
     answer: &mut Answer,
 ) -> Result<(), Refusal>
-    requires { IsBudget budget }
     ensures { PerformedRight (Replies M.meaning (preview_form name.now path.now budget text.now) session.old) false result
         session.old session.new answer.new }
 {

@@ -4,7 +4,6 @@
 ghost use Rattle.std.specs.Prelude.{◌≡◌, ◌≤◌, ◌<◌, ◌+◌, ◌*◌, ◌^◌, ◌∷◌, [], Bool, Ok, Err, OnOk, OnErr, IfOk, true, false, not, is_some, Some, length};
 ghost use Rattle.script_text.specs.Handed.{Handed, handed, completed};
 ghost use Rattle.script_text.specs.Splitting.{StandsAfter};
-ghost use Rattle.session_history.specs.Budget.{IsBudget};
 ghost use Rattle.script_text.specs.Answer.{ReplyInRun};
 ghost use Rattle.script_core.specs.Ran.{RunRight, streams};
 ghost use Rattle.script_core.specs.inside.Running.{AnswersReady, AnswersBytes, Breaks, Ends, TurnRight};
@@ -87,7 +86,6 @@ pub fn run<M: Meaning, I: Source, O: Sink>(
     sink: &mut O,
     settings: Settings,
 ) -> Result<Summary, RunFault>
-    requires budget { IsBudget settings.steps }
     requires source_counts { I.failed source.old + 1 < 2 ^ 64 }
     requires sink_counts { O.failed sink.old + 1 < 2 ^ 64 }
 
@@ -133,7 +131,6 @@ pub fn run_watched<M: Meaning, I: Source, O: Sink, W: Watch<M>>(
     watch: &mut W,
     settings: Settings,
 ) -> Result<Summary, RunFault>
-    requires budget { IsBudget settings.steps }
     requires source_counts { I.failed source.old + 1 < 2 ^ 64 }
     requires sink_counts { O.failed sink.old + 1 < 2 ^ 64 }
     ensures right { RunRight (ReplyInRun M.meaning) result settings session.old session.new
@@ -170,7 +167,6 @@ impl Running {
         watch: &mut W,
     ) -> Result<bool, Failed>
         requires ready { is_some self.old.splitter.to_hand_out ≡ true }
-        requires budget { IsBudget self.old.settings.steps }
         requires counts { self.old.summary.accepted + self.old.summary.refused + 1 < 2 ^ 64 }
         requires sink { O.failed sink.old + 1 < 2 ^ 64 }
         ensures answers { IfOk result (AnswersReady (ReplyInRun M.meaning) self.old self.new session.old session.new
@@ -205,7 +201,6 @@ impl Running {
         bytes: &[u8],
         watch: &mut W,
     ) -> Result<bool, Failed>
-        requires budget { IsBudget self.old.settings.steps }
         requires counts { self.old.summary.accepted + self.old.summary.refused + length bytes.now
             < 2 ^ 64 }
         requires sink { O.failed sink.old + 1 < 2 ^ 64 }
@@ -236,7 +231,6 @@ impl Running {
         sink: &mut O,
         watch: &mut W,
     ) -> Result<(), Failed>
-        requires budget { IsBudget self.old.settings.steps }
         requires counts { self.old.summary.accepted + self.old.summary.refused + 1 < 2 ^ 64 }
         requires sink { O.failed sink.old + 1 < 2 ^ 64 }
         ensures ends { OnOk result ((goes_on : Bool) × Ends (ReplyInRun M.meaning) handed self.old self.new session.old session.new
@@ -263,7 +257,6 @@ impl Running {
         piece: &mut [u8],
         watch: &mut W,
     ) -> Result<bool, RunFault>
-        requires budget { IsBudget self.old.settings.steps }
         requires piece { 0 < length piece.old }
         requires counts { self.old.summary.accepted + self.old.summary.refused + length piece.old
             < 2 ^ 64 }
@@ -302,7 +295,6 @@ impl Running {
     ) -> Result<Summary, RunFault>
         requires fresh { StandsAfter self.old.settings.framing [] [] self.old.splitter.left }
         requires zero { (self.old.summary.accepted ≡ 0) × (self.old.summary.refused ≡ 0) }
-        requires budget { IsBudget self.old.settings.steps }
         requires source { I.failed source.old + 1 < 2 ^ 64 }
         requires sink { O.failed sink.old + 1 < 2 ^ 64 }
         ensures some { result ≡ Err RunFault.Memory → ⊥ }

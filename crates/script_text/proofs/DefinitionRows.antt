@@ -6,6 +6,7 @@ use Rattle.script_text.specs.declared.framing.Framing.TheVariants.{Continued, Li
 use Rattle.script_text.specs.Script.{commands, complete}
 use Rattle.script_text.specs.Handed.{handed}
 use Rattle.script_text.specs.Form.{tree, show, pretty, put, apply, undo, command_of, takes_no_memory}
+use Rattle.script_text.specs.declared.command.Budgets.{Budgets}
 use Rattle.script_text.specs.Answer.{ReplyInRun}
 use Rattle.script_text.specs.Run.{Replied}
 
@@ -40,56 +41,67 @@ last_is_ended = refl
 last_has_no_end : complete Lines (codes "a" ++ 10 ∷ codes "b") ≡ codes "a" ∷ []
 last_has_no_end = refl
 
-reads_tree : command_of 100 (codes " tree  t  f(a) ") ≡ Ok (tree (codes "t") (codes "f(a)"))
+-- the budgets of these rows
+abbrev budgets : Budgets
+budgets = record { most = 1000000; usual = 100 }
+
+reads_tree : command_of budgets (codes " tree  t  f(a) ") ≡ Ok (tree (codes "t") (codes "f(a)"))
 reads_tree = refl
 
-reads_empty_text : command_of 100 (codes "tree t ") ≡ Ok (tree (codes "t") [])
+reads_empty_text : command_of budgets (codes "tree t ") ≡ Ok (tree (codes "t") [])
 reads_empty_text = refl
 
-reads_path : command_of 100 (codes "put t /0/007 b") ≡ Ok (put (codes "t") (0 ∷ (7 ∷ [])) (codes "b"))
+reads_path : command_of budgets (codes "put t /0/007 b") ≡ Ok (put (codes "t") (0 ∷ (7 ∷ [])) (codes "b"))
 reads_path = refl
 
-reads_place : command_of 100 (codes "show t at /2") ≡ Ok (show (codes "t") (2 ∷ []))
+reads_place : command_of budgets (codes "show t at /2") ≡ Ok (show (codes "t") (2 ∷ []))
 reads_place = refl
 
-reads_no_place : command_of 100 (codes "show t") ≡ Ok (show (codes "t") [])
+reads_no_place : command_of budgets (codes "show t") ≡ Ok (show (codes "t") [])
 reads_no_place = refl
 
-reads_pretty : command_of 100 (codes "pretty t at /2") ≡ Ok (pretty (codes "t") (2 ∷ []))
+reads_pretty : command_of budgets (codes "pretty t at /2") ≡ Ok (pretty (codes "t") (2 ∷ []))
 reads_pretty = refl
 
-reads_apply : command_of 100 (codes "apply t at /1 within 07 do id; f") ≡ Ok (apply (codes "t") (1 ∷ []) 7 (codes "id; f"))
+reads_apply : command_of budgets (codes "apply t at /1 within 07 do id; f") ≡ Ok (apply (codes "t") (1 ∷ []) 7 (codes "id; f"))
 reads_apply = refl
 
 -- names aren't keywords, and the budget is that of a command that names none
-reads_names : command_of 100 (codes "apply do do id") ≡ Ok (apply (codes "do") [] 100 (codes "id"))
+reads_names : command_of budgets (codes "apply do do id") ≡ Ok (apply (codes "do") [] 100 (codes "id"))
 reads_names = refl
 
-needs_do : command_of 100 (codes "apply do id") ≡ Err Line
+needs_do : command_of budgets (codes "apply do id") ≡ Err Line
 needs_do = refl
 
-at_stands_first : command_of 100 (codes "apply t within 9 at / do id") ≡ Err Line
+at_stands_first : command_of budgets (codes "apply t within 9 at / do id") ≡ Err Line
 at_stands_first = refl
 
-budget_in_range : command_of 100 (codes "apply 9 within 0 do id") ≡ Err Line
+budget_in_range : command_of budgets (codes "apply 9 within 0 do id") ≡ Err Line
 budget_in_range = refl
 
-reads_steps : command_of 100 (codes "undo 003") ≡ Ok (undo 3)
+-- up to the greatest budget
+greatest_budget : command_of (record { most = 7; usual = 100 }) (codes "apply t within 7 do id") ≡ Ok (apply (codes "t") [] 7 (codes "id"))
+greatest_budget = refl
+
+budget_over_it : command_of (record { most = 7; usual = 100 }) (codes "apply t within 8 do id") ≡ Err Line
+budget_over_it = refl
+
+reads_steps : command_of budgets (codes "undo 003") ≡ Ok (undo 3)
 reads_steps = refl
 
-needs_a_step : command_of 100 (codes "undo 0") ≡ Err Line
+needs_a_step : command_of budgets (codes "undo 0") ≡ Err Line
 needs_a_step = refl
 
-needs_a_name : command_of 100 (codes "tree") ≡ Err Line
+needs_a_name : command_of budgets (codes "tree") ≡ Err Line
 needs_a_name = refl
 
-name_comes_second : command_of 100 (codes "tree 9") ≡ Err Name
+name_comes_second : command_of budgets (codes "tree 9") ≡ Err Name
 name_comes_second = refl
 
-form_comes_first : command_of 100 (codes "show 9 at 0") ≡ Err Line
+form_comes_first : command_of budgets (codes "show 9 at 0") ≡ Err Line
 form_comes_first = refl
 
-blanks_only : command_of 100 (codes "  ") ≡ Err Line
+blanks_only : command_of budgets (codes "  ") ≡ Err Line
 blanks_only = refl
 
 undo_goes : takes_no_memory (codes " undo x") ≡ true

@@ -21,6 +21,7 @@ use Rattle.strategy_check.specs.Programs.{Program, program}
 use Rattle.term_changes.specs.Contents.{Contents, with_tree, with_module}
 use Rattle.session_modules.specs.Modules.{Texts, Finds, GivesProgram, Checks}
 use Rattle.session_history.specs.History.{HistoryGroup, History, changed}
+use Rattle.session_history.specs.declared.limits.Limits.{Limits}
 use Rattle.session_history.specs.Acts.{Passing, Holding, Given, Leaves, ChangesTo, ChangesModules, committed}
 use Rattle.session_history.specs.Dump.{tree_line, module_line, dumped}
 use Rattle.session_modules.specs.declared.refusal.Refusal.{Refusal}
@@ -30,7 +31,7 @@ use Rattle.script_text.specs.declared.framing.Framing.{Framing}
 use Rattle.script_text.specs.Script.{commands}
 use Rattle.script_text.specs.Form.{Form, tree, set_module, begin, commit, command_of}
 use Rattle.script_text.specs.Handed.{Handed, text, long, handed_as, handed}
-use Rattle.script_text.specs.Replies.{Reply, line, ok_with, Replies, ReplyTo, history_after}
+use Rattle.script_text.specs.Replies.{Reply, line, ok_with, Replies, budgets_in, ReplyTo, history_after}
 use Rattle.script_text.specs.Answer.{ReplyInRun}
 use Rattle.session_history.specs.Applying.{Meaning}
 use Rattle.script_text.specs.Run.{Replied, out}
@@ -49,6 +50,9 @@ now-changed c h = grind arith
 
 primitives-changed : (c : Contents) (h : History) → (changed c h).primitives ≡ h.primitives
 primitives-changed c h = grind arith
+
+limits-changed : (c : Contents) (h : History) → (changed c h).limits ≡ h.limits
+limits-changed c h = grind arith
 
 outside-changed : (c : Contents) (h : History) → h.group ≡ None → (changed c h).group ≡ None
 outside-changed c h none = grind arith
@@ -128,7 +132,7 @@ module _ (meaning : Meaning) (budget : ℕ) where
   oks-append (c ∷ cs) ds h k g o p = (o.0, o.1, oks-append cs ds o.0 k g o.2 p)
 
   -- a command of this form
-  said : (command : List ℕ) (form : Form) (h : History) (reply : Reply) → command_of budget command ≡ Ok form → Replies meaning form h reply → ReplyTo meaning budget (text command) h reply
+  said : (command : List ℕ) (form : Form) (h : History) (reply : Reply) → command_of (budgets_in h budget) command ≡ Ok form → Replies meaning form h reply → ReplyTo meaning budget (text command) h reply
   said command form h reply is replies = subst (λ (form : Result Form Refusal). MatchResult form (λ form. Replies meaning form h reply) (λ refusal. reply ≡ Err refusal)) (sym is) replies
 
   abbrev replies_of : (cs : List (List ℕ)) (h g : History) → Oks cs h g → List Reply
@@ -157,19 +161,19 @@ module _ (meaning : Meaning) (budget : ℕ) where
     is_dumped : (e : TreeEntry) → IsGiven e → IsDumped e.0 (print e.1)
     is_dumped e g = record { label = g.label; line = oneline e.1 g.term }
 
-    fits-given : (e : TreeEntry) → IsGiven e → IsShort (tree_command e.0 (print e.1)) → fits 0 e.1 ≡ true
-    fits-given e g short =
+    fits-given : (room : ℕ) (e : TreeEntry) → IsGiven e → IsShort (tree_command e.0 (print e.1)) → MAX_SIZE ≤ room → fits room 0 e.1 ≡ true
+    fits-given room e g short enough =
         let within : size e.1 ≤ length (tree_command e.0 (print e.1)) = omega (arith, lengthy e.1 g.term, length-append (codes "tree ") (e.0 ++ 32 ∷ print e.1), length-append e.0 (32 ∷ print e.1)) in
-        both_true (le-leb (0 + height e.1) MAX_HEIGHT (omega (arith, g.low))) (le-leb (size e.1) MAX_SIZE (omega (arith, within, short)))
+        both_true (le-leb (0 + height e.1) MAX_HEIGHT (omega (arith, g.low))) (le-leb (size e.1) room (omega (arith, within, short, enough)))
 
-    tree_said : (e : TreeEntry) → IsGiven e → IsShort (tree_command e.0 (print e.1)) → (h : History) → ReplyTo meaning budget (text (tree_command e.0 (print e.1))) h (Ok (ok_with (changed (with_tree h.now e.0 e.1) h)))
-    tree_said e g short h =
-        said (tree_command e.0 (print e.1)) (tree e.0 (print e.1)) h (Ok (ok_with (changed (with_tree h.now e.0 e.1) h))) (command-is budget e.0 (print e.1) (is_dumped e g)) (
+    tree_said : (e : TreeEntry) → IsGiven e → IsShort (tree_command e.0 (print e.1)) → (h : History) → MAX_SIZE ≤ h.limits.max_terms → ReplyTo meaning budget (text (tree_command e.0 (print e.1))) h (Ok (ok_with (changed (with_tree h.now e.0 e.1) h)))
+    tree_said e g short h room =
+        said (tree_command e.0 (print e.1)) (tree e.0 (print e.1)) h (Ok (ok_with (changed (with_tree h.now e.0 e.1) h))) (command-is (budgets_in h budget) e.0 (print e.1) (is_dumped e g)) (
           Ok (changed (with_tree h.now e.0 e.1) h),
           (
             Ok e.1,
             (omega (arith, nests e.1 g.term, g.low), back e.1 g.term),
-            subst (λ (b : Bool). Holding b Big (ChangesTo (with_tree h.now e.0 e.1) h) (Ok (changed (with_tree h.now e.0 e.1) h))) (sym (fits-given e g short)) refl,
+            subst (λ (b : Bool). Holding b Big (ChangesTo (with_tree h.now e.0 e.1) h) (Ok (changed (with_tree h.now e.0 e.1) h))) (sym (fits-given h.limits.max_terms e g short room)) refl,
           ),
           refl,
         )
@@ -178,9 +182,11 @@ module _ (meaning : Meaning) (budget : ℕ) where
     abbrev tree_commands : List TreeEntry → List (List ℕ)
     tree_commands es = map (λ e. tree_command e.0 (print e.1)) es
 
-    trees_said : (es : List TreeEntry) → AllByRecursion IsGiven es → AllByRecursion IsShort (tree_commands es) → (h : History) → Oks (tree_commands es) h (trees_after h es)
-    trees_said [] g short h = refl
-    trees_said (e ∷ es) g short h = (changed (with_tree h.now e.0 e.1) h, tree_said e g.0 short.0 h, trees_said es g.1 short.1 (changed (with_tree h.now e.0 e.1) h))
+    trees_said : (es : List TreeEntry) → AllByRecursion IsGiven es → AllByRecursion IsShort (tree_commands es) → (h : History) → MAX_SIZE ≤ h.limits.max_terms → Oks (tree_commands es) h (trees_after h es)
+    trees_said [] g short h room = refl
+    trees_said (e ∷ es) g short h room =
+        let c : Contents = with_tree h.now e.0 e.1 in
+        (changed c h, tree_said e g.0 short.0 h room, trees_said es g.1 short.1 (changed c h) (subst (λ (l : Limits). MAX_SIZE ≤ l.max_terms) (sym (limits-changed c h)) room))
 
   -- ---- the module commands, in a group
 
@@ -190,7 +196,7 @@ module _ (meaning : Meaning) (budget : ℕ) where
   module_said : (framing : Framing) (e : TextEntry) → IsTold framing e → (h : History) (g : HistoryGroup) → h.group ≡ Some g → ReplyTo meaning budget (text (module_command e.0 e.1)) h (Ok (ok_with (changed (with_module h.now e.0 e.1) h)))
   module_said framing e t h g some =
       let k : History = changed (with_module h.now e.0 e.1) h in
-      said (module_command e.0 e.1) (set_module e.0 e.1) h (Ok (ok_with k)) (module_command-is framing budget e.0 e.1 t.label t.text)
+      said (module_command e.0 e.1) (set_module e.0 e.1) h (Ok (ok_with k)) (module_command-is framing (budgets_in h budget) e.0 e.1 t.label t.text)
       (Ok k, (Ok t.reads.0, t.reads.1, subst (λ (o : Option HistoryGroup). ChangesModules o (with_module h.now e.0 e.1) h (Ok k)) (sym some) refl), refl)
 
   modules_said : (framing : Framing) (es : List TextEntry) → AllByRecursion (IsTold framing) es → (h : History) (g : HistoryGroup) → h.group ≡ Some g → Oks (module_commands es) h (modules_after h es)
@@ -378,7 +384,7 @@ module _ (back : PrintedTextReadsBack) (oneline : PrintedTextIsOneLine) (nests :
         record {
           last = grouped.last;
           oks = oks-append meaning budget (map (λ e. tree_command e.0 (print e.1)) (entries c.trees)) (group_commands meaning budget (entries c.modules)) h k grouped.last
-              (trees_said meaning budget back oneline nests lengthy (entries c.trees) trees (All-front IsShort (map (λ e. tree_command e.0 (print e.1)) (entries c.trees)) (group_commands meaning budget (entries c.modules)) short) h) grouped.oks;
+              (trees_said meaning budget back oneline nests lengthy (entries c.trees) trees (All-front IsShort (map (λ e. tree_command e.0 (print e.1)) (entries c.trees)) (group_commands meaning budget (entries c.modules)) short) h bare.room) grouped.oks;
           now = grouped.now ∙ (λ i. record { trees = (bare_now i).trees; modules = all i });
         }
 

@@ -18,6 +18,7 @@ use Rattle.script_text.specs.declared.framing.Framing.{Framing}
 use Rattle.script_text.specs.declared.framing.Framing.TheVariants.{Continued, Lines}
 use Rattle.script_text.specs.Script.{is_line_feed, is_carriage_return, without_end, is_comment, lines, begins_command, Cut, cut, commands, without_start, is_command}
 use Rattle.script_text.specs.Laws.{IsCommandText, GoOn}
+use Rattle.script_text.specs.declared.command.Budgets.{Budgets}
 use Rattle.script_text.specs.Form.{Form, tree, set_module, front_word, after_word, has_bytes, with_word, last_text, form_with, checked, command_of}
 use Rattle.script_text.specs.KeywordView.{module_form}
 use Rattle.script_text.proofs.LineLemmas.{IsCore, with_line, first_piece, lines-line_feed, lines-kept, kept-core}
@@ -117,7 +118,7 @@ command_ends keyword name x some end = rw seam_of (end-append is_blank (keyword 
     seam_of = sym (append_assoc keyword (name ++ 32 ∷ []) x ∙ ap (λ (xs : List ℕ). keyword ++ xs) (append_assoc name (32 ∷ []) x))
 
 -- the command is read as what was dumped
-pub command-is : (budget : ℕ) (name x : List ℕ) → IsDumped name x → command_of budget (tree_command name x) ≡ Ok (tree name x)
+pub command-is : (budget : Budgets) (name x : List ℕ) → IsDumped name x → command_of budget (tree_command name x) ≡ Ok (tree name x)
 command-is budget name x h =
     ap (λ (text : List ℕ). checked (form_with budget (front_word text) (after_word text))) (no_end is_blank (tree_command name x) (command_ends (codes "tree ") name x h.line.some h.line.end))
     ∙ ap checked (named-is (32 ∷ x) refl tree name x (label_ink name h.label) (after_space x h.line.front))
@@ -131,7 +132,7 @@ module_named : (name text : List ℕ) → IsInkWord name → prefix_len is_blank
 module_named name [] word front = named-is [] refl set_module name [] word refl
 module_named name (b ∷ text) word front = named-is (32 ∷ (b ∷ text)) refl set_module name (b ∷ text) word (after_space (b ∷ text) front)
 
-pub module_command-is : (framing : Framing) (budget : ℕ) (name text : List ℕ) → label_of name ≡ Some name → IsCommandText framing text → command_of budget (module_command name text) ≡ Ok (set_module name text)
+pub module_command-is : (framing : Framing) (budget : Budgets) (name text : List ℕ) → label_of name ≡ Some name → IsCommandText framing text → command_of budget (module_command name text) ≡ Ok (set_module name text)
 module_command-is framing budget name text label h =
     ap (λ (text : List ℕ). checked (form_with budget (front_word text) (after_word text))) (no_end is_blank (module_command name text) (module_ends name text (label_ink name label) h.end))
     ∙ ap checked (module_named name text (label_ink name label) h.front)

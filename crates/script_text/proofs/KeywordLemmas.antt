@@ -3,6 +3,7 @@ use Rattle.std.proofs.Common.{◌≡◌, ℕ, suc, Bool, true, false, List, [], 
 use Rattle.script_text.specs.declared.keyword.Keyword.{Keyword}
 use Rattle.aterm_text.specs.Tokens.{is_blank}
 use Rattle.script_text.specs.Script.{without_end}
+use Rattle.script_text.specs.declared.command.Budgets.{Budgets}
 use Rattle.script_text.specs.Form.{form_of, form_with, front_word, after_word}
 use Rattle.script_text.specs.KeywordView.{keyword_at, form_after}
 
@@ -22,15 +23,15 @@ same_bytes (b ∷ bytes) [] e h = absurd (omega (arith, e))
 same_bytes (b ∷ bytes) (x ∷ text) e h =
     let rest : text ≡ bytes = same_bytes bytes text (omega (arith, e)) (HasBytes-rest x text 0 bytes h.1) in (λ i. h.0 i ∷ rest i)
 
-form_if : (b : Bool) (k l : Keyword) (budget : ℕ) (rest : List ℕ) → form_after (if b then k else l) budget rest ≡ (if b then form_after k budget rest else form_after l budget rest)
+form_if : (b : Bool) (k l : Keyword) (budget : Budgets) (rest : List ℕ) → form_after (if b then k else l) budget rest ≡ (if b then form_after k budget rest else form_after l budget rest)
 form_if true k l budget rest = refl
 form_if false k l budget rest = refl
 
-pub form_at : (word : List ℕ) (budget : ℕ) (rest : List ℕ) → form_with budget word rest ≡ form_after (keyword_at word) budget rest
+pub form_at : (word : List ℕ) (budget : Budgets) (rest : List ℕ) → form_with budget word rest ≡ form_after (keyword_at word) budget rest
 form_at word budget rest = simp form_if
 
 -- a command that is split into its keyword and the rest
-pub split_form : (budget : ℕ) (command text word rest : List ℕ) (keyword : Keyword) → text ≡ without_end is_blank command → word ≡ front_word text → rest ≡ after_word text → keyword_at word ≡ keyword
+pub split_form : (budget : Budgets) (command text word rest : List ℕ) (keyword : Keyword) → text ≡ without_end is_blank command → word ≡ front_word text → rest ≡ after_word text → keyword_at word ≡ keyword
     → form_of budget command ≡ form_after keyword budget rest
 split_form budget command text word rest keyword text_is word_is rest_is keyword_is =
     let front : word ≡ front_word (without_end is_blank command) = word_is ∙ ap front_word text_is in

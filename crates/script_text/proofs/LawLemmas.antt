@@ -39,7 +39,7 @@ use Rattle.session_modules.specs.declared.refusal.Refusal.{Refusal}
 use Rattle.session_modules.specs.declared.refusal.Refusal.TheVariants.{Term, Syntax, Big, NoUndo, NoRedo, Group, NoGroup}
 use Rattle.script_text.specs.Form.{Form, tree, copy, drop_tree, put, annotate, set_module, unload, apply, preview, undo, redo, begin, commit, abandon, command_of}
 use Rattle.script_text.specs.Handed.{Handed, text, long}
-use Rattle.script_text.specs.Replies.{ReadAs, Told, done, shown, preview_text, Reply, Replies, history_after}
+use Rattle.script_text.specs.Replies.{ReadAs, Told, done, shown, preview_text, Reply, Replies, history_after, budgets_in}
 use Rattle.script_text.specs.Answer.{ReplyInRun}
 use Rattle.script_text.specs.Run.{Replied}
 
@@ -77,12 +77,12 @@ Leaves-one g a b p q = p ∙ sym q
 PutsAt-one : (name path : List ℕ) (t : Tree) (h : History) (place : Located) (a b : ActResult) → PutsAt name path t h place a → PutsAt name path t h place b → a ≡ b
 PutsAt-one name path t h place =
     let c : Contents = with_tree h.now name (set_at place.tree path t) in
-    Holding-one (fits (length path) t) Big (ChangesTo c h) (Leaves-one (changed c h))
+    Holding-one (fits h.limits.max_terms (length path) t) Big (ChangesTo c h) (Leaves-one (changed c h))
 
 AnnotatesAt-one : (name path : List ℕ) (ts : List Tree) (h : History) (place : Located) (a b : ActResult) → AnnotatesAt name path ts h place a → AnnotatesAt name path ts h place b → a ≡ b
 AnnotatesAt-one name path ts h place =
     let c : Contents = with_tree h.now name (set_annotations_at place.tree path ts) in
-    Holding-one (list_all (fits (length path + 1)) ts) Big (ChangesTo c h) (Leaves-one (changed c h))
+    Holding-one (list_all (fits h.limits.max_terms (length path + 1)) ts) Big (ChangesTo c h) (Leaves-one (changed c h))
 
 Told-one : (Comes : ActResult → Type 0) → ((a b : ActResult) → Comes a → Comes b → a ≡ b) → (r s : Reply) → Told Comes r → Told Comes s → r ≡ s
 Told-one Comes one r s p q = p.2 ∙ ap done (one p.0 q.0 p.1 q.1) ∙ sym q.2
@@ -99,7 +99,7 @@ module _ {X : Type 0} (Gives : List Token → X → Type 0) (one : (x : List ℕ
 AppliesAt-one : (meaning : Meaning) (name path : List ℕ) (n : ℕ) (h : History) (place : Located) (program : Program) (strategy : Resolved) (a b : ActResult) → AppliesAt meaning name path n h place program strategy a
     → AppliesAt meaning name path n h place program strategy b → a ≡ b
 AppliesAt-one meaning name path n h place program strategy =
-    Passing-one (given_by (applied (world_in meaning program h.primitives) path strategy n place.tree)) (λ t. ChangesTo (with_tree h.now name t) h) (λ t. Leaves-one (changed (with_tree h.now name t) h))
+    Passing-one (given_by (applied (world_in meaning program h.primitives h.limits.max_terms) path strategy n place.tree)) (λ t. ChangesTo (with_tree h.now name t) h) (λ t. Leaves-one (changed (with_tree h.now name t) h))
 
 Foresees-one : (path : List ℕ) (n : ℕ) (before : Tree) (answer : Answer) (a b : Result Preview Refusal) → Foresees path n before answer a → Foresees path n before answer b → a ≡ b
 Foresees-one path n before (run_done after bindings left edits) a b p q =
@@ -165,10 +165,10 @@ module _ (one : OneModule) where
   Previews-one : OneResult → (meaning : Meaning) (name path : List ℕ) (n : ℕ) (x : List ℕ) (h : History) (a b : Result Preview Refusal)
       → Previews meaning name path n x h a → Previews meaning name path n x h b → a ≡ b
   Previews-one strategies meaning name path n x h =
-      Resolving-one strategies name path x h (ForeseesAt meaning path n h) (λ place program whole. Foresees-one path n place.part (run_whole (world_in meaning program h.primitives) (length path) whole n place.part))
+      Resolving-one strategies name path x h (ForeseesAt meaning path n h) (λ place program whole. Foresees-one path n place.part (run_whole (world_in meaning program h.primitives h.limits.max_terms) (length path) whole n place.part))
 
   pub ComesTo-one : OneResult → (act : Act) (h : History) (a b : ActResult) → ComesTo act h a → ComesTo act h b → a ≡ b
-  ComesTo-one strategies (set_tree_act name t) h = Holding-one (fits 0 t) Big (ChangesTo (with_tree h.now name t) h) (Leaves-one (changed (with_tree h.now name t) h))
+  ComesTo-one strategies (set_tree_act name t) h = Holding-one (fits h.limits.max_terms 0 t) Big (ChangesTo (with_tree h.now name t) h) (Leaves-one (changed (with_tree h.now name t) h))
   ComesTo-one strategies (copy_tree name other) h = Passing-one (tree_of h.now name) (λ t. ChangesTo (with_tree h.now other t) h) (λ t. Leaves-one (changed (with_tree h.now other t) h))
   ComesTo-one strategies (drop_tree_act name) h = Passing-one (tree_of h.now name) (λ t. ChangesTo (without_tree h.now name) h) (λ t. Leaves-one (changed (without_tree h.now name) h))
   ComesTo-one strategies (put_act name path t) h = Passing-one (place_of h.now name path) (PutsAt name path t h) (PutsAt-one name path t h)
@@ -224,7 +224,7 @@ module _ (one : OneTerm) (one_module : OneModule) (one_strategy : OneResult) (me
   read-one (Err refusal) h r s p q = p ∙ sym q
 
   ReplyInRun-one : (budget : ℕ) (command : Handed) (flag : Bool) (h : History) (r s : Reply) → ReplyInRun meaning budget command flag h r → ReplyInRun meaning budget command flag h s → r ≡ s
-  ReplyInRun-one budget (text command) false h r s p q = read-one (command_of budget command) h r s p q
+  ReplyInRun-one budget (text command) false h r s p q = read-one (command_of (budgets_in h budget) command) h r s p q
   ReplyInRun-one budget long false h r s p q = p ∙ sym q
   ReplyInRun-one budget command true h r s p q = p.1 ∙ sym q.1
 

@@ -10,8 +10,8 @@ use Rattle.aterm_text.specs.Tokens.{is_blank, without_blanks}
 use Rattle.session_modules.specs.declared.refusal.Refusal.{Refusal}
 use Rattle.session_modules.specs.declared.refusal.Refusal.TheVariants.{Line, Name}
 use Rattle.script_text.specs.Script.{without_end}
-use Rattle.session_history.specs.Budget.{IsBudget}
-use Rattle.session_history.specs.declared.TheConstants.{MAX_BUDGET, MAX_STEPS}
+use Rattle.session_history.specs.declared.TheConstants.{MAX_STEPS}
+use Rattle.script_text.specs.declared.command.Budgets.{Budgets}
 
 -- The operands are names, paths, budgets, numbers of steps and texts, in the order of the command.
 pub data Form : Type 0 where
@@ -104,10 +104,10 @@ abbrev pub path_or_root : Option (List ℕ) → Option (List ℕ)
 path_or_root None = Some []
 path_or_root (Some word) = path_of word
 
--- the budget of a word, up to 1,000,000, or this one if there is none
-abbrev pub budget_or : ℕ → Option (List ℕ) → Option ℕ
-budget_or budget None = Some budget
-budget_or budget (Some word) = up_to MAX_BUDGET word
+-- the budget of a word, up to the greatest, or the usual one if there is no word
+abbrev pub budget_or : Budgets → Option (List ℕ) → Option ℕ
+budget_or budgets None = Some budgets.usual
+budget_or budgets (Some word) = up_to budgets.most word
 
 -- A form that ends with `at` and a path, both optional.
 abbrev pub last_place : List ℕ → Option (List ℕ)
@@ -121,23 +121,23 @@ with_do form rest =
     if bytes_eq (front_word rest) (codes "do") then Some (form (last_text (after_word rest))) else None
 
 -- A form that continues with `within` and a budget, both optional, and ends with `do` and a text.
-abbrev pub with_budget : ℕ → (ℕ → List ℕ → Form) → List ℕ → Option Form
-with_budget budget form rest =
+abbrev pub with_budget : Budgets → (ℕ → List ℕ → Form) → List ℕ → Option Form
+with_budget budgets form rest =
     option_and_then (λ n. with_do (form n) (after_option (codes "within") rest))
-    (budget_or budget (option_word (codes "within") rest))
+    (budget_or budgets (option_word (codes "within") rest))
 
 -- ---- forms
 
 -- Both `at` and `within`, in this order, are optional.
-abbrev pub strategy_form : (List ℕ → List ℕ → ℕ → List ℕ → Form) → ℕ → List ℕ → Option Form
-strategy_form form budget rest =
+abbrev pub strategy_form : (List ℕ → List ℕ → ℕ → List ℕ → Form) → Budgets → List ℕ → Option Form
+strategy_form form budgets rest =
     with_word rest (λ name after. option_and_then
-    (λ path. with_budget budget (form name path) (after_option (codes "at") after))
+    (λ path. with_budget budgets (form name path) (after_option (codes "at") after))
     (path_or_root (option_word (codes "at") after)))
 
--- the form that a keyword starts, given the budget of a command that names none
-abbrev pub form_with : ℕ → List ℕ → List ℕ → Option Form
-form_with budget keyword rest =
+-- the form that a keyword starts, given the budgets of commands
+abbrev pub form_with : Budgets → List ℕ → List ℕ → Option Form
+form_with budgets keyword rest =
     if bytes_eq keyword (codes "tree") then with_word rest (λ name after. Some (tree name (last_text after))) else
     if bytes_eq keyword (codes "copy")
     then with_word rest (λ name after. with_word after (λ other end. ended (copy name other) end)) else
@@ -148,8 +148,8 @@ form_with budget keyword rest =
     if bytes_eq keyword (codes "module")
     then with_word rest (λ name after. Some (set_module name (last_text after))) else
     if bytes_eq keyword (codes "unload") then option_map unload (last_name rest) else
-    if bytes_eq keyword (codes "apply") then strategy_form apply budget rest else
-    if bytes_eq keyword (codes "preview") then strategy_form preview budget rest else
+    if bytes_eq keyword (codes "apply") then strategy_form apply budgets rest else
+    if bytes_eq keyword (codes "preview") then strategy_form preview budgets rest else
     if bytes_eq keyword (codes "undo") then option_map undo (last_steps rest) else
     if bytes_eq keyword (codes "redo") then option_map redo (last_steps rest) else
     if bytes_eq keyword (codes "begin") then ended begin rest else
@@ -165,10 +165,10 @@ form_with budget keyword rest =
     if bytes_eq keyword (codes "history") then ended history rest else
     if bytes_eq keyword (codes "dump") then ended dump rest else None
 
--- the form of a command, without the blanks at its end, given that budget
-abbrev pub form_of : ℕ → List ℕ → Option Form
-form_of budget command =
-    let text = without_end is_blank command in form_with budget (front_word text) (after_word text)
+-- the form of a command, without the blanks at its end, given these budgets
+abbrev pub form_of : Budgets → List ℕ → Option Form
+form_of budgets command =
+    let text = without_end is_blank command in form_with budgets (front_word text) (after_word text)
 
 -- whether the names of a form are labels
 abbrev pub has_labels : Form → Bool
@@ -199,15 +199,9 @@ abbrev pub checked : Option Form → Result Form Refusal
 checked None = Err Line
 checked (Some form) = if has_labels form then Ok form else Err Name
 
--- The meaning of a command's bytes. The budget is that of a command that names none.
-abbrev pub command_of : ℕ → List ℕ → Result Form Refusal
-command_of budget command = checked (form_of budget command)
-
--- the budget of a form, if it has one, is in range
-abbrev pub HasBudget : Form → Type 0
-HasBudget (apply name path budget text) = IsBudget budget
-HasBudget (preview name path budget text) = IsBudget budget
-HasBudget form = Unit {0}
+-- The meaning of a command's bytes, given these budgets.
+abbrev pub command_of : Budgets → List ℕ → Result Form Refusal
+command_of budgets command = checked (form_of budgets command)
 
 -- ---- commands that take no memory
 

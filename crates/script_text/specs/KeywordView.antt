@@ -2,6 +2,7 @@
 use Rattle.std.specs.Prelude.{ℕ, Bool, true, false, List, Some, None, option_map, codes, if◌then◌else◌}
 use Rattle.std.specs.declared.option.Option.{Option}
 use Rattle.std.specs.Str.{bytes_eq}
+use Rattle.script_text.specs.declared.command.Budgets.{Budgets}
 use Rattle.script_text.specs.declared.keyword.Keyword.{Keyword}
 use Rattle.script_text.specs.declared.keyword.Keyword.TheVariants.{Tree, Copy, Drop, Put, Annotate, Module, Unload, Apply, Preview, Undo, Redo, Begin, Commit, Abandon, Show, Pretty, Trees, Modules, Text, History, Dump, Other}
 use Rattle.script_text.specs.Form.{Form, tree, copy, drop_tree, put, annotate, set_module, unload, apply, preview, undo, redo, begin, commit, abandon, show, pretty, trees, modules, module_text, history, dump, with_word, ended, last_text, with_path_and_text, last_name, last_steps, last_place, strategy_form}
@@ -55,30 +56,30 @@ show_form rest = with_word rest (λ name after. option_map (show name) (last_pla
 abbrev pub pretty_form : List ℕ → Option Form
 pretty_form rest = with_word rest (λ name after. option_map (pretty name) (last_place after))
 
--- the form, given the budget of a command that names none and the rest after the word
-abbrev pub form_after : Keyword → ℕ → List ℕ → Option Form
-form_after Tree budget rest = tree_form rest
-form_after Copy budget rest = copy_form rest
-form_after Drop budget rest = option_map drop_tree (last_name rest)
-form_after Put budget rest = put_form rest
-form_after Annotate budget rest = annotate_form rest
-form_after Module budget rest = module_form rest
-form_after Unload budget rest = option_map unload (last_name rest)
-form_after Apply budget rest = strategy_form apply budget rest
-form_after Preview budget rest = strategy_form preview budget rest
-form_after Undo budget rest = option_map undo (last_steps rest)
-form_after Redo budget rest = option_map redo (last_steps rest)
-form_after Begin budget rest = ended begin rest
-form_after Commit budget rest = ended commit rest
-form_after Abandon budget rest = ended abandon rest
-form_after Show budget rest = show_form rest
-form_after Pretty budget rest = pretty_form rest
-form_after Trees budget rest = ended trees rest
-form_after Modules budget rest = ended modules rest
-form_after Text budget rest = option_map module_text (last_name rest)
-form_after History budget rest = ended history rest
-form_after Dump budget rest = ended dump rest
-form_after Other budget rest = None
+-- the form, given the budgets of commands and the rest after the word
+abbrev pub form_after : Keyword → Budgets → List ℕ → Option Form
+form_after Tree budgets rest = tree_form rest
+form_after Copy budgets rest = copy_form rest
+form_after Drop budgets rest = option_map drop_tree (last_name rest)
+form_after Put budgets rest = put_form rest
+form_after Annotate budgets rest = annotate_form rest
+form_after Module budgets rest = module_form rest
+form_after Unload budgets rest = option_map unload (last_name rest)
+form_after Apply budgets rest = strategy_form apply budgets rest
+form_after Preview budgets rest = strategy_form preview budgets rest
+form_after Undo budgets rest = option_map undo (last_steps rest)
+form_after Redo budgets rest = option_map redo (last_steps rest)
+form_after Begin budgets rest = ended begin rest
+form_after Commit budgets rest = ended commit rest
+form_after Abandon budgets rest = ended abandon rest
+form_after Show budgets rest = show_form rest
+form_after Pretty budgets rest = pretty_form rest
+form_after Trees budgets rest = ended trees rest
+form_after Modules budgets rest = ended modules rest
+form_after Text budgets rest = option_map module_text (last_name rest)
+form_after History budgets rest = ended history rest
+form_after Dump budgets rest = ended dump rest
+form_after Other budgets rest = None
 
 -- whether it is `undo`, `redo`, `begin` or `abandon`
 abbrev pub is_without_memory_after : Keyword → Bool

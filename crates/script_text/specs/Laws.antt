@@ -2,6 +2,7 @@
 use Rattle.std.specs.Prelude.{◌≡◌, ◌≤◌, ℕ, Bool, false, List, [], length, drop, codes, None, IfSome, count_by, is_ok, is_err}
 use Rattle.std.specs.List.{AllByRecursion, repeat, slice_split, prefix_len, suffix_len}
 use Rattle.std.specs.FinMap as finmap
+use Rattle.term_core.specs.declared.TheConstants.{MAX_SIZE}
 use Rattle.aterm_text.specs.Tokens.{is_blank}
 use Rattle.strategy_check.specs.Faults.{Primitives}
 use Rattle.term_changes.specs.Contents.{Contents, no_contents}
@@ -50,10 +51,11 @@ pub record CanBeGiven (framing : Framing) (primitives : Primitives) (c : Content
   pub texts : (name : List ℕ) → IfSome (finmap.get c.modules name) (IsCommandText framing)
   pub short : AllByRecursion (λ command. length command ≤ MAX_COMMAND) (commands framing (dumped c))
 
--- The current contents are empty, and no group is open.
+-- The current contents are empty, no group is open, and there is at least the room of the default.
 pub record IsBare (h : History) : Type 0 where
   pub contents : h.now ≡ no_contents
   pub group : h.group ≡ None
+  pub room : MAX_SIZE ≤ h.limits.max_terms
 
 -- memory could grow in all of the commands
 abbrev pub AreClear : List Bool → Type 0

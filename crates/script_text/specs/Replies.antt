@@ -19,6 +19,7 @@ use Rattle.session_modules.specs.Refusal.{number_of, word_of}
 use Rattle.session_modules.specs.declared.refusal.Refusal.{Refusal}
 use Rattle.session_modules.specs.declared.refusal.Refusal.TheVariants.{Long, Term, Check}
 use Rattle.script_text.specs.Handed.{Handed, text as handed_text, long}
+use Rattle.script_text.specs.declared.command.Budgets.{Budgets}
 use Rattle.script_text.specs.Form.{Form, tree, copy, drop_tree, put, annotate, set_module, unload, apply, preview, undo, redo, begin, commit, abandon, show, pretty, trees, modules, module_text, history, dump, command_of}
 
 -- an accepted command: its answer, line feeds included, and the history after it
@@ -119,10 +120,14 @@ Replies meaning (module_text name) h = Is (shown line h (session.module_text_of 
 Replies meaning history h = Is (Ok (told_of h (counted h)))
 Replies meaning dump h = Is (Ok (told_of h (dumped h.now)))
 
+-- the budgets of commands in this session: the greatest is the session's
+abbrev pub budgets_in : History → ℕ → Budgets
+budgets_in h budget = record { most = h.limits.max_steps; usual = budget }
+
 -- The reply to a text that is a command, with this budget if it names none.
 abbrev pub ReplyToText : Meaning → ℕ → List ℕ → History → Reply → Type 0
 ReplyToText meaning budget command h reply =
-    MatchResult (command_of budget command) (λ form. Replies meaning form h reply) (λ refusal. reply ≡ Err refusal)
+    MatchResult (command_of (budgets_in h budget) command) (λ form. Replies meaning form h reply) (λ refusal. reply ≡ Err refusal)
 
 -- the reply to a command as the splitter gives it
 abbrev pub ReplyTo : Meaning → ℕ → Handed → History → Reply → Type 0

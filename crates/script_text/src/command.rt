@@ -5,19 +5,28 @@ ghost use Rattle.std.specs.List.{prefix_len, suffix_len, position_or_len};
 ghost use Rattle.term_core.specs.Word.{label_of};
 ghost use Rattle.term_paths.specs.PathText.{path_of};
 ghost use Rattle.aterm_text.specs.Tokens.{is_blank, without_blanks};
-ghost use Rattle.session_history.specs.Budget.{IsBudget};
 ghost use Rattle.script_text.specs.Script.{without_end};
-ghost use Rattle.script_text.specs.Form.{tree, put, annotate, set_module, apply, preview, show, pretty, command_of, form_of, checked, strategy_form, last_name, last_steps, option_word, after_option, path_or_root, budget_or, up_to, ended, HasBudget, is_without_memory, takes_no_memory, front_word, after_word, has_word};
+ghost use Rattle.script_text.specs.declared.command.Budgets.{Budgets};
+ghost use Rattle.script_text.specs.Form.{tree, put, annotate, set_module, apply, preview, show, pretty, command_of, form_of, checked, strategy_form, last_name, last_steps, option_word, after_option, path_or_root, budget_or, up_to, ended, is_without_memory, takes_no_memory, front_word, after_word, has_word};
 ghost use Rattle.script_text.specs.CommandView.{form as form_seen};
 ghost use Rattle.script_text.specs.KeywordView.{form_after, is_without_memory_after, tree_form, copy_form, put_form, annotate_form, module_form, show_form, pretty_form};
 ghost use Rattle.script_text.specs.Reading.{ReadRight};
 
 use crate::keyword::{Keyword, keyword_of};
 use aterm_text::is_blank;
-use session_history::{MAX_BUDGET, MAX_STEPS, Refusal};
+use session_history::{MAX_STEPS, Refusal};
 use std::alloc::Global;
 use term_core::Label;
 use term_paths::{Path, PathFault, read_number, read_path};
+
+/// The budgets of commands: numbers of steps.
+#[derive(Clone, Copy)]
+pub struct Budgets {
+    /// The greatest that a command may name.
+    pub most: u32,
+    /// That of a command that names none.
+    pub usual: u32,
+}
 
 /// A command, with its operands.
 #[derive(Drop)]
@@ -36,7 +45,7 @@ pub enum Command<'a> {
     Module(Label, &'a [u8]),
     /// Removes the module of the name.
     Unload(Label),
-    /// Applies the strategy of the text at the path, within this budget, from 1 to 1,000,000.
+    /// Applies the strategy of the text at the path, within this budget.
     Apply(Label, Path, u32, &'a [u8]),
     /// Shows what that would replace, with the same operands.
     Preview(Label, Path, u32, &'a [u8]),
@@ -68,22 +77,20 @@ pub enum Command<'a> {
 
 impl<'a> Command<'a> {
     /// Reads a command. Its form is tested before its names. `undo`, `redo`, `begin` and `abandon`
-    /// take no memory. `budget`, from 1 to 1,000,000, is that of a command that names none.
+    /// take no memory.
     ///
     /// Errors: `Line` if the command has none of the forms above; `Name` if a name is no word or is
     /// longer than 64 bytes; `Memory` if memory can't grow.
-    pub fn read(alloc: Global, command: &'a [u8], budget: u32) -> Result<Command<'a>, Refusal>
-        requires { IsBudget budget }
-        ensures ok { IfOk result (λ read. command_of budget command.now ≡ Ok (form_seen read)) }
+    pub fn read(alloc: Global, command: &'a [u8], budgets: Budgets) -> Result<Command<'a>, Refusal>
+        ensures ok { IfOk result (λ read. command_of budgets command.now ≡ Ok (form_seen read)) }
         ensures without_memory { IfOk result (λ read. takes_no_memory command.now
             ≡ is_without_memory (form_seen read)) }
-        ensures budget { IfOk result (λ read. HasBudget (form_seen read)) }
         ensures refused { IfErr result (λ refusal. ((refusal ≡ Refusal.Memory)
             × (takes_no_memory command.now ≡ false))
-            ⊎ (command_of budget command.now ≡ Err refusal)) }
+            ⊎ (command_of budgets command.now ≡ Err refusal)) }
     {
         let (keyword, rest) = split_keyword(command);
-        Command::read_form(alloc, keyword, rest, budget)
+        Command::read_form(alloc, keyword, rest, budgets)
     }
 
     /// Reads the form that this keyword starts, given what follows it in the command.
@@ -93,10 +100,9 @@ impl<'a> Command<'a> {
         alloc: Global,
         keyword: Keyword,
         rest: &'a [u8],
-        budget: u32,
+        budgets: Budgets,
     ) -> Result<Command<'a>, Refusal>
-        requires { IsBudget budget }
-        ensures { ReadRight (form_after keyword budget rest.now) (is_without_memory_after keyword) result }
+        ensures { ReadRight (form_after keyword budgets rest.now) (is_without_memory_after keyword) result }
     {
         match keyword {
             Keyword::Tree => {
@@ -119,11 +125,11 @@ impl<'a> Command<'a> {
             }
             Keyword::Unload => Ok(Command::Unload(read_last_name(alloc, rest)?)),
             Keyword::Apply => {
-                let (name, path, budget, text) = read_strategy_parts(alloc, rest, budget)?;
+                let (name, path, budget, text) = read_strategy_parts(alloc, rest, budgets)?;
                 Ok(Command::Apply(name, path, budget, text))
             }
             Keyword::Preview => {
-                let (name, path, budget, text) = read_strategy_parts(alloc, rest, budget)?;
+                let (name, path, budget, text) = read_strategy_parts(alloc, rest, budgets)?;
                 Ok(Command::Preview(name, path, budget, text))
             }
             Keyword::Undo => Ok(Command::Undo(read_steps(rest)?)),
@@ -152,7 +158,7 @@ impl<'a> Command<'a> {
 /// The keyword of a command, and what follows it without the blanks at the end.
 #[inline(always)]
 pub fn split_keyword(command: &[u8]) -> (Keyword, &[u8])
-    ensures form { (budget : ℕ) → form_of budget command.now ≡ form_after result.0 budget result.1.now }
+    ensures form { (budgets : Budgets) → form_of budgets command.now ≡ form_after result.0 budgets result.1.now }
     ensures without_memory { takes_no_memory command.now ≡ is_without_memory_after result.0 }
 {
     let (word, rest) = split_word(without_last_blanks(command));
@@ -223,17 +229,15 @@ fn read_name_and_place(alloc: Global, rest: &[u8]) -> Result<(Label, Path), Refu
 fn read_strategy_parts(
     alloc: Global,
     rest: &[u8],
-    budget: u32,
+    budgets: Budgets,
 ) -> Result<(Label, Path, u32, &[u8]), Refusal>
-    requires { IsBudget budget }
-    ensures apply { IfOk result (λ read. checked (strategy_form apply budget rest.now)
+    ensures apply { IfOk result (λ read. checked (strategy_form apply budgets rest.now)
         ≡ Ok (apply read.0 read.1 read.2 read.3.now)) }
-    ensures preview { IfOk result (λ read. checked (strategy_form preview budget rest.now)
+    ensures preview { IfOk result (λ read. checked (strategy_form preview budgets rest.now)
         ≡ Ok (preview read.0 read.1 read.2 read.3.now)) }
-    ensures budget { IfOk result (λ read. IsBudget read.2) }
     ensures refused { IfErr result (λ refusal. (refusal ≡ Refusal.Memory)
-        ⊎ ((checked (strategy_form apply budget rest.now) ≡ Err refusal)
-        × (checked (strategy_form preview budget rest.now) ≡ Err refusal))) }
+        ⊎ ((checked (strategy_form apply budgets rest.now) ≡ Err refusal)
+        × (checked (strategy_form preview budgets rest.now) ≡ Err refusal))) }
 {
     let (name, rest) = split_name(rest)?;
     let (place, rest) = split_option(b"at", rest);
@@ -243,7 +247,7 @@ fn read_strategy_parts(
         return Err(Refusal::Line);
     }
     let path = read_place(alloc, place)?;
-    let budget = read_budget(within, budget)?;
+    let budget = read_budget(within, budgets)?;
     let name = read_label(alloc, name)?;
     Ok((name, path, budget, after_blanks(text)))
 }
@@ -304,17 +308,15 @@ fn read_steps(rest: &[u8]) -> Result<u32, Refusal>
     read_up_to(MAX_STEPS, word)
 }
 
-// The budget of a word, or `budget` if there is none.
-fn read_budget(word: Option<&[u8]>, budget: u32) -> Result<u32, Refusal>
-    requires { IsBudget budget }
-    ensures ok { IfOk result (λ n. budget_or budget (option_copied word.entry) ≡ Some n) }
-    ensures budget { IfOk result IsBudget }
+// The budget of a word, or the usual one if there is no word.
+fn read_budget(word: Option<&[u8]>, budgets: Budgets) -> Result<u32, Refusal>
+    ensures ok { IfOk result (λ n. budget_or budgets (option_copied word.entry) ≡ Some n) }
     ensures refused { IfErr result (λ refusal. (refusal ≡ Refusal.Line)
-        × (budget_or budget (option_copied word.entry) ≡ None)) }
+        × (budget_or budgets (option_copied word.entry) ≡ None)) }
 {
     match word {
-        Some(word) => read_up_to(MAX_BUDGET, word),
-        None => Ok(budget),
+        Some(word) => read_up_to(budgets.most, word),
+        None => Ok(budgets.usual),
     }
 }
 

@@ -11,7 +11,7 @@ mod source;
 mod splitter;
 mod write;
 
-pub use command::{Command, read_name_and_text, read_path_and_text, split_keyword};
+pub use command::{Budgets, Command, read_name_and_text, read_path_and_text, split_keyword};
 pub use framing::Framing;
 pub use keyword::Keyword;
 pub use sink::{Held, Sink};

@@ -9,7 +9,8 @@ use Rattle.session_history.specs.declared.TheConstants.{MAX_BUDGET}
 use Rattle.script_text.specs.Form as form
 use Rattle.script_text.specs.declared.framing.Framing.TheVariants.{Continued}
 use Rattle.script_text.specs.Handed.{Handed, handed, completed, text}
-use Rattle.script_text.specs.Replies.{Reply, Replies, Told, done, history_after}
+use Rattle.script_text.specs.Replies.{Reply, Replies, Told, done, history_after, budgets_in}
+use Rattle.script_text.specs.declared.command.Budgets.{Budgets}
 use Rattle.script_text.specs.Answer.{ReplyInRun}
 use Rattle.script_text.specs.Run.{Answers, AnswersPart, Completes, Replied}
 use Rattle.script_core.specs.declared.running.RunFault.{RunFault}
@@ -27,9 +28,9 @@ one_command : handed Continued LIBRARY.now ≡ text command ∷ []
 unfolding command
 one_command = refl
 
-sets_module : form.command_of MAX_BUDGET command ≡ Ok (form.set_module (codes "library") library_text)
+sets_module : (budgets : Budgets) → form.command_of budgets command ≡ Ok (form.set_module (codes "library") library_text)
 unfolding command
-sets_module = refl
+sets_module budgets = refl
 
 -- ---- its reply
 
@@ -51,7 +52,7 @@ of_rule : (meaning : Meaning) (h g : History) (flag : Bool) (reply : Reply) → 
 of_rule meaning h g true reply replied e = inr (ap (λ (r : Reply). count_by is_ok (r ∷ [])) replied.1, e ∙ ap (history_after h) replied.1)
 of_rule meaning h g false reply replied e =
     let told : Told (ComesTo (set_module (codes "library") library_text) h) reply =
-    subst (λ (r : _). MatchResult r (λ f. Replies meaning f h reply) (λ refusal. reply ≡ Err refusal)) sets_module replied in
+    subst (λ (r : _). MatchResult r (λ f. Replies meaning f h reply) (λ refusal. reply ≡ Err refusal)) (sets_module (budgets_in h MAX_BUDGET)) replied in
     of_reply h g reply told.0 told.1 told.2 e
 
 of_replies : (meaning : Meaning) (h g : History) (flags : List Bool) (replies : List Reply) → Replied false (ReplyInRun meaning MAX_BUDGET) (text command ∷ []) flags h replies g →
